@@ -1,0 +1,167 @@
+-- Small images that break no rule: a header alone, and one with a command that is not listed.
+use Rattle.std.proofs.Common.{◌*◌, Any, ◌≡◌, ℕ, ◌+◌, ◌<◌, ◌⊎◌, List, [], ◌∷◌, ◌++◌, length, Bool, false, ◌&&◌, ◌==◌, nat_lt, Contains, None, refl, sym, subst, arith, lit≤, inl, inr, ⊎_elim}
+use Rattle.std.specs.List.{list_any}
+use Rattle.std.proofs.lemmas.Bool.{eq-eqb, lt-ltb, and_from}
+use Rattle.macho_fields.specs.Field.{HasZero}
+use Rattle.macho_fields.specs.Image.{command_size, command_kind, file_type, AreCommands, word}
+use Rattle.macho_fields.specs.Command.{IsShort, structures, records_size, HasBadName, named_kinds, name_start}
+use Rattle.macho_fields.specs.Symbol.{IsOutside, tables_of}
+use Rattle.macho_fields.specs.Rules.{BreaksImage, BreaksCommands}
+use Rattle.macho_fields.specs.First.{IsUnbroken}
+use Rattle.macho_fields.specs.declared.rule.Rule.{Rule}
+use Rattle.macho_fields.specs.declared.rule.Rule.TheVariants as rule
+use Rattle.macho_fields.proofs.Plain.{unbroken_image}
+use Rattle.macho_fields.proofs.Walks.{IsHeader, breaks_by_commands}
+use Rattle.macho_fields.proofs.Lists.{none_in_nil, any_nil, only_one, any_one, none_by_test}
+use Rattle.macho_fields.proofs.ExampleHeaders.{header, four}
+
+nil_of_none : (xs : List ℕ) → length xs ≡ 0 → xs ≡ []
+nil_of_none [] e = refl
+nil_of_none (x ∷ xs) e = absurd (omega arith)
+
+-- an executable without commands breaks no rule
+pub nothing_commanded : (image : List ℕ) → file_type image ≡ 2 → (r : Rule) (place : ℕ) → ¬ BreaksCommands image [] r place
+nothing_commanded image kind rule.Magic place h = h
+nothing_commanded image kind rule.FatTruncated place h = h
+nothing_commanded image kind rule.FatSliceOutside place h = h
+nothing_commanded image kind rule.FatSliceInTable place h = h
+nothing_commanded image kind rule.FatAlign place h = h
+nothing_commanded image kind rule.FatOverlap place h = h
+nothing_commanded image kind rule.FatDuplicate place h = h
+nothing_commanded image kind rule.FatSliceMagic place h = h
+nothing_commanded image kind rule.FatEmpty place h = h
+nothing_commanded image kind rule.HeaderTruncated place h = h
+nothing_commanded image kind rule.ArchMismatch place h = h
+nothing_commanded image kind rule.FileType place h = h
+nothing_commanded image kind rule.CommandsOutside place h = h
+nothing_commanded image kind rule.CommandWalk place h = h
+nothing_commanded image kind rule.CommandShort place h = none_in_nil place h.0
+nothing_commanded image kind rule.CommandRepeated place h = none_in_nil place h.0
+nothing_commanded image kind rule.DylibId place h = ⊎_elim (λ k. let e = k.0 in absurd (omega arith)) (λ k. any_nil _ k.1) h.1
+nothing_commanded image kind rule.Name place h = none_in_nil place h.0
+nothing_commanded image kind rule.SegmentAddress place h = none_in_nil place h.0
+nothing_commanded image kind rule.SegmentSize place h = none_in_nil place h.0
+nothing_commanded image kind rule.SegmentFile place h = none_in_nil place h.0
+nothing_commanded image kind rule.SegmentOverlap place h = none_in_nil place h.0
+nothing_commanded image kind rule.SectionAddress place h = any_nil _ h
+nothing_commanded image kind rule.SectionFile place h = any_nil _ h
+nothing_commanded image kind rule.SectionRelocs place h = any_nil _ h
+nothing_commanded image kind rule.TableRange place h = none_in_nil place h.0
+nothing_commanded image kind rule.SymbolGroup place h = none_in_nil place h.0
+nothing_commanded image kind rule.SymbolName place h = any_nil _ h
+nothing_commanded image kind rule.SymbolSection place h = any_nil _ h
+nothing_commanded image kind rule.IndirectIndex place h = any_nil _ h
+nothing_commanded image kind rule.Entry place h = none_in_nil place h.0
+
+abbrev bare : List ℕ
+bare = header 2 0 0
+
+-- a header alone, with no command
+pub bare_header : IsUnbroken bare
+bare_header = unbroken_image bare refl (lit≤ tt, refl) none
+  where
+    good : IsHeader bare
+    good = record { long_enough = lit≤ tt; kind = inl refl; commands_inside = lit≤ tt }
+
+    none : (r : Rule) (place : ℕ) → ¬ BreaksImage bare None r place
+    none r place b = nothing_commanded bare refl r place (breaks_by_commands bare [] good (refl, 32, refl) r place b)
+
+-- a header that counts no command, and eight bytes behind it
+abbrev left_over : List ℕ
+left_over = header 2 0 8 ++ four 0x99 ++ four 8
+
+pub bytes_left_over : IsUnbroken left_over
+bytes_left_over = unbroken_image left_over refl (lit≤ tt, refl) none
+  where
+    good : IsHeader left_over
+    good = record { long_enough = lit≤ tt; kind = inl refl; commands_inside = lit≤ tt }
+
+    none : (r : Rule) (place : ℕ) → ¬ BreaksImage left_over None r place
+    none r place b = nothing_commanded left_over refl r place (breaks_by_commands left_over [] good (refl, 32, refl) r place b)
+
+-- the test of `IsShort`
+abbrev pub is_short : List ℕ → ℕ → ℕ × ℕ → Bool
+is_short image command row = row.0 == command_kind image command && nat_lt (command_size image command) (row.1 + records_size image command)
+
+not_short : (image : List ℕ) (command : ℕ) → list_any (is_short image command) structures ≡ false → ¬ IsShort image command
+not_short image command e =
+    none_by_test (λ row. (row.0 ≡ command_kind image command) × (command_size image command < row.1 + records_size image command)) (is_short image command) structures
+    (λ row h. and_from (row.0 == command_kind image command) (nat_lt (command_size image command) (row.1 + records_size image command)) (eq-eqb row.0 (command_kind image command) h.0) (lt-ltb (command_size image command) (row.1 + records_size image command) h.1)) e
+
+-- What one command of a kind without name, library or repetition cannot break.
+module _ (image : List ℕ) (at : ℕ) where
+  pub alone : Contains (32 ∷ []) at → 32 ≡ at
+  alone h = only_one 32 at h
+
+  pub not_repeated : ¬ BreaksCommands image (32 ∷ []) rule.CommandRepeated at
+  not_repeated h =
+      let here : 32 ≡ at = only_one 32 at h.0 in
+      let (before, same) = any_one (λ earlier. (earlier < at) × (command_kind image earlier ≡ command_kind image at)) 32 h.2 in
+      let less : 32 < at = before in absurd (omega arith)
+
+  pub keeps_size : list_any (is_short image 32) structures ≡ false → ¬ BreaksCommands image (32 ∷ []) rule.CommandShort at
+  keeps_size e h = not_short image 32 e (subst (IsShort image) (sym (only_one 32 at h.0)) h.1)
+
+  pub no_library : file_type image ≡ 2 → ¬ (command_kind image 32 ≡ 0xd) → ¬ BreaksCommands image (32 ∷ []) rule.DylibId at
+  no_library kind other h = elim h.1 [ inl k ↦ absurd (let e : file_type image ≡ 6 = k.0 in omega arith) | inr k ↦ other (any_one (λ command. command_kind image command ≡ 0xd) 32 k.1) ]
+
+  pub no_name : list_any (λ row. row.0 == command_kind image 32) named_kinds ≡ false → ¬ BreaksCommands image (32 ∷ []) rule.Name at
+  no_name e h =
+      let bad : HasBadName image 32 = subst (HasBadName image) (sym (only_one 32 at h.0)) h.1 in
+      none_by_test (λ row. (row.0 ≡ command_kind image 32) × ((word image (32 + 8) < row.1) ⊎ ¬ HasZero image (name_start image 32) (32 + command_size image 32)))
+      (λ row. row.0 == command_kind image 32) named_kinds (λ row n. eq-eqb row.0 (command_kind image 32) n.0) e bad
+
+none_outside : (image : List ℕ) (at : ℕ) → list_any (λ table. nat_lt 0 table.1 && nat_lt (length image) (table.0 + table.1 * table.2)) (tables_of image 32) ≡ false → ¬ BreaksCommands image (32 ∷ []) rule.TableRange at
+none_outside image at e h =
+    none_by_test (IsOutside image) (λ table. nat_lt 0 table.1 && nat_lt (length image) (table.0 + table.1 * table.2)) (tables_of image 32)
+    (λ table out. and_from (nat_lt 0 table.1) (nat_lt (length image) (table.0 + table.1 * table.2)) (lt-ltb 0 table.1 out.0) (lt-ltb (length image) (table.0 + table.1 * table.2) out.1)) e
+    (subst (λ place. Any (IsOutside image) (tables_of image place)) (sym (only_one 32 at h.0)) h.1)
+
+-- a command that is not listed is walked over
+abbrev unlisted : List ℕ
+unlisted = header 2 1 8 ++ four 0x99 ++ four 8
+
+unlisted_keeps : (r : Rule) (at : ℕ) → ¬ BreaksCommands unlisted (32 ∷ []) r at
+unlisted_keeps rule.Magic at h = h
+unlisted_keeps rule.FatTruncated at h = h
+unlisted_keeps rule.FatSliceOutside at h = h
+unlisted_keeps rule.FatSliceInTable at h = h
+unlisted_keeps rule.FatAlign at h = h
+unlisted_keeps rule.FatOverlap at h = h
+unlisted_keeps rule.FatDuplicate at h = h
+unlisted_keeps rule.FatSliceMagic at h = h
+unlisted_keeps rule.FatEmpty at h = h
+unlisted_keeps rule.HeaderTruncated at h = h
+unlisted_keeps rule.ArchMismatch at h = h
+unlisted_keeps rule.FileType at h = h
+unlisted_keeps rule.CommandsOutside at h = h
+unlisted_keeps rule.CommandWalk at h = h
+unlisted_keeps rule.CommandShort at h = keeps_size unlisted at refl h
+unlisted_keeps rule.CommandRepeated at h = not_repeated unlisted at h
+unlisted_keeps rule.DylibId at h = no_library unlisted at refl (λ e. absurd (omega arith)) h
+unlisted_keeps rule.Name at h = no_name unlisted at refl h
+unlisted_keeps rule.SegmentAddress at h = none_in_nil at h.0
+unlisted_keeps rule.SegmentSize at h = none_in_nil at h.0
+unlisted_keeps rule.SegmentFile at h = none_in_nil at h.0
+unlisted_keeps rule.SegmentOverlap at h = none_in_nil at h.0
+unlisted_keeps rule.SectionAddress at h = any_nil _ h
+unlisted_keeps rule.SectionFile at h = any_nil _ h
+unlisted_keeps rule.SectionRelocs at h = any_nil _ h
+unlisted_keeps rule.TableRange at h = none_outside unlisted at refl h
+unlisted_keeps rule.SymbolGroup at h = none_in_nil at h.0
+unlisted_keeps rule.SymbolName at h = any_nil _ h
+unlisted_keeps rule.SymbolSection at h = any_nil _ h
+unlisted_keeps rule.IndirectIndex at h = any_nil _ h
+unlisted_keeps rule.Entry at h = none_in_nil at h.0
+
+pub unlisted_command : IsUnbroken unlisted
+unlisted_command = unbroken_image unlisted refl (lit≤ tt, refl) none
+  where
+    good : IsHeader unlisted
+    good = record { long_enough = lit≤ tt; kind = inl refl; commands_inside = lit≤ tt }
+
+    are : AreCommands unlisted (32 ∷ [])
+    are = (refl, 40, (refl, record { head = lit≤ tt; whole = refl; least = lit≤ tt; inside = lit≤ tt }, refl))
+
+    none : (r : Rule) (place : ℕ) → ¬ BreaksImage unlisted None r place
+    none r place b = unlisted_keeps r place (breaks_by_commands unlisted (32 ∷ []) good are r place b)

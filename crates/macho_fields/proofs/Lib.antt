@@ -1,0 +1,14 @@
+pub mod Chains
+pub mod Walks
+pub mod Parts
+pub mod Decided
+pub mod SoundImage
+pub mod Sound
+pub mod Ranks
+pub mod Unique
+pub mod Lists
+pub mod Plain
+pub mod ExampleHeaders
+pub mod ExampleImages
+pub mod ExampleNoSlices
+pub mod ExampleTwins

@@ -1,0 +1,216 @@
+-- The order of the rules, and which of them speak of a file and which of an image.
+use Rattle.std.proofs.Common.{◌≡◌, ℕ, ◌-◌, ◌≤◌, List, [], ◌∷◌, Option, get_or, refl, sym, ap, ◌∙◌, lit≤, inr, ⊎_elim}
+use Rattle.macho_fields.specs.Universal.{IsUniversal, IsImage}
+use Rattle.macho_fields.specs.Rules.{BreaksFile, BreaksCommands, BreaksImage}
+use Rattle.macho_fields.specs.First.{rank}
+use Rattle.macho_fields.specs.declared.rule.Rule.{Rule}
+use Rattle.macho_fields.specs.declared.rule.Rule.TheVariants as rule
+
+-- all rules, in their order
+abbrev pub rules_in_order : List Rule
+rules_in_order =
+    rule.Magic
+    ∷ rule.FatTruncated
+    ∷ rule.FatSliceOutside
+    ∷ rule.FatSliceInTable
+    ∷ rule.FatAlign
+    ∷ rule.FatOverlap
+    ∷ rule.FatDuplicate
+    ∷ rule.FatSliceMagic
+    ∷ rule.FatEmpty
+    ∷ rule.HeaderTruncated
+    ∷ rule.ArchMismatch
+    ∷ rule.FileType
+    ∷ rule.CommandsOutside
+    ∷ rule.CommandWalk
+    ∷ rule.CommandShort
+    ∷ rule.CommandRepeated
+    ∷ rule.DylibId
+    ∷ rule.Name
+    ∷ rule.SegmentAddress
+    ∷ rule.SegmentSize
+    ∷ rule.SegmentFile
+    ∷ rule.SegmentOverlap
+    ∷ rule.SectionAddress
+    ∷ rule.SectionFile
+    ∷ rule.SectionRelocs
+    ∷ rule.TableRange
+    ∷ rule.SymbolGroup
+    ∷ rule.SymbolName
+    ∷ rule.SymbolSection
+    ∷ rule.IndirectIndex
+    ∷ rule.Entry ∷ []
+
+abbrev pub rule_of_rank : ℕ → Rule
+rule_of_rank n = get_or rules_in_order (n - 1) rule.Magic
+
+rule_of_its_rank : (r : Rule) → rule_of_rank (rank r) ≡ r
+rule_of_its_rank rule.Magic = refl
+rule_of_its_rank rule.FatTruncated = refl
+rule_of_its_rank rule.FatSliceOutside = refl
+rule_of_its_rank rule.FatSliceInTable = refl
+rule_of_its_rank rule.FatAlign = refl
+rule_of_its_rank rule.FatOverlap = refl
+rule_of_its_rank rule.FatDuplicate = refl
+rule_of_its_rank rule.FatSliceMagic = refl
+rule_of_its_rank rule.FatEmpty = refl
+rule_of_its_rank rule.HeaderTruncated = refl
+rule_of_its_rank rule.ArchMismatch = refl
+rule_of_its_rank rule.FileType = refl
+rule_of_its_rank rule.CommandsOutside = refl
+rule_of_its_rank rule.CommandWalk = refl
+rule_of_its_rank rule.CommandShort = refl
+rule_of_its_rank rule.CommandRepeated = refl
+rule_of_its_rank rule.DylibId = refl
+rule_of_its_rank rule.Name = refl
+rule_of_its_rank rule.SegmentAddress = refl
+rule_of_its_rank rule.SegmentSize = refl
+rule_of_its_rank rule.SegmentFile = refl
+rule_of_its_rank rule.SegmentOverlap = refl
+rule_of_its_rank rule.SectionAddress = refl
+rule_of_its_rank rule.SectionFile = refl
+rule_of_its_rank rule.SectionRelocs = refl
+rule_of_its_rank rule.TableRange = refl
+rule_of_its_rank rule.SymbolGroup = refl
+rule_of_its_rank rule.SymbolName = refl
+rule_of_its_rank rule.SymbolSection = refl
+rule_of_its_rank rule.IndirectIndex = refl
+rule_of_its_rank rule.Entry = refl
+
+pub rank_tells_rule : (a b : Rule) → rank a ≡ rank b → a ≡ b
+rank_tells_rule a b e = sym (rule_of_its_rank a) ∙ (ap rule_of_rank e ∙ rule_of_its_rank b)
+
+pub rank_positive : (r : Rule) → 1 ≤ rank r
+rank_positive rule.Magic = lit≤ tt
+rank_positive rule.FatTruncated = lit≤ tt
+rank_positive rule.FatSliceOutside = lit≤ tt
+rank_positive rule.FatSliceInTable = lit≤ tt
+rank_positive rule.FatAlign = lit≤ tt
+rank_positive rule.FatOverlap = lit≤ tt
+rank_positive rule.FatDuplicate = lit≤ tt
+rank_positive rule.FatSliceMagic = lit≤ tt
+rank_positive rule.FatEmpty = lit≤ tt
+rank_positive rule.HeaderTruncated = lit≤ tt
+rank_positive rule.ArchMismatch = lit≤ tt
+rank_positive rule.FileType = lit≤ tt
+rank_positive rule.CommandsOutside = lit≤ tt
+rank_positive rule.CommandWalk = lit≤ tt
+rank_positive rule.CommandShort = lit≤ tt
+rank_positive rule.CommandRepeated = lit≤ tt
+rank_positive rule.DylibId = lit≤ tt
+rank_positive rule.Name = lit≤ tt
+rank_positive rule.SegmentAddress = lit≤ tt
+rank_positive rule.SegmentSize = lit≤ tt
+rank_positive rule.SegmentFile = lit≤ tt
+rank_positive rule.SegmentOverlap = lit≤ tt
+rank_positive rule.SectionAddress = lit≤ tt
+rank_positive rule.SectionFile = lit≤ tt
+rank_positive rule.SectionRelocs = lit≤ tt
+rank_positive rule.TableRange = lit≤ tt
+rank_positive rule.SymbolGroup = lit≤ tt
+rank_positive rule.SymbolName = lit≤ tt
+rank_positive rule.SymbolSection = lit≤ tt
+rank_positive rule.IndirectIndex = lit≤ tt
+rank_positive rule.Entry = lit≤ tt
+
+-- a file that is an image, and not universal, breaks no rule of the file
+pub plain_image_keeps_file_rules : (file : List ℕ) → ¬ IsUniversal file → IsImage file → (r : Rule) (place : ℕ) → ¬ BreaksFile file r place
+plain_image_keeps_file_rules file plain is rule.Magic place n = n.1 (inr is)
+plain_image_keeps_file_rules file plain is rule.FatTruncated place n = plain n.1
+plain_image_keeps_file_rules file plain is rule.FatSliceOutside place n = plain n.0
+plain_image_keeps_file_rules file plain is rule.FatSliceInTable place n = plain n.0
+plain_image_keeps_file_rules file plain is rule.FatAlign place n = plain n.0
+plain_image_keeps_file_rules file plain is rule.FatOverlap place n = plain n.0
+plain_image_keeps_file_rules file plain is rule.FatDuplicate place n = plain n.0
+plain_image_keeps_file_rules file plain is rule.FatSliceMagic place n = plain n.0
+plain_image_keeps_file_rules file plain is rule.FatEmpty place n = plain n.1
+plain_image_keeps_file_rules file plain is rule.HeaderTruncated place n = n
+plain_image_keeps_file_rules file plain is rule.ArchMismatch place n = n
+plain_image_keeps_file_rules file plain is rule.FileType place n = n
+plain_image_keeps_file_rules file plain is rule.CommandsOutside place n = n
+plain_image_keeps_file_rules file plain is rule.CommandWalk place n = n
+plain_image_keeps_file_rules file plain is rule.CommandShort place n = n
+plain_image_keeps_file_rules file plain is rule.CommandRepeated place n = n
+plain_image_keeps_file_rules file plain is rule.DylibId place n = n
+plain_image_keeps_file_rules file plain is rule.Name place n = n
+plain_image_keeps_file_rules file plain is rule.SegmentAddress place n = n
+plain_image_keeps_file_rules file plain is rule.SegmentSize place n = n
+plain_image_keeps_file_rules file plain is rule.SegmentFile place n = n
+plain_image_keeps_file_rules file plain is rule.SegmentOverlap place n = n
+plain_image_keeps_file_rules file plain is rule.SectionAddress place n = n
+plain_image_keeps_file_rules file plain is rule.SectionFile place n = n
+plain_image_keeps_file_rules file plain is rule.SectionRelocs place n = n
+plain_image_keeps_file_rules file plain is rule.TableRange place n = n
+plain_image_keeps_file_rules file plain is rule.SymbolGroup place n = n
+plain_image_keeps_file_rules file plain is rule.SymbolName place n = n
+plain_image_keeps_file_rules file plain is rule.SymbolSection place n = n
+plain_image_keeps_file_rules file plain is rule.IndirectIndex place n = n
+plain_image_keeps_file_rules file plain is rule.Entry place n = n
+
+-- a rule that an image breaks comes after the rules of the file
+pub image_rule_rank : (image : List ℕ) (arch : Option (ℕ × ℕ)) (r : Rule) (place : ℕ) → BreaksImage image arch r place → 10 ≤ rank r
+image_rule_rank image arch rule.Magic place h = ⊎_elim (λ k. absurd k) (λ k. absurd k.2) h
+image_rule_rank image arch rule.FatTruncated place h = ⊎_elim (λ k. absurd k) (λ k. absurd k.2) h
+image_rule_rank image arch rule.FatSliceOutside place h = ⊎_elim (λ k. absurd k) (λ k. absurd k.2) h
+image_rule_rank image arch rule.FatSliceInTable place h = ⊎_elim (λ k. absurd k) (λ k. absurd k.2) h
+image_rule_rank image arch rule.FatAlign place h = ⊎_elim (λ k. absurd k) (λ k. absurd k.2) h
+image_rule_rank image arch rule.FatOverlap place h = ⊎_elim (λ k. absurd k) (λ k. absurd k.2) h
+image_rule_rank image arch rule.FatDuplicate place h = ⊎_elim (λ k. absurd k) (λ k. absurd k.2) h
+image_rule_rank image arch rule.FatSliceMagic place h = ⊎_elim (λ k. absurd k) (λ k. absurd k.2) h
+image_rule_rank image arch rule.FatEmpty place h = ⊎_elim (λ k. absurd k) (λ k. absurd k.2) h
+image_rule_rank image arch rule.HeaderTruncated place h = lit≤ tt
+image_rule_rank image arch rule.ArchMismatch place h = lit≤ tt
+image_rule_rank image arch rule.FileType place h = lit≤ tt
+image_rule_rank image arch rule.CommandsOutside place h = lit≤ tt
+image_rule_rank image arch rule.CommandWalk place h = lit≤ tt
+image_rule_rank image arch rule.CommandShort place h = lit≤ tt
+image_rule_rank image arch rule.CommandRepeated place h = lit≤ tt
+image_rule_rank image arch rule.DylibId place h = lit≤ tt
+image_rule_rank image arch rule.Name place h = lit≤ tt
+image_rule_rank image arch rule.SegmentAddress place h = lit≤ tt
+image_rule_rank image arch rule.SegmentSize place h = lit≤ tt
+image_rule_rank image arch rule.SegmentFile place h = lit≤ tt
+image_rule_rank image arch rule.SegmentOverlap place h = lit≤ tt
+image_rule_rank image arch rule.SectionAddress place h = lit≤ tt
+image_rule_rank image arch rule.SectionFile place h = lit≤ tt
+image_rule_rank image arch rule.SectionRelocs place h = lit≤ tt
+image_rule_rank image arch rule.TableRange place h = lit≤ tt
+image_rule_rank image arch rule.SymbolGroup place h = lit≤ tt
+image_rule_rank image arch rule.SymbolName place h = lit≤ tt
+image_rule_rank image arch rule.SymbolSection place h = lit≤ tt
+image_rule_rank image arch rule.IndirectIndex place h = lit≤ tt
+image_rule_rank image arch rule.Entry place h = lit≤ tt
+
+-- a rule that commands break comes after the rules of the header
+pub command_rule_rank : (image commands : List ℕ) (r : Rule) (place : ℕ) → BreaksCommands image commands r place → 15 ≤ rank r
+command_rule_rank image commands rule.Magic place h = absurd h
+command_rule_rank image commands rule.FatTruncated place h = absurd h
+command_rule_rank image commands rule.FatSliceOutside place h = absurd h
+command_rule_rank image commands rule.FatSliceInTable place h = absurd h
+command_rule_rank image commands rule.FatAlign place h = absurd h
+command_rule_rank image commands rule.FatOverlap place h = absurd h
+command_rule_rank image commands rule.FatDuplicate place h = absurd h
+command_rule_rank image commands rule.FatSliceMagic place h = absurd h
+command_rule_rank image commands rule.FatEmpty place h = absurd h
+command_rule_rank image commands rule.HeaderTruncated place h = absurd h
+command_rule_rank image commands rule.ArchMismatch place h = absurd h
+command_rule_rank image commands rule.FileType place h = absurd h
+command_rule_rank image commands rule.CommandsOutside place h = absurd h
+command_rule_rank image commands rule.CommandWalk place h = absurd h
+command_rule_rank image commands rule.CommandShort place h = lit≤ tt
+command_rule_rank image commands rule.CommandRepeated place h = lit≤ tt
+command_rule_rank image commands rule.DylibId place h = lit≤ tt
+command_rule_rank image commands rule.Name place h = lit≤ tt
+command_rule_rank image commands rule.SegmentAddress place h = lit≤ tt
+command_rule_rank image commands rule.SegmentSize place h = lit≤ tt
+command_rule_rank image commands rule.SegmentFile place h = lit≤ tt
+command_rule_rank image commands rule.SegmentOverlap place h = lit≤ tt
+command_rule_rank image commands rule.SectionAddress place h = lit≤ tt
+command_rule_rank image commands rule.SectionFile place h = lit≤ tt
+command_rule_rank image commands rule.SectionRelocs place h = lit≤ tt
+command_rule_rank image commands rule.TableRange place h = lit≤ tt
+command_rule_rank image commands rule.SymbolGroup place h = lit≤ tt
+command_rule_rank image commands rule.SymbolName place h = lit≤ tt
+command_rule_rank image commands rule.SymbolSection place h = lit≤ tt
+command_rule_rank image commands rule.IndirectIndex place h = lit≤ tt
+command_rule_rank image commands rule.Entry place h = lit≤ tt

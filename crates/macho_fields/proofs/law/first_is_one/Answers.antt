@@ -1,0 +1,5 @@
+use Rattle.macho_fields.proofs.Unique.{first_is_unique}
+use Rattle.macho_fields.proofs.law.first_is_one.Goals as goal
+
+pub returns : goal.returns
+returns c = first_is_unique c.args.file.now c.args.first c.args.other c.requires.first c.requires.other

@@ -1,0 +1,81 @@
+-- The first broken rule of a file: file rules come first, then the 64-bit slices in table order;
+-- in each the rules in the order of judgment, and of each rule the least place.
+use Rattle.std.specs.Prelude.{◌≡◌, ℕ, ◌+◌, ◌<◌, ◌⊎◌, suc, zero, List, slice_get, IsSomeAnd}
+use Rattle.std.specs.Option.{option_map_or}
+use Rattle.macho_fields.specs.Universal.{slices_of, slice_bytes, IsImage}
+use Rattle.macho_fields.specs.Rules.{BreaksFile, BreaksImage}
+use Rattle.macho_fields.specs.declared.rule.Rule.{Rule}
+use Rattle.macho_fields.specs.declared.rule.Rule.TheVariants as rule
+use Rattle.macho_fields.specs.declared.rule.Break.{Break}
+
+-- the position of a rule in the order of judgment
+abbrev pub rank : Rule → ℕ
+rank rule.Magic = 1
+rank rule.FatTruncated = 2
+rank rule.FatSliceOutside = 3
+rank rule.FatSliceInTable = 4
+rank rule.FatAlign = 5
+rank rule.FatOverlap = 6
+rank rule.FatDuplicate = 7
+rank rule.FatSliceMagic = 8
+rank rule.FatEmpty = 9
+rank rule.HeaderTruncated = 10
+rank rule.ArchMismatch = 11
+rank rule.FileType = 12
+rank rule.CommandsOutside = 13
+rank rule.CommandWalk = 14
+rank rule.CommandShort = 15
+rank rule.CommandRepeated = 16
+rank rule.DylibId = 17
+rank rule.Name = 18
+rank rule.SegmentAddress = 19
+rank rule.SegmentSize = 20
+rank rule.SegmentFile = 21
+rank rule.SegmentOverlap = 22
+rank rule.SectionAddress = 23
+rank rule.SectionFile = 24
+rank rule.SectionRelocs = 25
+rank rule.TableRange = 26
+rank rule.SymbolGroup = 27
+rank rule.SymbolName = 28
+rank rule.SymbolSection = 29
+rank rule.IndirectIndex = 30
+rank rule.Entry = 31
+
+-- A rule that is broken at a place of a scope: scope 0 is the file, scope k + 1 its slice k.
+pub record Fault : Type 0 where
+  pub scope : ℕ
+  pub rule : Rule
+  pub place : ℕ
+
+-- the rule is broken there: by the file, or by the bytes of a 64-bit slice
+abbrev pub IsBrokenIn : List ℕ → ℕ → Rule → ℕ → Type 0
+IsBrokenIn file zero r place = BreaksFile file r place
+IsBrokenIn file (suc k) r place =
+    IsSomeAnd (slice_get (slices_of file) k) (λ slice.
+    IsImage (slice_bytes file slice) × BreaksImage (slice_bytes file slice) slice.arch r place)
+
+abbrev pub IsFault : List ℕ → Fault → Type 0
+IsFault file fault = IsBrokenIn file fault.scope fault.rule fault.place
+
+abbrev pub IsUnbroken : List ℕ → Type 0
+IsUnbroken file = (fault : Fault) → ¬ IsFault file fault
+
+-- the order of judgment: by scope, then by rule, then by place
+abbrev pub IsBefore : Fault → Fault → Type 0
+IsBefore a b =
+    (a.scope < b.scope)
+    ⊎ ((a.scope ≡ b.scope) × ((rank a.rule < rank b.rule)
+    ⊎ ((rank a.rule ≡ rank b.rule) × (a.place < b.place))))
+
+-- where the places of a scope begin in the file
+abbrev pub scope_start : List ℕ → ℕ → ℕ
+scope_start file zero = 0
+scope_start file (suc k) = option_map_or (λ slice. slice.start) (slice_get (slices_of file) k) 0
+
+-- b tells the first broken rule, with its place in the file
+abbrev pub IsFirst : List ℕ → Break → Type 0
+IsFirst file b =
+    (fault : Fault) × IsFault file fault
+    × ((other : Fault) → IsFault file other → ¬ IsBefore other fault)
+    × (b.rule ≡ fault.rule) × (b.place ≡ scope_start file fault.scope + fault.place)

@@ -1,0 +1,65 @@
+-- An image, its header and its chain of load commands. The fields of an image are little-endian,
+-- and its places count from its own first byte. (mach-o/loader.h: mach_header_64, load_command)
+use Rattle.std.specs.Prelude.{◌≡◌, ℕ, ◌+◌, ◌%◌, ◌≤◌, ◌==◌, List, [], ◌∷◌, length, filter}
+use Rattle.macho_fields.specs.Field.{number}
+use Rattle.macho_fields.specs.declared.bytes.Order.TheVariants.{Little}
+use Rattle.macho_fields.specs.declared.header.loader.TheConstants as loader
+
+-- a field of 32 bits, and one of 64
+abbrev pub word : List ℕ → ℕ → ℕ
+word image place = number Little 4 image place
+
+abbrev pub long : List ℕ → ℕ → ℕ
+long image place = number Little 8 image place
+
+-- mach_header_64: cputype at 4, cpusubtype 8, filetype 12, ncmds 16, sizeofcmds 20
+abbrev pub cpu_type : List ℕ → ℕ
+cpu_type image = word image 4
+
+abbrev pub cpu_subtype : List ℕ → ℕ
+cpu_subtype image = word image 8
+
+abbrev pub file_type : List ℕ → ℕ
+file_type image = word image 12
+
+abbrev pub command_count : List ℕ → ℕ
+command_count image = word image 16
+
+-- the place behind the bytes that the header gives to the commands
+abbrev pub commands_end : List ℕ → ℕ
+commands_end image = loader.MACH_HEADER_64_SIZE + word image 20
+
+-- load_command: cmd at 0, cmdsize at 4. A command is named by its place.
+abbrev pub command_kind : List ℕ → ℕ → ℕ
+command_kind image command = word image command
+
+abbrev pub command_size : List ℕ → ℕ → ℕ
+command_size image command = word image (command + 4)
+
+-- a command can stand at this place
+pub record IsGood (image : List ℕ) (place : ℕ) : Type 0 where
+  pub head : place + loader.LOAD_COMMAND_SIZE ≤ commands_end image
+  pub whole : command_size image place % 8 ≡ 0
+  pub least : loader.LOAD_COMMAND_SIZE ≤ command_size image place
+  pub inside : place + command_size image place ≤ commands_end image
+
+-- Good commands stand at these places: the first at start, each one behind the one before it, and
+-- next is the place behind the last.
+abbrev pub Follow : List ℕ → ℕ → List ℕ → ℕ → Type 0
+Follow image start [] next = start ≡ next
+Follow image start (place ∷ places) next =
+    (place ≡ start) × IsGood image place
+    × Follow image (place + command_size image place) places next
+
+-- a chain begins behind the header
+abbrev pub IsChain : List ℕ → List ℕ → ℕ → Type 0
+IsChain image places next = Follow image loader.MACH_HEADER_64_SIZE places next
+
+-- the places of all commands of the image: the chain of as many as the header counts
+abbrev pub AreCommands : List ℕ → List ℕ → Type 0
+AreCommands image commands =
+    (length commands ≡ command_count image) × (next : ℕ) × IsChain image commands next
+
+-- the commands of one command_kind, in order
+abbrev pub of_kind : List ℕ → ℕ → List ℕ → List ℕ
+of_kind image wanted commands = filter (λ command. command_kind image command == wanted) commands

@@ -1,0 +1,12 @@
+pub mod Field
+pub mod Bytes
+pub mod Span
+pub mod RuleNames
+pub mod Universal
+pub mod Image
+pub mod Command
+pub mod Segment
+pub mod Symbol
+pub mod Rules
+pub mod First
+pub mod Loader

@@ -1,0 +1,141 @@
+-- Where each rule is broken: the rule, and the place that is told. docs/RULES.md says the same in
+-- words. A rule is read where the rules before it are unbroken.
+use Rattle.std.specs.Prelude.{◌≡◌, ◌≢◌, ℕ, ◌+◌, ◌*◌, ◌^◌, ◌≤◌, ◌<◌, ◌⊎◌, List, length, false, Option, IsSomeAnd, Any, All, Contains}
+use Rattle.macho_fields.specs.Universal.{FileSlice, IsUniversal, entry_count, entry_place, entry_align, entry_slice, slices_of, table_end, slice_bytes, masked, HasPlace, IsImage, IsUnreadImage}
+use Rattle.macho_fields.specs.Image.{word, cpu_type, cpu_subtype, file_type, command_count, commands_end, command_kind, IsGood, IsChain, AreCommands, of_kind}
+use Rattle.macho_fields.specs.Command.{IsShort, unique_kinds, HasBadName, HasDylibId}
+use Rattle.macho_fields.specs.Segment.{segments_of, vmaddr, vmsize, fileoff, filesize, AtSection, section_count, section_address, section_size, section_offset, reloff, nreloc, is_zero_fill, Supplies, IsInFilePart, base_of, entryoff, IsExecutable}
+use Rattle.macho_fields.specs.Symbol.{symbol_count, indirectsymoff, nindirectsyms, groups_of, tables_of, IsOutside, AtSymbol, n_sect, HasEndlessName, NamesSection, IsSymbolIndex}
+use Rattle.macho_fields.specs.declared.header.loader.TheConstants as loader
+use Rattle.macho_fields.specs.declared.rule.Rule.{Rule}
+use Rattle.macho_fields.specs.declared.rule.Rule.TheVariants as rule
+
+-- Rules of the file
+
+-- entry k of the table, which stands at the place, has P
+abbrev pub AtEntry : List ℕ → (ℕ → Type 0) → ℕ → Type 0
+AtEntry file P place = (k : ℕ) × (k < entry_count file) × (place ≡ entry_place file k) × P k
+
+-- entry j of the table and an earlier one have R
+abbrev pub WithEarlier : (ℕ → ℕ → Type 0) → ℕ → Type 0
+WithEarlier R j = (i : ℕ) × (i < j) × R i j
+
+-- a place of the file lies in both slices
+abbrev pub SharePlace : FileSlice → FileSlice → Type 0
+SharePlace a b = (place : ℕ) × HasPlace a place × HasPlace b place
+
+abbrev pub BreaksFile : List ℕ → Rule → ℕ → Type 0
+BreaksFile file rule.Magic place = (place ≡ 0) × ¬ (IsUniversal file ⊎ IsImage file)
+BreaksFile file rule.FatTruncated place =
+    (place ≡ 4) × IsUniversal file × ((length file < 8) ⊎ (length file < table_end file))
+BreaksFile file rule.FatSliceOutside place =
+    IsUniversal file
+    × AtEntry file (λ k. length file < (entry_slice file k).start + (entry_slice file k).size) place
+BreaksFile file rule.FatSliceInTable place =
+    IsUniversal file × AtEntry file (λ k. (entry_slice file k).start < table_end file) place
+BreaksFile file rule.FatAlign place =
+    IsUniversal file
+    × AtEntry file (λ k. (m : ℕ) → m * 2 ^ entry_align file k ≢ (entry_slice file k).start) place
+BreaksFile file rule.FatOverlap place =
+    IsUniversal file
+    × AtEntry file (WithEarlier (λ i j. SharePlace (entry_slice file i) (entry_slice file j))) place
+BreaksFile file rule.FatDuplicate place =
+    IsUniversal file
+    × AtEntry file (WithEarlier (λ i j. (entry_slice file i).arch ≡ (entry_slice file j).arch))
+    place
+BreaksFile file rule.FatSliceMagic place =
+    IsUniversal file
+    × Any (λ slice. (place ≡ slice.start)
+    × ¬ (IsImage (slice_bytes file slice) ⊎ IsUnreadImage (slice_bytes file slice)))
+    (slices_of file)
+BreaksFile file rule.FatEmpty place =
+    (place ≡ 4) × IsUniversal file
+    × All (λ slice. ¬ IsImage (slice_bytes file slice)) (slices_of file)
+BreaksFile file other place = ⊥
+
+-- Rules of an image, its header and its walk. The architecture is that of the image's entry.
+abbrev pub BreaksHeader : List ℕ → Option (ℕ × ℕ) → Rule → ℕ → Type 0
+BreaksHeader image arch rule.HeaderTruncated place =
+    (place ≡ 0) × (length image < loader.MACH_HEADER_64_SIZE)
+BreaksHeader image arch rule.ArchMismatch place =
+    (place ≡ 4)
+    × IsSomeAnd arch (λ pair.
+    (pair.0 ≢ cpu_type image) ⊎ (masked pair.1 ≢ masked (cpu_subtype image)))
+BreaksHeader image arch rule.FileType place =
+    (place ≡ 12) × (file_type image ≢ loader.MH_EXECUTE) × (file_type image ≢ loader.MH_DYLIB)
+BreaksHeader image arch rule.CommandsOutside place =
+    (place ≡ 20) × (length image < commands_end image)
+BreaksHeader image arch rule.CommandWalk place =
+    (places : List ℕ) × (length places < command_count image) × IsChain image places place
+    × ¬ IsGood image place
+BreaksHeader image arch other place = ⊥
+
+-- Rules of an image that are read with the places of its commands
+abbrev pub BreaksCommands : List ℕ → List ℕ → Rule → ℕ → Type 0
+BreaksCommands image commands rule.CommandShort place =
+    Contains commands place × IsShort image place
+BreaksCommands image commands rule.CommandRepeated place =
+    Contains commands place × Contains unique_kinds (command_kind image place)
+    × Any (λ earlier.
+    (earlier < place) × (command_kind image earlier ≡ command_kind image place)) commands
+BreaksCommands image commands rule.DylibId place =
+    (place ≡ 12)
+    × (((file_type image ≡ loader.MH_DYLIB) × ¬ HasDylibId image commands)
+    ⊎ ((file_type image ≡ loader.MH_EXECUTE) × HasDylibId image commands))
+BreaksCommands image commands rule.Name place = Contains commands place × HasBadName image place
+BreaksCommands image commands rule.SegmentAddress place =
+    Contains (segments_of image commands) place × (2 ^ 64 < vmaddr image place + vmsize image place)
+BreaksCommands image commands rule.SegmentSize place =
+    Contains (segments_of image commands) place
+    × (0 < vmsize image place) × (vmsize image place < filesize image place)
+BreaksCommands image commands rule.SegmentFile place =
+    Contains (segments_of image commands) place
+    × (0 < filesize image place) × (length image < fileoff image place + filesize image place)
+BreaksCommands image commands rule.SegmentOverlap place =
+    Contains (segments_of image commands) place
+    × Any (λ earlier. (earlier < place)
+    × ((address : ℕ) × Supplies image earlier address × Supplies image place address))
+    (segments_of image commands)
+BreaksCommands image commands rule.SectionAddress place =
+    AtSection image commands (λ segment section.
+    (0 < vmsize image segment) × (0 < section_size image section)
+    × ¬ ((vmaddr image segment ≤ section_address image section)
+    × (section_address image section + section_size image section
+    ≤ vmaddr image segment + vmsize image segment))) place
+BreaksCommands image commands rule.SectionFile place =
+    AtSection image commands (λ segment section.
+    (0 < section_size image section) × (is_zero_fill image section ≡ false)
+    × (((0 < vmsize image segment) × ¬ IsInFilePart image segment section)
+    ⊎ ((vmsize image segment ≡ 0)
+    × (length image < section_offset image section + section_size image section)))) place
+BreaksCommands image commands rule.SectionRelocs place =
+    AtSection image commands (λ segment section.
+    (0 < nreloc image section)
+    × (length image < reloff image section + 8 * nreloc image section)) place
+BreaksCommands image commands rule.TableRange place =
+    Contains commands place × Any (IsOutside image) (tables_of image place)
+BreaksCommands image commands rule.SymbolGroup place =
+    Contains (of_kind image loader.LC_DYSYMTAB commands) place
+    × Any (λ group. (0 < group.1) × (symbol_count image commands < group.0 + group.1))
+    (groups_of image place)
+BreaksCommands image commands rule.SymbolName place =
+    AtSymbol image commands (HasEndlessName image) place
+BreaksCommands image commands rule.SymbolSection place =
+    AtSymbol image commands (λ symtab symbol. NamesSection image symbol
+    × ((n_sect image symbol ≡ 0) ⊎ (section_count image commands < n_sect image symbol))) place
+BreaksCommands image commands rule.IndirectIndex place =
+    Any (λ dysymtab. (k : ℕ) × (k < nindirectsyms image dysymtab)
+    × (place ≡ indirectsymoff image dysymtab + 4 * k)
+    × IsSymbolIndex (word image place) × (symbol_count image commands ≤ word image place))
+    (of_kind image loader.LC_DYSYMTAB commands)
+BreaksCommands image commands rule.Entry place =
+    Contains (of_kind image loader.LC_MAIN commands) place
+    × ¬ IsSomeAnd (base_of image commands)
+    (λ base. IsExecutable image commands (base + entryoff image place))
+BreaksCommands image commands other place = ⊥
+
+-- An image breaks a rule of its header and walk, or one that is read with its commands.
+abbrev pub BreaksImage : List ℕ → Option (ℕ × ℕ) → Rule → ℕ → Type 0
+BreaksImage image arch r place =
+    BreaksHeader image arch r place
+    ⊎ ((commands : List ℕ) × AreCommands image commands × BreaksCommands image commands r place)

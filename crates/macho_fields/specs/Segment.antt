@@ -1,0 +1,112 @@
+-- Segments, their sections, and what stands at an address. Each is named by the place of its
+-- structure. (mach-o/loader.h: segment_command_64, section_64, entry_point_command)
+use Rattle.std.specs.Prelude.{◌&&◌, ◌||◌, ◌≡◌, ◌≢◌, ℕ, ◌+◌, ◌-◌, ◌*◌, ◌%◌, ◌≤◌, ◌<◌, ◌==◌, nat_lt, List, map, find, sum_by, Any, Contains, Option, Bool, bit_and, if◌then◌else◌}
+use Rattle.std.specs.List.{range_with_len}
+use Rattle.std.specs.Option.{option_map}
+use Rattle.macho_fields.specs.Field.{Covers}
+use Rattle.macho_fields.specs.Image.{word, long, of_kind}
+use Rattle.macho_fields.specs.declared.header.loader.TheConstants as loader
+use Rattle.macho_fields.specs.declared.header.vm_prot.TheConstants as vm_prot
+
+abbrev pub segments_of : List ℕ → List ℕ → List ℕ
+segments_of image commands = of_kind image loader.LC_SEGMENT_64 commands
+
+-- segment_command_64: vmaddr at 24, vmsize 32, fileoff 40, filesize 48, initprot 60, nsects 64
+abbrev pub vmaddr : List ℕ → ℕ → ℕ
+vmaddr image segment = long image (segment + 24)
+
+abbrev pub vmsize : List ℕ → ℕ → ℕ
+vmsize image segment = long image (segment + 32)
+
+abbrev pub fileoff : List ℕ → ℕ → ℕ
+fileoff image segment = long image (segment + 40)
+
+abbrev pub filesize : List ℕ → ℕ → ℕ
+filesize image segment = long image (segment + 48)
+
+abbrev pub initprot : List ℕ → ℕ → ℕ
+initprot image segment = word image (segment + 60)
+
+abbrev pub nsects : List ℕ → ℕ → ℕ
+nsects image segment = word image (segment + 64)
+
+-- the sections of a segment stand behind its structure
+abbrev pub sections_in : List ℕ → ℕ → List ℕ
+sections_in image segment =
+    map (λ k. segment + loader.SEGMENT_COMMAND_64_SIZE + loader.SECTION_64_SIZE * k)
+    (range_with_len 0 (nsects image segment))
+
+-- the sections of an image are numbered from 1 over all its segments
+abbrev pub section_count : List ℕ → List ℕ → ℕ
+section_count image commands = sum_by (nsects image) (segments_of image commands)
+
+-- P holds of a segment and of one of its sections, which stands at the place
+abbrev pub AtSection : List ℕ → List ℕ → (ℕ → ℕ → Type 0) → ℕ → Type 0
+AtSection image commands P place =
+    Any (λ segment. Contains (sections_in image segment) place × P segment place)
+    (segments_of image commands)
+
+-- section_64: addr at 32, size 40, offset 48, reloff 56, nreloc 60, flags 64
+abbrev pub section_address : List ℕ → ℕ → ℕ
+section_address image section = long image (section + 32)
+
+abbrev pub section_size : List ℕ → ℕ → ℕ
+section_size image section = long image (section + 40)
+
+abbrev pub section_offset : List ℕ → ℕ → ℕ
+section_offset image section = word image (section + 48)
+
+abbrev pub reloff : List ℕ → ℕ → ℕ
+reloff image section = word image (section + 56)
+
+abbrev pub nreloc : List ℕ → ℕ → ℕ
+nreloc image section = word image (section + 60)
+
+-- the low byte of the flags is the type, and three types have no bytes in the file
+abbrev pub is_zero_fill : List ℕ → ℕ → Bool
+is_zero_fill image section =
+    let section_type = word image (section + 64) % 256 in
+    section_type == loader.S_ZEROFILL || section_type == loader.S_GB_ZEROFILL
+    || section_type == loader.S_THREAD_LOCAL_ZEROFILL
+
+-- Addresses
+
+-- a segment supplies an address
+abbrev pub Supplies : List ℕ → ℕ → ℕ → Type 0
+Supplies image segment address = Covers (vmaddr image segment) (vmsize image segment) address
+
+-- what stands at an address: the byte at a place of the slice, or a zero
+pub data Source : Type 0 where
+  File : (place : ℕ) → Source
+  Zero : Source
+
+-- what a segment has at an address that it supplies
+abbrev pub source : List ℕ → ℕ → ℕ → Source
+source image segment address =
+    let past = address - vmaddr image segment in
+    if nat_lt past (filesize image segment) then File (fileoff image segment + past) else Zero
+
+-- The bytes of a section of a mapped segment stand where its addresses say, in the file part.
+abbrev pub IsInFilePart : List ℕ → ℕ → ℕ → Type 0
+IsInFilePart image segment section =
+    let past = section_address image section - vmaddr image segment in
+    (section_offset image section ≡ fileoff image segment + past)
+    × (past + section_size image section ≤ filesize image segment)
+
+-- the vmaddr of the first mapped segment that shows the start of the file
+abbrev pub base_of : List ℕ → List ℕ → Option ℕ
+base_of image commands =
+    option_map (vmaddr image)
+    (find (λ segment. fileoff image segment == 0 && nat_lt 0 (filesize image segment)
+    && nat_lt 0 (vmsize image segment)) (segments_of image commands))
+
+-- entry_point_command.entryoff, from the base on
+abbrev pub entryoff : List ℕ → ℕ → ℕ
+entryoff image command = long image (command + 8)
+
+-- an address lies in the file part of a mapped segment whose initprot allows execution
+abbrev pub IsExecutable : List ℕ → List ℕ → ℕ → Type 0
+IsExecutable image commands address =
+    Any (λ segment. Supplies image segment address
+    × (address < vmaddr image segment + filesize image segment)
+    × (bit_and (initprot image segment) vm_prot.VM_PROT_EXECUTE ≢ 0)) (segments_of image commands)

@@ -1,0 +1,117 @@
+-- The tables that commands bound, symbols and indirect entries.
+-- (mach-o/loader.h: symtab_command, dysymtab_command, linkedit_data_command, dyld_info_command;
+-- mach-o/nlist.h: nlist_64)
+use Rattle.std.specs.Prelude.{◌||◌, ◌≡◌, ◌≢◌, ℕ, ◌+◌, ◌*◌, ◌<◌, ◌==◌, List, [], ◌∷◌, length, find, Any, slice_index, bit_and, if◌then◌else◌}
+use Rattle.std.specs.List.{list_any}
+use Rattle.std.specs.Option.{option_map_or}
+use Rattle.macho_fields.specs.Field.{HasZero}
+use Rattle.macho_fields.specs.Image.{word, command_kind, of_kind}
+use Rattle.macho_fields.specs.declared.header.loader.TheConstants as loader
+use Rattle.macho_fields.specs.declared.header.nlist.TheConstants as nlist
+
+-- symtab_command: symoff at 8, nsyms 12, stroff 16, strsize 20
+abbrev pub symoff : List ℕ → ℕ → ℕ
+symoff image symtab = word image (symtab + 8)
+
+abbrev pub nsyms : List ℕ → ℕ → ℕ
+nsyms image symtab = word image (symtab + 12)
+
+abbrev pub stroff : List ℕ → ℕ → ℕ
+stroff image symtab = word image (symtab + 16)
+
+abbrev pub strsize : List ℕ → ℕ → ℕ
+strsize image symtab = word image (symtab + 20)
+
+-- the number of symbols of an image, 0 where it has no symbol table
+abbrev pub symbol_count : List ℕ → List ℕ → ℕ
+symbol_count image commands =
+    option_map_or (nsyms image)
+    (find (λ command. command_kind image command == loader.LC_SYMTAB) commands) 0
+
+-- dysymtab_command: indirectsymoff at 56, nindirectsyms 60
+abbrev pub indirectsymoff : List ℕ → ℕ → ℕ
+indirectsymoff image dysymtab = word image (dysymtab + 56)
+
+abbrev pub nindirectsyms : List ℕ → ℕ → ℕ
+nindirectsyms image dysymtab = word image (dysymtab + 60)
+
+-- The three groups of symbols, each a first index and a number: ilocalsym at 8 and nlocalsym 12,
+-- iextdefsym 16 and nextdefsym 20, iundefsym 24 and nundefsym 28.
+abbrev pub groups_of : List ℕ → ℕ → List (ℕ × ℕ)
+groups_of image dysymtab =
+    (word image (dysymtab + 8), word image (dysymtab + 12))
+    ∷ (word image (dysymtab + 16), word image (dysymtab + 20))
+    ∷ (word image (dysymtab + 24), word image (dysymtab + 28)) ∷ []
+
+-- a table: the place of its first item, the number of its items, the bytes of an item
+abbrev pub table_at : List ℕ → ℕ → ℕ → ℕ → ℕ → ℕ × ℕ × ℕ
+table_at image command start count each =
+    (word image (command + start), word image (command + count), each)
+
+-- the kinds of linkedit_data_command: dataoff at 8, datasize 12
+abbrev pub linkedit_kinds : List ℕ
+linkedit_kinds =
+    loader.LC_CODE_SIGNATURE ∷ loader.LC_SEGMENT_SPLIT_INFO ∷ loader.LC_FUNCTION_STARTS
+    ∷ loader.LC_DATA_IN_CODE ∷ loader.LC_DYLIB_CODE_SIGN_DRS
+    ∷ loader.LC_LINKER_OPTIMIZATION_HINT ∷ loader.LC_DYLD_EXPORTS_TRIE
+    ∷ loader.LC_DYLD_CHAINED_FIXUPS ∷ []
+
+-- The tables of a command: the symbols and their strings; the contents, modules, references,
+-- indirect entries and two lists of relocations of a dysymtab_command; the one range of linkedit
+-- data; the five ranges of a dyld_info_command.
+abbrev pub tables_of : List ℕ → ℕ → List (ℕ × ℕ × ℕ)
+tables_of image command =
+    if command_kind image command == loader.LC_SYMTAB
+    then table_at image command 8 12 nlist.NLIST_64_SIZE ∷ table_at image command 16 20 1 ∷ []
+    else if command_kind image command == loader.LC_DYSYMTAB
+    then table_at image command 32 36 8 ∷ table_at image command 40 44 56
+    ∷ table_at image command 48 52 4 ∷ table_at image command 56 60 4
+    ∷ table_at image command 64 68 8 ∷ table_at image command 72 76 8 ∷ []
+    else if list_any (λ k. k == command_kind image command) linkedit_kinds
+    then table_at image command 8 12 1 ∷ []
+    else if command_kind image command == loader.LC_DYLD_INFO
+    || command_kind image command == loader.LC_DYLD_INFO_ONLY
+    then table_at image command 8 12 1 ∷ table_at image command 16 20 1
+    ∷ table_at image command 24 28 1 ∷ table_at image command 32 36 1
+    ∷ table_at image command 40 44 1 ∷ []
+    else []
+
+-- a table that has items ends past the image
+abbrev pub IsOutside : List ℕ → ℕ × ℕ × ℕ → Type 0
+IsOutside image table = (0 < table.1) × (length image < table.0 + table.1 * table.2)
+
+-- P holds of a symbol table and of one of its symbols, which stands at the place
+abbrev pub AtSymbol : List ℕ → List ℕ → (ℕ → ℕ → Type 0) → ℕ → Type 0
+AtSymbol image commands P place =
+    Any (λ symtab. (k : ℕ) × (k < nsyms image symtab)
+    × (place ≡ symoff image symtab + nlist.NLIST_64_SIZE * k) × P symtab place)
+    (of_kind image loader.LC_SYMTAB commands)
+
+-- nlist_64: n_strx at 0, n_type of one byte at 4, n_sect of one byte at 5
+abbrev pub n_strx : List ℕ → ℕ → ℕ
+n_strx image symbol = word image symbol
+
+abbrev pub n_type : List ℕ → ℕ → ℕ
+n_type image symbol = slice_index image (symbol + 4)
+
+abbrev pub n_sect : List ℕ → ℕ → ℕ
+n_sect image symbol = slice_index image (symbol + 5)
+
+-- the symbol has a name, which no zero byte ends inside the string table
+abbrev pub HasEndlessName : List ℕ → ℕ → ℕ → Type 0
+HasEndlessName image symtab symbol =
+    (n_strx image symbol ≢ 0)
+    × ¬ HasZero image (stroff image symtab + n_strx image symbol)
+    (stroff image symtab + strsize image symtab)
+
+-- the symbol is no debugging entry, and its type says that n_sect is the number of a section
+abbrev pub NamesSection : List ℕ → ℕ → Type 0
+NamesSection image symbol =
+    (bit_and (n_type image symbol) nlist.N_STAB ≡ 0)
+    × (bit_and (n_type image symbol) nlist.N_TYPE ≡ nlist.N_SECT)
+
+-- an indirect entry is the index of a symbol, neither local nor absolute
+abbrev pub IsSymbolIndex : ℕ → Type 0
+IsSymbolIndex entry =
+    (bit_and entry loader.INDIRECT_SYMBOL_LOCAL ≡ 0)
+    × (bit_and entry loader.INDIRECT_SYMBOL_ABS ≡ 0)

@@ -1,0 +1,84 @@
+-- A universal file, and the slices of any file. The fields of a universal header are big-endian.
+-- (mach-o/fat.h: fat_header, fat_arch, fat_arch_64)
+use Rattle.std.specs.Prelude.{◌≡◌, ℕ, ◌+◌, ◌*◌, ◌%◌, ◌^◌, ◌≤◌, ◌⊎◌, ◌==◌, ◌||◌, List, [], ◌∷◌, map, length, Option, Some, None, Bool, IsTrue, if◌then◌else◌}
+use Rattle.std.specs.List.{range_with_len}
+use Rattle.macho_fields.specs.Field.{number, part, Covers}
+use Rattle.macho_fields.specs.declared.bytes.Order.TheVariants.{Big, Little}
+use Rattle.macho_fields.specs.declared.header.fat.TheConstants as fat
+use Rattle.macho_fields.specs.declared.header.loader.TheConstants as loader
+
+-- fat_header.magic: FAT_MAGIC before entries of fat_arch, FAT_MAGIC_64 before those of fat_arch_64
+abbrev pub has_wide_entries : List ℕ → Bool
+has_wide_entries file = number Big 4 file 0 == fat.FAT_MAGIC_64
+
+abbrev pub is_universal : List ℕ → Bool
+is_universal file = number Big 4 file 0 == fat.FAT_MAGIC || has_wide_entries file
+
+abbrev pub IsUniversal : List ℕ → Type 0
+IsUniversal file = (4 ≤ length file) × IsTrue (is_universal file)
+
+-- fat_header.nfat_arch
+abbrev pub entry_count : List ℕ → ℕ
+entry_count file = number Big 4 file 4
+
+abbrev pub entry_size : List ℕ → ℕ
+entry_size file = if has_wide_entries file then fat.FAT_ARCH_64_SIZE else fat.FAT_ARCH_SIZE
+
+-- where entry k of the table stands
+abbrev pub entry_place : List ℕ → ℕ → ℕ
+entry_place file k = fat.FAT_HEADER_SIZE + k * entry_size file
+
+abbrev pub table_end : List ℕ → ℕ
+table_end file = entry_place file (entry_count file)
+
+-- fat_arch.align, fat_arch_64.align: the exponent of the power of two that divides the offset
+abbrev pub entry_align : List ℕ → ℕ → ℕ
+entry_align file k =
+    number Big 4 file (entry_place file k + (if has_wide_entries file then 24 else 16))
+
+-- a cpusubtype without its capability byte
+abbrev pub masked : ℕ → ℕ
+masked subtype = subtype % 2 ^ 24
+
+-- A slice: its first place, its size, and for an entry of a universal file the pair of its
+-- cputype and masked cpusubtype.
+pub record FileSlice : Type 0 where
+  pub start : ℕ
+  pub size : ℕ
+  pub arch : Option (ℕ × ℕ)
+
+-- entry k: cputype at 0, cpusubtype at 4, offset at 8, and size behind the offset
+abbrev pub entry_slice : List ℕ → ℕ → FileSlice
+entry_slice file k =
+    let place = entry_place file k in
+    let wide = has_wide_entries file in record {
+      start = if wide then number Big 8 file (place + 8) else number Big 4 file (place + 8);
+      size = if wide then number Big 8 file (place + 16) else number Big 4 file (place + 12);
+      arch = Some (number Big 4 file place, masked (number Big 4 file (place + 4)));
+    }
+
+-- the slices of a file: one for each entry in table order, or the whole of a file with no table
+abbrev pub slices_of : List ℕ → List FileSlice
+slices_of file =
+    if is_universal file
+    then map (entry_slice file) (range_with_len 0 (entry_count file))
+    else record { start = 0; size = length file; arch = None } ∷ []
+
+-- a place of the file lies in the slice
+abbrev pub HasPlace : FileSlice → ℕ → Type 0
+HasPlace slice place = Covers slice.start slice.size place
+
+abbrev pub slice_bytes : List ℕ → FileSlice → List ℕ
+slice_bytes file slice = part slice.start slice.size file
+
+-- The bytes begin with the magic of a 64-bit little-endian image: CF FA ED FE.
+abbrev pub IsImage : List ℕ → Type 0
+IsImage bytes = (4 ≤ length bytes) × (number Little 4 bytes 0 ≡ loader.MH_MAGIC_64)
+
+-- They begin with the magic of an image that is not read: of 32 bits in either order, or of 64
+-- bits in big-endian order.
+abbrev pub IsUnreadImage : List ℕ → Type 0
+IsUnreadImage bytes =
+    (4 ≤ length bytes)
+    × ((number Little 4 bytes 0 ≡ loader.MH_MAGIC) ⊎ (number Big 4 bytes 0 ≡ loader.MH_MAGIC)
+    ⊎ (number Big 4 bytes 0 ≡ loader.MH_MAGIC_64))

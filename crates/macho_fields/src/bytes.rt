@@ -1,0 +1,133 @@
+//! Numbers and parts of the bytes of a file.
+
+ghost use Rattle.std.specs.Prelude.{◌≡◌, ◌+◌, ◌≤◌, ◌↔◌, [], length, slice_get, IsTrue, IsSome, IfSome};
+ghost use Rattle.macho_fields.specs.Bytes.{bytes_of};
+ghost use Rattle.macho_fields.specs.Field.{field, part};
+ghost use Rattle.macho_fields.specs.Span.{end_of};
+
+use crate::span::Span;
+use byteorder::{BigEndian, ByteOrder, LittleEndian};
+
+/// The order of the bytes of a field.
+#[derive(Clone, Copy, Debug, PartialEq, Eq)]
+pub enum Order {
+    /// The most significant byte first, as in a universal header.
+    Big,
+    /// The least significant byte first, as in an image.
+    Little,
+}
+
+/// The bytes of a file, or of a slice of one, whose fields are read by place: the offset in bytes
+/// at which they begin.
+#[derive(Clone, Copy, Debug, PartialEq, Eq)]
+pub struct Bytes<'a> {
+    bytes: &'a [u8],
+}
+
+impl<'a> Bytes<'a> {
+    /// All of `bytes`, which are not copied.
+    pub fn new(bytes: &'a [u8]) -> Bytes<'a>
+        ensures { bytes_of result ≡ bytes.now }
+    {
+        Bytes { bytes }
+    }
+
+    /// How many bytes there are.
+    pub fn len(self) -> u64
+        ensures { result ≡ length (bytes_of self.entry) }
+    {
+        self.bytes.len() as u64
+    }
+
+    /// Whether there are no bytes.
+    pub fn is_empty(self) -> bool
+        ensures { IsTrue result ↔ (bytes_of self.entry ≡ []) }
+    {
+        self.bytes.is_empty()
+    }
+
+    /// The byte at `place`, or `None` past the end.
+    pub fn u8_at(self, place: u64) -> Option<u8>
+        ensures { result ≡ slice_get (bytes_of self.entry) place }
+    {
+        self.bytes.get(place as usize).copied()
+    }
+
+    /// The number in the 2 bytes from `place` on, or `None` where they do not all lie inside.
+    pub fn u16_at(self, order: Order, place: u64) -> Option<u16>
+        ensures { result ≡ field order 2 (bytes_of self.entry) place }
+    {
+        let bytes = self.bytes_at(place, 2)?;
+        Some(match order {
+            Order::Big => BigEndian::read_u16(bytes),
+            Order::Little => LittleEndian::read_u16(bytes),
+        })
+    }
+
+    /// The number in the 4 bytes from `place` on, or `None` where they do not all lie inside.
+    pub fn u32_at(self, order: Order, place: u64) -> Option<u32>
+        ensures { result ≡ field order 4 (bytes_of self.entry) place }
+    {
+        let bytes = self.bytes_at(place, 4)?;
+        Some(match order {
+            Order::Big => BigEndian::read_u32(bytes),
+            Order::Little => LittleEndian::read_u32(bytes),
+        })
+    }
+
+    /// The number in the 8 bytes from `place` on, or `None` where they do not all lie inside.
+    pub fn u64_at(self, order: Order, place: u64) -> Option<u64>
+        ensures { result ≡ field order 8 (bytes_of self.entry) place }
+    {
+        let bytes = self.bytes_at(place, 8)?;
+        Some(match order {
+            Order::Big => BigEndian::read_u64(bytes),
+            Order::Little => LittleEndian::read_u64(bytes),
+        })
+    }
+
+    /// The bytes at the places of `span`, which are not copied, or `None` where `span` ends past
+    /// them. An empty span has no bytes, and is inside up to the very end.
+    pub fn part(self, span: Span) -> Option<&'a [u8]>
+        ensures inside { IsSome result ↔ (end_of span ≤ length (bytes_of self.entry)) }
+        ensures bytes { IfSome result (λ bytes.
+            bytes.now ≡ part span.start span.len (bytes_of self.entry)) }
+    {
+        self.bytes_at(span.start, span.len)
+    }
+
+    fn bytes_at(self, place: u64, width: u64) -> Option<&'a [u8]>
+        ensures inside { IsSome result ↔ (place + width ≤ length (bytes_of self.entry)) }
+        ensures bytes { IfSome result (λ bytes.
+            bytes.now ≡ part place width (bytes_of self.entry)) }
+    {
+        let rest = self.bytes.get(place as usize..)?;
+        rest.get(..width as usize)
+    }
+}
+
+#[cfg(test)]
+mod tests {
+    use super::*;
+
+    #[test]
+    fn reads_in_both_orders(rt: HostRuntime) {
+        let bytes = Bytes::new(&[0xca, 0xfe, 0xba, 0xbe, 0, 0, 0, 2]);
+        assert_eq!(rt; bytes.len(), 8);
+        assert!(rt; !bytes.is_empty());
+        assert_eq!(rt; bytes.u8_at(3), Some(0xbe));
+        assert_eq!(rt; bytes.u16_at(Order::Little, 6), Some(0x200));
+        assert_eq!(rt; bytes.u32_at(Order::Big, 0), Some(0xcafe_babe));
+        assert_eq!(rt; bytes.u64_at(Order::Big, 0), Some(0xcafe_babe_0000_0002));
+        assert_eq!(rt; bytes.u32_at(Order::Big, 5), None);
+        assert_eq!(rt; bytes.u64_at(Order::Little, u64::MAX), None);
+    }
+
+    #[test]
+    fn part_never_cuts(rt: HostRuntime) {
+        let bytes = Bytes::new(b"__TEXT");
+        let last = Span { start: 2, len: 4 };
+        assert_eq!(rt; bytes.part(last), Some(b"TEXT".as_slice()));
+        assert_eq!(rt; bytes.part(Span { start: 3, len: 4 }), None);
+    }
+}

@@ -1,0 +1,44 @@
+//! What the definitions promise by themselves. Each law is the contract of a function that does
+//! nothing when it is called: the premises are its `requires`, the conclusion its `ensures`.
+
+ghost use Rattle.std.specs.Prelude.{◌≡◌};
+ghost use Rattle.std.specs.List.Sorted.{IsStrictlyIncreasing};
+ghost use Rattle.macho_fields.specs.Image.{AreCommands};
+ghost use Rattle.macho_fields.specs.First.{IsFirst, IsUnbroken};
+ghost use Rattle.macho_fields.specs.Loader.{IsSound};
+
+use crate::rule::Break;
+
+/// An image has one list of commands at most.
+pub fn commands_are_one(image: &[u8], commands: &[u64], others: &[u64])
+    requires commands { AreCommands image.now commands.now }
+    requires others { AreCommands image.now others.now }
+    ensures { commands.now ≡ others.now }
+{
+    let _image = image;
+}
+
+/// The places of the commands of an image rise.
+pub fn command_places_rise(image: &[u8], commands: &[u64])
+    requires { AreCommands image.now commands.now }
+    ensures { IsStrictlyIncreasing commands.now }
+{
+    let _commands = commands;
+}
+
+/// A file has one first broken rule at most.
+pub fn first_is_one(file: &[u8], first: Break, other: Break)
+    requires first { IsFirst file.now first }
+    requires other { IsFirst file.now other }
+    ensures { first ≡ other }
+{
+    let _first = first;
+}
+
+/// A file that breaks no rule is sound.
+pub fn unbroken_is_sound(file: &[u8])
+    requires { IsUnbroken file.now }
+    ensures { IsSound file.now }
+{
+    let _file = file;
+}

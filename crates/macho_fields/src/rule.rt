@@ -1,0 +1,162 @@
+//! The rules of the layout by name, and where one is broken.
+
+ghost use Rattle.std.specs.Prelude.{◌≡◌, ◌++◌, Some, codes, false};
+ghost use Rattle.std.specs.Fmt.{digits};
+ghost use Rattle.macho_fields.specs.RuleNames.{name_of};
+
+use std::fmt;
+
+/// A rule of the layout, in the order in which the rules are judged.
+#[derive(Clone, Copy, Debug, PartialEq, Eq)]
+pub enum Rule {
+    /// The file begins with the magic number of no format that is read.
+    Magic,
+    /// The header or the table of a universal file passes the end of the file.
+    FatTruncated,
+    /// A slice passes the end of the file.
+    FatSliceOutside,
+    /// A slice begins before the end of the table that names it.
+    FatSliceInTable,
+    /// The offset of a slice is no multiple of its alignment.
+    FatAlign,
+    /// A slice has a byte in common with an earlier one.
+    FatOverlap,
+    /// A slice has the architecture of an earlier one.
+    FatDuplicate,
+    /// A slice begins with the magic number of no image.
+    FatSliceMagic,
+    /// A universal file has no 64-bit little-endian slice.
+    FatEmpty,
+    /// The bytes of an image end within its header.
+    HeaderTruncated,
+    /// The header of a slice names another architecture than the table.
+    ArchMismatch,
+    /// The image is of a kind that is not read.
+    FileType,
+    /// The load commands pass the end of the image.
+    CommandsOutside,
+    /// A load command passes the end of the commands, or has a size that none can have.
+    CommandWalk,
+    /// A load command is too small for its own fields.
+    CommandShort,
+    /// A load command that an image has once at most stands there again.
+    CommandRepeated,
+    /// A library does not name itself, or a program does.
+    DylibId,
+    /// A name begins within the fields of its command, or does not end in the command.
+    Name,
+    /// The addresses of a segment pass the last one.
+    SegmentAddress,
+    /// A segment has more bytes in the file than in memory.
+    SegmentSize,
+    /// The bytes of a segment pass the end of the image.
+    SegmentFile,
+    /// A segment has an address in common with an earlier one.
+    SegmentOverlap,
+    /// A section has an address outside its segment.
+    SectionAddress,
+    /// The bytes of a section do not lie where its segment puts them.
+    SectionFile,
+    /// The relocations of a section pass the end of the image.
+    SectionRelocs,
+    /// A table that a load command names passes the end of the image.
+    TableRange,
+    /// A group of symbols passes the end of the symbol table.
+    SymbolGroup,
+    /// The name of a symbol does not end within the string table.
+    SymbolName,
+    /// A symbol is defined in a section that the image does not have.
+    SymbolSection,
+    /// An indirect entry names no symbol of the table.
+    IndirectIndex,
+    /// The program has no entry point in executable bytes of the file.
+    Entry,
+}
+
+impl Rule {
+    /// The name of the rule in reports, in lower case.
+    pub const fn name(self) -> &'static str
+        ensures { result.now ≡ name_of self }
+    {
+        match self {
+            Rule::Magic => "magic",
+            Rule::FatTruncated => "fat-truncated",
+            Rule::FatSliceOutside => "fat-slice-outside",
+            Rule::FatSliceInTable => "fat-slice-in-table",
+            Rule::FatAlign => "fat-align",
+            Rule::FatOverlap => "fat-overlap",
+            Rule::FatDuplicate => "fat-duplicate",
+            Rule::FatSliceMagic => "fat-slice-magic",
+            Rule::FatEmpty => "fat-empty",
+            Rule::HeaderTruncated => "header-truncated",
+            Rule::ArchMismatch => "arch-mismatch",
+            Rule::FileType => "file-type",
+            Rule::CommandsOutside => "commands-outside",
+            Rule::CommandWalk => "command-walk",
+            Rule::CommandShort => "command-short",
+            Rule::CommandRepeated => "command-repeated",
+            Rule::DylibId => "dylib-id",
+            Rule::Name => "name",
+            Rule::SegmentAddress => "segment-address",
+            Rule::SegmentSize => "segment-size",
+            Rule::SegmentFile => "segment-file",
+            Rule::SegmentOverlap => "segment-overlap",
+            Rule::SectionAddress => "section-address",
+            Rule::SectionFile => "section-file",
+            Rule::SectionRelocs => "section-relocs",
+            Rule::TableRange => "table-range",
+            Rule::SymbolGroup => "symbol-group",
+            Rule::SymbolName => "symbol-name",
+            Rule::SymbolSection => "symbol-section",
+            Rule::IndirectIndex => "indirect-index",
+            Rule::Entry => "entry",
+        }
+    }
+}
+
+impl fmt::Display for Rule {
+    ghost output = { λ rule. Some (name_of rule) };
+
+    fn fmt<W: fmt::Write>(&self, f: &mut fmt::Formatter<W>) -> fmt::Result {
+        f.write_str(self.name())
+    }
+}
+
+/// A broken rule, and the place at which it is broken.
+#[derive(Clone, Copy, Debug, PartialEq, Eq)]
+pub struct Break {
+    /// The rule that is broken.
+    pub rule: Rule,
+    /// The offset in bytes of what breaks it.
+    pub place: u64,
+}
+
+/// The name of the rule and the place, as `entry at 0x20`.
+impl fmt::Display for Break {
+    ghost output = { λ b. Some (name_of b.rule ++ codes " at 0x" ++ digits 16 false b.place) };
+
+    fn fmt<W: fmt::Write>(&self, f: &mut fmt::Formatter<W>) -> fmt::Result {
+        write!(f, "{} at 0x{:x}", self.rule, self.place)
+    }
+}
+
+#[cfg(test)]
+mod tests {
+    use super::*;
+    use std::test::Fail;
+
+    #[test]
+    fn texts_for_reports(rt: HostRuntime) -> Result<(), Fail> {
+        let rule = Rule::FatSliceMagic;
+        let text = rule.to_string(rt.alloc())?;
+        assert_eq!(rt; text.as_str(), "fat-slice-magic");
+
+        let broken = Break {
+            rule: Rule::SegmentFile,
+            place: 0x1e8,
+        };
+        let text = broken.to_string(rt.alloc())?;
+        assert_eq!(rt; text.as_str(), "segment-file at 0x1e8");
+        Ok(())
+    }
+}

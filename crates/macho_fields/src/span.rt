@@ -1,0 +1,74 @@
+//! Ranges of places, and where they end.
+
+ghost use Rattle.std.specs.Prelude.{◌≡◌, ◌+◌, ◌*◌, ◌↔◌, IsTrue};
+ghost use Rattle.macho_fields.specs.Span.{end_of, Holds, IsInside, Shares};
+
+/// The `len` places from `start` on, in bytes. A span may pass the last place of a `u64`.
+#[derive(Clone, Copy, Debug, PartialEq, Eq, Hash)]
+pub struct Span {
+    /// The first place.
+    pub start: u64,
+    /// How many places there are.
+    pub len: u64,
+}
+
+impl Span {
+    /// The place behind the last one, which a `u64` need not hold.
+    pub fn end(self) -> u128
+        ensures { result ≡ end_of self }
+    {
+        u128::from(self.start) + u128::from(self.len)
+    }
+
+    /// Whether `place` is one of the places.
+    pub fn holds(self, place: u64) -> bool
+        ensures { IsTrue result ↔ Holds self place }
+    {
+        self.start <= place && u128::from(place) < self.end()
+    }
+
+    /// Whether this span begins and ends within `other`, be it empty or not.
+    pub fn inside(self, other: &Span) -> bool
+        ensures { IsTrue result ↔ IsInside self other.now }
+    {
+        other.start <= self.start && self.end() <= other.end()
+    }
+
+    /// Whether some place is held by both spans, so that an empty span shares nothing.
+    pub fn shares(self, other: &Span) -> bool
+        ensures { IsTrue result ↔ Shares self other.now }
+    {
+        let start = u128::from(self.start.max(other.start));
+        start < self.end() && start < other.end()
+    }
+}
+
+/// The place behind a table of `count` entries of `each` bytes that begins at `start`.
+pub fn table_end(start: u64, count: u64, each: u64) -> u128
+    ensures { result ≡ start + count * each }
+{
+    u128::from(start) + u128::from(count) * u128::from(each)
+}
+
+#[cfg(test)]
+mod tests {
+    use super::*;
+
+    #[test]
+    fn empty_spans_share_nothing(rt: HostRuntime) {
+        let whole = Span { start: 8, len: 4 };
+        let empty = Span { start: 10, len: 0 };
+        assert_eq!(rt; whole.end(), 12);
+        assert!(rt; whole.holds(11) && !whole.holds(12));
+        assert!(rt; empty.inside(&whole));
+        assert!(rt; whole.shares(&whole) && !empty.shares(&whole));
+    }
+
+    #[test]
+    fn tables_end_past_64_bits(rt: HostRuntime) {
+        let most = u64::MAX;
+        let end = table_end(most, most, most);
+        assert_eq!(rt; end, 0xffff_ffff_ffff_ffff_0000_0000_0000_0000);
+        assert_eq!(rt; table_end(8, 2, 20), 48);
+    }
+}
