@@ -3,18 +3,18 @@ use Rattle.std.proofs.Common.{◌≡◌, ℕ, ◌≤◌, ◌<◌, ◌⊎◌, Lis
 use Rattle.macho_fields.specs.Universal.{IsUniversal, IsImage}
 use Rattle.macho_fields.specs.Image.{IsGood}
 use Rattle.macho_fields.specs.Rules.{BreaksImage, BreaksHeader}
-use Rattle.macho_fields.specs.First.{rank, Fault, IsBefore, IsFirst}
+use Rattle.macho_fields.specs.First.{rank, Fault, IsBefore, IsFirstBroken}
 use Rattle.macho_fields.specs.declared.rule.Rule.{Rule}
 use Rattle.macho_fields.specs.declared.rule.Rule.TheVariants as rule
 use Rattle.macho_fields.proofs.Ranks.{rank_positive, rank_tells_rule, image_rule_rank}
 use Rattle.macho_fields.proofs.Plain.{IsLeast, first_in_image}
 use Rattle.macho_fields.proofs.Walks.{IsHeader, before_walk, walk_breaks_once}
 
-nothing_before : (f : Fault) → ¬ IsBefore f (record { scope = 0; rule = rule.Magic; place = 0 })
+pub nothing_before : (f : Fault) → ¬ IsBefore f (record { scope = 0; rule = rule.Magic; place = 0 })
 nothing_before f (inl h) = absurd (omega arith)
 nothing_before f (inr h) = let p : 1 ≤ rank f.rule = rank_positive f.rule in ⊎_elim (λ k. absurd (omega arith)) (λ k. absurd (omega arith)) h.1
 
-pub empty_file : IsFirst [] (record { rule = rule.Magic; place = 0 })
+pub empty_file : IsFirstBroken [] (record { rule = rule.Magic; place = 0 })
 empty_file = (record { scope = 0; rule = rule.Magic; place = 0 }, (refl, λ h. ⊎_elim (λ k. let p : 4 ≤ 0 = k.0 in absurd (omega arith)) (λ k. let p : 4 ≤ 0 = k.0 in absurd (omega arith)) h), λ f _. nothing_before f, refl, refl)
 
 -- the bytes of a small number, the lowest first
@@ -29,7 +29,7 @@ header kind count size =
 abbrev cut : List ℕ
 cut = take 31 (header 2 0 0)
 
-pub cut_header : IsFirst cut (record { rule = rule.HeaderTruncated; place = 0 })
+pub cut_header : IsFirstBroken cut (record { rule = rule.HeaderTruncated; place = 0 })
 cut_header = first_in_image cut refl (lit≤ tt, refl) rule.HeaderTruncated 0 (inl (refl, lit< tt), later)
   where
     later : (other : Rule) (at : ℕ) → BreaksImage cut None other at → ¬ ((rank other < 10) ⊎ ((rank other ≡ 10) × (at < 0)))
@@ -53,7 +53,7 @@ walk_is_least image good place bad = (inl bad, least)
 abbrev no_size : List ℕ
 no_size = header 2 1 8 ++ four 0x99 ++ four 0
 
-pub command_of_no_size : IsFirst no_size (record { rule = rule.CommandWalk; place = 32 })
+pub command_of_no_size : IsFirstBroken no_size (record { rule = rule.CommandWalk; place = 32 })
 command_of_no_size = first_in_image no_size refl (lit≤ tt, refl) rule.CommandWalk 32 (walk_is_least no_size good 32 ([], lit< tt, refl, λ g. let p : 8 ≤ 0 = g.least in absurd (omega arith)))
   where
     good : IsHeader no_size
@@ -62,7 +62,7 @@ command_of_no_size = first_in_image no_size refl (lit≤ tt, refl) rule.CommandW
 abbrev past_end : List ℕ
 past_end = header 2 2 8 ++ four 0x99 ++ four 8
 
-pub command_past_end : IsFirst past_end (record { rule = rule.CommandWalk; place = 40 })
+pub command_past_end : IsFirstBroken past_end (record { rule = rule.CommandWalk; place = 40 })
 command_past_end = first_in_image past_end refl (lit≤ tt, refl) rule.CommandWalk 40 (walk_is_least past_end good 40 (32 ∷ [], lit< tt, (refl, first, refl), λ g. let p : 48 ≤ 40 = g.head in absurd (omega arith)))
   where
     good : IsHeader past_end
@@ -72,11 +72,11 @@ command_past_end = first_in_image past_end refl (lit≤ tt, refl) rule.CommandWa
     first = record { head = lit≤ tt; whole = refl; least = lit≤ tt; inside = lit≤ tt }
 
 -- a file with none of the magic numbers
-no_magic : (file : List ℕ) → ¬ IsUniversal file → ¬ IsImage file → IsFirst file (record { rule = rule.Magic; place = 0 })
+no_magic : (file : List ℕ) → ¬ IsUniversal file → ¬ IsImage file → IsFirstBroken file (record { rule = rule.Magic; place = 0 })
 no_magic file other another = (record { scope = 0; rule = rule.Magic; place = 0 }, (refl, λ h. ⊎_elim other another h), λ f _. nothing_before f, refl, refl)
 
-pub three_bytes : IsFirst (0xca ∷ 0xfe ∷ 0xba ∷ []) (record { rule = rule.Magic; place = 0 })
+pub three_bytes : IsFirstBroken (0xca ∷ 0xfe ∷ 0xba ∷ []) (record { rule = rule.Magic; place = 0 })
 three_bytes = no_magic (0xca ∷ 0xfe ∷ 0xba ∷ []) (λ u. let p : 4 ≤ 3 = u.0 in absurd (omega arith)) (λ i. let p : 4 ≤ 3 = i.0 in absurd (omega arith))
 
-pub big_endian_image : IsFirst (0xfe ∷ 0xed ∷ 0xfa ∷ 0xcf ∷ []) (record { rule = rule.Magic; place = 0 })
+pub big_endian_image : IsFirstBroken (0xfe ∷ 0xed ∷ 0xfa ∷ 0xcf ∷ []) (record { rule = rule.Magic; place = 0 })
 big_endian_image = no_magic (0xfe ∷ 0xed ∷ 0xfa ∷ 0xcf ∷ []) (λ u. let p : false ≡ true = u.1 in true≢false (sym p)) (λ i. let p : ◌≡◌ {A = ℕ} 0xcffaedfe 0xfeedfacf = i.1 in absurd (omega arith))

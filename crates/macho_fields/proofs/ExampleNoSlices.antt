@@ -2,7 +2,7 @@
 use Rattle.std.proofs.Common.{◌≡◌, ℕ, suc, zero, ◌+◌, ◌<◌, ◌⊎◌, List, [], ◌∷◌, refl, subst, arith, lit≤, inl, inr, ⊎_elim}
 use Rattle.macho_fields.specs.Universal.{IsUniversal}
 use Rattle.macho_fields.specs.Rules.{BreaksFile}
-use Rattle.macho_fields.specs.First.{rank, IsBrokenIn, IsBefore, IsFirst}
+use Rattle.macho_fields.specs.First.{rank, IsBrokenIn, IsBefore, IsFirstBroken}
 use Rattle.macho_fields.specs.declared.rule.Rule.{Rule}
 use Rattle.macho_fields.specs.declared.rule.Rule.TheVariants as rule
 use Rattle.macho_fields.proofs.Ranks.{rank_tells_rule}
@@ -11,7 +11,7 @@ use Rattle.macho_fields.proofs.Lists.{any_nil}
 abbrev IsLeastFileRule : List ℕ → Rule → ℕ → Type 0
 IsLeastFileRule file r place = BreaksFile file r place × ((other : Rule) (at : ℕ) → BreaksFile file other at → ¬ ((rank other < rank r) ⊎ ((rank other ≡ rank r) × (at < place))))
 
-first_in_file : (file : List ℕ) (r : Rule) (place : ℕ) → IsLeastFileRule file r place → IsFirst file (record { rule = r; place = place })
+first_in_file : (file : List ℕ) (r : Rule) (place : ℕ) → IsLeastFileRule file r place → IsFirstBroken file (record { rule = r; place = place })
 first_in_file file r place least = (record { scope = 0; rule = r; place = place }, least.0, (λ other. none_before other.scope other.rule other.place), refl, zeroth)
   where
     zeroth : place ≡ 0 + place
@@ -65,7 +65,7 @@ no_slices_keeps rule.SymbolSection at less h = absurd (omega arith)
 no_slices_keeps rule.IndirectIndex at less h = absurd (omega arith)
 no_slices_keeps rule.Entry at less h = absurd (omega arith)
 
-pub table_of_no_slices : IsFirst no_slices (record { rule = rule.FatEmpty; place = 4 })
+pub table_of_no_slices : IsFirstBroken no_slices (record { rule = rule.FatEmpty; place = 4 })
 table_of_no_slices = first_in_file no_slices rule.FatEmpty 4 ((refl, universal, λ k d h. absurd (let p : k < 0 = h in omega arith)), least)
   where
     least : (other : Rule) (at : ℕ) → BreaksFile no_slices other at → ¬ ((rank other < 9) ⊎ ((rank other ≡ 9) × (at < 4)))

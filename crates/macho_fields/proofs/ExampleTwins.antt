@@ -2,7 +2,7 @@
 use Rattle.std.proofs.Common.{◌≡◌, ◌≢◌, ℕ, suc, zero, ◌+◌, ◌*◌, ◌^◌, ◌≤◌, ◌<◌, ◌⊎◌, List, [], ◌∷◌, ◌++◌, replicate, Any, Option, Some, None, refl, sym, ap, subst, arith, lit≤, lit<, inl, inr, ⊎_elim}
 use Rattle.macho_fields.specs.Universal.{IsUniversal, IsImage, slice_bytes, entry_slice, entry_align, IsUnreadImage}
 use Rattle.macho_fields.specs.Rules.{BreaksFile, BreaksHeader, BreaksImage, BreaksCommands}
-use Rattle.macho_fields.specs.First.{rank, IsBrokenIn, IsBefore, IsFirst}
+use Rattle.macho_fields.specs.First.{rank, IsBrokenIn, IsBefore, IsFirstBroken}
 use Rattle.macho_fields.specs.declared.rule.Rule.{Rule}
 use Rattle.macho_fields.specs.declared.rule.Rule.TheVariants as rule
 use Rattle.macho_fields.proofs.Chains.{commands_unique}
@@ -146,5 +146,5 @@ none_before (suc (suc zero)) r at h (inl less) = let p : 2 < 2 = less in absurd 
 none_before (suc (suc zero)) r at h (inr later) = second_least r at h.1 later.1
 none_before (suc (suc (suc k))) r at h before = absurd h
 
-pub second_slice_mismatch : IsFirst twins (record { rule = rule.ArchMismatch; place = 100 })
+pub second_slice_mismatch : IsFirstBroken twins (record { rule = rule.ArchMismatch; place = 100 })
 second_slice_mismatch = (record { scope = 2; rule = rule.ArchMismatch; place = 4 }, ((lit≤ tt, refl), inl (refl, inr (λ e. let p : ◌≡◌ {A = ℕ} 2 0 = e in absurd (omega arith)))), (λ other. none_before other.scope other.rule other.place), refl, refl)

@@ -12,3 +12,5 @@ pub mod ExampleHeaders
 pub mod ExampleImages
 pub mod ExampleNoSlices
 pub mod ExampleTwins
+pub mod Layers
+pub mod Verdict

@@ -3,7 +3,7 @@ use Rattle.std.proofs.Common.{◌≡◌, ℕ, suc, zero, ◌+◌, ◌<◌, ◌�
 use Rattle.std.proofs.lemmas.Bool.{true≢false}
 use Rattle.macho_fields.specs.Universal.{FileSlice, is_universal, slices_of, slice_bytes, IsUniversal, IsImage}
 use Rattle.macho_fields.specs.Rules.{BreaksImage}
-use Rattle.macho_fields.specs.First.{rank, IsBrokenIn, IsBefore, IsFirst, IsUnbroken, scope_start}
+use Rattle.macho_fields.specs.First.{rank, IsBrokenIn, IsBefore, IsFirstBroken, IsUnbroken, scope_start}
 use Rattle.macho_fields.specs.declared.rule.Rule.{Rule}
 use Rattle.macho_fields.proofs.Ranks.{plain_image_keeps_file_rules}
 
@@ -13,7 +13,7 @@ whole file = record { start = 0; size = length file; arch = None }
 whole_bytes : (file : List ℕ) → slice_bytes file (whole file) ≡ file
 whole_bytes file = take_all (length file) file (le_refl (length file))
 
-plain_slices : (file : List ℕ) → is_universal file ≡ false → slices_of file ≡ whole file ∷ []
+pub plain_slices : (file : List ℕ) → is_universal file ≡ false → slices_of file ≡ whole file ∷ []
 plain_slices file e = rw e refl
 
 not_universal : (file : List ℕ) → is_universal file ≡ false → ¬ IsUniversal file
@@ -26,10 +26,10 @@ in_one : (file : List ℕ) (k : ℕ) (r : Rule) (place : ℕ) → IsSomeAnd (sli
 in_one file zero r place h = (refl, subst (λ bytes. BreaksImage bytes None r place) (whole_bytes file) h.1)
 in_one file (suc k) r place h = absurd h
 
-image_breaks : (file : List ℕ) → is_universal file ≡ false → (k : ℕ) (r : Rule) (place : ℕ) → IsBrokenIn file (suc k) r place → (k ≡ 0) × BreaksImage file None r place
+pub image_breaks : (file : List ℕ) → is_universal file ≡ false → (k : ℕ) (r : Rule) (place : ℕ) → IsBrokenIn file (suc k) r place → (k ≡ 0) × BreaksImage file None r place
 image_breaks file e k r place h = in_one file k r place (subst (λ slices. IsSomeAnd (slice_get slices k) (At file r place)) (plain_slices file e) h)
 
-image_happens : (file : List ℕ) → is_universal file ≡ false → IsImage file → (r : Rule) (place : ℕ) → BreaksImage file None r place → IsBrokenIn file 1 r place
+pub image_happens : (file : List ℕ) → is_universal file ≡ false → IsImage file → (r : Rule) (place : ℕ) → BreaksImage file None r place → IsBrokenIn file 1 r place
 image_happens file e is r place b =
     let here : At file r place (whole file) = (subst IsImage (sym (whole_bytes file)) is, subst (λ bytes. BreaksImage bytes None r place) (sym (whole_bytes file)) b) in
     subst (λ slices. IsSomeAnd (slice_get slices 0) (At file r place)) (sym (plain_slices file e)) here
@@ -47,7 +47,7 @@ none_before file e is r place least (suc k) other at h before =
     let (none, b) = image_breaks file e k other at h in
     elim before [ inl less ↦ absurd (omega arith) | inr (same, later) ↦ least.1 other at b later ]
 
-pub first_in_image : (file : List ℕ) → is_universal file ≡ false → IsImage file → (r : Rule) (place : ℕ) → IsLeast file r place → IsFirst file (record { rule = r; place = place })
+pub first_in_image : (file : List ℕ) → is_universal file ≡ false → IsImage file → (r : Rule) (place : ℕ) → IsLeast file r place → IsFirstBroken file (record { rule = r; place = place })
 first_in_image file e is r place least = (
   record { scope = 1; rule = r; place = place },
   image_happens file e is r place least.0,

@@ -9,4 +9,5 @@ pub mod Segment
 pub mod Symbol
 pub mod Rules
 pub mod First
+pub mod Layers
 pub mod Loader

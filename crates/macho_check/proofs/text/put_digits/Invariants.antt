@@ -1,0 +1,17 @@
+use Rattle.std.proofs.Common.{◌≡◌, ◌<◌, ◌≤◌, ◌^◌, drop, length}
+use Rattle.macho_check.specs.Hex.{hex}
+use Rattle.macho_check.proofs.HexLemmas.{digits_before}
+use Rattle.macho_check.proofs.text.put_digits.Given as goal
+
+-- what is left of the number goes before the digits that stand
+abbrev pub invariant-loop-rest : goal.invariant-loop-rest
+invariant-loop-rest l = record {
+  all_places : length l.digits ≡ 16;
+  some_place : 0 < l.start;
+  in_array : l.start ≤ 16;
+  fits : l.rest < 16 ^ l.start;
+  left : hex l.fn.number ≡ digits_before l.start l.rest (drop l.start l.digits);
+}
+
+abbrev pub decreases-loop-rest : goal.decreases-loop-rest
+decreases-loop-rest l = l.start

@@ -1,0 +1,5 @@
+pub mod Stream
+pub mod Hex
+pub mod Text
+pub mod Verdict
+pub mod Run

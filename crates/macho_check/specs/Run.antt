@@ -1,0 +1,30 @@
+-- What a run tells of its input, and with which status the program ends.
+use Rattle.std.specs.Prelude.{◌≡◌, ℕ, List, Result, Ok, Err}
+use Rattle.macho_fields.specs.First.{IsFaultless, IsFirst}
+use Rattle.macho_fields.specs.declared.rule.Break.{Break}
+use Rattle.macho_check.specs.Text.{accepted_text, break_text}
+use Rattle.macho_check.specs.declared.run.Outcome.{Outcome}
+use Rattle.macho_check.specs.declared.run.Outcome.TheVariants.{Accepted, Refused}
+use Rattle.macho_check.specs.declared.transfer.ReadFault.{ReadFault}
+use Rattle.macho_check.specs.declared.transfer.ReadFault.TheVariants as read
+use Rattle.macho_check.specs.declared.run.RunFault.{RunFault}
+use Rattle.macho_check.specs.declared.run.RunFault.TheVariants as fault
+
+-- the outcome is right for the file, and this is its text
+abbrev pub IsVerdict : List ℕ → Outcome → List ℕ → Type 0
+IsVerdict file Accepted text = IsFaultless file × (text ≡ accepted_text)
+IsVerdict file Refused text = (b : Break) × IsFirst file b × (text ≡ break_text b)
+
+abbrev pub status_of : Result Outcome RunFault → ℕ
+status_of (Ok Accepted) = 0
+status_of (Ok Refused) = 1
+status_of (Err fault.Read) = 3
+status_of (Err fault.TooLong) = 3
+status_of (Err fault.Write) = 3
+status_of (Err fault.Memory) = 4
+
+-- a fault of reading, as one of the run
+abbrev pub run_fault_of : ReadFault → RunFault
+run_fault_of read.Read = fault.Read
+run_fault_of read.TooLong = fault.TooLong
+run_fault_of read.Memory = fault.Memory

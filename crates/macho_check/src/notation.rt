@@ -1,0 +1,205 @@
+//! Files for tests, put together from the structures of the public headers.
+
+use macho_fields::header::loader::{
+    LC_BUILD_VERSION, LC_LOAD_DYLIB, LC_LOAD_DYLINKER, LC_MAIN, LC_SEGMENT_64, LC_SYMTAB, LC_UUID,
+    MH_EXECUTE, MH_MAGIC_64,
+};
+use macho_fields::header::machine::{CPU_SUBTYPE_X86_64_ALL, CPU_TYPE_X86_64};
+use std::alloc::{AllocError, Global};
+
+/// The bytes of a file so far.
+#[derive(Drop)]
+pub(crate) struct File {
+    bytes: Vec<u8>,
+}
+
+/// A section, as far as tests choose it: name, address, size, offset and flags.
+#[derive(Clone, Copy)]
+pub(crate) struct Section<'a>(
+    pub(crate) &'a str,
+    pub(crate) u64,
+    pub(crate) u64,
+    pub(crate) u32,
+    pub(crate) u32,
+);
+
+/// A segment without its sections: name, vmaddr, vmsize, fileoff, filesize and both protections.
+#[derive(Clone, Copy)]
+pub(crate) struct Segment<'a>(
+    pub(crate) &'a str,
+    pub(crate) u64,
+    pub(crate) u64,
+    pub(crate) u64,
+    pub(crate) u64,
+    pub(crate) u32,
+);
+
+impl File {
+    pub(crate) fn new(alloc: Global) -> File {
+        File {
+            bytes: Vec::new(alloc),
+        }
+    }
+
+    pub(crate) fn as_slice(&self) -> &[u8] {
+        self.bytes.as_slice()
+    }
+
+    pub(crate) fn bytes(mut self, bytes: &[u8]) -> Result<File, AllocError> {
+        self.bytes.extend_from_slice(bytes)?;
+        Ok(self)
+    }
+
+    pub(crate) fn word(self, number: u32) -> Result<File, AllocError> {
+        self.bytes(&number.to_le_bytes())
+    }
+
+    pub(crate) fn long(self, number: u64) -> Result<File, AllocError> {
+        self.bytes(&number.to_le_bytes())
+    }
+
+    /// Zeros up to this length.
+    pub(crate) fn zeros_to(mut self, len: usize) -> Result<File, AllocError> {
+        for _ in self.bytes.len()..len {
+            self.bytes.push(0)?;
+        }
+        Ok(self)
+    }
+
+    /// The bytes, and zeros up to `width` of them.
+    pub(crate) fn padded(self, bytes: &[u8], width: usize) -> Result<File, AllocError> {
+        let end = self.bytes.len().saturating_add(width);
+        self.bytes(bytes)?.zeros_to(end)
+    }
+
+    /// `mach_header_64` of an x86_64 image without flags.
+    pub(crate) fn header(
+        self,
+        filetype: u32,
+        ncmds: u32,
+        sizeofcmds: u32,
+    ) -> Result<File, AllocError> {
+        let architecture = self
+            .word(MH_MAGIC_64)?
+            .word(CPU_TYPE_X86_64)?
+            .word(CPU_SUBTYPE_X86_64_ALL)?;
+        architecture
+            .word(filetype)?
+            .word(ncmds)?
+            .word(sizeofcmds)?
+            .long(0)
+    }
+
+    /// The first two fields of a load command.
+    pub(crate) fn command(self, cmd: u32, cmdsize: u32) -> Result<File, AllocError> {
+        self.word(cmd)?.word(cmdsize)
+    }
+
+    /// `segment_command_64` with room for `sections` sections.
+    pub(crate) fn segment(self, segment: Segment, sections: u32) -> Result<File, AllocError> {
+        let Segment(name, vmaddr, vmsize, fileoff, filesize, protection) = segment;
+        let size = 72u32.saturating_add(sections.saturating_mul(80));
+        let named = self
+            .command(LC_SEGMENT_64, size)?
+            .padded(name.as_bytes(), 16)?;
+        let placed = named
+            .long(vmaddr)?
+            .long(vmsize)?
+            .long(fileoff)?
+            .long(filesize)?;
+        placed
+            .word(protection)?
+            .word(protection)?
+            .word(sections)?
+            .word(0)
+    }
+
+    /// `section_64` without relocations, in the segment of this name.
+    pub(crate) fn section(self, segment: &str, section: Section) -> Result<File, AllocError> {
+        let Section(name, addr, size, offset, flags) = section;
+        let named = self
+            .padded(name.as_bytes(), 16)?
+            .padded(segment.as_bytes(), 16)?;
+        let placed = named.long(addr)?.long(size)?.word(offset)?.word(0)?;
+        placed.long(0)?.word(flags)?.word(0)?.long(0)
+    }
+
+    /// `symtab_command`.
+    pub(crate) fn symtab(
+        self,
+        symoff: u32,
+        nsyms: u32,
+        stroff: u32,
+        strsize: u32,
+    ) -> Result<File, AllocError> {
+        self.command(LC_SYMTAB, 24)?
+            .word(symoff)?
+            .word(nsyms)?
+            .word(stroff)?
+            .word(strsize)
+    }
+
+    /// `entry_point_command` with no stack size.
+    pub(crate) fn main_command(self, entryoff: u64) -> Result<File, AllocError> {
+        self.command(LC_MAIN, 24)?.long(entryoff)?.long(0)
+    }
+
+    /// An executable with segments, symbols, a library, versions and an entry: 0x202c bytes.
+    pub(crate) fn executable(alloc: Global) -> Result<File, AllocError> {
+        let file = File::new(alloc).header(MH_EXECUTE, 10, 712)?;
+        let file = file.executable_segments()?.executable_commands()?;
+        file.zeros_to(0x2000)?.executable_linkedit()
+    }
+
+    fn executable_segments(self) -> Result<File, AllocError> {
+        let zero = self.segment(Segment("__PAGEZERO", 0, 0x1_0000_0000, 0, 0, 0), 0)?;
+        let text = zero
+            .segment(Segment("__TEXT", 0x1_0000_0000, 0x1000, 0, 0x1000, 5), 1)?
+            .section("__TEXT", Section("__text", 0x1_0000_0f00, 0x100, 0xf00, 0))?;
+        let data = text
+            .segment(
+                Segment("__DATA", 0x1_0000_1000, 0x2000, 0x1000, 0x1000, 3),
+                2,
+            )?
+            .section("__DATA", Section("__data", 0x1_0000_1000, 0x10, 0x1000, 0))?
+            .section("__DATA", Section("__bss", 0x1_0000_1010, 0x20, 0, 1))?;
+        data.segment(
+            Segment("__LINKEDIT", 0x1_0000_3000, 0x1000, 0x2000, 0x2c, 1),
+            0,
+        )
+    }
+
+    fn executable_commands(self) -> Result<File, AllocError> {
+        let linker = self
+            .symtab(0x2000, 2, 0x2020, 12)?
+            .command(LC_LOAD_DYLINKER, 32)?
+            .word(12)?
+            .padded(b"/usr/lib/dyld", 20)?;
+        let uuid = linker.command(LC_UUID, 24)?.bytes(&[
+            0x00, 0x11, 0x22, 0x33, 0x44, 0x55, 0x66, 0x77, 0x88, 0x99, 0xaa, 0xbb, 0xcc, 0xdd,
+            0xee, 0xff,
+        ])?;
+        let build = uuid.command(LC_BUILD_VERSION, 24)?.word(1)?;
+        let entry = build
+            .word(0x000b_0000)?
+            .word(0x000d_0100)?
+            .word(0)?
+            .main_command(0xf00)?;
+        let library = entry.command(LC_LOAD_DYLIB, 56)?.word(24)?.word(2)?;
+        library
+            .word(0x0527_0000)?
+            .word(0x0001_0000)?
+            .padded(b"/usr/lib/libSystem.B.dylib", 32)
+    }
+
+    fn executable_linkedit(self) -> Result<File, AllocError> {
+        let symbols = self
+            .word(1)?
+            .bytes(&[0x0f, 1, 0, 0])?
+            .long(0x1_0000_0f00)?
+            .word(7)?
+            .bytes(&[0x0f, 2, 0, 0])?
+            .long(0x1_0000_1000)?;
+        symbols.bytes(b"\0_main\0_x\0\0\0")
+    }
+}

@@ -1,0 +1,29 @@
+//! The status with which the program ends.
+
+ghost use Rattle.std.specs.Prelude.{◌≡◌};
+ghost use Rattle.macho_check.specs.Run.{status_of};
+
+use crate::run::{Outcome, RunFault};
+
+/// The file is accepted.
+pub const ACCEPTED: u8 = 0;
+/// A rule is broken.
+pub const REFUSED: u8 = 1;
+/// The words are not those of the program.
+pub const USAGE: u8 = 2;
+/// Reading or writing failed, or the input is too long.
+pub const STREAM_FAULT: u8 = 3;
+/// There was no memory.
+pub const OUT_OF_MEMORY: u8 = 4;
+
+/// The status that tells how a run ended.
+pub fn check_status(ended: &Result<Outcome, RunFault>) -> u8
+    ensures { result ≡ status_of ended.now }
+{
+    match ended {
+        Ok(Outcome::Accepted) => ACCEPTED,
+        Ok(Outcome::Refused) => REFUSED,
+        Err(RunFault::Read | RunFault::TooLong | RunFault::Write) => STREAM_FAULT,
+        Err(RunFault::Memory) => OUT_OF_MEMORY,
+    }
+}

@@ -1,0 +1,4 @@
+//! What no clause says, and that the clauses say what was meant.
+
+mod streams;
+mod verdicts;
