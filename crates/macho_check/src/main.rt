@@ -4,7 +4,6 @@
 
 #[cfg(test)]
 mod doubles;
-mod image;
 #[cfg(test)]
 mod notation;
 mod run;

@@ -139,6 +139,13 @@ impl File {
             .word(strsize)
     }
 
+    /// `dylib_command` with these name bytes behind it, both versions 1.0.0.
+    pub(crate) fn dylib(self, cmd: u32, name: &[u8]) -> Result<File, AllocError> {
+        let size = 24u32.saturating_add(u32::try_from(name.len()).unwrap_or(u32::MAX));
+        let named = self.command(cmd, size)?.word(24)?.word(2)?;
+        named.word(0x0001_0000)?.word(0x0001_0000)?.bytes(name)
+    }
+
     /// `entry_point_command` with no stack size.
     pub(crate) fn main_command(self, entryoff: u64) -> Result<File, AllocError> {
         self.command(LC_MAIN, 24)?.long(entryoff)?.long(0)

@@ -7,9 +7,9 @@ ghost use Rattle.macho_fields.specs.Universal.{IsImage};
 ghost use Rattle.macho_check.specs.Verdict.{IsRefusal, IsSoundSoFar};
 ghost use Rattle.macho_check.specs.declared.verify.Refusal.TheVariants.{Broken};
 
-use crate::image;
 use macho_fields::header::loader::MH_MAGIC_64;
 use macho_fields::{Break, Bytes, Order, Rule};
+use macho_image::Image;
 use std::alloc::Global;
 use thiserror::Error;
 
@@ -40,8 +40,8 @@ pub struct Verified<'a> {
 
 /// Decides the rules of a file, in their order: accepts it, or tells the first broken one.
 ///
-/// So far it decides `magic`, `header-truncated`, `file-type`, `commands-outside` and
-/// `command-walk`, refuses a universal file as `magic`, and takes no memory.
+/// So far it decides `magic` and the rules that open an image, refuses a universal file as
+/// `magic`, and takes no memory.
 pub fn verify<'a>(alloc: Global, file: &'a [u8]) -> Result<Verified<'a>, Refusal>
     ensures accepted { OnOk result (IsFaultless file.now) }
     ensures refused { IfErr result (IsRefusal file.now) }
@@ -50,7 +50,7 @@ pub fn verify<'a>(alloc: Global, file: &'a [u8]) -> Result<Verified<'a>, Refusal
     let _ = alloc;
     let bytes = Bytes::new(file);
     magic(bytes)?;
-    image::open(bytes)?;
+    Image::open(bytes, None)?;
     Ok(Verified { file })
 }
 

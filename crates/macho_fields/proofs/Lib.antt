@@ -14,3 +14,5 @@ pub mod ExampleNoSlices
 pub mod ExampleTwins
 pub mod Layers
 pub mod Verdict
+pub mod Zeros
+pub mod Opened

@@ -2,7 +2,7 @@
 use Rattle.std.proofs.Common.{◌≡◌, ◌≢◌, ℕ, ◌+◌, ◌-◌, ◌*◌, ◌≤◌, ◌<◌, ◌⊎◌, List, length, false, slice_index, bit_and, Any, Contains, Option, IsSomeAnd, refl, sym, ap, subst, arith, inl, inr}
 use Rattle.std.proofs.lemmas.Bool.{cases_lt, cases_eq, cases_order, lt-ltb}
 use Rattle.macho_fields.specs.Field.{HasZero, Covers}
-use Rattle.macho_fields.specs.Image.{word, long, commands_end, command_kind, command_size, AreCommands, of_kind}
+use Rattle.macho_fields.specs.Image.{word, long, command_kind, command_size, AreCommands, of_kind}
 use Rattle.macho_fields.specs.Command.{structures, records_size, named_kinds, name_start}
 use Rattle.macho_fields.specs.Segment.{segments_of, sections_in, vmaddr, vmsize, fileoff, filesize, initprot, base_of, Supplies, IsInFilePart, IsExecutable, section_address, section_size, section_offset, is_zero_fill, File, source}
 use Rattle.macho_fields.specs.Symbol.{tables_of, IsOutside, HasEndlessName}
@@ -12,7 +12,7 @@ use Rattle.macho_fields.specs.Loader.Reads.{in_header, in_command, in_structure,
 use Rattle.macho_fields.specs.declared.rule.Rule.{Rule}
 use Rattle.macho_fields.specs.declared.rule.Rule.TheVariants as rule
 use Rattle.macho_fields.proofs.Decided.{not_not, both_or_not, le_or_not, any_or_not, some_or_not, zero_or_none}
-use Rattle.macho_fields.proofs.Parts.{command_good}
+use Rattle.macho_fields.proofs.Opened.{Keeps, keeps_rules, command_inside, structure_inside, name_ended}
 
 -- an item that has P, as an element
 with_item : {X : Type 0} (P : X → Type 0) (xs : List X) → Any P xs → (x : X) × (Contains xs x × P x)
@@ -25,35 +25,24 @@ module _ (image : List ℕ) (arch : Option (ℕ × ℕ)) (keeps : (r : Rule) (pl
   keeps_commands : (r : Rule) (place : ℕ) → ¬ BreaksCommands image commands r place
   keeps_commands r place h = keeps r place (inr (commands, are, h))
 
-  long_enough : 32 ≤ length image
-  long_enough = elim (cases_lt (length image) 32) [ inl h ↦ absurd (keeps rule.HeaderTruncated 0 (inl (refl, h))) | inr h ↦ h ]
-
-  commands_inside : commands_end image ≤ length image
-  commands_inside = elim (cases_lt (length image) (commands_end image)) [ inl h ↦ absurd (keeps rule.CommandsOutside 20 (inl (refl, h))) | inr h ↦ h ]
-
-  command_inside : (command : ℕ) → Contains commands command → command + command_size image command ≤ length image
-  command_inside command has = let good = command_good image commands command are has in let inside : command + command_size image command ≤ commands_end image = good.inside in let most = commands_inside in omega arith
+  opened : Keeps image
+  opened = keeps_rules image arch (λ r place h. keeps r place h.2)
 
   reads_header : (place : ℕ) → place < 32 → place < length image
-  reads_header place h = let most = long_enough in omega arith
+  reads_header place h = let most = opened.header in omega arith
 
   reads_command : (place : ℕ) → Any (λ command. Covers command (command_size image command) place) commands → place < length image
   reads_command place any =
       let (command, (has, h)) = with_item (λ command. Covers command (command_size image command) place) commands any in
-      let most = command_inside command has in omega arith
-
-  -- a structure lies inside its command
-  structure_fits : (command : ℕ) (row : ℕ × ℕ) → Contains commands command → Contains structures row → row.0 ≡ command_kind image command → row.1 + records_size image command ≤ command_size image command
-  structure_fits command row has listed kind =
-      elim (cases_lt (command_size image command) (row.1 + records_size image command)) [ inl h ↦ absurd (keeps_commands rule.CommandShort command (has, as_any (λ r. (r.0 ≡ command_kind image command) × (command_size image command < r.1 + records_size image command)) structures row listed (kind, h))) | inr h ↦ h ]
+      let most = command_inside image commands opened are command has in omega arith
 
   reads_structure : (place : ℕ) → Any (λ command. Any (λ row. (row.0 ≡ command_kind image command) × Covers command (row.1 + records_size image command) place) structures) commands → place < length image
   reads_structure place any =
       let (command, (has, rows)) = with_item (λ command. Any (λ row. (row.0 ≡ command_kind image command) × Covers command (row.1 + records_size image command) place) structures) commands any in
       let (row, (listed, h)) = with_item (λ row. (row.0 ≡ command_kind image command) × Covers command (row.1 + records_size image command) place) structures rows in
-      let fits : row.1 + records_size image command ≤ command_size image command = structure_fits command row has listed h.0 in
+      let fits : row.1 + records_size image command ≤ command_size image command = structure_inside image commands opened are command row has listed h.0 in
       let from : Covers command (row.1 + records_size image command) place = h.1 in
-      let most = command_inside command has in omega arith
+      let most = command_inside image commands opened are command has in omega arith
 
   segment_inside : (segment : ℕ) → Contains (segments_of image commands) segment → 0 < filesize image segment → fileoff image segment + filesize image segment ≤ length image
   segment_inside segment has some = elim (cases_lt (length image) (fileoff image segment + filesize image segment)) [ inl h ↦ absurd (keeps_commands rule.SegmentFile segment (has, some, h)) | inr h ↦ h ]
@@ -179,10 +168,7 @@ module _ (image : List ℕ) (arch : Option (ℕ × ℕ)) (keeps : (r : Rule) (pl
   command_name : (start end : ℕ) → Any (CommandName start end) commands → HasZero image start end
   command_name start end any =
       let (command, (has, name)) = with_item (CommandName start end) commands any in
-      let (row, (listed, kind)) = with_item (λ row. row.0 ≡ command_kind image command) named_kinds name.0 in
-      let ended : HasZero image (name_start image command) (command + command_size image command) =
-      not_not (zero_or_none image (name_start image command) (command + command_size image command))
-      (λ none. keeps_commands rule.Name command (has, as_any (λ r. (r.0 ≡ command_kind image command) × ((word image (command + 8) < r.1) ⊎ ¬ HasZero image (name_start image command) (command + command_size image command))) named_kinds row listed (kind, inr none))) in
+      let ended = name_ended image commands opened are command has name.0 in
       subst (λ n. HasZero image n end) (sym name.1) (subst (λ n. HasZero image (name_start image command) n) (sym name.2) ended)
 
   symbol_name : (start end : ℕ) → Any (SymbolName start end) (of_kind image 0x2 commands) → HasZero image start end

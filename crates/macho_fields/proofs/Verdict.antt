@@ -1,21 +1,18 @@
 -- The verdict on a file that is one image, from its magic and its opening.
-use Rattle.std.proofs.Common.{◌≡◌, ℕ, suc, zero, ◌+◌, ◌∙◌, ◌==◌, ◌≤◌, ◌<◌, ◌⊎◌, List, length, slice_index, Contains, Option, None, IsTrue, true, false, refl, sym, arith, lit<, inl, inr, true≢false}
+use Rattle.std.proofs.Common.{◌≡◌, ℕ, suc, zero, ◌+◌, ◌∙◌, ◌==◌, ◌≤◌, ◌<◌, ◌⊎◌, List, length, slice_index, None, IsTrue, true, false, refl, sym, arith, lit<, inl, inr, true≢false}
 use Rattle.std.proofs.lemmas.Bool.{cases_Bool, cases_lt, eqb-true}
 use Rattle.macho_fields.specs.Field.{number}
 use Rattle.macho_fields.specs.declared.bytes.Order.TheVariants.{Big, Little}
 use Rattle.macho_fields.specs.declared.header.fat.TheConstants as fat
 use Rattle.macho_fields.specs.declared.header.loader.TheConstants as loader
 use Rattle.macho_fields.specs.Universal.{is_universal, IsUniversal, IsImage}
-use Rattle.macho_fields.specs.Image.{command_size, commands_end, AreCommands}
 use Rattle.macho_fields.specs.First.{rank, Fault, is_decided, IsFault, IsFaultless, IsBefore, IsFirst, scope_start}
 use Rattle.macho_fields.specs.Layers.{IsLeast, NothingBreaks, BreaksOpening}
 use Rattle.macho_fields.specs.declared.rule.Rule.{Rule}
 use Rattle.macho_fields.specs.declared.rule.Rule.TheVariants as rule
 use Rattle.macho_fields.specs.declared.rule.Break.{Break}
-use Rattle.macho_fields.proofs.Layers.{undecided}
 use Rattle.macho_fields.proofs.Ranks.{plain_image_keeps_file_rules}
 use Rattle.macho_fields.proofs.Plain.{image_breaks, image_happens}
-use Rattle.macho_fields.proofs.Parts.{commands_of, command_good}
 use Rattle.macho_fields.proofs.ExampleHeaders.{nothing_before}
 
 -- the two magics of a universal file are none of an image, where bytes are bytes
@@ -48,6 +45,9 @@ magic_first file other = (record { scope = 0; rule = rule.Magic; place = 0 }, fa
     fault : IsFault file (record { scope = 0; rule = rule.Magic; place = 0 })
     fault = elim (universal_or_not file) [ inl u ↦ inr (u, refl) | inr n ↦ inl (refl, (refl, λ h. elim h [ inl u ↦ n u | inr i ↦ other i ])) ]
 
+undecided : ¬ (false ≡ true)
+undecided e = true≢false (sym e)
+
 -- every rule that is decided so far is one of the file or of an opening
 decided_opens : (r : Rule) → IsTrue (is_decided r) → rank r < rank rule.SegmentAddress
 decided_opens rule.Magic h = lit< tt
@@ -64,10 +64,10 @@ decided_opens rule.ArchMismatch h = absurd (undecided h)
 decided_opens rule.FileType h = lit< tt
 decided_opens rule.CommandsOutside h = lit< tt
 decided_opens rule.CommandWalk h = lit< tt
-decided_opens rule.CommandShort h = absurd (undecided h)
-decided_opens rule.CommandRepeated h = absurd (undecided h)
-decided_opens rule.DylibId h = absurd (undecided h)
-decided_opens rule.Name h = absurd (undecided h)
+decided_opens rule.CommandShort h = lit< tt
+decided_opens rule.CommandRepeated h = lit< tt
+decided_opens rule.DylibId h = lit< tt
+decided_opens rule.Name h = lit< tt
 decided_opens rule.SegmentAddress h = absurd (undecided h)
 decided_opens rule.SegmentSize h = absurd (undecided h)
 decided_opens rule.SegmentFile h = absurd (undecided h)
@@ -109,19 +109,3 @@ module _ (file : List ℕ) (image : IsImage file) (plain : is_universal file ≡
 
       start : b.place ≡ scope_start file 1 + b.place
       start = omega (arith, begins)
-
-module _ (image : List ℕ) (arch : Option (ℕ × ℕ)) (opened : NothingBreaks (BreaksOpening image arch)) where
-  pub opened_header : 32 ≤ length image
-  opened_header = elim (cases_lt (length image) 32) [ inl short ↦ absurd (opened rule.HeaderTruncated 0 (refl, lit< tt, inl (refl, short))) | inr long ↦ long ]
-
-  pub opened_inside : commands_end image ≤ length image
-  opened_inside = elim (cases_lt (length image) (commands_end image)) [ inl out ↦ absurd (opened rule.CommandsOutside 20 (refl, lit< tt, inl (refl, out))) | inr within ↦ within ]
-
-  pub opened_commands : (commands : List ℕ) × AreCommands image commands
-  opened_commands = commands_of image arch (λ place h. opened rule.CommandWalk place (refl, lit< tt, inl h))
-
-  pub opened_command_inside : (commands : List ℕ) → AreCommands image commands → (command : ℕ) → Contains commands command → command + command_size image command ≤ length image
-  opened_command_inside commands are command has =
-      let good = command_good image commands command are has in
-      let inside : command + command_size image command ≤ commands_end image = good.inside in
-      let most = opened_inside in omega arith

@@ -92,7 +92,8 @@ abbrev pub is_decided : Rule → Bool
 is_decided r =
     list_any (λ decided. rank decided == rank r)
     (rule.Magic ∷ rule.HeaderTruncated ∷ rule.FileType ∷ rule.CommandsOutside
-    ∷ rule.CommandWalk ∷ [])
+    ∷ rule.CommandWalk ∷ rule.CommandShort ∷ rule.CommandRepeated ∷ rule.DylibId
+    ∷ rule.Name ∷ [])
 
 -- A decided rule is broken, or the file is universal, which is refused as `magic` so far.
 abbrev pub IsFault : List ℕ → Fault → Type 0

@@ -2,11 +2,12 @@
 
 ghost use Rattle.std.specs.Prelude.{◌≡◌, ◌+◌, ◌≤◌, ◌↔◌, [], length, slice_get, IsTrue, IsSome, IfSome};
 ghost use Rattle.macho_fields.specs.Bytes.{bytes_of};
-ghost use Rattle.macho_fields.specs.Field.{field, part};
-ghost use Rattle.macho_fields.specs.Span.{end_of};
+ghost use Rattle.macho_fields.specs.Field.{field, part, HasZero};
+ghost use Rattle.macho_fields.specs.Span.{end_of, Holds};
 
 use crate::span::Span;
 use byteorder::{BigEndian, ByteOrder, LittleEndian};
+use memchr::memchr;
 
 /// The order of the bytes of a field.
 #[derive(Clone, Copy, Debug, PartialEq, Eq)]
@@ -96,6 +97,21 @@ impl<'a> Bytes<'a> {
         self.bytes_at(span.start, span.len)
     }
 
+    /// The first place of `span` at which the bytes hold a zero. A span may end past the bytes, or
+    /// lie behind them.
+    pub fn first_zero(self, span: Span) -> Option<u64>
+        ensures found { IsSome result ↔ HasZero (bytes_of self.entry) span.start (end_of span) }
+        ensures zero { IfSome result (λ place.
+            Holds span place × (slice_get (bytes_of self.entry) place ≡ Some 0)) }
+        ensures first { IfSome result (λ place.
+            ¬ HasZero (bytes_of self.entry) span.start place) }
+    {
+        let rest = self.bytes.get(span.start as usize..)?;
+        let within = rest.get(..span.len as usize).unwrap_or(rest);
+        let index = memchr(0, within)?;
+        Some(span.start + index as u64)
+    }
+
     fn bytes_at(self, place: u64, width: u64) -> Option<&'a [u8]>
         ensures inside { IsSome result ↔ (place + width ≤ length (bytes_of self.entry)) }
         ensures bytes { IfSome result (λ bytes.
@@ -129,5 +145,15 @@ mod tests {
         let last = Span { start: 2, len: 4 };
         assert_eq!(rt; bytes.part(last), Some(b"TEXT".as_slice()));
         assert_eq!(rt; bytes.part(Span { start: 3, len: 4 }), None);
+    }
+
+    #[test]
+    fn zeros_are_sought_in_the_span(rt: HostRuntime) {
+        let bytes = Bytes::new(b"ab\0c\0");
+        let from = |start: u64, len: u64| Span { start, len };
+        assert_eq!(rt; bytes.first_zero(from(0, 5)), Some(2));
+        assert_eq!(rt; bytes.first_zero(from(0, 2)), None);
+        assert_eq!(rt; bytes.first_zero(from(3, u64::MAX)), Some(4));
+        assert_eq!(rt; bytes.first_zero(from(9, 1)), None);
     }
 }

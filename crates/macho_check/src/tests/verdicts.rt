@@ -4,7 +4,9 @@ use crate::doubles::{EndlessReader, SlowReader, SlowWriter};
 use crate::notation::File;
 use crate::run::{Outcome, RunFault, run};
 use crate::status::check_status;
-use macho_fields::header::loader::{MH_BUNDLE, MH_EXECUTE};
+use macho_fields::header::loader::{
+    LC_ID_DYLIB, LC_SEGMENT_64, LC_UUID, MH_BUNDLE, MH_DYLIB, MH_EXECUTE,
+};
 use std::process::Abort;
 use std::test::Fail;
 
@@ -95,6 +97,62 @@ fn whole_executable(rt: HostRuntime) -> Result<(), Fail> {
     let text = b"refused: commands-outside at 0x14\n";
     let cut = bytes.get(..0x2e7).expect(&rt, "a longer file");
     check_told(&rt, cut, text, 1);
+    Ok(())
+}
+
+#[test]
+fn library_id(rt: HostRuntime) -> Result<(), Fail> {
+    let none = File::new(rt.alloc()).header(MH_DYLIB, 0, 0)?;
+    check_told(&rt, none.as_slice(), b"refused: dylib-id at 0xc\n", 1);
+
+    let good = File::new(rt.alloc())
+        .header(MH_DYLIB, 1, 32)?
+        .dylib(LC_ID_DYLIB, b"/a.dyl\0\0")?;
+    check_told(&rt, good.as_slice(), b"accepted\n", 0);
+
+    let unended = File::new(rt.alloc())
+        .header(MH_DYLIB, 1, 32)?
+        .dylib(LC_ID_DYLIB, b"/l.dylib")?;
+    check_told(&rt, unended.as_slice(), b"refused: name at 0x20\n", 1);
+
+    let twice = File::new(rt.alloc())
+        .header(MH_DYLIB, 2, 64)?
+        .dylib(LC_ID_DYLIB, b"/a.dyl\0\0")?
+        .dylib(LC_ID_DYLIB, b"/a.dyl\0\0")?;
+    let text = b"refused: command-repeated at 0x40\n";
+    check_told(&rt, twice.as_slice(), text, 1);
+
+    let executable = File::new(rt.alloc())
+        .header(MH_EXECUTE, 1, 32)?
+        .dylib(LC_ID_DYLIB, b"/a.dyl\0\0")?;
+    check_told(&rt, executable.as_slice(), b"refused: dylib-id at 0xc\n", 1);
+    Ok(())
+}
+
+#[test]
+fn short_commands(rt: HostRuntime) -> Result<(), Fail> {
+    let text = b"refused: command-short at 0x20\n";
+    let bare = File::new(rt.alloc())
+        .header(MH_EXECUTE, 1, 8)?
+        .command(LC_UUID, 8)?;
+    check_told(&rt, bare.as_slice(), text, 1);
+
+    let long = File::new(rt.alloc())
+        .header(MH_EXECUTE, 1, 32)?
+        .command(LC_UUID, 32)?
+        .zeros_to(64)?;
+    check_told(&rt, long.as_slice(), b"accepted\n", 0);
+
+    // Sizes that a product in 32 bits would take for 72 and for 8 more.
+    for nsects in [u32::MAX, 53_687_091, 53_687_092] {
+        let crowded = File::new(rt.alloc())
+            .header(MH_EXECUTE, 1, 72)?
+            .command(LC_SEGMENT_64, 72)?
+            .zeros_to(32 + 64)?
+            .word(nsects)?
+            .word(0)?;
+        check_told(&rt, crowded.as_slice(), text, 1);
+    }
     Ok(())
 }
 

@@ -1,0 +1,14 @@
+pub mod Opened
+pub mod Walked
+pub mod Progress
+pub mod OpenedWalk
+pub mod OfOneKind
+pub mod ReadParts
+pub mod Kept
+pub mod Singles
+pub mod Names
+pub mod Libraries
+pub mod Places
+pub mod Tables
+pub mod OfKind
+pub mod Opening

@@ -1,0 +1,118 @@
+//! The load commands of an opened image, one behind the other. (`mach-o/loader.h`: `load_command`)
+
+ghost use Rattle.std.specs.Prelude.{◌≡◌, ◌+◌, ◌≤◌, length};
+ghost use Rattle.macho_fields.specs.Bytes.{bytes_of};
+ghost use Rattle.macho_fields.specs.Image.{word, long, commands_end, IsGood};
+ghost use Rattle.macho_image.specs.Command.{command_of, command_at};
+
+use macho_fields::{Bytes, Order, Span};
+use std::marker::Model;
+
+/// A load command.
+#[derive(Clone, Copy, Debug)]
+pub struct Command<'a> {
+    /// Where it begins in the image.
+    pub place: u64,
+    /// Its kind: one of the `LC_` numbers, or any other.
+    pub cmd: u32,
+    /// How many bytes it has.
+    pub size: u32,
+    /// Its bytes, which are not copied.
+    pub bytes: &'a [u8],
+}
+
+/// The commands of an image that are left, in order.
+#[derive(Drop)]
+pub struct Commands<'a> {
+    pub(crate) image: Bytes<'a>,
+    pub(crate) place: u64,
+    pub(crate) left: u32,
+}
+
+impl<'a> Model for Commands<'a> {
+    ghost use Rattle.std.specs.Prelude.{List};
+    ghost use Rattle.macho_fields.specs.Bytes.{bytes_of};
+    ghost use Rattle.macho_image.specs.Command.{CommandView, commands_left, CanWalk};
+
+    ghost Value = { List CommandView };
+
+    ghost view = { λ walk. commands_left (bytes_of walk.image) walk.place walk.left };
+
+    ghost invariant = { λ walk. CanWalk (bytes_of walk.image) walk.place walk.left };
+}
+
+impl<'a> Iterator for Commands<'a> {
+    ghost use Rattle.std.specs.Iterator.{YieldsFirstBy, item_count};
+    ghost use Rattle.macho_image.specs.Command.{command_of};
+
+    type Item = Command<'a>;
+
+    ghost next_gives = { YieldsFirstBy command_of (λ left. left) };
+
+    ghost remaining = { item_count (λ left. left) };
+
+    fn next(&mut self) -> Option<Command<'a>> {
+        if self.left == 0 {
+            return None;
+        }
+        let command = command_from(self.image, self.place);
+        self.place += u64::from(command.size);
+        self.left -= 1;
+        Some(command)
+    }
+}
+
+impl<'a> Commands<'a> {
+    ghost use Rattle.std.specs.Iterator.{YieldsFirstBy};
+    ghost use Rattle.macho_image.specs.Command.{command_of, left_of_kind};
+
+    /// The next command of the kind `wanted`. Those before it are passed over.
+    pub(crate) fn next_of_kind(&mut self, wanted: u32) -> Option<Command<'a>>
+        ensures { YieldsFirstBy command_of (left_of_kind wanted) self.old result self.new }
+    {
+        while let Some(command) = self.next() {
+            if command.cmd == wanted {
+                return Some(command);
+            }
+        }
+        None
+    }
+}
+
+/// The command that stands at `place`.
+fn command_from(image: Bytes, place: u64) -> Command
+    requires good { IsGood (bytes_of image) place }
+    requires inside { commands_end (bytes_of image) ≤ length (bytes_of image) }
+    ensures { command_of result ≡ command_at (bytes_of image.entry) place }
+{
+    let size = word_at(image, place + COMMAND_SIZE);
+    let span = Span {
+        start: place,
+        len: u64::from(size),
+    };
+    Command {
+        place,
+        cmd: word_at(image, place),
+        size,
+        bytes: image.part(span).unwrap(),
+    }
+}
+
+/// Where the field `cmdsize` stands in a command.
+const COMMAND_SIZE: u64 = 4;
+
+/// The field of 32 bits at `place`.
+pub(crate) fn word_at(bytes: Bytes, place: u64) -> u32
+    requires { place + 4 ≤ length (bytes_of bytes) }
+    ensures { result ≡ word (bytes_of bytes.entry) place }
+{
+    bytes.u32_at(Order::Little, place).unwrap()
+}
+
+/// The field of 64 bits at `place`.
+pub(crate) fn long_at(bytes: Bytes, place: u64) -> u64
+    requires { place + 8 ≤ length (bytes_of bytes) }
+    ensures { result ≡ long (bytes_of bytes.entry) place }
+{
+    bytes.u64_at(Order::Little, place).unwrap()
+}

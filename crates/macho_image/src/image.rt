@@ -1,0 +1,122 @@
+//! An opened image. (`mach-o/loader.h`: `mach_header_64`)
+
+use crate::command::{Commands, word_at};
+use crate::rules::{command_repeated, command_short, dylib_id, name};
+use crate::walk::{command_walk, commands_outside, file_type, header_truncated};
+use macho_fields::header::loader::{MACH_HEADER_64_SIZE, MH_EXECUTE};
+use macho_fields::header::machine::CPU_SUBTYPE_MASK;
+use macho_fields::{Break, Bytes};
+use std::marker::Model;
+
+/// The bytes of a 64-bit image whose header, chain of commands and command names keep their rules.
+#[derive(Drop)]
+pub struct Image<'a> {
+    bytes: Bytes<'a>,
+}
+
+/// What an image is for.
+#[derive(Clone, Copy, Debug, PartialEq, Eq)]
+pub enum Kind {
+    /// To be run as a program.
+    Execute,
+    /// To be linked with.
+    Dylib,
+}
+
+impl<'a> Model for Image<'a> {
+    ghost use Rattle.std.specs.Prelude.{List, ℕ, None};
+    ghost use Rattle.macho_fields.specs.Bytes.{bytes_of};
+    ghost use Rattle.macho_fields.specs.Layers.{NothingBreaks, BreaksOpening};
+
+    ghost Value = { List ℕ };
+
+    ghost view = { λ image. bytes_of image.bytes };
+
+    ghost invariant = { λ image. NothingBreaks (BreaksOpening (bytes_of image.bytes) None) };
+}
+
+impl<'a> Image<'a> {
+    ghost use Rattle.std.specs.Prelude.{◌≡◌, None, IfOk, map};
+    ghost use Rattle.macho_fields.specs.Bytes.{bytes_of};
+    ghost use Rattle.macho_fields.specs.Layers.{BreaksOpening, Decides};
+    ghost use Rattle.macho_fields.specs.Image.{cpu_type, cpu_subtype};
+    ghost use Rattle.macho_fields.specs.Universal.{masked};
+    ghost use Rattle.macho_image.specs.Command.{OfCommands, command_at};
+    ghost use Rattle.macho_image.specs.Header.{IsKind};
+    ghost use Rattle.macho_image.specs.Opened.{IsOpened};
+
+    /// The image that `bytes` are, or the first of the rules of its header and its commands that
+    /// they break. The magic number is not looked at: any bytes are judged as a 64-bit image. Nor
+    /// is `arch` so far, the processor and its variant that a universal file names for them.
+    pub fn open(bytes: Bytes<'a>, arch: Option<(u32, u32)>) -> Result<Image<'a>, Break>
+        ensures decides { Decides (BreaksOpening (bytes_of bytes.entry) None) result }
+        ensures image { IfOk result (λ image. image ≡ bytes_of bytes.entry) }
+    {
+        let _arch = arch;
+        header_truncated(bytes)?;
+        file_type(bytes)?;
+        commands_outside(bytes)?;
+        command_walk(bytes)?;
+        command_short(bytes)?;
+        command_repeated(bytes)?;
+        dylib_id(bytes)?;
+        name(bytes)?;
+        Ok(Image { bytes })
+    }
+
+    /// The bytes that were opened.
+    pub fn bytes(&self) -> Bytes<'a>
+        ensures bytes { bytes_of result ≡ self.now }
+        ensures opened { IsOpened self.now }
+    {
+        self.bytes
+    }
+
+    /// What the image is for.
+    pub fn kind(&self) -> Kind
+        ensures { IsKind self.now result }
+    {
+        let file_type = word_at(self.bytes, FILE_TYPE);
+        if file_type == MH_EXECUTE {
+            Kind::Execute
+        } else {
+            Kind::Dylib
+        }
+    }
+
+    /// The processor that the image is made for: its type and its subtype, without the bits that
+    /// name capabilities.
+    pub fn arch(&self) -> (u32, u32)
+        ensures cpu_type { result.0 ≡ cpu_type self.now }
+        ensures cpu_subtype { result.1 ≡ masked (cpu_subtype self.now) }
+    {
+        (
+            word_at(self.bytes, CPU_TYPE),
+            word_at(self.bytes, CPU_SUBTYPE) & !CPU_SUBTYPE_MASK,
+        )
+    }
+
+    /// The load commands, in order.
+    pub fn commands(&self) -> Commands<'a>
+        ensures commands { OfCommands self.now (λ commands. result ≡ map (command_at self.now) commands) }
+        ensures opened { IsOpened self.now }
+    {
+        Commands {
+            image: self.bytes,
+            place: MACH_HEADER_64_SIZE,
+            left: word_at(self.bytes, COMMAND_COUNT),
+        }
+    }
+}
+
+// Where the fields stand in the header.
+const CPU_TYPE: u64 = 4;
+
+const CPU_SUBTYPE: u64 = 8;
+
+const FILE_TYPE: u64 = 12;
+
+const COMMAND_COUNT: u64 = 16;
+
+#[cfg(test)]
+mod tests;

@@ -1,0 +1,148 @@
+//! The rules of the header of an image and of the walk over its load commands.
+//! (`mach-o/loader.h`: `mach_header_64`, `load_command`)
+
+ghost use Rattle.std.specs.Prelude.{◌≡◌, ◌+◌, ◌^◌, ◌≤◌, ◌<◌, ◌↔◌, length, IsSome, IfSome, OnOk, None};
+ghost use Rattle.macho_fields.specs.Bytes.{bytes_of};
+ghost use Rattle.macho_fields.specs.Image.{word, command_count, commands_end, command_kind, command_size, IsGood};
+ghost use Rattle.macho_fields.specs.Layers.{DecidesRule};
+ghost use Rattle.macho_fields.specs.Rules.{BreaksHeader};
+ghost use Rattle.macho_fields.specs.declared.rule.Rule.{Rule};
+ghost use Rattle.macho_image.specs.Walked.{IsRead, IsWalked};
+
+use crate::command::word_at;
+use macho_fields::header::loader::{LOAD_COMMAND_SIZE, MACH_HEADER_64_SIZE, MH_DYLIB, MH_EXECUTE};
+use macho_fields::{Break, Bytes, Rule};
+
+/// `mach_header_64.filetype`
+pub(crate) const FILE_TYPE: u64 = 12;
+/// `mach_header_64.ncmds`
+const COMMAND_COUNT: u64 = 16;
+/// `mach_header_64.sizeofcmds`
+const COMMANDS_SIZE: u64 = 20;
+/// `load_command.cmdsize`
+const COMMAND_SIZE: u64 = 4;
+
+/// The bytes hold a header.
+pub(crate) fn header_truncated(image: Bytes) -> Result<(), Break>
+    ensures decides { DecidesRule (BreaksHeader (bytes_of image.entry) None Rule.HeaderTruncated)
+        Rule.HeaderTruncated result }
+    ensures header { OnOk result (MACH_HEADER_64_SIZE ≤ length (bytes_of image.entry)) }
+{
+    if image.len() < MACH_HEADER_64_SIZE {
+        return Err(Break {
+            rule: Rule::HeaderTruncated,
+            place: 0,
+        });
+    }
+    Ok(())
+}
+
+/// The image is a program or a library.
+pub(crate) fn file_type(image: Bytes) -> Result<(), Break>
+    requires { MACH_HEADER_64_SIZE ≤ length (bytes_of image) }
+    ensures decides { DecidesRule (BreaksHeader (bytes_of image.entry) None Rule.FileType)
+        Rule.FileType result }
+    ensures read { OnOk result (IsRead (bytes_of image.entry)) }
+{
+    match word_at(image, FILE_TYPE) {
+        MH_EXECUTE | MH_DYLIB => Ok(()),
+        _ => Err(Break {
+            rule: Rule::FileType,
+            place: FILE_TYPE,
+        }),
+    }
+}
+
+/// How many commands the header counts.
+pub(crate) fn count_of_commands(image: Bytes) -> u32
+    requires { MACH_HEADER_64_SIZE ≤ length (bytes_of image) }
+    ensures { result ≡ command_count (bytes_of image.entry) }
+{
+    word_at(image, COMMAND_COUNT)
+}
+
+/// The place behind the bytes that the header gives to the commands.
+fn end_of_commands(image: Bytes) -> u64
+    requires { MACH_HEADER_64_SIZE ≤ length (bytes_of image) }
+    ensures end { result ≡ commands_end (bytes_of image.entry) }
+    ensures near { result < 2 ^ 33 }
+{
+    MACH_HEADER_64_SIZE + u64::from(word_at(image, COMMANDS_SIZE))
+}
+
+/// The commands end inside the image.
+pub(crate) fn commands_outside(image: Bytes) -> Result<(), Break>
+    requires { MACH_HEADER_64_SIZE ≤ length (bytes_of image) }
+    ensures decides { DecidesRule (BreaksHeader (bytes_of image.entry) None Rule.CommandsOutside)
+        Rule.CommandsOutside result }
+    ensures inside { OnOk result
+        (commands_end (bytes_of image.entry) ≤ length (bytes_of image.entry)) }
+{
+    if end_of_commands(image) > image.len() {
+        return Err(Break {
+            rule: Rule::CommandsOutside,
+            place: COMMANDS_SIZE,
+        });
+    }
+    Ok(())
+}
+
+/// As many commands as the header counts stand one behind the other.
+pub(crate) fn command_walk(image: Bytes) -> Result<(), Break>
+    requires header { MACH_HEADER_64_SIZE ≤ length (bytes_of image) }
+    requires inside { commands_end (bytes_of image) ≤ length (bytes_of image) }
+    ensures decides { DecidesRule (BreaksHeader (bytes_of image.entry) None Rule.CommandWalk)
+        Rule.CommandWalk result }
+    ensures walked { OnOk result (IsWalked (bytes_of image.entry)) }
+{
+    let end = end_of_commands(image);
+    let mut place = MACH_HEADER_64_SIZE;
+    for _walked in 0..count_of_commands(image) {
+        let Some(next) = next_command(image, place, end) else {
+            return Err(Break {
+                rule: Rule::CommandWalk,
+                place,
+            });
+        };
+        place = next;
+    }
+    Ok(())
+}
+
+/// The place behind the command at `place`, or `None` where no command can stand there.
+fn next_command(image: Bytes, place: u64, end: u64) -> Option<u64>
+    requires end { end ≡ commands_end (bytes_of image) }
+    requires inside { end ≤ length (bytes_of image) }
+    requires place { place ≤ end }
+    ensures good { IsSome result ↔ IsGood (bytes_of image.entry) place }
+    ensures next { IfSome result (λ next. next ≡ place + command_size (bytes_of image.entry) place) }
+{
+    let room = end - place;
+    if room < LOAD_COMMAND_SIZE {
+        return None;
+    }
+    let size = u64::from(word_at(image, place + COMMAND_SIZE));
+    if size % 8 != 0 || size < LOAD_COMMAND_SIZE || size > room {
+        return None;
+    }
+    Some(place + size)
+}
+
+/// The kind of the command at `place`.
+pub(crate) fn kind_at(image: Bytes, place: u64) -> u32
+    requires walked { IsWalked (bytes_of image) }
+    requires good { IsGood (bytes_of image) place }
+    ensures { result ≡ command_kind (bytes_of image.entry) place }
+{
+    word_at(image, place)
+}
+
+/// The size of the command at `place`.
+pub(crate) fn size_at(image: Bytes, place: u64) -> u64
+    requires walked { IsWalked (bytes_of image) }
+    requires good { IsGood (bytes_of image) place }
+    ensures size { result ≡ command_size (bytes_of image.entry) place }
+    ensures near { place + result < 2 ^ 33 }
+{
+    u64::from(word_at(image, place + COMMAND_SIZE))
+}
