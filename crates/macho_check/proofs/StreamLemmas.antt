@@ -1,7 +1,7 @@
 -- Texts that are written one after the other.
 use Rattle.std.proofs.Common.{◌≡◌, ℕ, ◌+◌, ◌-◌, arith, Result, Ok, Err, IsErr, List, [], ◌∷◌, ◌++◌, Option, length, take, drop, refl, sym, ap, ◌∙◌, append_assoc, append-nil, take-append-drop, subst}
 use Rattle.std.proofs.lemmas.Grind.{common_steps}
-use Rattle.std.proofs.Math.Seq.{take-add, take-append-add, take-append_seam, take-length}
+use Rattle.std.proofs.Math.Seq.{take-add, take-append-add, take-append_seam}
 use Rattle.std.proofs.KnownBytes.{Appends-nil, Appends-trans}
 use Rattle.macho_check.specs.Stream.{Wrote, WrotePrefix, Writes, joined}
 
@@ -29,13 +29,6 @@ pub wrote_prefix_more : (a b : Option (List ℕ)) (xs ys : List ℕ) → WrotePr
 wrote_prefix_more a b xs ys h = record {
   count = length (take h.count xs);
   appended = rw (take_front h.count xs ys) h.appended;
-}
-
--- a whole text is a prefix of itself
-pub wrote_prefix_whole : (a b : Option (List ℕ)) (xs : List ℕ) → Wrote a b xs → WrotePrefix a b xs
-wrote_prefix_whole a b xs h = record {
-  count = length xs;
-  appended = rw (take-length xs) h.appended;
 }
 
 -- `&text[i..]`, as a slice's length gives it
@@ -89,22 +82,6 @@ writes_next_text a b c (Err e) text rest first second = wrote_prefix_next_text a
 pub writes_last_text : {T E : Type 0} (a b : Option (List ℕ)) (r : Result T E) (text : List ℕ) → Writes a b r text → Writes a b r (joined (text ∷ []))
 writes_last_text a b (Ok x) text h = wrote_last_text a b text h
 writes_last_text a b (Err e) text h = wrote_prefix_first_text a b text [] h
-
-joined-append : (texts more : List (List ℕ)) → joined (texts ++ more) ≡ joined texts ++ joined more
-unfolding joined
-joined-append [] more = refl
-joined-append (first ∷ rest) more = ap (λ l. first ++ l) (joined-append rest more) ∙ sym (append_assoc first (joined rest) (joined more))
-
--- what a loop over texts has written, and then one text more
-pub wrote_one_more : (a b c : Option (List ℕ)) (texts : List (List ℕ)) (text : List ℕ) → Wrote a b (joined texts) → Wrote b c text → Wrote a c (joined (texts ++ text ∷ []))
-wrote_one_more a b c texts text first second =
-    subst (Wrote a c) (sym (joined-append texts (text ∷ []))) (wrote_then a b c (joined texts) (joined (text ∷ [])) first (wrote_last_text b c text second))
-
--- what a loop over texts has written, and then a prefix of one text more, of which others may come
-pub wrote_prefix_of_one_more : (a b c : Option (List ℕ)) (texts : List (List ℕ)) (text : List ℕ) (others : List (List ℕ))
-    → Wrote a b (joined texts) → WrotePrefix b c text → WrotePrefix a c (joined (texts ++ text ∷ others))
-wrote_prefix_of_one_more a b c texts text others first second =
-    subst (WrotePrefix a c) (sym (joined-append texts (text ∷ others))) (wrote_prefix_then a b c (joined texts) (joined (text ∷ others)) first (wrote_prefix_first_text b c text others second))
 
 -- what composes functions that write one text after the other
 pub ruleset writing = (wrote_none, wrote_last_text, wrote_next_text, wrote_prefix_first_text, wrote_prefix_next_text, writes_fault, writes_last_text, writes_next_text)

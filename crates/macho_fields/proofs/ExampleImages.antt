@@ -15,10 +15,6 @@ use Rattle.macho_fields.proofs.Walks.{IsHeader, breaks_by_commands}
 use Rattle.macho_fields.proofs.Lists.{none_in_nil, any_nil, only_one, any_one, none_by_test}
 use Rattle.macho_fields.proofs.ExampleHeaders.{header, four}
 
-nil_of_none : (xs : List ℕ) → length xs ≡ 0 → xs ≡ []
-nil_of_none [] e = refl
-nil_of_none (x ∷ xs) e = absurd (omega arith)
-
 -- an executable without commands breaks no rule
 pub nothing_commanded : (image : List ℕ) → file_type image ≡ 2 → (r : Rule) (place : ℕ) → ¬ BreaksCommands image [] r place
 nothing_commanded image kind rule.Magic place h = h

@@ -1,7 +1,7 @@
 -- The order of the rules, and which of them speak of a file and which of an image.
 use Rattle.std.proofs.Common.{◌≡◌, ℕ, ◌-◌, ◌≤◌, List, [], ◌∷◌, Option, get_or, refl, sym, ap, ◌∙◌, lit≤, inr, ⊎_elim}
 use Rattle.macho_fields.specs.Universal.{IsUniversal, IsImage}
-use Rattle.macho_fields.specs.Rules.{BreaksFile, BreaksCommands, BreaksImage}
+use Rattle.macho_fields.specs.Rules.{BreaksFile, BreaksImage}
 use Rattle.macho_fields.specs.First.{rank}
 use Rattle.macho_fields.specs.declared.rule.Rule.{Rule}
 use Rattle.macho_fields.specs.declared.rule.Rule.TheVariants as rule
@@ -180,37 +180,3 @@ image_rule_rank image arch rule.SymbolName place h = lit≤ tt
 image_rule_rank image arch rule.SymbolSection place h = lit≤ tt
 image_rule_rank image arch rule.IndirectIndex place h = lit≤ tt
 image_rule_rank image arch rule.Entry place h = lit≤ tt
-
--- a rule that commands break comes after the rules of the header
-pub command_rule_rank : (image commands : List ℕ) (r : Rule) (place : ℕ) → BreaksCommands image commands r place → 15 ≤ rank r
-command_rule_rank image commands rule.Magic place h = absurd h
-command_rule_rank image commands rule.FatTruncated place h = absurd h
-command_rule_rank image commands rule.FatSliceOutside place h = absurd h
-command_rule_rank image commands rule.FatSliceInTable place h = absurd h
-command_rule_rank image commands rule.FatAlign place h = absurd h
-command_rule_rank image commands rule.FatOverlap place h = absurd h
-command_rule_rank image commands rule.FatDuplicate place h = absurd h
-command_rule_rank image commands rule.FatSliceMagic place h = absurd h
-command_rule_rank image commands rule.FatEmpty place h = absurd h
-command_rule_rank image commands rule.HeaderTruncated place h = absurd h
-command_rule_rank image commands rule.ArchMismatch place h = absurd h
-command_rule_rank image commands rule.FileType place h = absurd h
-command_rule_rank image commands rule.CommandsOutside place h = absurd h
-command_rule_rank image commands rule.CommandWalk place h = absurd h
-command_rule_rank image commands rule.CommandShort place h = lit≤ tt
-command_rule_rank image commands rule.CommandRepeated place h = lit≤ tt
-command_rule_rank image commands rule.DylibId place h = lit≤ tt
-command_rule_rank image commands rule.Name place h = lit≤ tt
-command_rule_rank image commands rule.SegmentAddress place h = lit≤ tt
-command_rule_rank image commands rule.SegmentSize place h = lit≤ tt
-command_rule_rank image commands rule.SegmentFile place h = lit≤ tt
-command_rule_rank image commands rule.SegmentOverlap place h = lit≤ tt
-command_rule_rank image commands rule.SectionAddress place h = lit≤ tt
-command_rule_rank image commands rule.SectionFile place h = lit≤ tt
-command_rule_rank image commands rule.SectionRelocs place h = lit≤ tt
-command_rule_rank image commands rule.TableRange place h = lit≤ tt
-command_rule_rank image commands rule.SymbolGroup place h = lit≤ tt
-command_rule_rank image commands rule.SymbolName place h = lit≤ tt
-command_rule_rank image commands rule.SymbolSection place h = lit≤ tt
-command_rule_rank image commands rule.IndirectIndex place h = lit≤ tt
-command_rule_rank image commands rule.Entry place h = lit≤ tt

@@ -1,5 +1,5 @@
 -- The libraries of an opened image.
-use Rattle.std.proofs.Common.{◌≡◌, ℕ, suc, zero, ◌+◌, ◌≤◌, ◌==◌, List, [], ◌∷◌, length, map, cond, Bool, true, false, All, Any, Contains, refl, sym, ap, ap₂, ◌∙◌, subst, arith, lit<, inl, inr, slice_index_or}
+use Rattle.std.proofs.Common.{◌≡◌, ℕ, suc, zero, ◌+◌, ◌≤◌, ◌==◌, List, [], ◌∷◌, length, map, Bool, true, All, Any, Contains, refl, sym, ap, ap₂, ◌∙◌, subst, arith, lit<, inl, inr, slice_index_or}
 use Rattle.std.proofs.lemmas.Bool.{eqb-true}
 use Rattle.std.proofs.lemmas.List.Elements.{All-map, All-tail, All-contains_itself, filter_passes, All-filter}
 use Rattle.std.proofs.lemmas.List.Folds.{Any-from_list_any}
@@ -14,7 +14,7 @@ use Rattle.macho_image.specs.Library.{DylibView, HoldsLibrary, HoldLibraries, li
 use Rattle.macho_fields.proofs.Opened.{Keeps}
 use Rattle.macho_image.proofs.Opened.{opened_keeps}
 use Rattle.macho_image.proofs.Kept.{IsListed, AreAll, holds_structure}
-use Rattle.macho_image.proofs.OfOneKind.{map-views}
+use Rattle.macho_image.proofs.OfOneKind.{keep_or_pass, map-views}
 use Rattle.macho_image.proofs.ReadParts.{word_in_part, length-part}
 use Rattle.macho_image.proofs.Names.{name_in_part, zero_in_part}
 
@@ -90,10 +90,6 @@ library_seen image c here =
     same {n = n} {a = a} {d = d} x y z =
         ap (λ (w : List ℕ). let made : DylibView = record { place = c; cmd = command_kind image c; name = w; current = a; compatible = d } in made) x
         ∙ ap₂ (λ (u v : ℕ). let made : DylibView = record { place = c; cmd = command_kind image c; name = n; current = u; compatible = v } in made) y z
-
-keep_or_pass : (image : List ℕ) (x : ℕ) (vs : List CommandView) (xs : List ℕ) (b : Bool) → vs ≡ map (command_at image) xs → cond b (command_at image x ∷ vs) vs ≡ map (command_at image) (cond b (x ∷ xs) xs)
-keep_or_pass image x vs xs true same = ap (λ ys. command_at image x ∷ ys) same
-keep_or_pass image x vs xs false same = same
 
 libraries_left-map : (image xs : List ℕ) → libraries_left (map (command_at image) xs) ≡ map (command_at image) (libraries image xs)
 libraries_left-map image [] = refl

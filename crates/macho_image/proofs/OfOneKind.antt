@@ -6,7 +6,8 @@ use Rattle.std.proofs.lemmas.List.Elements.{All-tail}
 use Rattle.macho_fields.specs.Image.{command_kind, of_kind}
 use Rattle.macho_image.specs.Command.{CommandView, command_at, left_of_kind, AreLong}
 
-keep_or_pass : (image : List ℕ) (x : ℕ) (vs : List CommandView) (xs : List ℕ) (b : Bool) → vs ≡ map (command_at image) xs → cond b (command_at image x ∷ vs) vs ≡ map (command_at image) (cond b (x ∷ xs) xs)
+-- a command is kept among the views where it is kept among the places
+pub keep_or_pass : (image : List ℕ) (x : ℕ) (vs : List CommandView) (xs : List ℕ) (b : Bool) → vs ≡ map (command_at image) xs → cond b (command_at image x ∷ vs) vs ≡ map (command_at image) (cond b (x ∷ xs) xs)
 keep_or_pass image x vs xs true same = ap (λ ys. command_at image x ∷ ys) same
 keep_or_pass image x vs xs false same = same
 

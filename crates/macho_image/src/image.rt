@@ -24,15 +24,15 @@ pub enum Kind {
 }
 
 impl<'a> Model for Image<'a> {
-    ghost use Rattle.std.specs.Prelude.{List, ℕ, None};
+    ghost use Rattle.std.specs.Prelude.{List, ℕ};
     ghost use Rattle.macho_fields.specs.Bytes.{bytes_of};
-    ghost use Rattle.macho_fields.specs.Layers.{NothingBreaks, BreaksOpening};
+    ghost use Rattle.macho_image.specs.Opened.{IsOpened};
 
     ghost Value = { List ℕ };
 
     ghost view = { λ image. bytes_of image.bytes };
 
-    ghost invariant = { λ image. NothingBreaks (BreaksOpening (bytes_of image.bytes) None) };
+    ghost invariant = { λ image. IsOpened (bytes_of image.bytes) };
 }
 
 impl<'a> Image<'a> {
@@ -73,6 +73,7 @@ impl<'a> Image<'a> {
     }
 
     /// What the image is for.
+    #[tactic(none)]
     pub fn kind(&self) -> Kind
         ensures { IsKind self.now result }
     {

@@ -105,7 +105,7 @@ fn next_library<'a>(commands: &mut Commands<'a>) -> Option<Command<'a>>
 fn is_library_kind(cmd: u32) -> bool
     ensures { result ≡ is_library cmd }
 {
-    LIBRARY_KINDS.iter().any(|kind| *kind == cmd)
+    LIBRARY_KINDS.contains(&cmd)
 }
 
 // Where the fields stand in the command.

@@ -31,8 +31,7 @@ impl<'a> Image<'a> {
         ensures { OfCommands self.now (λ commands.
             result ≡ option_map (main_command_at self.now) (first_of_kind self.now LC_MAIN commands)) }
     {
-        let mut commands = self.commands();
-        let command = commands.next_of_kind(LC_MAIN)?;
+        let command = self.commands().next_of_kind(LC_MAIN)?;
         Some(main_command_from(command))
     }
 }

@@ -19,8 +19,7 @@ impl<'a> Image<'a> {
         ensures { OfCommands self.now (λ commands.
             result ≡ option_map (uuid_at self.now) (first_of_kind self.now LC_UUID commands)) }
     {
-        let mut commands = self.commands();
-        let command = commands.next_of_kind(LC_UUID)?;
+        let command = self.commands().next_of_kind(LC_UUID)?;
         Some(uuid_from(command))
     }
 }

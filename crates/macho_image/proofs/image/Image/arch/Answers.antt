@@ -1,12 +1,12 @@
-use Rattle.std.proofs.Common.{None, ◌≤◌, length, arith}
+use Rattle.std.proofs.Common.{◌≤◌, length, arith}
 use Rattle.macho_fields.specs.Bytes.{bytes_of}
-use Rattle.macho_fields.proofs.Opened.{keeps_rules}
+use Rattle.macho_image.proofs.Opened.{opened_keeps}
 use Rattle.macho_image.proofs.image.Image.arch.Goals as goal
 
 pub word_at-requires : goal.word_at-requires
 word_at-requires c =
-    let header : 32 ≤ length (bytes_of c.self.inside.bytes) = (keeps_rules _ None c.self.invariant).header in omega arith
+    let header : 32 ≤ length (bytes_of c.self.inside.bytes) = (opened_keeps _ c.self.invariant).header in omega arith
 
 pub word_at-requires-2 : goal.word_at-requires-2
 word_at-requires-2 c =
-    let header : 32 ≤ length (bytes_of c.self.inside.bytes) = (keeps_rules _ None c.self.invariant).header in omega arith
+    let header : 32 ≤ length (bytes_of c.self.inside.bytes) = (opened_keeps _ c.self.invariant).header in omega arith

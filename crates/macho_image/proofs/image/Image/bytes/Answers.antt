@@ -1,5 +1,6 @@
-use Rattle.macho_image.proofs.Opened.{is_opened}
+use Rattle.std.proofs.Common.{subst}
+use Rattle.macho_image.specs.Opened.{IsOpened}
 use Rattle.macho_image.proofs.image.Image.bytes.Goals as goal
 
 pub returns-clause-opened : goal.returns-clause-opened
-returns-clause-opened c = is_opened _ _ c.self.view_is c.self.invariant
+returns-clause-opened c = subst IsOpened c.self.view_is c.self.invariant

@@ -1,14 +1,14 @@
-use Rattle.std.proofs.Common.{None, ◌≡◌, ◌≤◌, ℕ, List, length, map, arith, subst}
+use Rattle.std.proofs.Common.{◌≡◌, ◌≤◌, ℕ, List, length, map, arith, subst}
 use Rattle.macho_fields.specs.Bytes.{bytes_of}
+use Rattle.macho_image.specs.Opened.{IsOpened}
 use Rattle.macho_image.specs.Command.{OfCommands, command_at, commands_left}
-use Rattle.macho_fields.proofs.Opened.{keeps_rules}
-use Rattle.macho_image.proofs.Opened.{is_opened}
+use Rattle.macho_image.proofs.Opened.{opened_keeps}
 use Rattle.macho_image.proofs.OpenedWalk.{opened_walk, opened_commands}
 use Rattle.macho_image.proofs.image.Image.commands.Goals as goal
 
 pub word_at-requires : goal.word_at-requires
 word_at-requires c =
-    let header : 32 ≤ length (bytes_of c.self.inside.bytes) = (keeps_rules _ None c.self.invariant).header in omega arith
+    let header : 32 ≤ length (bytes_of c.self.inside.bytes) = (opened_keeps _ c.self.invariant).header in omega arith
 
 pub invariant_of-result : goal.invariant_of-result
 invariant_of-result c = opened_walk _ _ c.word_at.ensures c.self.invariant
@@ -20,4 +20,4 @@ returns-clause-commands c =
     subst P c.self.view_is (opened_commands bytes c.word_at.result c.word_at.ensures c.self.invariant)
 
 pub returns-clause-opened : goal.returns-clause-opened
-returns-clause-opened c = is_opened _ _ c.self.view_is c.self.invariant
+returns-clause-opened c = subst IsOpened c.self.view_is c.self.invariant

@@ -3,6 +3,7 @@ use Rattle.std.proofs.lemmas.Result.{err_from_is_err_and}
 use Rattle.macho_fields.specs.Bytes.{bytes_of}
 use Rattle.macho_fields.specs.declared.rule.Rule.TheVariants as rule
 use Rattle.macho_fields.proofs.Layers.{kept_none, kept_arch, kept_by_header, kept_all}
+use Rattle.macho_image.proofs.Opened.{may_open}
 use Rattle.macho_image.proofs.Opening.{KeepsHeader, kept_header, kept_walk, kept_short, kept_repeated, kept_id, kept_name, header_answer, commands_answer}
 use Rattle.macho_image.proofs.image.Image.open.Goals as goal
 
@@ -92,7 +93,7 @@ invariant_of-result c =
     let repeated = kept_repeated image walked short c.in_ok-command_repeated.ensures in
     let id = kept_id image walked repeated c.in_ok-dylib_id.ensures in
     let all = kept_name image walked id c.in_ok-name.ensures in
-    kept_all image all
+    may_open image (kept_all image all)
 
 pub returns-clause-decides : goal.returns-clause-decides
 returns-clause-decides c =
