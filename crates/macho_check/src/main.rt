@@ -2,6 +2,10 @@
 //! `macho-check`: reads a file from standard input, and tells whether its layout keeps the rules
 //! or which one it breaks first.
 
+ghost use Rattle.std.specs.Prelude.{◌≡◌};
+ghost use Rattle.std.specs.Process.{exit_status};
+ghost use Rattle.macho_check.specs.Run.{status_of};
+
 #[cfg(test)]
 mod doubles;
 #[cfg(test)]
@@ -51,7 +55,9 @@ fn main(rt: HostRuntime) -> ExitCode {
 }
 
 /// Tells a fault on standard error, whose own faults are ignored.
-fn stopped(rt: &HostRuntime, fault: RunFault) -> ExitCode {
+fn stopped(rt: &HostRuntime, fault: RunFault) -> ExitCode
+    ensures { exit_status result ≡ status_of (Err fault) }
+{
     let _ = eprintln!(rt; "{fault}");
     ExitCode::from(check_status(&Err(fault)))
 }
