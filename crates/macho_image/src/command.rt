@@ -99,7 +99,7 @@ fn command_from(image: Bytes, place: u64) -> Command
 }
 
 /// Where the field `cmdsize` stands in a command.
-const COMMAND_SIZE: u64 = 4;
+pub(crate) const COMMAND_SIZE: u64 = 4;
 
 /// The field of 32 bits at `place`.
 pub(crate) fn word_at(bytes: Bytes, place: u64) -> u32

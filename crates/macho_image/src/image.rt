@@ -2,7 +2,9 @@
 
 use crate::command::{Commands, word_at};
 use crate::rules::{command_repeated, command_short, dylib_id, name};
-use crate::walk::{command_walk, commands_outside, file_type, header_truncated};
+use crate::walk::{
+    COMMAND_COUNT, FILE_TYPE, command_walk, commands_outside, file_type, header_truncated,
+};
 use macho_fields::header::loader::{MACH_HEADER_64_SIZE, MH_EXECUTE};
 use macho_fields::header::machine::CPU_SUBTYPE_MASK;
 use macho_fields::{Break, Bytes};
@@ -114,10 +116,6 @@ impl<'a> Image<'a> {
 const CPU_TYPE: u64 = 4;
 
 const CPU_SUBTYPE: u64 = 8;
-
-const FILE_TYPE: u64 = 12;
-
-const COMMAND_COUNT: u64 = 16;
 
 #[cfg(test)]
 mod tests;

@@ -9,18 +9,16 @@ ghost use Rattle.macho_fields.specs.Rules.{BreaksHeader};
 ghost use Rattle.macho_fields.specs.declared.rule.Rule.{Rule};
 ghost use Rattle.macho_image.specs.Walked.{IsRead, IsWalked};
 
-use crate::command::word_at;
+use crate::command::{COMMAND_SIZE, word_at};
 use macho_fields::header::loader::{LOAD_COMMAND_SIZE, MACH_HEADER_64_SIZE, MH_DYLIB, MH_EXECUTE};
 use macho_fields::{Break, Bytes, Rule};
 
 /// `mach_header_64.filetype`
 pub(crate) const FILE_TYPE: u64 = 12;
 /// `mach_header_64.ncmds`
-const COMMAND_COUNT: u64 = 16;
+pub(crate) const COMMAND_COUNT: u64 = 16;
 /// `mach_header_64.sizeofcmds`
 const COMMANDS_SIZE: u64 = 20;
-/// `load_command.cmdsize`
-const COMMAND_SIZE: u64 = 4;
 
 /// The bytes hold a header.
 pub(crate) fn header_truncated(image: Bytes) -> Result<(), Break>
