@@ -1,5 +1,4 @@
 pub mod Stream
 pub mod Hex
 pub mod Text
-pub mod Verdict
 pub mod Run

@@ -1,6 +1,6 @@
 -- What a run tells of its input, and with which status the program ends.
 use Rattle.std.specs.Prelude.{◌≡◌, ℕ, List, Result, Ok, Err}
-use Rattle.macho_fields.specs.First.{IsFaultless, IsFirst}
+use Rattle.macho_fields.specs.First.{IsUnbroken, IsFirstBroken}
 use Rattle.macho_fields.specs.declared.rule.Break.{Break}
 use Rattle.macho_check.specs.Text.{accepted_text, break_text}
 use Rattle.macho_check.specs.declared.run.Outcome.{Outcome}
@@ -12,8 +12,8 @@ use Rattle.macho_check.specs.declared.run.RunFault.TheVariants as fault
 
 -- the outcome is right for the file, and this is its text
 abbrev pub IsVerdict : List ℕ → Outcome → List ℕ → Type 0
-IsVerdict file Accepted text = IsFaultless file × (text ≡ accepted_text)
-IsVerdict file Refused text = (b : Break) × IsFirst file b × (text ≡ break_text b)
+IsVerdict file Accepted text = IsUnbroken file × (text ≡ accepted_text)
+IsVerdict file Refused text = (b : Break) × IsFirstBroken file b × (text ≡ break_text b)
 
 abbrev pub status_of : Result Outcome RunFault → ℕ
 status_of (Ok Accepted) = 0

@@ -17,7 +17,6 @@ mod stream;
 mod tests;
 mod text;
 mod transfer;
-mod verify;
 
 use run::{RunFault, run};
 use status::check_status;

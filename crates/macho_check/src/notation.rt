@@ -1,11 +1,25 @@
 //! Files for tests, put together from the structures of the public headers.
 
+use macho_fields::header::fat::{FAT_MAGIC, FAT_MAGIC_64};
 use macho_fields::header::loader::{
-    LC_BUILD_VERSION, LC_LOAD_DYLIB, LC_LOAD_DYLINKER, LC_MAIN, LC_SEGMENT_64, LC_SYMTAB, LC_UUID,
-    MH_EXECUTE, MH_MAGIC_64,
+    LC_BUILD_VERSION, LC_DYSYMTAB, LC_LOAD_DYLIB, LC_LOAD_DYLINKER, LC_MAIN, LC_SEGMENT_64,
+    LC_SYMTAB, LC_UUID, MH_EXECUTE, MH_MAGIC_64,
 };
-use macho_fields::header::machine::{CPU_SUBTYPE_X86_64_ALL, CPU_TYPE_X86_64};
+use macho_fields::header::machine::{
+    CPU_SUBTYPE_ARM64_ALL, CPU_SUBTYPE_ARM64E, CPU_SUBTYPE_X86_64_ALL, CPU_TYPE_ARM64,
+    CPU_TYPE_X86_64,
+};
 use std::alloc::{AllocError, Global};
+
+/// The cputype and cpusubtype of the architectures that tests have images of.
+pub(crate) const X86_64: (u32, u32) = (CPU_TYPE_X86_64, CPU_SUBTYPE_X86_64_ALL);
+
+pub(crate) const ARM64: (u32, u32) = (CPU_TYPE_ARM64, CPU_SUBTYPE_ARM64_ALL);
+
+pub(crate) const ARM64E: (u32, u32) = (CPU_TYPE_ARM64, CPU_SUBTYPE_ARM64E);
+
+/// The 32-bit x86 architecture, whose images are not read.
+pub(crate) const I386: (u32, u32) = (7, 3);
 
 /// The bytes of a file so far.
 #[derive(Drop)]
@@ -29,6 +43,51 @@ pub(crate) struct Segment<'a>(
     pub(crate) &'a str,
     pub(crate) u64,
     pub(crate) u64,
+    pub(crate) u64,
+    pub(crate) u64,
+    pub(crate) u32,
+);
+
+/// The words of `dysymtab_command` behind its size, in their order.
+#[derive(Clone, Copy, Default)]
+pub(crate) struct Dysymtab {
+    pub(crate) ilocalsym: u32,
+    pub(crate) nlocalsym: u32,
+    pub(crate) iextdefsym: u32,
+    pub(crate) nextdefsym: u32,
+    pub(crate) iundefsym: u32,
+    pub(crate) nundefsym: u32,
+    pub(crate) tocoff: u32,
+    pub(crate) ntoc: u32,
+    pub(crate) modtaboff: u32,
+    pub(crate) nmodtab: u32,
+    pub(crate) extrefsymoff: u32,
+    pub(crate) nextrefsyms: u32,
+    pub(crate) indirectsymoff: u32,
+    pub(crate) nindirectsyms: u32,
+    pub(crate) extreloff: u32,
+    pub(crate) nextrel: u32,
+    pub(crate) locreloff: u32,
+    pub(crate) nlocrel: u32,
+}
+
+/// An entry of the symbol table without a value: `n_strx`, `n_type` and `n_sect`.
+#[derive(Clone, Copy)]
+pub(crate) struct Symbol(pub(crate) u32, pub(crate) u8, pub(crate) u8);
+
+/// An entry of a universal file: architecture, offset, size and align.
+#[derive(Clone, Copy)]
+pub(crate) struct FatArch(
+    pub(crate) (u32, u32),
+    pub(crate) u32,
+    pub(crate) u32,
+    pub(crate) u32,
+);
+
+/// An entry with a wide offset and size.
+#[derive(Clone, Copy)]
+pub(crate) struct FatArch64(
+    pub(crate) (u32, u32),
     pub(crate) u64,
     pub(crate) u64,
     pub(crate) u32,
@@ -79,15 +138,20 @@ impl File {
         ncmds: u32,
         sizeofcmds: u32,
     ) -> Result<File, AllocError> {
-        let architecture = self
-            .word(MH_MAGIC_64)?
-            .word(CPU_TYPE_X86_64)?
-            .word(CPU_SUBTYPE_X86_64_ALL)?;
-        architecture
-            .word(filetype)?
-            .word(ncmds)?
-            .word(sizeofcmds)?
-            .long(0)
+        self.header_of(X86_64, filetype, ncmds, sizeofcmds)
+    }
+
+    /// `mach_header_64` without flags.
+    pub(crate) fn header_of(
+        self,
+        architecture: (u32, u32),
+        filetype: u32,
+        ncmds: u32,
+        sizeofcmds: u32,
+    ) -> Result<File, AllocError> {
+        let (cputype, cpusubtype) = architecture;
+        let begun = self.word(MH_MAGIC_64)?.word(cputype)?.word(cpusubtype)?;
+        begun.word(filetype)?.word(ncmds)?.word(sizeofcmds)?.long(0)
     }
 
     /// The first two fields of a load command.
@@ -116,12 +180,24 @@ impl File {
 
     /// `section_64` without relocations, in the segment of this name.
     pub(crate) fn section(self, segment: &str, section: Section) -> Result<File, AllocError> {
+        self.section_with(segment, section, 0, 0)
+    }
+
+    /// `section_64` in the segment of this name, with the offset and number of its relocations.
+    pub(crate) fn section_with(
+        self,
+        segment: &str,
+        section: Section,
+        reloff: u32,
+        nreloc: u32,
+    ) -> Result<File, AllocError> {
         let Section(name, addr, size, offset, flags) = section;
         let named = self
             .padded(name.as_bytes(), 16)?
             .padded(segment.as_bytes(), 16)?;
         let placed = named.long(addr)?.long(size)?.word(offset)?.word(0)?;
-        placed.long(0)?.word(flags)?.word(0)?.long(0)
+        let relocated = placed.word(reloff)?.word(nreloc)?;
+        relocated.word(flags)?.word(0)?.long(0)
     }
 
     /// `symtab_command`.
@@ -139,6 +215,53 @@ impl File {
             .word(strsize)
     }
 
+    /// `dysymtab_command`.
+    pub(crate) fn dysymtab(self, words: Dysymtab) -> Result<File, AllocError> {
+        let groups = self
+            .command(LC_DYSYMTAB, 80)?
+            .pair((words.ilocalsym, words.nlocalsym))?
+            .pair((words.iextdefsym, words.nextdefsym))?
+            .pair((words.iundefsym, words.nundefsym))?;
+        let tables = groups
+            .pair((words.tocoff, words.ntoc))?
+            .pair((words.modtaboff, words.nmodtab))?
+            .pair((words.extrefsymoff, words.nextrefsyms))?;
+        tables
+            .pair((words.indirectsymoff, words.nindirectsyms))?
+            .pair((words.extreloff, words.nextrel))?
+            .pair((words.locreloff, words.nlocrel))
+    }
+
+    /// `linkedit_data_command`.
+    pub(crate) fn linkedit(
+        self,
+        cmd: u32,
+        dataoff: u32,
+        datasize: u32,
+    ) -> Result<File, AllocError> {
+        self.command(cmd, 16)?.pair((dataoff, datasize))
+    }
+
+    /// `dyld_info_command` with the offset and size of its five tables.
+    pub(crate) fn dyld_info(self, cmd: u32, tables: [(u32, u32); 5]) -> Result<File, AllocError> {
+        let mut file = self.command(cmd, 48)?;
+        for table in tables {
+            file = file.pair(table)?;
+        }
+        Ok(file)
+    }
+
+    /// A word and the one behind it, as an offset and a count.
+    fn pair(self, words: (u32, u32)) -> Result<File, AllocError> {
+        self.word(words.0)?.word(words.1)
+    }
+
+    /// `nlist_64`.
+    pub(crate) fn nlist(self, symbol: Symbol) -> Result<File, AllocError> {
+        let Symbol(strx, kind, sect) = symbol;
+        self.word(strx)?.bytes(&[kind, sect, 0, 0])?.long(0)
+    }
+
     /// `dylib_command` with these name bytes behind it, both versions 1.0.0.
     pub(crate) fn dylib(self, cmd: u32, name: &[u8]) -> Result<File, AllocError> {
         let size = 24u32.saturating_add(u32::try_from(name.len()).unwrap_or(u32::MAX));
@@ -149,6 +272,43 @@ impl File {
     /// `entry_point_command` with no stack size.
     pub(crate) fn main_command(self, entryoff: u64) -> Result<File, AllocError> {
         self.command(LC_MAIN, 24)?.long(entryoff)?.long(0)
+    }
+
+    /// A number whose most significant byte comes first, as in universal files.
+    fn big_word(self, number: u32) -> Result<File, AllocError> {
+        self.bytes(&number.to_be_bytes())
+    }
+
+    /// `fat_header` with any number of entries, and none of them.
+    pub(crate) fn fat_header(self, magic: u32, nfat_arch: u32) -> Result<File, AllocError> {
+        self.big_word(magic)?.big_word(nfat_arch)
+    }
+
+    /// `fat_header` and its entries.
+    pub(crate) fn fat(self, entries: &[FatArch]) -> Result<File, AllocError> {
+        let nfat_arch = u32::try_from(entries.len()).unwrap_or(u32::MAX);
+        let mut file = self.fat_header(FAT_MAGIC, nfat_arch)?;
+        for entry in entries {
+            let FatArch((cputype, cpusubtype), offset, size, align) = *entry;
+            let named = file.big_word(cputype)?.big_word(cpusubtype)?;
+            file = named.big_word(offset)?.big_word(size)?.big_word(align)?;
+        }
+        Ok(file)
+    }
+
+    /// `fat_header` and its wide entries.
+    pub(crate) fn fat64(self, entries: &[FatArch64]) -> Result<File, AllocError> {
+        let nfat_arch = u32::try_from(entries.len()).unwrap_or(u32::MAX);
+        let mut file = self.fat_header(FAT_MAGIC_64, nfat_arch)?;
+        for entry in entries {
+            let FatArch64((cputype, cpusubtype), offset, size, align) = *entry;
+            let named = file.big_word(cputype)?.big_word(cpusubtype)?;
+            let placed = named
+                .bytes(&offset.to_be_bytes())?
+                .bytes(&size.to_be_bytes())?;
+            file = placed.big_word(align)?.big_word(0)?;
+        }
+        Ok(file)
     }
 
     /// An executable with segments, symbols, a library, versions and an entry: 0x202c bytes.

@@ -10,7 +10,7 @@ ghost use Rattle.macho_check.specs.declared.run.RunFault.TheVariants as fault;
 use crate::stream::{Input, Output};
 use crate::text::write_break;
 use crate::transfer::{ReadFault, WriteFault, read_all, write_all};
-use crate::verify::{Refusal, verify};
+use macho_rules::{Refusal, verify};
 use std::alloc::Global;
 use thiserror::Error;
 

@@ -13,6 +13,8 @@ pub mod ExampleImages
 pub mod ExampleNoSlices
 pub mod ExampleTwins
 pub mod Layers
-pub mod Verdict
 pub mod Zeros
 pub mod Opened
+pub mod Inside
+pub mod Scopes
+pub mod Images

@@ -25,12 +25,12 @@ at_least a b keeps = elim (cases_lt b a) [ inl less ↦ absurd (keeps less) | in
 
 pub keeps_rules : (image : List ℕ) (arch : Option (ℕ × ℕ)) → NothingBreaks (BreaksOpening image arch) → Keeps image
 keeps_rules image arch keeps = record {
-  header = at_least 32 (length image) (λ short. keeps rule.HeaderTruncated 0 (refl, lit< tt, inl (refl, short)));
-  kind = executable_or_library image (λ a b. keeps rule.FileType 12 (refl, lit< tt, inl (refl, a, b)));
-  inside = at_least (commands_end image) (length image) (λ short. keeps rule.CommandsOutside 20 (refl, lit< tt, inl (refl, short)));
-  commands = commands_of image arch (λ place broken. keeps rule.CommandWalk place (refl, lit< tt, inl broken));
-  whole = λ commands are command has short. keeps rule.CommandShort command (refl, lit< tt, inr (commands, are, (has, short)));
-  named = λ commands are command has bad. keeps rule.Name command (refl, lit< tt, inr (commands, are, (has, bad)));
+  header = at_least 32 (length image) (λ short. keeps rule.HeaderTruncated 0 (lit< tt, inl (refl, short)));
+  kind = executable_or_library image (λ a b. keeps rule.FileType 12 (lit< tt, inl (refl, a, b)));
+  inside = at_least (commands_end image) (length image) (λ short. keeps rule.CommandsOutside 20 (lit< tt, inl (refl, short)));
+  commands = commands_of image arch (λ place broken. keeps rule.CommandWalk place (lit< tt, inl broken));
+  whole = λ commands are command has short. keeps rule.CommandShort command (lit< tt, inr (commands, are, (has, short)));
+  named = λ commands are command has bad. keeps rule.Name command (lit< tt, inr (commands, are, (has, bad)));
 }
 
 -- What lies inside an opened image

@@ -1,7 +1,7 @@
 -- The order of the rules, and which of them speak of a file and which of an image.
-use Rattle.std.proofs.Common.{◌≡◌, ℕ, ◌-◌, ◌≤◌, List, [], ◌∷◌, Option, get_or, refl, sym, ap, ◌∙◌, lit≤, inr, ⊎_elim}
+use Rattle.std.proofs.Common.{◌≡◌, ℕ, ◌-◌, ◌≤◌, ◌<◌, List, [], ◌∷◌, Option, get_or, None, refl, sym, ap, ◌∙◌, arith, lit≤, lit<, inl, inr, ⊎_elim}
 use Rattle.macho_fields.specs.Universal.{IsUniversal, IsImage}
-use Rattle.macho_fields.specs.Rules.{BreaksFile, BreaksImage}
+use Rattle.macho_fields.specs.Rules.{BreaksFile, BreaksHeader, BreaksImage}
 use Rattle.macho_fields.specs.First.{rank}
 use Rattle.macho_fields.specs.declared.rule.Rule.{Rule}
 use Rattle.macho_fields.specs.declared.rule.Rule.TheVariants as rule
@@ -113,6 +113,39 @@ rank_positive rule.SymbolSection = lit≤ tt
 rank_positive rule.IndirectIndex = lit≤ tt
 rank_positive rule.Entry = lit≤ tt
 
+pub rank_most : (r : Rule) → rank r < 32
+rank_most rule.Magic = lit< tt
+rank_most rule.FatTruncated = lit< tt
+rank_most rule.FatSliceOutside = lit< tt
+rank_most rule.FatSliceInTable = lit< tt
+rank_most rule.FatAlign = lit< tt
+rank_most rule.FatOverlap = lit< tt
+rank_most rule.FatDuplicate = lit< tt
+rank_most rule.FatSliceMagic = lit< tt
+rank_most rule.FatEmpty = lit< tt
+rank_most rule.HeaderTruncated = lit< tt
+rank_most rule.ArchMismatch = lit< tt
+rank_most rule.FileType = lit< tt
+rank_most rule.CommandsOutside = lit< tt
+rank_most rule.CommandWalk = lit< tt
+rank_most rule.CommandShort = lit< tt
+rank_most rule.CommandRepeated = lit< tt
+rank_most rule.DylibId = lit< tt
+rank_most rule.Name = lit< tt
+rank_most rule.SegmentAddress = lit< tt
+rank_most rule.SegmentSize = lit< tt
+rank_most rule.SegmentFile = lit< tt
+rank_most rule.SegmentOverlap = lit< tt
+rank_most rule.SectionAddress = lit< tt
+rank_most rule.SectionFile = lit< tt
+rank_most rule.SectionRelocs = lit< tt
+rank_most rule.TableRange = lit< tt
+rank_most rule.SymbolGroup = lit< tt
+rank_most rule.SymbolName = lit< tt
+rank_most rule.SymbolSection = lit< tt
+rank_most rule.IndirectIndex = lit< tt
+rank_most rule.Entry = lit< tt
+
 -- a file that is an image, and not universal, breaks no rule of the file
 pub plain_image_keeps_file_rules : (file : List ℕ) → ¬ IsUniversal file → IsImage file → (r : Rule) (place : ℕ) → ¬ BreaksFile file r place
 plain_image_keeps_file_rules file plain is rule.Magic place n = n.1 (inr is)
@@ -180,3 +213,80 @@ image_rule_rank image arch rule.SymbolName place h = lit≤ tt
 image_rule_rank image arch rule.SymbolSection place h = lit≤ tt
 image_rule_rank image arch rule.IndirectIndex place h = lit≤ tt
 image_rule_rank image arch rule.Entry place h = lit≤ tt
+
+-- a rule that a header breaks comes before those of the commands
+pub header_rule_rank : (image : List ℕ) (arch : Option (ℕ × ℕ)) (r : Rule) (place : ℕ) → BreaksHeader image arch r place → rank r < rank rule.CommandShort
+header_rule_rank image arch rule.Magic place h = absurd h
+header_rule_rank image arch rule.FatTruncated place h = absurd h
+header_rule_rank image arch rule.FatSliceOutside place h = absurd h
+header_rule_rank image arch rule.FatSliceInTable place h = absurd h
+header_rule_rank image arch rule.FatAlign place h = absurd h
+header_rule_rank image arch rule.FatOverlap place h = absurd h
+header_rule_rank image arch rule.FatDuplicate place h = absurd h
+header_rule_rank image arch rule.FatSliceMagic place h = absurd h
+header_rule_rank image arch rule.FatEmpty place h = absurd h
+header_rule_rank image arch rule.HeaderTruncated place h = lit< tt
+header_rule_rank image arch rule.ArchMismatch place h = lit< tt
+header_rule_rank image arch rule.FileType place h = lit< tt
+header_rule_rank image arch rule.CommandsOutside place h = lit< tt
+header_rule_rank image arch rule.CommandWalk place h = lit< tt
+header_rule_rank image arch rule.CommandShort place h = absurd h
+header_rule_rank image arch rule.CommandRepeated place h = absurd h
+header_rule_rank image arch rule.DylibId place h = absurd h
+header_rule_rank image arch rule.Name place h = absurd h
+header_rule_rank image arch rule.SegmentAddress place h = absurd h
+header_rule_rank image arch rule.SegmentSize place h = absurd h
+header_rule_rank image arch rule.SegmentFile place h = absurd h
+header_rule_rank image arch rule.SegmentOverlap place h = absurd h
+header_rule_rank image arch rule.SectionAddress place h = absurd h
+header_rule_rank image arch rule.SectionFile place h = absurd h
+header_rule_rank image arch rule.SectionRelocs place h = absurd h
+header_rule_rank image arch rule.TableRange place h = absurd h
+header_rule_rank image arch rule.SymbolGroup place h = absurd h
+header_rule_rank image arch rule.SymbolName place h = absurd h
+header_rule_rank image arch rule.SymbolSection place h = absurd h
+header_rule_rank image arch rule.IndirectIndex place h = absurd h
+header_rule_rank image arch rule.Entry place h = absurd h
+
+-- what a header breaks where it is compared with no architecture it breaks where it is
+pub header_alone : (image : List ℕ) (arch : Option (ℕ × ℕ)) (r : Rule) (place : ℕ) → BreaksHeader image None r place → BreaksHeader image arch r place
+header_alone image arch rule.Magic place h = absurd h
+header_alone image arch rule.FatTruncated place h = absurd h
+header_alone image arch rule.FatSliceOutside place h = absurd h
+header_alone image arch rule.FatSliceInTable place h = absurd h
+header_alone image arch rule.FatAlign place h = absurd h
+header_alone image arch rule.FatOverlap place h = absurd h
+header_alone image arch rule.FatDuplicate place h = absurd h
+header_alone image arch rule.FatSliceMagic place h = absurd h
+header_alone image arch rule.FatEmpty place h = absurd h
+header_alone image arch rule.HeaderTruncated place h = h
+header_alone image arch rule.ArchMismatch place h = absurd h.1
+header_alone image arch rule.FileType place h = h
+header_alone image arch rule.CommandsOutside place h = h
+header_alone image arch rule.CommandWalk place h = h
+header_alone image arch rule.CommandShort place h = absurd h
+header_alone image arch rule.CommandRepeated place h = absurd h
+header_alone image arch rule.DylibId place h = absurd h
+header_alone image arch rule.Name place h = absurd h
+header_alone image arch rule.SegmentAddress place h = absurd h
+header_alone image arch rule.SegmentSize place h = absurd h
+header_alone image arch rule.SegmentFile place h = absurd h
+header_alone image arch rule.SegmentOverlap place h = absurd h
+header_alone image arch rule.SectionAddress place h = absurd h
+header_alone image arch rule.SectionFile place h = absurd h
+header_alone image arch rule.SectionRelocs place h = absurd h
+header_alone image arch rule.TableRange place h = absurd h
+header_alone image arch rule.SymbolGroup place h = absurd h
+header_alone image arch rule.SymbolName place h = absurd h
+header_alone image arch rule.SymbolSection place h = absurd h
+header_alone image arch rule.IndirectIndex place h = absurd h
+header_alone image arch rule.Entry place h = absurd h
+
+pub image_alone : (image : List ℕ) (arch : Option (ℕ × ℕ)) (r : Rule) (place : ℕ) → BreaksImage image None r place → BreaksImage image arch r place
+image_alone image arch r place (inl h) = inl (header_alone image arch r place h)
+image_alone image arch r place (inr h) = inr h
+
+-- the rules of the commands do not speak of an architecture
+pub commands_alone : (image : List ℕ) (arch : Option (ℕ × ℕ)) (r : Rule) (place : ℕ) → rank rule.CommandShort ≤ rank r → BreaksImage image arch r place → BreaksImage image None r place
+commands_alone image arch r place late (inl h) = let early = header_rule_rank image arch r place h in absurd (omega arith)
+commands_alone image arch r place late (inr h) = inr h

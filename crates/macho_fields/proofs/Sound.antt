@@ -28,23 +28,10 @@ got_from_one : {X : Type 0} (y : X) (i : ℕ) (x : X) → slice_get (y ∷ []) i
 got_from_one y zero x e = (refl, cc)
 got_from_one y (suc i) x e = cc
 
-module _ (file : List ℕ) (unbroken : IsUnbroken file) where
-  keeps_file : (r : Rule) (place : ℕ) → ¬ BreaksFile file r place
-  keeps_file r place h = unbroken (record { scope = 0; rule = r; place = place }) h
-
+-- Of a file that breaks none of its own rules
+module _ (file : List ℕ) (keeps_file : (r : Rule) (place : ℕ) → ¬ BreaksFile file r place) where
   begins : 4 ≤ length file
   begins = elim (cases_lt (length file) 4) [ inl h ↦ absurd (keeps_file rule.Magic 0 (refl, λ b. elim b [ inl u ↦ let p = u.0 in absurd (omega arith) | inr i ↦ let p = i.0 in absurd (omega arith) ])) | inr h ↦ h ]
-
-  keeps_image : (k : ℕ) (slice : FileSlice) → slice_get (slices_of file) k ≡ Some slice → IsImage (slice_bytes file slice) → (r : Rule) (place : ℕ) → ¬ BreaksImage (slice_bytes file slice) slice.arch r place
-  keeps_image k slice e is r place b =
-      unbroken (record { scope = suc k; rule = r; place = place })
-      (subst (λ o. IsSomeAnd o (λ s. IsImage (slice_bytes file s) × BreaksImage (slice_bytes file s) s.arch r place)) (sym e) (is, b))
-
-  image_sound : (k : ℕ) (slice : FileSlice) → slice_get (slices_of file) k ≡ Some slice → IsImage (slice_bytes file slice) → (commands : List ℕ) × AreCommands (slice_bytes file slice) commands × IsSoundImage (slice_bytes file slice) commands
-  image_sound k slice e is =
-      let keeps = keeps_image k slice e is in
-      let (commands, are) = commands_of (slice_bytes file slice) slice.arch (λ place h. keeps rule.CommandWalk place (inl h)) in
-      (commands, are, sound_image (slice_bytes file slice) slice.arch keeps commands are)
 
   -- the slice at a place of the list is an entry, or the whole file
   slice_is : (k : ℕ) (slice : FileSlice) → slice_get (slices_of file) k ≡ Some slice
@@ -63,7 +50,7 @@ module _ (file : List ℕ) (unbroken : IsUnbroken file) where
           let (none, is) = got_from_one (record { start = 0; size = length file; arch = None }) k slice got in
           (not, none, is)
 
-  slice_inside : (k : ℕ) (slice : FileSlice) → slice_get (slices_of file) k ≡ Some slice → slice.start + slice.size ≤ length file
+  pub slice_inside : (k : ℕ) (slice : FileSlice) → slice_get (slices_of file) k ≡ Some slice → slice.start + slice.size ≤ length file
   slice_inside k slice e = elim (slice_is k slice e) [ inl (u, less, is) ↦ entry u less is | inr (not, none, is) ↦ let first : slice.start ≡ 0 = ap (λ s. s.start) is in let all : slice.size ≡ length file = ap (λ s. s.size) is in omega arith ]
     where
       entry : IsUniversal file → k < entry_count file → slice ≡ entry_slice file k → slice.start + slice.size ≤ length file
@@ -105,12 +92,28 @@ module _ (file : List ℕ) (unbroken : IsUnbroken file) where
             | inr (inr before) ↦ absurd (keeps_file rule.FatDuplicate (entry_place file i) (u, (i, less, refl, (j, before, sym alike))))
           ]
 
+-- Of a file that breaks no rule
+module _ (file : List ℕ) (unbroken : IsUnbroken file) where
+  keeps : (r : Rule) (place : ℕ) → ¬ BreaksFile file r place
+  keeps r place h = unbroken (record { scope = 0; rule = r; place = place }) h
+
+  keeps_image : (k : ℕ) (slice : FileSlice) → slice_get (slices_of file) k ≡ Some slice → IsImage (slice_bytes file slice) → (r : Rule) (place : ℕ) → ¬ BreaksImage (slice_bytes file slice) slice.arch r place
+  keeps_image k slice e is r place b =
+      unbroken (record { scope = suc k; rule = r; place = place })
+      (subst (λ o. IsSomeAnd o (λ s. IsImage (slice_bytes file s) × BreaksImage (slice_bytes file s) s.arch r place)) (sym e) (is, b))
+
+  image_sound : (k : ℕ) (slice : FileSlice) → slice_get (slices_of file) k ≡ Some slice → IsImage (slice_bytes file slice) → (commands : List ℕ) × AreCommands (slice_bytes file slice) commands × IsSoundImage (slice_bytes file slice) commands
+  image_sound k slice e is =
+      let keeps = keeps_image k slice e is in
+      let (commands, are) = commands_of (slice_bytes file slice) slice.arch (λ place h. keeps rule.CommandWalk place (inl h)) in
+      (commands, are, sound_image (slice_bytes file slice) slice.arch keeps commands are)
+
 -- an unbroken file is sound
 pub unbroken_is_sound : (file : List ℕ) → IsUnbroken file → IsSound file
 unbroken_is_sound file unbroken = record {
   images = λ k d h. image_sound file unbroken k (get_or (slices_of file) k d) (get_at (slices_of file) k d h);
-  inside = λ k d h. slice_inside file unbroken k (get_or (slices_of file) k d) (get_at (slices_of file) k d h);
-  apart = slices_apart file unbroken;
-  behind_table = λ u k d h. slice_behind_table file unbroken k (get_or (slices_of file) k d) u (get_at (slices_of file) k d h);
-  one_arch = one_arch file unbroken;
+  inside = λ k d h. slice_inside file (keeps file unbroken) k (get_or (slices_of file) k d) (get_at (slices_of file) k d h);
+  apart = slices_apart file (keeps file unbroken);
+  behind_table = λ u k d h. slice_behind_table file (keeps file unbroken) k (get_or (slices_of file) k d) u (get_at (slices_of file) k d h);
+  one_arch = one_arch file (keeps file unbroken);
 }

@@ -26,7 +26,7 @@ module _ (image : List ℕ) (arch : Option (ℕ × ℕ)) (keeps : (r : Rule) (pl
   keeps_commands r place h = keeps r place (inr (commands, are, h))
 
   opened : Keeps image
-  opened = keeps_rules image arch (λ r place h. keeps r place h.2)
+  opened = keeps_rules image arch (λ r place h. keeps r place h.1)
 
   reads_header : (place : ℕ) → place < 32 → place < length image
   reads_header place h = let most = opened.header in omega arith

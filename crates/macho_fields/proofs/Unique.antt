@@ -1,7 +1,7 @@
 -- A file has one first break.
 use Rattle.std.proofs.Common.{◌≡◌, ℕ, ◌+◌, ◌<◌, List, sym, ap, ap₂, ◌∙◌, inl, inr}
 use Rattle.std.proofs.lemmas.Bool.{cases_order}
-use Rattle.macho_fields.specs.First.{rank, Fault, IsBefore, IsFirstOf, scope_start}
+use Rattle.macho_fields.specs.First.{rank, Fault, IsBefore, IsFirstBroken, scope_start}
 use Rattle.macho_fields.specs.declared.rule.Rule.{Rule}
 use Rattle.macho_fields.specs.declared.rule.Break.{Break}
 use Rattle.macho_fields.proofs.Ranks.{rank_tells_rule}
@@ -25,8 +25,8 @@ same_place f g p q =
 same_break : (a b : Break) → a.rule ≡ b.rule → a.place ≡ b.place → a ≡ b
 same_break a b r p = ap₂ (λ (v : Rule) (n : ℕ). let made : Break = record { rule = v; place = n } in made) r p
 
-pub first_is_unique : (IsFault : Fault → Type 0) (file : List ℕ) (a b : Break) → IsFirstOf IsFault file a → IsFirstOf IsFault file b → a ≡ b
-first_is_unique IsFault file a b (f, is_f, least_f, rule_f, place_f) (g, is_g, least_g, rule_g, place_g) =
+pub first_is_unique : (file : List ℕ) (a b : Break) → IsFirstBroken file a → IsFirstBroken file b → a ≡ b
+first_is_unique file a b (f, is_f, least_f, rule_f, place_f) (g, is_g, least_g, rule_g, place_g) =
     let p = least_g f is_f in
     let q = least_f g is_g in
     let scope : f.scope ≡ g.scope = same_scope f g p q in

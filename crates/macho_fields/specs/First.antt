@@ -1,9 +1,8 @@
 -- The first broken rule of a file: file rules come first, then the 64-bit slices in table order;
 -- in each the rules in the order of judgment, and of each rule the least place.
-use Rattle.std.specs.Prelude.{◌≡◌, ◌==◌, ℕ, ◌+◌, ◌<◌, ◌⊎◌, suc, zero, Bool, IsTrue, List, [], ◌∷◌, slice_get, IsSomeAnd}
-use Rattle.std.specs.List.{list_any}
+use Rattle.std.specs.Prelude.{◌≡◌, ℕ, ◌+◌, ◌<◌, ◌⊎◌, suc, zero, List, slice_get, IsSomeAnd}
 use Rattle.std.specs.Option.{option_map_or}
-use Rattle.macho_fields.specs.Universal.{slices_of, slice_bytes, IsImage, IsUniversal}
+use Rattle.macho_fields.specs.Universal.{slices_of, slice_bytes, IsImage}
 use Rattle.macho_fields.specs.Rules.{BreaksFile, BreaksImage}
 use Rattle.macho_fields.specs.declared.rule.Rule.{Rule}
 use Rattle.macho_fields.specs.declared.rule.Rule.TheVariants as rule
@@ -75,36 +74,9 @@ abbrev pub scope_start : List ℕ → ℕ → ℕ
 scope_start file zero = 0
 scope_start file (suc k) = option_map_or (λ slice. slice.start) (slice_get (slices_of file) k) 0
 
--- b tells the first of some faults, with its place in the file
-abbrev pub IsFirstOf : (Fault → Type 0) → List ℕ → Break → Type 0
-IsFirstOf IsFault file b =
-    (fault : Fault) × IsFault fault
-    × ((other : Fault) → IsFault other → ¬ IsBefore other fault)
-    × (b.rule ≡ fault.rule) × (b.place ≡ scope_start file fault.scope + fault.place)
-
--- b tells the first broken rule
+-- b tells the first broken rule, with its place in the file
 abbrev pub IsFirstBroken : List ℕ → Break → Type 0
-IsFirstBroken file b = IsFirstOf (IsBroken file) file b
-
--- What is decided so far
-
-abbrev pub is_decided : Rule → Bool
-is_decided r =
-    list_any (λ decided. rank decided == rank r)
-    (rule.Magic ∷ rule.HeaderTruncated ∷ rule.FileType ∷ rule.CommandsOutside
-    ∷ rule.CommandWalk ∷ rule.CommandShort ∷ rule.CommandRepeated ∷ rule.DylibId
-    ∷ rule.Name ∷ [])
-
--- A decided rule is broken, or the file is universal, which is refused as `magic` so far.
-abbrev pub IsFault : List ℕ → Fault → Type 0
-IsFault file fault =
-    (IsTrue (is_decided fault.rule) × IsBroken file fault)
-    ⊎ (IsUniversal file × (fault ≡ record { scope = 0; rule = rule.Magic; place = 0 }))
-
--- none of the decided rules is broken
-abbrev pub IsFaultless : List ℕ → Type 0
-IsFaultless file = (fault : Fault) → ¬ IsFault file fault
-
--- b tells the first broken one of the decided rules
-abbrev pub IsFirst : List ℕ → Break → Type 0
-IsFirst file b = IsFirstOf (IsFault file) file b
+IsFirstBroken file b =
+    (fault : Fault) × IsBroken file fault
+    × ((other : Fault) → IsBroken file other → ¬ IsBefore other fault)
+    × (b.rule ≡ fault.rule) × (b.place ≡ scope_start file fault.scope + fault.place)

@@ -1,7 +1,7 @@
 -- What one layer decides: which of its rules are broken, and which of them first.
-use Rattle.std.specs.Prelude.{◌≡◌, ℕ, ◌<◌, ◌≤◌, ◌⊎◌, IsTrue, List, Option, Result, MatchResult}
+use Rattle.std.specs.Prelude.{◌≡◌, ℕ, ◌<◌, ◌≤◌, ◌⊎◌, List, Option, None, Result, MatchResult}
 use Rattle.macho_fields.specs.Rules.{BreaksImage}
-use Rattle.macho_fields.specs.First.{rank, is_decided}
+use Rattle.macho_fields.specs.First.{rank}
 use Rattle.macho_fields.specs.declared.rule.Rule.{Rule}
 use Rattle.macho_fields.specs.declared.rule.Rule.TheVariants as rule
 use Rattle.macho_fields.specs.declared.rule.Break.{Break}
@@ -29,4 +29,10 @@ DecidesRule breaks r answer =
 -- what is decided when an image is opened: the rules of its header and its commands
 abbrev pub BreaksOpening : List ℕ → Option (ℕ × ℕ) → Rule → ℕ → Type 0
 BreaksOpening image arch r place =
-    IsTrue (is_decided r) × (rank r < rank rule.SegmentAddress) × BreaksImage image arch r place
+    (rank r < rank rule.SegmentAddress) × BreaksImage image arch r place
+
+-- what is decided of an opened image: the rules of its segments, sections, tables, symbols and
+-- entry, of which none speaks of an architecture
+abbrev pub BreaksOpened : List ℕ → Rule → ℕ → Type 0
+BreaksOpened image r place =
+    (rank rule.SegmentAddress ≤ rank r) × BreaksImage image None r place

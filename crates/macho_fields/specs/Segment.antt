@@ -62,10 +62,13 @@ reloff image section = word image (section + 56)
 abbrev pub nreloc : List ℕ → ℕ → ℕ
 nreloc image section = word image (section + 60)
 
+abbrev pub section_flags : List ℕ → ℕ → ℕ
+section_flags image section = word image (section + 64)
+
 -- the low byte of the flags is the type, and three types have no bytes in the file
 abbrev pub is_zero_fill : List ℕ → ℕ → Bool
 is_zero_fill image section =
-    let section_type = word image (section + 64) % 256 in
+    let section_type = section_flags image section % 256 in
     section_type == loader.S_ZEROFILL || section_type == loader.S_GB_ZEROFILL
     || section_type == loader.S_THREAD_LOCAL_ZEROFILL
 

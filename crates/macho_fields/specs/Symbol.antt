@@ -1,11 +1,11 @@
 -- The tables that commands bound, symbols and indirect entries.
 -- (mach-o/loader.h: symtab_command, dysymtab_command, linkedit_data_command, dyld_info_command;
 -- mach-o/nlist.h: nlist_64)
-use Rattle.std.specs.Prelude.{◌||◌, ◌≡◌, ◌≢◌, ℕ, ◌+◌, ◌*◌, ◌<◌, ◌==◌, List, [], ◌∷◌, length, find, Any, slice_index, bit_and, if◌then◌else◌}
-use Rattle.std.specs.List.{list_any}
+use Rattle.std.specs.Prelude.{◌≡◌, ◌≢◌, ℕ, ◌+◌, ◌*◌, ◌<◌, ◌==◌, List, [], ◌∷◌, length, find, filter, map, Any, slice_index, bit_and}
 use Rattle.std.specs.Option.{option_map_or}
-use Rattle.macho_fields.specs.Field.{HasZero}
-use Rattle.macho_fields.specs.Image.{word, command_kind, of_kind}
+use Rattle.macho_fields.specs.Field.{number, HasZero}
+use Rattle.macho_fields.specs.Image.{word, long, command_kind, of_kind}
+use Rattle.macho_fields.specs.declared.bytes.Order.TheVariants.{Little}
 use Rattle.macho_fields.specs.declared.header.loader.TheConstants as loader
 use Rattle.macho_fields.specs.declared.header.nlist.TheConstants as nlist
 
@@ -43,38 +43,39 @@ groups_of image dysymtab =
     ∷ (word image (dysymtab + 16), word image (dysymtab + 20))
     ∷ (word image (dysymtab + 24), word image (dysymtab + 28)) ∷ []
 
+-- The tables that commands name: the kind of the command; the offsets in it of the field with the
+-- place of the table and of that with the number of its items; the bytes of an item. They are the
+-- symbols and their strings; the contents, modules, references, indirect entries and two lists of
+-- relocations of a dysymtab_command; the range of a linkedit_data_command; the five ranges of a
+-- dyld_info_command.
+abbrev pub table_fields : List (ℕ × ℕ × ℕ × ℕ)
+table_fields =
+    (loader.LC_SYMTAB, 8, 12, nlist.NLIST_64_SIZE) ∷ (loader.LC_SYMTAB, 16, 20, 1)
+    ∷ (loader.LC_DYSYMTAB, 32, 36, 8) ∷ (loader.LC_DYSYMTAB, 40, 44, 56)
+    ∷ (loader.LC_DYSYMTAB, 48, 52, 4) ∷ (loader.LC_DYSYMTAB, 56, 60, 4)
+    ∷ (loader.LC_DYSYMTAB, 64, 68, 8) ∷ (loader.LC_DYSYMTAB, 72, 76, 8)
+    ∷ (loader.LC_CODE_SIGNATURE, 8, 12, 1) ∷ (loader.LC_SEGMENT_SPLIT_INFO, 8, 12, 1)
+    ∷ (loader.LC_FUNCTION_STARTS, 8, 12, 1) ∷ (loader.LC_DATA_IN_CODE, 8, 12, 1)
+    ∷ (loader.LC_DYLIB_CODE_SIGN_DRS, 8, 12, 1)
+    ∷ (loader.LC_LINKER_OPTIMIZATION_HINT, 8, 12, 1)
+    ∷ (loader.LC_DYLD_EXPORTS_TRIE, 8, 12, 1) ∷ (loader.LC_DYLD_CHAINED_FIXUPS, 8, 12, 1)
+    ∷ (loader.LC_DYLD_INFO, 8, 12, 1) ∷ (loader.LC_DYLD_INFO, 16, 20, 1)
+    ∷ (loader.LC_DYLD_INFO, 24, 28, 1) ∷ (loader.LC_DYLD_INFO, 32, 36, 1)
+    ∷ (loader.LC_DYLD_INFO, 40, 44, 1)
+    ∷ (loader.LC_DYLD_INFO_ONLY, 8, 12, 1) ∷ (loader.LC_DYLD_INFO_ONLY, 16, 20, 1)
+    ∷ (loader.LC_DYLD_INFO_ONLY, 24, 28, 1) ∷ (loader.LC_DYLD_INFO_ONLY, 32, 36, 1)
+    ∷ (loader.LC_DYLD_INFO_ONLY, 40, 44, 1) ∷ []
+
 -- a table: the place of its first item, the number of its items, the bytes of an item
-abbrev pub table_at : List ℕ → ℕ → ℕ → ℕ → ℕ → ℕ × ℕ × ℕ
-table_at image command start count each =
-    (word image (command + start), word image (command + count), each)
+abbrev pub table_at : List ℕ → ℕ → ℕ × ℕ × ℕ × ℕ → ℕ × ℕ × ℕ
+table_at image command fields =
+    (word image (command + fields.1), word image (command + fields.2), fields.3)
 
--- the kinds of linkedit_data_command: dataoff at 8, datasize 12
-abbrev pub linkedit_kinds : List ℕ
-linkedit_kinds =
-    loader.LC_CODE_SIGNATURE ∷ loader.LC_SEGMENT_SPLIT_INFO ∷ loader.LC_FUNCTION_STARTS
-    ∷ loader.LC_DATA_IN_CODE ∷ loader.LC_DYLIB_CODE_SIGN_DRS
-    ∷ loader.LC_LINKER_OPTIMIZATION_HINT ∷ loader.LC_DYLD_EXPORTS_TRIE
-    ∷ loader.LC_DYLD_CHAINED_FIXUPS ∷ []
-
--- The tables of a command: the symbols and their strings; the contents, modules, references,
--- indirect entries and two lists of relocations of a dysymtab_command; the one range of linkedit
--- data; the five ranges of a dyld_info_command.
+-- the tables of a command
 abbrev pub tables_of : List ℕ → ℕ → List (ℕ × ℕ × ℕ)
 tables_of image command =
-    if command_kind image command == loader.LC_SYMTAB
-    then table_at image command 8 12 nlist.NLIST_64_SIZE ∷ table_at image command 16 20 1 ∷ []
-    else if command_kind image command == loader.LC_DYSYMTAB
-    then table_at image command 32 36 8 ∷ table_at image command 40 44 56
-    ∷ table_at image command 48 52 4 ∷ table_at image command 56 60 4
-    ∷ table_at image command 64 68 8 ∷ table_at image command 72 76 8 ∷ []
-    else if list_any (λ k. k == command_kind image command) linkedit_kinds
-    then table_at image command 8 12 1 ∷ []
-    else if command_kind image command == loader.LC_DYLD_INFO
-    || command_kind image command == loader.LC_DYLD_INFO_ONLY
-    then table_at image command 8 12 1 ∷ table_at image command 16 20 1
-    ∷ table_at image command 24 28 1 ∷ table_at image command 32 36 1
-    ∷ table_at image command 40 44 1 ∷ []
-    else []
+    map (table_at image command)
+    (filter (λ fields. fields.0 == command_kind image command) table_fields)
 
 -- a table that has items ends past the image
 abbrev pub IsOutside : List ℕ → ℕ × ℕ × ℕ → Type 0
@@ -87,7 +88,8 @@ AtSymbol image commands P place =
     × (place ≡ symoff image symtab + nlist.NLIST_64_SIZE * k) × P symtab place)
     (of_kind image loader.LC_SYMTAB commands)
 
--- nlist_64: n_strx at 0, n_type of one byte at 4, n_sect of one byte at 5
+-- nlist_64: n_strx at 0, n_type of one byte at 4, n_sect of one byte at 5, n_desc of 2 bytes at 6,
+-- n_value of 8 at 8
 abbrev pub n_strx : List ℕ → ℕ → ℕ
 n_strx image symbol = word image symbol
 
@@ -96,6 +98,12 @@ n_type image symbol = slice_index image (symbol + 4)
 
 abbrev pub n_sect : List ℕ → ℕ → ℕ
 n_sect image symbol = slice_index image (symbol + 5)
+
+abbrev pub n_desc : List ℕ → ℕ → ℕ
+n_desc image symbol = number Little 2 image (symbol + 6)
+
+abbrev pub n_value : List ℕ → ℕ → ℕ
+n_value image symbol = long image (symbol + 8)
 
 -- the symbol has a name, which no zero byte ends inside the string table
 abbrev pub HasEndlessName : List ℕ → ℕ → ℕ → Type 0

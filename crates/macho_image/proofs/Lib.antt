@@ -5,6 +5,8 @@ pub mod OpenedWalk
 pub mod OfOneKind
 pub mod ReadParts
 pub mod Kept
+pub mod HeldSegments
+pub mod Entries
 pub mod Singles
 pub mod Names
 pub mod Libraries
@@ -12,3 +14,5 @@ pub mod Places
 pub mod Tables
 pub mod OfKind
 pub mod Opening
+pub mod Items
+pub mod SymbolCommands

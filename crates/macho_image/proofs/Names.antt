@@ -5,8 +5,9 @@ use Rattle.std.specs.List.{position_or_len}
 use Rattle.std.proofs.lemmas.Bool.{cases_lt, eqb-false, eq-eqb, ne_eqb}
 use Rattle.std.proofs.lemmas.List.{get_or-take, get_or-drop, length-take, take-take}
 use Rattle.std.proofs.lemmas.List.Sums.{position_or_len_is, fails_before_first, passes_at_first}
-use Rattle.macho_fields.specs.Field.{part, HasZero}
+use Rattle.macho_fields.specs.Field.{part, HasZero, Covers}
 use Rattle.macho_image.specs.Library.{name_from}
+use Rattle.macho_image.specs.Segment.{short_name}
 use Rattle.macho_image.proofs.ReadParts.{drop-part}
 
 abbrev is_zero : ℕ → Bool
@@ -72,3 +73,27 @@ zero_in_part image place size offset within (z, low, high, inside, is) =
     let long : length (part place size image) ≡ min size (length image - place) = part_length image place size in
     let here : place + (z - place) ≡ z = omega arith in
     (z - place, omega arith, omega arith, omega arith, part_at image place size (z - place) (omega arith) ∙ (ap (slice_index image) here ∙ is))
+
+-- a short name ends before the first zero byte of its 16, or has them all
+short_name_ends : (bytes : List ℕ) (start n : ℕ) → n ≤ 16 → start + 16 ≤ length bytes → ¬ HasZero bytes start (start + n) → (n < 16 → slice_index bytes (start + n) ≡ 0) → part start n bytes ≡ short_name bytes start
+short_name_ends bytes start n most inside first ends =
+    let size : length (part start 16 bytes) ≡ min 16 (length bytes - start) = part_length bytes start 16 in
+    let len : position_or_len is_zero (part start 16 bytes) ≡ n = position_or_len_is is_zero (part start 16 bytes) n 0 (omega arith) before at_end in
+    sym (ap (λ k. take k (part start 16 bytes)) len ∙ take-take n 16 (drop start bytes) most)
+  where
+    before : (k : ℕ) → k < n → (get_or (part start 16 bytes) k 0 == 0) ≡ false
+    before k less = ne_eqb (get_or (part start 16 bytes) k 0) 0 (λ zero_here. first (start + k, omega arith, omega arith, omega arith, sym (part_at bytes start 16 k (omega arith)) ∙ zero_here))
+
+    at_end : n < length (part start 16 bytes) → (get_or (part start 16 bytes) n 0 == 0) ≡ true
+    at_end less =
+        let size : length (part start 16 bytes) ≡ min 16 (length bytes - start) = part_length bytes start 16 in
+        eq-eqb (get_or (part start 16 bytes) n 0) 0 (part_at bytes start 16 n (omega arith) ∙ ends (omega arith))
+
+pub short_name_to_zero : (bytes : List ℕ) (start end : ℕ) → start + 16 ≤ length bytes → Covers start 16 end → slice_get bytes end ≡ Some 0 → ¬ HasZero bytes start end → part start (end - start) bytes ≡ short_name bytes start
+short_name_to_zero bytes start end inside (low, high) at first =
+    let here : start + (end - start) ≡ end = omega arith in
+    let (within, is) = got_at bytes end 0 at in
+    short_name_ends bytes start (end - start) (omega arith) inside (subst (λ z. ¬ HasZero bytes start z) (sym here) first) (λ less. ap (slice_index bytes) here ∙ is)
+
+pub short_name_whole : (bytes : List ℕ) (start : ℕ) → start + 16 ≤ length bytes → ¬ HasZero bytes start (start + 16) → part start 16 bytes ≡ short_name bytes start
+short_name_whole bytes start inside none = short_name_ends bytes start 16 (omega arith) inside none (λ less. absurd (omega arith))

@@ -1,54 +1,63 @@
 -- The rules of an opening one after the other, in their order.
-use Rattle.std.proofs.Common.{◌≡◌, ℕ, ◌≤◌, ◌<◌, List, None, Result, Err, IsTrue, refl, ap, ◌∙◌, lit<}
+use Rattle.std.proofs.Common.{◌≡◌, ℕ, ◌≤◌, ◌<◌, List, Option, Result, Err, ap, ◌∙◌}
 use Rattle.macho_fields.specs.Image.{AreCommands}
 use Rattle.macho_fields.specs.Rules.{BreaksHeader, BreaksCommands}
-use Rattle.macho_fields.specs.First.{rank, is_decided}
-use Rattle.macho_fields.specs.Layers.{BreaksOpening, Decides}
+use Rattle.macho_fields.specs.First.{rank}
+use Rattle.macho_fields.specs.Layers.{NothingBreaks, BreaksOpening, Decides}
 use Rattle.macho_fields.specs.declared.rule.Rule.TheVariants as rule
 use Rattle.macho_fields.specs.declared.rule.Rule.{Rule}
 use Rattle.macho_fields.specs.declared.rule.Break.{Break}
-use Rattle.macho_fields.proofs.Layers.{KeptBelow, kept_none, kept_arch, kept_by_header, kept_by_commands, decides_err, opening_by_header, opening_by_commands}
+use Rattle.macho_fields.proofs.Layers.{KeptBelow, kept_none, kept_all, kept_by_header, kept_by_commands, decides_err, opening_by_header, opening_by_commands}
 use Rattle.macho_image.specs.Walked.{IsWalked}
 
--- the rules of the header and the walk
-pub record KeepsHeader (image : List ℕ) : Type 0 where
-  pub truncated : (place : ℕ) → ¬ BreaksHeader image None rule.HeaderTruncated place
-  pub kind : (place : ℕ) → ¬ BreaksHeader image None rule.FileType place
-  pub outside : (place : ℕ) → ¬ BreaksHeader image None rule.CommandsOutside place
+module _ (image : List ℕ) (arch : Option (ℕ × ℕ)) where
+  -- no rule of an opening below this rank is broken
+  abbrev Kept : ℕ → Type 0
+  Kept n = KeptBelow (BreaksOpening image arch) n
 
-pub kept_header : (image : List ℕ) → KeepsHeader image → KeptBelow (BreaksOpening image None) 14
-kept_header image keeps =
-    let header = kept_arch image (kept_by_header image rule.HeaderTruncated refl (lit< tt) (λ _ _ h. h) (kept_none image) keeps.truncated) in
-    let kind = kept_by_header image rule.FileType refl (lit< tt) (λ _ _ h. h) header keeps.kind in
-    kept_by_header image rule.CommandsOutside refl (lit< tt) (λ _ _ h. h) kind keeps.outside
+  -- what a header keeps of a rule
+  abbrev HeaderKeeps : Rule → Type 0
+  HeaderKeeps r = (place : ℕ) → ¬ BreaksHeader image arch r place
 
-pub kept_walk : (image : List ℕ) → KeepsHeader image → ((place : ℕ) → ¬ BreaksHeader image None rule.CommandWalk place) → KeptBelow (BreaksOpening image None) 15
-kept_walk image keeps walk = kept_by_header image rule.CommandWalk refl (lit< tt) (λ _ _ h. h) (kept_header image keeps) walk
+  -- what the commands keep of a rule
+  abbrev CommandsKeep : Rule → Type 0
+  CommandsKeep r = (commands : List ℕ) → AreCommands image commands → (place : ℕ) → ¬ BreaksCommands image commands r place
 
--- what the commands keep of a rule
-abbrev pub Keeps : List ℕ → Rule → Type 0
-Keeps image r = (commands : List ℕ) → AreCommands image commands → (place : ℕ) → ¬ BreaksCommands image commands r place
+  pub kept_truncated : HeaderKeeps rule.HeaderTruncated → Kept 11
+  kept_truncated keeps = kept_by_header image arch rule.HeaderTruncated (λ _ _ h. h) (kept_none image arch) keeps
 
-pub kept_short : (image : List ℕ) → IsWalked image → KeptBelow (BreaksOpening image None) 15 → Keeps image rule.CommandShort → KeptBelow (BreaksOpening image None) 16
-kept_short image walked below keeps = let (commands, are) = walked.commands in kept_by_commands image commands rule.CommandShort (λ _ h. h) are below (keeps commands are)
+  pub kept_arch : Kept 11 → HeaderKeeps rule.ArchMismatch → Kept 12
+  kept_arch below keeps = kept_by_header image arch rule.ArchMismatch (λ _ _ h. h) below keeps
 
-pub kept_repeated : (image : List ℕ) → IsWalked image → KeptBelow (BreaksOpening image None) 16 → Keeps image rule.CommandRepeated → KeptBelow (BreaksOpening image None) 17
-kept_repeated image walked below keeps = let (commands, are) = walked.commands in kept_by_commands image commands rule.CommandRepeated (λ _ h. h) are below (keeps commands are)
+  pub kept_kind : Kept 12 → HeaderKeeps rule.FileType → Kept 13
+  kept_kind below keeps = kept_by_header image arch rule.FileType (λ _ _ h. h) below keeps
 
-pub kept_id : (image : List ℕ) → IsWalked image → KeptBelow (BreaksOpening image None) 17 → Keeps image rule.DylibId → KeptBelow (BreaksOpening image None) 18
-kept_id image walked below keeps = let (commands, are) = walked.commands in kept_by_commands image commands rule.DylibId (λ _ h. h) are below (keeps commands are)
+  pub kept_outside : Kept 13 → HeaderKeeps rule.CommandsOutside → Kept 14
+  kept_outside below keeps = kept_by_header image arch rule.CommandsOutside (λ _ _ h. h) below keeps
 
-pub kept_name : (image : List ℕ) → IsWalked image → KeptBelow (BreaksOpening image None) 18 → Keeps image rule.Name → KeptBelow (BreaksOpening image None) 19
-kept_name image walked below keeps = let (commands, are) = walked.commands in kept_by_commands image commands rule.Name (λ _ h. h) are below (keeps commands are)
+  pub kept_walk : Kept 14 → HeaderKeeps rule.CommandWalk → Kept 15
+  kept_walk below keeps = kept_by_header image arch rule.CommandWalk (λ _ _ h. h) below keeps
 
--- the answer of a rule is that of the opening, where the rules before it are unbroken
-pub header_answer : (image : List ℕ) (r : Rule) (told b : Break) {T : Type 0} (answer : Result T Break) → answer ≡ Err b → b ≡ told → IsTrue (is_decided r) → rank r < 19 → ((commands : List ℕ) (place : ℕ) → ¬ BreaksCommands image commands r place) → KeptBelow (BreaksOpening image None) (rank r)
-    → (told.rule ≡ r) × BreaksHeader image None r told.place × ((place : ℕ) → BreaksHeader image None r place → told.place ≤ place) → Decides (BreaksOpening image None) answer
-header_answer image r told b answer is same decided early never below says =
-    decides_err (BreaksOpening image None) r told answer (is ∙ ap Err same) below (opening_by_header {T = ℕ} image r (Err told) decided early never says)
+  pub kept_short : IsWalked image → Kept 15 → CommandsKeep rule.CommandShort → Kept 16
+  kept_short walked below keeps = let (commands, are) = walked.commands in kept_by_commands image arch commands rule.CommandShort (λ _ h. h) are below (keeps commands are)
 
-pub commands_answer : (image : List ℕ) (r : Rule) (told b : Break) {T : Type 0} (answer : Result T Break) → answer ≡ Err b → b ≡ told → IsTrue (is_decided r) → rank r < 19 → ((place : ℕ) → ¬ BreaksHeader image None r place) → IsWalked image → KeptBelow (BreaksOpening image None) (rank r)
-    → ((commands : List ℕ) → AreCommands image commands → (told.rule ≡ r) × BreaksCommands image commands r told.place × ((place : ℕ) → BreaksCommands image commands r place → told.place ≤ place)) → Decides (BreaksOpening image None) answer
-commands_answer image r told b answer is same decided early never walked below says =
-    let (commands, are) = walked.commands in
-    decides_err (BreaksOpening image None) r told answer (is ∙ ap Err same) below (opening_by_commands {T = ℕ} image commands r (Err told) decided early never are (says commands are))
+  pub kept_repeated : IsWalked image → Kept 16 → CommandsKeep rule.CommandRepeated → Kept 17
+  kept_repeated walked below keeps = let (commands, are) = walked.commands in kept_by_commands image arch commands rule.CommandRepeated (λ _ h. h) are below (keeps commands are)
+
+  pub kept_id : IsWalked image → Kept 17 → CommandsKeep rule.DylibId → Kept 18
+  kept_id walked below keeps = let (commands, are) = walked.commands in kept_by_commands image arch commands rule.DylibId (λ _ h. h) are below (keeps commands are)
+
+  pub kept_name : IsWalked image → Kept 18 → CommandsKeep rule.Name → NothingBreaks (BreaksOpening image arch)
+  kept_name walked below keeps = let (commands, are) = walked.commands in kept_all image arch (kept_by_commands image arch commands rule.Name (λ _ h. h) are below (keeps commands are))
+
+  -- the answer of a rule is that of the opening, where the rules before it are unbroken
+  pub header_answer : (r : Rule) (told b : Break) {T : Type 0} (answer : Result T Break) → answer ≡ Err b → b ≡ told → rank r < 19 → ((commands : List ℕ) (place : ℕ) → ¬ BreaksCommands image commands r place) → Kept (rank r)
+      → (told.rule ≡ r) × BreaksHeader image arch r told.place × ((place : ℕ) → BreaksHeader image arch r place → told.place ≤ place) → Decides (BreaksOpening image arch) answer
+  header_answer r told b answer is same early never below says =
+      decides_err (BreaksOpening image arch) r told answer (is ∙ ap Err same) below (opening_by_header image arch {T = ℕ} r (Err told) early never says)
+
+  pub commands_answer : (r : Rule) (told b : Break) {T : Type 0} (answer : Result T Break) → answer ≡ Err b → b ≡ told → rank r < 19 → ((place : ℕ) → ¬ BreaksHeader image arch r place) → IsWalked image → Kept (rank r)
+      → ((commands : List ℕ) → AreCommands image commands → (told.rule ≡ r) × BreaksCommands image commands r told.place × ((place : ℕ) → BreaksCommands image commands r place → told.place ≤ place)) → Decides (BreaksOpening image arch) answer
+  commands_answer r told b answer is same early never walked below says =
+      let (commands, are) = walked.commands in
+      decides_err (BreaksOpening image arch) r told answer (is ∙ ap Err same) below (opening_by_commands image arch {T = ℕ} commands r (Err told) early never are (says commands are))

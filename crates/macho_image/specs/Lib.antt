@@ -6,3 +6,6 @@ pub mod Library
 pub mod Opened
 pub mod Walked
 pub mod Table
+pub mod Segment
+pub mod Entry
+pub mod Symbol

@@ -116,3 +116,19 @@ pub(crate) fn long_at(bytes: Bytes, place: u64) -> u64
 {
     bytes.u64_at(Order::Little, place).unwrap()
 }
+
+/// The field of 32 bits, `offset` bytes behind the start of a structure.
+pub(crate) fn word_in(image: Bytes, structure: u64, offset: u64) -> u32
+    requires { structure + offset + 4 ≤ length (bytes_of image) }
+    ensures { result ≡ word (bytes_of image.entry) (structure + offset) }
+{
+    word_at(image, structure + offset)
+}
+
+/// The field of 64 bits, `offset` bytes behind the start of a structure.
+pub(crate) fn long_in(image: Bytes, structure: u64, offset: u64) -> u64
+    requires { structure + offset + 8 ≤ length (bytes_of image) }
+    ensures { result ≡ long (bytes_of image.entry) (structure + offset) }
+{
+    long_at(image, structure + offset)
+}

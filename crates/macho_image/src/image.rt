@@ -3,10 +3,10 @@
 use crate::command::{Commands, word_at};
 use crate::rules::{command_repeated, command_short, dylib_id, name};
 use crate::walk::{
-    COMMAND_COUNT, FILE_TYPE, command_walk, commands_outside, file_type, header_truncated,
+    COMMAND_COUNT, FILE_TYPE, arch_mismatch, arch_of, command_walk, commands_outside, file_type,
+    header_truncated,
 };
 use macho_fields::header::loader::{MACH_HEADER_64_SIZE, MH_EXECUTE};
-use macho_fields::header::machine::CPU_SUBTYPE_MASK;
 use macho_fields::{Break, Bytes};
 use std::marker::Model;
 
@@ -38,7 +38,7 @@ impl<'a> Model for Image<'a> {
 }
 
 impl<'a> Image<'a> {
-    ghost use Rattle.std.specs.Prelude.{◌≡◌, None, IfOk, map};
+    ghost use Rattle.std.specs.Prelude.{◌≡◌, IfOk, map};
     ghost use Rattle.macho_fields.specs.Bytes.{bytes_of};
     ghost use Rattle.macho_fields.specs.Layers.{BreaksOpening, Decides};
     ghost use Rattle.macho_fields.specs.Image.{cpu_type, cpu_subtype};
@@ -48,14 +48,14 @@ impl<'a> Image<'a> {
     ghost use Rattle.macho_image.specs.Opened.{IsOpened};
 
     /// The image that `bytes` are, or the first of the rules of its header and its commands that
-    /// they break. The magic number is not looked at: any bytes are judged as a 64-bit image. Nor
-    /// is `arch` so far, the processor and its variant that a universal file names for them.
+    /// they break. The magic number is not looked at: any bytes are judged as a 64-bit image.
+    /// `arch` is the processor, by type and subtype, that a universal file names for them.
     pub fn open(bytes: Bytes<'a>, arch: Option<(u32, u32)>) -> Result<Image<'a>, Break>
-        ensures decides { Decides (BreaksOpening (bytes_of bytes.entry) None) result }
+        ensures decides { Decides (BreaksOpening (bytes_of bytes.entry) arch) result }
         ensures image { IfOk result (λ image. image ≡ bytes_of bytes.entry) }
     {
-        let _arch = arch;
         header_truncated(bytes)?;
+        arch_mismatch(bytes, arch)?;
         file_type(bytes)?;
         commands_outside(bytes)?;
         command_walk(bytes)?;
@@ -93,10 +93,7 @@ impl<'a> Image<'a> {
         ensures cpu_type { result.0 ≡ cpu_type self.now }
         ensures cpu_subtype { result.1 ≡ masked (cpu_subtype self.now) }
     {
-        (
-            word_at(self.bytes, CPU_TYPE),
-            word_at(self.bytes, CPU_SUBTYPE) & !CPU_SUBTYPE_MASK,
-        )
+        arch_of(self.bytes)
     }
 
     /// The load commands, in order.
@@ -111,11 +108,6 @@ impl<'a> Image<'a> {
         }
     }
 }
-
-// Where the fields stand in the header.
-const CPU_TYPE: u64 = 4;
-
-const CPU_SUBTYPE: u64 = 8;
 
 #[cfg(test)]
 mod tests;

@@ -3,15 +3,29 @@
 
 pub mod build;
 pub mod command;
+pub mod dysymtab;
+pub mod entry;
 pub mod image;
+pub mod indirect;
 pub mod library;
 pub mod main_command;
 mod rules;
+pub mod section;
+pub mod segment;
+pub mod symbol;
+pub mod symtab;
+mod table;
 pub mod uuid;
 mod walk;
 
 pub use build::{Build, Builds};
 pub use command::{Command, Commands};
+pub use dysymtab::Dysymtab;
 pub use image::{Image, Kind};
+pub use indirect::{Indirect, Indirects};
 pub use library::{Dylib, Dylibs};
 pub use main_command::MainCommand;
+pub use section::{Section, Sections};
+pub use segment::{Segment, Segments};
+pub use symbol::{Symbol, Symbols};
+pub use symtab::Symtab;

@@ -3,16 +3,22 @@
 
 ghost use Rattle.std.specs.Prelude.{◌≡◌, ◌+◌, ◌^◌, ◌≤◌, ◌<◌, ◌↔◌, length, IsSome, IfSome, OnOk, None};
 ghost use Rattle.macho_fields.specs.Bytes.{bytes_of};
-ghost use Rattle.macho_fields.specs.Image.{word, command_count, commands_end, command_kind, command_size, IsGood};
+ghost use Rattle.macho_fields.specs.Image.{word, cpu_type, cpu_subtype, command_count, commands_end, command_kind, command_size, IsGood};
 ghost use Rattle.macho_fields.specs.Layers.{DecidesRule};
 ghost use Rattle.macho_fields.specs.Rules.{BreaksHeader};
+ghost use Rattle.macho_fields.specs.Universal.{masked};
 ghost use Rattle.macho_fields.specs.declared.rule.Rule.{Rule};
 ghost use Rattle.macho_image.specs.Walked.{IsRead, IsWalked};
 
 use crate::command::{COMMAND_SIZE, word_at};
 use macho_fields::header::loader::{LOAD_COMMAND_SIZE, MACH_HEADER_64_SIZE, MH_DYLIB, MH_EXECUTE};
+use macho_fields::header::machine::CPU_SUBTYPE_MASK;
 use macho_fields::{Break, Bytes, Rule};
 
+/// `mach_header_64.cputype`
+const CPU_TYPE: u64 = 4;
+/// `mach_header_64.cpusubtype`
+const CPU_SUBTYPE: u64 = 8;
 /// `mach_header_64.filetype`
 pub(crate) const FILE_TYPE: u64 = 12;
 /// `mach_header_64.ncmds`
@@ -33,6 +39,37 @@ pub(crate) fn header_truncated(image: Bytes) -> Result<(), Break>
         });
     }
     Ok(())
+}
+
+/// The image is made for the processor that a universal file names for it, where one does.
+pub(crate) fn arch_mismatch(image: Bytes, arch: Option<(u32, u32)>) -> Result<(), Break>
+    requires { MACH_HEADER_64_SIZE ≤ length (bytes_of image) }
+    ensures { DecidesRule (BreaksHeader (bytes_of image.entry) arch Rule.ArchMismatch)
+        Rule.ArchMismatch result }
+{
+    let Some((cputype, cpusubtype)) = arch else {
+        return Ok(());
+    };
+    if (cputype, cpusubtype & !CPU_SUBTYPE_MASK) != arch_of(image) {
+        return Err(Break {
+            rule: Rule::ArchMismatch,
+            place: CPU_TYPE,
+        });
+    }
+    Ok(())
+}
+
+/// The processor that the header names: its type and its subtype, without the bits that name
+/// capabilities.
+pub(crate) fn arch_of(image: Bytes) -> (u32, u32)
+    requires { MACH_HEADER_64_SIZE ≤ length (bytes_of image) }
+    ensures cpu_type { result.0 ≡ cpu_type (bytes_of image.entry) }
+    ensures cpu_subtype { result.1 ≡ masked (cpu_subtype (bytes_of image.entry)) }
+{
+    (
+        word_at(image, CPU_TYPE),
+        word_at(image, CPU_SUBTYPE) & !CPU_SUBTYPE_MASK,
+    )
 }
 
 /// The image is a program or a library.

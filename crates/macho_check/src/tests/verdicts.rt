@@ -1,5 +1,6 @@
 //! Verdicts on small files, from bytes to text and status.
 
+use super::check_told;
 use crate::doubles::{EndlessReader, SlowReader, SlowWriter};
 use crate::notation::File;
 use crate::run::{Outcome, RunFault, run};
@@ -7,20 +8,10 @@ use crate::status::check_status;
 use macho_fields::header::loader::{
     LC_ID_DYLIB, LC_SEGMENT_64, LC_UUID, MH_BUNDLE, MH_DYLIB, MH_EXECUTE,
 };
-use std::process::Abort;
 use std::test::Fail;
 
 /// A command of a kind that is not listed.
 const UNLISTED: u32 = 0x99;
-
-/// Runs on the file, byte by byte, and compares the text and the status.
-fn check_told(rt: &(impl Abort + AllocGlobal), file: &[u8], text: &[u8], status: u8) {
-    let mut reader = SlowReader::new(file);
-    let mut writer = SlowWriter::new(Vec::new(rt.alloc()), 1000);
-    let ended = run(rt.alloc(), 1 << 32, &mut reader, &mut writer);
-    assert_eq!(rt; writer.bytes.as_slice(), text);
-    assert_eq!(rt; check_status(&ended), status);
-}
 
 #[test]
 fn bare_header(rt: HostRuntime) -> Result<(), Fail> {
@@ -39,12 +30,6 @@ fn no_magic(rt: HostRuntime) {
     ] {
         check_told(&rt, file, b"refused: magic at 0x0\n", 1);
     }
-}
-
-#[test]
-fn universal_for_now(rt: HostRuntime) {
-    let no_slices = b"\xca\xfe\xba\xbe\0\0\0\0".as_slice();
-    check_told(&rt, no_slices, b"refused: magic at 0x0\n", 1);
 }
 
 #[test]
@@ -85,18 +70,6 @@ fn command_past_the_end(rt: HostRuntime) -> Result<(), Fail> {
 fn bundle(rt: HostRuntime) -> Result<(), Fail> {
     let file = File::new(rt.alloc()).header(MH_BUNDLE, 0, 0)?;
     check_told(&rt, file.as_slice(), b"refused: file-type at 0xc\n", 1);
-    Ok(())
-}
-
-#[test]
-fn whole_executable(rt: HostRuntime) -> Result<(), Fail> {
-    let file = File::executable(rt.alloc())?;
-    let bytes = file.as_slice();
-    assert_eq!(rt; bytes.len(), 0x202c);
-    check_told(&rt, bytes, b"accepted\n", 0);
-    let text = b"refused: commands-outside at 0x14\n";
-    let cut = bytes.get(..0x2e7).expect(&rt, "a longer file");
-    check_told(&rt, cut, text, 1);
     Ok(())
 }
 

@@ -3,10 +3,6 @@ use Rattle.macho_fields.specs.Bytes.{bytes_of}
 use Rattle.macho_image.proofs.Opened.{opened_keeps}
 use Rattle.macho_image.proofs.image.Image.arch.Goals as goal
 
-pub word_at-requires : goal.word_at-requires
-word_at-requires c =
-    let header : 32 ≤ length (bytes_of c.self.inside.bytes) = (opened_keeps _ c.self.invariant).header in omega arith
-
-pub word_at-requires-2 : goal.word_at-requires-2
-word_at-requires-2 c =
+pub arch_of-requires : goal.arch_of-requires
+arch_of-requires c =
     let header : 32 ≤ length (bytes_of c.self.inside.bytes) = (opened_keeps _ c.self.invariant).header in omega arith

@@ -1,0 +1,83 @@
+-- Rules that are judged entry by entry: the first entry that breaks one is its least place.
+use Rattle.std.proofs.Common.{◌≡◌, ◌≢◌, ℕ, ◌+◌, ◌*◌, ◌^◌, ◌≤◌, ◌<◌, List, length, refl, sym, ap, ◌∙◌, subst, arith, inl, inr, mul-le-mul_right}
+use Rattle.std.proofs.lemmas.Bool.{cases_lt}
+use Rattle.macho_fields.specs.Universal.{IsUniversal, entry_count, entry_size, entry_place, entry_align, entry_slice, table_end}
+use Rattle.macho_fields.specs.Rules.{AtEntry, WithEarlier, SharePlace}
+use Rattle.macho_fields.specs.Span.{Shares}
+use Rattle.macho_fields.specs.declared.rule.Rule.{Rule}
+use Rattle.macho_fields.specs.declared.rule.Break.{Break}
+use Rattle.macho_fields.specs.declared.span.Span.{Span}
+use Rattle.macho_fat.proofs.Alignment.{IsMultiple}
+
+-- the entries that are gone over do not have P
+abbrev pub NoneBelow : (ℕ → Type 0) → ℕ → Type 0
+NoneBelow P k = (i : ℕ) → i < k → ¬ P i
+
+pub none_more : (P : ℕ → Type 0) (k : ℕ) → NoneBelow P k → ¬ P k → NoneBelow P (k + 1)
+none_more P k none here i less broken =
+    elim (cases_lt i k) [ inl lower ↦ none i lower broken | inr most ↦ (let same : i ≡ k = omega arith in here (subst P same broken)) ]
+
+place_rises : (file : List ℕ) (i k : ℕ) → i ≤ k → entry_place file i ≤ entry_place file k
+place_rises file i k less = let wide = mul-le-mul_right (entry_size file) less in omega (arith, wide)
+
+-- a universal file breaks a rule at the entries that have P
+abbrev pub Breaks : List ℕ → (ℕ → Type 0) → ℕ → Type 0
+Breaks file P place = IsUniversal file × AtEntry file P place
+
+pub entry_broken : (file : List ℕ) (P : ℕ → Type 0) (r : Rule) (k : ℕ) (b : Break) → IsUniversal file → k < entry_count file → NoneBelow P k → P k → b.rule ≡ r → b.place ≡ entry_place file k → (b.rule ≡ r) × Breaks file P b.place × ((place : ℕ) → Breaks file P place → b.place ≤ place)
+entry_broken file P r k b universal less none here rule at = (rule, (universal, (k, less, at, here)), least)
+  where
+    least : (place : ℕ) → Breaks file P place → b.place ≤ place
+    least place (u, (i, within, there, broken)) =
+        elim (cases_lt i k) [
+          | inl lower ↦ absurd (none i lower broken)
+          | inr most ↦ (let rises = place_rises file k i most in omega (arith, rises, at, there))
+        ]
+
+pub entries_kept : (file : List ℕ) (P : ℕ → Type 0) (k : ℕ) → k ≡ entry_count file → NoneBelow P k → (place : ℕ) → ¬ Breaks file P place
+entries_kept file P k all none place (u, (i, within, there, broken)) = none i (omega (arith, all)) broken
+
+-- What breaks the rules at an entry
+
+abbrev pub IsOutside : List ℕ → ℕ → Type 0
+IsOutside file k = length file < (entry_slice file k).start + (entry_slice file k).size
+
+abbrev pub IsInTable : List ℕ → ℕ → Type 0
+IsInTable file k = (entry_slice file k).start < table_end file
+
+abbrev pub IsMisaligned : List ℕ → ℕ → Type 0
+IsMisaligned file k = (m : ℕ) → m * 2 ^ entry_align file k ≢ (entry_slice file k).start
+
+abbrev pub Overlaps : List ℕ → ℕ → Type 0
+Overlaps file = WithEarlier (λ i j. SharePlace (entry_slice file i) (entry_slice file j))
+
+abbrev pub Repeats : List ℕ → ℕ → Type 0
+Repeats file = WithEarlier (λ i j. (entry_slice file i).arch ≡ (entry_slice file j).arch)
+
+-- a slice behind the table does not begin at the file's first place
+pub begins_late : (file : List ℕ) (k : ℕ) → IsUniversal file → k < entry_count file → ((place : ℕ) → ¬ Breaks file (IsInTable file) place) → 0 < (entry_slice file k).start
+begins_late file k universal less none =
+    elim (cases_lt (entry_slice file k).start (table_end file)) [
+      | inl lower ↦ absurd (none (entry_place file k) (universal, (k, less, refl, lower)))
+      | inr most ↦ omega arith
+    ]
+
+-- a slice that is not outside lies inside the file
+pub ends_inside : (file : List ℕ) (k : ℕ) → IsUniversal file → k < entry_count file → ((place : ℕ) → ¬ Breaks file (IsOutside file) place) → (entry_slice file k).start + (entry_slice file k).size ≤ length file
+ends_inside file k universal less none =
+    elim (cases_lt (length file) ((entry_slice file k).start + (entry_slice file k).size)) [
+      | inl past ↦ absurd (none (entry_place file k) (universal, (k, less, refl, past)))
+      | inr most ↦ most
+    ]
+
+-- what was read of an entry says whether it is aligned
+pub aligned_entry : (file : List ℕ) (k offset align : ℕ) → offset ≡ (entry_slice file k).start → align ≡ entry_align file k → IsMultiple align offset → ¬ IsMisaligned file k
+aligned_entry file k offset align start exponent (m, is) misaligned = misaligned m (ap (λ n. m * 2 ^ n) (sym exponent) ∙ (is ∙ start))
+
+pub misaligned_entry : (file : List ℕ) (k offset align : ℕ) → offset ≡ (entry_slice file k).start → align ≡ entry_align file k → ¬ IsMultiple align offset → IsMisaligned file k
+misaligned_entry file k offset align start exponent none m is = none (m, ap (λ n. m * 2 ^ n) exponent ∙ (is ∙ sym start))
+
+-- what was read of two entries says whether they share a place
+pub sharing_entries : (file : List ℕ) (i j : ℕ) (a b : Span) → a.start ≡ (entry_slice file i).start → a.len ≡ (entry_slice file i).size → b.start ≡ (entry_slice file j).start → b.len ≡ (entry_slice file j).size → SharePlace (entry_slice file i) (entry_slice file j) → Shares a b
+sharing_entries file i j a b start size begin long (place, (first, within), (second, inside)) =
+    (place, (omega (arith, first, start), omega (arith, within, start, size)), (omega (arith, second, begin), omega (arith, inside, begin, long)))

@@ -1,0 +1,5 @@
+pub mod Alignment
+pub mod Entries
+pub mod Listed
+pub mod Magics
+pub mod Order

@@ -1,0 +1,29 @@
+use Rattle.std.proofs.Common.{◌<◌, ◌∙◌, arith}
+use Rattle.std.proofs.lemmas.Bool.{both_ways}
+use Rattle.macho_fields.specs.Universal.{entry_count}
+use Rattle.macho_fields.specs.declared.rule.Rule.TheVariants as rule
+use Rattle.macho_fat.proofs.Entries.{IsMisaligned, none_more, entry_broken, entries_kept, begins_late, aligned_entry, misaligned_entry}
+use Rattle.macho_fat.proofs.rules.fat_align.Goals as goal
+
+pub is_aligned-requires : goal.is_aligned-requires
+is_aligned-requires c =
+    let file = c.args.table.now in
+    let less : c.loop-k.k < entry_count file = omega (arith, c.count-k-end.ensures.count) in
+    let late = begins_late file c.loop-k.k c.count-k-end.ensures.table.universal less c.requires in omega (arith, late, c.entry-entry.ensures.start)
+
+pub returns-then-not-is_aligned : goal.returns-then-not-is_aligned
+returns-then-not-is_aligned c =
+    let file = c.args.table.now in
+    let less : c.loop-k.k < entry_count file = omega (arith, c.count-k-end.ensures.count) in
+    entry_broken file (IsMisaligned file) rule.FatAlign c.loop-k.k c.breaks.result c.count-k-end.ensures.table.universal less c.loop-k.invariant
+    (misaligned_entry file c.loop-k.k c.entry-entry.result.span.start c.entry-entry.result.align c.entry-entry.ensures.start c.entry-entry.ensures.align (λ m. both_ways c.is_aligned.result c.if-not-is_aligned.true (c.is_aligned.ensures.1 m)))
+    c.breaks.ensures.rule (c.breaks.ensures.place ∙ c.entry-entry.ensures.place)
+
+pub loop-k-preserved : goal.loop-k-preserved
+loop-k-preserved c =
+    let file = c.args.table.now in
+    none_more (IsMisaligned file) c.loop-k.k c.loop-k.invariant
+    (aligned_entry file c.loop-k.k c.entry-entry.result.span.start c.entry-entry.result.align c.entry-entry.ensures.start c.entry-entry.ensures.align (c.is_aligned.ensures.0 c.if-not-is_aligned.false))
+
+pub returns : goal.returns
+returns c = entries_kept c.args.table.now (IsMisaligned c.args.table.now) c.loop-k.k (omega (arith, c.count-k-end.ensures.count)) c.loop-k.invariant

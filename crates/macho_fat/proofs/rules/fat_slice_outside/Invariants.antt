@@ -1,0 +1,6 @@
+use Rattle.macho_fat.proofs.Entries.{NoneBelow, IsOutside}
+use Rattle.macho_fat.proofs.rules.fat_slice_outside.Given as goal
+
+-- no slice before this one passes the end of the file
+abbrev pub invariant-loop-k : goal.invariant-loop-k
+invariant-loop-k l = NoneBelow (IsOutside l.table) l.k

@@ -1,0 +1,17 @@
+use Rattle.std.proofs.Common.{◌↔◌, IsTrue, Some, subst, arith}
+use Rattle.macho_fields.specs.Universal.{IsImage}
+use Rattle.macho_fat.proofs.Listed.{none_listed, listed_more, all_listed}
+use Rattle.macho_fat.proofs.slices.listed.Goals as goal
+
+pub loop-k-init : goal.loop-k-init
+loop-k-init c = none_listed c.args.table.now c.in_ok-slices.slices.items c.in_ok-slices.ensures.items
+
+pub loop-k-preserved : goal.loop-k-preserved
+loop-k-preserved c =
+    listed_more c.args.table.now c.loop-k.k c.loop-k.slices.items c.push.new.self.items
+    (record { span = c.entry-entry.result.span; arch = Some c.entry-entry.result.arch; read = c.is_image.result })
+    c.loop-k.invariant c.entry-entry.ensures.start c.entry-entry.ensures.size c.entry-entry.ensures.arch
+    (subst (λ bytes. IsTrue c.is_image.result ↔ IsImage bytes) c.slice_bytes.ensures c.is_image.ensures) c.in_ok-push.ensures.items
+
+pub returns : goal.returns
+returns c = all_listed c.args.table.now c.loop-k.k c.loop-k.slices.items c.count-k-end.ensures.table.universal (omega (arith, c.count-k-end.ensures.count)) c.loop-k.invariant

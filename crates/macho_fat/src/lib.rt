@@ -1,0 +1,11 @@
+#![tactic(auto)]
+//! Universal files: the header, the table of its entries, and the slices that the entries name.
+
+pub mod fault;
+mod rules;
+pub mod slice;
+pub mod slices;
+mod table;
+
+pub use fault::FatFault;
+pub use slice::Slice;

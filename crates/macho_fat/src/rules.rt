@@ -1,0 +1,242 @@
+//! The rules of a file, one a function. (`mach-o/fat.h`)
+
+ghost use Rattle.std.specs.Prelude.{◌≡◌, ◌*◌, ◌^◌, ◌<◌, ◌↔◌, ℕ, IsTrue, IfOk, MatchOption};
+ghost use Rattle.macho_fields.specs.Bytes.{bytes_of};
+ghost use Rattle.macho_fields.specs.Layers.{DecidesRule};
+ghost use Rattle.macho_fields.specs.Rules.{BreaksFile, WithEarlier, SharePlace};
+ghost use Rattle.macho_fields.specs.Universal.{IsUniversal, IsImage, IsUnreadImage, entry_count, entry_slice};
+ghost use Rattle.macho_fields.specs.declared.rule.Rule.{Rule};
+ghost use Rattle.macho_fat.specs.Magic.{IsForeign, lesser_of};
+ghost use Rattle.macho_fat.specs.Table.{IsFormat};
+
+use crate::table::{ENTRY_COUNT, Table, entry_size};
+use macho_fields::header::fat::{FAT_HEADER_SIZE, FAT_MAGIC, FAT_MAGIC_64};
+use macho_fields::header::loader::{MH_MAGIC, MH_MAGIC_64};
+use macho_fields::{Break, Bytes, Order, Rule, table_end};
+
+/// What a file is, by the magic number with which it begins.
+#[derive(Clone, Copy)]
+pub(crate) enum Format {
+    /// One 64-bit little-endian image.
+    Image,
+    /// A universal file.
+    Universal,
+}
+
+/// The file begins with the magic number of a format that is read.
+pub(crate) fn magic(file: Bytes) -> Result<Format, Break>
+    ensures decides { DecidesRule (BreaksFile (bytes_of file.entry) Rule.Magic) Rule.Magic result }
+    ensures format { IfOk result (IsFormat (bytes_of file.entry)) }
+{
+    if is_image(file) {
+        return Ok(Format::Image);
+    }
+    match file.u32_at(Order::Big, 0) {
+        Some(FAT_MAGIC | FAT_MAGIC_64) => Ok(Format::Universal),
+        _ => Err(Break {
+            rule: Rule::Magic,
+            place: 0,
+        }),
+    }
+}
+
+/// The header and the table of a universal file lie inside the file.
+pub(crate) fn fat_truncated(file: Bytes) -> Result<Table, Break>
+    requires { IsUniversal (bytes_of file) }
+    ensures decides { DecidesRule (BreaksFile (bytes_of file.entry) Rule.FatTruncated)
+        Rule.FatTruncated result }
+    ensures table { IfOk result (λ table. table ≡ bytes_of file.entry) }
+{
+    let truncated = Break {
+        rule: Rule::FatTruncated,
+        place: ENTRY_COUNT,
+    };
+    let count = file.u32_at(Order::Big, ENTRY_COUNT).ok_or(truncated)?;
+    let wide = file.u32_at(Order::Big, 0) == Some(FAT_MAGIC_64);
+    let end = table_end(FAT_HEADER_SIZE, u64::from(count), entry_size(wide));
+    if end > u128::from(file.len()) {
+        return Err(truncated);
+    }
+    Ok(Table::new(file, wide, count))
+}
+
+/// Each slice lies inside the file.
+pub(crate) fn fat_slice_outside(table: &Table) -> Result<(), Break>
+    ensures { DecidesRule (BreaksFile table.now Rule.FatSliceOutside) Rule.FatSliceOutside result }
+{
+    for k in 0..table.count() {
+        let entry = table.entry(k);
+        if entry.span.end() > u128::from(table.file_len()) {
+            return Err(entry.breaks(Rule::FatSliceOutside));
+        }
+    }
+    Ok(())
+}
+
+/// Each slice begins behind the table.
+pub(crate) fn fat_slice_in_table(table: &Table) -> Result<(), Break>
+    ensures { DecidesRule (BreaksFile table.now Rule.FatSliceInTable) Rule.FatSliceInTable result }
+{
+    for k in 0..table.count() {
+        let entry = table.entry(k);
+        if entry.span.start < table.end() {
+            return Err(entry.breaks(Rule::FatSliceInTable));
+        }
+    }
+    Ok(())
+}
+
+/// The offset of each slice is a multiple of its alignment.
+pub(crate) fn fat_align(table: &Table) -> Result<(), Break>
+    requires { (place : ℕ) → ¬ BreaksFile table.now Rule.FatSliceInTable place }
+    ensures { DecidesRule (BreaksFile table.now Rule.FatAlign) Rule.FatAlign result }
+{
+    for k in 0..table.count() {
+        let entry = table.entry(k);
+        if !is_aligned(entry.span.start, entry.align) {
+            return Err(entry.breaks(Rule::FatAlign));
+        }
+    }
+    Ok(())
+}
+
+/// Whether 2 to the power of `align` divides an offset, which no power past the 63rd does.
+fn is_aligned(offset: u64, align: u32) -> bool
+    requires { 0 < offset }
+    ensures { IsTrue result ↔ ((m : ℕ) × (m * 2 ^ align ≡ offset)) }
+{
+    match 1u64.checked_shl(align) {
+        Some(alignment) => offset % alignment == 0,
+        None => false,
+    }
+}
+
+/// No slice has a byte in common with an earlier one.
+pub(crate) fn fat_overlap(table: &Table) -> Result<(), Break>
+    ensures { DecidesRule (BreaksFile table.now Rule.FatOverlap) Rule.FatOverlap result }
+{
+    for k in 0..table.count() {
+        if shares_with_earlier(table, k) {
+            return Err(table.entry(k).breaks(Rule::FatOverlap));
+        }
+    }
+    Ok(())
+}
+
+/// Whether the slice of entry `later` has a byte in common with that of an earlier entry.
+fn shares_with_earlier(table: &Table, later: u32) -> bool
+    requires { later < entry_count table.now }
+    ensures { IsTrue result ↔ WithEarlier (λ i j.
+        SharePlace (entry_slice table.now i) (entry_slice table.now j)) later }
+{
+    let span = table.entry(later).span;
+    for k in 0..later {
+        if table.entry(k).span.shares(&span) {
+            return true;
+        }
+    }
+    false
+}
+
+/// No slice has the architecture of an earlier one.
+pub(crate) fn fat_duplicate(table: &Table) -> Result<(), Break>
+    ensures { DecidesRule (BreaksFile table.now Rule.FatDuplicate) Rule.FatDuplicate result }
+{
+    for k in 0..table.count() {
+        if repeats_earlier(table, k) {
+            return Err(table.entry(k).breaks(Rule::FatDuplicate));
+        }
+    }
+    Ok(())
+}
+
+/// Whether entry `later` names the architecture of an earlier entry.
+fn repeats_earlier(table: &Table, later: u32) -> bool
+    requires { later < entry_count table.now }
+    ensures { IsTrue result ↔ WithEarlier (λ i j.
+        (entry_slice table.now i).arch ≡ (entry_slice table.now j).arch) later }
+{
+    let arch = table.entry(later).arch;
+    for k in 0..later {
+        if table.entry(k).arch == arch {
+            return true;
+        }
+    }
+    false
+}
+
+/// Each slice begins with the magic number of an image, be it read or not.
+pub(crate) fn fat_slice_magic(table: &Table) -> Result<(), Break>
+    requires { (place : ℕ) → ¬ BreaksFile table.now Rule.FatSliceOutside place }
+    ensures { DecidesRule (BreaksFile table.now Rule.FatSliceMagic) Rule.FatSliceMagic result }
+{
+    let mut least = None;
+    for k in 0..table.count() {
+        least = lesser(least, foreign_place(table, k));
+    }
+    match least {
+        Some(place) => Err(Break {
+            rule: Rule::FatSliceMagic,
+            place,
+        }),
+        None => Ok(()),
+    }
+}
+
+/// Where the slice of entry `k` begins, if it does so with the magic number of no image.
+fn foreign_place(table: &Table, k: u32) -> Option<u64>
+    requires entry { k < entry_count table.now }
+    requires inside { (place : ℕ) → ¬ BreaksFile table.now Rule.FatSliceOutside place }
+    ensures { MatchOption result (¬ IsForeign table.now k)
+        (λ place. (place ≡ (entry_slice table.now k).start) × IsForeign table.now k) }
+{
+    let bytes = table.slice_bytes(k);
+    if is_image(bytes) || is_unread_image(bytes) {
+        None
+    } else {
+        Some(table.entry(k).span.start)
+    }
+}
+
+/// The lesser of two places, of which each may be missing.
+fn lesser(a: Option<u64>, b: Option<u64>) -> Option<u64>
+    ensures { result ≡ lesser_of a b }
+{
+    match (a, b) {
+        (Some(a), Some(b)) => Some(a.min(b)),
+        (a, None) => a,
+        (None, b) => b,
+    }
+}
+
+/// Some slice is a 64-bit little-endian image.
+pub(crate) fn fat_empty(table: &Table) -> Result<(), Break>
+    requires { (place : ℕ) → ¬ BreaksFile table.now Rule.FatSliceOutside place }
+    ensures { DecidesRule (BreaksFile table.now Rule.FatEmpty) Rule.FatEmpty result }
+{
+    for k in 0..table.count() {
+        if is_image(table.slice_bytes(k)) {
+            return Ok(());
+        }
+    }
+    Err(Break {
+        rule: Rule::FatEmpty,
+        place: ENTRY_COUNT,
+    })
+}
+
+/// Whether the bytes begin with the magic number of a 64-bit little-endian image.
+pub(crate) fn is_image(bytes: Bytes) -> bool
+    ensures { IsTrue result ↔ IsImage (bytes_of bytes.entry) }
+{
+    bytes.u32_at(Order::Little, 0) == Some(MH_MAGIC_64)
+}
+
+/// Whether the bytes begin with the magic number of an image that is not read: one of 32 bits, or
+/// a big-endian one.
+fn is_unread_image(bytes: Bytes) -> bool
+    ensures { IsTrue result ↔ IsUnreadImage (bytes_of bytes.entry) }
+{
+    bytes.u32_at(Order::Little, 0) == Some(MH_MAGIC)
+        || matches!(bytes.u32_at(Order::Big, 0), Some(MH_MAGIC | MH_MAGIC_64))
+}

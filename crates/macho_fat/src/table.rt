@@ -1,0 +1,191 @@
+//! The table of a universal file, whose fields are big-endian.
+//! (`mach-o/fat.h`: `fat_header`, `fat_arch`, `fat_arch_64`)
+
+ghost use Rattle.std.specs.Prelude.{◌≡◌, if◌then◌else◌};
+
+use macho_fields::header::fat::{FAT_ARCH_64_SIZE, FAT_ARCH_SIZE, FAT_HEADER_SIZE};
+use macho_fields::header::machine::CPU_SUBTYPE_MASK;
+use macho_fields::{Break, Bytes, Order, Rule, Span};
+use std::marker::Model;
+
+/// `fat_header.nfat_arch`
+pub(crate) const ENTRY_COUNT: u64 = 4;
+
+// Where the fields of an entry stand in it, behind `cputype`. In a `fat_arch_64` offset and size
+// have 64 bits.
+const CPU_SUBTYPE: u64 = 4;
+
+const OFFSET: u64 = 8;
+
+const SIZE: u64 = 12;
+
+const ALIGN: u64 = 16;
+
+const SIZE_64: u64 = 16;
+
+const ALIGN_64: u64 = 24;
+
+/// The size in bytes of an entry: a `fat_arch_64` where entries are wide, and a `fat_arch` else.
+pub(crate) fn entry_size(wide: bool) -> u64
+    ensures { result ≡ (if wide then FAT_ARCH_64_SIZE else FAT_ARCH_SIZE) }
+{
+    if wide {
+        FAT_ARCH_64_SIZE
+    } else {
+        FAT_ARCH_SIZE
+    }
+}
+
+/// The table of a universal file, which lies inside the file.
+#[derive(Drop)]
+pub(crate) struct Table<'a> {
+    file: Bytes<'a>,
+    wide: bool,
+    count: u32,
+}
+
+impl<'a> Model for Table<'a> {
+    ghost use Rattle.std.specs.Prelude.{List, ℕ, ◌≡◌};
+    ghost use Rattle.macho_fields.specs.Bytes.{bytes_of};
+    ghost use Rattle.macho_fields.specs.Universal.{has_wide_entries, entry_count};
+    ghost use Rattle.macho_fat.specs.Table.{HasTable};
+
+    ghost Value = { List ℕ };
+
+    ghost view = { λ table. bytes_of table.file };
+
+    ghost invariant = { λ table. HasTable (bytes_of table.file)
+        × (table.wide ≡ has_wide_entries (bytes_of table.file))
+        × (table.count ≡ entry_count (bytes_of table.file)) };
+}
+
+/// An entry of the table: a slice of the file, and the processor for which it is.
+#[derive(Clone, Copy)]
+pub(crate) struct Entry {
+    /// Where the entry stands in the file.
+    pub(crate) place: u64,
+    /// `cputype`, and `cpusubtype` without the capability bits.
+    pub(crate) arch: (u32, u32),
+    /// `offset` and `size`.
+    pub(crate) span: Span,
+    /// `align`: the exponent of a power of two.
+    pub(crate) align: u32,
+}
+
+impl Entry {
+    ghost use Rattle.std.specs.Prelude.{◌≡◌};
+
+    /// The break of a rule at this entry.
+    pub(crate) fn breaks(self, rule: Rule) -> Break
+        ensures rule { result.rule ≡ rule }
+        ensures place { result.place ≡ self.place }
+    {
+        Break {
+            rule,
+            place: self.place,
+        }
+    }
+}
+
+impl<'a> Table<'a> {
+    ghost use Rattle.std.specs.Prelude.{◌≡◌, ◌+◌, ◌≤◌, ◌<◌, ℕ, length, if◌then◌else◌};
+    ghost use Rattle.macho_fields.specs.Bytes.{bytes_of};
+    ghost use Rattle.macho_fields.specs.Field.{number};
+    ghost use Rattle.macho_fields.specs.declared.bytes.Order.{Order};
+    ghost use Rattle.macho_fields.specs.declared.rule.Rule.{Rule};
+    ghost use Rattle.macho_fields.specs.Rules.{BreaksFile};
+    ghost use Rattle.macho_fields.specs.Universal.{has_wide_entries, entry_count, entry_slice, table_end, slice_bytes};
+    ghost use Rattle.macho_fat.specs.Table.{HasTable, IsEntry};
+
+    /// The table of a universal file. Its entries are `fat_arch_64` where they are wide, and
+    /// `fat_arch` else.
+    pub(crate) fn new(file: Bytes<'a>, wide: bool, count: u32) -> Table<'a>
+        requires table { HasTable (bytes_of file) }
+        requires wide { wide ≡ has_wide_entries (bytes_of file) }
+        requires count { count ≡ entry_count (bytes_of file) }
+        ensures { result ≡ bytes_of file.entry }
+    {
+        Table { file, wide, count }
+    }
+
+    /// How many entries there are.
+    pub(crate) fn count(&self) -> u32
+        ensures count { result ≡ entry_count self.now }
+        ensures table { HasTable self.now }
+    {
+        self.count
+    }
+
+    /// How many bytes the file has.
+    pub(crate) fn file_len(&self) -> u64
+        ensures { result ≡ length self.now }
+    {
+        self.file.len()
+    }
+
+    /// The place behind the table.
+    pub(crate) fn end(&self) -> u64
+        ensures { result ≡ table_end self.now }
+    {
+        FAT_HEADER_SIZE + u64::from(self.count) * entry_size(self.wide)
+    }
+
+    /// Entry `k`, counted from 0.
+    pub(crate) fn entry(&self, k: u32) -> Entry
+        requires { k < entry_count self.now }
+        ensures { IsEntry self.now k result }
+    {
+        let place = FAT_HEADER_SIZE + u64::from(k) * entry_size(self.wide);
+        let (size, align) = if self.wide {
+            (SIZE_64, ALIGN_64)
+        } else {
+            (SIZE, ALIGN)
+        };
+        let subtype = self.word_at(place + CPU_SUBTYPE);
+        Entry {
+            place,
+            arch: (self.word_at(place), subtype & !CPU_SUBTYPE_MASK),
+            span: Span {
+                start: self.offset_at(place + OFFSET),
+                len: self.offset_at(place + size),
+            },
+            align: self.word_at(place + align),
+        }
+    }
+
+    /// The bytes of the slice of entry `k`, where each slice lies inside the file.
+    pub(crate) fn slice_bytes(&self, k: u32) -> Bytes<'a>
+        requires entry { k < entry_count self.now }
+        requires inside { (place : ℕ) → ¬ BreaksFile self.now Rule.FatSliceOutside place }
+        ensures { bytes_of result ≡ slice_bytes self.now (entry_slice self.now k) }
+    {
+        Bytes::new(self.file.part(self.entry(k).span).unwrap())
+    }
+
+    /// A field that has 64 bits in a `fat_arch_64`, and 32 bits in a `fat_arch`.
+    fn offset_at(&self, place: u64) -> u64
+        requires { place + 8 ≤ length self.now }
+        ensures { result ≡ (if has_wide_entries self.now
+            then number Order.Big 8 self.now place else number Order.Big 4 self.now place) }
+    {
+        if self.wide {
+            self.long_at(place)
+        } else {
+            u64::from(self.word_at(place))
+        }
+    }
+
+    fn word_at(&self, place: u64) -> u32
+        requires { place + 4 ≤ length self.now }
+        ensures { result ≡ number Order.Big 4 self.now place }
+    {
+        self.file.u32_at(Order::Big, place).unwrap()
+    }
+
+    fn long_at(&self, place: u64) -> u64
+        requires { place + 8 ≤ length self.now }
+        ensures { result ≡ number Order.Big 8 self.now place }
+    {
+        self.file.u64_at(Order::Big, place).unwrap()
+    }
+}

@@ -1,0 +1,121 @@
+-- The segments of an opened image, and their sections.
+use Rattle.std.proofs.Common.{◌≡◌, ℕ, suc, zero, ◌+◌, ◌*◌, ◌≤◌, ◌==◌, List, [], ◌∷◌, length, map, cond, Bool, true, false, All, Contains, refl, sym, ap, ap₂, ◌∙◌, subst, arith, lit<}
+use Rattle.std.specs.List.{sum_by, range_with_len}
+use Rattle.std.proofs.lemmas.Bool.{eq-eqb, eqb-true, le-leb}
+use Rattle.std.proofs.lemmas.List.Elements.{All-contains_itself, All-map, All-tail}
+use Rattle.std.proofs.lemmas.List.Sums.{sum_by-cons}
+use Rattle.macho_fields.specs.Image.{command_kind, command_size, commands_end, Follow, AreCommands}
+use Rattle.macho_fields.specs.Command.{records_size, record_count}
+use Rattle.macho_fields.specs.Segment.{nsects, segments_of, section_count, sections_in}
+use Rattle.macho_fields.specs.declared.header.loader.TheConstants as loader
+use Rattle.macho_fields.proofs.Opened.{Keeps, structure_inside, command_inside}
+use Rattle.macho_fields.proofs.Parts.{of_kind_is, of_kind_among}
+use Rattle.macho_image.specs.Opened.{IsOpened}
+use Rattle.macho_image.specs.Command.{OfCommands, CommandView, command_at, left_of_kind}
+use Rattle.macho_image.specs.Segment.{structure_at, HoldsSegment, HoldSegments, segments_left, sections_from}
+use Rattle.macho_image.proofs.Opened.{opened_keeps}
+use Rattle.macho_image.proofs.OfOneKind.{left_of_kind-map}
+use Rattle.macho_image.proofs.Kept.{IsListed, AreAll, all_seen}
+
+segment_listed : IsListed loader.LC_SEGMENT_64 72
+segment_listed = (6, lit< tt, refl)
+
+-- the records behind the structure of a segment are its sections
+records_are_sections : (image : List ℕ) (segment : ℕ) → command_kind image segment ≡ loader.LC_SEGMENT_64 → 72 ≤ command_size image segment → records_size image segment ≡ 80 * nsects image segment
+records_are_sections image segment is holds =
+    ap (λ b. cond b (80 * record_count image segment 64) (cond (command_kind image segment == loader.LC_BUILD_VERSION) (8 * record_count image segment 20) 0)) (eq-eqb (command_kind image segment) loader.LC_SEGMENT_64 is)
+    ∙ ap (λ b. 80 * cond b (nsects image segment) 0) (le-leb 68 (command_size image segment) (omega arith))
+
+-- a command that is a segment holds its sections
+holds_sections : (image commands : List ℕ) (segment : ℕ) → Keeps image → AreCommands image commands → Contains commands segment → command_kind image segment ≡ loader.LC_SEGMENT_64 → 72 + 80 * nsects image segment ≤ command_size image segment
+holds_sections image commands segment opened are has is =
+    let whole : 72 + records_size image segment ≤ command_size image segment = structure_inside image commands opened are segment (loader.LC_SEGMENT_64, 72) has segment_listed (sym is) in
+    let records : records_size image segment ≡ 80 * nsects image segment = records_are_sections image segment is (omega arith) in omega arith
+
+held_segment : (image commands : List ℕ) (segment : ℕ) → Keeps image → AreCommands image commands → Contains (segments_of image commands) segment → HoldsSegment image segment
+held_segment image commands segment opened are has =
+    let among = of_kind_among image commands loader.LC_SEGMENT_64 segment has in
+    let holds : 72 + 80 * nsects image segment ≤ command_size image segment = holds_sections image commands segment opened are among (of_kind_is image commands loader.LC_SEGMENT_64 segment has) in
+    let inside : segment + command_size image segment ≤ length image = command_inside image commands opened are segment among in omega arith
+
+-- the segments of an opened image lie inside it
+pub all_segments_hold : (image : List ℕ) (all : List CommandView) → IsOpened image → AreAll image all → HoldSegments image all
+all_segments_hold image all is_opened (commands, are, is) =
+    let opened = opened_keeps image is_opened in
+    let kept : left_of_kind loader.LC_SEGMENT_64 all ≡ map (command_at image) (segments_of image commands) = ap (left_of_kind loader.LC_SEGMENT_64) is ∙ left_of_kind-map image loader.LC_SEGMENT_64 commands in
+    subst (All (λ c. HoldsSegment image c.place)) (sym kept) (All-map (λ c. HoldsSegment image c.place) (command_at image) (segments_of image commands) (λ k d less. held_segment image commands _ opened are (All-contains_itself (segments_of image commands) k d less)))
+
+pub segments_seen : (image : List ℕ) (all : List CommandView) → IsOpened image → AreAll image all → OfCommands image (λ commands. segments_left image all ≡ map (structure_at image) (segments_of image commands))
+segments_seen image all opened are =
+    all_seen (λ c. structure_at image c.place) (structure_at image) image all loader.LC_SEGMENT_64 72 segment_listed (λ c here. refl) opened are
+
+-- of segments the first lies inside the image, and so do the others
+pub first_segment : (image : List ℕ) (old rest : List CommandView) (c : CommandView) → old ≡ c ∷ rest → All (λ c. HoldsSegment image c.place) old → HoldsSegment image c.place
+first_segment image old rest c is hold = subst (All (λ v. HoldsSegment image v.place)) is hold 0 c (omega arith)
+
+pub rest_segments : (image : List ℕ) (old rest : List CommandView) (c : CommandView) → old ≡ c ∷ rest → All (λ c. HoldsSegment image c.place) old → All (λ c. HoldsSegment image c.place) rest
+rest_segments image old rest c is hold = All-tail (λ v. HoldsSegment image v.place) c rest (subst (All (λ v. HoldsSegment image v.place)) is hold)
+
+-- Sections
+
+sections_from_by : (image : List ℕ) (start place a n : ℕ) → place ≡ start + 80 * a → sections_from image place n ≡ map (structure_at image) (map (λ k. start + 80 * k) (range_with_len a n))
+sections_from_by image start place a zero is = refl
+sections_from_by image start place a (suc n) is =
+    ap₂ (λ p rest. structure_at image p ∷ rest) is (sections_from_by image start (place + 80) (a + 1) n (omega arith))
+
+pub sections_seen : (image : List ℕ) (segment : ℕ) → sections_from image (segment + 72) (nsects image segment) ≡ map (structure_at image) (sections_in image segment)
+sections_seen image segment = sections_from_by image (segment + 72) (segment + 72) 0 (nsects image segment) (omega arith)
+
+-- The number of sections
+
+-- the sections of the segments among the commands
+abbrev pub counted : List ℕ → List CommandView → ℕ
+counted image commands =
+    sum_by (λ c. nsects image c.place) (left_of_kind loader.LC_SEGMENT_64 commands)
+
+pub counted_more : (image : List ℕ) (old rest : List CommandView) (c : CommandView) → old ≡ c ∷ rest → sum_by (λ c. nsects image c.place) old ≡ nsects image c.place + sum_by (λ c. nsects image c.place) rest
+counted_more image old rest c is =
+    ap (sum_by (λ v. nsects image v.place)) is ∙ sum_by-cons (λ v. nsects image v.place) c rest
+
+sum_of_places : (f : ℕ → ℕ) (image xs : List ℕ) → sum_by (λ c. f c.place) (map (command_at image) xs) ≡ sum_by f xs
+sum_of_places f image [] = refl
+sum_of_places f image (x ∷ xs) =
+    sum_by-cons (λ c. f c.place) (command_at image x) (map (command_at image) xs) ∙ (ap (λ n. f x + n) (sum_of_places f image xs) ∙ sym (sum_by-cons f x xs))
+
+pub all_counted : (image : List ℕ) (all : List CommandView) → AreAll image all → OfCommands image (λ commands. counted image all ≡ section_count image commands)
+all_counted image all (commands, are, is) =
+    let kept : left_of_kind loader.LC_SEGMENT_64 all ≡ map (command_at image) (segments_of image commands) = ap (left_of_kind loader.LC_SEGMENT_64) is ∙ left_of_kind-map image loader.LC_SEGMENT_64 commands in
+    (commands, are, ap (sum_by (λ c. nsects image c.place)) kept ∙ sum_of_places (nsects image) image (segments_of image commands))
+
+-- the sections of a command, where it is a segment, lie in it
+abbrev HoldsItsSections : List ℕ → ℕ → Type 0
+HoldsItsSections image command =
+    command_kind image command ≡ loader.LC_SEGMENT_64 → 80 * nsects image command ≤ command_size image command
+
+count_first : (image xs : List ℕ) (x : ℕ) (b : Bool) → sum_by (nsects image) (cond b (x ∷ xs) xs) ≡ cond b (nsects image x) 0 + sum_by (nsects image) xs
+count_first image xs x true = sum_by-cons (nsects image) x xs
+count_first image xs x false = omega arith
+
+in_command : (n size : ℕ) (b : Bool) → (b ≡ true → 80 * n ≤ size) → 80 * cond b n 0 ≤ size
+in_command n size true holds = holds refl
+in_command n size false holds = omega arith
+
+-- so all sections of a chain of commands fit into it
+count_in_chain : (image : List ℕ) (start : ℕ) (xs : List ℕ) (next : ℕ) → Follow image start xs next → start ≤ commands_end image → All (HoldsItsSections image) xs → start + 80 * section_count image xs ≤ commands_end image
+count_in_chain image start [] next chain within hold = omega arith
+count_in_chain image start (x ∷ xs) next (first, good, rest) within hold =
+    let is_segment : Bool = command_kind image x == loader.LC_SEGMENT_64 in
+    let n : ℕ = cond is_segment (nsects image x) 0 in
+    let size : ℕ = command_size image x in
+    let end : x + size ≤ commands_end image = good.inside in
+    let sum : section_count image (x ∷ xs) ≡ n + section_count image xs = count_first image (segments_of image xs) x is_segment in
+    let here : 80 * n ≤ size = in_command (nsects image x) size is_segment (λ h. hold 0 x (omega arith) (eqb-true (command_kind image x) loader.LC_SEGMENT_64 h)) in
+    let more : x + size + 80 * section_count image xs ≤ commands_end image = count_in_chain image (x + size) xs next rest end (All-tail (HoldsItsSections image) x xs hold) in omega arith
+
+pub count_fits : (image : List ℕ) (all : List CommandView) → IsOpened image → AreAll image all → 80 * counted image all ≤ length image
+count_fits image all is_opened (commands, are, is) =
+    let opened = opened_keeps image is_opened in
+    let (length_is, next, chain) = are in
+    let inside : commands_end image ≤ length image = opened.inside in
+    let same : counted image all ≡ section_count image commands = ap (λ vs. counted image vs) is ∙ (ap (sum_by (λ c. nsects image c.place)) (left_of_kind-map image loader.LC_SEGMENT_64 commands) ∙ sum_of_places (nsects image) image (segments_of image commands)) in
+    let fits : 32 + 80 * section_count image commands ≤ commands_end image = count_in_chain image 32 commands next chain (omega arith) (λ k d less is_segment. let holds = holds_sections image commands _ opened are (All-contains_itself commands k d less) is_segment in omega arith) in omega arith

@@ -1,0 +1,11 @@
+use Rattle.macho_fields.specs.Bytes.{bytes_of}
+use Rattle.macho_image.proofs.HeldSegments.{first_segment, rest_segments}
+use Rattle.macho_image.proofs.segment.SegmentsIterator.next.Goals as goal
+
+pub invariant_of-result : goal.invariant_of-result
+invariant_of-result c =
+    first_segment (bytes_of c.self.inside.image) _ _ _ c.in_ok-command.ensures c.self.invariant
+
+pub invariant_of-self-2 : goal.invariant_of-self-2
+invariant_of-self-2 c =
+    rest_segments (bytes_of c.self.inside.image) _ _ _ c.in_ok-command.ensures c.self.invariant

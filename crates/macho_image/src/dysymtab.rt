@@ -1,0 +1,145 @@
+//! The groups and tables of the dynamic symbols of an opened image. (`mach-o/loader.h`:
+//! `dysymtab_command`)
+
+ghost use Rattle.std.specs.Prelude.{◌≡◌, ◌+◌, ◌≤◌, length};
+ghost use Rattle.macho_fields.specs.Bytes.{bytes_of};
+ghost use Rattle.macho_fields.specs.Image.{word};
+ghost use Rattle.macho_image.specs.Command.{command_of};
+ghost use Rattle.macho_image.specs.Symbol.{dysymtab_in};
+
+use crate::command::{Command, word_at};
+use crate::image::Image;
+use macho_fields::Bytes;
+use macho_fields::header::loader::LC_DYSYMTAB;
+
+/// The three groups of the symbols, each a first index and a number, and the tables beside them.
+#[derive(Clone, Copy, Debug, PartialEq, Eq)]
+pub struct Dysymtab {
+    /// Where its command begins in the image.
+    pub place: u64,
+    /// The index of the first local symbol.
+    pub ilocalsym: u64,
+    /// How many local symbols there are.
+    pub nlocalsym: u64,
+    /// The index of the first defined external symbol.
+    pub iextdefsym: u64,
+    /// How many defined external symbols there are.
+    pub nextdefsym: u64,
+    /// The index of the first undefined symbol.
+    pub iundefsym: u64,
+    /// How many undefined symbols there are.
+    pub nundefsym: u64,
+    /// Where the table of contents begins in the image.
+    pub tocoff: u64,
+    /// How many entries the table of contents has.
+    pub ntoc: u64,
+    /// Where the table of modules begins in the image.
+    pub modtaboff: u64,
+    /// How many modules there are.
+    pub nmodtab: u64,
+    /// Where the table of referenced symbols begins in the image.
+    pub extrefsymoff: u64,
+    /// How many referenced symbols there are.
+    pub nextrefsyms: u64,
+    /// Where the indirect entries begin in the image.
+    pub indirectsymoff: u64,
+    /// How many indirect entries there are.
+    pub nindirectsyms: u64,
+    /// Where the external relocations begin in the image.
+    pub extreloff: u64,
+    /// How many external relocations there are.
+    pub nextrel: u64,
+    /// Where the local relocations begin in the image.
+    pub locreloff: u64,
+    /// How many local relocations there are.
+    pub nlocrel: u64,
+}
+
+impl<'a> Image<'a> {
+    ghost use Rattle.std.specs.Prelude.{◌≡◌};
+    ghost use Rattle.std.specs.Option.{option_map};
+    ghost use Rattle.macho_image.specs.Command.{OfCommands, first_of_kind};
+    ghost use Rattle.macho_image.specs.Symbol.{dysymtab_at};
+
+    /// The dynamic symbols, or `None` where the image has no `LC_DYSYMTAB`.
+    pub fn dysymtab(&self) -> Option<Dysymtab>
+        ensures { OfCommands self.now (λ commands.
+            result ≡ option_map (dysymtab_at self.now) (first_of_kind self.now LC_DYSYMTAB commands)) }
+    {
+        let command = self.commands().next_of_kind(LC_DYSYMTAB)?;
+        Some(dysymtab_from(command))
+    }
+}
+
+// Where the fields stand in the command.
+const ILOCALSYM: u64 = 8;
+
+const NLOCALSYM: u64 = 12;
+
+const IEXTDEFSYM: u64 = 16;
+
+const NEXTDEFSYM: u64 = 20;
+
+const IUNDEFSYM: u64 = 24;
+
+const NUNDEFSYM: u64 = 28;
+
+const TOCOFF: u64 = 32;
+
+const NTOC: u64 = 36;
+
+const MODTABOFF: u64 = 40;
+
+const NMODTAB: u64 = 44;
+
+const EXTREFSYMOFF: u64 = 48;
+
+const NEXTREFSYMS: u64 = 52;
+
+const INDIRECTSYMOFF: u64 = 56;
+
+const NINDIRECTSYMS: u64 = 60;
+
+const EXTRELOFF: u64 = 64;
+
+const NEXTREL: u64 = 68;
+
+const LOCRELOFF: u64 = 72;
+
+const NLOCREL: u64 = 76;
+
+fn dysymtab_from(command: Command) -> Dysymtab
+    requires { 80 ≤ length command.bytes.now }
+    ensures { result ≡ dysymtab_in (command_of command.entry) }
+{
+    let bytes = Bytes::new(command.bytes);
+    Dysymtab {
+        place: command.place,
+        ilocalsym: field_at(bytes, ILOCALSYM),
+        nlocalsym: field_at(bytes, NLOCALSYM),
+        iextdefsym: field_at(bytes, IEXTDEFSYM),
+        nextdefsym: field_at(bytes, NEXTDEFSYM),
+        iundefsym: field_at(bytes, IUNDEFSYM),
+        nundefsym: field_at(bytes, NUNDEFSYM),
+        tocoff: field_at(bytes, TOCOFF),
+        ntoc: field_at(bytes, NTOC),
+        modtaboff: field_at(bytes, MODTABOFF),
+        nmodtab: field_at(bytes, NMODTAB),
+        extrefsymoff: field_at(bytes, EXTREFSYMOFF),
+        nextrefsyms: field_at(bytes, NEXTREFSYMS),
+        indirectsymoff: field_at(bytes, INDIRECTSYMOFF),
+        nindirectsyms: field_at(bytes, NINDIRECTSYMS),
+        extreloff: field_at(bytes, EXTRELOFF),
+        nextrel: field_at(bytes, NEXTREL),
+        locreloff: field_at(bytes, LOCRELOFF),
+        nlocrel: field_at(bytes, NLOCREL),
+    }
+}
+
+/// The field of 32 bits at `place`, as a number of 64 bits.
+fn field_at(bytes: Bytes, place: u64) -> u64
+    requires { place + 4 ≤ length (bytes_of bytes) }
+    ensures { result ≡ word (bytes_of bytes.entry) place }
+{
+    u64::from(word_at(bytes, place))
+}

@@ -1,0 +1,94 @@
+//! The indirect entries of an opened image. (`mach-o/loader.h`: `dysymtab_command`)
+
+use crate::command::word_at;
+use crate::image::Image;
+use crate::table::is_inside;
+use macho_fields::Bytes;
+use std::marker::Model;
+
+/// The size in bytes of an indirect entry.
+const ENTRY_SIZE: u64 = 4;
+
+/// An indirect entry.
+#[derive(Clone, Copy, Debug, PartialEq, Eq)]
+pub struct Indirect {
+    /// Where it begins in the image.
+    pub place: u64,
+    /// The index of a symbol, or marks that say that the symbol is local or absolute.
+    pub value: u32,
+}
+
+/// The indirect entries of an image that are left, in the order of the table.
+#[derive(Drop)]
+pub struct Indirects<'a> {
+    image: Bytes<'a>,
+    place: u64,
+    left: u64,
+}
+
+impl<'a> Model for Indirects<'a> {
+    ghost use Rattle.std.specs.Prelude.{◌+◌, ◌*◌, ◌≤◌, List, length};
+    ghost use Rattle.macho_fields.specs.Bytes.{bytes_of};
+    ghost use Rattle.macho_image.specs.declared.indirect.Indirect.{Indirect};
+    ghost use Rattle.macho_image.specs.declared.indirect.TheConstants.{ENTRY_SIZE};
+    ghost use Rattle.macho_image.specs.Symbol.{indirects_from};
+
+    ghost Value = { List Indirect };
+
+    ghost view = { λ entries. indirects_from (bytes_of entries.image) entries.place entries.left };
+
+    ghost invariant = { λ entries.
+        entries.place + ENTRY_SIZE * entries.left ≤ length (bytes_of entries.image) };
+}
+
+impl<'a> Iterator for Indirects<'a> {
+    ghost use Rattle.std.specs.Iterator.{YieldsFirst, item_count};
+
+    type Item = Indirect;
+
+    ghost next_gives = { YieldsFirst (λ left. left) };
+
+    ghost remaining = { item_count (λ left. left) };
+
+    fn next(&mut self) -> Option<Indirect> {
+        if self.left == 0 {
+            return None;
+        }
+        let entry = Indirect {
+            place: self.place,
+            value: word_at(self.image, self.place),
+        };
+        self.place += ENTRY_SIZE;
+        self.left -= 1;
+        Some(entry)
+    }
+}
+
+impl<'a> Image<'a> {
+    ghost use Rattle.std.specs.Prelude.{◌≡◌, map};
+    ghost use Rattle.macho_image.specs.Command.{OfCommands};
+    ghost use Rattle.macho_image.specs.Symbol.{indirects_of, indirect_at};
+
+    /// The indirect entries, in the order of the table: all of them where the table lies inside
+    /// the image, and none where it does not, or where the image has no `LC_DYSYMTAB`.
+    pub fn indirects(&self) -> Indirects<'a>
+        ensures { OfCommands self.now (λ commands.
+            result ≡ map (indirect_at self.now) (indirects_of self.now commands)) }
+    {
+        let image = self.bytes();
+        match self.dysymtab() {
+            Some(table)
+                if is_inside(image, table.indirectsymoff, table.nindirectsyms, ENTRY_SIZE) =>
+                Indirects {
+                    image,
+                    place: table.indirectsymoff,
+                    left: table.nindirectsyms,
+                },
+            _ => Indirects {
+                image,
+                place: 0,
+                left: 0,
+            },
+        }
+    }
+}

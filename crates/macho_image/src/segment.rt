@@ -1,0 +1,210 @@
+//! The segments of an opened image. (`mach-o/loader.h`: `segment_command_64`)
+
+ghost use Rattle.std.specs.Prelude.{◌≡◌, ◌+◌, ◌≤◌, length};
+ghost use Rattle.macho_fields.specs.Bytes.{bytes_of};
+ghost use Rattle.macho_image.specs.Segment.{short_name};
+
+use crate::command::{Commands, long_in, word_in};
+use crate::image::Image;
+use crate::section::Sections;
+use macho_fields::header::loader::{LC_SEGMENT_64, SEGMENT_COMMAND_64_SIZE};
+use macho_fields::{Bytes, Span};
+use std::marker::Model;
+
+/// A segment of an image.
+#[derive(Drop)]
+pub struct Segment<'a> {
+    image: Bytes<'a>,
+    place: u64,
+}
+
+impl<'a> Model for Segment<'a> {
+    ghost use Rattle.macho_fields.specs.Bytes.{bytes_of};
+    ghost use Rattle.macho_image.specs.Segment.{Structure, structure_at, HoldsSegment};
+
+    ghost Value = { Structure };
+
+    ghost view = { λ segment. structure_at (bytes_of segment.image) segment.place };
+
+    ghost invariant = { λ segment. HoldsSegment (bytes_of segment.image) segment.place };
+}
+
+impl<'a> Segment<'a> {
+    ghost use Rattle.std.specs.Prelude.{◌≡◌, map};
+    ghost use Rattle.macho_fields.specs.Segment.{vmaddr, vmsize, fileoff, filesize, initprot, nsects, sections_in};
+    ghost use Rattle.macho_image.specs.Segment.{structure_at, segment_name};
+
+    /// Where its command begins in the image.
+    pub fn place(&self) -> u64
+        ensures { result ≡ self.now.place }
+    {
+        self.place
+    }
+
+    /// Its name, which is not copied: 16 bytes, or those before the first zero byte of them.
+    pub fn name(&self) -> &'a [u8]
+        ensures { result.now ≡ segment_name self.now.image self.now.place }
+    {
+        short_name(self.image, self.place, SEGMENT_NAME)
+    }
+
+    /// The address at which it begins in memory.
+    pub fn vmaddr(&self) -> u64
+        ensures { result ≡ vmaddr self.now.image self.now.place }
+    {
+        long_in(self.image, self.place, VMADDR)
+    }
+
+    /// Its size in memory, in bytes. Where it is 0 the segment is not mapped.
+    pub fn vmsize(&self) -> u64
+        ensures { result ≡ vmsize self.now.image self.now.place }
+    {
+        long_in(self.image, self.place, VMSIZE)
+    }
+
+    /// Where its bytes begin in the image.
+    pub fn fileoff(&self) -> u64
+        ensures { result ≡ fileoff self.now.image self.now.place }
+    {
+        long_in(self.image, self.place, FILEOFF)
+    }
+
+    /// How many bytes of the image it has. The rest of its memory is zero.
+    pub fn filesize(&self) -> u64
+        ensures { result ≡ filesize self.now.image self.now.place }
+    {
+        long_in(self.image, self.place, FILESIZE)
+    }
+
+    /// What may be done with its memory at first: the `VM_PROT_` bits.
+    pub fn initprot(&self) -> u64
+        ensures { result ≡ initprot self.now.image self.now.place }
+    {
+        u64::from(word_in(self.image, self.place, INITPROT))
+    }
+
+    /// How many sections it has.
+    pub fn nsects(&self) -> u64
+        ensures { result ≡ nsects self.now.image self.now.place }
+    {
+        u64::from(word_in(self.image, self.place, NSECTS))
+    }
+
+    /// Its sections, in order.
+    pub fn sections(&self) -> Sections<'a>
+        ensures { result ≡ map (structure_at self.now.image)
+            (sections_in self.now.image self.now.place) }
+    {
+        Sections {
+            image: self.image,
+            place: self.place + SEGMENT_COMMAND_64_SIZE,
+            left: self.nsects(),
+        }
+    }
+}
+
+/// The segments of an image that are left, in the order of the commands.
+#[derive(Drop)]
+pub struct Segments<'a> {
+    image: Bytes<'a>,
+    commands: Commands<'a>,
+}
+
+impl<'a> Model for Segments<'a> {
+    ghost use Rattle.std.specs.Prelude.{List};
+    ghost use Rattle.macho_fields.specs.Bytes.{bytes_of};
+    ghost use Rattle.macho_image.specs.Segment.{Structure, segments_left, HoldSegments};
+
+    ghost Value = { List Structure };
+
+    ghost view = { λ segments. segments_left (bytes_of segments.image) segments.commands };
+
+    ghost invariant = { λ segments. HoldSegments (bytes_of segments.image) segments.commands };
+}
+
+impl<'a> Iterator for Segments<'a> {
+    ghost use Rattle.std.specs.Iterator.{YieldsFirst, item_count};
+
+    type Item = Segment<'a>;
+
+    ghost next_gives = { YieldsFirst (λ left. left) };
+
+    ghost remaining = { item_count (λ left. left) };
+
+    fn next(&mut self) -> Option<Segment<'a>> {
+        let command = self.commands.next_of_kind(LC_SEGMENT_64)?;
+        Some(Segment {
+            image: self.image,
+            place: command.place,
+        })
+    }
+}
+
+impl<'a> Image<'a> {
+    ghost use Rattle.std.specs.Prelude.{◌≡◌, map};
+    ghost use Rattle.macho_fields.specs.Segment.{segments_of, section_count};
+    ghost use Rattle.macho_image.specs.Command.{OfCommands};
+    ghost use Rattle.macho_image.specs.Opened.{IsOpened};
+    ghost use Rattle.macho_image.specs.Segment.{structure_at};
+
+    /// The segments of the image, in the order of the commands.
+    pub fn segments(&self) -> Segments<'a>
+        ensures segments { OfCommands self.now (λ commands.
+            result ≡ map (structure_at self.now) (segments_of self.now commands)) }
+        ensures opened { IsOpened self.now }
+    {
+        Segments {
+            image: self.bytes(),
+            commands: self.commands(),
+        }
+    }
+
+    /// How many sections all segments of the image have.
+    pub fn section_count(&self) -> u64
+        ensures { OfCommands self.now (λ commands. result ≡ section_count self.now commands) }
+    {
+        let image = self.bytes();
+        let mut commands = self.commands();
+        let mut count = 0;
+        while let Some(command) = commands.next_of_kind(LC_SEGMENT_64) {
+            count += u64::from(word_in(image, command.place, NSECTS));
+        }
+        count
+    }
+}
+
+/// A name of 16 bytes, `offset` bytes behind the start of a structure: those before the first zero
+/// byte of them where there is one.
+pub(crate) fn short_name(image: Bytes, structure: u64, offset: u64) -> &[u8]
+    requires { structure + offset + SHORT_NAME_SIZE ≤ length (bytes_of image) }
+    ensures { result.now ≡ short_name (bytes_of image.entry) (structure + offset) }
+{
+    let start = structure + offset;
+    let whole = Span {
+        start,
+        len: SHORT_NAME_SIZE,
+    };
+    let len = match image.first_zero(whole) {
+        Some(end) => end - start,
+        None => SHORT_NAME_SIZE,
+    };
+    image.part(Span { start, len }).unwrap()
+}
+
+/// The size in bytes of the name of a segment or a section.
+const SHORT_NAME_SIZE: u64 = 16;
+
+// Where the fields stand in the command.
+const SEGMENT_NAME: u64 = 8;
+
+const VMADDR: u64 = 24;
+
+const VMSIZE: u64 = 32;
+
+const FILEOFF: u64 = 40;
+
+const FILESIZE: u64 = 48;
+
+const INITPROT: u64 = 60;
+
+const NSECTS: u64 = 64;

@@ -1,0 +1,123 @@
+//! The symbols of an opened image. (`mach-o/nlist.h`: `nlist_64`)
+
+ghost use Rattle.std.specs.Prelude.{◌≡◌, ◌+◌, ◌≤◌, length};
+ghost use Rattle.macho_fields.specs.Bytes.{bytes_of};
+ghost use Rattle.macho_image.specs.Symbol.{symbol_at};
+
+use crate::command::{long_at, word_at};
+use crate::image::Image;
+use crate::table::is_inside;
+use macho_fields::header::nlist::NLIST_64_SIZE;
+use macho_fields::{Bytes, Order};
+use std::marker::Model;
+
+/// A symbol.
+#[derive(Clone, Copy, Debug, PartialEq, Eq)]
+pub struct Symbol {
+    /// Where it begins in the image.
+    pub place: u64,
+    /// Where its name begins in the strings, or 0 where it has none.
+    pub strx: u32,
+    /// What it is: the bits of `N_STAB`, of `N_TYPE` and others.
+    pub kind: u8,
+    /// The number of the section that it is defined in, from 1 on, where it is in one.
+    pub sect: u8,
+    /// What else is said of it.
+    pub desc: u16,
+    /// Its value: where it is defined in a section, its address.
+    pub value: u64,
+}
+
+/// The symbols of an image that are left, in the order of the table.
+#[derive(Drop)]
+pub struct Symbols<'a> {
+    image: Bytes<'a>,
+    place: u64,
+    left: u64,
+}
+
+impl<'a> Model for Symbols<'a> {
+    ghost use Rattle.std.specs.Prelude.{◌+◌, ◌*◌, ◌≤◌, List, length};
+    ghost use Rattle.macho_fields.specs.Bytes.{bytes_of};
+    ghost use Rattle.macho_fields.specs.declared.header.nlist.TheConstants.{NLIST_64_SIZE};
+    ghost use Rattle.macho_image.specs.declared.symbol.Symbol.{Symbol};
+    ghost use Rattle.macho_image.specs.Symbol.{symbols_from};
+
+    ghost Value = { List Symbol };
+
+    ghost view = { λ symbols. symbols_from (bytes_of symbols.image) symbols.place symbols.left };
+
+    ghost invariant = { λ symbols.
+        symbols.place + NLIST_64_SIZE * symbols.left ≤ length (bytes_of symbols.image) };
+}
+
+impl<'a> Iterator for Symbols<'a> {
+    ghost use Rattle.std.specs.Iterator.{YieldsFirst, item_count};
+
+    type Item = Symbol;
+
+    ghost next_gives = { YieldsFirst (λ left. left) };
+
+    ghost remaining = { item_count (λ left. left) };
+
+    fn next(&mut self) -> Option<Symbol> {
+        if self.left == 0 {
+            return None;
+        }
+        let symbol = symbol_from(self.image, self.place);
+        self.place += NLIST_64_SIZE;
+        self.left -= 1;
+        Some(symbol)
+    }
+}
+
+impl<'a> Image<'a> {
+    ghost use Rattle.std.specs.Prelude.{◌≡◌, map};
+    ghost use Rattle.macho_image.specs.Command.{OfCommands};
+    ghost use Rattle.macho_image.specs.Symbol.{symbols_of, symbol_at};
+
+    /// The symbols, in the order of the table: all of them where the table lies inside the image,
+    /// and none where it does not, or where the image has no `LC_SYMTAB`.
+    pub fn symbols(&self) -> Symbols<'a>
+        ensures { OfCommands self.now (λ commands.
+            result ≡ map (symbol_at self.now) (symbols_of self.now commands)) }
+    {
+        let image = self.bytes();
+        match self.symtab() {
+            Some(table) if is_inside(image, table.symoff, table.nsyms, NLIST_64_SIZE) => Symbols {
+                image,
+                place: table.symoff,
+                left: table.nsyms,
+            },
+            _ => Symbols {
+                image,
+                place: 0,
+                left: 0,
+            },
+        }
+    }
+}
+
+// Where the fields stand in `nlist_64`.
+const N_TYPE: u64 = 4;
+
+const N_SECT: u64 = 5;
+
+const N_DESC: u64 = 6;
+
+const N_VALUE: u64 = 8;
+
+/// The symbol at `place`.
+fn symbol_from(image: Bytes, place: u64) -> Symbol
+    requires { place + NLIST_64_SIZE ≤ length (bytes_of image) }
+    ensures { result ≡ symbol_at (bytes_of image.entry) place }
+{
+    Symbol {
+        place,
+        strx: word_at(image, place),
+        kind: image.u8_at(place + N_TYPE).unwrap(),
+        sect: image.u8_at(place + N_SECT).unwrap(),
+        desc: image.u16_at(Order::Little, place + N_DESC).unwrap(),
+        value: long_at(image, place + N_VALUE),
+    }
+}

@@ -1,0 +1,15 @@
+pub mod Left
+pub mod SegmentRules
+pub mod SegmentTests
+pub mod SectionRules
+pub mod SectionTests
+pub mod OneCommand
+pub mod Searches
+pub mod TableRules
+pub mod TableRange
+pub mod GroupRule
+pub mod SymbolRules
+pub mod Going
+pub mod EntryRule
+pub mod Checked
+pub mod Verdicts

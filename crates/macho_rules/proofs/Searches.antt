@@ -1,0 +1,123 @@
+-- A search for the first item that breaks a rule, over items whose places do not fall.
+use Rattle.std.proofs.Common.{◌≡◌, ℕ, suc, zero, ◌+◌, ◌≤◌, ◌<◌, ◌⊎◌, List, [], ◌∷◌, map, Contains, refl, sym, subst, arith, inl, inr, le_refl}
+use Rattle.std.specs.Prelude.{⊤}
+use Rattle.std.specs.List.{range_with_len}
+use Rattle.std.proofs.lemmas.Bool.{cases_eq}
+use Rattle.macho_fields.specs.declared.rule.Rule.{Rule}
+
+pub has_nothing : {X : Type 0} (x : X) → ¬ Contains [] x
+has_nothing x (k, less, at) = absurd (omega arith)
+
+pub has_first : {X : Type 0} (x : X) (xs : List X) → Contains (x ∷ xs) x
+has_first x xs = (0, omega arith, refl)
+
+pub has_later : {X : Type 0} (x y : X) (xs : List X) → Contains xs y → Contains (x ∷ xs) y
+has_later x y xs (k, less, at) = (suc k, omega arith, at)
+
+pub first_or_later : {X : Type 0} (x y : X) (xs : List X) → Contains (x ∷ xs) y → (x ≡ y) ⊎ Contains xs y
+first_or_later x y xs (zero, less, at) = inl at
+first_or_later x y xs (suc k, less, at) = inr (k, omega arith, at)
+
+-- the place of each item is not below that of an earlier one
+abbrev pub Rising : {X : Type 0} → (X → ℕ) → List X → Type 0
+Rising place [] = ⊤
+Rising {X = X} place (x ∷ xs) = ((y : X) → Contains xs y → place x ≤ place y) × Rising place xs
+
+-- Of all items these are left, and none that was passed has P.
+pub record Searching {X : Type 0} (place : X → ℕ) (P : X → Type 0) (all left : List X) : Type 0 where
+  pub rising : Rising place left
+  pub among : (x : X) → Contains left x → Contains all x
+  pub ahead : (x : X) → Contains all x → P x → Contains left x
+
+pub search_all : {X : Type 0} (place : X → ℕ) (P : X → Type 0) (all : List X) → Rising place all → Searching place P all all
+search_all place P all rising = record { rising = rising; among = λ x has. has; ahead = λ x has is. has }
+
+pub search_next : {X : Type 0} (place : X → ℕ) (P : X → Type 0) (all left rest : List X) (x : X) → left ≡ x ∷ rest → Searching place P all left → ¬ P x → Searching place P all rest
+search_next {X = X} place P all left rest x is search passed =
+    let rising : Rising place (x ∷ rest) = subst (Rising place) is search.rising in record {
+      rising = rising.1;
+      among = λ y has. search.among y (subst (λ ys. Contains ys y) (sym is) (has_later x y rest has));
+      ahead = λ y has broken. later y broken (first_or_later x y rest (subst (λ ys. Contains ys y) is (search.ahead y has broken)));
+    }
+  where
+    later : (y : X) → P y → (x ≡ y) ⊎ Contains rest y → Contains rest y
+    later y broken (inl same) = absurd (passed (subst P (sym same) broken))
+    later y broken (inr has) = has
+
+-- a place breaks a rule where an item with P has it
+pub record Told {X : Type 0} (breaks : ℕ → Type 0) (place : X → ℕ) (P : X → Type 0) (all : List X) : Type 0 where
+  pub broken : (x : X) → Contains all x → P x → breaks (place x)
+  pub only : (p : ℕ) → breaks p → (x : X) × Contains all x × P x × (place x ≡ p)
+
+-- the first item with P has the least place
+pub search_found : {X : Type 0} (breaks : ℕ → Type 0) (r : Rule) (place : X → ℕ) (P : X → Type 0) (all left rest : List X) (x : X) → left ≡ x ∷ rest → Told breaks place P all → Searching place P all left → P x → (r ≡ r) × breaks (place x) × ((p : ℕ) → breaks p → place x ≤ p)
+search_found {X = X} breaks r place P all left rest x is told search here =
+    (refl, told.broken x (search.among x (subst (λ ys. Contains ys x) (sym is) (has_first x rest))) here, λ p broken. least p (told.only p broken))
+  where
+    not_before : (y : X) → (x ≡ y) ⊎ Contains rest y → place x ≤ place y
+    not_before y (inl same) = subst (λ z. place x ≤ place z) same (le_refl (place x))
+    not_before y (inr has) = (subst (Rising place) is search.rising).0 y has
+
+    least : (p : ℕ) → (y : X) × Contains all y × P y × (place y ≡ p) → place x ≤ p
+    least p (y, has, broken, at) = subst (λ q. place x ≤ q) at (not_before y (first_or_later x y rest (subst (λ ys. Contains ys y) is (search.ahead y has broken))))
+
+-- where all were passed, the rule is unbroken
+pub search_ended : {X : Type 0} (breaks : ℕ → Type 0) (place : X → ℕ) (P : X → Type 0) (all left : List X) → left ≡ [] → Told breaks place P all → Searching place P all left → (p : ℕ) → ¬ breaks p
+search_ended {X = X} breaks place P all left is told search p broken = none (told.only p broken)
+  where
+    none : (y : X) × Contains all y × P y × (place y ≡ p) → ⊥
+    none (y, has, at, same) = has_nothing y (subst (λ ys. Contains ys y) is (search.ahead y has at))
+
+-- Items of a table, one for each number of a range
+
+pub has_number : {X : Type 0} (f : ℕ → X) (a n : ℕ) (y : X) → Contains (map f (range_with_len a n)) y → (k : ℕ) × (a ≤ k) × (k < a + n) × (f k ≡ y)
+has_number f a zero y has = absurd (has_nothing y has)
+has_number {X = X} f a (suc n) y has = elim (first_or_later (f a) y (map f (range_with_len (a + 1) n)) has) [ inl same ↦ (a, omega arith, omega arith, same) | inr later ↦ one_on (has_number f (a + 1) n y later) ]
+  where
+    one_on : (k : ℕ) × (a + 1 ≤ k) × (k < a + 1 + n) × (f k ≡ y) → (k : ℕ) × (a ≤ k) × (k < a + suc n) × (f k ≡ y)
+    one_on (k, low, high, at) = (k, omega arith, omega arith, at)
+
+pub number_has : {X : Type 0} (f : ℕ → X) (a n k : ℕ) → a ≤ k → k < a + n → Contains (map f (range_with_len a n)) (f k)
+number_has f a zero k low high = absurd (omega arith)
+number_has f a (suc n) k low high = elim (cases_eq a k) [ inl same ↦ subst (λ j. Contains (f a ∷ map f (range_with_len (a + 1) n)) (f j)) same (has_first (f a) (map f (range_with_len (a + 1) n))) | inr other ↦ has_later (f a) (f k) (map f (range_with_len (a + 1) n)) (number_has f (a + 1) n k (omega arith) (omega arith)) ]
+
+-- the numbers of a range, each taken to a place by f, do not fall where f does not
+pub numbers_rise : (f : ℕ → ℕ) → ((i k : ℕ) → i ≤ k → f i ≤ f k) → (a n : ℕ) → Rising (λ p. p) (map f (range_with_len a n))
+numbers_rise f up a zero = tt
+numbers_rise f up a (suc n) = (λ y has. above y (has_number f (a + 1) n y has), numbers_rise f up (a + 1) n)
+  where
+    above : (y : ℕ) → (k : ℕ) × (a + 1 ≤ k) × (k < a + 1 + n) × (f k ≡ y) → f a ≤ y
+    above y (k, low, high, at) = subst (λ z. f a ≤ z) at (up a k (omega arith))
+
+-- Items that are read at places
+
+pub has_mapped : {A X : Type 0} (at : A → X) (ps : List A) (p : A) → Contains ps p → Contains (map at ps) (at p)
+has_mapped at [] p has = absurd (has_nothing p has)
+has_mapped at (q ∷ ps) p has = elim (first_or_later q p ps has) [ inl same ↦ subst (λ r. Contains (at q ∷ map at ps) (at r)) same (has_first (at q) (map at ps)) | inr later ↦ has_later (at q) (at p) (map at ps) (has_mapped at ps p later) ]
+
+pub mapped_has : {A X : Type 0} (at : A → X) (ps : List A) (x : X) → Contains (map at ps) x → (p : A) × Contains ps p × (at p ≡ x)
+mapped_has at [] x has = absurd (has_nothing x has)
+mapped_has {A = A} {X = X} at (q ∷ ps) x has = elim (first_or_later (at q) x (map at ps) has) [ inl same ↦ (q, has_first q ps, same) | inr later ↦ one_on (mapped_has at ps x later) ]
+  where
+    one_on : (p : A) × Contains ps p × (at p ≡ x) → (p : A) × Contains (q ∷ ps) p × (at p ≡ x)
+    one_on (p, has_p, is) = (p, has_later q p ps has_p, is)
+
+pub items_rise : {X : Type 0} (place : X → ℕ) (at : ℕ → X) → ((p : ℕ) → place (at p) ≡ p) → (ps : List ℕ) → Rising (λ p. p) ps → Rising place (map at ps)
+items_rise place at same [] rising = tt
+items_rise {X = X} place at same (q ∷ ps) (first, rest) = (λ y has. above y (mapped_has at ps y has), items_rise place at same ps rest)
+  where
+    above : (y : X) → (p : ℕ) × Contains ps p × (at p ≡ y) → place (at q) ≤ place y
+    above y (p, has, is) =
+        let low : q ≤ p = first p has in
+        let here : place (at q) ≡ q = same q in
+        let there : place y ≡ p = subst (λ z. place z ≡ p) is (same p) in omega arith
+
+-- a rule that is broken at those places at which an item has P
+pub told_at : {X : Type 0} (breaks : ℕ → Type 0) (place : X → ℕ) (P : X → Type 0) (at : ℕ → X) → ((p : ℕ) → place (at p) ≡ p) → (ps : List ℕ) → ((p : ℕ) → Contains ps p → P (at p) → breaks p) → ((p : ℕ) → breaks p → Contains ps p × P (at p)) → Told breaks place P (map at ps)
+told_at {X = X} breaks place P at same ps to from = record {
+  broken = λ x has here. here_too x here (mapped_has at ps x has);
+  only = λ p broken. (at p, has_mapped at ps p (from p broken).0, (from p broken).1, same p);
+}
+  where
+    here_too : (x : X) → P x → (p : ℕ) × Contains ps p × (at p ≡ x) → breaks (place x)
+    here_too x here (p, has, is) = subst (λ z. breaks (place z)) is (subst breaks (sym (same p)) (to p has (subst P (sym is) here)))

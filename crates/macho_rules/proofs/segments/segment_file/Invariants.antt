@@ -1,0 +1,7 @@
+use Rattle.macho_rules.proofs.SegmentRules.{SegmentsLeft}
+use Rattle.macho_rules.proofs.SegmentTests.{File}
+use Rattle.macho_rules.proofs.segments.segment_file.Given as goal
+
+-- each segment that breaks the rule is left
+abbrev pub invariant-loop-segment : goal.invariant-loop-segment
+invariant-loop-segment l = SegmentsLeft File l.image l.segment-iterator

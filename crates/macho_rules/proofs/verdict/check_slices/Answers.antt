@@ -1,0 +1,46 @@
+use Rattle.std.proofs.Common.{◌≡◌, suc, length, arith}
+use Rattle.std.proofs.lemmas.Bool.{both_ways}
+use Rattle.std.proofs.lemmas.Result.{err_from_is_err_and}
+use Rattle.macho_fields.specs.Bytes.{bytes_of}
+use Rattle.macho_fields.specs.Universal.{slices_of}
+use Rattle.macho_fields.proofs.Scopes.{KeptScopes, file_kept, image_kept, other_kept, all_kept}
+use Rattle.macho_fields.proofs.Sound.{slice_inside}
+use Rattle.macho_rules.specs.Verdict.{IsFirstRefusal}
+use Rattle.macho_rules.proofs.Verdicts.{no_slice, slice_at, slice_refused, answered, slices_counted}
+use Rattle.macho_rules.proofs.verdict.check_slices.Goals as goal
+use Rattle.macho_rules.proofs.verdict.check_slices.Goals.{then-slice+in_ok-check_slice, else-slice}
+
+pub loop-slice-init : goal.loop-slice-init
+loop-slice-init c = file_kept (bytes_of c.args.file) c.requires.file_rules
+
+pub check_slice-requires : goal.check_slice-requires
+check_slice-requires c =
+    let file = bytes_of c.args.file in
+    let here = slice_at file c.args.slices.now c.requires.slices c.loop-slice.slice-index no_slice c.loop-slice-test.true in
+    slice_inside file c.requires.file_rules c.loop-slice.slice-index _ here
+
+pub returns-in_err-check_slice-clause-refused : goal.returns-in_err-check_slice-clause-refused
+returns-in_err-check_slice-clause-refused c =
+    let file = bytes_of c.args.file in
+    let here = slice_at file c.args.slices.now c.requires.slices c.loop-slice.slice-index no_slice c.loop-slice-test.true in
+    let image = (c.requires.slices.read c.loop-slice.slice-index no_slice c.loop-slice-test.true).0 c.if-slice.true in
+    let exit = err_from_is_err_and c.from_residual.result c.from_residual.ensures.1 in
+    answered (IsFirstRefusal file) c.from_residual.result exit.0 c.in_err-check_slice.field-0.0 exit.1 exit.2
+    (slice_refused file c.loop-slice.slice-index _ here c.loop-slice.invariant image c.in_err-check_slice.field-0.0 c.in_err-check_slice.ensures.refused)
+
+pub loop-slice-preserved : goal.loop-slice-preserved
+loop-slice-preserved c =
+    let file = bytes_of c.args.file in
+    let here = slice_at file c.args.slices.now c.requires.slices c.loop-slice.slice-index no_slice c.loop-slice-test.true in
+    let read = c.requires.slices.read c.loop-slice.slice-index no_slice c.loop-slice-test.true in
+    let kept : KeptScopes file (suc c.loop-slice.slice-index) = elim c.if-slice.branch [
+      | then-slice+in_ok-check_slice w ↦ image_kept file c.loop-slice.slice-index _ here c.loop-slice.invariant w.in_ok-check_slice.ensures.unbroken
+      | else-slice w ↦ other_kept file c.loop-slice.slice-index _ here c.loop-slice.invariant (λ image. both_ways _ w.if-slice.false (read.1 image))
+    ] in
+    λ scope r place most. kept scope r place (omega arith)
+
+pub returns-clause-accepted : goal.returns-clause-accepted
+returns-clause-accepted c =
+    let file = bytes_of c.args.file in
+    let counted : length c.args.slices.now ≡ length (slices_of file) = slices_counted file c.args.slices.now c.requires.slices in
+    all_kept file (λ scope r place most. c.loop-slice.invariant scope r place (omega (arith, counted)))

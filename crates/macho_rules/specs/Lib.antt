@@ -1,0 +1,4 @@
+pub mod Check
+pub mod TableFields
+pub mod Entry
+pub mod Verdict

@@ -1,0 +1,16 @@
+#![tactic(auto)]
+//! The verdict on a file: the rules of its images, one function a rule, and all rules in their
+//! order.
+
+mod check;
+mod entry;
+pub mod refusal;
+mod sections;
+mod segments;
+mod symbols;
+mod tables;
+pub mod verdict;
+
+pub use check::check_image;
+pub use refusal::Refusal;
+pub use verdict::{Verified, verify};

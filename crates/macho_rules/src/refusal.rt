@@ -1,0 +1,39 @@
+//! Why a file is not accepted.
+
+ghost use Rattle.std.specs.Prelude.{◌≡◌};
+ghost use Rattle.macho_rules.specs.Verdict.{refusal_of};
+ghost use Rattle.macho_rules.specs.declared.refusal.Refusal.TheVariants.{Broken};
+
+use macho_fat::FatFault;
+use macho_fields::Break;
+use thiserror::Error;
+
+/// Why a file is not accepted.
+#[derive(Clone, Copy, Debug, PartialEq, Eq, Error)]
+pub enum Refusal {
+    /// The first broken rule, with its place.
+    #[error("refused: {0}")]
+    Broken(Break),
+    /// There was no memory to decide the rules.
+    #[error("out of memory")]
+    Memory,
+}
+
+impl From<Break> for Refusal {
+    ghost from_gives = { λ broken refusal. refusal ≡ Broken broken };
+
+    fn from(broken: Break) -> Refusal {
+        Refusal::Broken(broken)
+    }
+}
+
+impl From<FatFault> for Refusal {
+    ghost from_gives = { λ fault refusal. refusal ≡ refusal_of fault };
+
+    fn from(fault: FatFault) -> Refusal {
+        match fault {
+            FatFault::Broken(broken) => Refusal::Broken(broken),
+            FatFault::Memory => Refusal::Memory,
+        }
+    }
+}

@@ -1,0 +1,125 @@
+//! The rules of the symbols of an image, and of its indirect entries. (`mach-o/nlist.h`:
+//! `nlist_64`)
+
+ghost use Rattle.std.specs.Prelude.{◌≡◌, ◌≢◌, ◌+◌, ◌≤◌, ◌<◌, ◌↔◌, ◌⊎◌, bit_and, length, IsTrue};
+ghost use Rattle.macho_fields.specs.Bytes.{bytes_of};
+ghost use Rattle.macho_fields.specs.Field.{HasZero};
+ghost use Rattle.macho_fields.specs.Symbol.{symbol_count, IsSymbolIndex};
+ghost use Rattle.macho_fields.specs.declared.rule.Rule.{Rule};
+ghost use Rattle.macho_rules.specs.Check.{DecidesImage, KeepsRule};
+ghost use Rattle.macho_image.specs.Command.{OfCommands};
+ghost use Rattle.macho_image.specs.Opened.{IsOpened};
+
+use macho_fields::header::loader::{INDIRECT_SYMBOL_ABS, INDIRECT_SYMBOL_LOCAL};
+use macho_fields::header::nlist::{N_SECT, N_STAB, N_TYPE};
+use macho_fields::{Break, Bytes, Rule, Span};
+use macho_image::{Image, Indirect, Symbol, Symtab};
+
+/// Each symbol that has a name has one that ends in the strings.
+pub(crate) fn symbol_name(image: &Image) -> Result<(), Break>
+    requires tables { KeepsRule image.now Rule.TableRange }
+    ensures { DecidesImage image.now Rule.SymbolName result }
+{
+    let bytes = image.bytes();
+    let Some(symtab) = image.symtab() else {
+        return Ok(());
+    };
+    for symbol in image.symbols() {
+        if has_endless_name(bytes, symtab, symbol) {
+            return Err(Break {
+                rule: Rule::SymbolName,
+                place: symbol.place,
+            });
+        }
+    }
+    Ok(())
+}
+
+/// Whether the symbol has a name, and no zero byte ends it in the strings.
+fn has_endless_name(image: Bytes, symtab: Symtab, symbol: Symbol) -> bool
+    requires inside { 0 < symtab.strsize
+        → symtab.stroff + symtab.strsize ≤ length (bytes_of image) }
+    ensures { IsTrue result ↔ (symbol.strx ≢ 0) × ¬ HasZero (bytes_of image.entry)
+        (symtab.stroff + symbol.strx) (symtab.stroff + symtab.strsize) }
+{
+    symbol.strx != 0 && !ends_in_strings(image, symtab, u64::from(symbol.strx))
+}
+
+/// Whether a zero byte stands from `strx` on in the strings.
+fn ends_in_strings(image: Bytes, symtab: Symtab, strx: u64) -> bool
+    requires inside { 0 < symtab.strsize
+        → symtab.stroff + symtab.strsize ≤ length (bytes_of image) }
+    ensures { IsTrue result ↔ HasZero (bytes_of image.entry)
+        (symtab.stroff + strx) (symtab.stroff + symtab.strsize) }
+{
+    if strx >= symtab.strsize {
+        return false;
+    }
+    let rest = Span {
+        start: symtab.stroff + strx,
+        len: symtab.strsize - strx,
+    };
+    image.first_zero(rest).is_some()
+}
+
+/// Each symbol that is defined in a section has the number of one.
+pub(crate) fn symbol_section(image: &Image) -> Result<(), Break>
+    requires opened { IsOpened image.now }
+    requires tables { KeepsRule image.now Rule.TableRange }
+    ensures { DecidesImage image.now Rule.SymbolSection result }
+{
+    let count = image.section_count();
+    for symbol in image.symbols() {
+        if is_in_no_section(symbol, count) {
+            return Err(Break {
+                rule: Rule::SymbolSection,
+                place: symbol.place,
+            });
+        }
+    }
+    Ok(())
+}
+
+/// Whether the symbol is defined in a section, and none of `count` sections has its number.
+fn is_in_no_section(symbol: Symbol, count: u64) -> bool
+    ensures { IsTrue result ↔ ((bit_and symbol.kind N_STAB ≡ 0)
+        × (bit_and symbol.kind N_TYPE ≡ N_SECT))
+        × ((symbol.sect ≡ 0) ⊎ (count < symbol.sect)) }
+{
+    let names_section = symbol.kind & N_STAB == 0 && symbol.kind & N_TYPE == N_SECT;
+    names_section && (symbol.sect == 0 || u64::from(symbol.sect) > count)
+}
+
+/// Each indirect entry that is the index of a symbol is that of one.
+pub(crate) fn indirect_index(image: &Image) -> Result<(), Break>
+    requires opened { IsOpened image.now }
+    requires tables { KeepsRule image.now Rule.TableRange }
+    ensures { DecidesImage image.now Rule.IndirectIndex result }
+{
+    let count = symbol_count(image);
+    for entry in image.indirects() {
+        if names_no_symbol(entry, count) {
+            return Err(Break {
+                rule: Rule::IndirectIndex,
+                place: entry.place,
+            });
+        }
+    }
+    Ok(())
+}
+
+/// Whether the entry is an index that no symbol has, where there are `count` symbols.
+fn names_no_symbol(entry: Indirect, count: u64) -> bool
+    ensures { IsTrue result ↔ IsSymbolIndex entry.value × (count ≤ entry.value) }
+{
+    entry.value & INDIRECT_SYMBOL_LOCAL == 0
+        && entry.value & INDIRECT_SYMBOL_ABS == 0
+        && u64::from(entry.value) >= count
+}
+
+/// How many symbols the image has: none where it has no symbol table.
+pub(crate) fn symbol_count(image: &Image) -> u64
+    ensures { OfCommands image.now (λ commands. result ≡ symbol_count image.now commands) }
+{
+    image.symtab().map_or(0, |symtab| symtab.nsyms)
+}

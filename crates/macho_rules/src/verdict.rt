@@ -1,0 +1,141 @@
+//! The verdict on a file.
+
+ghost use Rattle.std.specs.Prelude.{◌≡◌, ◌+◌, ◌≤◌, ◌↔◌, OnOk, IfOk, IfErr, IfSome, IsSome, IsSomeAnd, IsTrue, length};
+ghost use Rattle.macho_fields.specs.Bytes.{bytes_of};
+ghost use Rattle.macho_fields.specs.First.{IsUnbroken};
+ghost use Rattle.macho_fields.specs.Layers.{NothingBreaks};
+ghost use Rattle.macho_fields.specs.Loader.{IsSound};
+ghost use Rattle.macho_fields.specs.Rules.{BreaksFile, BreaksImage};
+ghost use Rattle.macho_fields.specs.Universal.{slice_bytes, IsImage};
+ghost use Rattle.macho_fat.specs.Slices.{slice_of, AreSlices};
+ghost use Rattle.macho_rules.specs.Verdict.{IsRefusal, IsFirstRefusal, IsSliceRefusal, IsBytesRefusal};
+
+use crate::check::check_image;
+use crate::refusal::Refusal;
+use macho_fat::Slice;
+use macho_fat::slices::slices;
+use macho_fields::{Break, Bytes};
+use macho_image::Image;
+use std::alloc::Global;
+use std::marker::Model;
+
+/// A file that breaks no rule, with its slices.
+#[derive(Drop)]
+pub struct Verified<'a> {
+    file: Bytes<'a>,
+    slices: Vec<Slice>,
+}
+
+impl<'a> Model for Verified<'a> {
+    ghost use Rattle.std.specs.Prelude.{List, ℕ};
+    ghost use Rattle.macho_fields.specs.Bytes.{bytes_of};
+    ghost use Rattle.macho_rules.specs.Verdict.{IsVerified};
+
+    ghost Value = { List ℕ };
+
+    ghost view = { λ verified. bytes_of verified.file };
+
+    ghost invariant = { λ verified. IsVerified (bytes_of verified.file) verified.slices.items };
+}
+
+/// Decides the rules of a file, in their order: accepts it, or tells the first broken one, with its
+/// place in the file.
+///
+/// The rules of the file itself come first; then its 64-bit slices, in the order of the table, each
+/// with all of its rules before the next. It takes memory for the list of slices alone.
+pub fn verify<'a>(alloc: Global, file: &'a [u8]) -> Result<Verified<'a>, Refusal>
+    // It accepts the file exactly where no rule is broken, unless there is no memory.
+    ensures accepted { OnOk result (IsUnbroken file.now) }
+    ensures refused { IfErr result (IsRefusal file.now) }
+
+    // What it accepts is sound.
+    ensures sound { OnOk result (IsSound file.now) }
+    ensures file { IfOk result (λ verified. verified ≡ file.now) }
+{
+    let file = Bytes::new(file);
+    let slices = slices(alloc, file)?;
+    check_slices(alloc, file, &slices)?;
+    Ok(Verified { file, slices })
+}
+
+/// Decides the rules of each 64-bit slice, one slice after the other.
+fn check_slices(alloc: Global, file: Bytes, slices: &[Slice]) -> Result<(), Refusal>
+    requires slices { AreSlices (bytes_of file) slices.now }
+    requires file_rules { NothingBreaks (BreaksFile (bytes_of file)) }
+    ensures accepted { OnOk result (IsUnbroken (bytes_of file.entry)) }
+    ensures refused { IfErr result (IsFirstRefusal (bytes_of file.entry)) }
+{
+    for slice in slices {
+        if slice.read {
+            check_slice(alloc, file, slice)?;
+        }
+    }
+    Ok(())
+}
+
+/// Decides the rules of one slice, and tells the place of a break in the file.
+fn check_slice(alloc: Global, file: Bytes, slice: &Slice) -> Result<(), Refusal>
+    requires { (slice_of slice.now).start + (slice_of slice.now).size ≤ length (bytes_of file) }
+    ensures unbroken { OnOk result (NothingBreaks
+        (BreaksImage (slice_bytes (bytes_of file.entry) (slice_of slice.now)) slice.now.arch)) }
+    ensures refused { IfErr result (IsSliceRefusal (bytes_of file.entry) (slice_of slice.now)) }
+{
+    let bytes = Bytes::new(file.part(slice.span).unwrap());
+    match check_bytes(alloc, bytes, slice.arch) {
+        Err(Refusal::Broken(broken)) => Err(Refusal::Broken(Break {
+            rule: broken.rule,
+            place: slice.span.start + broken.place,
+        })),
+        other => other,
+    }
+}
+
+/// Decides the rules of an image, which a universal file may name for an architecture.
+fn check_bytes(alloc: Global, bytes: Bytes, arch: Option<(u32, u32)>) -> Result<(), Refusal>
+    ensures unbroken { OnOk result (NothingBreaks (BreaksImage (bytes_of bytes.entry) arch)) }
+    ensures refused { IfErr result (IsBytesRefusal (bytes_of bytes.entry) arch) }
+{
+    let image = Image::open(bytes, arch)?;
+    check_image(alloc, &image)
+}
+
+impl<'a> Verified<'a> {
+    ghost use Rattle.std.specs.Prelude.{◌≡◌, ◌↔◌, length, slice_get, IsSome, IfSome, IsSomeAnd, IsTrue};
+    ghost use Rattle.std.specs.Option.{option_map};
+    ghost use Rattle.macho_fields.specs.Universal.{slices_of, slice_bytes, IsImage};
+    ghost use Rattle.macho_fat.specs.Slices.{slice_of};
+
+    /// How many slices the file has. A file that is not universal has one, which is all of it.
+    pub fn slice_count(&self) -> u64
+        ensures { result ≡ length (slices_of self.now) }
+    {
+        self.slices.len() as u64
+    }
+
+    /// The slice with this index, counted from 0 in the order of the table, or `None` behind the
+    /// last one.
+    pub fn slice(&self, index: u64) -> Option<&Slice>
+        ensures slice { option_map (λ slice. slice_of slice.now) result
+            ≡ slice_get (slices_of self.now) index }
+        ensures read { IfSome result (λ slice. IsTrue slice.now.read
+            ↔ IsImage (slice_bytes self.now (slice_of slice.now))) }
+    {
+        self.slices.get(index as usize)
+    }
+
+    /// The image in the slice with this index, or `None` where the slice is of another kind, or
+    /// there is none. It goes over the commands of the image once more.
+    pub fn image(&self, index: u64) -> Option<Image<'a>>
+        ensures is_image { IsSome result ↔ IsSomeAnd (slice_get (slices_of self.now) index)
+            (λ slice. IsImage (slice_bytes self.now slice)) }
+        ensures image { IfSome result (λ image. IsSomeAnd (slice_get (slices_of self.now) index)
+            (λ slice. image ≡ slice_bytes self.now slice)) }
+    {
+        let slice = self.slice(index)?;
+        if !slice.read {
+            return None;
+        }
+        let bytes = Bytes::new(self.file.part(slice.span).unwrap());
+        Image::open(bytes, slice.arch).ok()
+    }
+}
