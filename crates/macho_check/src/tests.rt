@@ -2,6 +2,7 @@
 
 mod entry;
 mod layers;
+mod mapping;
 mod segments;
 mod streams;
 mod symbols;

@@ -13,3 +13,5 @@ pub mod Going
 pub mod EntryRule
 pub mod Checked
 pub mod Verdicts
+pub mod MappingRule
+pub mod Addresses

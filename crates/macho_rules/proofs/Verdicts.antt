@@ -9,9 +9,10 @@ use Rattle.std.specs.Result.{result_ok}
 use Rattle.macho_fields.specs.Field.{part}
 use Rattle.macho_fields.specs.Universal.{FileSlice, slices_of, slice_bytes, IsImage}
 use Rattle.macho_fields.specs.First.{IsUnbroken}
-use Rattle.macho_fields.specs.Layers.{NothingBreaks, Decides, BreaksOpening}
+use Rattle.macho_fields.specs.Layers.{NothingBreaks, Decides, BreaksOpening, BreaksOpened}
 use Rattle.macho_fields.specs.declared.rule.Break.{Break}
 use Rattle.macho_fields.proofs.Images.{opened_first}
+use Rattle.macho_fields.proofs.Ranks.{image_alone}
 use Rattle.macho_fields.proofs.Scopes.{KeptScopes, of_slice, file_first, slice_first}
 use Rattle.macho_fields.proofs.Sound.{slice_inside}
 use Rattle.macho_fat.specs.Slices.{slice_of, AreSlices, IsFatFault}
@@ -96,6 +97,11 @@ pub verified_opens : {T : Type 0} (file : List ℕ) (slices : List Slice) → Is
 verified_opens file slices keeps k slice is image (Ok x) unbroken = refl
 verified_opens file slices keeps k slice is image (Err b) (broken, least) =
     absurd (verified_unbroken file slices keeps (record { scope = suc k; rule = b.rule; place = b.place }) (of_slice file k slice b.rule b.place (sym is) image broken.1))
+
+-- and keeps the rules of an opened image
+pub verified_keeps : (file : List ℕ) (slices : List Slice) → IsVerified file slices → (k : ℕ) (slice : FileSlice) → Some slice ≡ slice_get (slices_of file) k → IsImage (slice_bytes file slice) → NothingBreaks (BreaksOpened (slice_bytes file slice))
+verified_keeps file slices keeps k slice is image r place broken =
+    verified_unbroken file slices keeps (record { scope = suc k; rule = r; place = place }) (of_slice file k slice r place (sym is) image (image_alone (slice_bytes file slice) slice.arch r place broken.1))
 
 -- what a list gives at an index is the slice of the file
 pub slice_given : (file : List ℕ) (slices : List Slice) → AreSlices file slices → (k : ℕ) (got : Option (Bor Slice)) → is_some got ≡ nat_lt k (length slices) → IfSome got (λ s. s.now ≡ slice_index_or slices k s.now) → option_map (λ s. slice_of s.now) got ≡ slice_get (slices_of file) k

@@ -2,3 +2,4 @@ pub mod Check
 pub mod TableFields
 pub mod Entry
 pub mod Verdict
+pub mod Mapping

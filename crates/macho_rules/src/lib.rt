@@ -4,6 +4,7 @@
 
 mod check;
 mod entry;
+pub mod mapping;
 pub mod refusal;
 mod sections;
 mod segments;
@@ -12,5 +13,6 @@ mod tables;
 pub mod verdict;
 
 pub use check::check_image;
+pub use mapping::{Mapping, Source};
 pub use refusal::Refusal;
 pub use verdict::{Verified, verify};

@@ -102,6 +102,7 @@ fn check_bytes(alloc: Global, bytes: Bytes, arch: Option<(u32, u32)>) -> Result<
 impl<'a> Verified<'a> {
     ghost use Rattle.std.specs.Prelude.{◌≡◌, ◌↔◌, length, slice_get, IsSome, IfSome, IsSomeAnd, IsTrue};
     ghost use Rattle.std.specs.Option.{option_map};
+    ghost use Rattle.macho_fields.specs.Layers.{BreaksOpened, NothingBreaks};
     ghost use Rattle.macho_fields.specs.Universal.{slices_of, slice_bytes, IsImage};
     ghost use Rattle.macho_fat.specs.Slices.{slice_of};
 
@@ -130,6 +131,7 @@ impl<'a> Verified<'a> {
             (λ slice. IsImage (slice_bytes self.now slice)) }
         ensures image { IfSome result (λ image. IsSomeAnd (slice_get (slices_of self.now) index)
             (λ slice. image ≡ slice_bytes self.now slice)) }
+        ensures unbroken { IfSome result (λ image. NothingBreaks (BreaksOpened image)) }
     {
         let slice = self.slice(index)?;
         if !slice.read {
