@@ -69,7 +69,7 @@ pub enum Rule {
     SymbolSection,
     /// An indirect entry names no symbol of the table.
     IndirectIndex,
-    /// The program has no entry point in executable bytes of the file.
+    /// The entry point that `LC_MAIN` names is at no executable byte of the file.
     Entry,
 }
 

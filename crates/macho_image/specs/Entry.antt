@@ -11,9 +11,9 @@ shows_start image segment =
     fileoff image segment == 0 && nat_lt 0 (filesize image segment)
     && nat_lt 0 (vmsize image segment)
 
--- an address has 64 bits
+-- the number as an address, which has 64 bits, and none past the last one
 abbrev pub address : ℕ → Option ℕ
-address place = if nat_lt place (2 ^ 64) then Some place else None
+address number = if nat_lt number (2 ^ 64) then Some number else None
 
 -- the entry point of LC_MAIN, counted from the base
 abbrev pub entry_of : List ℕ → List ℕ → Option ℕ

@@ -55,7 +55,7 @@ source_from address s =
 abbrev pub source_in : List MappedView → ℕ → Option Source
 source_in segments address = option_map (source_from address) (find (supplies address) segments)
 
--- the bytes of a segment end before the last place of 64 bits
+-- the bytes of a segment end below 2^64
 abbrev pub FitsFile : MappedView → Type 0
 FitsFile s = 0 < s.filesize → s.fileoff + s.filesize < 2 ^ 64
 

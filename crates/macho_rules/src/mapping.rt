@@ -78,7 +78,7 @@ impl Mapping {
             OfCommands image.now (λ commands. mapping ≡ mapped_of image.now commands)) }
         ensures opened { OnOk result (IsOpened image.now) }
     {
-        // The bytes of each segment end inside the image, whose length is a number of 64 bits.
+        // Called for its contract: the length of the image, where each segment's bytes end, fits.
         let _ = image.bytes().len();
         let mut segments = Vec::new(alloc);
         for segment in image.segments() {
