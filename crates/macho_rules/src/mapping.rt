@@ -68,7 +68,8 @@ impl Mapping {
         let Some(image) = verified.image(index) else {
             return Ok(None);
         };
-        Ok(Some(Mapping::of_image(alloc, &image)?))
+        let mapping = Mapping::of_image(alloc, &image)?;
+        Ok(Some(mapping))
     }
 
     /// The mapping of an unbroken image.

@@ -7,6 +7,6 @@ use Rattle.macho_rules.proofs.mapping.Mapping.of.Goals as goal
 pub returns-clause-sources : goal.returns-clause-sources
 returns-clause-sources c =
     let file = c.args.verified.now in
-    let told = sources_told c.in-Some.image c.in_ok-of_image.field-0 c.in_ok-of_image.ensures.opened c.in-Some.ensures.unbroken c.in_ok-of_image.ensures.mapping in
-    some_and (slice_get (slices_of file) c.args.index) (λ slice. c.in-Some.image ≡ slice_bytes file slice) (λ slice. TellsSources (slice_bytes file slice) c.in_ok-of_image.field-0)
-    (λ slice is. subst (λ (bytes : List ℕ). TellsSources bytes c.in_ok-of_image.field-0) is told) c.in-Some.ensures.image
+    let told = sources_told c.in-Some.image c.in_ok-mapping.mapping c.in_ok-mapping.ensures.opened c.in-Some.ensures.unbroken c.in_ok-mapping.ensures.mapping in
+    some_and (slice_get (slices_of file) c.args.index) (λ slice. c.in-Some.image ≡ slice_bytes file slice) (λ slice. TellsSources (slice_bytes file slice) c.in_ok-mapping.mapping)
+    (λ slice is. subst (λ (bytes : List ℕ). TellsSources bytes c.in_ok-mapping.mapping) is told) c.in-Some.ensures.image
