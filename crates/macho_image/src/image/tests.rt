@@ -43,8 +43,12 @@ fn at(rule: Rule, place: u64) -> Option<Break> {
 #[test]
 fn opens_a_library(rt: HostRuntime) -> Result<(), Fail> {
     let bytes = image_of(rt.alloc(), DYLIB, 1, 32, &ID)?;
-    let image = Image::open(Bytes::new(&bytes), Some((0x0100_000c, 0)))?;
+    // The capability bits of a table's entry are not compared.
+    let image = Image::open(Bytes::new(&bytes), Some((0x0100_0007, 0x8000_0003)))?;
     assert_eq!(rt; image.bytes().len(), 64);
+
+    let other = Image::open(Bytes::new(&bytes), Some((0x0100_000c, 0)));
+    assert_eq!(rt; other.err(), at(Rule::ArchMismatch, 4));
     Ok(())
 }
 
