@@ -1,3 +1,4 @@
+pub mod Header
 pub mod Field
 pub mod Bytes
 pub mod Span

@@ -3,11 +3,23 @@
 
 ghost use Rattle.std.specs.Prelude.{◌≡◌};
 ghost use Rattle.std.specs.List.Sorted.{IsStrictlyIncreasing};
+ghost use Rattle.macho_fields.specs.Header.{AreFatConstants, AreLoaderConstants};
+ghost use Rattle.macho_fields.specs.Header.{AreMachineConstants, AreNlistConstants};
+ghost use Rattle.macho_fields.specs.Header.{AreVmProtConstants};
 ghost use Rattle.macho_fields.specs.Image.{AreCommands};
 ghost use Rattle.macho_fields.specs.First.{IsFirstBroken, IsUnbroken};
 ghost use Rattle.macho_fields.specs.Loader.{IsSound};
 
 use crate::rule::Break;
+
+/// Each constant of `header` is the number that the public headers define.
+pub fn constants_are_those_of_the_headers()
+    ensures fat { AreFatConstants }
+    ensures loader { AreLoaderConstants }
+    ensures machine { AreMachineConstants }
+    ensures nlist { AreNlistConstants }
+    ensures vm_prot { AreVmProtConstants }
+{}
 
 /// An image has one list of commands at most.
 pub fn commands_are_one(image: &[u8], commands: &[u64], others: &[u64])
