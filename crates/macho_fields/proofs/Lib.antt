@@ -18,3 +18,4 @@ pub mod Opened
 pub mod Inside
 pub mod Scopes
 pub mod Images
+pub mod Texts

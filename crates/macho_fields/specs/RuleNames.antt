@@ -1,6 +1,8 @@
 -- The names of the rules in reports.
-use Rattle.std.specs.Prelude.{ℕ, List, codes}
+use Rattle.std.specs.Prelude.{ℕ, List, ◌++◌, codes, false}
+use Rattle.std.specs.Fmt.{digits}
 use Rattle.macho_fields.specs.declared.rule.Rule.{Rule}
+use Rattle.macho_fields.specs.declared.rule.Break.{Break}
 use Rattle.macho_fields.specs.declared.rule.Rule.TheVariants.{Magic, FatTruncated, FatSliceOutside, FatSliceInTable, FatAlign, FatOverlap, FatDuplicate, FatSliceMagic, FatEmpty, HeaderTruncated, ArchMismatch, FileType, CommandsOutside, CommandWalk, CommandShort, CommandRepeated, DylibId, Name, SegmentAddress, SegmentSize, SegmentFile, SegmentOverlap, SectionAddress, SectionFile, SectionRelocs, TableRange, SymbolGroup, SymbolName, SymbolSection, IndirectIndex, Entry}
 
 -- the name of a rule, as ASCII text
@@ -36,3 +38,7 @@ name_of SymbolName = codes "symbol-name"
 name_of SymbolSection = codes "symbol-section"
 name_of IndirectIndex = codes "indirect-index"
 name_of Entry = codes "entry"
+
+-- the text of a break: the name of its rule, and its place in lower-case hexadecimal
+abbrev pub text_of : Break → List ℕ
+text_of b = name_of b.rule ++ (codes " at 0x" ++ digits 16 false b.place)

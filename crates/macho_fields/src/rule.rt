@@ -1,10 +1,11 @@
 //! The rules of the layout by name, and where one is broken.
 
-ghost use Rattle.std.specs.Prelude.{◌≡◌, ◌++◌, Some, codes, false};
-ghost use Rattle.std.specs.Fmt.{digits};
-ghost use Rattle.macho_fields.specs.RuleNames.{name_of};
+ghost use Rattle.std.specs.Prelude.{◌≡◌, Some};
+ghost use Rattle.std.specs.Fmt.{styled_text};
+ghost use Rattle.macho_fields.specs.RuleNames.{name_of, text_of};
 
 use std::fmt;
+use std::fmt::{InlineText, Write};
 
 /// A rule of the layout, in the order in which the rules are judged.
 #[derive(Clone, Copy, Debug, PartialEq, Eq)]
@@ -117,8 +118,10 @@ impl Rule {
 impl fmt::Display for Rule {
     ghost output = { λ rule. Some (name_of rule) };
 
+    ghost styled_output = { λ rule spec. Some (styled_text spec (name_of rule)) };
+
     fn fmt<W: fmt::Write>(&self, f: &mut fmt::Formatter<W>) -> fmt::Result {
-        f.write_str(self.name())
+        f.pad(self.name())
     }
 }
 
@@ -131,32 +134,22 @@ pub struct Break {
     pub place: u64,
 }
 
-/// The name of the rule and the place, as `entry at 0x20`.
+/// How many bytes the longest text of a break has: the 18 of `fat-slice-in-table`, the 6 of
+/// ` at 0x`, and 16 digits.
+const LONGEST_TEXT: usize = 40;
+
+/// The name of the rule and the place, as `entry at 0x20`. A width applies to the whole.
 impl fmt::Display for Break {
-    ghost output = { λ b. Some (name_of b.rule ++ codes " at 0x" ++ digits 16 false b.place) };
+    ghost output = { λ b. Some (text_of b) };
+
+    ghost styled_output = { λ b spec. Some (styled_text spec (text_of b)) };
 
     fn fmt<W: fmt::Write>(&self, f: &mut fmt::Formatter<W>) -> fmt::Result {
-        write!(f, "{} at 0x{:x}", self.rule, self.place)
+        let mut text = InlineText::<LONGEST_TEXT>::new();
+        write!(text, "{} at 0x{:x}", self.rule, self.place)?;
+        f.pad(text.as_str())
     }
 }
 
 #[cfg(test)]
-mod tests {
-    use super::*;
-    use std::test::Fail;
-
-    #[test]
-    fn texts_for_reports(rt: HostRuntime) -> Result<(), Fail> {
-        let rule = Rule::FatSliceMagic;
-        let text = rule.to_string(rt.alloc())?;
-        assert_eq!(rt; text.as_str(), "fat-slice-magic");
-
-        let broken = Break {
-            rule: Rule::SegmentFile,
-            place: 0x1e8,
-        };
-        let text = broken.to_string(rt.alloc())?;
-        assert_eq!(rt; text.as_str(), "segment-file at 0x1e8");
-        Ok(())
-    }
-}
+mod tests;

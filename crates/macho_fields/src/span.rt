@@ -59,9 +59,28 @@ mod tests {
         let whole = Span { start: 8, len: 4 };
         let empty = Span { start: 10, len: 0 };
         assert_eq!(rt; whole.end(), 12);
-        assert!(rt; whole.holds(11) && !whole.holds(12));
         assert!(rt; empty.inside(&whole));
         assert!(rt; whole.shares(&whole) && !empty.shares(&whole));
+    }
+
+    #[test]
+    fn a_span_holds_its_first_place_and_no_place_at_its_end(rt: HostRuntime) {
+        let span = Span { start: 8, len: 4 };
+        assert!(rt; !span.holds(7) && span.holds(8) && span.holds(11) && !span.holds(12));
+        let last = Span {
+            start: u64::MAX,
+            len: 9,
+        };
+        assert!(rt; last.holds(u64::MAX) && !last.holds(7));
+    }
+
+    #[test]
+    fn a_span_that_begins_before_or_ends_past_another_is_not_inside(rt: HostRuntime) {
+        let whole = Span { start: 8, len: 4 };
+        let inside = |start: u64, len: u64| Span { start, len }.inside(&whole);
+        assert!(rt; inside(8, 4) && inside(9, 2) && inside(12, 0));
+        assert!(rt; !inside(7, 3) && !inside(9, 4) && !inside(7, 6));
+        assert!(rt; !inside(7, 0) && !inside(13, 0));
     }
 
     #[test]
