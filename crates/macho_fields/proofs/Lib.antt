@@ -19,3 +19,5 @@ pub mod Inside
 pub mod Scopes
 pub mod Images
 pub mod Texts
+pub mod InFile
+pub mod FirstExists

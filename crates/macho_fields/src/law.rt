@@ -1,7 +1,7 @@
 //! What the definitions promise by themselves. Each law is the contract of a function that does
 //! nothing when it is called: the premises are its `requires`, the conclusion its `ensures`.
 
-ghost use Rattle.std.specs.Prelude.{◌≡◌};
+ghost use Rattle.std.specs.Prelude.{◌≡◌, ◌≤◌, ◌↔◌, length};
 ghost use Rattle.std.specs.List.Sorted.{IsStrictlyIncreasing};
 ghost use Rattle.macho_fields.specs.Header.{AreFatConstants, AreLoaderConstants};
 ghost use Rattle.macho_fields.specs.Header.{AreMachineConstants, AreNlistConstants};
@@ -45,6 +45,21 @@ pub fn first_is_one(file: &[u8], first: Break, other: Break)
     ensures { first ≡ other }
 {
     let _first = first;
+}
+
+/// The place of the first broken rule is at most the length of the file.
+pub fn first_place_is_inside(file: &[u8], first: Break)
+    requires { IsFirstBroken file.now first }
+    ensures { first.place ≤ length file.now }
+{
+    let _first_in_file = first;
+}
+
+/// No rule is broken exactly where there is no first broken rule.
+pub fn unbroken_is_without_first(file: &[u8])
+    ensures { IsUnbroken file.now ↔ ¬ ((first : Break) × IsFirstBroken file.now first) }
+{
+    let _unbroken = file;
 }
 
 /// A file that breaks no rule is sound.
