@@ -1,4 +1,4 @@
--- The commands of an image stand one behind the other, in one way only.
+-- The commands of an image follow one another, in one way only.
 use Rattle.std.proofs.Common.{◌≡◌, ℕ, suc, zero, ◌+◌, ◌≤◌, ◌<◌, List, [], ◌∷◌, length, All, AllPairs, refl, sym, ap₂, ◌∙◌, subst, arith}
 use Rattle.std.specs.List.Sorted.{IsStrictlyIncreasing}
 use Rattle.macho_fields.specs.Image.{command_size, Follow, AreCommands}

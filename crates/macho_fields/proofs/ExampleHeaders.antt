@@ -6,7 +6,7 @@ use Rattle.macho_fields.specs.Rules.{BreaksImage, BreaksHeader}
 use Rattle.macho_fields.specs.First.{rank, Fault, IsBefore, IsFirstBroken}
 use Rattle.macho_fields.specs.declared.rule.Rule.{Rule}
 use Rattle.macho_fields.specs.declared.rule.Rule.TheVariants as rule
-use Rattle.macho_fields.proofs.Ranks.{rank_positive, rank_tells_rule, image_rule_rank}
+use Rattle.macho_fields.proofs.Ranks.{rank_positive, rank_determines_rule, image_rule_rank}
 use Rattle.macho_fields.proofs.Plain.{IsLeast, first_in_image}
 use Rattle.macho_fields.proofs.Walks.{IsHeader, before_walk, walk_breaks_once}
 
@@ -36,7 +36,7 @@ cut_header = first_in_image cut refl (lit≤ tt, refl) rule.HeaderTruncated 0 (i
     later other at b (inl h) = let p : 10 ≤ rank other = image_rule_rank cut None other at b in absurd (omega arith)
     later other at b (inr h) = absurd (omega arith)
 
--- the walk's one bad place is the first fault behind a good header
+-- after a good header the one bad place of the walk is the first fault
 walk_is_least : (image : List ℕ) → IsHeader image → (place : ℕ) → BreaksHeader image None rule.CommandWalk place → IsLeast image rule.CommandWalk place
 walk_is_least image good place bad = (inl bad, least)
   where
@@ -47,7 +47,7 @@ walk_is_least image good place bad = (inl bad, least)
     least : (other : Rule) (at : ℕ) → BreaksImage image None other at → ¬ ((rank other < 14) ⊎ ((rank other ≡ 14) × (at < place)))
     least other at b (inl less) = before_walk image good other at less b
     least other at b (inr (e, less)) =
-        let is = rank_tells_rule other rule.CommandWalk e in
+        let is = rank_determines_rule other rule.CommandWalk e in
         let p : at ≡ place = same at (subst (λ r. BreaksImage image None r at) is b) in absurd (omega arith)
 
 abbrev no_size : List ℕ

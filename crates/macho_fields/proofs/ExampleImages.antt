@@ -62,7 +62,7 @@ bare_header = unbroken_image bare refl (lit≤ tt, refl) none
     none : (r : Rule) (place : ℕ) → ¬ BreaksImage bare None r place
     none r place b = nothing_commanded bare refl r place (breaks_by_commands bare [] good (refl, 32, refl) r place b)
 
--- a header that counts no command, and eight bytes behind it
+-- a header that counts no command, and eight bytes after it
 abbrev left_over : List ℕ
 left_over = header 2 0 8 ++ four 0x99 ++ four 8
 

@@ -5,7 +5,7 @@ use Rattle.macho_fields.specs.Rules.{BreaksFile}
 use Rattle.macho_fields.specs.First.{rank, IsBrokenIn, IsBefore, IsFirstBroken}
 use Rattle.macho_fields.specs.declared.rule.Rule.{Rule}
 use Rattle.macho_fields.specs.declared.rule.Rule.TheVariants as rule
-use Rattle.macho_fields.proofs.Ranks.{rank_tells_rule}
+use Rattle.macho_fields.proofs.Ranks.{rank_determines_rule}
 use Rattle.macho_fields.proofs.Lists.{any_nil}
 
 abbrev IsLeastFileRule : List ℕ → Rule → ℕ → Type 0
@@ -70,4 +70,4 @@ table_of_no_slices = first_in_file no_slices rule.FatEmpty 4 ((refl, universal, 
   where
     least : (other : Rule) (at : ℕ) → BreaksFile no_slices other at → ¬ ((rank other < 9) ⊎ ((rank other ≡ 9) × (at < 4)))
     least other at h (inl less) = no_slices_keeps other at less h
-    least other at h (inr (e, less)) = let b = subst (λ r. BreaksFile no_slices r at) (rank_tells_rule other rule.FatEmpty e) h in let p : at ≡ 4 = b.0 in absurd (omega arith)
+    least other at h (inr (e, less)) = let b = subst (λ r. BreaksFile no_slices r at) (rank_determines_rule other rule.FatEmpty e) h in let p : at ≡ 4 = b.0 in absurd (omega arith)

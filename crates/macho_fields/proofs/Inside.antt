@@ -1,4 +1,4 @@
--- The place of the first break of an image lies in the image, or just behind its last byte.
+-- The place of the first break of an image lies in the image, or just after its last byte.
 use Rattle.std.proofs.Common.{◌≡◌, ℕ, suc, zero, ◌+◌, ◌*◌, ◌≤◌, ◌<◌, ◌⊎◌, List, [], ◌∷◌, length, map, Contains, Option, refl, sym, ap, ◌∙◌, arith, lit≤, lit<, inl, inr, ⊎_elim}
 use Rattle.std.proofs.lemmas.Bool.{cases_lt, le-leb}
 use Rattle.std.specs.List.{range_with_len}

@@ -8,7 +8,7 @@ use Rattle.macho_fields.specs.Layers.{IsLeast, NothingBreaks, Decides, DecidesRu
 use Rattle.macho_fields.specs.declared.rule.Rule.{Rule}
 use Rattle.macho_fields.specs.declared.rule.Break.{Break}
 use Rattle.macho_fields.proofs.Chains.{commands_unique}
-use Rattle.macho_fields.proofs.Ranks.{rank_tells_rule, rank_most, image_rule_rank}
+use Rattle.macho_fields.proofs.Ranks.{rank_determines_rule, rank_most, image_rule_rank}
 
 -- no rule below this rank is broken
 abbrev pub KeptBelow : (Rule → ℕ → Type 0) → ℕ → Type 0
@@ -19,7 +19,7 @@ pub kept_more : (breaks : Rule → ℕ → Type 0) (r : Rule) → KeptBelow brea
 kept_more breaks r below here other place less broken =
     elim (least_or_same (rank other) (rank r) less) [
       | inl lower ↦ below other place lower broken
-      | inr same ↦ here place (subst (λ q. breaks q place) (rank_tells_rule other r same) broken)
+      | inr same ↦ here place (subst (λ q. breaks q place) (rank_determines_rule other r same) broken)
     ]
   where
     least_or_same : (a b : ℕ) → a < b + 1 → (a < b) ⊎ (a ≡ b)
@@ -35,7 +35,7 @@ least_at breaks r b below (same, here, least) = (subst (λ q. breaks q b.place) 
     none_before : (other : Rule) (place : ℕ) → breaks other place → ¬ ((rank other < rank b.rule) ⊎ ((rank other ≡ rank b.rule) × (place < b.place)))
     none_before other place broken (inl lower) = below other place (omega (arith, ranks)) broken
     none_before other place broken (inr (rank_same, lower)) =
-        let known = least place (subst (λ q. breaks q place) (rank_tells_rule other r (rank_same ∙ ranks)) broken) in omega arith
+        let known = least place (subst (λ q. breaks q place) (rank_determines_rule other r (rank_same ∙ ranks)) broken) in omega arith
 
 -- What a rule decides is what a layer decides of it: with a fact that turns each break of one into
 -- a break of the other.
@@ -43,9 +43,9 @@ pub decides_alike : {T : Type 0} (P Q : ℕ → Type 0) (r : Rule) (answer : Res
 decides_alike P Q r (Ok x) to from none = λ place broken. none place (from place broken)
 decides_alike P Q r (Err b) to from (same, here, least) = (same, to b.place here, λ place broken. least place (from place broken))
 
--- an answer that names the rule tells the least break of all
+-- an answer that names the rule is the least break of all
 pub decides_err : (breaks : Rule → ℕ → Type 0) (r : Rule) (b : Break) {T : Type 0} (answer : Result T Break) → answer ≡ Err b → KeptBelow breaks (rank r) → (b.rule ≡ r) × breaks r b.place × ((place : ℕ) → breaks r place → b.place ≤ place) → Decides breaks answer
-decides_err breaks r b answer is below told = subst (Decides breaks) (sym is) (least_at breaks r b below told)
+decides_err breaks r b answer is below found = subst (Decides breaks) (sym is) (least_at breaks r b below found)
 
 -- The rules of an opening
 

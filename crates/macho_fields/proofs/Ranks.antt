@@ -1,4 +1,4 @@
--- The order of the rules, and which of them speak of a file and which of an image.
+-- The order of the rules, and which of them a file breaks and which an image.
 use Rattle.std.proofs.Common.{◌≡◌, ℕ, ◌-◌, ◌≤◌, ◌<◌, List, [], ◌∷◌, Option, get_or, None, refl, sym, ap, ◌∙◌, arith, lit≤, lit<, inl, inr, ⊎_elim}
 use Rattle.macho_fields.specs.Universal.{IsUniversal, IsImage}
 use Rattle.macho_fields.specs.Rules.{BreaksFile, BreaksHeader, BreaksImage}
@@ -77,8 +77,8 @@ rule_of_its_rank rule.SymbolSection = refl
 rule_of_its_rank rule.IndirectIndex = refl
 rule_of_its_rank rule.Entry = refl
 
-pub rank_tells_rule : (a b : Rule) → rank a ≡ rank b → a ≡ b
-rank_tells_rule a b e = sym (rule_of_its_rank a) ∙ (ap rule_of_rank e ∙ rule_of_its_rank b)
+pub rank_determines_rule : (a b : Rule) → rank a ≡ rank b → a ≡ b
+rank_determines_rule a b e = sym (rule_of_its_rank a) ∙ (ap rule_of_rank e ∙ rule_of_its_rank b)
 
 pub rank_positive : (r : Rule) → 1 ≤ rank r
 rank_positive rule.Magic = lit≤ tt
@@ -286,7 +286,7 @@ pub image_alone : (image : List ℕ) (arch : Option (ℕ × ℕ)) (r : Rule) (pl
 image_alone image arch r place (inl h) = inl (header_alone image arch r place h)
 image_alone image arch r place (inr h) = inr h
 
--- the rules of the commands do not speak of an architecture
+-- the rules of the commands do not depend on an architecture
 pub commands_alone : (image : List ℕ) (arch : Option (ℕ × ℕ)) (r : Rule) (place : ℕ) → rank rule.CommandShort ≤ rank r → BreaksImage image arch r place → BreaksImage image None r place
 commands_alone image arch r place late (inl h) = let early = header_rule_rank image arch r place h in absurd (omega arith)
 commands_alone image arch r place late (inr h) = inr h

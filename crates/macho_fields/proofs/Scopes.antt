@@ -42,7 +42,7 @@ other_kept file k slice is kept other scope r place most broken = elim (cases_lt
       other (in_slice file k slice r place is (subst (λ s. IsBrokenIn file s r place) same broken)).0
 ]
 
--- no scope is left behind the last slice
+-- no scope is left after the last slice
 pub all_kept : (file : List ℕ) → KeptScopes file (length (slices_of file)) → IsUnbroken file
 all_kept file kept fault broken = within fault.scope fault.rule fault.place broken
   where
@@ -61,7 +61,7 @@ file_first file b (here, least) = (record { scope = 0; rule = b.rule; place = b.
     none_before other broken (inl less) = absurd (omega arith)
     none_before other broken (inr (same, later)) = least other.rule other.place (subst (λ s. IsBrokenIn file s other.rule other.place) same broken) later
 
--- the first break of a slice, behind scopes that are kept
+-- the first break of a slice, where nothing is broken in the scopes before it
 pub slice_first : (file : List ℕ) (k : ℕ) (slice : FileSlice) (found b : Break) → slice_get (slices_of file) k ≡ Some slice → KeptScopes file k → IsImage (slice_bytes file slice) → IsLeast (BreaksImage (slice_bytes file slice) slice.arch) found → b.rule ≡ found.rule → b.place ≡ slice.start + found.place → IsFirstBroken file b
 slice_first file k slice found b is kept image (here, least) same_rule same_place = (record { scope = suc k; rule = found.rule; place = found.place }, of_slice file k slice found.rule found.place is image here, none_before, same_rule, start)
   where

@@ -72,8 +72,8 @@ module _ (file : List ℕ) (keeps_file : (r : Rule) (place : ℕ) → ¬ BreaksF
             | inr (inr before) ↦ absurd (keeps_file rule.FatOverlap (entry_place file i) (u, (i, less, refl, (j, before, (place, there, here)))))
           ]
 
-  slice_behind_table : (k : ℕ) (slice : FileSlice) → IsUniversal file → slice_get (slices_of file) k ≡ Some slice → (place : ℕ) → HasPlace slice place → table_end file ≤ place
-  slice_behind_table k slice u e place in' = elim (slice_is k slice e) [ inl (v, less, is) ↦ entry less is | inr (not, none, is) ↦ absurd (true≢false (sym u.1 ∙ not)) ]
+  slice_after_table : (k : ℕ) (slice : FileSlice) → IsUniversal file → slice_get (slices_of file) k ≡ Some slice → (place : ℕ) → HasPlace slice place → table_end file ≤ place
+  slice_after_table k slice u e place in' = elim (slice_is k slice e) [ inl (v, less, is) ↦ entry less is | inr (not, none, is) ↦ absurd (true≢false (sym u.1 ∙ not)) ]
     where
       entry : k < entry_count file → slice ≡ entry_slice file k → table_end file ≤ place
       entry less is =
@@ -114,6 +114,6 @@ unbroken_is_sound file unbroken = record {
   images = λ k d h. image_sound file unbroken k (get_or (slices_of file) k d) (get_at (slices_of file) k d h);
   inside = λ k d h. slice_inside file (keeps file unbroken) k (get_or (slices_of file) k d) (get_at (slices_of file) k d h);
   apart = slices_apart file (keeps file unbroken);
-  behind_table = λ u k d h. slice_behind_table file (keeps file unbroken) k (get_or (slices_of file) k d) u (get_at (slices_of file) k d h);
+  after_table = λ u k d h. slice_after_table file (keeps file unbroken) k (get_or (slices_of file) k d) u (get_at (slices_of file) k d h);
   one_arch = one_arch file (keeps file unbroken);
 }

@@ -4,7 +4,7 @@ use Rattle.std.proofs.lemmas.Bool.{cases_order}
 use Rattle.macho_fields.specs.First.{rank, Fault, IsBefore, IsFirstBroken, scope_start}
 use Rattle.macho_fields.specs.declared.rule.Rule.{Rule}
 use Rattle.macho_fields.specs.declared.rule.Break.{Break}
-use Rattle.macho_fields.proofs.Ranks.{rank_tells_rule}
+use Rattle.macho_fields.proofs.Ranks.{rank_determines_rule}
 
 -- neither of two numbers is below the other
 same_number : (a b : ℕ) → ¬ (a < b) → ¬ (b < a) → a ≡ b
@@ -31,5 +31,5 @@ first_is_unique file a b (f, is_f, least_f, rule_f, place_f) (g, is_g, least_g, 
     let q = least_f g is_g in
     let scope : f.scope ≡ g.scope = same_scope f g p q in
     let place : f.place ≡ g.place = same_place f g p q in
-    let same : f.rule ≡ g.rule = rank_tells_rule f.rule g.rule (same_rank f g p q) in
+    let same : f.rule ≡ g.rule = rank_determines_rule f.rule g.rule (same_rank f g p q) in
     same_break a b (rule_f ∙ (same ∙ sym rule_g)) (place_f ∙ (ap (λ s. scope_start file s + f.place) scope ∙ (ap (λ n. scope_start file g.scope + n) place ∙ sym place_g)))

@@ -4,7 +4,7 @@ use Rattle.std.proofs.lemmas.Bool.{eqb-true, eq-eqb}
 use Rattle.std.proofs.lemmas.List.{get_or-take, get_or-drop, take_all, take_rest}
 use Rattle.std.proofs.lemmas.Grind.{common_steps}
 use Rattle.std.proofs.lemmas.Option.{slice_get-get_or}
-use Rattle.memchr.specs.Find.{is_byte, IsFirstByte, Nowhere, Passes}
+use Rattle.memchr.specs.Find.{is_byte, IsFirstByte, Passes}
 use Rattle.macho_fields.specs.Field.{part, HasZero}
 
 length_part : (bytes : List ℕ) (start len k : ℕ) → k < length (part start len bytes) → (k < len) × (start + k < length bytes)
@@ -23,20 +23,20 @@ none_in_part bytes start len none (z, low, high, inside, is) =
     let same : slice_index (part start len bytes) (z - start) ≡ 0 = read_part bytes start len (z - start) here ∙ (ap (slice_index bytes) at ∙ is) in
     none (z - start) (omega arith) here (eq-eqb _ 0 same)
 
--- an index of the part at which a zero stands
+-- an index of the part whose byte is zero
 pub zero_in_part : (bytes : List ℕ) (start len k : ℕ) → k < length (part start len bytes) → Passes (is_byte 0) (part start len bytes) k → (k < len) × (slice_get bytes (start + k) ≡ Some 0)
 zero_in_part bytes start len k inside is =
     let within = length_part bytes start len k inside in
     let zero : slice_index bytes (start + k) ≡ 0 = sym (read_part bytes start len k inside) ∙ eqb-true _ 0 is in
     (within.0, slice_get-get_or bytes (start + k) 0 within.1 ∙ ap Some zero)
 
--- an index of the part before which no zero stands
-pub none_before_in_part : (bytes : List ℕ) (start len k : ℕ) → k < length (part start len bytes) → Nowhere (Passes (is_byte 0) (part start len bytes)) 0 k → ¬ HasZero bytes start (start + k)
-none_before_in_part bytes start len k inside none (z, low, high, within, at) =
-    let here : z - start < length (part start len bytes) = omega (arith, inside) in
+-- no zero comes before the first one of the part
+pub none_before_in_part : (bytes : List ℕ) (start len k : ℕ) → IsFirstByte (is_byte 0) (part start len bytes) (Some k) → ¬ HasZero bytes start (start + k)
+none_before_in_part bytes start len k (none, is) (z, low, high, within, at) =
+    let here : z - start < length (part start len bytes) = omega (arith, none.high) in
     let sum : start + (z - start) ≡ z = omega arith in
     let same : slice_index (part start len bytes) (z - start) ≡ 0 = read_part bytes start len (z - start) here ∙ (ap (slice_index bytes) sum ∙ at) in
-    none (z - start) (omega arith) (omega arith) (eq-eqb _ 0 same)
+    none.before (z - start) (omega arith) (omega arith) (eq-eqb _ 0 same)
 
 -- what is read of a part that may end past the bytes
 pub clipped_part : (bytes : List ℕ) (start len : ℕ) (rest within : Bor (List ℕ)) (got : Option (Bor (List ℕ))) → within ≡ unwrap_or got rest → rest.now ≡ slice_range bytes start (length bytes)

@@ -1,16 +1,17 @@
--- Bytes as numbers, and ranges of places. A file is a list of bytes, a place is an offset in it.
+-- Bytes as numbers, and ranges of places. A file is a list of bytes. A place is an offset in bytes
+-- from its start.
 use Rattle.std.specs.Prelude.{◌≡◌, ℕ, ◌+◌, ◌≤◌, ◌<◌, List, length, drop, take, slice_index, Option, Some, None, nat_le, if◌then◌else◌}
 use Rattle.byteorder.specs.Endian.{big_number, little_number}
 use Rattle.macho_fields.specs.declared.bytes.Order.{Order}
 use Rattle.macho_fields.specs.declared.bytes.Order.TheVariants.{Big, Little}
 
--- the number that width bytes from a place on stand for: the sum of each byte times its power of
--- 256, where power 0 is that of the last byte in big-endian order, and of the first in the other
+-- the number in the width bytes from a place on: the sum of each byte times its power of 256, where
+-- power 0 belongs to the last byte in big-endian order, and to the first in little-endian order
 abbrev pub number : Order → ℕ → List ℕ → ℕ → ℕ
 number Big width bytes place = big_number width (drop place bytes)
 number Little width bytes place = little_number width (drop place bytes)
 
--- the number of a field, or none where the field does not lie inside the bytes
+-- the number of a field, or none where the field is not wholly inside the bytes
 abbrev pub field : Order → ℕ → List ℕ → ℕ → Option ℕ
 field order width bytes place =
     if nat_le (place + width) (length bytes) then Some (number order width bytes place) else None
@@ -23,7 +24,7 @@ part start len bytes = take len (drop start bytes)
 abbrev pub Covers : ℕ → ℕ → ℕ → Type 0
 Covers start len place = (start ≤ place) × (place < start + len)
 
--- a zero byte stands inside the bytes at a place from start on, below end
+-- some place from start on and below end is inside the bytes, and its byte is zero
 abbrev pub HasZero : List ℕ → ℕ → ℕ → Type 0
 HasZero bytes start end =
     (z : ℕ) × (start ≤ z) × (z < end) × (z < length bytes) × (slice_index bytes z ≡ 0)

@@ -1,5 +1,6 @@
--- The first broken rule of a file: file rules come first, then the 64-bit slices in table order;
--- in each the rules in the order of judgment, and of each rule the least place.
+-- The first broken rule of a file. The rules of the file come first, then each 64-bit slice in
+-- table order. In each of these the rules come in the order of judgment, and of one rule the least
+-- place.
 use Rattle.std.specs.Prelude.{◌≡◌, ℕ, ◌+◌, ◌<◌, ◌⊎◌, suc, zero, List, slice_get, IsSomeAnd}
 use Rattle.std.specs.Option.{option_map_or}
 use Rattle.macho_fields.specs.Universal.{slices_of, slice_bytes, IsImage}
@@ -69,12 +70,12 @@ IsBefore a b =
     ⊎ ((a.scope ≡ b.scope) × ((rank a.rule < rank b.rule)
     ⊎ ((rank a.rule ≡ rank b.rule) × (a.place < b.place))))
 
--- where the places of a scope begin in the file
+-- the place of the file from which the places of a scope are counted
 abbrev pub scope_start : List ℕ → ℕ → ℕ
 scope_start file zero = 0
 scope_start file (suc k) = option_map_or (λ slice. slice.start) (slice_get (slices_of file) k) 0
 
--- b tells the first broken rule, with its place in the file
+-- b is the first broken rule, with its place in the file
 abbrev pub IsFirstBroken : List ℕ → Break → Type 0
 IsFirstBroken file b =
     (fault : Fault) × IsBroken file fault

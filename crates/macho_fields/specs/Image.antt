@@ -1,5 +1,6 @@
 -- An image, its header and its chain of load commands. The fields of an image are little-endian,
--- and its places count from its own first byte. (mach-o/loader.h: mach_header_64, load_command)
+-- and its places are counted from its own first byte. (mach-o/loader.h: mach_header_64,
+-- load_command)
 use Rattle.std.specs.Prelude.{◌≡◌, ℕ, ◌+◌, ◌%◌, ◌≤◌, ◌==◌, List, [], ◌∷◌, length, filter}
 use Rattle.macho_fields.specs.Field.{number}
 use Rattle.macho_fields.specs.declared.bytes.Order.TheVariants.{Little}
@@ -25,7 +26,7 @@ file_type image = word image 12
 abbrev pub command_count : List ℕ → ℕ
 command_count image = word image 16
 
--- the place behind the bytes that the header gives to the commands
+-- mach_header_64.sizeofcmds: the first place after the bytes that the header gives to the commands
 abbrev pub commands_end : List ℕ → ℕ
 commands_end image = loader.MACH_HEADER_64_SIZE + word image 20
 
@@ -36,30 +37,31 @@ command_kind image command = word image command
 abbrev pub command_size : List ℕ → ℕ → ℕ
 command_size image command = word image (command + 4)
 
--- a command can stand at this place
+-- a command can be at this place: it lies below the end of the commands, and its cmdsize is a
+-- multiple of 8, and at least that of load_command
 pub record IsGood (image : List ℕ) (place : ℕ) : Type 0 where
   pub head : place + loader.LOAD_COMMAND_SIZE ≤ commands_end image
   pub whole : command_size image place % 8 ≡ 0
   pub least : loader.LOAD_COMMAND_SIZE ≤ command_size image place
   pub inside : place + command_size image place ≤ commands_end image
 
--- Good commands stand at these places: the first at start, each one behind the one before it, and
--- next is the place behind the last.
+-- Good commands are at these places: the first at start, each other one where the one before it
+-- ends. The last one ends at next, which is start where there is none.
 abbrev pub Follow : List ℕ → ℕ → List ℕ → ℕ → Type 0
 Follow image start [] next = start ≡ next
 Follow image start (place ∷ places) next =
     (place ≡ start) × IsGood image place
     × Follow image (place + command_size image place) places next
 
--- a chain begins behind the header
+-- a chain begins after the header
 abbrev pub IsChain : List ℕ → List ℕ → ℕ → Type 0
 IsChain image places next = Follow image loader.MACH_HEADER_64_SIZE places next
 
--- the places of all commands of the image: the chain of as many as the header counts
+-- the places of all commands of the image: the chain of mach_header_64.ncmds commands
 abbrev pub AreCommands : List ℕ → List ℕ → Type 0
 AreCommands image commands =
     (length commands ≡ command_count image) × (next : ℕ) × IsChain image commands next
 
--- the commands of one command_kind, in order
+-- the commands of one kind, in order
 abbrev pub of_kind : List ℕ → ℕ → List ℕ → List ℕ
 of_kind image wanted commands = filter (λ command. command_kind image command == wanted) commands

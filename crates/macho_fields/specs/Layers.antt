@@ -16,11 +16,11 @@ IsLeast breaks b =
 abbrev pub NothingBreaks : (Rule → ℕ → Type 0) → Type 0
 NothingBreaks breaks = (r : Rule) (place : ℕ) → ¬ breaks r place
 
--- an answer tells whether a layer is unbroken, and else what is broken first
+-- an answer reports whether a layer is unbroken, and otherwise what is broken first
 abbrev pub Decides : {T : Type 0} → (Rule → ℕ → Type 0) → Result T Break → Type 0
 Decides breaks answer = MatchResult answer (λ _. NothingBreaks breaks) (IsLeast breaks)
 
--- an answer tells whether one rule is unbroken, and else its least place
+-- an answer reports whether one rule is unbroken, and otherwise the least place where it is broken
 abbrev pub DecidesRule : {T : Type 0} → (ℕ → Type 0) → Rule → Result T Break → Type 0
 DecidesRule breaks r answer =
     MatchResult answer (λ _. (place : ℕ) → ¬ breaks place)
@@ -32,7 +32,7 @@ BreaksOpening image arch r place =
     (rank r < rank rule.SegmentAddress) × BreaksImage image arch r place
 
 -- what is decided of an opened image: the rules of its segments, sections, tables, symbols and
--- entry, of which none speaks of an architecture
+-- entry, none of which depends on an architecture
 abbrev pub BreaksOpened : List ℕ → Rule → ℕ → Type 0
 BreaksOpened image r place =
     (rank rule.SegmentAddress ≤ rank r) × BreaksImage image None r place

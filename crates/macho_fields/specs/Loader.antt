@@ -10,8 +10,8 @@ use Rattle.macho_fields.specs.Symbol.{nsyms, symoff, stroff, strsize, n_strx, ta
 use Rattle.macho_fields.specs.declared.header.loader.TheConstants as loader
 use Rattle.macho_fields.specs.declared.header.nlist.TheConstants as nlist
 
--- A name, where it starts and the end of the command or the string table that has to end it:
--- the name of a command, or that of a symbol with an n_strx.
+-- A name, by its start and by the end of what has to contain it: the name of a command, and the
+-- command; or the name of a symbol with an n_strx, and the string table.
 abbrev pub IsName : List ℕ → List ℕ → ℕ → ℕ → Type 0
 IsName image commands start end =
     Any (λ command. Any (λ named. named.0 ≡ command_kind image command) named_kinds
@@ -22,7 +22,8 @@ IsName image commands start end =
     × (end ≡ stroff image symtab + strsize image symtab))
     (of_kind image loader.LC_SYMTAB commands)
 
--- A table, by its start and its bytes: one that a command bounds, or the relocations of a section.
+-- A table, by its start and its length in bytes: one that a command bounds, or the relocations of a
+-- section (mach-o/reloc.h: relocation_info of 8 bytes).
 abbrev pub IsTable : List ℕ → List ℕ → ℕ → ℕ → Type 0
 IsTable image commands start len =
     Any (λ command. Any (λ table. (0 < table.1) × (start ≡ table.0) × (len ≡ table.1 * table.2))
@@ -70,8 +71,8 @@ pub record IsSoundImage (image commands : List ℕ) : Type 0 where
   pub one_segment : (a b address : ℕ)
       → Contains (segments_of image commands) a → Contains (segments_of image commands) b
       → Supplies image a address → Supplies image b address → a ≡ b
-  -- each address of a section of a mapped segment is the segment's, and the byte that the segment
-  -- has there is the one at the section's place of the file, unless the section is zero-fill
+  -- a mapped segment supplies each address of its sections, and what it has there is the byte at
+  -- the section's place of the file, unless the section is zero-fill
   pub sections : (segment section k : ℕ)
       → Contains (segments_of image commands) segment
       → Contains (sections_in image segment) section
@@ -100,7 +101,7 @@ pub record IsSound (file : List ℕ) : Type 0 where
       → slice_get (slices_of file) i ≡ Some a → slice_get (slices_of file) j ≡ Some b
       → HasPlace a place → HasPlace b place → i ≡ j
   -- no place lies in a slice and in the header or table of a universal file
-  pub behind_table : IsUniversal file
+  pub after_table : IsUniversal file
       → All (λ slice. (place : ℕ) → HasPlace slice place → table_end file ≤ place)
       (slices_of file)
   -- no two slices of a universal file have one architecture

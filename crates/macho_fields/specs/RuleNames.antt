@@ -1,4 +1,4 @@
--- The names of the rules in reports.
+-- The names of the rules, and the text of a break, as reports have them.
 use Rattle.std.specs.Prelude.{ℕ, List, ◌++◌, codes, false}
 use Rattle.std.specs.Fmt.{digits}
 use Rattle.macho_fields.specs.declared.rule.Rule.{Rule}

@@ -1,5 +1,5 @@
--- Where each rule is broken: the rule, and the place that is told. docs/RULES.md says the same in
--- words. A rule is read where the rules before it are unbroken.
+-- Where each rule is broken: the rule, and the place that is reported. docs/RULES.md says the same
+-- in words, and names the structures. A rule is judged where the rules before it are unbroken.
 use Rattle.std.specs.Prelude.{◌≡◌, ◌≢◌, ℕ, ◌+◌, ◌*◌, ◌^◌, ◌≤◌, ◌<◌, ◌⊎◌, List, length, false, Option, IsSomeAnd, Any, All, Contains}
 use Rattle.macho_fields.specs.Universal.{FileSlice, IsUniversal, entry_count, entry_place, entry_align, entry_slice, slices_of, table_end, slice_bytes, masked, HasPlace, IsImage, IsUnreadImage}
 use Rattle.macho_fields.specs.Image.{word, cpu_type, cpu_subtype, file_type, command_count, commands_end, command_kind, IsGood, IsChain, AreCommands, of_kind}
@@ -10,9 +10,9 @@ use Rattle.macho_fields.specs.declared.header.loader.TheConstants as loader
 use Rattle.macho_fields.specs.declared.rule.Rule.{Rule}
 use Rattle.macho_fields.specs.declared.rule.Rule.TheVariants as rule
 
--- Rules of the file
+-- Rules of the file (mach-o/fat.h: fat_header, fat_arch, fat_arch_64)
 
--- entry k of the table, which stands at the place, has P
+-- the entry of the table that is at the place, entry k, has P
 abbrev pub AtEntry : List ℕ → (ℕ → Type 0) → ℕ → Type 0
 AtEntry file P place = (k : ℕ) × (k < entry_count file) × (place ≡ entry_place file k) × P k
 
@@ -24,6 +24,7 @@ WithEarlier R j = (i : ℕ) × (i < j) × R i j
 abbrev pub SharePlace : FileSlice → FileSlice → Type 0
 SharePlace a b = (place : ℕ) × HasPlace a place × HasPlace b place
 
+-- the file breaks the rule at the place
 abbrev pub BreaksFile : List ℕ → Rule → ℕ → Type 0
 BreaksFile file rule.Magic place = (place ≡ 0) × ¬ (IsUniversal file ⊎ IsImage file)
 BreaksFile file rule.FatTruncated place =
@@ -53,7 +54,8 @@ BreaksFile file rule.FatEmpty place =
     × All (λ slice. ¬ IsImage (slice_bytes file slice)) (slices_of file)
 BreaksFile file other place = ⊥
 
--- Rules of an image, its header and its walk. The architecture is that of the image's entry.
+-- Rules of the header of an image, and of the walk over its commands. The architecture is that of
+-- the image's entry. (mach-o/loader.h: mach_header_64, load_command)
 abbrev pub BreaksHeader : List ℕ → Option (ℕ × ℕ) → Rule → ℕ → Type 0
 BreaksHeader image arch rule.HeaderTruncated place =
     (place ≡ 0) × (length image < loader.MACH_HEADER_64_SIZE)
@@ -70,7 +72,8 @@ BreaksHeader image arch rule.CommandWalk place =
     × ¬ IsGood image place
 BreaksHeader image arch other place = ⊥
 
--- Rules of an image that are read with the places of its commands
+-- Rules of an image that need the places of its commands (mach-o/loader.h: the structure of each
+-- command, section_64; mach-o/nlist.h: nlist_64)
 abbrev pub BreaksCommands : List ℕ → List ℕ → Rule → ℕ → Type 0
 BreaksCommands image commands rule.CommandShort place =
     Contains commands place × IsShort image place
@@ -134,7 +137,7 @@ BreaksCommands image commands rule.Entry place =
     (λ base. IsExecutable image commands (base + entryoff image place))
 BreaksCommands image commands other place = ⊥
 
--- An image breaks a rule of its header and walk, or one that is read with its commands.
+-- An image breaks a rule of its header and walk, or one that needs its commands.
 abbrev pub BreaksImage : List ℕ → Option (ℕ × ℕ) → Rule → ℕ → Type 0
 BreaksImage image arch r place =
     BreaksHeader image arch r place

@@ -1,5 +1,5 @@
--- Segments, their sections, and what stands at an address. Each is named by the place of its
--- structure. (mach-o/loader.h: segment_command_64, section_64, entry_point_command)
+-- Segments, their sections, and what is at an address. A segment and a section are named by the
+-- place of their structure. (mach-o/loader.h: segment_command_64, section_64, entry_point_command)
 use Rattle.std.specs.Prelude.{◌&&◌, ◌||◌, ◌≡◌, ◌≢◌, ℕ, ◌+◌, ◌-◌, ◌*◌, ◌%◌, ◌≤◌, ◌<◌, ◌==◌, nat_lt, List, map, find, sum_by, Any, Contains, Option, Bool, bit_and, if◌then◌else◌}
 use Rattle.std.specs.List.{range_with_len}
 use Rattle.std.specs.Option.{option_map}
@@ -8,6 +8,7 @@ use Rattle.macho_fields.specs.Image.{word, long, of_kind}
 use Rattle.macho_fields.specs.declared.header.loader.TheConstants as loader
 use Rattle.macho_fields.specs.declared.header.vm_prot.TheConstants as vm_prot
 
+-- the segments of an image, in order
 abbrev pub segments_of : List ℕ → List ℕ → List ℕ
 segments_of image commands = of_kind image loader.LC_SEGMENT_64 commands
 
@@ -30,17 +31,17 @@ initprot image segment = word image (segment + 60)
 abbrev pub nsects : List ℕ → ℕ → ℕ
 nsects image segment = word image (segment + 64)
 
--- the sections of a segment stand behind its structure
+-- the sections of a segment, the section_64 that follow its segment_command_64
 abbrev pub sections_in : List ℕ → ℕ → List ℕ
 sections_in image segment =
     map (λ k. segment + loader.SEGMENT_COMMAND_64_SIZE + loader.SECTION_64_SIZE * k)
     (range_with_len 0 (nsects image segment))
 
--- the sections of an image are numbered from 1 over all its segments
+-- how many sections an image has: they are numbered from 1 over all its segments
 abbrev pub section_count : List ℕ → List ℕ → ℕ
 section_count image commands = sum_by (nsects image) (segments_of image commands)
 
--- P holds of a segment and of one of its sections, which stands at the place
+-- P holds of a segment and of that one of its sections which is at the place
 abbrev pub AtSection : List ℕ → List ℕ → (ℕ → ℕ → Type 0) → ℕ → Type 0
 AtSection image commands P place =
     Any (λ segment. Contains (sections_in image segment) place × P segment place)
@@ -65,7 +66,7 @@ nreloc image section = word image (section + 60)
 abbrev pub section_flags : List ℕ → ℕ → ℕ
 section_flags image section = word image (section + 64)
 
--- the low byte of the flags is the type, and three types have no bytes in the file
+-- the low byte of the flags is the type (SECTION_TYPE), and three types have no bytes in the file
 abbrev pub is_zero_fill : List ℕ → ℕ → Bool
 is_zero_fill image section =
     let section_type = section_flags image section % 256 in
@@ -74,40 +75,42 @@ is_zero_fill image section =
 
 -- Addresses
 
--- a segment supplies an address
+-- a segment supplies an address: one of the vmsize addresses from vmaddr on
 abbrev pub Supplies : List ℕ → ℕ → ℕ → Type 0
 Supplies image segment address = Covers (vmaddr image segment) (vmsize image segment) address
 
--- what stands at an address: the byte at a place of the slice, or a zero
+-- what is at an address: the byte at a place of the slice, or a zero
 pub data Source : Type 0 where
   File : (place : ℕ) → Source
   Zero : Source
 
--- what a segment has at an address that it supplies
+-- what a segment has at an address that it supplies: its filesize bytes of the file, then zeros
 abbrev pub source : List ℕ → ℕ → ℕ → Source
 source image segment address =
     let past = address - vmaddr image segment in
     if nat_lt past (filesize image segment) then File (fileoff image segment + past) else Zero
 
--- The bytes of a section of a mapped segment stand where its addresses say, in the file part.
+-- The bytes of a section of a mapped segment are where its addresses say, among those that the
+-- segment has in the file.
 abbrev pub IsInFilePart : List ℕ → ℕ → ℕ → Type 0
 IsInFilePart image segment section =
     let past = section_address image section - vmaddr image segment in
     (section_offset image section ≡ fileoff image segment + past)
     × (past + section_size image section ≤ filesize image segment)
 
--- the vmaddr of the first mapped segment that shows the start of the file
+-- the vmaddr of the first mapped segment that has the start of the file
 abbrev pub base_of : List ℕ → List ℕ → Option ℕ
 base_of image commands =
     option_map (vmaddr image)
     (find (λ segment. fileoff image segment == 0 && nat_lt 0 (filesize image segment)
     && nat_lt 0 (vmsize image segment)) (segments_of image commands))
 
--- entry_point_command.entryoff, from the base on
+-- entry_point_command: entryoff at 8, which is counted from the base
 abbrev pub entryoff : List ℕ → ℕ → ℕ
 entryoff image command = long image (command + 8)
 
--- an address lies in the file part of a mapped segment whose initprot allows execution
+-- a mapped segment has a byte of the file at the address, and its initprot allows execution
+-- (mach/vm_prot.h: VM_PROT_EXECUTE)
 abbrev pub IsExecutable : List ℕ → List ℕ → ℕ → Type 0
 IsExecutable image commands address =
     Any (λ segment. Supplies image segment address

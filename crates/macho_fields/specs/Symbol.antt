@@ -22,7 +22,7 @@ stroff image symtab = word image (symtab + 16)
 abbrev pub strsize : List ℕ → ℕ → ℕ
 strsize image symtab = word image (symtab + 20)
 
--- the number of symbols of an image, 0 where it has no symbol table
+-- how many symbols an image has: nsyms of its LC_SYMTAB, 0 where there is none
 abbrev pub symbol_count : List ℕ → List ℕ → ℕ
 symbol_count image commands =
     option_map_or (nsyms image)
@@ -35,19 +35,19 @@ indirectsymoff image dysymtab = word image (dysymtab + 56)
 abbrev pub nindirectsyms : List ℕ → ℕ → ℕ
 nindirectsyms image dysymtab = word image (dysymtab + 60)
 
--- The three groups of symbols, each a first index and a number: ilocalsym at 8 and nlocalsym 12,
--- iextdefsym 16 and nextdefsym 20, iundefsym 24 and nundefsym 28.
+-- The three groups of symbols of a dysymtab_command, each a first index and a count: ilocalsym at 8
+-- and nlocalsym 12, iextdefsym 16 and nextdefsym 20, iundefsym 24 and nundefsym 28.
 abbrev pub groups_of : List ℕ → ℕ → List (ℕ × ℕ)
 groups_of image dysymtab =
     (word image (dysymtab + 8), word image (dysymtab + 12))
     ∷ (word image (dysymtab + 16), word image (dysymtab + 20))
     ∷ (word image (dysymtab + 24), word image (dysymtab + 28)) ∷ []
 
--- The tables that commands name: the kind of the command; the offsets in it of the field with the
--- place of the table and of that with the number of its items; the bytes of an item. They are the
--- symbols and their strings; the contents, modules, references, indirect entries and two lists of
--- relocations of a dysymtab_command; the range of a linkedit_data_command; the five ranges of a
--- dyld_info_command.
+-- The tables that commands bound: the kind of the command; the offset in it of the field with the
+-- place of the table; that of the field with the count of its items; the size of an item. The
+-- places are symoff and stroff of symtab_command; tocoff, modtaboff, extrefsymoff, indirectsymoff,
+-- extreloff and locreloff of dysymtab_command; dataoff of linkedit_data_command; rebase_off,
+-- bind_off, weak_bind_off, lazy_bind_off and export_off of dyld_info_command.
 abbrev pub table_fields : List (ℕ × ℕ × ℕ × ℕ)
 table_fields =
     (loader.LC_SYMTAB, 8, 12, nlist.NLIST_64_SIZE) ∷ (loader.LC_SYMTAB, 16, 20, 1)
@@ -66,7 +66,7 @@ table_fields =
     ∷ (loader.LC_DYLD_INFO_ONLY, 24, 28, 1) ∷ (loader.LC_DYLD_INFO_ONLY, 32, 36, 1)
     ∷ (loader.LC_DYLD_INFO_ONLY, 40, 44, 1) ∷ []
 
--- a table: the place of its first item, the number of its items, the bytes of an item
+-- a table: the place of its first item, the count of its items, the size of an item
 abbrev pub table_at : List ℕ → ℕ → ℕ × ℕ × ℕ × ℕ → ℕ × ℕ × ℕ
 table_at image command fields =
     (word image (command + fields.1), word image (command + fields.2), fields.3)
@@ -81,15 +81,15 @@ tables_of image command =
 abbrev pub IsOutside : List ℕ → ℕ × ℕ × ℕ → Type 0
 IsOutside image table = (0 < table.1) × (length image < table.0 + table.1 * table.2)
 
--- P holds of a symbol table and of one of its symbols, which stands at the place
+-- P holds of a symbol table and of that one of its symbols which is at the place
 abbrev pub AtSymbol : List ℕ → List ℕ → (ℕ → ℕ → Type 0) → ℕ → Type 0
 AtSymbol image commands P place =
     Any (λ symtab. (k : ℕ) × (k < nsyms image symtab)
     × (place ≡ symoff image symtab + nlist.NLIST_64_SIZE * k) × P symtab place)
     (of_kind image loader.LC_SYMTAB commands)
 
--- nlist_64: n_strx at 0, n_type of one byte at 4, n_sect of one byte at 5, n_desc of 2 bytes at 6,
--- n_value of 8 at 8
+-- nlist_64: n_strx at 0, n_type of 1 byte at 4, n_sect of 1 byte at 5, n_desc of 2 bytes at 6,
+-- n_value of 8 bytes at 8
 abbrev pub n_strx : List ℕ → ℕ → ℕ
 n_strx image symbol = word image symbol
 
@@ -105,20 +105,21 @@ n_desc image symbol = number Little 2 image (symbol + 6)
 abbrev pub n_value : List ℕ → ℕ → ℕ
 n_value image symbol = long image (symbol + 8)
 
--- the symbol has a name, which no zero byte ends inside the string table
+-- the symbol has a name, and no zero byte ends it inside the string table
 abbrev pub HasEndlessName : List ℕ → ℕ → ℕ → Type 0
 HasEndlessName image symtab symbol =
     (n_strx image symbol ≢ 0)
     × ¬ HasZero image (stroff image symtab + n_strx image symbol)
     (stroff image symtab + strsize image symtab)
 
--- the symbol is no debugging entry, and its type says that n_sect is the number of a section
+-- nlist_64.n_type: the symbol is no debugging entry (N_STAB), and n_sect is to be the number of a
+-- section (N_TYPE, N_SECT)
 abbrev pub NamesSection : List ℕ → ℕ → Type 0
 NamesSection image symbol =
     (bit_and (n_type image symbol) nlist.N_STAB ≡ 0)
     × (bit_and (n_type image symbol) nlist.N_TYPE ≡ nlist.N_SECT)
 
--- an indirect entry is the index of a symbol, neither local nor absolute
+-- an indirect entry is the index of a symbol: it is marked neither local nor absolute
 abbrev pub IsSymbolIndex : ℕ → Type 0
 IsSymbolIndex entry =
     (bit_and entry loader.INDIRECT_SYMBOL_LOCAL ≡ 0)

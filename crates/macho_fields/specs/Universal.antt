@@ -7,36 +7,41 @@ use Rattle.macho_fields.specs.declared.bytes.Order.TheVariants.{Big, Little}
 use Rattle.macho_fields.specs.declared.header.fat.TheConstants as fat
 use Rattle.macho_fields.specs.declared.header.loader.TheConstants as loader
 
--- fat_header.magic: FAT_MAGIC before entries of fat_arch, FAT_MAGIC_64 before those of fat_arch_64
+-- fat_header.magic at 0: FAT_MAGIC where the entries are fat_arch, FAT_MAGIC_64 where they are
+-- fat_arch_64
 abbrev pub has_wide_entries : List ℕ → Bool
 has_wide_entries file = number Big 4 file 0 == fat.FAT_MAGIC_64
 
 abbrev pub is_universal : List ℕ → Bool
 is_universal file = number Big 4 file 0 == fat.FAT_MAGIC || has_wide_entries file
 
+-- the file begins with one of the two
 abbrev pub IsUniversal : List ℕ → Type 0
 IsUniversal file = (4 ≤ length file) × IsTrue (is_universal file)
 
--- fat_header.nfat_arch
+-- fat_header.nfat_arch at 4: how many entries the table has
 abbrev pub entry_count : List ℕ → ℕ
 entry_count file = number Big 4 file 4
 
+-- the size of fat_arch_64 or fat_arch
 abbrev pub entry_size : List ℕ → ℕ
 entry_size file = if has_wide_entries file then fat.FAT_ARCH_64_SIZE else fat.FAT_ARCH_SIZE
 
--- where entry k of the table stands
+-- the place of entry k of the table, which follows fat_header
 abbrev pub entry_place : List ℕ → ℕ → ℕ
 entry_place file k = fat.FAT_HEADER_SIZE + k * entry_size file
 
+-- the first place after the table
 abbrev pub table_end : List ℕ → ℕ
 table_end file = entry_place file (entry_count file)
 
--- fat_arch.align, fat_arch_64.align: the exponent of the power of two that divides the offset
+-- fat_arch.align at 16, fat_arch_64.align at 24: the exponent of the power of two that has to
+-- divide the offset
 abbrev pub entry_align : List ℕ → ℕ → ℕ
 entry_align file k =
     number Big 4 file (entry_place file k + (if has_wide_entries file then 24 else 16))
 
--- a cpusubtype without its capability byte
+-- a cpusubtype without its capability byte (mach/machine.h: CPU_SUBTYPE_MASK)
 abbrev pub masked : ℕ → ℕ
 masked subtype = subtype % 2 ^ 24
 
@@ -47,7 +52,8 @@ pub record FileSlice : Type 0 where
   pub size : ℕ
   pub arch : Option (ℕ × ℕ)
 
--- entry k: cputype at 0, cpusubtype at 4, offset at 8, and size behind the offset
+-- entry k: cputype at 0, cpusubtype 4, offset 8, then size: offset and size have 4 bytes in
+-- fat_arch, and 8 in fat_arch_64
 abbrev pub entry_slice : List ℕ → ℕ → FileSlice
 entry_slice file k =
     let place = entry_place file k in
@@ -71,12 +77,12 @@ HasPlace slice place = Covers slice.start slice.size place
 abbrev pub slice_bytes : List ℕ → FileSlice → List ℕ
 slice_bytes file slice = part slice.start slice.size file
 
--- The bytes begin with the magic of a 64-bit little-endian image: CF FA ED FE.
+-- mach_header_64.magic: the bytes begin with that of a 64-bit little-endian image, CF FA ED FE.
 abbrev pub IsImage : List ℕ → Type 0
 IsImage bytes = (4 ≤ length bytes) × (number Little 4 bytes 0 ≡ loader.MH_MAGIC_64)
 
--- They begin with the magic of an image that is not read: of 32 bits in either order, or of 64
--- bits in big-endian order.
+-- mach_header.magic, mach_header_64.magic: they begin with that of an image that is not read, of 32
+-- bits in either order, or of 64 bits in big-endian order.
 abbrev pub IsUnreadImage : List ℕ → Type 0
 IsUnreadImage bytes =
     (4 ≤ length bytes)

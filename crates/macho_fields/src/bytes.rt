@@ -18,8 +18,8 @@ pub enum Order {
     Little,
 }
 
-/// The bytes of a file, or of a slice of one, whose fields are read by place: the offset in bytes
-/// at which they begin.
+/// The bytes of a file, or of a slice of one. A field is read by its place: the offset in bytes at
+/// which it begins.
 #[derive(Clone, Copy, Debug, PartialEq, Eq)]
 pub struct Bytes<'a> {
     bytes: &'a [u8],
@@ -54,7 +54,7 @@ impl<'a> Bytes<'a> {
         self.bytes.get(place as usize).copied()
     }
 
-    /// The number in the 2 bytes from `place` on, or `None` where they do not all lie inside.
+    /// The number in the 2 bytes from `place` on, or `None` where they are not all inside.
     pub fn u16_at(self, order: Order, place: u64) -> Option<u16>
         ensures { result ≡ field order 2 (bytes_of self.entry) place }
     {
@@ -65,7 +65,7 @@ impl<'a> Bytes<'a> {
         })
     }
 
-    /// The number in the 4 bytes from `place` on, or `None` where they do not all lie inside.
+    /// The number in the 4 bytes from `place` on, or `None` where they are not all inside.
     pub fn u32_at(self, order: Order, place: u64) -> Option<u32>
         ensures { result ≡ field order 4 (bytes_of self.entry) place }
     {
@@ -76,7 +76,7 @@ impl<'a> Bytes<'a> {
         })
     }
 
-    /// The number in the 8 bytes from `place` on, or `None` where they do not all lie inside.
+    /// The number in the 8 bytes from `place` on, or `None` where they are not all inside.
     pub fn u64_at(self, order: Order, place: u64) -> Option<u64>
         ensures { result ≡ field order 8 (bytes_of self.entry) place }
     {
@@ -97,8 +97,7 @@ impl<'a> Bytes<'a> {
         self.bytes_at(span.start, span.len)
     }
 
-    /// The first place of `span` at which the bytes hold a zero. A span may end past the bytes, or
-    /// lie behind them.
+    /// The first place of `span` whose byte is zero. A span may end, or begin, past the bytes.
     pub fn first_zero(self, span: Span) -> Option<u64>
         ensures found { IsSome result ↔ HasZero (bytes_of self.entry) span.start (end_of span) }
         ensures zero { IfSome result (λ place.
@@ -148,7 +147,7 @@ mod tests {
     }
 
     #[test]
-    fn zeros_are_sought_in_the_span(rt: HostRuntime) {
+    fn zeros_are_found_in_the_span_alone(rt: HostRuntime) {
         let bytes = Bytes::new(b"ab\0c\0");
         let from = |start: u64, len: u64| Span { start, len };
         assert_eq!(rt; bytes.first_zero(from(0, 5)), Some(2));

@@ -1,20 +1,22 @@
-//! The rules of the layout by name, and where one is broken.
+//! The rules of the layout by name, and where one is broken. A place is an offset in bytes.
 
-ghost use Rattle.std.specs.Prelude.{◌≡◌, Some};
+ghost use Rattle.std.specs.Prelude.{◌≡◌, IfOk, Some};
 ghost use Rattle.std.specs.Fmt.{styled_text};
+ghost use Rattle.std.specs.Fmt.InlineText.{inline_text};
 ghost use Rattle.macho_fields.specs.RuleNames.{name_of, text_of};
 
 use std::fmt;
 use std::fmt::{InlineText, Write};
 
-/// A rule of the layout, in the order in which the rules are judged.
+/// A rule of the layout, in the order in which the rules are judged. A rule is broken at a place,
+/// which is an offset in bytes.
 #[derive(Clone, Copy, Debug, PartialEq, Eq)]
 pub enum Rule {
     /// The file begins with the magic number of no format that is read.
     Magic,
-    /// The header or the table of a universal file passes the end of the file.
+    /// The header or the table of a universal file ends past the end of the file.
     FatTruncated,
-    /// A slice passes the end of the file.
+    /// A slice ends past the end of the file.
     FatSliceOutside,
     /// A slice begins before the end of the table that names it.
     FatSliceInTable,
@@ -34,35 +36,35 @@ pub enum Rule {
     ArchMismatch,
     /// The image is of a kind that is not read.
     FileType,
-    /// The load commands pass the end of the image.
+    /// The load commands end past the end of the image.
     CommandsOutside,
-    /// A load command passes the end of the commands, or has a size that none can have.
+    /// A load command ends past the end of the commands, or has a size that none can have.
     CommandWalk,
     /// A load command is too small for its own fields.
     CommandShort,
-    /// A load command that an image has once at most stands there again.
+    /// A kind of load command that an image may have only once is repeated.
     CommandRepeated,
-    /// A library does not name itself, or a program does.
+    /// A library has no name of its own, or an executable has one.
     DylibId,
     /// A name begins within the fields of its command, or does not end in the command.
     Name,
-    /// The addresses of a segment pass the last one.
+    /// The addresses of a segment end past 2^64.
     SegmentAddress,
     /// A segment has more bytes in the file than in memory.
     SegmentSize,
-    /// The bytes of a segment pass the end of the image.
+    /// The bytes of a segment end past the end of the image.
     SegmentFile,
     /// A segment has an address in common with an earlier one.
     SegmentOverlap,
     /// A section has an address outside its segment.
     SectionAddress,
-    /// The bytes of a section do not lie where its segment puts them.
+    /// The bytes of a section are not where its segment puts them.
     SectionFile,
-    /// The relocations of a section pass the end of the image.
+    /// The relocations of a section end past the end of the image.
     SectionRelocs,
-    /// A table that a load command names passes the end of the image.
+    /// A table that a load command names ends past the end of the image.
     TableRange,
-    /// A group of symbols passes the end of the symbol table.
+    /// A group of symbols ends past the end of the symbol table.
     SymbolGroup,
     /// The name of a symbol does not end within the string table.
     SymbolName,
@@ -125,18 +127,29 @@ impl fmt::Display for Rule {
     }
 }
 
-/// A broken rule, and the place at which it is broken.
+/// A broken rule, and the place at which it is broken: an offset in bytes from the start of the
+/// file, or of the image where an image alone is judged.
 #[derive(Clone, Copy, Debug, PartialEq, Eq)]
 pub struct Break {
     /// The rule that is broken.
     pub rule: Rule,
-    /// The offset in bytes of what breaks it.
+    /// The offset in bytes of what breaks the rule.
     pub place: u64,
 }
 
-/// How many bytes the longest text of a break has: the 18 of `fat-slice-in-table`, the 6 of
-/// ` at 0x`, and 16 digits.
+/// The length in bytes of the longest text of a break: 18 of `fat-slice-in-table`, 6 of ` at 0x`,
+/// and 16 digits.
 const LONGEST_TEXT: usize = 40;
+
+impl Break {
+    fn text(self) -> Result<InlineText<LONGEST_TEXT>, fmt::Error>
+        ensures { IfOk result (λ text. inline_text text ≡ text_of self) }
+    {
+        let mut text = InlineText::new();
+        write!(text, "{} at 0x{:x}", self.rule, self.place)?;
+        Ok(text)
+    }
+}
 
 /// The name of the rule and the place, as `entry at 0x20`. A width applies to the whole.
 impl fmt::Display for Break {
@@ -145,8 +158,7 @@ impl fmt::Display for Break {
     ghost styled_output = { λ b spec. Some (styled_text spec (text_of b)) };
 
     fn fmt<W: fmt::Write>(&self, f: &mut fmt::Formatter<W>) -> fmt::Result {
-        let mut text = InlineText::<LONGEST_TEXT>::new();
-        write!(text, "{} at 0x{:x}", self.rule, self.place)?;
+        let text = self.text()?;
         f.pad(text.as_str())
     }
 }

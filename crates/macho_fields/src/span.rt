@@ -1,9 +1,9 @@
-//! Ranges of places, and where they end.
+//! Ranges of places, and where they end. A place is an offset in bytes.
 
 ghost use Rattle.std.specs.Prelude.{◌≡◌, ◌+◌, ◌*◌, ◌↔◌, IsTrue};
 ghost use Rattle.macho_fields.specs.Span.{end_of, Holds, IsInside, Shares};
 
-/// The `len` places from `start` on, in bytes. A span may pass the last place of a `u64`.
+/// The `len` places from `start` on. A span may end past the largest `u64`.
 #[derive(Clone, Copy, Debug, PartialEq, Eq, Hash)]
 pub struct Span {
     /// The first place.
@@ -13,7 +13,7 @@ pub struct Span {
 }
 
 impl Span {
-    /// The place behind the last one, which a `u64` need not hold.
+    /// The first place after the span, which may be too large for a `u64`.
     pub fn end(self) -> u128
         ensures { result ≡ end_of self }
     {
@@ -27,14 +27,14 @@ impl Span {
         self.start <= place && u128::from(place) < self.end()
     }
 
-    /// Whether this span begins and ends within `other`, be it empty or not.
+    /// Whether this span begins and ends within `other`, whether or not it is empty.
     pub fn inside(self, other: &Span) -> bool
         ensures { IsTrue result ↔ IsInside self other.now }
     {
         other.start <= self.start && self.end() <= other.end()
     }
 
-    /// Whether some place is held by both spans, so that an empty span shares nothing.
+    /// Whether both spans hold some place. An empty span shares nothing.
     pub fn shares(self, other: &Span) -> bool
         ensures { IsTrue result ↔ Shares self other.now }
     {
@@ -43,7 +43,7 @@ impl Span {
     }
 }
 
-/// The place behind a table of `count` entries of `each` bytes that begins at `start`.
+/// The first place after a table of `count` entries of `each` bytes that begins at `start`.
 pub fn table_end(start: u64, count: u64, each: u64) -> u128
     ensures { result ≡ start + count * each }
 {

@@ -5,7 +5,7 @@ pub const FAT_MAGIC: u32 = 0xcafe_babe;
 /// The magic number of a universal file with entries of 64-bit offsets.
 pub const FAT_MAGIC_64: u32 = 0xcafe_babf;
 
-/// The size in bytes of `fat_header`, behind which the entries begin.
+/// The size in bytes of `fat_header`, after which the entries begin.
 pub const FAT_HEADER_SIZE: u64 = 8;
 /// The size in bytes of `fat_arch`, an entry of 32-bit offsets.
 pub const FAT_ARCH_SIZE: u64 = 20;

@@ -9,18 +9,18 @@ pub const MH_MAGIC_64: u32 = 0xfeed_facf;
 /// The magic number of a 64-bit image, in the opposite byte order.
 pub const MH_CIGAM_64: u32 = 0xcffa_edfe;
 
-/// An image that is run as a program.
+/// An executable, which is run as a program.
 pub const MH_EXECUTE: u32 = 2;
-/// An image that programs are linked with.
+/// A library, which programs are linked with.
 pub const MH_DYLIB: u32 = 6;
-/// An image that a running program loads.
+/// A bundle, which a running program loads.
 pub const MH_BUNDLE: u32 = 8;
 
-/// The size in bytes of `mach_header_64`, behind which the load commands begin.
+/// The size in bytes of `mach_header_64`, after which the load commands begin.
 pub const MACH_HEADER_64_SIZE: u64 = 32;
 /// The size in bytes of `load_command`, with which each load command begins.
 pub const LOAD_COMMAND_SIZE: u64 = 8;
-/// The size in bytes of `segment_command_64`, behind which its sections stand.
+/// The size in bytes of `segment_command_64`, after which its sections follow.
 pub const SEGMENT_COMMAND_64_SIZE: u64 = 72;
 /// The size in bytes of `section_64`.
 pub const SECTION_64_SIZE: u64 = 80;
@@ -34,19 +34,19 @@ pub const LC_SYMTAB: u32 = 0x2;
 pub const LC_DYSYMTAB: u32 = 0xb;
 /// A library that the image is linked with.
 pub const LC_LOAD_DYLIB: u32 = 0xc;
-/// The name by which a library is linked with.
+/// The name of a library, under which programs are linked with it.
 pub const LC_ID_DYLIB: u32 = 0xd;
-/// The dynamic linker that a program is loaded by.
+/// The dynamic linker that loads a program.
 pub const LC_LOAD_DYLINKER: u32 = 0xe;
 /// The name of a dynamic linker.
 pub const LC_ID_DYLINKER: u32 = 0xf;
 /// A segment of a 64-bit image, with its sections.
 pub const LC_SEGMENT_64: u32 = 0x19;
-/// The number that tells one build from each other.
+/// The number that identifies a build.
 pub const LC_UUID: u32 = 0x1b;
 /// The place of the code signature.
 pub const LC_CODE_SIGNATURE: u32 = 0x1d;
-/// The place of what is needed to move the segments apart.
+/// The place of what is needed to move segments apart.
 pub const LC_SEGMENT_SPLIT_INFO: u32 = 0x1e;
 /// A library that is loaded at its first use.
 pub const LC_LAZY_LOAD_DYLIB: u32 = 0x20;
@@ -62,9 +62,9 @@ pub const LC_DATA_IN_CODE: u32 = 0x29;
 pub const LC_DYLIB_CODE_SIGN_DRS: u32 = 0x2b;
 /// The range of a 64-bit image that is encrypted.
 pub const LC_ENCRYPTION_INFO_64: u32 = 0x2c;
-/// The place of the hints for optimizing at link time.
+/// The place of the hints for optimization at link time.
 pub const LC_LINKER_OPTIMIZATION_HINT: u32 = 0x2e;
-/// The place of data of some owner.
+/// The place of data of a named owner.
 pub const LC_NOTE: u32 = 0x31;
 /// The platform, its least version and the tools of a build.
 pub const LC_BUILD_VERSION: u32 = 0x32;
@@ -73,11 +73,11 @@ pub const LC_BUILD_VERSION: u32 = 0x32;
 pub const LC_LOAD_WEAK_DYLIB: u32 = 0x18 | LC_REQ_DYLD;
 /// A folder in which the dynamic linker looks for libraries.
 pub const LC_RPATH: u32 = 0x1c | LC_REQ_DYLD;
-/// A library whose symbols the image offers as its own.
+/// A library whose symbols the image exports as its own.
 pub const LC_REEXPORT_DYLIB: u32 = 0x1f | LC_REQ_DYLD;
 /// The compressed tables of `LC_DYLD_INFO`, without which the image cannot be loaded.
 pub const LC_DYLD_INFO_ONLY: u32 = 0x22 | LC_REQ_DYLD;
-/// A library that is itself linked with the image.
+/// A library that is itself linked with this image.
 pub const LC_LOAD_UPWARD_DYLIB: u32 = 0x23 | LC_REQ_DYLD;
 /// The entry point of a program.
 pub const LC_MAIN: u32 = 0x28 | LC_REQ_DYLD;
@@ -86,13 +86,13 @@ pub const LC_DYLD_EXPORTS_TRIE: u32 = 0x33 | LC_REQ_DYLD;
 /// The place of the chained fixups.
 pub const LC_DYLD_CHAINED_FIXUPS: u32 = 0x34 | LC_REQ_DYLD;
 
-/// The bits of a section's flags that say its type.
+/// The bits of the flags of a section that are its type.
 pub const SECTION_TYPE: u32 = 0xff;
-/// The type of a section that memory shows as zeros and the file does not hold.
+/// The type of a section of zeros, which has no bytes in the file.
 pub const S_ZEROFILL: u32 = 0x1;
-/// The type of a section of zeros that may be larger than 4 gigabytes.
+/// The type of a section of zeros that may have more than 4 gigabytes.
 pub const S_GB_ZEROFILL: u32 = 0xc;
-/// The type of a section of zeros that each thread has for itself.
+/// The type of a section of zeros of which each thread has its own.
 pub const S_THREAD_LOCAL_ZEROFILL: u32 = 0x12;
 
 /// The mark of an indirect entry whose symbol is local to the image.

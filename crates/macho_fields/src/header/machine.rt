@@ -5,7 +5,7 @@ pub const CPU_TYPE_X86_64: u32 = 0x0100_0007;
 /// A 64-bit processor of the ARM family.
 pub const CPU_TYPE_ARM64: u32 = 0x0100_000c;
 
-/// The bits of a subtype that name capabilities and no processor.
+/// The bits of a subtype that are capabilities, and no part of the processor.
 pub const CPU_SUBTYPE_MASK: u32 = 0xff00_0000;
 
 /// Any 64-bit x86 processor.

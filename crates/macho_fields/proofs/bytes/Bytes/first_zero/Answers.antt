@@ -1,6 +1,6 @@
-use Rattle.std.proofs.Common.{◌<◌, length, None, subst, arith}
+use Rattle.std.proofs.Common.{◌<◌, length, None, Some, subst, arith}
 use Rattle.std.proofs.lemmas.Bool.{false≢true}
-use Rattle.memchr.specs.Find.{is_byte, IsFirstByte, Nowhere, Passes}
+use Rattle.memchr.specs.Find.{is_byte, IsFirstByte, Passes}
 use Rattle.macho_fields.proofs.Zeros.{clipped_part, none_in_part, zero_in_part, none_before_in_part}
 use Rattle.macho_fields.proofs.bytes.Bytes.first_zero.Goals as goal
 
@@ -30,6 +30,4 @@ returns-clause-first c =
     let start = c.args.span.start in
     let len = c.args.span.len in
     let at = clipped_part bytes start len c.in_ok-rest.rest c.unwrap_or-within.result c.get-2.result c.unwrap_or-within.ensures c.in_ok-rest.ensures.lookup.0.2 c.get-2.ensures.lookup.0 in
-    let index = c.in_ok-index.index in
-    let inside = subst (λ within. index < length within) at c.in_ok-index.ensures.0.high in
-    none_before_in_part bytes start len index inside (subst (λ within. Nowhere (Passes (is_byte 0) within) 0 index) at c.in_ok-index.ensures.0.before)
+    none_before_in_part bytes start len c.in_ok-index.index (subst (λ within. IsFirstByte (is_byte 0) within (Some c.in_ok-index.index)) at c.in_ok-index.ensures)
