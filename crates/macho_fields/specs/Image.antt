@@ -37,8 +37,8 @@ command_kind image command = word image command
 abbrev pub command_size : List ℕ → ℕ → ℕ
 command_size image command = word image (command + 4)
 
--- a command can be at this place: it lies below the end of the commands, and its cmdsize is a
--- multiple of 8, and at least that of load_command
+-- a command can be at this place: it ends no later than the commands, and its cmdsize is a
+-- multiple of 8, and no less than the size of load_command
 pub record IsGood (image : List ℕ) (place : ℕ) : Type 0 where
   pub head : place + loader.LOAD_COMMAND_SIZE ≤ commands_end image
   pub whole : command_size image place % 8 ≡ 0

@@ -73,7 +73,7 @@ BreaksHeader image arch rule.CommandWalk place =
 BreaksHeader image arch other place = ⊥
 
 -- Rules of an image that need the places of its commands (mach-o/loader.h: the structure of each
--- command, section_64; mach-o/nlist.h: nlist_64)
+-- command, section_64; mach-o/nlist.h: nlist_64; mach-o/reloc.h: relocation_info of 8 bytes)
 abbrev pub BreaksCommands : List ℕ → List ℕ → Rule → ℕ → Type 0
 BreaksCommands image commands rule.CommandShort place =
     Contains commands place × IsShort image place

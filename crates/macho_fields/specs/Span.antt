@@ -15,6 +15,6 @@ Holds span place = Covers span.start span.len place
 abbrev pub IsInside : Span → Span → Type 0
 IsInside span other = (other.start ≤ span.start) × (end_of span ≤ end_of other)
 
--- both spans hold some place
+-- some place is in both spans
 abbrev pub Shares : Span → Span → Type 0
 Shares span other = (place : ℕ) × Holds span place × Holds other place

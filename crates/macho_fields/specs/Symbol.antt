@@ -47,7 +47,9 @@ groups_of image dysymtab =
 -- place of the table; that of the field with the count of its items; the size of an item. The
 -- places are symoff and stroff of symtab_command; tocoff, modtaboff, extrefsymoff, indirectsymoff,
 -- extreloff and locreloff of dysymtab_command; dataoff of linkedit_data_command; rebase_off,
--- bind_off, weak_bind_off, lazy_bind_off and export_off of dyld_info_command.
+-- bind_off, weak_bind_off, lazy_bind_off and export_off of dyld_info_command. The items of
+-- dysymtab_command are dylib_table_of_contents of 8 bytes, dylib_module_64 of 56, dylib_reference
+-- of 4, indirect entries of 4, and twice relocation_info of 8.
 abbrev pub table_fields : List (ℕ × ℕ × ℕ × ℕ)
 table_fields =
     (loader.LC_SYMTAB, 8, 12, nlist.NLIST_64_SIZE) ∷ (loader.LC_SYMTAB, 16, 20, 1)

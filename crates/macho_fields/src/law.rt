@@ -12,7 +12,8 @@ ghost use Rattle.macho_fields.specs.Loader.{IsSound};
 
 use crate::rule::Break;
 
-/// Each constant of `header` is the number that the public headers define.
+/// Each constant of `header` is the number that its public header defines, as `specs/Header.antt`
+/// lists them.
 pub fn constants_are_those_of_the_headers()
     ensures fat { AreFatConstants }
     ensures loader { AreLoaderConstants }

@@ -142,6 +142,7 @@ pub struct Break {
 const LONGEST_TEXT: usize = 40;
 
 impl Break {
+    /// The text in reports, with room for the longest.
     fn text(self) -> Result<InlineText<LONGEST_TEXT>, fmt::Error>
         ensures { IfOk result (λ text. inline_text text ≡ text_of self) }
     {

@@ -34,7 +34,7 @@ impl Span {
         other.start <= self.start && self.end() <= other.end()
     }
 
-    /// Whether both spans hold some place. An empty span shares nothing.
+    /// Whether some place is in both spans. An empty span shares nothing.
     pub fn shares(self, other: &Span) -> bool
         ensures { IsTrue result ↔ Shares self other.now }
     {
