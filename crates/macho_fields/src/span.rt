@@ -64,23 +64,33 @@ mod tests {
     }
 
     #[test]
-    fn a_span_holds_its_first_place_and_no_place_at_its_end(rt: HostRuntime) {
+    fn a_span_holds_its_first_place_and_not_its_end(rt: HostRuntime) {
         let span = Span { start: 8, len: 4 };
-        assert!(rt; !span.holds(7) && span.holds(8) && span.holds(11) && !span.holds(12));
-        let last = Span {
-            start: u64::MAX,
-            len: 9,
-        };
-        assert!(rt; last.holds(u64::MAX) && !last.holds(7));
+        for (place, holds) in [(7, false), (8, true), (11, true), (12, false)] {
+            assert_eq!(rt; span.holds(place), holds, "at {place}");
+        }
+        let start = u64::MAX;
+        let last = Span { start, len: 9 };
+        assert!(rt; last.holds(start) && !last.holds(7));
     }
 
     #[test]
-    fn a_span_that_begins_before_or_ends_past_another_is_not_inside(rt: HostRuntime) {
+    fn a_span_is_inside_where_both_ends_are(rt: HostRuntime) {
         let whole = Span { start: 8, len: 4 };
-        let inside = |start: u64, len: u64| Span { start, len }.inside(&whole);
-        assert!(rt; inside(8, 4) && inside(9, 2) && inside(12, 0));
-        assert!(rt; !inside(7, 3) && !inside(9, 4) && !inside(7, 6));
-        assert!(rt; !inside(7, 0) && !inside(13, 0));
+        let spans = [
+            (8, 4, true),
+            (9, 2, true),
+            (12, 0, true),
+            (7, 3, false),
+            (9, 4, false),
+            (7, 6, false),
+            (7, 0, false),
+            (13, 0, false),
+        ];
+        for (start, len, inside) in spans {
+            let span = Span { start, len };
+            assert_eq!(rt; span.inside(&whole), inside, "from {start} on");
+        }
     }
 
     #[test]
