@@ -9,7 +9,7 @@ use Rattle.macho_fields.specs.declared.rule.Break.{Break}
 use Rattle.macho_fields.specs.declared.span.Span.{Span}
 use Rattle.macho_fat.proofs.Alignment.{IsMultiple}
 
--- the entries that are gone over do not have P
+-- the entries before this one do not have P
 abbrev pub NoneBelow : (ℕ → Type 0) → ℕ → Type 0
 NoneBelow P k = (i : ℕ) → i < k → ¬ P i
 
@@ -54,7 +54,7 @@ Overlaps file = WithEarlier (λ i j. SharePlace (entry_slice file i) (entry_slic
 abbrev pub Repeats : List ℕ → ℕ → Type 0
 Repeats file = WithEarlier (λ i j. (entry_slice file i).arch ≡ (entry_slice file j).arch)
 
--- a slice behind the table does not begin at the file's first place
+-- a slice that begins after the table does not begin at offset 0
 pub begins_late : (file : List ℕ) (k : ℕ) → IsUniversal file → k < entry_count file → ((place : ℕ) → ¬ Breaks file (IsInTable file) place) → 0 < (entry_slice file k).start
 begins_late file k universal less none =
     elim (cases_lt (entry_slice file k).start (table_end file)) [

@@ -13,10 +13,11 @@ pub record IsLeastForeign (file : List ℕ) (k place : ℕ) : Type 0 where
   pub there : (i : ℕ) × (i < k) × (place ≡ (entry_slice file i).start) × IsForeign file i
   pub least : (i : ℕ) → i < k → IsForeign file i → place ≤ (entry_slice file i).start
 
-abbrev pub TellsForeign : List ℕ → ℕ → Option ℕ → Type 0
-TellsForeign file k told = MatchOption told (NoneBelow (IsForeign file) k) (IsLeastForeign file k)
+-- the answer is the least such place of the first entries, if there is one
+abbrev pub DecidesForeign : List ℕ → ℕ → Option ℕ → Type 0
+DecidesForeign file k answer = MatchOption answer (NoneBelow (IsForeign file) k) (IsLeastForeign file k)
 
-none_foreign : (file : List ℕ) (k : ℕ) (told : Option ℕ) → TellsForeign file k told → ¬ IsForeign file k → TellsForeign file (k + 1) told
+none_foreign : (file : List ℕ) (k : ℕ) (answer : Option ℕ) → DecidesForeign file k answer → ¬ IsForeign file k → DecidesForeign file (k + 1) answer
 none_foreign file k None none here = none_more (IsForeign file) k none here
 none_foreign file k (Some place) is here = record { there = there; least = least }
   where
@@ -34,7 +35,7 @@ first_foreign file k start at none here = record { there = (k, omega arith, at, 
     least i less foreign =
         elim (cases_lt i k) [ inl lower ↦ absurd (none i lower foreign) | inr most ↦ (let same : i ≡ k = omega arith in omega (arith, at, ap (λ n. (entry_slice file n).start) same)) ]
 
--- the lesser of the place that is told and that of one more foreign slice
+-- the lesser of the least place and that of one more foreign slice
 more_foreign : (file : List ℕ) (k start place next : ℕ) → start ≡ (entry_slice file k).start → IsLeastForeign file k place → IsForeign file k → next ≤ place → next ≤ start → (next ≡ place) ⊎ (next ≡ start) → IsLeastForeign file (k + 1) next
 more_foreign file k start place next at is here low below one = record { there = there one; least = least }
   where
@@ -54,14 +55,14 @@ abbrev HasForeign : List ℕ → ℕ → FileSlice → Type 0
 HasForeign file place slice = (place ≡ slice.start) × ¬ (IsImage (slice_bytes file slice) ⊎ IsUnreadImage (slice_bytes file slice))
 
 -- one entry more
-pub foreign_more : (file : List ℕ) (k : ℕ) (told here next : Option ℕ) → TellsForeign file k told → MatchOption here (¬ IsForeign file k) (λ start. (start ≡ (entry_slice file k).start) × IsForeign file k) → next ≡ lesser_of told here → TellsForeign file (k + 1) next
-foreign_more file k told None next tells kept is = subst (TellsForeign file (k + 1)) (sym (is ∙ nothing told)) (none_foreign file k told tells kept)
+pub foreign_more : (file : List ℕ) (k : ℕ) (answer here next : Option ℕ) → DecidesForeign file k answer → MatchOption here (¬ IsForeign file k) (λ start. (start ≡ (entry_slice file k).start) × IsForeign file k) → next ≡ lesser_of answer here → DecidesForeign file (k + 1) next
+foreign_more file k answer None next least kept is = subst (DecidesForeign file (k + 1)) (sym (is ∙ nothing answer)) (none_foreign file k answer least kept)
   where
-    nothing : (told : Option ℕ) → lesser_of told None ≡ told
+    nothing : (answer : Option ℕ) → lesser_of answer None ≡ answer
     nothing None = refl
     nothing (Some a) = refl
-foreign_more file k None (Some start) next none (at, foreign) is = subst (TellsForeign file (k + 1)) (sym is) (first_foreign file k start at none foreign)
-foreign_more file k (Some place) (Some start) next tells (at, foreign) is = subst (TellsForeign file (k + 1)) (sym is) (more_foreign file k start place (min place start) at tells foreign (omega arith) (omega arith) (one place start))
+foreign_more file k None (Some start) next none (at, foreign) is = subst (DecidesForeign file (k + 1)) (sym is) (first_foreign file k start at none foreign)
+foreign_more file k (Some place) (Some start) next least (at, foreign) is = subst (DecidesForeign file (k + 1)) (sym is) (more_foreign file k start place (min place start) at least foreign (omega arith) (omega arith) (one place start))
   where
     one : (a b : ℕ) → (min a b ≡ a) ⊎ (min a b ≡ b)
     one a b = elim (cases_lt a b) [ inl less ↦ inl (omega arith) | inr most ↦ inr (omega arith) ]

@@ -1,16 +1,13 @@
 -- The rules of a file one after the other, in their order.
-use Rattle.std.proofs.Common.{◌≡◌, ℕ, ◌+◌, ◌≤◌, ◌<◌, List, Result, Ok, Err, IfErr, IsErrAnd, sym, subst, arith, lit<}
+use Rattle.std.proofs.Common.{◌≡◌, ℕ, ◌+◌, ◌≤◌, ◌<◌, List, Result, Ok, Err, IsErrAnd, sym, subst, arith, lit<}
 use Rattle.macho_fields.specs.Rules.{BreaksFile}
 use Rattle.macho_fields.specs.First.{rank}
-use Rattle.macho_fields.specs.Layers.{NothingBreaks}
+use Rattle.macho_fields.specs.Layers.{NothingBreaks, Decides, IsLeast}
 use Rattle.macho_fields.specs.declared.rule.Rule.{Rule}
 use Rattle.macho_fields.specs.declared.rule.Rule.TheVariants as rule
 use Rattle.macho_fields.specs.declared.rule.Break.{Break}
 use Rattle.macho_fields.proofs.Layers.{KeptBelow, kept_more, least_at}
 use Rattle.macho_fields.proofs.Ranks.{rank_positive}
-use Rattle.macho_fat.specs.Slices.{IsFatFault}
-use Rattle.macho_fat.specs.declared.fault.FatFault.{FatFault}
-use Rattle.macho_fat.specs.declared.fault.FatFault.TheVariants as fault
 
 -- a file breaks no rule of an image
 pub file_rule_rank : (file : List ℕ) (r : Rule) (place : ℕ) → BreaksFile file r place → rank r < 10
@@ -54,7 +51,7 @@ kept_all file below r place broken = below r place (file_rule_rank file r place 
 pub kept_next : (file : List ℕ) (r : Rule) → KeptBelow (BreaksFile file) (rank r) → ((place : ℕ) → ¬ BreaksFile file r place) → KeptBelow (BreaksFile file) (rank r + 1)
 kept_next file = kept_more (BreaksFile file)
 
--- the rules that are judged before the table is read, for the bytes that the table has
+-- the rules that are decided before the table is read, for the bytes that the table has
 pub kept_table : (file table : List ℕ) → table ≡ file → ((place : ℕ) → ¬ BreaksFile file rule.Magic place) → ((place : ℕ) → ¬ BreaksFile file rule.FatTruncated place) → KeptBelow (BreaksFile table) 3
 kept_table file table same magic truncated = subst (λ bytes. KeptBelow (BreaksFile bytes) 3) (sym same) kept
   where
@@ -64,15 +61,9 @@ kept_table file table same magic truncated = subst (λ bytes. KeptBelow (BreaksF
     kept : KeptBelow (BreaksFile file) 3
     kept = kept_next file rule.FatTruncated (kept_next file rule.Magic first magic) truncated
 
--- a rule that is told is the first that is broken
-pub refused : {T : Type 0} (file table : List ℕ) (r : Rule) (told : Break) (answer : Result T FatFault) → table ≡ file → IsErrAnd answer (λ f. f ≡ fault.Broken told) → KeptBelow (BreaksFile table) (rank r)
-    → (told.rule ≡ r) × BreaksFile table r told.place × ((place : ℕ) → BreaksFile table r place → told.place ≤ place) → IfErr answer (IsFatFault file)
-refused file table r told (Ok x) same is below says = absurd is
-refused file table r told (Err f) same is below says =
-    subst (λ bytes. IsFatFault bytes f) same (subst (IsFatFault table) (sym is) (least_at (BreaksFile table) r told below says))
-
--- memory is wanted where no rule is broken
-pub out_of_memory : {T : Type 0} (file table : List ℕ) (answer : Result T FatFault) → table ≡ file → IsErrAnd answer (λ f. f ≡ fault.Memory) → KeptBelow (BreaksFile table) 10 → IfErr answer (IsFatFault file)
-out_of_memory file table (Ok x) same is below = absurd is
-out_of_memory file table (Err f) same is below =
-    subst (λ bytes. IsFatFault bytes f) same (subst (IsFatFault table) (sym is) (λ r place early. kept_all table below r place))
+-- a rule whose break is returned is the first that is broken
+pub refused : {T : Type 0} (file table : List ℕ) (r : Rule) (found : Break) (answer : Result T Break) → table ≡ file → IsErrAnd answer (λ b. b ≡ found) → KeptBelow (BreaksFile table) (rank r)
+    → (found.rule ≡ r) × BreaksFile table r found.place × ((place : ℕ) → BreaksFile table r place → found.place ≤ place) → Decides (BreaksFile file) answer
+refused file table r found (Ok x) same is below says = absurd is
+refused file table r found (Err b) same is below says =
+    subst (λ bytes. IsLeast (BreaksFile bytes) b) same (subst (IsLeast (BreaksFile table)) (sym is) (least_at (BreaksFile table) r found below says))

@@ -1,3 +1,4 @@
 pub mod Table
+pub mod Contents
 pub mod Magic
 pub mod Slices

@@ -8,7 +8,7 @@ IsForeign file k =
     ¬ (IsImage (slice_bytes file (entry_slice file k))
     ⊎ IsUnreadImage (slice_bytes file (entry_slice file k)))
 
--- the lesser of two places, of which each may be missing
+-- the lesser of two places, either of which may be missing
 abbrev pub lesser_of : Option ℕ → Option ℕ → Option ℕ
 lesser_of None b = b
 lesser_of (Some a) None = Some a

@@ -1,4 +1,4 @@
-//! Why the slices of a file are not told.
+//! Why the slices of a file are not returned.
 
 ghost use Rattle.std.specs.Prelude.{◌≡◌};
 ghost use Rattle.macho_fat.specs.declared.fault.FatFault.TheVariants.{Broken, Memory};
@@ -7,7 +7,7 @@ use macho_fields::Break;
 use std::alloc::AllocError;
 use thiserror::Error;
 
-/// Why the slices of a file are not told.
+/// Why the slices of a file are not returned.
 #[derive(Clone, Copy, Debug, PartialEq, Eq, Error)]
 pub enum FatFault {
     /// The first broken rule of the file, with its place.

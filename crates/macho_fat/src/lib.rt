@@ -1,6 +1,7 @@
 #![tactic(auto)]
 //! Universal files: the header, the table of its entries, and the slices that the entries name.
 
+mod check;
 pub mod fault;
 mod rules;
 pub mod slice;

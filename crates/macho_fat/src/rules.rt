@@ -73,7 +73,7 @@ pub(crate) fn fat_slice_outside(table: &Table) -> Result<(), Break>
     Ok(())
 }
 
-/// Each slice begins behind the table.
+/// Each slice begins after the table.
 pub(crate) fn fat_slice_in_table(table: &Table) -> Result<(), Break>
     ensures { DecidesRule (BreaksFile table.now Rule.FatSliceInTable) Rule.FatSliceInTable result }
 {
@@ -198,7 +198,7 @@ fn foreign_place(table: &Table, k: u32) -> Option<u64>
     }
 }
 
-/// The lesser of two places, of which each may be missing.
+/// The lesser of two places, either of which may be missing.
 fn lesser(a: Option<u64>, b: Option<u64>) -> Option<u64>
     ensures { result ≡ lesser_of a b }
 {

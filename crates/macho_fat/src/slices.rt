@@ -1,79 +1,78 @@
 //! The slices of a file.
 
-ghost use Rattle.std.specs.Prelude.{◌≡◌, ℕ, false, map, All, IfOk, OnOk, IfErr};
+ghost use Rattle.std.specs.Prelude.{◌≡◌, ℕ, false, length, map, All, IfOk, OnOk, IfErr};
+ghost use Rattle.std.specs.Vec.{vec_capacity};
 ghost use Rattle.macho_fields.specs.Bytes.{bytes_of};
 ghost use Rattle.macho_fields.specs.Layers.{NothingBreaks};
 ghost use Rattle.macho_fields.specs.Rules.{BreaksFile};
 ghost use Rattle.macho_fields.specs.Universal.{is_universal, slices_of, IsImage};
 ghost use Rattle.macho_fields.specs.declared.rule.Rule.{Rule};
-ghost use Rattle.macho_fat.specs.Slices.{slice_of, TellsRead, AreSlices, IsFatFault};
+ghost use Rattle.macho_fat.specs.Slices.{slice_of, MarksRead, AreSlices, IsFatFault};
 
+use crate::check::{Contents, check_file};
 use crate::fault::FatFault;
-use crate::rules::{
-    Format, fat_align, fat_duplicate, fat_empty, fat_overlap, fat_slice_in_table, fat_slice_magic,
-    fat_slice_outside, fat_truncated, is_image, magic,
-};
+use crate::rules::is_image;
 use crate::slice::Slice;
 use crate::table::Table;
 use macho_fields::{Bytes, Span};
 use std::alloc::{AllocError, Global};
 
 /// The slices of a file that keeps the rules of the file, from `magic` to `fat-empty`: the whole
-/// of a file that is one image, and else one slice for each entry of the table, in order. Where
-/// one of the rules is broken, it tells the first of them. It takes memory for the slices alone,
-/// and none where one of the rules from `magic` to `fat-align` is broken.
+/// of a file that is one image, and otherwise one slice for each entry of the table, in order.
+/// Where one of the rules is broken, it returns the first of them. It takes memory for the list of
+/// slices alone, as much as that needs, and none where one of the rules from `magic` to `fat-align`
+/// is broken.
 pub fn slices(alloc: Global, file: Bytes) -> Result<Vec<Slice>, FatFault>
     ensures slices { IfOk result (λ slices.
         map slice_of slices.items ≡ slices_of (bytes_of file.entry)) }
-    ensures read { IfOk result (λ slices. All (TellsRead (bytes_of file.entry)) slices.items) }
+    ensures read { IfOk result (λ slices. All (MarksRead (bytes_of file.entry)) slices.items) }
+    ensures capacity { IfOk result (λ slices.
+        vec_capacity slices ≡ length (slices_of (bytes_of file.entry))) }
     ensures unbroken { OnOk result (NothingBreaks (BreaksFile (bytes_of file.entry))) }
     ensures refused { IfErr result (IsFatFault (bytes_of file.entry)) }
 {
-    let table = match magic(file)? {
-        Format::Image => return Ok(whole(alloc, file)?),
-        Format::Universal => fat_truncated(file)?,
-    };
-    fat_slice_outside(&table)?;
-    fat_slice_in_table(&table)?;
-    fat_align(&table)?;
-    fat_overlap(&table)?;
-    fat_duplicate(&table)?;
-    fat_slice_magic(&table)?;
-    fat_empty(&table)?;
-    Ok(listed(alloc, &table)?)
+    // The rules are decided without memory, before any is asked for.
+    match check_file(file)? {
+        Contents::Image => Ok(whole(alloc, file)?),
+        Contents::Slices(table) => Ok(listed(alloc, &table)?),
+    }
 }
 
 /// The one slice of a file that is an image.
 fn whole(alloc: Global, file: Bytes) -> Result<Vec<Slice>, AllocError>
     requires image { IsImage (bytes_of file) }
     requires plain { is_universal (bytes_of file) ≡ false }
-    ensures { IfOk result (λ slices. AreSlices (bytes_of file.entry) slices.items) }
+    ensures slices { IfOk result (λ slices. AreSlices (bytes_of file.entry) slices.items) }
+    ensures capacity { IfOk result (λ slices.
+        vec_capacity slices ≡ length (slices_of (bytes_of file.entry))) }
 {
-    let mut slices = Vec::new(alloc);
-    slices.push(Slice {
+    let mut slices = Vec::with_capacity(alloc, 1)?;
+    slices.push_reserved(Slice {
         span: Span {
             start: 0,
             len: file.len(),
         },
         arch: None,
         read: true,
-    })?;
+    });
     Ok(slices)
 }
 
 /// The slices of a table, in order.
 fn listed(alloc: Global, table: &Table) -> Result<Vec<Slice>, AllocError>
     requires { (place : ℕ) → ¬ BreaksFile table.now Rule.FatSliceOutside place }
-    ensures { IfOk result (λ slices. AreSlices table.now slices.items) }
+    ensures slices { IfOk result (λ slices. AreSlices table.now slices.items) }
+    ensures capacity { IfOk result (λ slices.
+        vec_capacity slices ≡ length (slices_of table.now)) }
 {
     let mut slices = Vec::with_capacity(alloc, table.count() as usize)?;
     for k in 0..table.count() {
         let entry = table.entry(k);
-        slices.push(Slice {
+        slices.push_reserved(Slice {
             span: entry.span,
             arch: Some(entry.arch),
             read: is_image(table.slice_bytes(k)),
-        })?;
+        });
     }
     Ok(slices)
 }

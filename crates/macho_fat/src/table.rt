@@ -11,8 +11,8 @@ use std::marker::Model;
 /// `fat_header.nfat_arch`
 pub(crate) const ENTRY_COUNT: u64 = 4;
 
-// Where the fields of an entry stand in it, behind `cputype`. In a `fat_arch_64` offset and size
-// have 64 bits.
+// The offsets in an entry of the fields after `cputype`. In a `fat_arch_64` offset and size have
+// 64 bits.
 const CPU_SUBTYPE: u64 = 4;
 
 const OFFSET: u64 = 8;
@@ -25,7 +25,7 @@ const SIZE_64: u64 = 16;
 
 const ALIGN_64: u64 = 24;
 
-/// The size in bytes of an entry: a `fat_arch_64` where entries are wide, and a `fat_arch` else.
+/// The size in bytes of an entry: a `fat_arch_64` where entries are wide, otherwise a `fat_arch`.
 pub(crate) fn entry_size(wide: bool) -> u64
     ensures { result ≡ (if wide then FAT_ARCH_64_SIZE else FAT_ARCH_SIZE) }
 {
@@ -59,10 +59,10 @@ impl<'a> Model for Table<'a> {
         × (table.count ≡ entry_count (bytes_of table.file)) };
 }
 
-/// An entry of the table: a slice of the file, and the processor for which it is.
+/// An entry of the table: a slice of the file, and the processor that it is for.
 #[derive(Clone, Copy)]
 pub(crate) struct Entry {
-    /// Where the entry stands in the file.
+    /// The offset of the entry in the file.
     pub(crate) place: u64,
     /// `cputype`, and `cpusubtype` without the capability bits.
     pub(crate) arch: (u32, u32),
@@ -97,8 +97,8 @@ impl<'a> Table<'a> {
     ghost use Rattle.macho_fields.specs.Universal.{has_wide_entries, entry_count, entry_slice, table_end, slice_bytes};
     ghost use Rattle.macho_fat.specs.Table.{HasTable, IsEntry};
 
-    /// The table of a universal file. Its entries are `fat_arch_64` where they are wide, and
-    /// `fat_arch` else.
+    /// The table of a universal file. Its entries are `fat_arch_64` where they are wide, otherwise
+    /// `fat_arch`.
     pub(crate) fn new(file: Bytes<'a>, wide: bool, count: u32) -> Table<'a>
         requires table { HasTable (bytes_of file) }
         requires wide { wide ≡ has_wide_entries (bytes_of file) }
@@ -123,7 +123,7 @@ impl<'a> Table<'a> {
         self.file.len()
     }
 
-    /// The place behind the table.
+    /// The offset at which the table ends.
     pub(crate) fn end(&self) -> u64
         ensures { result ≡ table_end self.now }
     {
