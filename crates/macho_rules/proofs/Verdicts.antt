@@ -8,10 +8,11 @@ use Rattle.std.specs.Option.{is_some}
 use Rattle.std.specs.Result.{result_ok}
 use Rattle.macho_fields.specs.Field.{part}
 use Rattle.macho_fields.specs.Universal.{FileSlice, slices_of, slice_bytes, IsImage}
-use Rattle.macho_fields.specs.First.{IsUnbroken}
-use Rattle.macho_fields.specs.Layers.{NothingBreaks, Decides, BreaksOpening, BreaksOpened}
+use Rattle.macho_fields.specs.First.{IsUnbroken, IsFirstBroken}
+use Rattle.macho_fields.specs.Rules.{BreaksImage}
+use Rattle.macho_fields.specs.Layers.{IsLeast, NothingBreaks, Decides, BreaksOpening, BreaksOpened}
 use Rattle.macho_fields.specs.declared.rule.Break.{Break}
-use Rattle.macho_fields.proofs.Images.{opened_first}
+use Rattle.macho_fields.proofs.Images.{opening_first, opened_first, image_unbroken}
 use Rattle.macho_fields.proofs.Ranks.{image_alone}
 use Rattle.macho_fields.proofs.Scopes.{KeptScopes, of_slice, file_first, slice_first}
 use Rattle.macho_fields.proofs.Sound.{slice_inside}
@@ -19,35 +20,32 @@ use Rattle.macho_fat.specs.Slices.{slice_of, AreSlices, IsFatFault}
 use Rattle.macho_fat.specs.declared.fault.FatFault.{FatFault}
 use Rattle.macho_fat.specs.declared.fault.FatFault.TheVariants as fault
 use Rattle.macho_fat.specs.declared.slice.Slice.{Slice}
-use Rattle.macho_rules.specs.Verdict.{IsRefusal, IsImageRefusal, IsFirstRefusal, IsBytesRefusal, IsSliceRefusal, IsVerified, refusal_of}
+use Rattle.macho_rules.specs.Verdict.{IsRefusal, IsSliceBreak, IsVerified, refusal_of}
 use Rattle.macho_rules.specs.declared.refusal.Refusal.{Refusal}
 use Rattle.macho_rules.specs.declared.refusal.Refusal.TheVariants as refusal
 
 -- a broken rule that is passed on as a refusal
-pub passed_on : {T : Type 0} (P : Refusal → Type 0) (answer : Result T Refusal) (r : Refusal) → IsErrAnd answer (λ told. told ≡ r) → P r → IfErr answer P
+pub passed_on : {T : Type 0} (P : Refusal → Type 0) (answer : Result T Refusal) (r : Refusal) → IsErrAnd answer (λ given. given ≡ r) → P r → IfErr answer P
 passed_on P (Ok x) r is p = absurd is
-passed_on P (Err told) r is p = subst P (sym is) p
+passed_on P (Err given) r is p = subst P (sym is) p
 
-pub on_ok : {T E : Type 0} (answer : Result T E) {P Q : Type 0} → (P → Q) → OnOk answer P → OnOk answer Q
-on_ok (Ok x) to p = to p
-on_ok (Err e) to p = p
+-- what decides the rules of an opened image decides those of its bytes
+pub image_decided : {T : Type 0} (image : List ℕ) (arch : Option (ℕ × ℕ)) → NothingBreaks (BreaksOpening image arch) → (answer : Result T Break) → Decides (BreaksOpened image) answer → Decides (BreaksImage image arch) answer
+image_decided image arch opened (Ok x) kept = image_unbroken image arch opened kept
+image_decided image arch opened (Err b) least = opened_first image arch b opened least
 
-pub if_err : {T E : Type 0} (answer : Result T E) (P Q : E → Type 0) → ((e : E) → P e → Q e) → IfErr answer P → IfErr answer Q
-if_err (Ok x) P Q to p = p
-if_err (Err e) P Q to p = to e p
-
--- a refusal of an opened image is one of its bytes
-pub image_refused : (image : List ℕ) (arch : Option (ℕ × ℕ)) → NothingBreaks (BreaksOpening image arch) → (r : Refusal) → IsImageRefusal image r → IsBytesRefusal image arch r
-image_refused image arch opened (refusal.Broken b) least = opened_first image arch b opened least
-image_refused image arch opened refusal.Memory none = none
+-- a break that ends the opening of an image is its first
+pub opening_decided : {T : Type 0} (image : List ℕ) (arch : Option (ℕ × ℕ)) (b : Break) (answer : Result T Break) → IsErrAnd answer (λ given. given ≡ b) → IsLeast (BreaksOpening image arch) b → Decides (BreaksImage image arch) answer
+opening_decided image arch b (Ok x) is least = absurd is
+opening_decided image arch b (Err given) is least = subst (IsLeast (BreaksImage image arch)) (sym is) (opening_first image arch b least)
 
 pub part_length : (start len : ℕ) (bytes : List ℕ) → start + len ≤ length bytes → length (part start len bytes) ≡ len
 part_length start len bytes inside = length-take-le len (drop start bytes) (let rest : length (drop start bytes) ≡ length bytes - start = length-drop start bytes in omega arith)
 
-pub answered : {T E : Type 0} (P : E → Type 0) (answer : Result T E) (told e : E) → answer ≡ Err told → told ≡ e → P e → IfErr answer P
-answered P answer told e is same p = subst (λ a. IfErr a P) (sym is) (subst P (sym same) p)
+pub answered : {T E : Type 0} (P : E → Type 0) (answer : Result T E) (given e : E) → answer ≡ Err given → given ≡ e → P e → IfErr answer P
+answered P answer given e is same p = subst (λ a. IfErr a P) (sym is) (subst P (sym same) p)
 
--- what a list has behind its end
+-- what a list is taken to have past its end
 abbrev pub no_slice : Slice
 no_slice = record { span = record { start = 0; len = 0 }; arch = None; read = false }
 
@@ -56,22 +54,17 @@ pub slice_at : (file : List ℕ) (slices : List Slice) → AreSlices file slices
 slice_at file slices are k d less =
     ap (λ ss. slice_get ss k) (sym are.all) ∙ (slice_get-map slice_of slices k ∙ ap (option_map slice_of) (slice_get-get_or slices k d less))
 
--- a refusal of a slice is one of the file, where nothing is broken before it
-pub slice_refused : (file : List ℕ) (k : ℕ) (slice : FileSlice) → slice_get (slices_of file) k ≡ Some slice → KeptScopes file k → IsImage (slice_bytes file slice) → (r : Refusal) → IsSliceRefusal file slice r → IsFirstRefusal file r
-slice_refused file k slice is kept image (refusal.Broken b) (found, least, rule, place) = slice_first file k slice found b is kept image least rule place
-slice_refused file k slice is kept image refusal.Memory none = none
+-- the first break of a slice is that of the file, where nothing is broken before the slice
+pub slice_broken : (file : List ℕ) (k : ℕ) (slice : FileSlice) → slice_get (slices_of file) k ≡ Some slice → KeptScopes file k → IsImage (slice_bytes file slice) → (b : Break) → IsSliceBreak file slice b → IsFirstBroken file b
+slice_broken file k slice is kept image b (found, least, rule, place) = slice_first file k slice found b is kept image least rule place
 
 pub slices_counted : (file : List ℕ) (slices : List Slice) → AreSlices file slices → length slices ≡ length (slices_of file)
 slices_counted file slices are = let same : length (map slice_of slices) ≡ length (slices_of file) = ap length are.all in let kept : length (map slice_of slices) ≡ length slices = length-map slices slice_of in omega (arith, same, kept)
 
--- a fault of a universal header is a refusal of the file
+-- a fault of the slices is a refusal of the file
 pub fat_refused : (file : List ℕ) (f : FatFault) → IsFatFault file f → IsRefusal file (refusal_of f)
 fat_refused file (fault.Broken b) least = file_first file b least
 fat_refused file fault.Memory kept = kept
-
-pub first_refused : (file : List ℕ) (r : Refusal) → IsFirstRefusal file r → IsRefusal file r
-first_refused file (refusal.Broken b) first = first
-first_refused file refusal.Memory none = absurd none
 
 -- What a verified file keeps
 

@@ -1,5 +1,5 @@
 -- The verdict on a file, on a slice of it and on an image.
-use Rattle.std.specs.Prelude.{◌≡◌, ℕ, ◌+◌, ◌≤◌, List, Option}
+use Rattle.std.specs.Prelude.{◌≡◌, ℕ, ◌+◌, ◌≤◌, List}
 use Rattle.macho_fields.specs.Universal.{FileSlice, slice_bytes}
 use Rattle.macho_fields.specs.Rules.{BreaksFile, BreaksImage}
 use Rattle.macho_fields.specs.First.{rank, IsFirstBroken, IsUnbroken}
@@ -14,42 +14,29 @@ use Rattle.macho_fat.specs.declared.fault.FatFault.TheVariants as fault
 use Rattle.macho_rules.specs.declared.refusal.Refusal.{Refusal}
 use Rattle.macho_rules.specs.declared.refusal.Refusal.TheVariants as refusal
 
--- A refusal of a file tells the first broken rule. Memory is wanted only where the header and the
--- table of the file are whole, and each entry has its slice behind the table, in the file, aligned.
+-- A refusal of a file is its first broken rule, or that there was no memory. That is asked for only
+-- where the header and the table of the file are whole, and the slice of each entry begins after the
+-- table, lies in the file and is aligned.
 abbrev pub IsRefusal : List ℕ → Refusal → Type 0
 IsRefusal file (refusal.Broken b) = IsFirstBroken file b
 IsRefusal file refusal.Memory =
     (r : Rule) (place : ℕ) → rank r ≤ rank rule.FatAlign → ¬ BreaksFile file r place
 
--- a refusal of an opened image tells the first broken rule of those that are left; no memory is
--- taken
+-- a refusal of an opened image is the first broken rule of those that are left; no memory is taken
 abbrev pub IsImageRefusal : List ℕ → Refusal → Type 0
 IsImageRefusal image (refusal.Broken b) = IsLeast (BreaksOpened image) b
 IsImageRefusal image refusal.Memory = ⊥
 
--- a fault of a universal header, as a refusal
+-- a fault of the slices, as a refusal
 abbrev pub refusal_of : FatFault → Refusal
 refusal_of (fault.Broken b) = refusal.Broken b
 refusal_of fault.Memory = refusal.Memory
 
--- Between the calls of one verdict
-
--- a refusal of a file whose own rules are unbroken
-abbrev pub IsFirstRefusal : List ℕ → Refusal → Type 0
-IsFirstRefusal file (refusal.Broken b) = IsFirstBroken file b
-IsFirstRefusal file refusal.Memory = ⊥
-
--- a refusal of the bytes of an image
-abbrev pub IsBytesRefusal : List ℕ → Option (ℕ × ℕ) → Refusal → Type 0
-IsBytesRefusal image arch (refusal.Broken b) = IsLeast (BreaksImage image arch) b
-IsBytesRefusal image arch refusal.Memory = ⊥
-
--- a refusal of a slice, with its place in the file
-abbrev pub IsSliceRefusal : List ℕ → FileSlice → Refusal → Type 0
-IsSliceRefusal file slice (refusal.Broken b) =
+-- b is the first broken rule of a slice, with its place in the file
+abbrev pub IsSliceBreak : List ℕ → FileSlice → Break → Type 0
+IsSliceBreak file slice b =
     (found : Break) × IsLeast (BreaksImage (slice_bytes file slice) slice.arch) found
     × (b.rule ≡ found.rule) × (b.place ≡ slice.start + found.place)
-IsSliceRefusal file slice refusal.Memory = ⊥
 
 -- the file breaks no rule, and these are its slices
 pub record HasNoBreak (file : List ℕ) (slices : List Slice) : Type 0 where

@@ -15,8 +15,8 @@ use macho_image::Image;
 use std::alloc::Global;
 
 /// Decides the rules of an opened image, in their order: those of its segments, its sections, its
-/// tables, its symbols and its entry. It tells the first broken one, with its place in the image.
-/// It takes no memory so far.
+/// tables, its symbols and its entry. It returns the first broken one, with its place in the image.
+/// It takes no memory yet.
 pub fn check_image(alloc: Global, image: &Image) -> Result<(), Refusal>
     ensures unbroken { OnOk result (NothingBreaks (BreaksOpened image.now)) }
     ensures refused { IfErr result (IsImageRefusal image.now) }
@@ -26,7 +26,8 @@ pub fn check_image(alloc: Global, image: &Image) -> Result<(), Refusal>
     Ok(())
 }
 
-fn check_rules(image: &Image) -> Result<(), Break>
+/// The same without the allocator.
+pub(crate) fn check_rules(image: &Image) -> Result<(), Break>
     ensures { Decides (BreaksOpened image.now) result }
 {
     segment_address(image)?;

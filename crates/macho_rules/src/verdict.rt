@@ -2,15 +2,15 @@
 
 ghost use Rattle.std.specs.Prelude.{◌≡◌, ◌+◌, ◌≤◌, ◌↔◌, OnOk, IfOk, IfErr, IfSome, IsSome, IsSomeAnd, IsTrue, length};
 ghost use Rattle.macho_fields.specs.Bytes.{bytes_of};
-ghost use Rattle.macho_fields.specs.First.{IsUnbroken};
-ghost use Rattle.macho_fields.specs.Layers.{NothingBreaks};
+ghost use Rattle.macho_fields.specs.First.{IsUnbroken, IsFirstBroken};
+ghost use Rattle.macho_fields.specs.Layers.{NothingBreaks, Decides};
 ghost use Rattle.macho_fields.specs.Loader.{IsSound};
 ghost use Rattle.macho_fields.specs.Rules.{BreaksFile, BreaksImage};
 ghost use Rattle.macho_fields.specs.Universal.{slice_bytes, IsImage};
 ghost use Rattle.macho_fat.specs.Slices.{slice_of, AreSlices};
-ghost use Rattle.macho_rules.specs.Verdict.{IsRefusal, IsFirstRefusal, IsSliceRefusal, IsBytesRefusal};
+ghost use Rattle.macho_rules.specs.Verdict.{IsRefusal, IsSliceBreak};
 
-use crate::check::check_image;
+use crate::check::check_rules;
 use crate::refusal::Refusal;
 use macho_fat::Slice;
 use macho_fat::slices::slices;
@@ -38,13 +38,14 @@ impl<'a> Model for Verified<'a> {
     ghost invariant = { λ verified. IsVerified (bytes_of verified.file) verified.slices.items };
 }
 
-/// Decides the rules of a file, in their order: accepts it, or tells the first broken one, with its
-/// place in the file.
+/// Decides the rules of a file, in their order: accepts it, or returns the first broken one, with
+/// its place in the file.
 ///
 /// The rules of the file itself come first; then its 64-bit slices, in the order of the table, each
 /// with all of its rules before the next. It takes memory for the list of slices alone.
 pub fn verify<'a>(alloc: Global, file: &'a [u8]) -> Result<Verified<'a>, Refusal>
-    // It accepts the file exactly where no rule is broken, unless there is no memory.
+    // It accepts only a file that breaks no rule, and refuses only one that breaks a rule, unless
+    // there is no memory.
     ensures accepted { OnOk result (IsUnbroken file.now) }
     ensures refused { IfErr result (IsRefusal file.now) }
 
@@ -54,49 +55,48 @@ pub fn verify<'a>(alloc: Global, file: &'a [u8]) -> Result<Verified<'a>, Refusal
 {
     let file = Bytes::new(file);
     let slices = slices(alloc, file)?;
-    check_slices(alloc, file, &slices)?;
+    check_slices(file, &slices)?;
     Ok(Verified { file, slices })
 }
 
 /// Decides the rules of each 64-bit slice, one slice after the other.
-fn check_slices(alloc: Global, file: Bytes, slices: &[Slice]) -> Result<(), Refusal>
+fn check_slices(file: Bytes, slices: &[Slice]) -> Result<(), Break>
     requires slices { AreSlices (bytes_of file) slices.now }
     requires file_rules { NothingBreaks (BreaksFile (bytes_of file)) }
-    ensures accepted { OnOk result (IsUnbroken (bytes_of file.entry)) }
-    ensures refused { IfErr result (IsFirstRefusal (bytes_of file.entry)) }
+    ensures unbroken { OnOk result (IsUnbroken (bytes_of file.entry)) }
+    ensures broken { IfErr result (IsFirstBroken (bytes_of file.entry)) }
 {
     for slice in slices {
         if slice.read {
-            check_slice(alloc, file, slice)?;
+            check_slice(file, slice)?;
         }
     }
     Ok(())
 }
 
-/// Decides the rules of one slice, and tells the place of a break in the file.
-fn check_slice(alloc: Global, file: Bytes, slice: &Slice) -> Result<(), Refusal>
+/// Decides the rules of one slice. The place of a break is its offset in the file.
+fn check_slice(file: Bytes, slice: &Slice) -> Result<(), Break>
     requires { (slice_of slice.now).start + (slice_of slice.now).size ≤ length (bytes_of file) }
     ensures unbroken { OnOk result (NothingBreaks
         (BreaksImage (slice_bytes (bytes_of file.entry) (slice_of slice.now)) slice.now.arch)) }
-    ensures refused { IfErr result (IsSliceRefusal (bytes_of file.entry) (slice_of slice.now)) }
+    ensures broken { IfErr result (IsSliceBreak (bytes_of file.entry) (slice_of slice.now)) }
 {
     let bytes = Bytes::new(file.part(slice.span).unwrap());
-    match check_bytes(alloc, bytes, slice.arch) {
-        Err(Refusal::Broken(broken)) => Err(Refusal::Broken(Break {
+    match check_bytes(bytes, slice.arch) {
+        Ok(()) => Ok(()),
+        Err(broken) => Err(Break {
             rule: broken.rule,
             place: slice.span.start + broken.place,
-        })),
-        other => other,
+        }),
     }
 }
 
 /// Decides the rules of an image, which a universal file may name for an architecture.
-fn check_bytes(alloc: Global, bytes: Bytes, arch: Option<(u32, u32)>) -> Result<(), Refusal>
-    ensures unbroken { OnOk result (NothingBreaks (BreaksImage (bytes_of bytes.entry) arch)) }
-    ensures refused { IfErr result (IsBytesRefusal (bytes_of bytes.entry) arch) }
+fn check_bytes(bytes: Bytes, arch: Option<(u32, u32)>) -> Result<(), Break>
+    ensures { Decides (BreaksImage (bytes_of bytes.entry) arch) result }
 {
     let image = Image::open(bytes, arch)?;
-    check_image(alloc, &image)
+    check_rules(&image)
 }
 
 impl<'a> Verified<'a> {
@@ -113,8 +113,8 @@ impl<'a> Verified<'a> {
         self.slices.len() as u64
     }
 
-    /// The slice with this index, counted from 0 in the order of the table, or `None` behind the
-    /// last one.
+    /// The slice with this index, counted from 0 in the order of the table, or `None` past the last
+    /// one.
     pub fn slice(&self, index: u64) -> Option<&Slice>
         ensures slice { option_map (λ slice. slice_of slice.now) result
             ≡ slice_get (slices_of self.now) index }

@@ -3,6 +3,7 @@ use Rattle.macho_fields.specs.Bytes.{bytes_of}
 use Rattle.macho_fields.specs.First.{IsUnbroken}
 use Rattle.macho_fields.proofs.Sound.{unbroken_is_sound}
 use Rattle.macho_rules.specs.Verdict.{IsRefusal, refusal_of}
+use Rattle.macho_rules.specs.declared.refusal.Refusal.TheVariants as refusal
 use Rattle.macho_rules.proofs.Verdicts.{passed_on, fat_refused, verified}
 use Rattle.macho_rules.proofs.verdict.verify.Goals as goal
 
@@ -12,10 +13,15 @@ returns-in_err-slices-clause-refused c =
     passed_on (IsRefusal c.args.file.now) c.from_residual.result (refusal_of c.in_err-slices.field-0.0) c.from_residual.ensures.1
     (fat_refused c.args.file.now c.in_err-slices.field-0.0 fault)
 
+pub returns-in_err-check_slices-clause-refused : goal.returns-in_err-check_slices-clause-refused
+returns-in_err-check_slices-clause-refused c =
+    let first = rw c.new-file.ensures at c.in_err-check_slices.ensures.broken in
+    passed_on (IsRefusal c.args.file.now) c.from_residual-in_err-check_slices.result (refusal.Broken c.in_err-check_slices.field-0.0) c.from_residual-in_err-check_slices.ensures.1 first
+
 pub invariant_of-result : goal.invariant_of-result
 invariant_of-result c =
-    verified (bytes_of c.new-file.result) c.in_ok-slices.slices.items c.in_ok-check_slices.ensures.accepted
+    verified (bytes_of c.new-file.result) c.in_ok-slices.slices.items c.in_ok-check_slices.ensures.unbroken
     (record { all = c.in_ok-slices.ensures.slices; read = c.in_ok-slices.ensures.read })
 
 pub returns-clause-sound : goal.returns-clause-sound
-returns-clause-sound c = unbroken_is_sound c.args.file.now (subst IsUnbroken c.new-file.ensures c.in_ok-check_slices.ensures.accepted)
+returns-clause-sound c = unbroken_is_sound c.args.file.now (subst IsUnbroken c.new-file.ensures c.in_ok-check_slices.ensures.unbroken)
