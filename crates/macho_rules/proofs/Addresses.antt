@@ -10,17 +10,17 @@ use Rattle.macho_fields.proofs.Images.{image_unbroken}
 use Rattle.macho_fields.proofs.SoundImage.{sound_image}
 use Rattle.macho_image.specs.Command.{OfCommands}
 use Rattle.macho_image.specs.Opened.{IsOpened}
-use Rattle.macho_rules.specs.Mapping.{MappedView, mapped_at, mapped_of, supplies, source_in, TellsSources}
-use Rattle.macho_rules.proofs.MappingRule.{supplies_true, supplies_tells, source_first, source_later}
+use Rattle.macho_rules.specs.Mapping.{MappedView, mapped_at, mapped_of, supplies, source_in, GivesSources}
+use Rattle.macho_rules.proofs.MappingRule.{supplies_true, supplies_covers, source_first, source_later}
 
 module _ (image : List ℕ) (address : ℕ) where
-  -- those of the places at which a mapped segment stands
+  -- the offsets of the mapped segments
   abbrev views_of : List ℕ → List MappedView
   views_of places = map (mapped_at image) (filter (λ segment. nat_lt 0 (vmsize image segment)) places)
 
   supplies_or_not : (p : ℕ) → Supplies image p address ⊎ ¬ Supplies image p address
   supplies_or_not p = elim (cases_Bool (supplies address (mapped_at image p))) [
-    | inl t ↦ inl (supplies_tells address (mapped_at image p) t)
+    | inl t ↦ inl (supplies_covers address (mapped_at image p) t)
     | inr f ↦ inr (λ has. false≢true (sym f ∙ supplied has))
   ]
     where
@@ -56,11 +56,11 @@ module _ (image : List ℕ) (address : ℕ) where
   none_in (p ∷ ps) none = passed p ps (none p (0, omega arith, refl)) ∙ none_in ps (λ q (k, less, at). none q (suc k, omega arith, at))
 
   module _ (commands : List ℕ) where
-    -- what stands at an address of a sound image is what the segment has there that supplies it
+    -- at an address of a sound image is what the segment that supplies it has there
     pub source_of_segment : (s : ℕ) → IsSoundImage image commands → Contains (segments_of image commands) s → Supplies image s address → source_in (mapped_of image commands) address ≡ Some (source image s address)
     source_of_segment s sound has here = found_in s (segments_of image commands) (λ p among there. sound.one_segment p s address among has there here) has here
 
-    -- nothing stands at an address that no segment supplies
+    -- at an address that no segment supplies is nothing
     pub no_source : ((s : ℕ) → Contains (segments_of image commands) s → ¬ Supplies image s address) → source_in (mapped_of image commands) address ≡ None
     no_source none = none_in (segments_of image commands) none
 
@@ -69,14 +69,14 @@ opened_sound : (image commands : List ℕ) → IsOpened image → NothingBreaks 
 unfolding IsOpened
 opened_sound image commands opened keeps are = sound_image image None (image_unbroken image None opened keeps) commands are
 
--- so its mapped segments tell what stands at each address
-pub sources_told : (image : List ℕ) (segments : List MappedView) → IsOpened image → NothingBreaks (BreaksOpened image) → OfCommands image (λ commands. segments ≡ mapped_of image commands) → TellsSources image segments
-sources_told image segments opened keeps (commands, are, is) = (commands, are, told)
+-- so its mapped segments give what is at each address
+pub sources_given : (image : List ℕ) (segments : List MappedView) → IsOpened image → NothingBreaks (BreaksOpened image) → OfCommands image (λ commands. segments ≡ mapped_of image commands) → GivesSources image segments
+sources_given image segments opened keeps (commands, are, is) = (commands, are, given)
   where
-    told : (address : ℕ)
+    given : (address : ℕ)
         → ((segment : ℕ) → Contains (segments_of image commands) segment → Supplies image segment address → source_in segments address ≡ Some (source image segment address))
         × (((segment : ℕ) → Contains (segments_of image commands) segment → ¬ Supplies image segment address) → source_in segments address ≡ None)
-    told address = (
+    given address = (
       λ segment has here. ap (λ views. source_in views address) is ∙ source_of_segment image address commands segment (opened_sound image commands opened keeps are) has here,
       λ none. ap (λ views. source_in views address) is ∙ no_source image address commands none,
     )

@@ -17,9 +17,9 @@ abbrev pub KeepsRule : List ℕ → Rule → Type 0
 KeepsRule image r = (place : ℕ) → ¬ BreaksImage image None r place
 
 -- the answer of a rule is that of all, where the rules before it are unbroken
-pub rule_answer : (image : List ℕ) (r : Rule) (told b : Break) {T : Type 0} (answer : Result T Break) → answer ≡ Err b → b ≡ told → 19 ≤ rank r → Kept image (rank r)
-    → (told.rule ≡ r) × BreaksImage image None r told.place × ((place : ℕ) → BreaksImage image None r place → told.place ≤ place) → Decides (BreaksOpened image) answer
-rule_answer image r told b answer is same late below says = opened_err image r told answer (is ∙ ap Err same) late below says
+pub rule_answer : (image : List ℕ) (r : Rule) (found b : Break) {T : Type 0} (answer : Result T Break) → answer ≡ Err b → b ≡ found → 19 ≤ rank r → Kept image (rank r)
+    → (found.rule ≡ r) × BreaksImage image None r found.place × ((place : ℕ) → BreaksImage image None r place → found.place ≤ place) → Decides (BreaksOpened image) answer
+rule_answer image r found b answer is same late below says = opened_err image r found answer (is ∙ ap Err same) late below says
 
 pub kept_segment_address : (image : List ℕ) → KeepsRule image rule.SegmentAddress → Kept image 20
 kept_segment_address image keeps = opened_more image rule.SegmentAddress (opened_none image) keeps

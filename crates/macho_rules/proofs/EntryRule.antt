@@ -49,7 +49,7 @@ module _ (image : List ℕ) (address : ℕ) where
     (λ h. runs_seen (segments_of image commands) (subst (Any (Runs address)) seen (to h)), λ some. from (subst (Any (Runs address)) (sym seen) (seen_runs (segments_of image commands) some))),
   )
 
--- so many bytes behind the base an image may be executed
+-- the image may be executed this many bytes after its base
 abbrev pub IsEntry : List ℕ → List ℕ → ℕ → Type 0
 IsEntry image commands offset =
     IsSomeAnd (base_of image commands) (λ base. IsExecutable image commands (base + offset))
@@ -99,8 +99,8 @@ module _ (image : List ℕ) (main : MainCommand) (result : Bool) (opened : IsOpe
       let (others, also, answer) = decided in
       subst (λ offset. IsTrue result ↔ IsEntry image cs offset) (ap (λ (m : MainCommand). m.entryoff) same) (subst (λ these. IsTrue result ↔ IsEntry image these main.entryoff) (commands_unique image others cs also are) answer)
 
-  pub entry_told : ¬ IsTrue result → (rule.Entry ≡ rule.Entry) × BreaksImage image None rule.Entry main.place × ((p : ℕ) → BreaksImage image None rule.Entry p → main.place ≤ p)
-  entry_told none =
+  pub entry_refused : ¬ IsTrue result → (rule.Entry ≡ rule.Entry) × BreaksImage image None rule.Entry main.place × ((p : ℕ) → BreaksImage image None rule.Entry p → main.place ≤ p)
+  entry_refused none =
       let (cs, are, is) = is_main in
       let (d, first, same) = first_at image cs main is in
       let here : NoEntry image cs d = λ entry. none ((decided_at cs d are same).1 entry) in

@@ -17,7 +17,7 @@ use Rattle.macho_rules.proofs.OneCommand.{BreaksAt, breaks_at_none, breaks_at_on
 abbrev IsPast : ℕ → ℕ × ℕ → Type 0
 IsPast count group = (0 < group.1) × (count < group.0 + group.1)
 
--- one of the three groups passes the end of so many symbols
+-- one of the three groups passes the end of this many symbols
 abbrev pub HasGroupPast : ℕ → Dysymtab → Type 0
 HasGroupPast count d =
     ((0 < d.nlocalsym) × (count < d.ilocalsym + d.nlocalsym))
@@ -53,7 +53,7 @@ no_groups image (cs, are, is) p broken = breaks_at_none image loader.LC_DYSYMTAB
     of_first None e = refl
     of_first (Some d) e = absurd (none-some (dysymtab_at image d) e)
 
--- the command whose groups these are
+-- the command that names these groups
 first_at : (image cs : List ℕ) (table : Dysymtab) → Some table ≡ option_map (dysymtab_at image) (first_of_kind image loader.LC_DYSYMTAB cs) → (d : ℕ) × (first_of_kind image loader.LC_DYSYMTAB cs ≡ Some d) × (table ≡ dysymtab_at image d)
 first_at image cs table is = of_first (first_of_kind image loader.LC_DYSYMTAB cs) refl is
   where
@@ -67,8 +67,8 @@ IsCount image count = OfCommands image (λ commands. count ≡ symbol_count imag
 count_of : (image cs : List ℕ) (count : ℕ) → AreCommands image cs → IsCount image count → count ≡ symbol_count image cs
 count_of image cs count are (others, also, number) = number ∙ ap (symbol_count image) (commands_unique image others cs also are)
 
-pub group_told : (image : List ℕ) (table : Dysymtab) (count : ℕ) → IsOpened image → IsDysymtab image (Some table) → IsCount image count → HasGroupPast count table → (rule.SymbolGroup ≡ rule.SymbolGroup) × BreaksImage image None rule.SymbolGroup table.place × ((p : ℕ) → BreaksImage image None rule.SymbolGroup p → table.place ≤ p)
-group_told image table count opened (cs, are, is) number past =
+pub group_refused : (image : List ℕ) (table : Dysymtab) (count : ℕ) → IsOpened image → IsDysymtab image (Some table) → IsCount image count → HasGroupPast count table → (rule.SymbolGroup ≡ rule.SymbolGroup) × BreaksImage image None rule.SymbolGroup table.place × ((p : ℕ) → BreaksImage image None rule.SymbolGroup p → table.place ≤ p)
+group_refused image table count opened (cs, are, is) number past =
     let (d, first, same) = first_at image cs table is in
     let here : GroupPast image cs d = group_among image d (symbol_count image cs) (subst (λ t. HasGroupPast (symbol_count image cs) t) same (subst (λ n. HasGroupPast n table) (count_of image cs count are number) past)) in
     subst (λ q. (rule.SymbolGroup ≡ rule.SymbolGroup) × BreaksImage image None rule.SymbolGroup q × ((p : ℕ) → BreaksImage image None rule.SymbolGroup p → q ≤ p)) (sym (ap (λ (t : Dysymtab). t.place) same)) (breaks_at_one image loader.LC_DYSYMTAB (GroupPast image) cs are d opened (1, lit< tt, refl) first (BreaksImage image None rule.SymbolGroup) rule.SymbolGroup (λ p broken. inr broken) (group_broken image cs are) here)

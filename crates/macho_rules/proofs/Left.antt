@@ -1,4 +1,4 @@
--- Going over structures of an image, one behind the other: those that are left, and with them each
+-- Going over structures of an image, one after the other: those that are left, and among them each
 -- that has P.
 use Rattle.std.proofs.Common.{◌≡◌, ℕ, suc, zero, ◌≤◌, ◌<◌, List, [], ◌∷◌, length, map, All, AllPairs, Contains, sym, ap, ◌∙◌, subst, arith}
 use Rattle.std.proofs.lemmas.List.Elements.{All-tail, All-contains_itself}

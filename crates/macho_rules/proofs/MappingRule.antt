@@ -1,26 +1,27 @@
 -- What a mapping says of the addresses of an image.
-use Rattle.std.proofs.Common.{get_or, ◌≡◌, ℕ, suc, zero, ◌+◌, ◌^◌, ◌≤◌, ◌<◌, ◌++◌, List, [], ◌∷◌, length, map, filter, All, Contains, Bool, true, false, None, Some, refl, sym, ap, ◌∙◌, subst, arith, inl, inr}
+use Rattle.std.proofs.Common.{get_or, ◌≡◌, ℕ, suc, zero, ◌+◌, ◌^◌, ◌≤◌, ◌<◌, ◌++◌, List, [], ◌∷◌, length, length-append, map, filter, All, Any, Contains, Bool, true, false, None, Some, Result, Ok, Err, OnErr, refl, sym, ap, ◌∙◌, subst, arith, inl, inr}
 use Rattle.std.specs.Prelude.{nat_le, nat_lt, drop}
 use Rattle.std.proofs.lemmas.Bool.{cases_Bool, cases_lt, le-leb, leb-true, lt-ltb, ltb-true, and_from, and_parts, false_from_ne_true}
 use Rattle.std.proofs.lemmas.List.{get_or-map, length-map, at_drop_all}
+use Rattle.macho_fields.proofs.Lists.{any_here}
 use Rattle.macho_fields.specs.Segment.{segments_of, vmsize, fileoff, filesize}
 use Rattle.macho_fields.specs.declared.rule.Rule.TheVariants as rule
 use Rattle.macho_rules.specs.Check.{KeepsRule}
 use Rattle.macho_image.specs.Command.{OfCommands}
-use Rattle.macho_rules.specs.Mapping.{MappedView, mapped_at, mapped_of, SuppliesAt, supplies, source_from, source_in, FitsFile}
+use Rattle.macho_rules.specs.Mapping.{MappedView, mapped_at, mapped_of, SuppliesAt, supplies, source_from, source_in, FitsFile, HasMapped}
 use Rattle.macho_image.specs.Segment.{Structure, structure_at}
 use Rattle.macho_rules.proofs.EntryRule.{AreSegments}
 
 pub supplies_true : (address : ℕ) (s : MappedView) → SuppliesAt address s → supplies address s ≡ true
 supplies_true address s (low, high) = and_from (nat_le s.vmaddr address) (nat_lt address (s.vmaddr + s.vmsize)) (le-leb s.vmaddr address low) (lt-ltb address (s.vmaddr + s.vmsize) high)
 
-pub supplies_tells : (address : ℕ) (s : MappedView) → supplies address s ≡ true → SuppliesAt address s
-supplies_tells address s is =
+pub supplies_covers : (address : ℕ) (s : MappedView) → supplies address s ≡ true → SuppliesAt address s
+supplies_covers address s is =
     let parts = and_parts (nat_le s.vmaddr address) (nat_lt address (s.vmaddr + s.vmsize)) is in
     (leb-true s.vmaddr address parts.0, ltb-true address (s.vmaddr + s.vmsize) parts.1)
 
 supplies_false : (address : ℕ) (s : MappedView) → ¬ SuppliesAt address s → supplies address s ≡ false
-supplies_false address s none = false_from_ne_true (supplies address s) (λ is. none (supplies_tells address s is))
+supplies_false address s none = false_from_ne_true (supplies address s) (λ is. none (supplies_covers address s is))
 
 -- the first segment has the address, or the others are searched
 pub source_first : (address : ℕ) (s : MappedView) (rest : List MappedView) → SuppliesAt address s → source_in (s ∷ rest) address ≡ Some (source_from address s)
@@ -29,7 +30,7 @@ source_first address s rest has = let t = supplies_true address s has in rw t re
 pub source_later : (address : ℕ) (s : MappedView) (rest : List MappedView) → ¬ SuppliesAt address s → source_in (s ∷ rest) address ≡ source_in rest address
 source_later address s rest none = let f = supplies_false address s none in rw f refl
 
--- The segments of an image, one behind the other
+-- The segments of an image, one after the other
 
 abbrev pub mapped : Structure → MappedView
 mapped s = mapped_at s.image s.place
@@ -61,7 +62,38 @@ mapped_all image commands = at_places (segments_of image commands)
 pub mapping_of : (image : List ℕ) (all : List Structure) (seen : List MappedView) → AreSegments image all → seen ≡ mapped_left all → OfCommands image (λ commands. seen ≡ mapped_of image commands)
 mapping_of image all seen (commands, are, is) same = (commands, are, same ∙ (ap mapped_left is ∙ mapped_all image commands))
 
--- the bytes of a segment end before the last place where they lie inside the image
+-- a segment that is left and is mapped is one of the image
+pub some_mapped : (image : List ℕ) (all left rest : List Structure) (seen : List MappedView) (s : Structure) → AreSegments image all → IsMapped all seen left → left ≡ s ∷ rest → 0 < vmsize s.image s.place → HasMapped image
+some_mapped image all left rest seen s (commands, are, is) going next here = (commands, are, at_places (segments_of image commands) counted)
+  where
+    first : mapped_left (s ∷ rest) ≡ mapped s ∷ mapped_left rest
+    first = let t = lt-ltb 0 (vmsize s.image s.place) here in rw t refl
+
+    same : mapped_left (map (structure_at image) (segments_of image commands)) ≡ seen ++ mapped s ∷ mapped_left rest
+    same = ap mapped_left (sym is) ∙ (going ∙ ap (λ views. seen ++ views) (ap mapped_left next ∙ first))
+
+    counted : 0 < length (mapped_left (map (structure_at image) (segments_of image commands)))
+    counted = let sum = length-append seen (mapped s ∷ mapped_left rest) in let long = ap length same in omega (arith, sum, long)
+
+    at_places : (places : List ℕ) → 0 < length (mapped_left (map (structure_at image) places)) → Any (λ p. 0 < vmsize image p) places
+    at_places [] some = absurd (omega arith)
+    at_places (p ∷ ps) some =
+        elim (cases_lt 0 (vmsize image p)) [
+          | inl more ↦ any_here (λ q. 0 < vmsize image q) p ps more
+          | inr none ↦ later (at_places ps (let f = not_mapped none in rw f at some))
+        ]
+      where
+        not_mapped : vmsize image p ≤ 0 → nat_lt 0 (vmsize image p) ≡ false
+        not_mapped none = false_from_ne_true (nat_lt 0 (vmsize image p)) (λ t. let more = ltb-true 0 (vmsize image p) t in absurd (omega arith))
+
+        later : Any (λ q. 0 < vmsize image q) ps → Any (λ q. 0 < vmsize image q) (p ∷ ps)
+        later (k, q, less, at, more) = (suc k, q, omega arith, at, more)
+
+pub on_err : {T E P : Type 0} (answer : Result T E) → P → OnErr answer P
+on_err (Ok x) p = tt
+on_err (Err e) p = p
+
+-- the bytes of a segment that lie inside the image end below 2^64
 pub mapped_fit : (image : List ℕ) (all : List Structure) → length image < 2 ^ 64 → KeepsRule image rule.SegmentFile → AreSegments image all → All FitsFile (mapped_left all)
 mapped_fit image all short keeps (commands, are, is) = subst (λ views. All FitsFile views) (sym (ap mapped_left is)) (at_places (segments_of image commands) (λ p has. fits p has))
   where
@@ -91,6 +123,6 @@ module _ {X : Type 0} (view : X → MappedView) (xs : List X) (k : ℕ) where
       let inside : k < length (map view xs) = subst (λ n. k < n) (sym (length-map xs view)) less in
       subst FitsFile (get_or-map view xs k d (view d) less) (fits k (view d) inside)
 
-  -- nothing is left behind the last
+  -- nothing is left after the last
   pub source_ended : (address : ℕ) → length xs ≤ k → source_in (map view (drop k xs)) address ≡ None
   source_ended address ended = at_drop_all (λ left. source_in (map view left) address) xs k ended

@@ -44,15 +44,15 @@ search_next {X = X} place P all left rest x is search passed =
     later y broken (inl same) = absurd (passed (subst P (sym same) broken))
     later y broken (inr has) = has
 
--- a place breaks a rule where an item with P has it
-pub record Told {X : Type 0} (breaks : ℕ → Type 0) (place : X → ℕ) (P : X → Type 0) (all : List X) : Type 0 where
+-- the breaks of a rule are the places of the items with P
+pub record AreBreaks {X : Type 0} (breaks : ℕ → Type 0) (place : X → ℕ) (P : X → Type 0) (all : List X) : Type 0 where
   pub broken : (x : X) → Contains all x → P x → breaks (place x)
   pub only : (p : ℕ) → breaks p → (x : X) × Contains all x × P x × (place x ≡ p)
 
 -- the first item with P has the least place
-pub search_found : {X : Type 0} (breaks : ℕ → Type 0) (r : Rule) (place : X → ℕ) (P : X → Type 0) (all left rest : List X) (x : X) → left ≡ x ∷ rest → Told breaks place P all → Searching place P all left → P x → (r ≡ r) × breaks (place x) × ((p : ℕ) → breaks p → place x ≤ p)
-search_found {X = X} breaks r place P all left rest x is told search here =
-    (refl, told.broken x (search.among x (subst (λ ys. Contains ys x) (sym is) (has_first x rest))) here, λ p broken. least p (told.only p broken))
+pub search_found : {X : Type 0} (breaks : ℕ → Type 0) (r : Rule) (place : X → ℕ) (P : X → Type 0) (all left rest : List X) (x : X) → left ≡ x ∷ rest → AreBreaks breaks place P all → Searching place P all left → P x → (r ≡ r) × breaks (place x) × ((p : ℕ) → breaks p → place x ≤ p)
+search_found {X = X} breaks r place P all left rest x is breaking search here =
+    (refl, breaking.broken x (search.among x (subst (λ ys. Contains ys x) (sym is) (has_first x rest))) here, λ p broken. least p (breaking.only p broken))
   where
     not_before : (y : X) → (x ≡ y) ⊎ Contains rest y → place x ≤ place y
     not_before y (inl same) = subst (λ z. place x ≤ place z) same (le_refl (place x))
@@ -62,8 +62,8 @@ search_found {X = X} breaks r place P all left rest x is told search here =
     least p (y, has, broken, at) = subst (λ q. place x ≤ q) at (not_before y (first_or_later x y rest (subst (λ ys. Contains ys y) is (search.ahead y has broken))))
 
 -- where all were passed, the rule is unbroken
-pub search_ended : {X : Type 0} (breaks : ℕ → Type 0) (place : X → ℕ) (P : X → Type 0) (all left : List X) → left ≡ [] → Told breaks place P all → Searching place P all left → (p : ℕ) → ¬ breaks p
-search_ended {X = X} breaks place P all left is told search p broken = none (told.only p broken)
+pub search_ended : {X : Type 0} (breaks : ℕ → Type 0) (place : X → ℕ) (P : X → Type 0) (all left : List X) → left ≡ [] → AreBreaks breaks place P all → Searching place P all left → (p : ℕ) → ¬ breaks p
+search_ended {X = X} breaks place P all left is breaking search p broken = none (breaking.only p broken)
   where
     none : (y : X) × Contains all y × P y × (place y ≡ p) → ⊥
     none (y, has, at, same) = has_nothing y (subst (λ ys. Contains ys y) is (search.ahead y has at))
@@ -113,8 +113,8 @@ items_rise {X = X} place at same (q ∷ ps) (first, rest) = (λ y has. above y (
         let there : place y ≡ p = subst (λ z. place z ≡ p) is (same p) in omega arith
 
 -- a rule that is broken at those places at which an item has P
-pub told_at : {X : Type 0} (breaks : ℕ → Type 0) (place : X → ℕ) (P : X → Type 0) (at : ℕ → X) → ((p : ℕ) → place (at p) ≡ p) → (ps : List ℕ) → ((p : ℕ) → Contains ps p → P (at p) → breaks p) → ((p : ℕ) → breaks p → Contains ps p × P (at p)) → Told breaks place P (map at ps)
-told_at {X = X} breaks place P at same ps to from = record {
+pub are_breaks_at : {X : Type 0} (breaks : ℕ → Type 0) (place : X → ℕ) (P : X → Type 0) (at : ℕ → X) → ((p : ℕ) → place (at p) ≡ p) → (ps : List ℕ) → ((p : ℕ) → Contains ps p → P (at p) → breaks p) → ((p : ℕ) → breaks p → Contains ps p × P (at p)) → AreBreaks breaks place P (map at ps)
+are_breaks_at {X = X} breaks place P at same ps to from = record {
   broken = λ x has here. here_too x here (mapped_has at ps x has);
   only = λ p broken. (at p, has_mapped at ps p (from p broken).0, (from p broken).1, same p);
 }

@@ -37,7 +37,7 @@ sections_rise image segment i j d less inside =
     let at_j = get_or-map-range_with_len (section_at segment) 0 (nsects image segment) j j d (omega (arith, inside, few)) (omega arith) in
     omega (arith, at_i, at_j, less)
 
--- sections of the segment are left, and with them each that has Q
+-- sections of the segment are left, and among them each that has Q
 abbrev pub SectionsLeft : OfSection → Structure → List Structure → Type 0
 SectionsLeft Q segment left = AreLeft segment.image (sections_in segment.image segment.place) (Q segment.image segment.place) left
 
@@ -73,7 +73,7 @@ module _ (Q : OfSection) (segment : Structure) where
 abbrev pub HasSection : OfSection → OfSegment
 HasSection Q image commands segment = (place : ℕ) × (Contains (sections_in image segment) place × Q image segment place)
 
--- a rule is broken by the sections that have Q, and by nothing else
+-- a rule is broken exactly by the sections that have Q
 pub record IsBrokenBySection (r : Rule) (Q : OfSection) : Type 0 where
   pub header : (image : List ℕ) (place : ℕ) → ¬ BreaksHeader image None r place
   pub breaks : (image commands : List ℕ) (place : ℕ) → AtSection image commands (Q image) place → BreaksCommands image commands r place
@@ -88,7 +88,7 @@ then_of true x y is = refl
 then_of false x y is = absurd (false≢true is)
 
 module _ (image commands : List ℕ) (opened : Keeps image) (are : AreCommands image commands) where
-  -- the sections of a segment stand inside its command
+  -- the sections of a segment lie inside its command
   sections_inside : (segment : ℕ) → Contains (segments_of image commands) segment → loader.SEGMENT_COMMAND_64_SIZE + loader.SECTION_64_SIZE * nsects image segment ≤ command_size image segment
   sections_inside segment has =
       let kind : command_kind image segment ≡ 25 = of_kind_is image commands loader.LC_SEGMENT_64 segment has in
@@ -101,7 +101,7 @@ module _ (image commands : List ℕ) (opened : Keeps image) (are : AreCommands i
   segment_good : (segment : ℕ) → Contains (segments_of image commands) segment → Contains commands segment
   segment_good segment has = of_kind_among image commands loader.LC_SEGMENT_64 segment has
 
-  -- the sections of an earlier segment stand before those of a later one
+  -- the sections of an earlier segment come before those of a later one
   sections_before : (a b p q : ℕ) → Contains (segments_of image commands) a → Contains (segments_of image commands) b → a < b → Contains (sections_in image a) p → Contains (sections_in image b) q → p < q
   sections_before a b p q has_a has_b less in_a in_b =
       let (i, within, at_p) = section_number image a p in_a in
@@ -152,12 +152,12 @@ sections_broken Q {r} by image left s rest b opened (commands, are, going) is (r
             ]
 
 -- the same of the answer that ends a loop at such a section
-pub sections_answer : (Q : OfSection) {r : Rule} (by : IsBrokenBySection r Q) (image : List ℕ) (left : List Structure) (s : Structure) (rest : List Structure) (b told : Break) {T : Type 0} (answer : Result T Break)
-    → answer ≡ Err b → b ≡ told → IsOpened image → SegmentsLeft (HasSection Q) image left → left ≡ s ∷ rest
-    → (told.rule ≡ r) × (Contains (sections_in s.image s.place) told.place × Q s.image s.place told.place) × ((p : ℕ) → Contains (sections_in s.image s.place) p × Q s.image s.place p → told.place ≤ p)
+pub sections_answer : (Q : OfSection) {r : Rule} (by : IsBrokenBySection r Q) (image : List ℕ) (left : List Structure) (s : Structure) (rest : List Structure) (b found : Break) {T : Type 0} (answer : Result T Break)
+    → answer ≡ Err b → b ≡ found → IsOpened image → SegmentsLeft (HasSection Q) image left → left ≡ s ∷ rest
+    → (found.rule ≡ r) × (Contains (sections_in s.image s.place) found.place × Q s.image s.place found.place) × ((p : ℕ) → Contains (sections_in s.image s.place) p × Q s.image s.place p → found.place ≤ p)
     → DecidesImage image r answer
-sections_answer Q {r} by image left s rest b told answer exits same opened going is tells =
-    subst (DecidesImage image r) (sym (exits ∙ ap Err same)) (sections_broken Q by image left s rest told opened going is tells)
+sections_answer Q {r} by image left s rest b found answer exits same opened going is says =
+    subst (DecidesImage image r) (sym (exits ∙ ap Err same)) (sections_broken Q by image left s rest found opened going is says)
 
 pub all_sections_kept : (Q : OfSection) {r : Rule} (by : IsBrokenBySection r Q) (image : List ℕ) (left : List Structure) → SegmentsLeft (HasSection Q) image left → left ≡ [] → (p : ℕ) → ¬ BreaksImage image None r p
 all_sections_kept Q {r} by image left (commands, are, going) none p broken = ended (of_section Q r by image commands are p broken)

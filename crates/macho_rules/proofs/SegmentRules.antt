@@ -40,13 +40,13 @@ AreSegments image left = OfCommands image (λ commands. left ≡ map (structure_
 abbrev pub OfSegment : Type 1
 OfSegment = List ℕ → List ℕ → ℕ → Type 0
 
--- a rule is broken by the segments that have P, and by nothing else
+-- a rule is broken exactly by the segments that have P
 pub record IsBrokenBy (r : Rule) (P : OfSegment) : Type 0 where
   pub header : (image : List ℕ) (place : ℕ) → ¬ BreaksHeader image None r place
   pub breaks : (image commands : List ℕ) (place : ℕ) → Contains (segments_of image commands) place → P image commands place → BreaksCommands image commands r place
   pub broken : (image commands : List ℕ) (place : ℕ) → BreaksCommands image commands r place → Contains (segments_of image commands) place × P image commands place
 
--- segments are left, and with them each that has P
+-- segments are left, and among them each that has P
 abbrev pub SegmentsLeft : OfSegment → List ℕ → List Structure → Type 0
 SegmentsLeft P image left = OfCommands image (λ commands. AreLeft image (segments_of image commands) (P image commands) left)
 

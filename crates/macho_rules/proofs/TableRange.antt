@@ -17,14 +17,14 @@ use Rattle.macho_fields.proofs.Opened.{Keeps, keeps_rules, command_inside, struc
 use Rattle.macho_image.specs.Command.{OfCommands, CommandView, command_at}
 use Rattle.macho_image.specs.Opened.{IsOpened}
 use Rattle.macho_rules.specs.TableFields.{HoldsFields, HoldsTables}
-use Rattle.macho_rules.proofs.Searches.{has_first, mapped_has, Rising, items_rise, Searching, Told, told_at}
+use Rattle.macho_rules.proofs.Searches.{has_first, mapped_has, Rising, items_rise, Searching, AreBreaks, are_breaks_at}
 use Rattle.macho_rules.proofs.TableRules.{any_passes, passes_any}
 
 -- a command of the kind names this table, which has items and ends past the image
 abbrev pub NamesOutside : List ℕ → ℕ → ℕ → ℕ × ℕ × ℕ × ℕ → Type 0
 NamesOutside image kind command fields = (fields.0 ≡ kind) × IsOutside image (table_at image command fields)
 
--- so many tables were gone over, and none of them is such
+-- none of the tables that were gone over is such
 abbrev pub NoneOutside : List ℕ → ℕ → ℕ → List (ℕ × ℕ × ℕ × ℕ) → ℕ → Type 0
 NoneOutside image kind command tables n = (k : ℕ) (d : ℕ × ℕ × ℕ × ℕ) → k < n → ¬ NamesOutside image kind command (slice_index_or tables k d)
 
@@ -77,8 +77,8 @@ fields_by_tables : (image : List ℕ) (command : ℕ) → HasTableOutside image 
 fields_by_tables image command (k, fields, less, at, (same, outside)) =
     any_passes (IsOutside image) (table_at image command) (λ fields. fields.0 == command_kind image command) table_fields (k, fields, less, at, (eq-eqb fields.0 (command_kind image command) same, outside))
 
-pub tables_told : (image bytes : List ℕ) → bytes ≡ image → (all : List CommandView) → AreViews image all → Told (BreaksImage image None rule.TableRange) (λ v. v.place) (HasTableOutside bytes) all
-tables_told image bytes same all (cs, are, is) = subst (λ these. Told (BreaksImage image None rule.TableRange) (λ v. v.place) (HasTableOutside these) all) (sym same) (subst (Told (BreaksImage image None rule.TableRange) (λ v. v.place) (HasTableOutside image)) (sym is) (told_at (BreaksImage image None rule.TableRange) (λ (v : CommandView). v.place) (HasTableOutside image) (command_at image) (λ p. refl) cs (λ p has named. inr (cs, are, (has, fields_by_tables image p named))) broken))
+pub tables_are_breaks : (image bytes : List ℕ) → bytes ≡ image → (all : List CommandView) → AreViews image all → AreBreaks (BreaksImage image None rule.TableRange) (λ v. v.place) (HasTableOutside bytes) all
+tables_are_breaks image bytes same all (cs, are, is) = subst (λ these. AreBreaks (BreaksImage image None rule.TableRange) (λ v. v.place) (HasTableOutside these) all) (sym same) (subst (AreBreaks (BreaksImage image None rule.TableRange) (λ v. v.place) (HasTableOutside image)) (sym is) (are_breaks_at (BreaksImage image None rule.TableRange) (λ (v : CommandView). v.place) (HasTableOutside image) (command_at image) (λ p. refl) cs (λ p has named. inr (cs, are, (has, fields_by_tables image p named))) broken))
   where
     broken : (p : ℕ) → BreaksImage image None rule.TableRange p → Contains cs p × HasTableOutside image (command_at image p)
     broken p (inl none) = absurd none

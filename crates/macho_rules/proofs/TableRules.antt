@@ -15,7 +15,7 @@ use Rattle.macho_image.specs.Command.{OfCommands, first_of_kind}
 use Rattle.macho_image.specs.Opened.{IsOpened}
 use Rattle.macho_image.specs.Symbol.{items_inside}
 use Rattle.macho_rules.proofs.OneCommand.{first_is, is_of_kind}
-use Rattle.macho_rules.proofs.Searches.{has_nothing, has_number, number_has, numbers_rise, Rising, items_rise, Told, told_at}
+use Rattle.macho_rules.proofs.Searches.{has_nothing, has_number, number_has, numbers_rise, Rising, items_rise, AreBreaks, are_breaks_at}
 
 -- Tables that lie inside the image
 
@@ -97,9 +97,9 @@ module _ {X : Type 0} (image : List ℕ) (kind each : ℕ) (start count : ℕ �
         let some : Contains (items_inside image (start c) each (count c)) p = subst (Contains (items_inside image (start c) each (count c))) (sym from) (items_in image (start c) each (count c) k (inside cs are c (i, less, at_i)) few) in
         (subst (λ o. Contains (items_of o) p) (sym first) some, (seen cs c p are first).1 here)
 
-    pub items_told : (breaks : ℕ → Type 0) (all : List X) → AreItems all → ((p : ℕ) → OfCommands image (λ cs. BreaksItem P cs p) → breaks p) → ((p : ℕ) → breaks p → OfCommands image (λ cs. BreaksItem P cs p)) → Told breaks place Q all
-    items_told breaks all (cs, are, is) to from =
-        subst (Told breaks place Q) (sym is) (told_at breaks place Q at same_place (items_of (first_of_kind image kind cs)) (λ p has here. to p (cs, are, item_breaks cs p are (first_of_kind image kind cs) refl has here)) (λ p broken. broken_item cs p are (of_these p (from p broken))))
+    pub items_are_breaks : (breaks : ℕ → Type 0) (all : List X) → AreItems all → ((p : ℕ) → OfCommands image (λ cs. BreaksItem P cs p) → breaks p) → ((p : ℕ) → breaks p → OfCommands image (λ cs. BreaksItem P cs p)) → AreBreaks breaks place Q all
+    items_are_breaks breaks all (cs, are, is) to from =
+        subst (AreBreaks breaks place Q) (sym is) (are_breaks_at breaks place Q at same_place (items_of (first_of_kind image kind cs)) (λ p has here. to p (cs, are, item_breaks cs p are (first_of_kind image kind cs) refl has here)) (λ p broken. broken_item cs p are (of_these p (from p broken))))
       where
         of_these : (p : ℕ) → OfCommands image (λ cs. BreaksItem P cs p) → BreaksItem P cs p
         of_these p (others, also, broken) = subst (λ these. BreaksItem P these p) (commands_unique image others cs also are) broken

@@ -1,5 +1,5 @@
 -- From the answers on slices and images to the verdict on a file.
-use Rattle.std.proofs.Common.{◌≡◌, ◌↔◌, ℕ, suc, ◌+◌, ◌-◌, ◌≤◌, ◌<◌, List, length, map, drop, slice_get, slice_index_or, false, Option, Some, None, Result, Ok, Err, OnOk, IfOk, IfErr, IfSome, IsSome, IsErrAnd, IsTrue, Bor, nat_lt, inl, inr, refl, sym, ap, ◌∙◌, subst, arith, length-drop}
+use Rattle.std.proofs.Common.{◌≡◌, ◌↔◌, ℕ, suc, ◌+◌, ◌-◌, ◌≤◌, ◌<◌, List, length, map, drop, slice_get, slice_index_or, false, Option, Some, None, Result, Ok, Err, IfOk, IfErr, IfSome, IsSome, IsErrAnd, IsTrue, Bor, nat_lt, inl, inr, refl, sym, ap, ◌∙◌, subst, arith, length-drop}
 use Rattle.std.specs.Option.{option_map}
 use Rattle.std.proofs.lemmas.List.{length-take-le, length-map}
 use Rattle.std.proofs.lemmas.Option.{slice_get-map, slice_get-get_or, slice_get_past}
@@ -22,7 +22,6 @@ use Rattle.macho_fat.specs.declared.fault.FatFault.TheVariants as fault
 use Rattle.macho_fat.specs.declared.slice.Slice.{Slice}
 use Rattle.macho_rules.specs.Verdict.{IsRefusal, IsSliceBreak, IsVerified, refusal_of}
 use Rattle.macho_rules.specs.declared.refusal.Refusal.{Refusal}
-use Rattle.macho_rules.specs.declared.refusal.Refusal.TheVariants as refusal
 
 -- a broken rule that is passed on as a refusal
 pub passed_on : {T : Type 0} (P : Refusal → Type 0) (answer : Result T Refusal) (r : Refusal) → IsErrAnd answer (λ given. given ≡ r) → P r → IfErr answer P

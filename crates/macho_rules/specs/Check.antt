@@ -7,7 +7,7 @@ use Rattle.macho_fields.specs.declared.rule.Rule.{Rule}
 use Rattle.macho_fields.specs.declared.rule.Break.{Break}
 use Rattle.macho_image.specs.Segment.{Structure}
 
--- an answer tells whether an opened image keeps one rule, and else its least place
+-- an answer says whether an opened image keeps one rule, and otherwise gives the least break
 abbrev pub DecidesImage : {T : Type 0} → List ℕ → Rule → Result T Break → Type 0
 DecidesImage image r answer = DecidesRule (BreaksImage image None r) r answer
 
@@ -43,7 +43,7 @@ OverlapsEarlier image commands segment =
 abbrev pub OfSection : Type 1
 OfSection = List ℕ → ℕ → ℕ → Type 0
 
--- an answer tells whether the sections of one segment keep a rule, and else its least place
+-- an answer says whether the sections of a segment keep one rule, and otherwise gives the least break
 abbrev pub DecidesSections : {T : Type 0} → OfSection → Structure → Rule → Result T Break → Type 0
 DecidesSections Breaks segment r answer =
     DecidesRule (λ place. Contains (sections_in segment.image segment.place) place
@@ -57,7 +57,7 @@ IsOutsideMemory image segment section =
     × (section_address image section + section_size image section
     ≤ vmaddr image segment + vmsize image segment))
 
--- the bytes of a section do not stand where its mapped segment puts them, or pass the image
+-- the bytes of a section are not where its mapped segment puts them, or pass the image
 abbrev pub IsMisplaced : OfSection
 IsMisplaced image segment section =
     (0 < section_size image section) × (is_zero_fill image section ≡ false)

@@ -1,5 +1,5 @@
--- What stands at the addresses of a loaded image, from its mapped segments.
-use Rattle.std.specs.Prelude.{◌&&◌, ◌≡◌, ℕ, ◌+◌, ◌-◌, ◌^◌, ◌<◌, nat_le, nat_lt, List, map, filter, find, Bool, Option, Some, None, Contains, if◌then◌else◌}
+-- What is at the addresses of a loaded image, from its mapped segments.
+use Rattle.std.specs.Prelude.{◌&&◌, ◌≡◌, ℕ, ◌+◌, ◌-◌, ◌^◌, ◌<◌, nat_le, nat_lt, List, map, filter, find, Any, Bool, Option, Some, None, Contains, if◌then◌else◌}
 use Rattle.std.specs.Option.{option_map}
 use Rattle.macho_fields.specs.Field.{Covers}
 use Rattle.macho_fields.specs.Segment.{Source, File, Zero, source, Supplies, segments_of, vmaddr, vmsize, fileoff, filesize}
@@ -23,7 +23,7 @@ view_of s = record {
   filesize = s.filesize;
 }
 
--- the segment that stands at the place
+-- the segment whose command is at the place
 abbrev pub mapped_at : List ℕ → ℕ → MappedView
 mapped_at image segment = record {
   vmaddr = vmaddr image segment;
@@ -38,6 +38,12 @@ mapped_of image commands =
     map (mapped_at image)
     (filter (λ segment. nat_lt 0 (vmsize image segment)) (segments_of image commands))
 
+-- the image has a mapped segment
+abbrev pub HasMapped : List ℕ → Type 0
+HasMapped image =
+    OfCommands image (λ commands.
+    Any (λ segment. 0 < vmsize image segment) (segments_of image commands))
+
 -- the address is one of the segment
 abbrev pub SuppliesAt : ℕ → MappedView → Type 0
 SuppliesAt address s = Covers s.vmaddr s.vmsize address
@@ -51,7 +57,7 @@ source_from address s =
     let past = address - s.vmaddr in
     if nat_lt past s.filesize then File (s.fileoff + past) else Zero
 
--- what stands at an address, or none where no segment supplies it
+-- what is at an address, or none where no segment supplies it
 abbrev pub source_in : List MappedView → ℕ → Option Source
 source_in segments address = option_map (source_from address) (find (supplies address) segments)
 
@@ -64,10 +70,10 @@ abbrev pub source_of : declared.Source → Source
 source_of (answer.File place) = File place
 source_of answer.Zero = Zero
 
--- What stands at each address of an image is told: what the segment has there that supplies the
--- address, and none where no segment does.
-abbrev pub TellsSources : List ℕ → List MappedView → Type 0
-TellsSources image segments =
+-- The mapped segments give what is at each address of an image: what the segment that supplies the
+-- address has there, and none where no segment supplies it.
+abbrev pub GivesSources : List ℕ → List MappedView → Type 0
+GivesSources image segments =
     OfCommands image (λ commands. (address : ℕ) →
     ((segment : ℕ) → Contains (segments_of image commands) segment
     → Supplies image segment address

@@ -29,7 +29,7 @@ pub(crate) fn entry(image: &Image) -> Result<(), Break>
     })
 }
 
-/// Whether the image has a base, and `entryoff` bytes behind it a byte that may be executed.
+/// Whether the image has a base, and `entryoff` bytes after it a byte that may be executed.
 fn is_entry(image: &Image, entryoff: u64) -> bool
     ensures { OfCommands image.now (λ commands. IsTrue result
         ↔ IsSomeAnd (base_of image.now commands)

@@ -1,6 +1,6 @@
 #![tactic(auto)]
 //! The verdict on a file: the rules of its images, one function a rule, and all rules in their
-//! order; and what stands at the addresses of an accepted file.
+//! order; and what is at the addresses of an accepted file.
 
 mod check;
 mod entry;

@@ -1,4 +1,4 @@
-//! What stands at the addresses of a loaded image. (`mach-o/loader.h`: `segment_command_64`)
+//! What is at the addresses of a loaded image. (`mach-o/loader.h`: `segment_command_64`)
 
 ghost use Rattle.std.specs.Prelude.{◌≡◌, ◌+◌, ◌≤◌, ◌<◌, ◌^◌, ◌↔◌, ℕ, All, IsTrue, map};
 ghost use Rattle.std.specs.Option.{option_map};
@@ -11,16 +11,16 @@ use macho_image::{Image, Segment};
 use std::alloc::{AllocError, Global};
 use std::marker::Model;
 
-/// What stands at an address of a loaded image.
+/// What is at an address of a loaded image.
 #[derive(Clone, Copy, Debug, PartialEq, Eq)]
 pub enum Source {
-    /// The byte of the slice at this place.
+    /// The byte of the slice at this offset.
     File(u64),
-    /// A zero, which no byte of the file stands for.
+    /// A zero that is no byte of the file.
     Zero,
 }
 
-/// The mapped segments of an image, which say what stands at each address.
+/// The mapped segments of an image, which say what is at each address.
 #[derive(Drop)]
 pub struct Mapping {
     segments: Vec<MappedSegment>,
@@ -47,23 +47,27 @@ impl Model for Mapping {
 }
 
 impl Mapping {
-    ghost use Rattle.std.specs.Prelude.{◌≡◌, ◌↔◌, IfOk, OnOk, IfSome, IsSome, IsSomeAnd, slice_get};
+    ghost use Rattle.std.specs.Prelude.{◌≡◌, ◌↔◌, IfOk, OnOk, OnErr, IfSome, IsSome, IsSomeAnd, slice_get};
     ghost use Rattle.std.specs.Option.{option_map};
     ghost use Rattle.macho_fields.specs.Layers.{BreaksOpened, NothingBreaks};
     ghost use Rattle.macho_fields.specs.Universal.{slices_of, slice_bytes, IsImage};
     ghost use Rattle.macho_image.specs.Command.{OfCommands};
     ghost use Rattle.macho_image.specs.Opened.{IsOpened};
-    ghost use Rattle.macho_rules.specs.Mapping.{mapped_of, source_of, source_in, TellsSources};
+    ghost use Rattle.macho_rules.specs.Mapping.{mapped_of, source_of, source_in, HasMapped, GivesSources};
 
     /// The mapping of the image in the slice with this index, or `None` where the slice is of
-    /// another kind, or there is none.
+    /// another kind, or there is none. It takes memory for the mapped segments of the image alone,
+    /// and none where there are none.
     pub fn of(alloc: Global, verified: &Verified, index: u64) -> Result<Option<Mapping>, AllocError>
         ensures is_image { IfOk result (λ mapping. IsSome mapping
             ↔ IsSomeAnd (slice_get (slices_of verified.now) index)
             (λ slice. IsImage (slice_bytes verified.now slice))) }
         ensures sources { IfOk result (λ mapping. IfSome mapping (λ mapping.
             IsSomeAnd (slice_get (slices_of verified.now) index) (λ slice.
-            TellsSources (slice_bytes verified.now slice) mapping))) }
+            GivesSources (slice_bytes verified.now slice) mapping))) }
+        ensures memory { OnErr result (IsSomeAnd (slice_get (slices_of verified.now) index)
+            (λ slice. IsImage (slice_bytes verified.now slice)
+            × HasMapped (slice_bytes verified.now slice))) }
     {
         let Some(image) = verified.image(index) else {
             return Ok(None);
@@ -78,6 +82,7 @@ impl Mapping {
         ensures mapping { IfOk result (λ mapping.
             OfCommands image.now (λ commands. mapping ≡ mapped_of image.now commands)) }
         ensures opened { OnOk result (IsOpened image.now) }
+        ensures memory { OnErr result (HasMapped image.now) }
     {
         // Called for its contract: the length of the image, where each segment's bytes end, fits.
         let _ = image.bytes().len();
@@ -90,7 +95,7 @@ impl Mapping {
         Ok(Mapping { segments })
     }
 
-    /// What stands at the address, or `None` where no segment supplies it.
+    /// What is at the address, or `None` where no segment supplies it.
     pub fn source(&mut self, addr: u64) -> Option<Source>
         ensures source { option_map source_of result ≡ source_in self.old addr }
         ensures same { self.new ≡ self.old }

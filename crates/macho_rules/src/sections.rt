@@ -50,7 +50,7 @@ fn is_outside_memory(segment: &Segment, section: &Section) -> bool
     segment.vmsize() > 0 && section.size() > 0 && !addresses.inside(&memory(segment))
 }
 
-/// The bytes of each section stand where its segment puts them, or at least inside the image.
+/// The bytes of each section are where its mapped segment puts them, or inside the image.
 pub(crate) fn section_file(image: &Image) -> Result<(), Break>
     ensures { DecidesImage image.now Rule.SectionFile result }
 {
@@ -61,8 +61,8 @@ pub(crate) fn section_file(image: &Image) -> Result<(), Break>
     Ok(())
 }
 
-/// The bytes of each section stand where the segment puts them. Where that is not mapped they lie
-/// inside the image.
+/// The bytes of each section are where the segment puts them, or, where that is not mapped, inside
+/// the image.
 fn bytes_in(segment: &Segment, image_len: u64) -> Result<(), Break>
     requires { image_len ≡ length segment.now.image }
     ensures { DecidesSections IsMisplaced segment.now Rule.SectionFile result }
@@ -78,7 +78,7 @@ fn bytes_in(segment: &Segment, image_len: u64) -> Result<(), Break>
     Ok(())
 }
 
-/// Whether the section has bytes, and they do not stand where the segment puts them.
+/// Whether the section has bytes, and they are not where the segment puts them.
 fn is_misplaced(segment: &Segment, section: &Section, image_len: u64) -> bool
     requires image { section.now.image ≡ segment.now.image }
     requires len { image_len ≡ length segment.now.image }
@@ -94,13 +94,13 @@ fn is_misplaced(segment: &Segment, section: &Section, image_len: u64) -> bool
     }
 }
 
-/// Whether the bytes of the section stand in the segment's bytes of the image, as far behind their
-/// first as the address of the section is behind the segment's.
+/// Whether the bytes of the section lie in the segment's bytes of the image, at the same distance
+/// from their first as the address of the section has from the segment's.
 fn is_in_file_part(segment: &Segment, section: &Section) -> bool
     requires { section.now.image ≡ segment.now.image }
     ensures { IsTrue result ↔ IsInFilePart segment.now.image segment.now.place section.now.place }
 {
-    // No address of the section is below the segment's, as section_address tells.
+    // No address of the section is below the segment's: section_address is unbroken.
     let part = Span {
         start: section.addr().saturating_sub(segment.vmaddr()),
         len: section.size(),
@@ -120,7 +120,7 @@ fn file_part(section: &Section) -> Span
     }
 }
 
-/// The relocations of each section lie inside the image, be the section empty or not.
+/// The relocations of each section, also of an empty one, lie inside the image.
 pub(crate) fn section_relocs(image: &Image) -> Result<(), Break>
     ensures { DecidesImage image.now Rule.SectionRelocs result }
 {

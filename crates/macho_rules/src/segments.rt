@@ -9,7 +9,7 @@ ghost use Rattle.macho_rules.specs.Check.{DecidesImage, PassesLastAddress, IsLon
 use macho_fields::{Break, Rule, Span};
 use macho_image::{Image, Segment};
 
-/// The place behind the last address.
+/// One past the last address.
 const ADDRESS_END: u128 = 1 << 64;
 
 /// No segment passes the last address.

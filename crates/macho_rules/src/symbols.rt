@@ -45,7 +45,7 @@ fn has_endless_name(image: Bytes, symtab: Symtab, symbol: Symbol) -> bool
     symbol.strx != 0 && !ends_in_strings(image, symtab, u64::from(symbol.strx))
 }
 
-/// Whether a zero byte stands from `strx` on in the strings.
+/// Whether there is a zero byte in the strings at `strx` or after it.
 fn ends_in_strings(image: Bytes, symtab: Symtab, strx: u64) -> bool
     requires inside { 0 < symtab.strsize
         → symtab.stroff + symtab.strsize ≤ length (bytes_of image) }

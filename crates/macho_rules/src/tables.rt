@@ -141,7 +141,7 @@ fn has_group_past(dysymtab: Dysymtab, count: u64) -> bool
         || is_past(dysymtab.iundefsym, dysymtab.nundefsym, count)
 }
 
-/// Whether `number` symbols from the index `first` on are some, and pass the end of `count`.
+/// Whether the group of `number` symbols from the index `first` on has one past `count`.
 fn is_past(first: u64, number: u64, count: u64) -> bool
     ensures { IsTrue result ↔ (0 < number) × (count < first + number) }
 {

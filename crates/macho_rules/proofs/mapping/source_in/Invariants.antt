@@ -3,7 +3,7 @@ use Rattle.std.specs.Prelude.{drop}
 use Rattle.macho_rules.specs.Mapping.{view_of, source_in}
 use Rattle.macho_rules.proofs.mapping.source_in.Given as goal
 
--- what stands at the address is what it is for the segments that are left
+-- the answer for the address is that of the segments that are left
 abbrev pub invariant-loop-segment : goal.invariant-loop-segment
 invariant-loop-segment l =
     source_in (map view_of l.segments) l.addr

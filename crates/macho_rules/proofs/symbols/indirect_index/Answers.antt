@@ -3,7 +3,7 @@ use Rattle.std.proofs.lemmas.Bool.{both_ways}
 use Rattle.macho_fields.specs.Rules.{BreaksImage}
 use Rattle.macho_fields.specs.declared.rule.Rule.TheVariants as rule
 use Rattle.macho_rules.proofs.Searches.{search_all, search_next, search_found, search_ended}
-use Rattle.macho_rules.proofs.SymbolRules.{AreIndirects, indirects_rise, indirects_told}
+use Rattle.macho_rules.proofs.SymbolRules.{AreIndirects, indirects_rise, indirects_are_breaks}
 use Rattle.macho_rules.proofs.symbols.indirect_index.Goals as goal
 
 pub loop-entry-init : goal.loop-entry-init
@@ -15,7 +15,7 @@ pub returns-then-names_no_symbol : goal.returns-then-names_no_symbol
 returns-then-names_no_symbol c =
     let are : AreIndirects c.args.image.now c.into_iter-entry-iterator.result = subst (AreIndirects c.args.image.now) (sym c.into_iter-entry-iterator.ensures.into_iter_gives) c.indirects-entry-items.ensures in
     search_found (BreaksImage c.args.image.now None rule.IndirectIndex) rule.IndirectIndex _ _ _ _ _ c.in-Some.entry c.in-Some.ensures.steps
-    (indirects_told c.args.image.now _ c.symbol_count-count.result c.requires.opened c.requires.tables are c.symbol_count-count.ensures) c.loop-entry.invariant.2 (c.names_no_symbol.ensures.0 c.if-names_no_symbol.true)
+    (indirects_are_breaks c.args.image.now _ c.symbol_count-count.result c.requires.opened c.requires.tables are c.symbol_count-count.ensures) c.loop-entry.invariant.2 (c.names_no_symbol.ensures.0 c.if-names_no_symbol.true)
 
 pub loop-entry-preserved : goal.loop-entry-preserved
 loop-entry-preserved c =
@@ -25,4 +25,4 @@ pub returns : goal.returns
 returns c =
     let are : AreIndirects c.args.image.now c.into_iter-entry-iterator.result = subst (AreIndirects c.args.image.now) (sym c.into_iter-entry-iterator.ensures.into_iter_gives) c.indirects-entry-items.ensures in
     search_ended (BreaksImage c.args.image.now None rule.IndirectIndex) _ _ _ _ c.in-None.ensures.steps.0
-    (indirects_told c.args.image.now _ c.symbol_count-count.result c.requires.opened c.requires.tables are c.symbol_count-count.ensures) c.loop-entry.invariant.2
+    (indirects_are_breaks c.args.image.now _ c.symbol_count-count.result c.requires.opened c.requires.tables are c.symbol_count-count.ensures) c.loop-entry.invariant.2

@@ -4,7 +4,7 @@ use Rattle.macho_fields.specs.Rules.{BreaksImage}
 use Rattle.macho_fields.specs.declared.rule.Rule.TheVariants as rule
 use Rattle.macho_image.specs.Command.{command_of}
 use Rattle.macho_rules.proofs.Searches.{search_all, search_next, search_found, search_ended}
-use Rattle.macho_rules.proofs.TableRange.{AreViews, views_rise, tables_told, tables_held, first_among}
+use Rattle.macho_rules.proofs.TableRange.{AreViews, views_rise, tables_are_breaks, tables_held, first_among}
 use Rattle.macho_rules.proofs.tables.table_range.Goals as goal
 
 pub loop-command-init : goal.loop-command-init
@@ -22,7 +22,7 @@ pub returns-then-has_table_outside-clause-decides : goal.returns-then-has_table_
 returns-then-has_table_outside-clause-decides c =
     let are : AreViews c.args.image.now c.into_iter-command-iterator.result = subst (AreViews c.args.image.now) (sym c.into_iter-command-iterator.ensures.into_iter_gives) c.commands-command-items.ensures.commands in
     search_found (BreaksImage c.args.image.now None rule.TableRange) rule.TableRange _ _ _ _ _ (command_of c.in-Some.command) c.in-Some.ensures.steps
-    (tables_told c.args.image.now _ c.bytes-bytes.ensures.bytes _ are) c.loop-command.invariant.2 (c.has_table_outside.ensures.0 c.if-has_table_outside.true)
+    (tables_are_breaks c.args.image.now _ c.bytes-bytes.ensures.bytes _ are) c.loop-command.invariant.2 (c.has_table_outside.ensures.0 c.if-has_table_outside.true)
 
 pub loop-command-preserved : goal.loop-command-preserved
 loop-command-preserved c =
@@ -31,4 +31,4 @@ loop-command-preserved c =
 pub returns-clause-decides : goal.returns-clause-decides
 returns-clause-decides c =
     let are : AreViews c.args.image.now c.into_iter-command-iterator.result = subst (AreViews c.args.image.now) (sym c.into_iter-command-iterator.ensures.into_iter_gives) c.commands-command-items.ensures.commands in
-    search_ended (BreaksImage c.args.image.now None rule.TableRange) _ _ _ _ c.in-None.ensures.steps.0 (tables_told c.args.image.now _ c.bytes-bytes.ensures.bytes _ are) c.loop-command.invariant.2
+    search_ended (BreaksImage c.args.image.now None rule.TableRange) _ _ _ _ c.in-None.ensures.steps.0 (tables_are_breaks c.args.image.now _ c.bytes-bytes.ensures.bytes _ are) c.loop-command.invariant.2

@@ -1,9 +1,16 @@
-use Rattle.std.proofs.Common.{◌<◌, ◌^◌, List, length, map, All, sym, ◌∙◌, subst, ap, lit≤}
+use Rattle.std.proofs.Common.{◌<◌, ◌^◌, List, length, map, All, sym, ◌∙◌, subst, ap, arith, lit≤}
+use Rattle.macho_fields.specs.Segment.{vmsize}
 use Rattle.macho_fields.specs.declared.rule.Rule.TheVariants as rule
 use Rattle.macho_rules.specs.Mapping.{MappedView, view_of, FitsFile}
 use Rattle.macho_rules.proofs.EntryRule.{all_segments}
-use Rattle.macho_rules.proofs.MappingRule.{all_over, mapping_of, mapped_fit}
+use Rattle.macho_rules.proofs.MappingRule.{all_over, mapping_of, mapped_fit, some_mapped, on_err}
 use Rattle.macho_rules.proofs.mapping.Mapping.of_image.Goals as goal
+
+pub returns-in_err-push-clause-memory : goal.returns-in_err-push-clause-memory
+returns-in_err-push-clause-memory c =
+    let segments = all_segments c.args.image.now _ _ c.into_iter-segment-iterator.ensures.into_iter_gives c.segments-segment-items.ensures.segments in
+    let more : 0 < vmsize c.in-Some.segment.image c.in-Some.segment.place = omega (arith, c.if-vmsize-gt0.true, c.vmsize.ensures) in
+    on_err c.from_residual.result (some_mapped c.args.image.now _ _ _ _ c.in-Some.segment segments c.loop-segment.invariant c.in-Some.ensures.steps more)
 
 pub invariant_of-result : goal.invariant_of-result
 invariant_of-result c =
