@@ -1,4 +1,4 @@
--- Rules that are judged entry by entry: the first entry that breaks one is its least place.
+-- Rules that are decided entry by entry: the first entry that breaks one is its least place.
 use Rattle.std.proofs.Common.{◌≡◌, ◌≢◌, ℕ, ◌+◌, ◌*◌, ◌^◌, ◌≤◌, ◌<◌, List, length, refl, sym, ap, ◌∙◌, subst, arith, inl, inr, mul-le-mul_right}
 use Rattle.std.proofs.lemmas.Bool.{cases_lt}
 use Rattle.macho_fields.specs.Universal.{IsUniversal, entry_count, entry_size, entry_place, entry_align, entry_slice, table_end}

@@ -13,7 +13,7 @@ use crate::rules::{
 use crate::table::Table;
 use macho_fields::{Break, Bytes};
 
-/// What a file contains that keeps its rules.
+/// What a file contains that breaks none of its rules.
 #[derive(Drop)]
 pub(crate) enum Contents<'a> {
     /// One 64-bit little-endian image.
@@ -22,7 +22,7 @@ pub(crate) enum Contents<'a> {
     Slices(Table<'a>),
 }
 
-/// Decides the rules of a file, from `magic` to `fat-empty`.
+/// Decides the rules of a file, from `magic` to `fat-empty`, and returns the first broken one.
 pub(crate) fn check_file<'a>(file: Bytes<'a>) -> Result<Contents<'a>, Break>
     ensures decides { Decides (BreaksFile (bytes_of file.entry)) result }
     ensures contents { IfOk result (HasContents (bytes_of file.entry)) }

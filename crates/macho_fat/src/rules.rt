@@ -165,7 +165,7 @@ fn repeats_earlier(table: &Table, later: u32) -> bool
     false
 }
 
-/// Each slice begins with the magic number of an image, be it read or not.
+/// Each slice begins with the magic number of an image, which may be one that is not read.
 pub(crate) fn fat_slice_magic(table: &Table) -> Result<(), Break>
     requires { (place : ℕ) → ¬ BreaksFile table.now Rule.FatSliceOutside place }
     ensures { DecidesRule (BreaksFile table.now Rule.FatSliceMagic) Rule.FatSliceMagic result }

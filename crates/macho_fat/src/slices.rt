@@ -17,11 +17,10 @@ use crate::table::Table;
 use macho_fields::{Bytes, Span};
 use std::alloc::{AllocError, Global};
 
-/// The slices of a file that keeps the rules of the file, from `magic` to `fat-empty`: the whole
-/// of a file that is one image, and otherwise one slice for each entry of the table, in order.
-/// Where one of the rules is broken, it returns the first of them. It takes memory for the list of
-/// slices alone, as much as that needs, and none where one of the rules from `magic` to `fat-align`
-/// is broken.
+/// The slices of a file: the whole of a file that is one image, and otherwise one slice for each
+/// entry of the table, in order. Where one of the rules of the file, from `magic` to `fat-empty`,
+/// is broken, it returns the first broken one. The list has room for its slices and no more. No
+/// memory is asked for where one of the rules from `magic` to `fat-align` is broken.
 pub fn slices(alloc: Global, file: Bytes) -> Result<Vec<Slice>, FatFault>
     ensures slices { IfOk result (λ slices.
         map slice_of slices.items ≡ slices_of (bytes_of file.entry)) }
