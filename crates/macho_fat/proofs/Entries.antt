@@ -24,7 +24,8 @@ place_rises file i k less = let wide = mul-le-mul_right (entry_size file) less i
 abbrev pub Breaks : List ℕ → (ℕ → Type 0) → ℕ → Type 0
 Breaks file P place = IsUniversal file × AtEntry file P place
 
-pub entry_broken : (file : List ℕ) (P : ℕ → Type 0) (r : Rule) (k : ℕ) (b : Break) → IsUniversal file → k < entry_count file → NoneBelow P k → P k → b.rule ≡ r → b.place ≡ entry_place file k → (b.rule ≡ r) × Breaks file P b.place × ((place : ℕ) → Breaks file P place → b.place ≤ place)
+pub entry_broken : (file : List ℕ) (P : ℕ → Type 0) (r : Rule) (k : ℕ) (b : Break) → IsUniversal file → k < entry_count file → NoneBelow P k → P k → b.rule ≡ r
+    → b.place ≡ entry_place file k → (b.rule ≡ r) × Breaks file P b.place × ((place : ℕ) → Breaks file P place → b.place ≤ place)
 entry_broken file P r k b universal less none here rule at = (rule, (universal, (k, less, at, here)), least)
   where
     least : (place : ℕ) → Breaks file P place → b.place ≤ place
@@ -63,7 +64,8 @@ begins_late file k universal less none =
     ]
 
 -- a slice that is not outside lies inside the file
-pub ends_inside : (file : List ℕ) (k : ℕ) → IsUniversal file → k < entry_count file → ((place : ℕ) → ¬ Breaks file (IsOutside file) place) → (entry_slice file k).start + (entry_slice file k).size ≤ length file
+pub ends_inside : (file : List ℕ) (k : ℕ) → IsUniversal file → k < entry_count file → ((place : ℕ) → ¬ Breaks file (IsOutside file) place)
+    → (entry_slice file k).start + (entry_slice file k).size ≤ length file
 ends_inside file k universal less none =
     elim (cases_lt (length file) ((entry_slice file k).start + (entry_slice file k).size)) [
       | inl past ↦ absurd (none (entry_place file k) (universal, (k, less, refl, past)))
@@ -78,6 +80,7 @@ pub misaligned_entry : (file : List ℕ) (k offset align : ℕ) → offset ≡ (
 misaligned_entry file k offset align start exponent none m is = none (m, ap (λ n. m * 2 ^ n) exponent ∙ (is ∙ sym start))
 
 -- what was read of two entries says whether they share a place
-pub sharing_entries : (file : List ℕ) (i j : ℕ) (a b : Span) → a.start ≡ (entry_slice file i).start → a.len ≡ (entry_slice file i).size → b.start ≡ (entry_slice file j).start → b.len ≡ (entry_slice file j).size → SharePlace (entry_slice file i) (entry_slice file j) → Shares a b
+pub sharing_entries : (file : List ℕ) (i j : ℕ) (a b : Span) → a.start ≡ (entry_slice file i).start → a.len ≡ (entry_slice file i).size → b.start ≡ (entry_slice file j).start
+    → b.len ≡ (entry_slice file j).size → SharePlace (entry_slice file i) (entry_slice file j) → Shares a b
 sharing_entries file i j a b start size begin long (place, (first, within), (second, inside)) =
     (place, (omega (arith, first, start), omega (arith, within, start, size)), (omega (arith, second, begin), omega (arith, inside, begin, long)))

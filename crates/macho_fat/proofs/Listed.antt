@@ -33,7 +33,14 @@ pub some_slice : (file : List ℕ) (P : FileSlice → Type 0) (k : ℕ) → IsUn
 some_slice file P k universal less here = subst (Any P) (sym (universal_slices file universal)) among
   where
     among : Any P (first_slices file (entry_count file))
-    among = (k, entry_slice file k, omega (arith, less, length-map-range_with_len (entry_slice file) 0 (entry_count file)), get_or-map-range_with_len (entry_slice file) 0 (entry_count file) k k (entry_slice file k) less (omega arith), here)
+    among = (
+      k,
+      entry_slice file k,
+      omega (arith, less, length-map-range_with_len (entry_slice file) 0 (entry_count file)),
+      get_or-map-range_with_len (entry_slice file) 0
+          (entry_count file) k k (entry_slice file k) less (omega arith),
+      here,
+    )
 
 -- what holds of all slices holds of those of the entries
 pub each_entry : (file : List ℕ) (P : FileSlice → Type 0) → IsUniversal file → All P (slices_of file) → (k : ℕ) → k < entry_count file → P (entry_slice file k)
@@ -65,7 +72,9 @@ same_slice slice other start size arch = ap₂ (λ s n. of_parts s n slice.arch)
     of_parts s n pair = record { start = s; size = n; arch = pair }
 
 -- one slice more
-pub listed_more : (file : List ℕ) (k : ℕ) (slices next : List Slice) (slice : Slice) → AreFirst file k slices → slice.span.start ≡ (entry_slice file k).start → slice.span.len ≡ (entry_slice file k).size → slice.arch ≡ (entry_slice file k).arch → IsTrue slice.read ↔ IsImage (slice_bytes file (entry_slice file k)) → next ≡ slices ++ slice ∷ [] → AreFirst file (k + 1) next
+pub listed_more : (file : List ℕ) (k : ℕ) (slices next : List Slice) (slice : Slice) → AreFirst file k slices → slice.span.start ≡ (entry_slice file k).start
+    → slice.span.len ≡ (entry_slice file k).size → slice.arch ≡ (entry_slice file k).arch → IsTrue slice.read ↔ IsImage (slice_bytes file (entry_slice file k))
+    → next ≡ slices ++ slice ∷ [] → AreFirst file (k + 1) next
 listed_more file k slices next slice first start size arch read is = subst (AreFirst file (k + 1)) (sym is) (record { all = all; read = each })
   where
     same : slice_of slice ≡ entry_slice file k
@@ -75,7 +84,9 @@ listed_more file k slices next slice first start size arch read is = subst (AreF
     all = map-append slice_of slices (slice ∷ []) ∙ (ap₂ (λ xs x. xs ++ x ∷ []) first.all same ∙ sym (map-range_with_len_more (entry_slice file) 0 k k (omega arith)))
 
     each : All (MarksRead file) (slices ++ slice ∷ [])
-    each = All-append (MarksRead file) slices (slice ∷ []) first.read (All-cons (MarksRead file) slice [] (subst (λ s. IsTrue slice.read ↔ IsImage (slice_bytes file s)) (sym same) read) (All-nil (MarksRead file)))
+    each =
+        All-append (MarksRead file) slices (slice ∷ []) first.read
+        (All-cons (MarksRead file) slice [] (subst (λ s. IsTrue slice.read ↔ IsImage (slice_bytes file s)) (sym same) read) (All-nil (MarksRead file)))
 
 pub all_listed : (file : List ℕ) (k : ℕ) (slices : List Slice) → IsUniversal file → k ≡ entry_count file → AreFirst file k slices → AreSlices file slices
 all_listed file k slices universal all first = record { all = first.all ∙ (ap (first_slices file) all ∙ sym (universal_slices file universal)); read = first.read }

@@ -36,7 +36,8 @@ first_foreign file k start at none here = record { there = (k, omega arith, at, 
         elim (cases_lt i k) [ inl lower ↦ absurd (none i lower foreign) | inr most ↦ (let same : i ≡ k = omega arith in omega (arith, at, ap (λ n. (entry_slice file n).start) same)) ]
 
 -- the lesser of the least place and that of one more foreign slice
-more_foreign : (file : List ℕ) (k start place next : ℕ) → start ≡ (entry_slice file k).start → IsLeastForeign file k place → IsForeign file k → next ≤ place → next ≤ start → (next ≡ place) ⊎ (next ≡ start) → IsLeastForeign file (k + 1) next
+more_foreign : (file : List ℕ) (k start place next : ℕ) → start ≡ (entry_slice file k).start → IsLeastForeign file k place → IsForeign file k → next ≤ place → next ≤ start
+    → (next ≡ place) ⊎ (next ≡ start) → IsLeastForeign file (k + 1) next
 more_foreign file k start place next at is here low below one = record { there = there one; least = least }
   where
     there : (next ≡ place) ⊎ (next ≡ start) → (i : ℕ) × (i < k + 1) × (next ≡ (entry_slice file i).start) × IsForeign file i
@@ -55,20 +56,23 @@ abbrev HasForeign : List ℕ → ℕ → FileSlice → Type 0
 HasForeign file place slice = (place ≡ slice.start) × ¬ (IsImage (slice_bytes file slice) ⊎ IsUnreadImage (slice_bytes file slice))
 
 -- one entry more
-pub foreign_more : (file : List ℕ) (k : ℕ) (answer here next : Option ℕ) → DecidesForeign file k answer → MatchOption here (¬ IsForeign file k) (λ start. (start ≡ (entry_slice file k).start) × IsForeign file k) → next ≡ lesser_of answer here → DecidesForeign file (k + 1) next
+pub foreign_more : (file : List ℕ) (k : ℕ) (answer here next : Option ℕ) → DecidesForeign file k answer
+    → MatchOption here (¬ IsForeign file k) (λ start. (start ≡ (entry_slice file k).start) × IsForeign file k) → next ≡ lesser_of answer here → DecidesForeign file (k + 1) next
 foreign_more file k answer None next least kept is = subst (DecidesForeign file (k + 1)) (sym (is ∙ nothing answer)) (none_foreign file k answer least kept)
   where
     nothing : (answer : Option ℕ) → lesser_of answer None ≡ answer
     nothing None = refl
     nothing (Some a) = refl
 foreign_more file k None (Some start) next none (at, foreign) is = subst (DecidesForeign file (k + 1)) (sym is) (first_foreign file k start at none foreign)
-foreign_more file k (Some place) (Some start) next least (at, foreign) is = subst (DecidesForeign file (k + 1)) (sym is) (more_foreign file k start place (min place start) at least foreign (omega arith) (omega arith) (one place start))
+foreign_more file k (Some place) (Some start) next least (at, foreign) is =
+    subst (DecidesForeign file (k + 1)) (sym is) (more_foreign file k start place (min place start) at least foreign (omega arith) (omega arith) (one place start))
   where
     one : (a b : ℕ) → (min a b ≡ a) ⊎ (min a b ≡ b)
     one a b = elim (cases_lt a b) [ inl less ↦ inl (omega arith) | inr most ↦ inr (omega arith) ]
 
 -- the least place of a foreign slice is that of the rule
-pub foreign_broken : (file : List ℕ) (k place : ℕ) → k ≡ entry_count file → IsUniversal file → IsLeastForeign file k place → BreaksFile file rule.FatSliceMagic place × ((other : ℕ) → BreaksFile file rule.FatSliceMagic other → place ≤ other)
+pub foreign_broken : (file : List ℕ) (k place : ℕ) → k ≡ entry_count file → IsUniversal file → IsLeastForeign file k place
+    → BreaksFile file rule.FatSliceMagic place × ((other : ℕ) → BreaksFile file rule.FatSliceMagic other → place ≤ other)
 foreign_broken file k place all universal is = ((universal, here), least)
   where
     here : Any (HasForeign file place) (slices_of file)

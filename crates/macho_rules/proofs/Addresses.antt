@@ -37,7 +37,8 @@ module _ (image : List ℕ) (address : ℕ) where
       let t : nat_lt 0 (vmsize image p) ≡ true = lt-ltb 0 (vmsize image p) (omega (arith, has.0, has.1)) in
       rw t (source_first address (mapped_at image p) (views_of ps) has)
 
-  found_in : (s : ℕ) (ps : List ℕ) → ((p : ℕ) → Contains ps p → Supplies image p address → p ≡ s) → Contains ps s → Supplies image s address → source_in (views_of ps) address ≡ Some (source image s address)
+  found_in : (s : ℕ) (ps : List ℕ) → ((p : ℕ) → Contains ps p → Supplies image p address → p ≡ s) → Contains ps s → Supplies image s address
+      → source_in (views_of ps) address ≡ Some (source image s address)
   found_in s [] one (k, less, at) here = absurd (omega arith)
   found_in s (p ∷ ps) one has here = elim (supplies_or_not p) [
     | inl there ↦ found p ps there ∙ ap (λ q. Some (source image q address)) (one p (0, omega arith, refl) there)
@@ -57,7 +58,8 @@ module _ (image : List ℕ) (address : ℕ) where
 
   module _ (commands : List ℕ) where
     -- at an address of a sound image is what the segment that supplies it has there
-    pub source_of_segment : (s : ℕ) → IsSoundImage image commands → Contains (segments_of image commands) s → Supplies image s address → source_in (mapped_of image commands) address ≡ Some (source image s address)
+    pub source_of_segment : (s : ℕ) → IsSoundImage image commands → Contains (segments_of image commands) s → Supplies image s address
+        → source_in (mapped_of image commands) address ≡ Some (source image s address)
     source_of_segment s sound has here = found_in s (segments_of image commands) (λ p among there. sound.one_segment p s address among has there here) has here
 
     -- at an address that no segment supplies is nothing
@@ -70,7 +72,8 @@ unfolding IsOpened
 opened_sound image commands opened keeps are = sound_image image None (image_unbroken image None opened keeps) commands are
 
 -- so its mapped segments give what is at each address
-pub sources_given : (image : List ℕ) (segments : List MappedView) → IsOpened image → NothingBreaks (BreaksOpened image) → OfCommands image (λ commands. segments ≡ mapped_of image commands) → GivesSources image segments
+pub sources_given : (image : List ℕ) (segments : List MappedView) → IsOpened image → NothingBreaks (BreaksOpened image)
+    → OfCommands image (λ commands. segments ≡ mapped_of image commands) → GivesSources image segments
 sources_given image segments opened keeps (commands, are, is) = (commands, are, given)
   where
     given : (address : ℕ)

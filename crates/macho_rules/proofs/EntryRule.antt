@@ -42,7 +42,8 @@ module _ (image : List ℕ) (address : ℕ) where
       let (j, p, inside, same, runs) = runs_seen xs (k, s, omega arith, at, here) in (suc j, p, omega arith, same, runs)
 
   -- what is found among the segments of an image
-  pub executable : (all : List Structure) (result : Bool) → AreSegments image all → (IsTrue result ↔ Any (Runs address) all) → OfCommands image (λ commands. IsTrue result ↔ IsExecutable image commands address)
+  pub executable : (all : List Structure) (result : Bool) → AreSegments image all → (IsTrue result ↔ Any (Runs address) all)
+      → OfCommands image (λ commands. IsTrue result ↔ IsExecutable image commands address)
   executable all result (commands, are, seen) (to, from) = (
     commands,
     are,
@@ -61,9 +62,11 @@ module _ (image : List ℕ) (offset : ℕ) where
   pub no_entry : IsBase image None → OfCommands image (λ commands. ¬ IsEntry image commands offset)
   no_entry (commands, are, is) = (commands, are, λ entry. subst (λ o. IsSomeAnd o (λ base. IsExecutable image commands (base + offset))) (sym is) entry)
 
-  pub entry_from : (base address : ℕ) (result : Bool) → IsBase image (Some base) → address ≡ base + offset → OfCommands image (λ commands. IsTrue result ↔ IsExecutable image commands address) → OfCommands image (λ commands. IsTrue result ↔ IsEntry image commands offset)
+  pub entry_from : (base address : ℕ) (result : Bool) → IsBase image (Some base) → address ≡ base + offset
+      → OfCommands image (λ commands. IsTrue result ↔ IsExecutable image commands address) → OfCommands image (λ commands. IsTrue result ↔ IsEntry image commands offset)
   entry_from base address result (commands, are, is) at (others, also, runs) =
-      let here : IsTrue result ↔ IsExecutable image commands (base + offset) = subst (λ a. IsTrue result ↔ IsExecutable image commands a) at (subst (λ cs. IsTrue result ↔ IsExecutable image cs address) (commands_unique image others commands also are) runs) in
+      let here : IsTrue result ↔ IsExecutable image commands (base + offset) = subst (λ a. IsTrue result ↔ IsExecutable image commands a) at
+      (subst (λ cs. IsTrue result ↔ IsExecutable image cs address) (commands_unique image others commands also are) runs) in
       (commands, are, subst (λ o. IsTrue result ↔ IsSomeAnd o (λ b. IsExecutable image commands (b + offset))) is here)
 
 -- The entry of an image is that of its LC_MAIN.
@@ -85,26 +88,33 @@ no_main image (cs, are, is) p broken = breaks_at_none image loader.LC_MAIN (NoEn
     of_first None e = refl
     of_first (Some d) e = absurd (none-some (main_command_at image d) e)
 
-first_at : (image cs : List ℕ) (main : MainCommand) → Some main ≡ option_map (main_command_at image) (first_of_kind image loader.LC_MAIN cs) → (d : ℕ) × (first_of_kind image loader.LC_MAIN cs ≡ Some d) × (main ≡ main_command_at image d)
+first_at : (image cs : List ℕ) (main : MainCommand) → Some main ≡ option_map (main_command_at image) (first_of_kind image loader.LC_MAIN cs)
+    → (d : ℕ) × (first_of_kind image loader.LC_MAIN cs ≡ Some d) × (main ≡ main_command_at image d)
 first_at image cs main is = of_first (first_of_kind image loader.LC_MAIN cs) refl is
   where
-    of_first : (first : Option ℕ) → first_of_kind image loader.LC_MAIN cs ≡ first → Some main ≡ option_map (main_command_at image) first → (d : ℕ) × (first_of_kind image loader.LC_MAIN cs ≡ Some d) × (main ≡ main_command_at image d)
+    of_first : (first : Option ℕ) → first_of_kind image loader.LC_MAIN cs ≡ first → Some main ≡ option_map (main_command_at image) first
+        → (d : ℕ) × (first_of_kind image loader.LC_MAIN cs ≡ Some d) × (main ≡ main_command_at image d)
     of_first None at e = absurd (none-some main (sym e))
     of_first (Some d) at e = (d, at, same_Some main (main_command_at image d) e)
 
-module _ (image : List ℕ) (main : MainCommand) (result : Bool) (opened : IsOpened image) (is_main : IsMain image (Some main)) (decided : OfCommands image (λ commands. IsTrue result ↔ IsEntry image commands main.entryoff)) where
+module _ (image : List ℕ) (main : MainCommand) (result : Bool) (opened : IsOpened image) (is_main : IsMain image (Some main))
+    (decided : OfCommands image (λ commands. IsTrue result ↔ IsEntry image commands main.entryoff)) where
   -- the answer is that of the image's commands
   decided_at : (cs : List ℕ) (d : ℕ) → AreCommands image cs → main ≡ main_command_at image d → IsTrue result ↔ IsEntry image cs (entryoff image d)
   decided_at cs d are same =
       let (others, also, answer) = decided in
-      subst (λ offset. IsTrue result ↔ IsEntry image cs offset) (ap (λ (m : MainCommand). m.entryoff) same) (subst (λ these. IsTrue result ↔ IsEntry image these main.entryoff) (commands_unique image others cs also are) answer)
+      subst (λ offset. IsTrue result ↔ IsEntry image cs offset) (ap (λ (m : MainCommand). m.entryoff) same)
+      (subst (λ these. IsTrue result ↔ IsEntry image these main.entryoff) (commands_unique image others cs also are) answer)
 
   pub entry_refused : ¬ IsTrue result → (rule.Entry ≡ rule.Entry) × BreaksImage image None rule.Entry main.place × ((p : ℕ) → BreaksImage image None rule.Entry p → main.place ≤ p)
   entry_refused none =
       let (cs, are, is) = is_main in
       let (d, first, same) = first_at image cs main is in
       let here : NoEntry image cs d = λ entry. none ((decided_at cs d are same).1 entry) in
-      subst (λ q. (rule.Entry ≡ rule.Entry) × BreaksImage image None rule.Entry q × ((p : ℕ) → BreaksImage image None rule.Entry p → q ≤ p)) (sym (ap (λ (m : MainCommand). m.place) same)) (breaks_at_one image loader.LC_MAIN (NoEntry image) cs are d opened (3, lit< tt, refl) first (BreaksImage image None rule.Entry) rule.Entry (λ p broken. inr broken) (entry_broken image cs are) here)
+      subst (λ q. (rule.Entry ≡ rule.Entry) × BreaksImage image None rule.Entry q × ((p : ℕ) → BreaksImage image None rule.Entry p → q ≤ p))
+      (sym (ap (λ (m : MainCommand). m.place) same))
+      (breaks_at_one image loader.LC_MAIN (NoEntry image) cs are d opened (3, lit< tt, refl) first (BreaksImage image None rule.Entry) rule.Entry (λ p broken. inr broken)
+      (entry_broken image cs are) here)
 
   pub entry_kept : IsTrue result → (p : ℕ) → ¬ BreaksImage image None rule.Entry p
   entry_kept here p broken =

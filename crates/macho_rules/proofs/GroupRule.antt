@@ -47,17 +47,20 @@ group_broken image cs are p (inr broken) = broken
 
 -- an image without groups breaks the rule nowhere
 pub no_groups : (image : List ℕ) → IsDysymtab image None → (p : ℕ) → ¬ BreaksImage image None rule.SymbolGroup p
-no_groups image (cs, are, is) p broken = breaks_at_none image loader.LC_DYSYMTAB (GroupPast image) cs are (of_first (first_of_kind image loader.LC_DYSYMTAB cs) is) p (group_broken image cs are p broken)
+no_groups image (cs, are, is) p broken =
+    breaks_at_none image loader.LC_DYSYMTAB (GroupPast image) cs are (of_first (first_of_kind image loader.LC_DYSYMTAB cs) is) p (group_broken image cs are p broken)
   where
     of_first : (first : Option ℕ) → None ≡ option_map (dysymtab_at image) first → first ≡ None
     of_first None e = refl
     of_first (Some d) e = absurd (none-some (dysymtab_at image d) e)
 
 -- the command that names these groups
-first_at : (image cs : List ℕ) (table : Dysymtab) → Some table ≡ option_map (dysymtab_at image) (first_of_kind image loader.LC_DYSYMTAB cs) → (d : ℕ) × (first_of_kind image loader.LC_DYSYMTAB cs ≡ Some d) × (table ≡ dysymtab_at image d)
+first_at : (image cs : List ℕ) (table : Dysymtab) → Some table ≡ option_map (dysymtab_at image) (first_of_kind image loader.LC_DYSYMTAB cs)
+    → (d : ℕ) × (first_of_kind image loader.LC_DYSYMTAB cs ≡ Some d) × (table ≡ dysymtab_at image d)
 first_at image cs table is = of_first (first_of_kind image loader.LC_DYSYMTAB cs) refl is
   where
-    of_first : (first : Option ℕ) → first_of_kind image loader.LC_DYSYMTAB cs ≡ first → Some table ≡ option_map (dysymtab_at image) first → (d : ℕ) × (first_of_kind image loader.LC_DYSYMTAB cs ≡ Some d) × (table ≡ dysymtab_at image d)
+    of_first : (first : Option ℕ) → first_of_kind image loader.LC_DYSYMTAB cs ≡ first → Some table ≡ option_map (dysymtab_at image) first
+        → (d : ℕ) × (first_of_kind image loader.LC_DYSYMTAB cs ≡ Some d) × (table ≡ dysymtab_at image d)
     of_first None at e = absurd (none-some table (sym e))
     of_first (Some d) at e = (d, at, same_Some table (dysymtab_at image d) e)
 
@@ -67,13 +70,21 @@ IsCount image count = OfCommands image (λ commands. count ≡ symbol_count imag
 count_of : (image cs : List ℕ) (count : ℕ) → AreCommands image cs → IsCount image count → count ≡ symbol_count image cs
 count_of image cs count are (others, also, number) = number ∙ ap (symbol_count image) (commands_unique image others cs also are)
 
-pub group_refused : (image : List ℕ) (table : Dysymtab) (count : ℕ) → IsOpened image → IsDysymtab image (Some table) → IsCount image count → HasGroupPast count table → (rule.SymbolGroup ≡ rule.SymbolGroup) × BreaksImage image None rule.SymbolGroup table.place × ((p : ℕ) → BreaksImage image None rule.SymbolGroup p → table.place ≤ p)
+pub group_refused : (image : List ℕ) (table : Dysymtab) (count : ℕ) → IsOpened image → IsDysymtab image (Some table) → IsCount image count → HasGroupPast count table
+    → (rule.SymbolGroup ≡ rule.SymbolGroup) × BreaksImage image None rule.SymbolGroup table.place × ((p : ℕ) → BreaksImage image None rule.SymbolGroup p → table.place ≤ p)
 group_refused image table count opened (cs, are, is) number past =
     let (d, first, same) = first_at image cs table is in
-    let here : GroupPast image cs d = group_among image d (symbol_count image cs) (subst (λ t. HasGroupPast (symbol_count image cs) t) same (subst (λ n. HasGroupPast n table) (count_of image cs count are number) past)) in
-    subst (λ q. (rule.SymbolGroup ≡ rule.SymbolGroup) × BreaksImage image None rule.SymbolGroup q × ((p : ℕ) → BreaksImage image None rule.SymbolGroup p → q ≤ p)) (sym (ap (λ (t : Dysymtab). t.place) same)) (breaks_at_one image loader.LC_DYSYMTAB (GroupPast image) cs are d opened (1, lit< tt, refl) first (BreaksImage image None rule.SymbolGroup) rule.SymbolGroup (λ p broken. inr broken) (group_broken image cs are) here)
+    let here : GroupPast image cs d = group_among image d (symbol_count image cs)
+    (subst (λ t. HasGroupPast (symbol_count image cs) t) same (subst (λ n. HasGroupPast n table) (count_of image cs count are number) past)) in
+    subst (λ q. (rule.SymbolGroup ≡ rule.SymbolGroup) × BreaksImage image None rule.SymbolGroup q × ((p : ℕ) → BreaksImage image None rule.SymbolGroup p → q ≤ p))
+    (sym (ap (λ (t : Dysymtab). t.place) same))
+    (breaks_at_one image loader.LC_DYSYMTAB (GroupPast image) cs are d opened (1, lit< tt, refl) first (BreaksImage image None rule.SymbolGroup) rule.SymbolGroup
+    (λ p broken. inr broken) (group_broken image cs are) here)
 
-pub groups_kept : (image : List ℕ) (table : Dysymtab) (count : ℕ) → IsOpened image → IsDysymtab image (Some table) → IsCount image count → ¬ HasGroupPast count table → (p : ℕ) → ¬ BreaksImage image None rule.SymbolGroup p
+pub groups_kept : (image : List ℕ) (table : Dysymtab) (count : ℕ) → IsOpened image → IsDysymtab image (Some table) → IsCount image count → ¬ HasGroupPast count table → (p : ℕ)
+    → ¬ BreaksImage image None rule.SymbolGroup p
 groups_kept image table count opened (cs, are, is) number kept p broken =
     let (d, first, same) = first_at image cs table is in
-    keeps_at_one image loader.LC_DYSYMTAB (GroupPast image) cs are d opened (1, lit< tt, refl) first (λ past. kept (subst (λ n. HasGroupPast n table) (sym (count_of image cs count are number)) (subst (HasGroupPast (symbol_count image cs)) (sym same) (among_groups image d (symbol_count image cs) past)))) p (group_broken image cs are p broken)
+    keeps_at_one image loader.LC_DYSYMTAB (GroupPast image) cs are d opened (1, lit< tt, refl) first
+    (λ past. kept (subst (λ n. HasGroupPast n table) (sym (count_of image cs count are number))
+    (subst (HasGroupPast (symbol_count image cs)) (sym same) (among_groups image d (symbol_count image cs) past)))) p (group_broken image cs are p broken)

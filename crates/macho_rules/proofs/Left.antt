@@ -33,7 +33,8 @@ pub record IsFirst (image all : List ℕ) (P : ℕ → Type 0) (s : Structure) (
   pub next : ¬ P s.place → AreLeft image all P rest
 
 module _ (image all : List ℕ) (P : ℕ → Type 0) (s : Structure) (rest : List Structure) where
-  first_of : (left : List Structure) (places : List ℕ) → left ≡ s ∷ rest → left ≡ map (structure_at image) places → AllPairs (λ a b. a < b) places → All (Contains all) places → ((p : ℕ) → Contains all p → P p → Contains places p) → IsFirst image all P s rest
+  first_of : (left : List Structure) (places : List ℕ) → left ≡ s ∷ rest → left ≡ map (structure_at image) places → AllPairs (λ a b. a < b) places → All (Contains all) places
+      → ((p : ℕ) → Contains all p → P p → Contains places p) → IsFirst image all P s rest
   first_of left [] is seen rise among holds = absurd (no_first s rest (sym seen ∙ is))
   first_of left (x ∷ xs) is seen rise among holds = record {
     is = at ∙ ap (structure_at image) here;

@@ -57,13 +57,15 @@ mapped_all image commands = at_places (segments_of image commands)
   where
     at_places : (places : List ℕ) → mapped_left (map (structure_at image) places) ≡ map (mapped_at image) (filter (λ segment. nat_lt 0 (vmsize image segment)) places)
     at_places [] = refl
-    at_places (p ∷ ps) = elim (cases_Bool (nat_lt 0 (vmsize image p))) [ inl t ↦ let rest = at_places ps in rw t (ap (λ views. mapped_at image p ∷ views) rest) | inr f ↦ let rest = at_places ps in rw f rest ]
+    at_places (p ∷ ps) =
+        elim (cases_Bool (nat_lt 0 (vmsize image p))) [ inl t ↦ let rest = at_places ps in rw t (ap (λ views. mapped_at image p ∷ views) rest) | inr f ↦ let rest = at_places ps in rw f rest ]
 
 pub mapping_of : (image : List ℕ) (all : List Structure) (seen : List MappedView) → AreSegments image all → seen ≡ mapped_left all → OfCommands image (λ commands. seen ≡ mapped_of image commands)
 mapping_of image all seen (commands, are, is) same = (commands, are, same ∙ (ap mapped_left is ∙ mapped_all image commands))
 
 -- a segment that is left and is mapped is one of the image
-pub some_mapped : (image : List ℕ) (all left rest : List Structure) (seen : List MappedView) (s : Structure) → AreSegments image all → IsMapped all seen left → left ≡ s ∷ rest → 0 < vmsize s.image s.place → HasMapped image
+pub some_mapped : (image : List ℕ) (all left rest : List Structure) (seen : List MappedView) (s : Structure) → AreSegments image all → IsMapped all seen left → left ≡ s ∷ rest
+    → 0 < vmsize s.image s.place → HasMapped image
 some_mapped image all left rest seen s (commands, are, is) going next here = (commands, are, at_places (segments_of image commands) counted)
   where
     first : mapped_left (s ∷ rest) ≡ mapped s ∷ mapped_left rest

@@ -16,16 +16,19 @@ use Rattle.macho_image.specs.Command.{OfCommands, first_of_kind}
 use Rattle.macho_image.specs.Opened.{IsOpened}
 
 -- no command repeats an earlier one of a unique kind
-never_repeated : (image commands : List ℕ) (kind a b : ℕ) → IsOpened image → AreCommands image commands → Contains unique_kinds kind → Contains (of_kind image kind commands) a → Contains (of_kind image kind commands) b → ¬ (a < b)
+never_repeated : (image commands : List ℕ) (kind a b : ℕ) → IsOpened image → AreCommands image commands → Contains unique_kinds kind → Contains (of_kind image kind commands) a
+    → Contains (of_kind image kind commands) b → ¬ (a < b)
 unfolding IsOpened
 never_repeated image commands kind a b keeps are unique has_a has_b less =
     let is_a : command_kind image a ≡ kind = of_kind_is image commands kind a has_a in
     let is_b : command_kind image b ≡ kind = of_kind_is image commands kind b has_b in
     let (k, inside, at) = of_kind_among image commands kind a has_a in
-    keeps rule.CommandRepeated b (lit< tt, inr (commands, are, (of_kind_among image commands kind b has_b, subst (Contains unique_kinds) (sym is_b) unique, (k, a, inside, at, (less, is_a ∙ sym is_b)))))
+    keeps rule.CommandRepeated b
+    (lit< tt, inr (commands, are, (of_kind_among image commands kind b has_b, subst (Contains unique_kinds) (sym is_b) unique, (k, a, inside, at, (less, is_a ∙ sym is_b)))))
 
 -- all commands of a unique kind are one
-pub one_of_kind : (image commands : List ℕ) (kind a b : ℕ) → IsOpened image → AreCommands image commands → Contains unique_kinds kind → Contains (of_kind image kind commands) a → Contains (of_kind image kind commands) b → a ≡ b
+pub one_of_kind : (image commands : List ℕ) (kind a b : ℕ) → IsOpened image → AreCommands image commands → Contains unique_kinds kind → Contains (of_kind image kind commands) a
+    → Contains (of_kind image kind commands) b → a ≡ b
 one_of_kind image commands kind a b keeps are unique has_a has_b =
     elim (cases_order a b) [
       | inl same ↦ same
@@ -38,7 +41,8 @@ first_has [] c one (k, less, at) = absurd (omega arith)
 first_has (x ∷ xs) c one has = ap Some (one x c (0, omega arith, refl) has)
 
 -- which is the first
-pub first_is : (image commands : List ℕ) (kind c : ℕ) → IsOpened image → AreCommands image commands → Contains unique_kinds kind → Contains (of_kind image kind commands) c → first_of_kind image kind commands ≡ Some c
+pub first_is : (image commands : List ℕ) (kind c : ℕ) → IsOpened image → AreCommands image commands → Contains unique_kinds kind → Contains (of_kind image kind commands) c
+    → first_of_kind image kind commands ≡ Some c
 first_is image commands kind c keeps are unique has =
     first_has (of_kind image kind commands) c (λ a b has_a has_b. one_of_kind image commands kind a b keeps are unique has_a has_b) has
 

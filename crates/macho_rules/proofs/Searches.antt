@@ -50,7 +50,8 @@ pub record AreBreaks {X : Type 0} (breaks : ℕ → Type 0) (place : X → ℕ) 
   pub only : (p : ℕ) → breaks p → (x : X) × Contains all x × P x × (place x ≡ p)
 
 -- the first item with P has the least place
-pub search_found : {X : Type 0} (breaks : ℕ → Type 0) (r : Rule) (place : X → ℕ) (P : X → Type 0) (all left rest : List X) (x : X) → left ≡ x ∷ rest → AreBreaks breaks place P all → Searching place P all left → P x → (r ≡ r) × breaks (place x) × ((p : ℕ) → breaks p → place x ≤ p)
+pub search_found : {X : Type 0} (breaks : ℕ → Type 0) (r : Rule) (place : X → ℕ) (P : X → Type 0) (all left rest : List X) (x : X) → left ≡ x ∷ rest → AreBreaks breaks place P all
+    → Searching place P all left → P x → (r ≡ r) × breaks (place x) × ((p : ℕ) → breaks p → place x ≤ p)
 search_found {X = X} breaks r place P all left rest x is breaking search here =
     (refl, breaking.broken x (search.among x (subst (λ ys. Contains ys x) (sym is) (has_first x rest))) here, λ p broken. least p (breaking.only p broken))
   where
@@ -62,7 +63,8 @@ search_found {X = X} breaks r place P all left rest x is breaking search here =
     least p (y, has, broken, at) = subst (λ q. place x ≤ q) at (not_before y (first_or_later x y rest (subst (λ ys. Contains ys y) is (search.ahead y has broken))))
 
 -- where all were passed, the rule is unbroken
-pub search_ended : {X : Type 0} (breaks : ℕ → Type 0) (place : X → ℕ) (P : X → Type 0) (all left : List X) → left ≡ [] → AreBreaks breaks place P all → Searching place P all left → (p : ℕ) → ¬ breaks p
+pub search_ended : {X : Type 0} (breaks : ℕ → Type 0) (place : X → ℕ) (P : X → Type 0) (all left : List X) → left ≡ [] → AreBreaks breaks place P all → Searching place P all left
+    → (p : ℕ) → ¬ breaks p
 search_ended {X = X} breaks place P all left is breaking search p broken = none (breaking.only p broken)
   where
     none : (y : X) × Contains all y × P y × (place y ≡ p) → ⊥
@@ -72,14 +74,19 @@ search_ended {X = X} breaks place P all left is breaking search p broken = none 
 
 pub has_number : {X : Type 0} (f : ℕ → X) (a n : ℕ) (y : X) → Contains (map f (range_with_len a n)) y → (k : ℕ) × (a ≤ k) × (k < a + n) × (f k ≡ y)
 has_number f a zero y has = absurd (has_nothing y has)
-has_number {X = X} f a (suc n) y has = elim (first_or_later (f a) y (map f (range_with_len (a + 1) n)) has) [ inl same ↦ (a, omega arith, omega arith, same) | inr later ↦ one_on (has_number f (a + 1) n y later) ]
+has_number {X = X} f a (suc n) y has =
+    elim (first_or_later (f a) y (map f (range_with_len (a + 1) n)) has) [ inl same ↦ (a, omega arith, omega arith, same) | inr later ↦ one_on (has_number f (a + 1) n y later) ]
   where
     one_on : (k : ℕ) × (a + 1 ≤ k) × (k < a + 1 + n) × (f k ≡ y) → (k : ℕ) × (a ≤ k) × (k < a + suc n) × (f k ≡ y)
     one_on (k, low, high, at) = (k, omega arith, omega arith, at)
 
 pub number_has : {X : Type 0} (f : ℕ → X) (a n k : ℕ) → a ≤ k → k < a + n → Contains (map f (range_with_len a n)) (f k)
 number_has f a zero k low high = absurd (omega arith)
-number_has f a (suc n) k low high = elim (cases_eq a k) [ inl same ↦ subst (λ j. Contains (f a ∷ map f (range_with_len (a + 1) n)) (f j)) same (has_first (f a) (map f (range_with_len (a + 1) n))) | inr other ↦ has_later (f a) (f k) (map f (range_with_len (a + 1) n)) (number_has f (a + 1) n k (omega arith) (omega arith)) ]
+number_has f a (suc n) k low high =
+    elim (cases_eq a k) [
+      | inl same ↦ subst (λ j. Contains (f a ∷ map f (range_with_len (a + 1) n)) (f j)) same (has_first (f a) (map f (range_with_len (a + 1) n)))
+      | inr other ↦ has_later (f a) (f k) (map f (range_with_len (a + 1) n)) (number_has f (a + 1) n k (omega arith) (omega arith))
+    ]
 
 -- the numbers of a range, each taken to a place by f, do not fall where f does not
 pub numbers_rise : (f : ℕ → ℕ) → ((i k : ℕ) → i ≤ k → f i ≤ f k) → (a n : ℕ) → Rising (λ p. p) (map f (range_with_len a n))
@@ -93,7 +100,9 @@ numbers_rise f up a (suc n) = (λ y has. above y (has_number f (a + 1) n y has),
 
 pub has_mapped : {A X : Type 0} (at : A → X) (ps : List A) (p : A) → Contains ps p → Contains (map at ps) (at p)
 has_mapped at [] p has = absurd (has_nothing p has)
-has_mapped at (q ∷ ps) p has = elim (first_or_later q p ps has) [ inl same ↦ subst (λ r. Contains (at q ∷ map at ps) (at r)) same (has_first (at q) (map at ps)) | inr later ↦ has_later (at q) (at p) (map at ps) (has_mapped at ps p later) ]
+has_mapped at (q ∷ ps) p has =
+    elim (first_or_later q p ps has)
+    [ inl same ↦ subst (λ r. Contains (at q ∷ map at ps) (at r)) same (has_first (at q) (map at ps)) | inr later ↦ has_later (at q) (at p) (map at ps) (has_mapped at ps p later) ]
 
 pub mapped_has : {A X : Type 0} (at : A → X) (ps : List A) (x : X) → Contains (map at ps) x → (p : A) × Contains ps p × (at p ≡ x)
 mapped_has at [] x has = absurd (has_nothing x has)
@@ -113,7 +122,8 @@ items_rise {X = X} place at same (q ∷ ps) (first, rest) = (λ y has. above y (
         let there : place y ≡ p = subst (λ z. place z ≡ p) is (same p) in omega arith
 
 -- a rule that is broken at those places at which an item has P
-pub are_breaks_at : {X : Type 0} (breaks : ℕ → Type 0) (place : X → ℕ) (P : X → Type 0) (at : ℕ → X) → ((p : ℕ) → place (at p) ≡ p) → (ps : List ℕ) → ((p : ℕ) → Contains ps p → P (at p) → breaks p) → ((p : ℕ) → breaks p → Contains ps p × P (at p)) → AreBreaks breaks place P (map at ps)
+pub are_breaks_at : {X : Type 0} (breaks : ℕ → Type 0) (place : X → ℕ) (P : X → Type 0) (at : ℕ → X) → ((p : ℕ) → place (at p) ≡ p) → (ps : List ℕ)
+    → ((p : ℕ) → Contains ps p → P (at p) → breaks p) → ((p : ℕ) → breaks p → Contains ps p × P (at p)) → AreBreaks breaks place P (map at ps)
 are_breaks_at {X = X} breaks place P at same ps to from = record {
   broken = λ x has here. here_too x here (mapped_has at ps x has);
   only = λ p broken. (at p, has_mapped at ps p (from p broken).0, (from p broken).1, same p);

@@ -102,7 +102,8 @@ module _ (image commands : List ℕ) (opened : Keeps image) (are : AreCommands i
   segment_good segment has = of_kind_among image commands loader.LC_SEGMENT_64 segment has
 
   -- the sections of an earlier segment come before those of a later one
-  sections_before : (a b p q : ℕ) → Contains (segments_of image commands) a → Contains (segments_of image commands) b → a < b → Contains (sections_in image a) p → Contains (sections_in image b) q → p < q
+  sections_before : (a b p q : ℕ) → Contains (segments_of image commands) a → Contains (segments_of image commands) b → a < b → Contains (sections_in image a) p
+      → Contains (sections_in image b) q → p < q
   sections_before a b p q has_a has_b less in_a in_b =
       let (i, within, at_p) = section_number image a p in_a in
       let (j, _, at_q) = section_number image b q in_b in
@@ -145,21 +146,25 @@ sections_broken Q {r} by image left s rest b opened (commands, are, going) is (r
         above (k, segment, less, at, (in_segment, has_q)) =
             let most : s.place ≤ segment = first.least segment (k, less, at) (p, (in_segment, has_q)) in
             elim (cases_lt s.place segment) [
-              | inl later ↦ (let before = sections_before image commands (opened_keeps image opened) are s.place segment b.place p first.among (k, less, at) later held.0 in_segment in omega (arith, before))
+              | inl later ↦ (let before = sections_before image commands (opened_keeps image opened) are s.place segment b.place p first.among (k, less, at) later
+                  held.0 in_segment in omega (arith, before))
               | inr not_later ↦ (
                   let one : segment ≡ s.place = omega (arith, most, not_later) in
                   least p (subst (λ t. Contains (sections_in t.image t.place) p × Q t.image t.place p) (sym (first.is ∙ ap (structure_at image) (sym one))) (in_segment, has_q)))
             ]
 
 -- the same of the answer that ends a loop at such a section
-pub sections_answer : (Q : OfSection) {r : Rule} (by : IsBrokenBySection r Q) (image : List ℕ) (left : List Structure) (s : Structure) (rest : List Structure) (b found : Break) {T : Type 0} (answer : Result T Break)
+pub sections_answer : (Q : OfSection) {r : Rule} (by : IsBrokenBySection r Q) (image : List ℕ) (left : List Structure) (s : Structure) (rest : List Structure) (b found : Break)
+    {T : Type 0} (answer : Result T Break)
     → answer ≡ Err b → b ≡ found → IsOpened image → SegmentsLeft (HasSection Q) image left → left ≡ s ∷ rest
-    → (found.rule ≡ r) × (Contains (sections_in s.image s.place) found.place × Q s.image s.place found.place) × ((p : ℕ) → Contains (sections_in s.image s.place) p × Q s.image s.place p → found.place ≤ p)
+    → (found.rule ≡ r) × (Contains (sections_in s.image s.place) found.place × Q s.image s.place found.place)
+    × ((p : ℕ) → Contains (sections_in s.image s.place) p × Q s.image s.place p → found.place ≤ p)
     → DecidesImage image r answer
 sections_answer Q {r} by image left s rest b found answer exits same opened going is says =
     subst (DecidesImage image r) (sym (exits ∙ ap Err same)) (sections_broken Q by image left s rest found opened going is says)
 
-pub all_sections_kept : (Q : OfSection) {r : Rule} (by : IsBrokenBySection r Q) (image : List ℕ) (left : List Structure) → SegmentsLeft (HasSection Q) image left → left ≡ [] → (p : ℕ) → ¬ BreaksImage image None r p
+pub all_sections_kept : (Q : OfSection) {r : Rule} (by : IsBrokenBySection r Q) (image : List ℕ) (left : List Structure) → SegmentsLeft (HasSection Q) image left → left ≡ []
+    → (p : ℕ) → ¬ BreaksImage image None r p
 all_sections_kept Q {r} by image left (commands, are, going) none p broken = ended (of_section Q r by image commands are p broken)
   where
     ended : ¬ AtSection image commands (Q image) p

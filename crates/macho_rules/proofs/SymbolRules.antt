@@ -25,7 +25,9 @@ use Rattle.macho_rules.proofs.OneCommand.{symbols_counted, is_of_kind}
 use Rattle.macho_rules.proofs.Searches.{has_nothing, Rising, AreBreaks}
 use Rattle.macho_rules.proofs.TableRules.{table_inside, BreaksItem, all_rise, items_are_breaks}
 
-pub counted : (image : List ℕ) (table : Option Symtab) (count : ℕ) → OfCommands image (λ commands. table ≡ option_map (symtab_at image) (first_of_kind image loader.LC_SYMTAB commands)) → count ≡ option_map_or (λ s. s.nsyms) table 0 → OfCommands image (λ commands. count ≡ symbol_count image commands)
+pub counted : (image : List ℕ) (table : Option Symtab) (count : ℕ)
+    → OfCommands image (λ commands. table ≡ option_map (symtab_at image) (first_of_kind image loader.LC_SYMTAB commands)) → count ≡ option_map_or (λ s. s.nsyms) table 0
+    → OfCommands image (λ commands. count ≡ symbol_count image commands)
 counted image table count (commands, are, is) e =
     (commands, are, e ∙ (ap (λ t. option_map_or (λ (s : Symtab). s.nsyms) t 0) is ∙ (of_option (first_of_kind image loader.LC_SYMTAB commands) ∙ sym (symbols_counted image commands))))
   where
@@ -45,8 +47,11 @@ NamesNoSymbol count entry = IsSymbolIndex entry.value × (count ≤ entry.value)
 pub indirects_rise : (image : List ℕ) (all : List Indirect) → AreIndirects image all → Rising (λ e. e.place) all
 indirects_rise image all are = all_rise image loader.LC_DYSYMTAB 4 (indirectsymoff image) (nindirectsyms image) (indirect_at image) (λ e. e.place) (λ p. refl) all are
 
-indirects_inside : (image commands : List ℕ) (d : ℕ) → KeepsRule image rule.TableRange → AreCommands image commands → Contains (of_kind image loader.LC_DYSYMTAB commands) d → ¬ IsOutside image (indirectsymoff image d, nindirectsyms image d, 4)
-indirects_inside image commands d keeps are has = table_inside image commands d (loader.LC_DYSYMTAB, 56, 60, 4) keeps are (of_kind_among image commands loader.LC_DYSYMTAB d has) (5, lit< tt, refl) (sym (of_kind_is image commands loader.LC_DYSYMTAB d has))
+indirects_inside : (image commands : List ℕ) (d : ℕ) → KeepsRule image rule.TableRange → AreCommands image commands → Contains (of_kind image loader.LC_DYSYMTAB commands) d
+    → ¬ IsOutside image (indirectsymoff image d, nindirectsyms image d, 4)
+indirects_inside image commands d keeps are has =
+    table_inside image commands d (loader.LC_DYSYMTAB, 56, 60, 4) keeps are (of_kind_among image commands loader.LC_DYSYMTAB d has) (5, lit< tt, refl)
+    (sym (of_kind_is image commands loader.LC_DYSYMTAB d has))
 
 abbrev IndexPast : List ℕ → List ℕ → ℕ → ℕ → Type 0
 IndexPast image commands d p = IsSymbolIndex (word image p) × (symbol_count image commands ≤ word image p)
@@ -61,10 +66,14 @@ entry_broken : (image : List ℕ) (p : ℕ) → BreaksImage image None rule.Indi
 entry_broken image p (inl none) = absurd none
 entry_broken image p (inr (cs, are, (i, d, less, at, (k, few, from, index, most)))) = (cs, are, (i, d, less, at, (k, few, from, (index, most))))
 
-pub indirects_are_breaks : (image : List ℕ) (all : List Indirect) (count : ℕ) → IsOpened image → KeepsRule image rule.TableRange → AreIndirects image all → OfCommands image (λ commands. count ≡ symbol_count image commands) → AreBreaks (BreaksImage image None rule.IndirectIndex) (λ e. e.place) (NamesNoSymbol count) all
+pub indirects_are_breaks : (image : List ℕ) (all : List Indirect) (count : ℕ) → IsOpened image → KeepsRule image rule.TableRange → AreIndirects image all
+    → OfCommands image (λ commands. count ≡ symbol_count image commands) → AreBreaks (BreaksImage image None rule.IndirectIndex) (λ e. e.place) (NamesNoSymbol count) all
 indirects_are_breaks image all count opened keeps are (commands, these, number) =
-    items_are_breaks image loader.LC_DYSYMTAB 4 (indirectsymoff image) (nindirectsyms image) (indirect_at image) (λ e. e.place) (λ p. refl) (IndexPast image) (NamesNoSymbol count) opened (1, lit< tt, refl)
-    (λ cs those d has. indirects_inside image cs d keeps those has) (λ cs d p those _. as_counted p (number ∙ ap (symbol_count image) (commands_unique image commands cs these those))) (BreaksImage image None rule.IndirectIndex) all are (entry_breaks image) (entry_broken image)
+    items_are_breaks image loader.LC_DYSYMTAB 4 (indirectsymoff image) (nindirectsyms image) (indirect_at image) (λ e. e.place) (λ p. refl) (IndexPast image) (NamesNoSymbol count)
+    opened (1, lit< tt, refl)
+    (λ cs those d has. indirects_inside image cs d keeps those has)
+    (λ cs d p those _. as_counted p (number ∙ ap (symbol_count image) (commands_unique image commands cs these those))) (BreaksImage image None rule.IndirectIndex) all are
+    (entry_breaks image) (entry_broken image)
   where
     as_counted : {n : ℕ} (p : ℕ) → count ≡ n → NamesNoSymbol count (indirect_at image p) ↔ (IsSymbolIndex (word image p) × (n ≤ word image p))
     as_counted p same = (λ h. (h.0, subst (λ n. n ≤ word image p) same h.1), λ h. (h.0, subst (λ n. n ≤ word image p) (sym same) h.1))
@@ -77,15 +86,23 @@ AreSymbols image all = OfCommands image (λ commands. all ≡ map (symbol_at ima
 pub symbols_rise : (image : List ℕ) (all : List Symbol) → AreSymbols image all → Rising (λ s. s.place) all
 symbols_rise image all are = all_rise image loader.LC_SYMTAB 16 (symoff image) (nsyms image) (symbol_at image) (λ s. s.place) (λ p. refl) all are
 
-symbols_inside : (image commands : List ℕ) (s : ℕ) → KeepsRule image rule.TableRange → AreCommands image commands → Contains (of_kind image loader.LC_SYMTAB commands) s → ¬ IsOutside image (symoff image s, nsyms image s, 16)
-symbols_inside image commands s keeps are has = table_inside image commands s (loader.LC_SYMTAB, 8, 12, 16) keeps are (of_kind_among image commands loader.LC_SYMTAB s has) (0, lit< tt, refl) (sym (of_kind_is image commands loader.LC_SYMTAB s has))
+symbols_inside : (image commands : List ℕ) (s : ℕ) → KeepsRule image rule.TableRange → AreCommands image commands → Contains (of_kind image loader.LC_SYMTAB commands) s
+    → ¬ IsOutside image (symoff image s, nsyms image s, 16)
+symbols_inside image commands s keeps are has =
+    table_inside image commands s (loader.LC_SYMTAB, 8, 12, 16) keeps are (of_kind_among image commands loader.LC_SYMTAB s has) (0, lit< tt, refl)
+    (sym (of_kind_is image commands loader.LC_SYMTAB s has))
 
 abbrev pub BreaksSymbol : List ℕ → (List ℕ → ℕ → ℕ → Type 0) → List ℕ → ℕ → Type 0
 BreaksSymbol image P cs p = AtSymbol image cs (P cs) p
 
-pub symbols_are_breaks : (image : List ℕ) (all : List Symbol) (P : List ℕ → ℕ → ℕ → Type 0) (Q : Symbol → Type 0) (breaks : ℕ → Type 0) → IsOpened image → KeepsRule image rule.TableRange → AreSymbols image all → ((cs : List ℕ) (s p : ℕ) → AreCommands image cs → first_of_kind image loader.LC_SYMTAB cs ≡ Some s → Q (symbol_at image p) ↔ P cs s p) → ((p : ℕ) → OfCommands image (λ cs. BreaksSymbol image P cs p) → breaks p) → ((p : ℕ) → breaks p → OfCommands image (λ cs. BreaksSymbol image P cs p)) → AreBreaks breaks (λ s. s.place) Q all
+pub symbols_are_breaks : (image : List ℕ) (all : List Symbol) (P : List ℕ → ℕ → ℕ → Type 0) (Q : Symbol → Type 0) (breaks : ℕ → Type 0) → IsOpened image
+    → KeepsRule image rule.TableRange → AreSymbols image all
+    → ((cs : List ℕ) (s p : ℕ) → AreCommands image cs → first_of_kind image loader.LC_SYMTAB cs ≡ Some s → Q (symbol_at image p) ↔ P cs s p)
+    → ((p : ℕ) → OfCommands image (λ cs. BreaksSymbol image P cs p) → breaks p) → ((p : ℕ) → breaks p → OfCommands image (λ cs. BreaksSymbol image P cs p))
+    → AreBreaks breaks (λ s. s.place) Q all
 symbols_are_breaks image all P Q breaks opened keeps are seen to from =
-    items_are_breaks image loader.LC_SYMTAB 16 (symoff image) (nsyms image) (symbol_at image) (λ s. s.place) (λ p. refl) P Q opened (0, lit< tt, refl) (λ cs those s has. symbols_inside image cs s keeps those has) seen breaks all are to from
+    items_are_breaks image loader.LC_SYMTAB 16 (symoff image) (nsyms image) (symbol_at image) (λ s. s.place) (λ p. refl) P Q opened (0, lit< tt, refl)
+    (λ cs those s has. symbols_inside image cs s keeps those has) seen breaks all are to from
 
 -- a symbol is defined in a section whose number is none of this many
 abbrev pub InNoSection : ℕ → Symbol → Type 0
@@ -100,9 +117,11 @@ section_broken : (image : List ℕ) (p : ℕ) → BreaksImage image None rule.Sy
 section_broken image p (inl none) = absurd none
 section_broken image p (inr broken) = broken
 
-pub sections_are_breaks : (image : List ℕ) (all : List Symbol) (count : ℕ) → IsOpened image → KeepsRule image rule.TableRange → AreSymbols image all → OfCommands image (λ commands. count ≡ section_count image commands) → AreBreaks (BreaksImage image None rule.SymbolSection) (λ s. s.place) (InNoSection count) all
+pub sections_are_breaks : (image : List ℕ) (all : List Symbol) (count : ℕ) → IsOpened image → KeepsRule image rule.TableRange → AreSymbols image all
+    → OfCommands image (λ commands. count ≡ section_count image commands) → AreBreaks (BreaksImage image None rule.SymbolSection) (λ s. s.place) (InNoSection count) all
 sections_are_breaks image all count opened keeps are (commands, these, number) =
-    symbols_are_breaks image all (SectionPast image) (InNoSection count) (BreaksImage image None rule.SymbolSection) opened keeps are (λ cs s p those _. as_counted p (number ∙ ap (section_count image) (commands_unique image commands cs these those))) (λ p broken. inr broken) (section_broken image)
+    symbols_are_breaks image all (SectionPast image) (InNoSection count) (BreaksImage image None rule.SymbolSection) opened keeps are
+    (λ cs s p those _. as_counted p (number ∙ ap (section_count image) (commands_unique image commands cs these those))) (λ p broken. inr broken) (section_broken image)
   where
     as_counted : {n : ℕ} (p : ℕ) → count ≡ n → InNoSection count (symbol_at image p) ↔ (NamesSection image p × ((n_sect image p ≡ 0) ⊎ (n < n_sect image p)))
     as_counted p same = (λ h. (h.0, subst (λ n. (n_sect image p ≡ 0) ⊎ (n < n_sect image p)) same h.1), λ h. (h.0, subst (λ n. (n_sect image p ≡ 0) ⊎ (n < n_sect image p)) (sym same) h.1))
@@ -123,18 +142,23 @@ name_broken image p (inr broken) = broken
 abbrev pub IsSymtab : List ℕ → Option Symtab → Type 0
 IsSymtab image table = OfCommands image (λ commands. table ≡ option_map (symtab_at image) (first_of_kind image loader.LC_SYMTAB commands))
 
-names_of_image : (image : List ℕ) (all : List Symbol) (symtab : Symtab) → IsOpened image → KeepsRule image rule.TableRange → AreSymbols image all → IsSymtab image (Some symtab) → AreBreaks (BreaksImage image None rule.SymbolName) (λ s. s.place) (HasOpenName image symtab) all
+names_of_image : (image : List ℕ) (all : List Symbol) (symtab : Symtab) → IsOpened image → KeepsRule image rule.TableRange → AreSymbols image all → IsSymtab image (Some symtab)
+    → AreBreaks (BreaksImage image None rule.SymbolName) (λ s. s.place) (HasOpenName image symtab) all
 names_of_image image all symtab opened keeps are (commands, these, is) =
-    symbols_are_breaks image all (EndlessName image) (HasOpenName image symtab) (BreaksImage image None rule.SymbolName) opened keeps are (λ cs s p those first. as_table p (this_table cs s those first)) (λ p broken. inr broken) (name_broken image)
+    symbols_are_breaks image all (EndlessName image) (HasOpenName image symtab) (BreaksImage image None rule.SymbolName) opened keeps are
+    (λ cs s p those first. as_table p (this_table cs s those first)) (λ p broken. inr broken) (name_broken image)
   where
     this_table : (cs : List ℕ) (s : ℕ) → AreCommands image cs → first_of_kind image loader.LC_SYMTAB cs ≡ Some s → symtab ≡ symtab_at image s
-    this_table cs s those first = same_Some symtab (symtab_at image s) (is ∙ (ap (λ these. option_map (symtab_at image) (first_of_kind image loader.LC_SYMTAB these)) (commands_unique image commands cs these those) ∙ ap (option_map (symtab_at image)) first))
+    this_table cs s those first =
+        same_Some symtab (symtab_at image s)
+        (is ∙ (ap (λ these. option_map (symtab_at image) (first_of_kind image loader.LC_SYMTAB these)) (commands_unique image commands cs these those) ∙ ap (option_map (symtab_at image)) first))
 
     as_table : {table : Symtab} (p : ℕ) → symtab ≡ table → HasOpenName image symtab (symbol_at image p) ↔ HasOpenName image table (symbol_at image p)
     as_table p same = (λ h. subst (λ t. HasOpenName image t (symbol_at image p)) same h, λ h. subst (λ t. HasOpenName image t (symbol_at image p)) (sym same) h)
 
 -- the same, of the bytes of the image
-pub names_are_breaks : (image bytes : List ℕ) → bytes ≡ image → (all : List Symbol) (symtab : Symtab) → IsOpened image → KeepsRule image rule.TableRange → AreSymbols image all → IsSymtab image (Some symtab) → AreBreaks (BreaksImage image None rule.SymbolName) (λ s. s.place) (HasOpenName bytes symtab) all
+pub names_are_breaks : (image bytes : List ℕ) → bytes ≡ image → (all : List Symbol) (symtab : Symtab) → IsOpened image → KeepsRule image rule.TableRange → AreSymbols image all
+    → IsSymtab image (Some symtab) → AreBreaks (BreaksImage image None rule.SymbolName) (λ s. s.place) (HasOpenName bytes symtab) all
 names_are_breaks image bytes same all symtab opened keeps are table =
     subst (λ these. AreBreaks (BreaksImage image None rule.SymbolName) (λ s. s.place) (HasOpenName these symtab) all) (sym same) (names_of_image image all symtab opened keeps are table)
 
@@ -160,7 +184,8 @@ strings_inside image symtab keeps (commands, are, is) some = of_first (first_of_
     inside s has same =
         let size : symtab.strsize ≡ strsize image s = ap (λ t. t.strsize) same in
         let start : symtab.stroff ≡ stroff image s = ap (λ t. t.stroff) same in
-        let fits : ¬ IsOutside image (stroff image s, strsize image s, 1) = table_inside image commands s (loader.LC_SYMTAB, 16, 20, 1) keeps are (of_kind_among image commands loader.LC_SYMTAB s has) (1, lit< tt, refl) (sym (of_kind_is image commands loader.LC_SYMTAB s has)) in
+        let fits : ¬ IsOutside image (stroff image s, strsize image s, 1) = table_inside image commands s (loader.LC_SYMTAB, 16, 20, 1) keeps are
+        (of_kind_among image commands loader.LC_SYMTAB s has) (1, lit< tt, refl) (sym (of_kind_is image commands loader.LC_SYMTAB s has)) in
         elim (cases_lt (length image) (stroff image s + strsize image s)) [ inl past ↦ absurd (fits (omega arith, omega arith)) | inr most ↦ omega arith ]
 
     of_first : (first : Option ℕ) → first_of_kind image loader.LC_SYMTAB commands ≡ first → Some symtab ≡ option_map (symtab_at image) first → symtab.stroff + symtab.strsize ≤ length image

@@ -31,7 +31,8 @@ NoneOutside image kind command tables n = (k : ℕ) (d : ℕ × ℕ × ℕ × �
 pub none_at_first : (image : List ℕ) (kind command : ℕ) (tables : List (ℕ × ℕ × ℕ × ℕ)) → NoneOutside image kind command tables 0
 none_at_first image kind command tables k d less named = absurd (omega arith)
 
-pub none_further : (image : List ℕ) (kind command : ℕ) (tables : List (ℕ × ℕ × ℕ × ℕ)) (n : ℕ) (d : ℕ × ℕ × ℕ × ℕ) → n < length tables → NoneOutside image kind command tables n → ¬ NamesOutside image kind command (slice_index_or tables n d) → NoneOutside image kind command tables (n + 1)
+pub none_further : (image : List ℕ) (kind command : ℕ) (tables : List (ℕ × ℕ × ℕ × ℕ)) (n : ℕ) (d : ℕ × ℕ × ℕ × ℕ) → n < length tables → NoneOutside image kind command tables n
+    → ¬ NamesOutside image kind command (slice_index_or tables n d) → NoneOutside image kind command tables (n + 1)
 none_further image kind command tables n d inside none here k e less named =
     elim (cases_order k n) [
       | inl same ↦ here (subst (NamesOutside image kind command) (ap (λ i. slice_index_or tables i e) same ∙ get_or_default tables n e d inside) named)
@@ -39,13 +40,16 @@ none_further image kind command tables n d inside none here k e less named =
       | inr (inr after) ↦ absurd (omega arith)
     ]
 
-pub none_of_all : (image : List ℕ) (kind command : ℕ) (tables : List (ℕ × ℕ × ℕ × ℕ)) (n : ℕ) → length tables ≤ n → NoneOutside image kind command tables n → ¬ Any (λ fields. (fields.0 ≡ kind) × IsOutside image (table_at image command fields)) tables
+pub none_of_all : (image : List ℕ) (kind command : ℕ) (tables : List (ℕ × ℕ × ℕ × ℕ)) (n : ℕ) → length tables ≤ n → NoneOutside image kind command tables n
+    → ¬ Any (λ fields. (fields.0 ≡ kind) × IsOutside image (table_at image command fields)) tables
 none_of_all image kind command tables n all none (k, fields, less, at, named) = none k fields (omega arith) (subst (NamesOutside image kind command) (sym at) named)
 
-pub one_outside : (image : List ℕ) (kind command : ℕ) (tables : List (ℕ × ℕ × ℕ × ℕ)) (n : ℕ) (d : ℕ × ℕ × ℕ × ℕ) → n < length tables → NamesOutside image kind command (slice_index_or tables n d) → Any (λ fields. (fields.0 ≡ kind) × IsOutside image (table_at image command fields)) tables
+pub one_outside : (image : List ℕ) (kind command : ℕ) (tables : List (ℕ × ℕ × ℕ × ℕ)) (n : ℕ) (d : ℕ × ℕ × ℕ × ℕ) → n < length tables
+    → NamesOutside image kind command (slice_index_or tables n d) → Any (λ fields. (fields.0 ≡ kind) × IsOutside image (table_at image command fields)) tables
 one_outside image kind command tables n d inside named = (n, slice_index_or tables n d, inside, get_or_default tables n (slice_index_or tables n d) d inside, named)
 
-pub held_fields : (image : List ℕ) (kind command : ℕ) (tables : List (ℕ × ℕ × ℕ × ℕ)) (n : ℕ) (d : ℕ × ℕ × ℕ × ℕ) → n < length tables → HoldsTables image kind command tables → (slice_index_or tables n d).0 ≡ kind → HoldsFields image command (slice_index_or tables n d)
+pub held_fields : (image : List ℕ) (kind command : ℕ) (tables : List (ℕ × ℕ × ℕ × ℕ)) (n : ℕ) (d : ℕ × ℕ × ℕ × ℕ) → n < length tables → HoldsTables image kind command tables
+    → (slice_index_or tables n d).0 ≡ kind → HoldsFields image command (slice_index_or tables n d)
 held_fields image kind command tables n d inside holds listed = holds (slice_index_or tables n d) (n, inside, get_or_default tables n (slice_index_or tables n d) d inside) listed
 
 -- Commands
@@ -60,8 +64,10 @@ AreViews image all = OfCommands image (λ commands. all ≡ map (command_at imag
 chain_rises : (image : List ℕ) (start : ℕ) (xs : List ℕ) (m : ℕ) → Follow image start xs m → Rising (λ p. p) xs
 chain_rises image start [] m chain = tt
 chain_rises image start (x ∷ xs) m chain =
-    let above : All (λ place. x + command_size image x ≤ place) xs = places_above image (x + command_size image x) xs m chain.2 in
-    (λ y has. let far : x + command_size image x ≤ y = All-contains (λ place. x + command_size image x ≤ place) xs y above has in omega arith, chain_rises image (x + command_size image x) xs m chain.2)
+    let above : All (λ place. x + command_size image x ≤ place) xs = places_above image (x + command_size image x) xs m chain.2 in (
+      λ y has. let far : x + command_size image x ≤ y = All-contains (λ place. x + command_size image x ≤ place) xs y above has in omega arith,
+      chain_rises image (x + command_size image x) xs m chain.2,
+    )
 
 pub views_rise : (image : List ℕ) (all : List CommandView) → AreViews image all → Rising (λ v. v.place) all
 views_rise image all (cs, are, is) = subst (Rising (λ v. v.place)) (sym is) (items_rise (λ (v : CommandView). v.place) (command_at image) (λ p. refl) cs (chain_rises image 32 cs are.1 are.2))
@@ -75,10 +81,16 @@ tables_by_fields image command any = by_kind (passes_any (IsOutside image) (tabl
 
 fields_by_tables : (image : List ℕ) (command : ℕ) → HasTableOutside image (command_at image command) → Any (IsOutside image) (tables_of image command)
 fields_by_tables image command (k, fields, less, at, (same, outside)) =
-    any_passes (IsOutside image) (table_at image command) (λ fields. fields.0 == command_kind image command) table_fields (k, fields, less, at, (eq-eqb fields.0 (command_kind image command) same, outside))
+    any_passes (IsOutside image) (table_at image command) (λ fields. fields.0 == command_kind image command) table_fields
+    (k, fields, less, at, (eq-eqb fields.0 (command_kind image command) same, outside))
 
-pub tables_are_breaks : (image bytes : List ℕ) → bytes ≡ image → (all : List CommandView) → AreViews image all → AreBreaks (BreaksImage image None rule.TableRange) (λ v. v.place) (HasTableOutside bytes) all
-tables_are_breaks image bytes same all (cs, are, is) = subst (λ these. AreBreaks (BreaksImage image None rule.TableRange) (λ v. v.place) (HasTableOutside these) all) (sym same) (subst (AreBreaks (BreaksImage image None rule.TableRange) (λ v. v.place) (HasTableOutside image)) (sym is) (are_breaks_at (BreaksImage image None rule.TableRange) (λ (v : CommandView). v.place) (HasTableOutside image) (command_at image) (λ p. refl) cs (λ p has named. inr (cs, are, (has, fields_by_tables image p named))) broken))
+pub tables_are_breaks : (image bytes : List ℕ) → bytes ≡ image → (all : List CommandView) → AreViews image all
+    → AreBreaks (BreaksImage image None rule.TableRange) (λ v. v.place) (HasTableOutside bytes) all
+tables_are_breaks image bytes same all (cs, are, is) =
+    subst (λ these. AreBreaks (BreaksImage image None rule.TableRange) (λ v. v.place) (HasTableOutside these) all) (sym same)
+    (subst (AreBreaks (BreaksImage image None rule.TableRange) (λ v. v.place) (HasTableOutside image)) (sym is)
+    (are_breaks_at (BreaksImage image None rule.TableRange) (λ (v : CommandView). v.place) (HasTableOutside image) (command_at image) (λ p. refl) cs
+    (λ p has named. inr (cs, are, (has, fields_by_tables image p named))) broken))
   where
     broken : (p : ℕ) → BreaksImage image None rule.TableRange p → Contains cs p × HasTableOutside image (command_at image p)
     broken p (inl none) = absurd none
@@ -93,7 +105,10 @@ all_hold = refl
 
 -- so the fields of the tables of a command lie inside the image
 fields_held : (image cs : List ℕ) (p : ℕ) → Keeps image → AreCommands image cs → Contains cs p → HoldsTables image (command_kind image p) p table_fields
-fields_held image cs p keeps are has fields listed kind = of_structure (Any-from_list_any (holds fields) structures (All-contains (λ fields. list_any (holds fields) structures ≡ true) table_fields fields (AllPass-from_list_all (λ fields. list_any (holds fields) structures) table_fields all_hold) listed))
+fields_held image cs p keeps are has fields listed kind =
+    of_structure
+    (Any-from_list_any (holds fields) structures (All-contains (λ fields. list_any (holds fields) structures ≡ true) table_fields fields
+    (AllPass-from_list_all (λ fields. list_any (holds fields) structures) table_fields all_hold) listed))
   where
     of_structure : Any (λ structure. holds fields structure ≡ true) structures → HoldsFields image p fields
     of_structure (k, structure, less, at, test) =
@@ -109,8 +124,10 @@ keeps_of : (image : List ℕ) → IsOpened image → Keeps image
 unfolding IsOpened
 keeps_of image opened = keeps_rules image None opened
 
-pub tables_held : (image bytes : List ℕ) → bytes ≡ image → (all : List CommandView) (v : CommandView) → IsOpened image → AreViews image all → Contains all v → HoldsTables bytes v.cmd v.place table_fields
-tables_held image bytes same all v opened (cs, are, is) has = subst (λ these. HoldsTables these v.cmd v.place table_fields) (sym same) (of_place (mapped_has (command_at image) cs v (subst (λ these. Contains these v) is has)))
+pub tables_held : (image bytes : List ℕ) → bytes ≡ image → (all : List CommandView) (v : CommandView) → IsOpened image → AreViews image all → Contains all v
+    → HoldsTables bytes v.cmd v.place table_fields
+tables_held image bytes same all v opened (cs, are, is) has =
+    subst (λ these. HoldsTables these v.cmd v.place table_fields) (sym same) (of_place (mapped_has (command_at image) cs v (subst (λ these. Contains these v) is has)))
   where
     of_place : (p : ℕ) × Contains cs p × (command_at image p ≡ v) → HoldsTables image v.cmd v.place table_fields
     of_place (p, has_p, at) = subst (λ (w : CommandView). HoldsTables image w.cmd w.place table_fields) at (fields_held image cs p (keeps_of image opened) are has_p)

@@ -36,17 +36,34 @@ passes_any {X = X} {Y = Y} P at test (x ∷ xs) any = by_test (test x) refl (λ 
     later : Any (λ x. (test x ≡ true) × P (at x)) xs → Any (λ x. (test x ≡ true) × P (at x)) (x ∷ xs)
     later (k, y, less, is, h) = (suc k, y, omega arith, is, h)
 
-    by_test : (b : Bool) → test x ≡ b → (Any P (map at (filter test xs)) → Any (λ x. (test x ≡ true) × P (at x)) xs) → Any P (map at (if b then x ∷ filter test xs else filter test xs)) → Any (λ x. (test x ≡ true) × P (at x)) (x ∷ xs)
+    by_test : (b : Bool) → test x ≡ b → (Any P (map at (filter test xs)) → Any (λ x. (test x ≡ true) × P (at x)) xs)
+        → Any P (map at (if b then x ∷ filter test xs else filter test xs)) → Any (λ x. (test x ≡ true) × P (at x)) (x ∷ xs)
     by_test true t go (zero, y, less, is, h) = (0, x, omega arith, refl, (t, subst P (sym is) h))
     by_test true t go (suc k, y, less, is, h) = later (go (k, y, omega arith, is, h))
     by_test false t go rest = later (go rest)
 
 -- a table of a command lies inside the image, or has no items
-pub table_inside : (image commands : List ℕ) (command : ℕ) (fields : ℕ × ℕ × ℕ × ℕ) → KeepsRule image rule.TableRange → AreCommands image commands → Contains commands command → Contains table_fields fields → fields.0 ≡ command_kind image command → ¬ IsOutside image (table_at image command fields)
-table_inside image commands command fields keeps are has (i, less, is) kind outside = keeps command (inr (commands, are, (has, any_passes (IsOutside image) (table_at image command) (λ fields. fields.0 == command_kind image command) table_fields (i, fields, less, is, (eq-eqb fields.0 (command_kind image command) kind, outside)))))
+pub table_inside : (image commands : List ℕ) (command : ℕ) (fields : ℕ × ℕ × ℕ × ℕ) → KeepsRule image rule.TableRange → AreCommands image commands → Contains commands command
+    → Contains table_fields fields → fields.0 ≡ command_kind image command → ¬ IsOutside image (table_at image command fields)
+table_inside image commands command fields keeps are has (i, less, is) kind outside =
+    keeps command
+    (inr (
+      commands,
+      are,
+      (
+        has,
+        any_passes (IsOutside image) (table_at image command) (λ fields. fields.0 == command_kind image command) table_fields
+            (i, fields, less, is, (eq-eqb fields.0 (command_kind image command) kind, outside)),
+      ),
+    ))
 
 pub in_items : (image : List ℕ) (start each n p : ℕ) → Contains (items_inside image start each n) p → (k : ℕ) × (k < n) × (p ≡ start + each * k)
-in_items image start each n p has = elim (cases_Bool (nat_le (start + each * n) (length image))) [ inl t ↦ from_number (has_number (λ k. start + each * k) 0 n p (subst (λ b. Contains (if b then map (λ k. start + each * k) (range_with_len 0 n) else []) p) t has)) | inr f ↦ absurd (has_nothing p (subst (λ b. Contains (if b then map (λ k. start + each * k) (range_with_len 0 n) else []) p) f has)) ]
+in_items image start each n p has =
+    elim (cases_Bool (nat_le (start + each * n) (length image))) [
+      | inl t ↦ from_number (has_number (λ k. start + each * k) 0 n p (subst (λ b. Contains (if b then map (λ k. start + each * k) (range_with_len 0 n) else []) p) t has))
+      | inr f ↦
+          absurd (has_nothing p (subst (λ b. Contains (if b then map (λ k. start + each * k) (range_with_len 0 n) else []) p) f has))
+    ]
   where
     from_number : (k : ℕ) × (0 ≤ k) × (k < 0 + n) × (start + each * k ≡ p) → (k : ℕ) × (k < n) × (p ≡ start + each * k)
     from_number (k, low, high, is) = (k, omega arith, sym is)
@@ -83,7 +100,9 @@ module _ {X : Type 0} (image : List ℕ) (kind each : ℕ) (start count : ℕ �
       of_first None = tt
       of_first (Some c) = table_rises image (start c) each (count c)
 
-  module _ (P : List ℕ → ℕ → ℕ → Type 0) (Q : X → Type 0) (opened : IsOpened image) (unique : Contains unique_kinds kind) (inside : (cs : List ℕ) → AreCommands image cs → (c : ℕ) → Contains (of_kind image kind cs) c → ¬ IsOutside image (start c, count c, each)) (seen : (cs : List ℕ) (c p : ℕ) → AreCommands image cs → first_of_kind image kind cs ≡ Some c → Q (at p) ↔ P cs c p) where
+  module _ (P : List ℕ → ℕ → ℕ → Type 0) (Q : X → Type 0) (opened : IsOpened image) (unique : Contains unique_kinds kind)
+      (inside : (cs : List ℕ) → AreCommands image cs → (c : ℕ) → Contains (of_kind image kind cs) c → ¬ IsOutside image (start c, count c, each))
+      (seen : (cs : List ℕ) (c p : ℕ) → AreCommands image cs → first_of_kind image kind cs ≡ Some c → Q (at p) ↔ P cs c p) where
     item_breaks : (cs : List ℕ) (p : ℕ) → AreCommands image cs → (first : Option ℕ) → first_of_kind image kind cs ≡ first → Contains (items_of first) p → Q (at p) → BreaksItem P cs p
     item_breaks cs p are None is none here = absurd (has_nothing p none)
     item_breaks cs p are (Some c) is some here = found (is_of_kind image cs kind c is) (in_items image (start c) each (count c) p some)
@@ -94,12 +113,16 @@ module _ {X : Type 0} (image : List ℕ) (kind each : ℕ) (start count : ℕ �
     broken_item : (cs : List ℕ) (p : ℕ) → AreCommands image cs → BreaksItem P cs p → Contains (items_of (first_of_kind image kind cs)) p × Q (at p)
     broken_item cs p are (i, c, less, at_i, (k, few, from, here)) =
         let first : first_of_kind image kind cs ≡ Some c = first_is image cs kind c opened are unique (i, less, at_i) in
-        let some : Contains (items_inside image (start c) each (count c)) p = subst (Contains (items_inside image (start c) each (count c))) (sym from) (items_in image (start c) each (count c) k (inside cs are c (i, less, at_i)) few) in
+        let some : Contains (items_inside image (start c) each (count c)) p = subst (Contains (items_inside image (start c) each (count c))) (sym from)
+        (items_in image (start c) each (count c) k (inside cs are c (i, less, at_i)) few) in
         (subst (λ o. Contains (items_of o) p) (sym first) some, (seen cs c p are first).1 here)
 
-    pub items_are_breaks : (breaks : ℕ → Type 0) (all : List X) → AreItems all → ((p : ℕ) → OfCommands image (λ cs. BreaksItem P cs p) → breaks p) → ((p : ℕ) → breaks p → OfCommands image (λ cs. BreaksItem P cs p)) → AreBreaks breaks place Q all
+    pub items_are_breaks : (breaks : ℕ → Type 0) (all : List X) → AreItems all → ((p : ℕ) → OfCommands image (λ cs. BreaksItem P cs p) → breaks p)
+        → ((p : ℕ) → breaks p → OfCommands image (λ cs. BreaksItem P cs p)) → AreBreaks breaks place Q all
     items_are_breaks breaks all (cs, are, is) to from =
-        subst (AreBreaks breaks place Q) (sym is) (are_breaks_at breaks place Q at same_place (items_of (first_of_kind image kind cs)) (λ p has here. to p (cs, are, item_breaks cs p are (first_of_kind image kind cs) refl has here)) (λ p broken. broken_item cs p are (of_these p (from p broken))))
+        subst (AreBreaks breaks place Q) (sym is)
+        (are_breaks_at breaks place Q at same_place (items_of (first_of_kind image kind cs))
+        (λ p has here. to p (cs, are, item_breaks cs p are (first_of_kind image kind cs) refl has here)) (λ p broken. broken_item cs p are (of_these p (from p broken))))
       where
         of_these : (p : ℕ) → OfCommands image (λ cs. BreaksItem P cs p) → BreaksItem P cs p
         of_these p (others, also, broken) = subst (λ these. BreaksItem P these p) (commands_unique image others cs also are) broken

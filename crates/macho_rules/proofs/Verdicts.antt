@@ -29,12 +29,14 @@ passed_on P (Ok x) r is p = absurd is
 passed_on P (Err given) r is p = subst P (sym is) p
 
 -- what decides the rules of an opened image decides those of its bytes
-pub image_decided : {T : Type 0} (image : List ℕ) (arch : Option (ℕ × ℕ)) → NothingBreaks (BreaksOpening image arch) → (answer : Result T Break) → Decides (BreaksOpened image) answer → Decides (BreaksImage image arch) answer
+pub image_decided : {T : Type 0} (image : List ℕ) (arch : Option (ℕ × ℕ)) → NothingBreaks (BreaksOpening image arch) → (answer : Result T Break)
+    → Decides (BreaksOpened image) answer → Decides (BreaksImage image arch) answer
 image_decided image arch opened (Ok x) kept = image_unbroken image arch opened kept
 image_decided image arch opened (Err b) least = opened_first image arch b opened least
 
 -- a break that ends the opening of an image is its first
-pub opening_decided : {T : Type 0} (image : List ℕ) (arch : Option (ℕ × ℕ)) (b : Break) (answer : Result T Break) → IsErrAnd answer (λ given. given ≡ b) → IsLeast (BreaksOpening image arch) b → Decides (BreaksImage image arch) answer
+pub opening_decided : {T : Type 0} (image : List ℕ) (arch : Option (ℕ × ℕ)) (b : Break) (answer : Result T Break) → IsErrAnd answer (λ given. given ≡ b)
+    → IsLeast (BreaksOpening image arch) b → Decides (BreaksImage image arch) answer
 opening_decided image arch b (Ok x) is least = absurd is
 opening_decided image arch b (Err given) is least = subst (IsLeast (BreaksImage image arch)) (sym is) (opening_first image arch b least)
 
@@ -54,11 +56,14 @@ slice_at file slices are k d less =
     ap (λ ss. slice_get ss k) (sym are.all) ∙ (slice_get-map slice_of slices k ∙ ap (option_map slice_of) (slice_get-get_or slices k d less))
 
 -- the first break of a slice is that of the file, where nothing is broken before the slice
-pub slice_broken : (file : List ℕ) (k : ℕ) (slice : FileSlice) → slice_get (slices_of file) k ≡ Some slice → KeptScopes file k → IsImage (slice_bytes file slice) → (b : Break) → IsSliceBreak file slice b → IsFirstBroken file b
+pub slice_broken : (file : List ℕ) (k : ℕ) (slice : FileSlice) → slice_get (slices_of file) k ≡ Some slice → KeptScopes file k → IsImage (slice_bytes file slice) → (b : Break)
+    → IsSliceBreak file slice b → IsFirstBroken file b
 slice_broken file k slice is kept image b (found, least, rule, place) = slice_first file k slice found b is kept image least rule place
 
 pub slices_counted : (file : List ℕ) (slices : List Slice) → AreSlices file slices → length slices ≡ length (slices_of file)
-slices_counted file slices are = let same : length (map slice_of slices) ≡ length (slices_of file) = ap length are.all in let kept : length (map slice_of slices) ≡ length slices = length-map slices slice_of in omega (arith, same, kept)
+slices_counted file slices are =
+    let same : length (map slice_of slices) ≡ length (slices_of file) = ap length are.all in let kept : length (map slice_of slices) ≡ length slices = length-map slices slice_of in
+    omega (arith, same, kept)
 
 -- a fault of the slices is a refusal of the file
 pub fat_refused : (file : List ℕ) (f : FatFault) → IsFatFault file f → IsRefusal file (refusal_of f)
@@ -85,18 +90,22 @@ verified_inside file slices keeps k slice is =
     slice_inside file (λ r place broken. verified_unbroken file slices keeps (record { scope = 0; rule = r; place = place }) broken) k slice (sym is)
 
 -- an image of a verified file opens
-pub verified_opens : {T : Type 0} (file : List ℕ) (slices : List Slice) → IsVerified file slices → (k : ℕ) (slice : FileSlice) → Some slice ≡ slice_get (slices_of file) k → IsImage (slice_bytes file slice) → (answer : Result T Break) → Decides (BreaksOpening (slice_bytes file slice) slice.arch) answer → IsSome (result_ok answer)
+pub verified_opens : {T : Type 0} (file : List ℕ) (slices : List Slice) → IsVerified file slices → (k : ℕ) (slice : FileSlice) → Some slice ≡ slice_get (slices_of file) k
+    → IsImage (slice_bytes file slice) → (answer : Result T Break) → Decides (BreaksOpening (slice_bytes file slice) slice.arch) answer → IsSome (result_ok answer)
 verified_opens file slices keeps k slice is image (Ok x) unbroken = refl
 verified_opens file slices keeps k slice is image (Err b) (broken, least) =
     absurd (verified_unbroken file slices keeps (record { scope = suc k; rule = b.rule; place = b.place }) (of_slice file k slice b.rule b.place (sym is) image broken.1))
 
 -- and keeps the rules of an opened image
-pub verified_keeps : (file : List ℕ) (slices : List Slice) → IsVerified file slices → (k : ℕ) (slice : FileSlice) → Some slice ≡ slice_get (slices_of file) k → IsImage (slice_bytes file slice) → NothingBreaks (BreaksOpened (slice_bytes file slice))
+pub verified_keeps : (file : List ℕ) (slices : List Slice) → IsVerified file slices → (k : ℕ) (slice : FileSlice) → Some slice ≡ slice_get (slices_of file) k
+    → IsImage (slice_bytes file slice) → NothingBreaks (BreaksOpened (slice_bytes file slice))
 verified_keeps file slices keeps k slice is image r place broken =
-    verified_unbroken file slices keeps (record { scope = suc k; rule = r; place = place }) (of_slice file k slice r place (sym is) image (image_alone (slice_bytes file slice) slice.arch r place broken.1))
+    verified_unbroken file slices keeps (record { scope = suc k; rule = r; place = place })
+    (of_slice file k slice r place (sym is) image (image_alone (slice_bytes file slice) slice.arch r place broken.1))
 
 -- what a list gives at an index is the slice of the file
-pub slice_given : (file : List ℕ) (slices : List Slice) → AreSlices file slices → (k : ℕ) (got : Option (Bor Slice)) → is_some got ≡ nat_lt k (length slices) → IfSome got (λ s. s.now ≡ slice_index_or slices k s.now) → option_map (λ s. slice_of s.now) got ≡ slice_get (slices_of file) k
+pub slice_given : (file : List ℕ) (slices : List Slice) → AreSlices file slices → (k : ℕ) (got : Option (Bor Slice)) → is_some got ≡ nat_lt k (length slices)
+    → IfSome got (λ s. s.now ≡ slice_index_or slices k s.now) → option_map (λ s. slice_of s.now) got ≡ slice_get (slices_of file) k
 slice_given file slices are k None test found = sym (slice_get_past (slices_of file) k past)
   where
     past : length (slices_of file) ≤ k
@@ -106,7 +115,8 @@ slice_given file slices are k None test found = sym (slice_get_past (slices_of f
     ]
 slice_given file slices are k (Some s) test found = ap (λ (x : Slice). Some (slice_of x)) found ∙ sym (slice_at file slices are k s.now (ltb-true k (length slices) (sym test)))
 
-pub read_given : (file : List ℕ) (slices : List Slice) → AreSlices file slices → (k : ℕ) (got : Option (Bor Slice)) → is_some got ≡ nat_lt k (length slices) → IfSome got (λ s. s.now ≡ slice_index_or slices k s.now) → IfSome got (λ s. IsTrue s.now.read ↔ IsImage (slice_bytes file (slice_of s.now)))
+pub read_given : (file : List ℕ) (slices : List Slice) → AreSlices file slices → (k : ℕ) (got : Option (Bor Slice)) → is_some got ≡ nat_lt k (length slices)
+    → IfSome got (λ s. s.now ≡ slice_index_or slices k s.now) → IfSome got (λ s. IsTrue s.now.read ↔ IsImage (slice_bytes file (slice_of s.now)))
 read_given file slices are k None test found = tt
 read_given file slices are k (Some s) test found =
     subst (λ (x : Slice). IsTrue x.read ↔ IsImage (slice_bytes file (slice_of x))) (sym found) (are.read k s.now (ltb-true k (length slices) (sym test)))

@@ -12,7 +12,8 @@ returns-in_err-fat_slice_outside-clause-decides c =
     let table = c.in_ok-table-in-Universal.table in
     let same = c.in_ok-table-in-Universal.ensures.table in
     let truncated = kept_table file table same c.in_ok-magic.ensures.decides c.in_ok-table-in-Universal.ensures.decides in
-    refused file table rule.FatSliceOutside c.in_err-fat_slice_outside.field-0.0 c.from_residual-in_err-fat_slice_outside.result same c.from_residual-in_err-fat_slice_outside.ensures.1 truncated c.in_err-fat_slice_outside.ensures
+    refused file table rule.FatSliceOutside c.in_err-fat_slice_outside.field-0.0 c.from_residual-in_err-fat_slice_outside.result same
+    c.from_residual-in_err-fat_slice_outside.ensures.1 truncated c.in_err-fat_slice_outside.ensures
 
 pub returns-in_err-fat_slice_in_table-clause-decides : goal.returns-in_err-fat_slice_in_table-clause-decides
 returns-in_err-fat_slice_in_table-clause-decides c =
@@ -21,7 +22,8 @@ returns-in_err-fat_slice_in_table-clause-decides c =
     let same = c.in_ok-table-in-Universal.ensures.table in
     let truncated = kept_table file table same c.in_ok-magic.ensures.decides c.in_ok-table-in-Universal.ensures.decides in
     let outside = kept_next table rule.FatSliceOutside truncated c.in_ok-fat_slice_outside.ensures in
-    refused file table rule.FatSliceInTable c.in_err-fat_slice_in_table.field-0.0 c.from_residual-in_err-fat_slice_in_table.result same c.from_residual-in_err-fat_slice_in_table.ensures.1 outside c.in_err-fat_slice_in_table.ensures
+    refused file table rule.FatSliceInTable c.in_err-fat_slice_in_table.field-0.0 c.from_residual-in_err-fat_slice_in_table.result same
+    c.from_residual-in_err-fat_slice_in_table.ensures.1 outside c.in_err-fat_slice_in_table.ensures
 
 pub returns-in_err-fat_align-clause-decides : goal.returns-in_err-fat_align-clause-decides
 returns-in_err-fat_align-clause-decides c =
@@ -54,7 +56,8 @@ returns-in_err-fat_duplicate-clause-decides c =
     let in_table = kept_next table rule.FatSliceInTable outside c.in_ok-fat_slice_in_table.ensures in
     let align = kept_next table rule.FatAlign in_table c.in_ok-fat_align.ensures in
     let overlap = kept_next table rule.FatOverlap align c.in_ok-fat_overlap.ensures in
-    refused file table rule.FatDuplicate c.in_err-fat_duplicate.field-0.0 c.from_residual-in_err-fat_duplicate.result same c.from_residual-in_err-fat_duplicate.ensures.1 overlap c.in_err-fat_duplicate.ensures
+    refused file table rule.FatDuplicate c.in_err-fat_duplicate.field-0.0 c.from_residual-in_err-fat_duplicate.result same c.from_residual-in_err-fat_duplicate.ensures.1 overlap
+    c.in_err-fat_duplicate.ensures
 
 pub returns-in_err-fat_slice_magic-clause-decides : goal.returns-in_err-fat_slice_magic-clause-decides
 returns-in_err-fat_slice_magic-clause-decides c =
@@ -67,7 +70,8 @@ returns-in_err-fat_slice_magic-clause-decides c =
     let align = kept_next table rule.FatAlign in_table c.in_ok-fat_align.ensures in
     let overlap = kept_next table rule.FatOverlap align c.in_ok-fat_overlap.ensures in
     let duplicate = kept_next table rule.FatDuplicate overlap c.in_ok-fat_duplicate.ensures in
-    refused file table rule.FatSliceMagic c.in_err-fat_slice_magic.field-0.0 c.from_residual-in_err-fat_slice_magic.result same c.from_residual-in_err-fat_slice_magic.ensures.1 duplicate c.in_err-fat_slice_magic.ensures
+    refused file table rule.FatSliceMagic c.in_err-fat_slice_magic.field-0.0 c.from_residual-in_err-fat_slice_magic.result same c.from_residual-in_err-fat_slice_magic.ensures.1
+    duplicate c.in_err-fat_slice_magic.ensures
 
 pub returns-in_err-fat_empty-clause-decides : goal.returns-in_err-fat_empty-clause-decides
 returns-in_err-fat_empty-clause-decides c =

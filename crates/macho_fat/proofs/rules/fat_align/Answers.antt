@@ -16,14 +16,16 @@ returns-then-not-is_aligned c =
     let file = c.args.table.now in
     let less : c.loop-k.k < entry_count file = omega (arith, c.count-k-end.ensures.count) in
     entry_broken file (IsMisaligned file) rule.FatAlign c.loop-k.k c.breaks.result c.count-k-end.ensures.table.universal less c.loop-k.invariant
-    (misaligned_entry file c.loop-k.k c.entry-entry.result.span.start c.entry-entry.result.align c.entry-entry.ensures.start c.entry-entry.ensures.align (λ m. both_ways c.is_aligned.result c.if-not-is_aligned.true (c.is_aligned.ensures.1 m)))
+    (misaligned_entry file c.loop-k.k c.entry-entry.result.span.start c.entry-entry.result.align c.entry-entry.ensures.start c.entry-entry.ensures.align
+    (λ m. both_ways c.is_aligned.result c.if-not-is_aligned.true (c.is_aligned.ensures.1 m)))
     c.breaks.ensures.rule (c.breaks.ensures.place ∙ c.entry-entry.ensures.place)
 
 pub loop-k-preserved : goal.loop-k-preserved
 loop-k-preserved c =
     let file = c.args.table.now in
     none_more (IsMisaligned file) c.loop-k.k c.loop-k.invariant
-    (aligned_entry file c.loop-k.k c.entry-entry.result.span.start c.entry-entry.result.align c.entry-entry.ensures.start c.entry-entry.ensures.align (c.is_aligned.ensures.0 c.if-not-is_aligned.false))
+    (aligned_entry file c.loop-k.k c.entry-entry.result.span.start c.entry-entry.result.align c.entry-entry.ensures.start c.entry-entry.ensures.align
+    (c.is_aligned.ensures.0 c.if-not-is_aligned.false))
 
 pub returns : goal.returns
 returns c = entries_kept c.args.table.now (IsMisaligned c.args.table.now) c.loop-k.k (omega (arith, c.count-k-end.ensures.count)) c.loop-k.invariant

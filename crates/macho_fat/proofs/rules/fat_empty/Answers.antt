@@ -10,7 +10,8 @@ pub returns-then-is_image : goal.returns-then-is_image
 returns-then-is_image c place broken =
     let file = c.args.table.now in
     let less : c.loop-k.k < entry_count file = omega (arith, c.count-k-end.ensures.count) in
-    each_entry file (λ slice. ¬ IsImage (slice_bytes file slice)) c.count-k-end.ensures.table.universal broken.2 c.loop-k.k less (subst IsImage c.slice_bytes.ensures (c.is_image.ensures.0 c.if-is_image.true))
+    each_entry file (λ slice. ¬ IsImage (slice_bytes file slice)) c.count-k-end.ensures.table.universal broken.2 c.loop-k.k less
+    (subst IsImage c.slice_bytes.ensures (c.is_image.ensures.0 c.if-is_image.true))
 
 pub loop-k-preserved : goal.loop-k-preserved
 loop-k-preserved c =
@@ -18,4 +19,8 @@ loop-k-preserved c =
     (λ h. both_ways c.is_image.result c.if-is_image.false (c.is_image.ensures.1 (subst IsImage (sym c.slice_bytes.ensures) h)))
 
 pub returns : goal.returns
-returns c = (refl, empty_broken c.args.table.now c.loop-k.k (omega (arith, c.count-k-end.ensures.count)) c.count-k-end.ensures.table.universal c.loop-k.invariant, λ place broken. let same : place ≡ 4 = broken.0 in omega arith)
+returns c = (
+  refl,
+  empty_broken c.args.table.now c.loop-k.k (omega (arith, c.count-k-end.ensures.count)) c.count-k-end.ensures.table.universal c.loop-k.invariant,
+  λ place broken. let same : place ≡ 4 = broken.0 in omega arith,
+)

@@ -9,7 +9,8 @@ pub returns-then-shares_with_earlier : goal.returns-then-shares_with_earlier
 returns-then-shares_with_earlier c =
     let file = c.args.table.now in
     let less : c.loop-k.k < entry_count file = omega (arith, c.count-k-end.ensures.count) in
-    entry_broken file (Overlaps file) rule.FatOverlap c.loop-k.k c.breaks.result c.count-k-end.ensures.table.universal less c.loop-k.invariant (c.shares_with_earlier.ensures.0 c.if-shares_with_earlier.true)
+    entry_broken file (Overlaps file) rule.FatOverlap c.loop-k.k c.breaks.result c.count-k-end.ensures.table.universal less c.loop-k.invariant
+    (c.shares_with_earlier.ensures.0 c.if-shares_with_earlier.true)
     c.breaks.ensures.rule (c.breaks.ensures.place ∙ c.entry.ensures.place)
 
 pub loop-k-preserved : goal.loop-k-preserved

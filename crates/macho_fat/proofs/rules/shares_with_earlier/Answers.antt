@@ -10,7 +10,8 @@ loop-k-preserved c =
     let file = c.args.table.now in
     none_more (λ i. SharePlace (entry_slice file i) (entry_slice file c.args.later)) c.loop-k.k c.loop-k.invariant
     (λ h. both_ways c.shares.result c.if-shares.false (c.shares.ensures.1
-    (sharing_entries file c.loop-k.k c.args.later c.entry-in-loop-k.result.span c.entry.result.span c.entry-in-loop-k.ensures.start c.entry-in-loop-k.ensures.size c.entry.ensures.start c.entry.ensures.size h)))
+    (sharing_entries file c.loop-k.k c.args.later c.entry-in-loop-k.result.span c.entry.result.span c.entry-in-loop-k.ensures.start c.entry-in-loop-k.ensures.size
+    c.entry.ensures.start c.entry.ensures.size h)))
 
 pub returns : goal.returns
 returns c = (λ h. absurd (false≢true h), λ (i, less, h). absurd (c.loop-k.invariant i (omega arith) h))

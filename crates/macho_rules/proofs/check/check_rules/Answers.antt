@@ -33,7 +33,8 @@ returns-in_err-segment_overlap c =
     let after_segment_size = kept_segment_size image after_segment_address c.in_ok-segment_size.ensures in
     let after_segment_file = kept_segment_file image after_segment_size c.in_ok-segment_file.ensures in
     let exit = err_from_is_err_and c.from_residual-in_err-segment_overlap.result c.from_residual-in_err-segment_overlap.ensures.1 in
-    rule_answer image rule.SegmentOverlap c.in_err-segment_overlap.field-0.0 exit.0 c.from_residual-in_err-segment_overlap.result exit.1 exit.2 (lit≤ tt) after_segment_file c.in_err-segment_overlap.ensures
+    rule_answer image rule.SegmentOverlap c.in_err-segment_overlap.field-0.0 exit.0 c.from_residual-in_err-segment_overlap.result exit.1 exit.2 (lit≤ tt) after_segment_file
+    c.in_err-segment_overlap.ensures
 
 pub returns-in_err-section_address : goal.returns-in_err-section_address
 returns-in_err-section_address c =
@@ -43,7 +44,8 @@ returns-in_err-section_address c =
     let after_segment_file = kept_segment_file image after_segment_size c.in_ok-segment_file.ensures in
     let after_segment_overlap = kept_segment_overlap image after_segment_file c.in_ok-segment_overlap.ensures in
     let exit = err_from_is_err_and c.from_residual-in_err-section_address.result c.from_residual-in_err-section_address.ensures.1 in
-    rule_answer image rule.SectionAddress c.in_err-section_address.field-0.0 exit.0 c.from_residual-in_err-section_address.result exit.1 exit.2 (lit≤ tt) after_segment_overlap c.in_err-section_address.ensures
+    rule_answer image rule.SectionAddress c.in_err-section_address.field-0.0 exit.0 c.from_residual-in_err-section_address.result exit.1 exit.2 (lit≤ tt) after_segment_overlap
+    c.in_err-section_address.ensures
 
 pub returns-in_err-section_file : goal.returns-in_err-section_file
 returns-in_err-section_file c =
@@ -66,7 +68,8 @@ returns-in_err-section_relocs c =
     let after_section_address = kept_section_address image after_segment_overlap c.in_ok-section_address.ensures in
     let after_section_file = kept_section_file image after_section_address c.in_ok-section_file.ensures in
     let exit = err_from_is_err_and c.from_residual-in_err-section_relocs.result c.from_residual-in_err-section_relocs.ensures.1 in
-    rule_answer image rule.SectionRelocs c.in_err-section_relocs.field-0.0 exit.0 c.from_residual-in_err-section_relocs.result exit.1 exit.2 (lit≤ tt) after_section_file c.in_err-section_relocs.ensures
+    rule_answer image rule.SectionRelocs c.in_err-section_relocs.field-0.0 exit.0 c.from_residual-in_err-section_relocs.result exit.1 exit.2 (lit≤ tt) after_section_file
+    c.in_err-section_relocs.ensures
 
 pub returns-in_err-table_range : goal.returns-in_err-table_range
 returns-in_err-table_range c =
@@ -141,7 +144,8 @@ returns-in_err-indirect_index c =
     let after_symbol_name = kept_symbol_name image after_symbol_group c.in_ok-symbol_name.ensures in
     let after_symbol_section = kept_symbol_section image after_symbol_name c.in_ok-symbol_section.ensures in
     let exit = err_from_is_err_and c.from_residual-in_err-indirect_index.result c.from_residual-in_err-indirect_index.ensures.1 in
-    rule_answer image rule.IndirectIndex c.in_err-indirect_index.field-0.0 exit.0 c.from_residual-in_err-indirect_index.result exit.1 exit.2 (lit≤ tt) after_symbol_section c.in_err-indirect_index.ensures
+    rule_answer image rule.IndirectIndex c.in_err-indirect_index.field-0.0 exit.0 c.from_residual-in_err-indirect_index.result exit.1 exit.2 (lit≤ tt) after_symbol_section
+    c.in_err-indirect_index.ensures
 
 pub returns-in_err-entry : goal.returns-in_err-entry
 returns-in_err-entry c =

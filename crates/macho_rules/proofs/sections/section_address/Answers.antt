@@ -17,7 +17,8 @@ loop-segment-preserved c =
 pub returns-in_err-addresses_in : goal.returns-in_err-addresses_in
 returns-in_err-addresses_in c =
     let exit = err_from_is_err_and c.from_residual.result c.from_residual.ensures.1 in
-    sections_answer IsOutsideMemory by_address c.args.image.now _ c.in-Some.segment _ exit.0 c.in_err-addresses_in.field-0.0 c.from_residual.result exit.1 exit.2 c.segments-segment-items.ensures.opened c.loop-segment.invariant c.in-Some.ensures.steps c.in_err-addresses_in.ensures
+    sections_answer IsOutsideMemory by_address c.args.image.now _ c.in-Some.segment _ exit.0 c.in_err-addresses_in.field-0.0 c.from_residual.result exit.1 exit.2
+    c.segments-segment-items.ensures.opened c.loop-segment.invariant c.in-Some.ensures.steps c.in_err-addresses_in.ensures
 
 pub returns : goal.returns
 returns c = all_sections_kept IsOutsideMemory by_address c.args.image.now _ c.loop-segment.invariant c.in-None.ensures.steps.0

@@ -23,7 +23,8 @@ loop-segment-preserved c =
 pub returns-in_err-bytes_in : goal.returns-in_err-bytes_in
 returns-in_err-bytes_in c =
     let exit = err_from_is_err_and c.from_residual.result c.from_residual.ensures.1 in
-    sections_answer IsMisplaced by_file c.args.image.now _ c.in-Some.segment _ exit.0 c.in_err-bytes_in.field-0.0 c.from_residual.result exit.1 exit.2 c.bytes.ensures.opened c.loop-segment.invariant c.in-Some.ensures.steps c.in_err-bytes_in.ensures
+    sections_answer IsMisplaced by_file c.args.image.now _ c.in-Some.segment _ exit.0 c.in_err-bytes_in.field-0.0 c.from_residual.result exit.1 exit.2 c.bytes.ensures.opened
+    c.loop-segment.invariant c.in-Some.ensures.steps c.in_err-bytes_in.ensures
 
 pub returns : goal.returns
 returns c = all_sections_kept IsMisplaced by_file c.args.image.now _ c.loop-segment.invariant c.in-None.ensures.steps.0

@@ -29,8 +29,10 @@ returns-then-shares c commands are = (λ _. here, λ _. refl)
     here =
         let (address, in_one, in_other) = c.shares.ensures.0 c.if-shares.true in
         let supplied : Supplies c.args.segment.now.image c.args.segment.now.place address = (omega arith, omega arith) in
-        some_segment Shared c.args.image.now _ c.loop-earlier.invariant commands are c.in-Some.earlier _ c.in-Some.ensures.steps
-        (omega (arith, c.if-place.false, c.place.ensures, c.place-in-loop-earlier.ensures), (address, (omega arith, omega arith), subst (λ bytes. Supplies bytes c.args.segment.now.place address) same supplied))
+        some_segment Shared c.args.image.now _ c.loop-earlier.invariant commands are c.in-Some.earlier _ c.in-Some.ensures.steps (
+          omega (arith, c.if-place.false, c.place.ensures, c.place-in-loop-earlier.ensures),
+          (address, (omega arith, omega arith), subst (λ bytes. Supplies bytes c.args.segment.now.place address) same supplied),
+        )
 
 pub loop-earlier-preserved : goal.loop-earlier-preserved
 loop-earlier-preserved c =

@@ -23,7 +23,8 @@ pub loop-segment-preserved : goal.loop-segment-preserved
 loop-segment-preserved c =
     let same = segments_image OverlapsEarlier c.args.image.now _ c.in-Some.segment _ c.loop-segment.invariant c.in-Some.ensures.steps in
     segments_next OverlapsEarlier c.args.image.now _ c.in-Some.segment _ c.loop-segment.invariant c.in-Some.ensures.steps
-    (λ commands are broken. both_ways c.overlaps_earlier.result c.if-overlaps_earlier.false ((c.overlaps_earlier.ensures commands are).1 (subst (λ bytes. OverlapsEarlier bytes commands c.in-Some.segment.place) same broken)))
+    (λ commands are broken. both_ways c.overlaps_earlier.result c.if-overlaps_earlier.false
+    ((c.overlaps_earlier.ensures commands are).1 (subst (λ bytes. OverlapsEarlier bytes commands c.in-Some.segment.place) same broken)))
 
 pub returns : goal.returns
 returns c = segments_kept OverlapsEarlier by_overlap c.args.image.now _ c.loop-segment.invariant c.in-None.ensures.steps.0

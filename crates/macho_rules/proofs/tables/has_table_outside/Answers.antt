@@ -17,7 +17,8 @@ returns-then-is_outside c =
 
 pub loop-fields-preserved : goal.loop-fields-preserved
 loop-fields-preserved c =
-    none_further (bytes_of c.args.image) c.args.kind c.args.command c.args.tables.now c.loop-fields.fields-index _ c.loop-fields-test.true c.loop-fields.invariant (λ named. both_ways c.is_outside.result c.if-is_outside.false (c.is_outside.ensures.1 named))
+    none_further (bytes_of c.args.image) c.args.kind c.args.command c.args.tables.now c.loop-fields.fields-index _ c.loop-fields-test.true c.loop-fields.invariant
+    (λ named. both_ways c.is_outside.result c.if-is_outside.false (c.is_outside.ensures.1 named))
 
 pub returns : goal.returns
 returns c =

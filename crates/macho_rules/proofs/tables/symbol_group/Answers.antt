@@ -14,4 +14,5 @@ returns-then-has_group_past c =
 pub returns : goal.returns
 returns c =
     let table : IsDysymtab c.args.image.now (Some c.in-Some.dysymtab) = subst (IsDysymtab c.args.image.now) c.in-Some.is c.dysymtab.ensures in
-    groups_kept c.args.image.now c.in-Some.dysymtab c.symbol_count.result c.requires table c.symbol_count.ensures (λ past. both_ways c.has_group_past.result c.if-has_group_past.false (c.has_group_past.ensures.1 past))
+    groups_kept c.args.image.now c.in-Some.dysymtab c.symbol_count.result c.requires table c.symbol_count.ensures
+    (λ past. both_ways c.has_group_past.result c.if-has_group_past.false (c.has_group_past.ensures.1 past))
