@@ -12,7 +12,7 @@ use Rattle.macho_image.specs.declared.main_command.MainCommand.{MainCommand}
 use Rattle.macho_image.specs.Segment.{Structure, structure_at}
 use Rattle.macho_image.specs.Entry.{shows_start, address, entry_of}
 
--- the base that the segments give
+-- the base among the segments
 abbrev pub base_among : List Structure → Option ℕ
 base_among segments =
     option_map (λ s. vmaddr s.image s.place) (find (λ s. shows_start s.image s.place) segments)
@@ -30,7 +30,7 @@ pub base_seen : (image : List ℕ) (all : List Structure) (r : Option ℕ) → r
 base_seen image all r is (commands, are, same) =
     (commands, are, is ∙ (ap base_among same ∙ base_of_map image (segments_of image commands)))
 
--- a segment that shows the start gives the base
+-- a segment that shows the start is the base
 pub base_here : (s : Structure) (rest : List Structure) (b : Bool) → b ≡ true → b ≡ shows_start s.image s.place → base_among (s ∷ rest) ≡ Some (vmaddr s.image s.place)
 base_here s rest b is same =
     ap (λ t. option_map (λ (u : Structure). vmaddr u.image u.place) (cond t (Some s) (find (λ u. shows_start u.image u.place) rest))) (sym same ∙ is)

@@ -20,7 +20,7 @@ use Rattle.macho_image.proofs.Kept.{IsListed, AreAll, all_seen}
 segment_listed : IsListed loader.LC_SEGMENT_64 72
 segment_listed = (6, lit< tt, refl)
 
--- the records behind the structure of a segment are its sections
+-- the records after the structure of a segment are its sections
 records_are_sections : (image : List ℕ) (segment : ℕ) → command_kind image segment ≡ loader.LC_SEGMENT_64 → 72 ≤ command_size image segment → records_size image segment ≡ 80 * nsects image segment
 records_are_sections image segment is holds =
     ap (λ b. cond b (80 * record_count image segment 64) (cond (command_kind image segment == loader.LC_BUILD_VERSION) (8 * record_count image segment 20) 0)) (eq-eqb (command_kind image segment) loader.LC_SEGMENT_64 is)
@@ -49,7 +49,7 @@ pub segments_seen : (image : List ℕ) (all : List CommandView) → IsOpened ima
 segments_seen image all opened are =
     all_seen (λ c. structure_at image c.place) (structure_at image) image all loader.LC_SEGMENT_64 72 segment_listed (λ c here. refl) opened are
 
--- of segments the first lies inside the image, and so do the others
+-- where segments lie inside the image, the first does, and the others do
 pub first_segment : (image : List ℕ) (old rest : List CommandView) (c : CommandView) → old ≡ c ∷ rest → All (λ c. HoldsSegment image c.place) old → HoldsSegment image c.place
 first_segment image old rest c is hold = subst (All (λ v. HoldsSegment image v.place)) is hold 0 c (omega arith)
 

@@ -11,7 +11,7 @@ use Rattle.macho_image.specs.declared.symtab.Symtab.{Symtab}
 use Rattle.macho_image.specs.declared.dysymtab.Dysymtab.{Dysymtab}
 use Rattle.macho_image.specs.declared.symbol.Symbol.{Symbol}
 
--- where some are left, the first is the one at the place
+-- where some remain, the first is the one at the place
 items-step : (each place left : ℕ) → 0 < left → items_from each place left ≡ place ∷ items_from each (place + each) (left - 1)
 items-step each place zero some = absurd (omega arith)
 items-step each place (suc left) some = ap (λ n. place ∷ items_from each (place + each) n) (let e : left ≡ suc left - 1 = omega arith in e)
@@ -28,7 +28,7 @@ inside_all image start each count inside =
     let first : start + each * 0 ≡ start = omega arith in
     rw inside (items_counted start each 0 count ∙ ap (λ p. items_from each p count) first)
 
--- what is listed of the first command of a kind, where it was found
+-- what is listed of the first command of a kind, where there is one
 some_listed : {B : Type 0} (g : ℕ → B) (f : ℕ → List ℕ) (first : Option ℕ) (found : Option B) (t : B) (xs : List ℕ) → found ≡ option_map g first → found ≡ Some t → ((c : ℕ) → t ≡ g c → f c ≡ xs) → option_map_or f first [] ≡ xs
 some_listed g f None found t xs is some each = absurd (cc)
 some_listed g f (Some c) found t xs is some each = each c (same_Some t (g c) (sym some ∙ is))
@@ -59,7 +59,7 @@ indirects_seen image bytes found t same is some inside =
     let within : nat_le (t.indirectsymoff + 4 * t.nindirectsyms) (length image) ≡ true = ap (λ b. nat_le (t.indirectsymoff + 4 * t.nindirectsyms) (length b)) (sym same) ∙ inside in
     rw same (table_found (dysymtab_at image) (λ (s : Dysymtab). s.indirectsymoff) (λ (s : Dysymtab). s.nindirectsyms) (indirect_at image) 4 image loader.LC_DYSYMTAB found t is some within)
 
--- where some symbols are left, the first is the one at the place
+-- where some symbols remain, the first is the one at the place
 pub symbols-step : (image : List ℕ) (place left : ℕ) (s : Symbol) → 0 < left → s ≡ symbol_at image place → symbols_from image place left ≡ s ∷ symbols_from image (place + 16) (left - 1)
 symbols-step image place left s some is =
     ap (map (symbol_at image)) (items-step 16 place left some) ∙ ap (λ (x : Symbol). x ∷ symbols_from image (place + 16) (left - 1)) (sym is)

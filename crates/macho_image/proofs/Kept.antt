@@ -1,4 +1,4 @@
--- What the views of an opened image find of the commands of one kind.
+-- What the views of an opened image read of the commands of one kind.
 use Rattle.std.proofs.Common.{◌≡◌, ℕ, ◌+◌, ◌≤◌, List, [], ◌∷◌, length, map, All, Contains, Option, None, Some, inl, inr, sym, ap, ◌∙◌, subst, arith, slice_index_or}
 use Rattle.std.proofs.lemmas.Bool.{cases_lt}
 use Rattle.std.proofs.lemmas.List.Elements.{All-contains_itself, All-map}
@@ -14,7 +14,7 @@ use Rattle.macho_image.proofs.Opened.{opened_keeps}
 use Rattle.macho_image.proofs.OfOneKind.{left_of_kind-map, map-views, none_first, some_first}
 use Rattle.macho_image.proofs.ReadParts.{length-part}
 
--- a structure of so many bytes is listed for the kind
+-- the structure of the kind is listed, with this size
 abbrev pub IsListed : ℕ → ℕ → Type 0
 IsListed kind least = Contains structures (kind, least)
 
@@ -62,7 +62,7 @@ all_seen f g image all kind least listed reads is_opened (commands, are, is) =
     let kept : left_of_kind kind all ≡ map (command_at image) (of_kind image kind commands) = ap (left_of_kind kind) is ∙ left_of_kind-map image kind commands in
     (commands, are, ap (map f) kept ∙ map-views f g image (of_kind image kind commands) (λ k d less. reads _ (held image commands kind least _ listed opened are (All-contains_itself (of_kind image kind commands) k d less))))
 
--- so the first of them is found, or that there is none
+-- so the first of them is found, and none where there is none
 pub none_found : {B : Type 0} (f : CommandView → B) (g : ℕ → B) (image : List ℕ) (all : List CommandView) (kind least : ℕ) (r : Option B) → IsListed kind least → ((c : ℕ) → IsHeld image least c → f (command_at image c) ≡ g c) → IsOpened image → AreAll image all → left_of_kind kind all ≡ [] → r ≡ None → OfCommands image (λ commands. r ≡ option_map g (first_of_kind image kind commands))
 none_found f g image all kind least r listed reads is_opened are none is =
     let (commands, these, same) = all_seen f g image all kind least listed reads is_opened are in

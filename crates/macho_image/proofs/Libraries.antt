@@ -18,7 +18,7 @@ use Rattle.macho_image.proofs.OfOneKind.{keep_or_pass, map-views}
 use Rattle.macho_image.proofs.ReadParts.{word_in_part, length-part}
 use Rattle.macho_image.proofs.Names.{name_in_part, zero_in_part}
 
--- a kind whose structure has 24 bytes, behind which a name stands
+-- a kind whose structure has 24 bytes, with a name after it
 pub record NamesLibrary (kind : ℕ) : Type 0 where
   pub structure : IsListed kind 24
   pub name : Contains named_kinds (kind, 24)
@@ -108,7 +108,7 @@ libraries_seen image all is_opened (commands, are, is) =
     let here = all_held image commands (opened_keeps image is_opened) are in
     (commands, are, ap (map dylib_in) kept ∙ map-views dylib_in (dylib_at image) image (libraries image commands) (λ k d less. library_seen image _ (here k d less)))
 
--- of libraries the first holds its name, and so do the others
+-- where libraries hold their names, the first does, and the others do
 pub first_holds : (old rest : List CommandView) (c : CommandView) → old ≡ c ∷ rest → All HoldsLibrary old → HoldsLibrary c
 first_holds old rest c is hold = subst (All HoldsLibrary) is hold 0 c (omega arith)
 

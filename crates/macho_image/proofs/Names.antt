@@ -23,7 +23,7 @@ part_length bytes start len = length-take len (drop start bytes) ∙ ap (min len
 zero_at_first : (xs : List ℕ) (k : ℕ) → k < length xs → get_or xs k 0 ≡ 0 → position_or_len (λ b. b == 0) xs ≤ k
 zero_at_first xs k less is = elim (cases_lt k (position_or_len is_zero xs)) [ inr most ↦ most | inl before ↦ absurd (eqb-false (get_or xs k 0) 0 (fails_before_first is_zero xs k 0 before) is) ]
 
--- an item that is got from a list is one of it
+-- an item that slice_get returns is in the list
 got_at : (xs : List ℕ) (k x : ℕ) → slice_get xs k ≡ Some x → (k < length xs) × (slice_index xs k ≡ x)
 got_at [] k x e = absurd (cc)
 got_at (y ∷ ys) zero x e = (omega arith, cc)
@@ -43,7 +43,7 @@ name_ends bytes start z low at first =
     not_before : ((k : ℕ) → start ≤ k → k < z → slice_index bytes k ≢ 0) → (k : ℕ) → k < z - start → (get_or (drop start bytes) k 0 == 0) ≡ false
     not_before before k less = ne_eqb (get_or (drop start bytes) k 0) 0 (λ zero_here. before (start + k) (omega arith) (omega arith) (sym (get_or-drop start bytes k 0) ∙ zero_here))
 
--- of bytes that go on, a name that ends among the first of them is the same
+-- a name that ends in the first of the bytes is the same in all of them
 name_of_take : (xs : List ℕ) (n k : ℕ) → k < length (take n xs) → get_or (take n xs) k 0 ≡ 0 → take (position_or_len (λ b. b == 0) (take n xs)) (take n xs) ≡ take (position_or_len (λ b. b == 0) xs) xs
 name_of_take xs n k less is =
     let first : position_or_len is_zero (take n xs) ≤ k = zero_at_first (take n xs) k less is in
@@ -74,7 +74,7 @@ zero_in_part image place size offset within (z, low, high, inside, is) =
     let here : place + (z - place) ≡ z = omega arith in
     (z - place, omega arith, omega arith, omega arith, part_at image place size (z - place) (omega arith) ∙ (ap (slice_index image) here ∙ is))
 
--- a short name ends before the first zero byte of its 16, or has them all
+-- a short name ends before the first zero byte of its 16 bytes, or has all of them
 short_name_ends : (bytes : List ℕ) (start n : ℕ) → n ≤ 16 → start + 16 ≤ length bytes → ¬ HasZero bytes start (start + n) → (n < 16 → slice_index bytes (start + n) ≡ 0) → part start n bytes ≡ short_name bytes start
 short_name_ends bytes start n most inside first ends =
     let size : length (part start 16 bytes) ≡ min 16 (length bytes - start) = part_length bytes start 16 in

@@ -21,7 +21,7 @@ pub one_of_kind : (image : List ℕ) (kind end walked place : ℕ) → IsAt imag
 one_of_kind image kind end walked place at few less same commands are =
     let (k, inside, is) = is_command image commands walked place are at few in (k, place, inside, is, (less, same))
 
--- all commands stand inside the image
+-- all commands lie inside the image
 pub id_is_inside : (image commands : List ℕ) → IsWalked image → AreCommands image commands → HasKindBefore image commands 13 (length image) ↔ HasDylibId image commands
 id_is_inside image commands whole are = (λ h. (h.0, h.1, h.2, h.3, h.4.1), inside)
   where
@@ -37,7 +37,7 @@ has_id_by_search image commands size found same whole are search =
     let inside = id_is_inside image commands whole are in
     (λ t. inside.0 (before.0 t), λ has. before.1 (inside.1 has))
 
--- a library has no name of its own, or a program has one
+-- a library has no LC_ID_DYLIB, or a program has one
 abbrev pub HasWrongId : List ℕ → List ℕ → Type 0
 HasWrongId image commands = ((file_type image ≡ 6) × ¬ HasDylibId image commands) ⊎ ((file_type image ≡ 2) × HasDylibId image commands)
 

@@ -1,4 +1,4 @@
--- The commands of one kind, as a walk leaves them and as the image has them.
+-- The commands of one kind, as they remain in a walk and as the image has them.
 use Rattle.std.proofs.Common.{◌≡◌, ℕ, ◌≤◌, ◌==◌, List, [], ◌∷◌, length, map, cond, Bool, true, false, All, Some, None, refl, sym, ap, ap₂, ◌∙◌, subst, arith}
 use Rattle.std.specs.Prelude.{slice_get}
 use Rattle.std.specs.Option.{option_map}
@@ -22,7 +22,7 @@ map-views f g image [] each = refl
 map-views f g image (x ∷ xs) each =
     ap₂ (λ y ys. y ∷ ys) (each 0 x (omega arith)) (map-views f g image xs (All-tail (λ y. f (command_at image y) ≡ g y) x xs each))
 
--- the first of what g reads, where nothing and where something is left
+-- the first of what g reads, where nothing remains and where something does
 pub none_first : {B : Type 0} (f : CommandView → B) (g : ℕ → B) (vs : List CommandView) (xs : List ℕ) → map f vs ≡ map g xs → vs ≡ [] → None ≡ option_map g (slice_get xs 0)
 none_first f g vs [] same is = refl
 none_first f g vs (x ∷ xs) same is =
@@ -43,7 +43,7 @@ some_first f g vs rest (x ∷ xs) v b same is gives =
     let firsts : f v ∷ map f rest ≡ g x ∷ map g xs = sym (ap (map f) is) ∙ same in
     ap Some (gives ∙ ap (first_or (f v)) firsts)
 
--- of long commands the first is long, and so are the others
+-- where commands are long, the first is, and the others are
 pub first_long : (least : ℕ) (old rest : List CommandView) (c : CommandView) → old ≡ c ∷ rest → AreLong least old → least ≤ length c.bytes
 first_long least old rest c is long = subst (AreLong least) is long 0 c (omega arith)
 

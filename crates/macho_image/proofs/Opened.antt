@@ -1,11 +1,11 @@
--- What an image keeps once it is opened.
+-- What holds of an image once it is opened.
 use Rattle.std.proofs.Common.{◌≡◌, ℕ, List, None, inl, inr}
 use Rattle.macho_fields.specs.Image.{file_type}
 use Rattle.macho_image.specs.Opened.{IsOpened}
 use Rattle.macho_fields.specs.Layers.{NothingBreaks, BreaksOpening}
 use Rattle.macho_fields.proofs.Opened.{Keeps, keeps_rules}
 
--- what breaks none of the rules of opening may be opened
+-- bytes that break none of the rules of opening may be opened
 pub may_open : (image : List ℕ) → NothingBreaks (BreaksOpening image None) → IsOpened image
 unfolding IsOpened
 may_open image keeps = keeps
@@ -14,6 +14,6 @@ pub opened_keeps : (image : List ℕ) → IsOpened image → Keeps image
 unfolding IsOpened
 opened_keeps image opened = keeps_rules image None opened
 
--- an opened image that is not run is linked with
-pub library_else : (image : List ℕ) → IsOpened image → (file_type image ≡ 2 → ⊥) → file_type image ≡ 6
-library_else image opened other = elim ((opened_keeps image opened).kind) [ inl run ↦ absurd (other run) | inr linked ↦ linked ]
+-- an opened image that is no program is a dynamic library
+pub library_otherwise : (image : List ℕ) → IsOpened image → (file_type image ≡ 2 → ⊥) → file_type image ≡ 6
+library_otherwise image opened other = elim ((opened_keeps image opened).kind) [ inl run ↦ absurd (other run) | inr linked ↦ linked ]

@@ -1,4 +1,4 @@
--- The rules of an opening one after the other, in their order.
+-- The rules of an opening, one after another in their order.
 use Rattle.std.proofs.Common.{◌≡◌, ℕ, ◌≤◌, ◌<◌, List, Option, Result, Err, ap, ◌∙◌}
 use Rattle.macho_fields.specs.Image.{AreCommands}
 use Rattle.macho_fields.specs.Rules.{BreaksHeader, BreaksCommands}
@@ -15,11 +15,11 @@ module _ (image : List ℕ) (arch : Option (ℕ × ℕ)) where
   abbrev Kept : ℕ → Type 0
   Kept n = KeptBelow (BreaksOpening image arch) n
 
-  -- what a header keeps of a rule
+  -- a rule of the header that is not broken
   abbrev HeaderKeeps : Rule → Type 0
   HeaderKeeps r = (place : ℕ) → ¬ BreaksHeader image arch r place
 
-  -- what the commands keep of a rule
+  -- a rule of the commands that is not broken
   abbrev CommandsKeep : Rule → Type 0
   CommandsKeep r = (commands : List ℕ) → AreCommands image commands → (place : ℕ) → ¬ BreaksCommands image commands r place
 
@@ -50,14 +50,14 @@ module _ (image : List ℕ) (arch : Option (ℕ × ℕ)) where
   pub kept_name : IsWalked image → Kept 18 → CommandsKeep rule.Name → NothingBreaks (BreaksOpening image arch)
   kept_name walked below keeps = let (commands, are) = walked.commands in kept_all image arch (kept_by_commands image arch commands rule.Name (λ _ h. h) are below (keeps commands are))
 
-  -- the answer of a rule is that of the opening, where the rules before it are unbroken
-  pub header_answer : (r : Rule) (told b : Break) {T : Type 0} (answer : Result T Break) → answer ≡ Err b → b ≡ told → rank r < 19 → ((commands : List ℕ) (place : ℕ) → ¬ BreaksCommands image commands r place) → Kept (rank r)
-      → (told.rule ≡ r) × BreaksHeader image arch r told.place × ((place : ℕ) → BreaksHeader image arch r place → told.place ≤ place) → Decides (BreaksOpening image arch) answer
-  header_answer r told b answer is same early never below says =
-      decides_err (BreaksOpening image arch) r told answer (is ∙ ap Err same) below (opening_by_header image arch {T = ℕ} r (Err told) early never says)
+  -- where the rules before it are not broken, the answer of a rule is that of the opening
+  pub header_answer : (r : Rule) (found b : Break) {T : Type 0} (answer : Result T Break) → answer ≡ Err b → b ≡ found → rank r < 19 → ((commands : List ℕ) (place : ℕ) → ¬ BreaksCommands image commands r place) → Kept (rank r)
+      → (found.rule ≡ r) × BreaksHeader image arch r found.place × ((place : ℕ) → BreaksHeader image arch r place → found.place ≤ place) → Decides (BreaksOpening image arch) answer
+  header_answer r found b answer is same early never below says =
+      decides_err (BreaksOpening image arch) r found answer (is ∙ ap Err same) below (opening_by_header image arch {T = ℕ} r (Err found) early never says)
 
-  pub commands_answer : (r : Rule) (told b : Break) {T : Type 0} (answer : Result T Break) → answer ≡ Err b → b ≡ told → rank r < 19 → ((place : ℕ) → ¬ BreaksHeader image arch r place) → IsWalked image → Kept (rank r)
-      → ((commands : List ℕ) → AreCommands image commands → (told.rule ≡ r) × BreaksCommands image commands r told.place × ((place : ℕ) → BreaksCommands image commands r place → told.place ≤ place)) → Decides (BreaksOpening image arch) answer
-  commands_answer r told b answer is same early never walked below says =
+  pub commands_answer : (r : Rule) (found b : Break) {T : Type 0} (answer : Result T Break) → answer ≡ Err b → b ≡ found → rank r < 19 → ((place : ℕ) → ¬ BreaksHeader image arch r place) → IsWalked image → Kept (rank r)
+      → ((commands : List ℕ) → AreCommands image commands → (found.rule ≡ r) × BreaksCommands image commands r found.place × ((place : ℕ) → BreaksCommands image commands r place → found.place ≤ place)) → Decides (BreaksOpening image arch) answer
+  commands_answer r found b answer is same early never walked below says =
       let (commands, are) = walked.commands in
-      decides_err (BreaksOpening image arch) r told answer (is ∙ ap Err same) below (opening_by_commands image arch {T = ℕ} commands r (Err told) early never are (says commands are))
+      decides_err (BreaksOpening image arch) r found answer (is ∙ ap Err same) below (opening_by_commands image arch {T = ℕ} commands r (Err found) early never are (says commands are))

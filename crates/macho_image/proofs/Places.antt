@@ -1,4 +1,4 @@
--- Going over the commands of an image, one place after the other.
+-- The walk over the commands of an image, one place after another.
 use Rattle.std.proofs.Common.{◌≡◌, ℕ, suc, zero, ◌+◌, ◌≤◌, ◌<◌, List, None, [], ◌∷◌, ◌++◌, length, Contains, refl, sym, ◌∙◌, subst, arith, inl, inr, length-append}
 use Rattle.std.proofs.lemmas.Bool.{cases_lt, cases_order}
 use Rattle.std.proofs.lemmas.List.Elements.{All-contains}
@@ -11,7 +11,7 @@ use Rattle.macho_fields.proofs.Walks.{shorter_chain_goes_on, walk_breaks_once, c
 use Rattle.macho_fields.proofs.Chains.{places_above, commands_unique}
 use Rattle.macho_image.specs.Walked.{IsWalked}
 
--- so many commands stand before the place
+-- there are so many commands before the place
 pub record IsAt (image : List ℕ) (walked place : ℕ) : Type 0 where
   pub places : List ℕ
   pub count : length places ≡ walked
@@ -27,7 +27,7 @@ at_next image walked place at good = record {
   chain = follow_more image 32 at.places place at.chain good;
 }
 
--- the walk breaks at the first place where no command can stand, and at no other
+-- the walk breaks at the first place where no command can be, and at no other
 pub walk_breaks_at : (image : List ℕ) (walked place : ℕ) → IsAt image walked place → walked < command_count image → ¬ IsGood image place
     → BreaksHeader image None rule.CommandWalk place × ((other : ℕ) → BreaksHeader image None rule.CommandWalk other → place ≤ other)
 walk_breaks_at image walked place at less bad =
@@ -37,7 +37,7 @@ walk_breaks_at image walked place at less bad =
 pub walk_ends : (image : List ℕ) (walked place : ℕ) → IsAt image walked place → walked ≡ command_count image → (other : ℕ) → ¬ BreaksHeader image None rule.CommandWalk other
 walk_ends image walked place at all other = commands_keep_walk image at.places None other (at.count ∙ all, place, at.chain)
 
--- before the last command of an image another can stand
+-- where commands remain, there is one at the place
 pub good_at : (image : List ℕ) (walked place : ℕ) → IsWalked image → IsAt image walked place → walked < command_count image → IsGood image place
 good_at image walked place whole at less =
     let (commands, (count, next, chain)) = whole.commands in
@@ -75,12 +75,12 @@ ends_above : (image : List ℕ) (start : ℕ) (xs : List ℕ) (m : ℕ) → Foll
 ends_above image start [] m f = omega arith
 ends_above image start (x ∷ xs) m f = let rest = ends_above image (x + command_size image x) xs m f.2 in omega (arith, f.0)
 
-ends_behind : (image : List ℕ) (start : ℕ) (xs : List ℕ) (m p : ℕ) → Follow image start xs m → Contains xs p → p < m
-ends_behind image start [] m p f (k, inside, is) = absurd (omega arith)
-ends_behind image start (x ∷ xs) m p f (zero, inside, is) =
+ends_after : (image : List ℕ) (start : ℕ) (xs : List ℕ) (m p : ℕ) → Follow image start xs m → Contains xs p → p < m
+ends_after image start [] m p f (k, inside, is) = absurd (omega arith)
+ends_after image start (x ∷ xs) m p f (zero, inside, is) =
     let rest = ends_above image (x + command_size image x) xs m f.2 in
     let least : 8 ≤ command_size image x = f.1.least in omega arith
-ends_behind image start (x ∷ xs) m p f (suc k, inside, is) = ends_behind image (x + command_size image x) xs m p f.2 (k, omega arith, is)
+ends_after image start (x ∷ xs) m p f (suc k, inside, is) = ends_after image (x + command_size image x) xs m p f.2 (k, omega arith, is)
 
 -- no command before the place has P
 abbrev pub NoneBefore : List ℕ → (List ℕ → ℕ → Type 0) → ℕ → Type 0
@@ -99,11 +99,11 @@ none_next image P walked place at few none here commands are p has less is =
           absurd (omega arith)
     ]
 
--- all commands stand before the place behind them
+-- all commands lie before the place after them
 pub none_at_all : (image : List ℕ) (P : List ℕ → ℕ → Type 0) (walked place : ℕ) → IsAt image walked place → walked ≡ command_count image → NoneBefore image P place → (commands : List ℕ) → AreCommands image commands → (p : ℕ) → Contains commands p → ¬ P commands p
 none_at_all image P walked place at all none commands are p has =
     let same : at.places ≡ commands = commands_unique image at.places commands (at.count ∙ all, place, at.chain) are in
-    none commands are p has (ends_behind image 32 at.places place p at.chain (subst (λ cs. Contains cs p) (sym same) has))
+    none commands are p has (ends_after image 32 at.places place p at.chain (subst (λ cs. Contains cs p) (sym same) has))
 
 -- the first command that breaks a rule is its least place
 pub rule_broken : (image : List ℕ) (r : Rule) (place : ℕ) → ((commands : List ℕ) (p : ℕ) → BreaksCommands image commands r p → Contains commands p) → NoneBefore image (λ commands. BreaksCommands image commands r) place → ((commands : List ℕ) → AreCommands image commands → BreaksCommands image commands r place)
@@ -117,7 +117,7 @@ pub rule_kept : (image : List ℕ) (r : Rule) (walked place : ℕ) → ((command
     → (commands : List ℕ) → AreCommands image commands → (p : ℕ) → ¬ BreaksCommands image commands r p
 rule_kept image r walked place among at all none commands are p broken = none_at_all image (λ cs. BreaksCommands image cs r) walked place at all none commands are p (among commands p broken) broken
 
--- So many commands stand before the place, and none of them has P.
+-- There are so many commands before the place, and none of them has P.
 pub record IsOver (image : List ℕ) (P : List ℕ → ℕ → Type 0) (walked place : ℕ) : Type 0 where
   pub at : IsAt image walked place
   pub none : NoneBefore image P place
@@ -126,11 +126,11 @@ pub over_first : (image : List ℕ) (P : List ℕ → ℕ → Type 0) → IsOver
 over_first image P = record { at = at_first image; none = none_first image P }
 
 pub over_next : (image : List ℕ) (P : List ℕ → ℕ → Type 0) (walked place next : ℕ) → next ≡ place + command_size image place → IsOver image P walked place → walked < command_count image → IsGood image place → ((commands : List ℕ) → AreCommands image commands → ¬ P commands place) → IsOver image P (walked + 1) next
-over_next image P walked place next behind over less good here = subst (IsOver image P (walked + 1)) (sym behind) after
+over_next image P walked place next moved over less good here = subst (IsOver image P (walked + 1)) (sym moved) after
   where
     after : IsOver image P (walked + 1) (place + command_size image place)
     after = record { at = at_next image walked place over.at good; none = none_next image P walked place over.at less over.none here }
 
--- what a rule says of commands that stand there
+-- what a rule says of commands that are there
 abbrev pub Breaking : List ℕ → Rule → List ℕ → ℕ → Type 0
 Breaking image r commands place = BreaksCommands image commands r place

@@ -1,4 +1,4 @@
--- An iterator that is seen as the list of what it has left comes nearer its end with each item.
+-- An iterator whose view is the list of what remains comes nearer its end with each item.
 use Rattle.std.proofs.Common.{◌≡◌, List, ◌∷◌, length, Some, ap, arith}
 use Rattle.std.specs.Prelude.{⊤}
 use Rattle.std.specs.Iterator.{MakesProgress, item_count}

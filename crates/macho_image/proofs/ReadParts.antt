@@ -4,7 +4,7 @@ use Rattle.std.proofs.lemmas.List.{drop-take, drop-drop, take-take, get_or-take,
 use Rattle.macho_fields.specs.Field.{part}
 use Rattle.macho_fields.specs.Image.{word, long}
 
--- the number in so many bytes from place i on, the lowest first
+-- the number in the bytes from place i on, the lowest first
 abbrev low_first : ℕ → ℕ → List ℕ → ℕ
 low_first i zero xs = 0
 low_first i (suc width) xs = slice_index xs i + 256 * low_first (suc i) width xs

@@ -1,4 +1,4 @@
--- What is read of the builds, the entry point and the number of an opened image.
+-- What is read of the builds, the entry point and the UUID of an opened image.
 use Rattle.std.proofs.Common.{◌≡◌, ℕ, ◌+◌, ◌≤◌, List, refl, ap, ap₂, ◌∙◌, arith, lit<}
 use Rattle.macho_fields.specs.Field.{part}
 use Rattle.macho_fields.specs.Image.{command_size, word, long}

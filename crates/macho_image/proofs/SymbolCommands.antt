@@ -21,11 +21,11 @@ symtab_listed = (0, lit< tt, refl)
 pub dysymtab_listed : IsListed loader.LC_DYSYMTAB 80
 dysymtab_listed = (1, lit< tt, refl)
 
--- lists with the same first item and the same others
+-- lists with the same first item and the same rest
 pub both : {x y : ℕ} {xs ys : List ℕ} → x ≡ y → xs ≡ ys → x ∷ xs ≡ y ∷ ys
 both first others = ap₂ (λ (a : ℕ) (rest : List ℕ). a ∷ rest) first others
 
--- words of a command that stand at these offsets in it
+-- the words at these offsets in a command
 words_seen : (image : List ℕ) (c size : ℕ) (offsets : List ℕ) → All (λ o. o + 4 ≤ size) offsets → map (word (part c size image)) offsets ≡ map (λ o. word image (c + o)) offsets
 words_seen image c size [] fit = refl
 words_seen image c size (o ∷ os) fit =

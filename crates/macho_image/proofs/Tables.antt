@@ -1,4 +1,4 @@
--- What a table of kinds says: the first entry of a kind is its only one.
+-- The entries of a table of kinds: the first entry of a kind is its only one.
 use Rattle.std.proofs.Common.{◌≡◌, ◌==◌, ◌&&◌, ℕ, suc, zero, ◌+◌, ◌≤◌, ◌<◌, ◌⊎◌, ◌↔◌, Bool, IsTrue, true, not, List, [], ◌∷◌, Any, Some, None, refl, sym, ◌∙◌, subst, arith, inl, inr, ⊎_elim}
 use Rattle.std.specs.Prelude.{nat_le}
 use Rattle.std.specs.List.{list_any, list_all}
@@ -51,7 +51,7 @@ number_entry Q k n (e ∷ es) some is =
       | inr (other, skip) ↦ any_later (λ (e : ℕ × ℕ). (e.0 ≡ k) × Q e.1) e es (number_entry Q k n es (sym skip ∙ some) is)
     ]
 
--- what an entry of the kind says, its number says
+-- what holds of the entry of a kind holds of its number
 pub entry_number : (Q : ℕ → Type 0) (k n : ℕ) (table : List (ℕ × ℕ)) → is_distinct table ≡ true → number_for k table ≡ Some n → HasEntry Q k table → Q n
 entry_number Q k n [] distinct some any = absurd (none-some n some)
 entry_number Q k n (e ∷ es) distinct some any =

@@ -4,7 +4,7 @@ use Rattle.std.proofs.lemmas.List.Elements.{All-tail}
 use Rattle.macho_fields.specs.Image.{command_size, command_count, IsGood, Follow, AreCommands}
 use Rattle.macho_image.specs.Command.{CommandView, command_at, places_from, commands_left, CanWalk}
 
--- where some are left, the first is the one at the place
+-- where some remain, the first is the one at the place
 pub places-step : (image : List ℕ) (place left : ℕ) → 0 < left → places_from image place left ≡ place ∷ places_from image (place + command_size image place) (left - 1)
 places-step image place zero some = absurd (omega arith)
 places-step image place (suc left) some = ap (λ n. place ∷ places_from image (place + command_size image place) n) (let e : left ≡ suc left - 1 = omega arith in e)

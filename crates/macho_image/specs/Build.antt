@@ -1,4 +1,4 @@
--- The builds that an image is for. (mach-o/loader.h: build_version_command)
+-- The platforms that an image is built for. (mach-o/loader.h: build_version_command)
 use Rattle.std.specs.Prelude.{ℕ, ◌+◌, List, map}
 use Rattle.macho_fields.specs.Image.{word}
 use Rattle.macho_fields.specs.declared.header.loader.TheConstants as loader

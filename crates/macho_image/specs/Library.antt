@@ -8,11 +8,11 @@ use Rattle.macho_fields.specs.declared.header.loader.TheConstants as loader
 use Rattle.macho_image.specs.Command.{CommandView}
 use Rattle.macho_image.specs.declared.library.Dylib.{Dylib}
 
--- the bytes from a place on, up to the first zero byte
+-- the bytes from a place up to the first zero byte
 abbrev pub name_from : List ℕ → ℕ → List ℕ
 name_from bytes start = before_first (λ b. b == 0) (drop start bytes)
 
--- the kinds of command that name a library
+-- the values of cmd of the commands that name a library
 abbrev pub library_kinds : List ℕ
 library_kinds =
     loader.LC_LOAD_DYLIB ∷ loader.LC_ID_DYLIB ∷ loader.LC_LAZY_LOAD_DYLIB
@@ -25,7 +25,7 @@ is_library cmd = list_any (λ kind. kind == cmd) library_kinds
 abbrev pub libraries : List ℕ → List ℕ → List ℕ
 libraries image commands = filter (λ command. is_library (command_kind image command)) commands
 
--- a library: its command, the name, and two versions
+-- a library: the place and the cmd of its command, its name and two versions
 pub record DylibView : Type 0 where
   pub place : ℕ
   pub cmd : ℕ

@@ -1,4 +1,4 @@
--- What every opened image keeps.
+-- What holds of every opened image.
 use Rattle.std.specs.Prelude.{ℕ, List, None}
 use Rattle.macho_fields.specs.Layers.{NothingBreaks, BreaksOpening}
 

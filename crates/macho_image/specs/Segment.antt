@@ -1,5 +1,5 @@
--- The segments of an opened image, and their sections, each seen as a structure at a place of the
--- image. (mach-o/loader.h: segment_command_64, section_64)
+-- The segments of an opened image, and their sections, each as a structure at a place of the image.
+-- (mach-o/loader.h: segment_command_64, section_64)
 use Rattle.std.specs.Prelude.{ℕ, zero, suc, ◌+◌, ◌*◌, ◌≤◌, ◌==◌, List, [], ◌∷◌, map, length, All}
 use Rattle.std.specs.List.{before_first}
 use Rattle.macho_fields.specs.Field.{part}
@@ -15,7 +15,7 @@ pub record Structure : Type 0 where
 abbrev pub structure_at : List ℕ → ℕ → Structure
 structure_at image place = record { image = image; place = place }
 
--- a name in 16 bytes, which ends before the first zero byte where there is one
+-- a name in 16 bytes, which ends before the first zero byte, where there is one
 abbrev pub short_name : List ℕ → ℕ → List ℕ
 short_name image place = before_first (λ b. b == 0) (part place 16 image)
 
@@ -35,7 +35,7 @@ HoldsSegment image segment =
 abbrev pub HoldsSection : List ℕ → ℕ → Type 0
 HoldsSection image section = section + loader.SECTION_64_SIZE ≤ length image
 
--- the segments among the commands that are left
+-- the segments among the commands that remain
 abbrev pub segments_left : List ℕ → List CommandView → List Structure
 segments_left image commands =
     map (λ c. structure_at image c.place) (left_of_kind loader.LC_SEGMENT_64 commands)
@@ -45,7 +45,7 @@ abbrev pub HoldSegments : List ℕ → List CommandView → Type 0
 HoldSegments image commands =
     All (λ c. HoldsSegment image c.place) (left_of_kind loader.LC_SEGMENT_64 commands)
 
--- so many sections from a place on, one behind the other
+-- `left` sections from a place on, one after another
 abbrev pub sections_from : List ℕ → ℕ → ℕ → List Structure
 sections_from image place zero = []
 sections_from image place (suc left) =

@@ -1,4 +1,4 @@
--- The commands of which an image has one at most. (mach-o/loader.h: uuid_command,
+-- Commands of which an image has at most one. (mach-o/loader.h: uuid_command,
 -- entry_point_command)
 use Rattle.std.specs.Prelude.{ℕ, ◌+◌, List}
 use Rattle.macho_fields.specs.Field.{part}

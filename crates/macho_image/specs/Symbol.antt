@@ -80,7 +80,7 @@ dysymtab_in c = record {
   nlocrel = word c.bytes 76;
 }
 
--- the places of the items of a table that lies inside the image, and none of one that does not
+-- the places of the items of a table, where it lies inside the image, and none otherwise
 abbrev pub items_inside : List ℕ → ℕ → ℕ → ℕ → List ℕ
 items_inside image start each count =
     if nat_le (start + each * count) (length image)
@@ -113,31 +113,30 @@ indirects_of image commands =
 abbrev pub indirect_at : List ℕ → ℕ → Indirect
 indirect_at image entry = record { place = entry; value = word image entry }
 
--- the symbol table's strings lie inside the image, and one that ends there begins at strx, which
--- is not 0
+-- strx is not 0, the strings of LC_SYMTAB lie inside the image, and the one at strx ends in them
 abbrev pub HasName : List ℕ → List ℕ → ℕ → Type 0
 HasName image commands strx =
     (strx ≢ 0) × IsSomeAnd (first_of_kind image loader.LC_SYMTAB commands) (λ symtab.
     (stroff image symtab + strsize image symtab ≤ length image)
     × HasZero image (stroff image symtab + strx) (stroff image symtab + strsize image symtab))
 
--- the name that begins at strx of the strings: the bytes up to the first zero byte
+-- the name at strx in the strings: the bytes up to the first zero byte
 abbrev pub IsNameAt : List ℕ → List ℕ → ℕ → List ℕ → Type 0
 IsNameAt image commands strx name =
     IsSomeAnd (first_of_kind image loader.LC_SYMTAB commands) (λ symtab.
     name ≡ before_first (λ b. b == 0) (drop (stroff image symtab + strx) image))
 
--- strings of this size lie inside the image, and a name that begins at strx of them ends in them
+-- strings of this size lie inside the image, and the name at strx ends in them
 abbrev pub EndsInStrings : List ℕ → ℕ → ℕ → ℕ → Type 0
 EndsInStrings image start size strx =
     (start + size ≤ length image) × HasZero image (start + strx) (start + size)
 
--- the places of so many items of a table, from that of the first of them on
+-- the places of `left` items of a table, of which the first is at `place`
 abbrev pub items_from : ℕ → ℕ → ℕ → List ℕ
 items_from each place zero = []
 items_from each place (suc left) = place ∷ items_from each (place + each) left
 
--- what an iterator has left: so many symbols, or indirect entries, from a place on
+-- what remains in an iterator: `left` symbols, or indirect entries, from a place on
 abbrev pub symbols_from : List ℕ → ℕ → ℕ → List Symbol
 symbols_from image place left = map (symbol_at image) (items_from nlist.NLIST_64_SIZE place left)
 

@@ -1,4 +1,4 @@
-//! The builds that an image is for. (`mach-o/loader.h`: `build_version_command`)
+//! The platforms that an image is built for. (`mach-o/loader.h`: `build_version_command`)
 
 ghost use Rattle.std.specs.Prelude.{◌≡◌, ◌≤◌, length};
 ghost use Rattle.macho_image.specs.Command.{command_of};
@@ -10,20 +10,22 @@ use macho_fields::Bytes;
 use macho_fields::header::loader::LC_BUILD_VERSION;
 use std::marker::Model;
 
-/// A platform, and the versions of it that the image is built for.
+/// An `LC_BUILD_VERSION` command: a platform and its versions. (`build_version_command`)
+///
+/// A version is X.Y.Z in the form `xxxx.yy.zz`, 16, 8 and 8 bits.
 #[derive(Clone, Copy, Debug, PartialEq, Eq)]
 pub struct Build {
     /// Where its command begins in the image.
     pub place: u64,
-    /// The platform.
+    /// The platform: one of the `PLATFORM_` numbers, or any other.
     pub platform: u32,
-    /// The least version of the platform.
+    /// The least version of the platform that the image runs on.
     pub minos: u32,
-    /// The version of the headers that the image is built with.
+    /// The version of the SDK that the image is built with.
     pub sdk: u32,
 }
 
-/// The builds of an image that are left, in the order of the commands.
+/// The builds of an image that remain, in the order of the commands.
 #[derive(Drop)]
 pub struct Builds<'a> {
     commands: Commands<'a>,
@@ -65,7 +67,7 @@ impl<'a> Image<'a> {
     ghost use Rattle.macho_image.specs.Command.{OfCommands};
     ghost use Rattle.macho_image.specs.Build.{build_at};
 
-    /// The builds that the image is for, in the order of the commands.
+    /// The `LC_BUILD_VERSION` commands, in the order of the commands.
     pub fn builds(&self) -> Builds<'a>
         ensures { OfCommands self.now (λ commands.
             result ≡ map (build_at self.now) (of_kind self.now LC_BUILD_VERSION commands)) }
@@ -79,7 +81,7 @@ impl<'a> Image<'a> {
 /// The size in bytes of `build_version_command`.
 const STRUCTURE_SIZE: u64 = 24;
 
-// Where the fields stand in the command.
+// The offsets of the fields in `build_version_command`.
 const PLATFORM: u64 = 8;
 
 const MINOS: u64 = 12;

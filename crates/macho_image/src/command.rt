@@ -1,4 +1,4 @@
-//! The load commands of an opened image, one behind the other. (`mach-o/loader.h`: `load_command`)
+//! The load commands of an opened image, one after another. (`mach-o/loader.h`: `load_command`)
 
 ghost use Rattle.std.specs.Prelude.{◌≡◌, ◌+◌, ◌≤◌, length};
 ghost use Rattle.macho_fields.specs.Bytes.{bytes_of};
@@ -8,20 +8,20 @@ ghost use Rattle.macho_image.specs.Command.{command_of, command_at};
 use macho_fields::{Bytes, Order, Span};
 use std::marker::Model;
 
-/// A load command.
+/// A load command. (`load_command`)
 #[derive(Clone, Copy, Debug)]
 pub struct Command<'a> {
     /// Where it begins in the image.
     pub place: u64,
     /// Its kind: one of the `LC_` numbers, or any other.
     pub cmd: u32,
-    /// How many bytes it has.
+    /// Its `cmdsize`: its size in bytes.
     pub size: u32,
-    /// Its bytes, which are not copied.
+    /// Its bytes, `cmd` and `cmdsize` included, borrowed from the image.
     pub bytes: &'a [u8],
 }
 
-/// The commands of an image that are left, in order.
+/// The commands of an image that remain, in the order of the file.
 #[derive(Drop)]
 pub struct Commands<'a> {
     pub(crate) image: Bytes<'a>,
@@ -66,7 +66,7 @@ impl<'a> Commands<'a> {
     ghost use Rattle.std.specs.Iterator.{YieldsFirstBy};
     ghost use Rattle.macho_image.specs.Command.{command_of, left_of_kind};
 
-    /// The next command of the kind `wanted`. Those before it are passed over.
+    /// The next command whose `cmd` is `wanted`. The commands before it are skipped.
     pub(crate) fn next_of_kind(&mut self, wanted: u32) -> Option<Command<'a>>
         ensures { YieldsFirstBy command_of (left_of_kind wanted) self.old result self.new }
     {
@@ -79,7 +79,7 @@ impl<'a> Commands<'a> {
     }
 }
 
-/// The command that stands at `place`.
+/// The command at `place`.
 fn command_from(image: Bytes, place: u64) -> Command
     requires good { IsGood (bytes_of image) place }
     requires inside { commands_end (bytes_of image) ≤ length (bytes_of image) }
@@ -98,10 +98,10 @@ fn command_from(image: Bytes, place: u64) -> Command
     }
 }
 
-/// Where the field `cmdsize` stands in a command.
+/// The offset of `cmdsize` in a command.
 pub(crate) const COMMAND_SIZE: u64 = 4;
 
-/// The field of 32 bits at `place`.
+/// The 32-bit field at `place`.
 pub(crate) fn word_at(bytes: Bytes, place: u64) -> u32
     requires { place + 4 ≤ length (bytes_of bytes) }
     ensures { result ≡ word (bytes_of bytes.entry) place }
@@ -109,7 +109,7 @@ pub(crate) fn word_at(bytes: Bytes, place: u64) -> u32
     bytes.u32_at(Order::Little, place).unwrap()
 }
 
-/// The field of 64 bits at `place`.
+/// The 64-bit field at `place`.
 pub(crate) fn long_at(bytes: Bytes, place: u64) -> u64
     requires { place + 8 ≤ length (bytes_of bytes) }
     ensures { result ≡ long (bytes_of bytes.entry) place }
@@ -117,7 +117,7 @@ pub(crate) fn long_at(bytes: Bytes, place: u64) -> u64
     bytes.u64_at(Order::Little, place).unwrap()
 }
 
-/// The field of 32 bits, `offset` bytes behind the start of a structure.
+/// The 32-bit field at `offset` in the structure that begins at `structure`.
 pub(crate) fn word_in(image: Bytes, structure: u64, offset: u64) -> u32
     requires { structure + offset + 4 ≤ length (bytes_of image) }
     ensures { result ≡ word (bytes_of image.entry) (structure + offset) }
@@ -125,7 +125,7 @@ pub(crate) fn word_in(image: Bytes, structure: u64, offset: u64) -> u32
     word_at(image, structure + offset)
 }
 
-/// The field of 64 bits, `offset` bytes behind the start of a structure.
+/// The 64-bit field at `offset` in the structure that begins at `structure`.
 pub(crate) fn long_in(image: Bytes, structure: u64, offset: u64) -> u64
     requires { structure + offset + 8 ≤ length (bytes_of image) }
     ensures { result ≡ long (bytes_of image.entry) (structure + offset) }

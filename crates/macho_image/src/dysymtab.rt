@@ -1,4 +1,4 @@
-//! The groups and tables of the dynamic symbols of an opened image. (`mach-o/loader.h`:
+//! The groups of the symbol table and the tables for the dynamic linker. (`mach-o/loader.h`:
 //! `dysymtab_command`)
 
 ghost use Rattle.std.specs.Prelude.{◌≡◌, ◌+◌, ◌≤◌, length};
@@ -12,46 +12,48 @@ use crate::image::Image;
 use macho_fields::Bytes;
 use macho_fields::header::loader::LC_DYSYMTAB;
 
-/// The three groups of the symbols, each a first index and a number, and the tables beside them.
+/// The `LC_DYSYMTAB` command: three groups of symbols, each a first index in the symbol table and a
+/// number of symbols, and six tables, each an offset in bytes and a number of entries.
+/// (`dysymtab_command`)
 #[derive(Clone, Copy, Debug, PartialEq, Eq)]
 pub struct Dysymtab {
     /// Where its command begins in the image.
     pub place: u64,
     /// The index of the first local symbol.
     pub ilocalsym: u64,
-    /// How many local symbols there are.
+    /// The number of local symbols.
     pub nlocalsym: u64,
     /// The index of the first defined external symbol.
     pub iextdefsym: u64,
-    /// How many defined external symbols there are.
+    /// The number of defined external symbols.
     pub nextdefsym: u64,
     /// The index of the first undefined symbol.
     pub iundefsym: u64,
-    /// How many undefined symbols there are.
+    /// The number of undefined symbols.
     pub nundefsym: u64,
     /// Where the table of contents begins in the image.
     pub tocoff: u64,
-    /// How many entries the table of contents has.
+    /// The number of entries of the table of contents.
     pub ntoc: u64,
     /// Where the table of modules begins in the image.
     pub modtaboff: u64,
-    /// How many modules there are.
+    /// The number of modules.
     pub nmodtab: u64,
     /// Where the table of referenced symbols begins in the image.
     pub extrefsymoff: u64,
-    /// How many referenced symbols there are.
+    /// The number of referenced symbols.
     pub nextrefsyms: u64,
     /// Where the indirect entries begin in the image.
     pub indirectsymoff: u64,
-    /// How many indirect entries there are.
+    /// The number of indirect entries.
     pub nindirectsyms: u64,
     /// Where the external relocations begin in the image.
     pub extreloff: u64,
-    /// How many external relocations there are.
+    /// The number of external relocations.
     pub nextrel: u64,
     /// Where the local relocations begin in the image.
     pub locreloff: u64,
-    /// How many local relocations there are.
+    /// The number of local relocations.
     pub nlocrel: u64,
 }
 
@@ -61,7 +63,7 @@ impl<'a> Image<'a> {
     ghost use Rattle.macho_image.specs.Command.{OfCommands, first_of_kind};
     ghost use Rattle.macho_image.specs.Symbol.{dysymtab_at};
 
-    /// The dynamic symbols, or `None` where the image has no `LC_DYSYMTAB`.
+    /// The `LC_DYSYMTAB` command, or `None` where the image has none.
     pub fn dysymtab(&self) -> Option<Dysymtab>
         ensures { OfCommands self.now (λ commands.
             result ≡ option_map (dysymtab_at self.now) (first_of_kind self.now LC_DYSYMTAB commands)) }
@@ -71,7 +73,7 @@ impl<'a> Image<'a> {
     }
 }
 
-// Where the fields stand in the command.
+// The offsets of the fields in `dysymtab_command`.
 const ILOCALSYM: u64 = 8;
 
 const NLOCALSYM: u64 = 12;
@@ -136,7 +138,7 @@ fn dysymtab_from(command: Command) -> Dysymtab
     }
 }
 
-/// The field of 32 bits at `place`, as a number of 64 bits.
+/// The 32-bit field at `place`, as a 64-bit number.
 fn field_at(bytes: Bytes, place: u64) -> u64
     requires { place + 4 ≤ length (bytes_of bytes) }
     ensures { result ≡ word (bytes_of bytes.entry) place }

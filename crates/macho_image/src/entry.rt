@@ -1,5 +1,5 @@
-//! Where an image and its program begin in memory. (`mach-o/loader.h`: `segment_command_64`,
-//! `entry_point_command`)
+//! The base address of an image and the address of its entry point. (`mach-o/loader.h`:
+//! `segment_command_64`, `entry_point_command`)
 
 ghost use Rattle.std.specs.Prelude.{◌≡◌};
 ghost use Rattle.macho_image.specs.Entry.{shows_start};
@@ -13,8 +13,8 @@ impl<'a> Image<'a> {
     ghost use Rattle.macho_image.specs.Command.{OfCommands};
     ghost use Rattle.macho_image.specs.Entry.{entry_of};
 
-    /// The address at which the image is linked to begin: that of the first segment that is mapped
-    /// and shows the first bytes of the file. `None` where no segment does.
+    /// The base address of the image: the `vmaddr` of the first segment with a `fileoff` of 0 whose
+    /// `filesize` and `vmsize` are not 0. `None` where there is no such segment.
     pub fn base(&self) -> Option<u64>
         ensures { OfCommands self.now (λ commands. result ≡ base_of self.now commands) }
     {
@@ -26,9 +26,8 @@ impl<'a> Image<'a> {
         None
     }
 
-    /// The address at which the program is linked to begin: the `entryoff` of `LC_MAIN`, counted
-    /// from the base. `None` where the image has no `LC_MAIN` or no base, or where the sum does not
-    /// fit 64 bits.
+    /// The address of the entry point: the base address and the `entryoff` of `LC_MAIN`. `None`
+    /// where the image has no `LC_MAIN` or no base, and where the sum is 2^64 or more.
     pub fn entry(&self) -> Option<u64>
         ensures { OfCommands self.now (λ commands. result ≡ entry_of self.now commands) }
     {
@@ -38,7 +37,7 @@ impl<'a> Image<'a> {
     }
 }
 
-/// Whether `segment` is mapped and shows the first bytes of the file.
+/// Whether `segment` is mapped, and begins with the first bytes of the image.
 fn shows_start(segment: &Segment) -> bool
     ensures { result ≡ shows_start segment.now.image segment.now.place }
 {

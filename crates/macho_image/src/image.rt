@@ -10,18 +10,18 @@ use macho_fields::header::loader::{MACH_HEADER_64_SIZE, MH_EXECUTE};
 use macho_fields::{Break, Bytes};
 use std::marker::Model;
 
-/// The bytes of a 64-bit image whose header, chain of commands and command names keep their rules.
+/// The bytes of a 64-bit image that breaks no rule of `Image::open`.
 #[derive(Drop)]
 pub struct Image<'a> {
     bytes: Bytes<'a>,
 }
 
-/// What an image is for.
+/// The type of an image. (`mach_header_64.filetype`)
 #[derive(Clone, Copy, Debug, PartialEq, Eq)]
 pub enum Kind {
-    /// To be run as a program.
+    /// A program. (`MH_EXECUTE`)
     Execute,
-    /// To be linked with.
+    /// A dynamic library. (`MH_DYLIB`)
     Dylib,
 }
 
@@ -47,9 +47,12 @@ impl<'a> Image<'a> {
     ghost use Rattle.macho_image.specs.Header.{IsKind};
     ghost use Rattle.macho_image.specs.Opened.{IsOpened};
 
-    /// The image that `bytes` are, or the first of the rules of its header and its commands that
-    /// they break. The magic number is not looked at: any bytes are judged as a 64-bit image.
-    /// `arch` is the processor, by type and subtype, that a universal file names for them.
+    /// Opens `bytes` as a 64-bit image. `arch` is the `cputype` and the `cpusubtype` that a
+    /// universal file gives for it, or `None` where the image is a file of its own. The magic
+    /// number is not checked: any bytes are judged as a 64-bit image.
+    ///
+    /// The error is the first broken rule, of `header-truncated` to `name`, and the least offset at
+    /// which it is broken.
     pub fn open(bytes: Bytes<'a>, arch: Option<(u32, u32)>) -> Result<Image<'a>, Break>
         ensures decides { Decides (BreaksOpening (bytes_of bytes.entry) arch) result }
         ensures image { IfOk result (λ image. image ≡ bytes_of bytes.entry) }
@@ -66,7 +69,7 @@ impl<'a> Image<'a> {
         Ok(Image { bytes })
     }
 
-    /// The bytes that were opened.
+    /// All bytes of the image.
     pub fn bytes(&self) -> Bytes<'a>
         ensures bytes { bytes_of result ≡ self.now }
         ensures opened { IsOpened self.now }
@@ -74,7 +77,7 @@ impl<'a> Image<'a> {
         self.bytes
     }
 
-    /// What the image is for.
+    /// The type of the image. (`mach_header_64.filetype`)
     #[tactic(none)]
     pub fn kind(&self) -> Kind
         ensures { IsKind self.now result }
@@ -87,8 +90,8 @@ impl<'a> Image<'a> {
         }
     }
 
-    /// The processor that the image is made for: its type and its subtype, without the bits that
-    /// name capabilities.
+    /// The `cputype` of the image, and its `cpusubtype` without the capability bits.
+    /// (`mach_header_64`)
     pub fn arch(&self) -> (u32, u32)
         ensures cpu_type { result.0 ≡ cpu_type self.now }
         ensures cpu_subtype { result.1 ≡ masked (cpu_subtype self.now) }
@@ -96,7 +99,7 @@ impl<'a> Image<'a> {
         arch_of(self.bytes)
     }
 
-    /// The load commands, in order.
+    /// The `ncmds` load commands, in the order of the file.
     pub fn commands(&self) -> Commands<'a>
         ensures commands { OfCommands self.now (λ commands. result ≡ map (command_at self.now) commands) }
         ensures opened { IsOpened self.now }

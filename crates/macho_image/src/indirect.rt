@@ -1,4 +1,4 @@
-//! The indirect entries of an opened image. (`mach-o/loader.h`: `dysymtab_command`)
+//! The indirect symbol table of an opened image. (`mach-o/loader.h`: `dysymtab_command`)
 
 use crate::command::word_at;
 use crate::image::Image;
@@ -9,16 +9,17 @@ use std::marker::Model;
 /// The size in bytes of an indirect entry.
 const ENTRY_SIZE: u64 = 4;
 
-/// An indirect entry.
+/// An entry of the indirect symbol table: 32 bits. (`indirectsymoff` of `dysymtab_command`)
 #[derive(Clone, Copy, Debug, PartialEq, Eq)]
 pub struct Indirect {
     /// Where it begins in the image.
     pub place: u64,
-    /// The index of a symbol, or marks that say that the symbol is local or absolute.
+    /// The index of a symbol, or a value with the bit `INDIRECT_SYMBOL_LOCAL` or
+    /// `INDIRECT_SYMBOL_ABS`.
     pub value: u32,
 }
 
-/// The indirect entries of an image that are left, in the order of the table.
+/// The indirect entries of an image that remain, in the order of the table.
 #[derive(Drop)]
 pub struct Indirects<'a> {
     image: Bytes<'a>,
@@ -69,8 +70,8 @@ impl<'a> Image<'a> {
     ghost use Rattle.macho_image.specs.Command.{OfCommands};
     ghost use Rattle.macho_image.specs.Symbol.{indirects_of, indirect_at};
 
-    /// The indirect entries, in the order of the table: all of them where the table lies inside
-    /// the image, and none where it does not, or where the image has no `LC_DYSYMTAB`.
+    /// The `nindirectsyms` entries of the indirect symbol table, in its order. None where the table
+    /// does not lie inside the image, and where the image has no `LC_DYSYMTAB`.
     pub fn indirects(&self) -> Indirects<'a>
         ensures { OfCommands self.now (λ commands.
             result ≡ map (indirect_at self.now) (indirects_of self.now commands)) }

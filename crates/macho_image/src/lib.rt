@@ -1,5 +1,7 @@
 #![tactic(auto)]
-//! One 64-bit image of a file: opened once, then read through borrowed views that cannot fail.
+//! A 64-bit Mach-O image: opened once, then read through borrowed views that cannot fail.
+//!
+//! A `place` is an offset in bytes from the start of the image. Numbers are little-endian.
 
 pub mod build;
 pub mod command;

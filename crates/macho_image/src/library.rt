@@ -1,4 +1,4 @@
-//! The libraries that an image names. (`mach-o/loader.h`: `dylib_command`)
+//! The dynamic libraries that an image names. (`mach-o/loader.h`: `dylib_command`)
 
 ghost use Rattle.std.specs.Prelude.{◌≡◌, length};
 ghost use Rattle.std.specs.Iterator.{YieldsFirstBy};
@@ -16,7 +16,7 @@ use macho_fields::header::loader::{
 use macho_fields::{Bytes, Span};
 use std::marker::Model;
 
-/// The kinds of command that name a library.
+/// The values of `cmd` of the commands that name a library.
 const LIBRARY_KINDS: [u32; 6] = [
     LC_LOAD_DYLIB,
     LC_ID_DYLIB,
@@ -26,22 +26,24 @@ const LIBRARY_KINDS: [u32; 6] = [
     LC_LOAD_UPWARD_DYLIB,
 ];
 
-/// A library that an image is linked with, or the image itself as one.
+/// A library that an image is linked with, or the image itself. (`dylib_command`)
+///
+/// A version is X.Y.Z in the form `xxxx.yy.zz`, 16, 8 and 8 bits.
 #[derive(Clone, Copy, Debug)]
 pub struct Dylib<'a> {
     /// Where its command begins in the image.
     pub place: u64,
-    /// The kind of its command.
+    /// The `cmd` of its command: `LC_ID_DYLIB` for the image itself.
     pub cmd: u32,
-    /// Its name, which is not copied, without the zero byte that ends it.
+    /// Its path, borrowed from the image, without the zero byte that ends it.
     pub name: &'a [u8],
-    /// Its version.
+    /// Its `current_version`.
     pub current: u32,
-    /// The least version that it can stand for.
+    /// Its `compatibility_version`.
     pub compatible: u32,
 }
 
-/// The libraries of an image that are left, in the order of the commands.
+/// The libraries of an image that remain, in the order of the commands.
 #[derive(Drop)]
 pub struct Dylibs<'a> {
     commands: Commands<'a>,
@@ -79,7 +81,8 @@ impl<'a> Image<'a> {
     ghost use Rattle.macho_image.specs.Command.{OfCommands};
     ghost use Rattle.macho_image.specs.Library.{libraries, dylib_at};
 
-    /// The libraries that the image names, in the order of the commands.
+    /// The libraries that the image names, in the order of the commands. The `LC_ID_DYLIB` of a
+    /// library is one of them.
     pub fn dylibs(&self) -> Dylibs<'a>
         ensures { OfCommands self.now (λ commands.
             result ≡ map (dylib_at self.now) (libraries self.now commands)) }
@@ -90,7 +93,7 @@ impl<'a> Image<'a> {
     }
 }
 
-/// The next command that names a library. Those before it are passed over.
+/// The next command that names a library. The commands before it are skipped.
 fn next_library<'a>(commands: &mut Commands<'a>) -> Option<Command<'a>>
     ensures { YieldsFirstBy command_of libraries_left commands.old result commands.new }
 {
@@ -108,7 +111,7 @@ fn is_library_kind(cmd: u32) -> bool
     LIBRARY_KINDS.contains(&cmd)
 }
 
-// Where the fields stand in the command.
+// The offsets of the fields in `dylib_command`.
 const NAME_OFFSET: u64 = 8;
 
 const CURRENT_VERSION: u64 = 16;
@@ -129,7 +132,7 @@ fn dylib_from(command: Command) -> Dylib
     }
 }
 
-/// The bytes from `start` on, up to the first zero byte.
+/// The bytes from `start` up to the first zero byte.
 fn name_from(bytes: Bytes, start: u64) -> &[u8]
     requires { HasZero (bytes_of bytes) start (length (bytes_of bytes)) }
     ensures { result.now ≡ name_from (bytes_of bytes.entry) start }

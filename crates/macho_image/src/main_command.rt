@@ -1,4 +1,4 @@
-//! Where a program begins. (`mach-o/loader.h`: `entry_point_command`)
+//! The entry point of a program. (`mach-o/loader.h`: `entry_point_command`)
 
 ghost use Rattle.std.specs.Prelude.{◌≡◌, ◌≤◌, length};
 ghost use Rattle.macho_image.specs.Command.{command_of};
@@ -9,14 +9,14 @@ use crate::image::Image;
 use macho_fields::Bytes;
 use macho_fields::header::loader::LC_MAIN;
 
-/// The entry point of a program.
+/// The `LC_MAIN` command. (`entry_point_command` of `mach-o/loader.h`)
 #[derive(Clone, Copy, Debug, PartialEq, Eq)]
 pub struct MainCommand {
     /// Where its command begins in the image.
     pub place: u64,
-    /// The entry point, counted from where the image is loaded.
+    /// The entry point, in bytes from the base address of the image.
     pub entryoff: u64,
-    /// The size in bytes of the first stack, or 0 where any will do.
+    /// The size in bytes of the initial stack, or 0 for the default size.
     pub stacksize: u64,
 }
 
@@ -26,7 +26,7 @@ impl<'a> Image<'a> {
     ghost use Rattle.macho_image.specs.Command.{OfCommands, first_of_kind};
     ghost use Rattle.macho_image.specs.Single.{main_command_at};
 
-    /// The entry point, or `None` where the image has no `LC_MAIN`.
+    /// The `LC_MAIN` command, or `None` where the image has none.
     pub fn main_command(&self) -> Option<MainCommand>
         ensures { OfCommands self.now (λ commands.
             result ≡ option_map (main_command_at self.now) (first_of_kind self.now LC_MAIN commands)) }
@@ -36,7 +36,7 @@ impl<'a> Image<'a> {
     }
 }
 
-// Where the fields stand in the command.
+// The offsets of the fields in `entry_point_command`.
 const ENTRYOFF: u64 = 8;
 
 const STACKSIZE: u64 = 16;

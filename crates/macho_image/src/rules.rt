@@ -23,7 +23,7 @@ use macho_fields::header::loader::{
 };
 use macho_fields::{Break, Bytes, Rule, Span};
 
-/// The listed kinds, each with the size of its structure.
+/// The listed values of `cmd`, each with the size in bytes of its structure.
 const STRUCTURES: [(u32, u32); 26] = [
     (LC_SYMTAB, 24),
     (LC_DYSYMTAB, 80),
@@ -53,10 +53,10 @@ const STRUCTURES: [(u32, u32); 26] = [
     (LC_DYLD_CHAINED_FIXUPS, 16),
 ];
 
-/// The kinds of which an image has one command at most.
+/// The values of `cmd` of which an image has at most one command.
 const UNIQUE_KINDS: [u32; 5] = [LC_SYMTAB, LC_DYSYMTAB, LC_UUID, LC_MAIN, LC_ID_DYLIB];
 
-/// The kinds with a name, each with the least offset that the name may have.
+/// The values of `cmd` with a name, each with the least offset that the name may have.
 const NAMED_KINDS: [(u32, u32); 10] = [
     (LC_LOAD_DYLIB, 24),
     (LC_ID_DYLIB, 24),
@@ -76,10 +76,11 @@ const SECTION_COUNT: u64 = 64;
 const TOOL_COUNT: u64 = 20;
 /// The size in bytes of `build_tool_version`.
 const TOOL_SIZE: u64 = 8;
-/// The `lc_str` of each command with a name.
+/// The `lc_str` of each command with a name: the offset of the name in the command.
 const NAME_OFFSET: u64 = 8;
 
-/// No listed command is shorter than its structure and the records behind it.
+/// The rule `command-short`: no listed command is shorter than its structure and the records after
+/// it.
 pub(crate) fn command_short(image: Bytes) -> Result<(), Break>
     requires { IsWalked (bytes_of image) }
     ensures { DecidesCommands (bytes_of image.entry) Rule.CommandShort result }
@@ -97,7 +98,7 @@ pub(crate) fn command_short(image: Bytes) -> Result<(), Break>
     Ok(())
 }
 
-/// Whether a listed command is shorter than its structure and the records behind it.
+/// Whether the command is listed, and shorter than its structure and the records after it.
 fn is_short(image: Bytes, command: u64) -> bool
     requires walked { IsWalked (bytes_of image) }
     requires good { IsGood (bytes_of image) command }
@@ -109,14 +110,14 @@ fn is_short(image: Bytes, command: u64) -> bool
     size_at(image, command) < u64::from(size) + records_size(image, command)
 }
 
-/// The size of the structure of a listed kind.
+/// The size in bytes of the structure of a listed kind, or `None` of any other.
 fn structure_size(kind: u32) -> Option<u32>
     ensures { result ≡ number_for kind structures }
 {
     number_for(kind, &STRUCTURES)
 }
 
-/// The number that a table has for a kind.
+/// The number that a table has for a kind, or `None` where it has none.
 fn number_for(kind: u32, table: &[(u32, u32)]) -> Option<u32>
     ensures { result ≡ number_for kind table.now }
 {
@@ -126,7 +127,7 @@ fn number_for(kind: u32, table: &[(u32, u32)]) -> Option<u32>
         .map(|entry| entry.1)
 }
 
-/// The size of the records behind the structure of the command.
+/// The size in bytes of the records after the structure of the command.
 fn records_size(image: Bytes, command: u64) -> u64
     requires walked { IsWalked (bytes_of image) }
     requires good { IsGood (bytes_of image) command }
@@ -140,7 +141,7 @@ fn records_size(image: Bytes, command: u64) -> u64
     }
 }
 
-/// The count of records at `offset`, or 0 where it does not lie inside the command.
+/// The number of records, read at `offset` in the command, or 0 where that is past its end.
 fn record_count(image: Bytes, command: u64, offset: u64) -> u32
     requires walked { IsWalked (bytes_of image) }
     requires good { IsGood (bytes_of image) command }
@@ -154,7 +155,7 @@ fn record_count(image: Bytes, command: u64, offset: u64) -> u32
     }
 }
 
-/// Of the kinds that an image has once at most, no command repeats an earlier one.
+/// The rule `command-repeated`: no command of a unique kind repeats an earlier one.
 pub(crate) fn command_repeated(image: Bytes) -> Result<(), Break>
     requires { IsWalked (bytes_of image) }
     ensures { DecidesCommands (bytes_of image.entry) Rule.CommandRepeated result }
@@ -174,8 +175,8 @@ pub(crate) fn command_repeated(image: Bytes) -> Result<(), Break>
 
 /// Whether the command is of a unique kind, and an earlier one is of that kind.
 ///
-/// The commands before it are gone over for the five unique kinds alone, and the sixth such
-/// command repeats at the latest, so that the whole rule takes a time linear in the commands.
+/// Only a command of one of the five unique kinds is compared with those before it, and the sixth
+/// such command repeats at the latest: the time is linear in the number of commands.
 fn is_repeated(image: Bytes, command: u64) -> bool
     requires walked { IsWalked (bytes_of image) }
     requires good { IsGood (bytes_of image) command }
@@ -186,14 +187,14 @@ fn is_repeated(image: Bytes, command: u64) -> bool
     is_unique(kind) && has_command(image, kind, command)
 }
 
-/// Whether an image has one command of the kind at most.
+/// Whether an image has at most one command of this kind.
 fn is_unique(kind: u32) -> bool
     ensures { IsTrue result ↔ Contains unique_kinds kind }
 {
     UNIQUE_KINDS.contains(&kind)
 }
 
-/// Whether a command of this kind stands before the place `end`.
+/// Whether there is a command of this kind before the offset `end`.
 fn has_command(image: Bytes, kind: u32, end: u64) -> bool
     requires { IsWalked (bytes_of image) }
     ensures { (commands : List ℕ) → AreCommands (bytes_of image.entry) commands
@@ -212,14 +213,14 @@ fn has_command(image: Bytes, kind: u32, end: u64) -> bool
     false
 }
 
-/// A library names itself, and a program does not.
+/// The rule `dylib-id`: a dynamic library has an `LC_ID_DYLIB`, and a program has none.
 pub(crate) fn dylib_id(image: Bytes) -> Result<(), Break>
     requires walked { IsWalked (bytes_of image) }
     requires read { IsRead (bytes_of image) }
     ensures { DecidesCommands (bytes_of image.entry) Rule.DylibId result }
 {
     let is_dylib = word_at(image, FILE_TYPE) == MH_DYLIB;
-    // All commands stand before the end of the image.
+    // All commands lie before the end of the image.
     if is_dylib != has_command(image, LC_ID_DYLIB, image.len()) {
         return Err(Break {
             rule: Rule::DylibId,
@@ -229,7 +230,7 @@ pub(crate) fn dylib_id(image: Bytes) -> Result<(), Break>
     Ok(())
 }
 
-/// Each name begins behind the structure of its command, and ends in the command.
+/// The rule `name`: each name begins after the structure of its command, and ends in the command.
 pub(crate) fn name(image: Bytes) -> Result<(), Break>
     requires walked { IsWalked (bytes_of image) }
     requires whole { (commands : List ℕ) → AreCommands (bytes_of image) commands
@@ -249,7 +250,7 @@ pub(crate) fn name(image: Bytes) -> Result<(), Break>
     Ok(())
 }
 
-/// Whether the name of the command begins in its structure, or does not end in the command.
+/// Whether the command has a name that begins in its structure, or does not end in the command.
 fn has_bad_name(image: Bytes, command: u64) -> bool
     requires walked { IsWalked (bytes_of image) }
     requires good { IsGood (bytes_of image) command }
@@ -263,7 +264,7 @@ fn has_bad_name(image: Bytes, command: u64) -> bool
     offset < least || !ends_inside(image, command, u64::from(offset))
 }
 
-/// Whether a zero byte stands from `offset` on in the command.
+/// Whether the command has a zero byte at `offset` or after it.
 fn ends_inside(image: Bytes, command: u64, offset: u64) -> bool
     requires walked { IsWalked (bytes_of image) }
     requires good { IsGood (bytes_of image) command }

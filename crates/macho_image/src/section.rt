@@ -8,7 +8,7 @@ use macho_fields::header::loader::{
 };
 use std::marker::Model;
 
-/// A section of a segment.
+/// A section of a segment. (`section_64`)
 #[derive(Drop)]
 pub struct Section<'a> {
     image: Bytes<'a>,
@@ -31,14 +31,14 @@ impl<'a> Section<'a> {
     ghost use Rattle.macho_fields.specs.Segment.{section_address, section_size, section_offset, reloff, nreloc, section_flags, is_zero_fill};
     ghost use Rattle.macho_image.specs.Segment.{section_name};
 
-    /// Where it begins in the image.
+    /// Where its `section_64` begins in the image.
     pub fn place(&self) -> u64
         ensures { result ≡ self.now.place }
     {
         self.place
     }
 
-    /// Its name, which is not copied: 16 bytes, or those before the first zero byte of them.
+    /// Its `sectname`, borrowed from the image: 16 bytes, or those before the first zero byte.
     pub fn name(&self) -> &'a [u8]
         ensures { result.now ≡ section_name self.now.image self.now.place }
     {
@@ -52,7 +52,7 @@ impl<'a> Section<'a> {
         long_in(self.image, self.place, ADDR)
     }
 
-    /// Its size in bytes, in memory and, where it is not zero-fill, in the image.
+    /// Its size in memory, in bytes. It is the size in the image too, where it is not zero-fill.
     pub fn size(&self) -> u64
         ensures { result ≡ section_size self.now.image self.now.place }
     {
@@ -73,21 +73,22 @@ impl<'a> Section<'a> {
         u64::from(word_in(self.image, self.place, RELOFF))
     }
 
-    /// How many relocations it has.
+    /// The number of its relocations, of 8 bytes each.
     pub fn nreloc(&self) -> u64
         ensures { result ≡ nreloc self.now.image self.now.place }
     {
         u64::from(word_in(self.image, self.place, NRELOC))
     }
 
-    /// Its type, in the low byte, and its attributes.
+    /// Its flags: the type in the low byte (`SECTION_TYPE`), and attributes.
     pub fn flags(&self) -> u64
         ensures { result ≡ section_flags self.now.image self.now.place }
     {
         u64::from(word_in(self.image, self.place, FLAGS))
     }
 
-    /// Whether it is all zeros in memory, and has no bytes in the image.
+    /// Whether its type is `S_ZEROFILL`, `S_GB_ZEROFILL` or `S_THREAD_LOCAL_ZEROFILL`: zeros in
+    /// memory, and no bytes in the image.
     pub fn is_zero_fill(&self) -> bool
         ensures { result ≡ is_zero_fill self.now.image self.now.place }
     {
@@ -99,7 +100,7 @@ impl<'a> Section<'a> {
     }
 }
 
-/// The sections of a segment that are left, in order.
+/// The sections of a segment that remain, in the order of the file.
 #[derive(Drop)]
 pub struct Sections<'a> {
     pub(crate) image: Bytes<'a>,
@@ -144,7 +145,7 @@ impl<'a> Iterator for Sections<'a> {
     }
 }
 
-// Where the fields stand in the section.
+// The offsets of the fields in `section_64`.
 const SECTION_NAME: u64 = 0;
 
 const ADDR: u64 = 32;

@@ -11,7 +11,7 @@ use macho_fields::header::loader::{LC_SEGMENT_64, SEGMENT_COMMAND_64_SIZE};
 use macho_fields::{Bytes, Span};
 use std::marker::Model;
 
-/// A segment of an image.
+/// A segment of an image. (`segment_command_64`)
 #[derive(Drop)]
 pub struct Segment<'a> {
     image: Bytes<'a>,
@@ -41,7 +41,7 @@ impl<'a> Segment<'a> {
         self.place
     }
 
-    /// Its name, which is not copied: 16 bytes, or those before the first zero byte of them.
+    /// Its `segname`, borrowed from the image: 16 bytes, or those before the first zero byte.
     pub fn name(&self) -> &'a [u8]
         ensures { result.now ≡ segment_name self.now.image self.now.place }
     {
@@ -55,7 +55,7 @@ impl<'a> Segment<'a> {
         long_in(self.image, self.place, VMADDR)
     }
 
-    /// Its size in memory, in bytes. Where it is 0 the segment is not mapped.
+    /// Its size in memory, in bytes. A segment of size 0 is not mapped.
     pub fn vmsize(&self) -> u64
         ensures { result ≡ vmsize self.now.image self.now.place }
     {
@@ -69,28 +69,28 @@ impl<'a> Segment<'a> {
         long_in(self.image, self.place, FILEOFF)
     }
 
-    /// How many bytes of the image it has. The rest of its memory is zero.
+    /// Its size in the image, in bytes. The rest of its memory is zero.
     pub fn filesize(&self) -> u64
         ensures { result ≡ filesize self.now.image self.now.place }
     {
         long_in(self.image, self.place, FILESIZE)
     }
 
-    /// What may be done with its memory at first: the `VM_PROT_` bits.
+    /// Its initial protection: the `VM_PROT_` bits 1 (read), 2 (write) and 4 (execute).
     pub fn initprot(&self) -> u64
         ensures { result ≡ initprot self.now.image self.now.place }
     {
         u64::from(word_in(self.image, self.place, INITPROT))
     }
 
-    /// How many sections it has.
+    /// The number of its sections.
     pub fn nsects(&self) -> u64
         ensures { result ≡ nsects self.now.image self.now.place }
     {
         u64::from(word_in(self.image, self.place, NSECTS))
     }
 
-    /// Its sections, in order.
+    /// Its sections, in the order of the file.
     pub fn sections(&self) -> Sections<'a>
         ensures { result ≡ map (structure_at self.now.image)
             (sections_in self.now.image self.now.place) }
@@ -103,7 +103,7 @@ impl<'a> Segment<'a> {
     }
 }
 
-/// The segments of an image that are left, in the order of the commands.
+/// The segments of an image that remain, in the order of the commands.
 #[derive(Drop)]
 pub struct Segments<'a> {
     image: Bytes<'a>,
@@ -147,7 +147,7 @@ impl<'a> Image<'a> {
     ghost use Rattle.macho_image.specs.Opened.{IsOpened};
     ghost use Rattle.macho_image.specs.Segment.{structure_at};
 
-    /// The segments of the image, in the order of the commands.
+    /// The segments of the image, one for each `LC_SEGMENT_64`, in the order of the commands.
     pub fn segments(&self) -> Segments<'a>
         ensures segments { OfCommands self.now (λ commands.
             result ≡ map (structure_at self.now) (segments_of self.now commands)) }
@@ -159,7 +159,7 @@ impl<'a> Image<'a> {
         }
     }
 
-    /// How many sections all segments of the image have.
+    /// The number of sections of all segments of the image: the sum of `nsects`.
     pub fn section_count(&self) -> u64
         ensures { OfCommands self.now (λ commands. result ≡ section_count self.now commands) }
     {
@@ -173,8 +173,8 @@ impl<'a> Image<'a> {
     }
 }
 
-/// A name of 16 bytes, `offset` bytes behind the start of a structure: those before the first zero
-/// byte of them where there is one.
+/// The name in the 16 bytes at `offset` in a structure. It ends before the first zero byte, where
+/// there is one.
 pub(crate) fn short_name(image: Bytes, structure: u64, offset: u64) -> &[u8]
     requires { structure + offset + SHORT_NAME_SIZE ≤ length (bytes_of image) }
     ensures { result.now ≡ short_name (bytes_of image.entry) (structure + offset) }
@@ -194,7 +194,7 @@ pub(crate) fn short_name(image: Bytes, structure: u64, offset: u64) -> &[u8]
 /// The size in bytes of the name of a segment or a section.
 const SHORT_NAME_SIZE: u64 = 16;
 
-// Where the fields stand in the command.
+// The offsets of the fields in `segment_command_64`.
 const SEGMENT_NAME: u64 = 8;
 
 const VMADDR: u64 = 24;

@@ -11,24 +11,24 @@ use macho_fields::header::nlist::NLIST_64_SIZE;
 use macho_fields::{Bytes, Order};
 use std::marker::Model;
 
-/// A symbol.
+/// An entry of the symbol table. (`nlist_64`)
 #[derive(Clone, Copy, Debug, PartialEq, Eq)]
 pub struct Symbol {
     /// Where it begins in the image.
     pub place: u64,
-    /// Where its name begins in the strings, or 0 where it has none.
+    /// `n_strx`: the offset of its name in the strings, in bytes, or 0 where it has none.
     pub strx: u32,
-    /// What it is: the bits of `N_STAB`, of `N_TYPE` and others.
+    /// `n_type`: the bits of `N_STAB`, `N_PEXT`, `N_TYPE` and `N_EXT`.
     pub kind: u8,
-    /// The number of the section that it is defined in, from 1 on, where it is in one.
+    /// `n_sect`: the number of its section, from 1 over all segments, or 0 where it has none.
     pub sect: u8,
-    /// What else is said of it.
+    /// `n_desc`: flags, or data of a debugging entry.
     pub desc: u16,
-    /// Its value: where it is defined in a section, its address.
+    /// `n_value`: its address, where it is defined in a section.
     pub value: u64,
 }
 
-/// The symbols of an image that are left, in the order of the table.
+/// The symbols of an image that remain, in the order of the table.
 #[derive(Drop)]
 pub struct Symbols<'a> {
     image: Bytes<'a>,
@@ -76,8 +76,8 @@ impl<'a> Image<'a> {
     ghost use Rattle.macho_image.specs.Command.{OfCommands};
     ghost use Rattle.macho_image.specs.Symbol.{symbols_of, symbol_at};
 
-    /// The symbols, in the order of the table: all of them where the table lies inside the image,
-    /// and none where it does not, or where the image has no `LC_SYMTAB`.
+    /// The `nsyms` symbols of `LC_SYMTAB`, in the order of the table. None where the table does not
+    /// lie inside the image, and where the image has no `LC_SYMTAB`.
     pub fn symbols(&self) -> Symbols<'a>
         ensures { OfCommands self.now (λ commands.
             result ≡ map (symbol_at self.now) (symbols_of self.now commands)) }
@@ -98,7 +98,7 @@ impl<'a> Image<'a> {
     }
 }
 
-// Where the fields stand in `nlist_64`.
+// The offsets of the fields in `nlist_64`.
 const N_TYPE: u64 = 4;
 
 const N_SECT: u64 = 5;

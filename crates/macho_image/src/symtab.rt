@@ -11,18 +11,18 @@ use crate::image::Image;
 use macho_fields::header::loader::LC_SYMTAB;
 use macho_fields::{Bytes, Span};
 
-/// Where the symbols of an image stand, and their strings.
+/// The `LC_SYMTAB` command: the tables of the symbols and of their names. (`symtab_command`)
 #[derive(Clone, Copy, Debug, PartialEq, Eq)]
 pub struct Symtab {
     /// Where its command begins in the image.
     pub place: u64,
     /// Where the symbols begin in the image.
     pub symoff: u64,
-    /// How many symbols there are.
+    /// The number of symbols.
     pub nsyms: u64,
     /// Where the strings begin in the image.
     pub stroff: u64,
-    /// How many bytes the strings have.
+    /// The size of the strings, in bytes.
     pub strsize: u64,
 }
 
@@ -32,7 +32,7 @@ impl<'a> Image<'a> {
     ghost use Rattle.macho_image.specs.Command.{OfCommands, first_of_kind};
     ghost use Rattle.macho_image.specs.Symbol.{symtab_at, HasName, IsNameAt};
 
-    /// The symbol table, or `None` where the image has no `LC_SYMTAB`.
+    /// The `LC_SYMTAB` command, or `None` where the image has none.
     pub fn symtab(&self) -> Option<Symtab>
         ensures { OfCommands self.now (λ commands.
             result ≡ option_map (symtab_at self.now) (first_of_kind self.now LC_SYMTAB commands)) }
@@ -41,9 +41,9 @@ impl<'a> Image<'a> {
         Some(symtab_from(command))
     }
 
-    /// The name that begins `strx` bytes behind the start of the strings, without the zero byte
-    /// that ends it. It is not copied. `None` where `strx` is 0, where the image has no strings
-    /// that lie inside it, and where no zero byte ends the name there.
+    /// The name at `strx`, an offset in bytes in the strings, without the zero byte that ends it.
+    /// It is borrowed from the image. `None` where `strx` is 0, where the image has no `LC_SYMTAB`,
+    /// where the strings do not lie inside the image, and where none of their bytes ends the name.
     pub fn symbol_name(&self, strx: u32) -> Option<&'a [u8]>
         ensures named { OfCommands self.now (λ commands.
             IsSome result ↔ HasName self.now commands strx) }
@@ -59,7 +59,7 @@ impl<'a> Image<'a> {
     }
 }
 
-/// The name that begins `strx` bytes behind the start of the strings.
+/// The name at the offset `strx` in the strings.
 fn name_in<'a>(image: Bytes<'a>, symtab: Symtab, strx: u64) -> Option<&'a [u8]>
     ensures named { IsSome result ↔
         EndsInStrings (bytes_of image.entry) symtab.stroff symtab.strsize strx }
@@ -83,7 +83,7 @@ fn name_in<'a>(image: Bytes<'a>, symtab: Symtab, strx: u64) -> Option<&'a [u8]>
     image.part(name)
 }
 
-// Where the fields stand in the command.
+// The offsets of the fields in `symtab_command`.
 const SYMOFF: u64 = 8;
 
 const NSYMS: u64 = 12;

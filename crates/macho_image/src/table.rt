@@ -1,4 +1,4 @@
-//! Tables of items of one size.
+//! Tables of items of equal size.
 
 ghost use Rattle.std.specs.Prelude.{◌≡◌, ◌+◌, ◌*◌, length, nat_le};
 ghost use Rattle.macho_fields.specs.Bytes.{bytes_of};

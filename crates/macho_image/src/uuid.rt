@@ -1,4 +1,4 @@
-//! The number that tells one build from each other. (`mach-o/loader.h`: `uuid_command`)
+//! The UUID of a build. (`mach-o/loader.h`: `uuid_command`)
 
 ghost use Rattle.std.specs.Prelude.{◌≡◌, ◌≤◌, length};
 ghost use Rattle.macho_image.specs.Command.{command_of};
@@ -14,7 +14,8 @@ impl<'a> Image<'a> {
     ghost use Rattle.macho_image.specs.Command.{OfCommands, first_of_kind};
     ghost use Rattle.macho_image.specs.Single.{uuid_at};
 
-    /// The number of the build, or `None` where the image has no `LC_UUID`.
+    /// The 16 bytes of the UUID of the build, or `None` where the image has no `LC_UUID`.
+    /// (`uuid_command`)
     pub fn uuid(&self) -> Option<[u8; 16]>
         ensures { OfCommands self.now (λ commands.
             result ≡ option_map (uuid_at self.now) (first_of_kind self.now LC_UUID commands)) }
@@ -24,7 +25,7 @@ impl<'a> Image<'a> {
     }
 }
 
-// Where the number begins in the command, and where it ends.
+// The offsets in `uuid_command` at which the field `uuid` begins and ends.
 const UUID: usize = 8;
 
 const UUID_END: usize = 24;

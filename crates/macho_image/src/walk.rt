@@ -1,4 +1,4 @@
-//! The rules of the header of an image and of the walk over its load commands.
+//! The rules of the header of an image, and of the walk over its load commands.
 //! (`mach-o/loader.h`: `mach_header_64`, `load_command`)
 
 ghost use Rattle.std.specs.Prelude.{◌≡◌, ◌+◌, ◌^◌, ◌≤◌, ◌<◌, ◌↔◌, length, IsSome, IfSome, OnOk, None};
@@ -26,7 +26,7 @@ pub(crate) const COMMAND_COUNT: u64 = 16;
 /// `mach_header_64.sizeofcmds`
 const COMMANDS_SIZE: u64 = 20;
 
-/// The bytes hold a header.
+/// The rule `header-truncated`: the bytes hold a `mach_header_64`.
 pub(crate) fn header_truncated(image: Bytes) -> Result<(), Break>
     ensures decides { DecidesRule (BreaksHeader (bytes_of image.entry) None Rule.HeaderTruncated)
         Rule.HeaderTruncated result }
@@ -41,7 +41,8 @@ pub(crate) fn header_truncated(image: Bytes) -> Result<(), Break>
     Ok(())
 }
 
-/// The image is made for the processor that a universal file names for it, where one does.
+/// The rule `arch-mismatch`: the header has the `cputype` and the masked `cpusubtype` of `arch`,
+/// where that is given.
 pub(crate) fn arch_mismatch(image: Bytes, arch: Option<(u32, u32)>) -> Result<(), Break>
     requires { MACH_HEADER_64_SIZE ≤ length (bytes_of image) }
     ensures { DecidesRule (BreaksHeader (bytes_of image.entry) arch Rule.ArchMismatch)
@@ -59,8 +60,7 @@ pub(crate) fn arch_mismatch(image: Bytes, arch: Option<(u32, u32)>) -> Result<()
     Ok(())
 }
 
-/// The processor that the header names: its type and its subtype, without the bits that name
-/// capabilities.
+/// The `cputype` of the header, and its `cpusubtype` without the capability bits.
 pub(crate) fn arch_of(image: Bytes) -> (u32, u32)
     requires { MACH_HEADER_64_SIZE ≤ length (bytes_of image) }
     ensures cpu_type { result.0 ≡ cpu_type (bytes_of image.entry) }
@@ -72,7 +72,7 @@ pub(crate) fn arch_of(image: Bytes) -> (u32, u32)
     )
 }
 
-/// The image is a program or a library.
+/// The rule `file-type`: the image is a program or a dynamic library.
 pub(crate) fn file_type(image: Bytes) -> Result<(), Break>
     requires { MACH_HEADER_64_SIZE ≤ length (bytes_of image) }
     ensures decides { DecidesRule (BreaksHeader (bytes_of image.entry) None Rule.FileType)
@@ -88,7 +88,7 @@ pub(crate) fn file_type(image: Bytes) -> Result<(), Break>
     }
 }
 
-/// How many commands the header counts.
+/// The number of commands: `ncmds`.
 pub(crate) fn count_of_commands(image: Bytes) -> u32
     requires { MACH_HEADER_64_SIZE ≤ length (bytes_of image) }
     ensures { result ≡ command_count (bytes_of image.entry) }
@@ -96,7 +96,7 @@ pub(crate) fn count_of_commands(image: Bytes) -> u32
     word_at(image, COMMAND_COUNT)
 }
 
-/// The place behind the bytes that the header gives to the commands.
+/// The offset just past the `sizeofcmds` bytes of the commands.
 fn end_of_commands(image: Bytes) -> u64
     requires { MACH_HEADER_64_SIZE ≤ length (bytes_of image) }
     ensures end { result ≡ commands_end (bytes_of image.entry) }
@@ -105,7 +105,7 @@ fn end_of_commands(image: Bytes) -> u64
     MACH_HEADER_64_SIZE + u64::from(word_at(image, COMMANDS_SIZE))
 }
 
-/// The commands end inside the image.
+/// The rule `commands-outside`: the commands end inside the image.
 pub(crate) fn commands_outside(image: Bytes) -> Result<(), Break>
     requires { MACH_HEADER_64_SIZE ≤ length (bytes_of image) }
     ensures decides { DecidesRule (BreaksHeader (bytes_of image.entry) None Rule.CommandsOutside)
@@ -122,7 +122,7 @@ pub(crate) fn commands_outside(image: Bytes) -> Result<(), Break>
     Ok(())
 }
 
-/// As many commands as the header counts stand one behind the other.
+/// The rule `command-walk`: `ncmds` commands follow one another within the `sizeofcmds` bytes.
 pub(crate) fn command_walk(image: Bytes) -> Result<(), Break>
     requires header { MACH_HEADER_64_SIZE ≤ length (bytes_of image) }
     requires inside { commands_end (bytes_of image) ≤ length (bytes_of image) }
@@ -144,7 +144,7 @@ pub(crate) fn command_walk(image: Bytes) -> Result<(), Break>
     Ok(())
 }
 
-/// The place behind the command at `place`, or `None` where no command can stand there.
+/// The offset just past the command at `place`, or `None` where no command can be there.
 fn next_command(image: Bytes, place: u64, end: u64) -> Option<u64>
     requires end { end ≡ commands_end (bytes_of image) }
     requires inside { end ≤ length (bytes_of image) }
@@ -163,7 +163,7 @@ fn next_command(image: Bytes, place: u64, end: u64) -> Option<u64>
     Some(place + size)
 }
 
-/// The kind of the command at `place`.
+/// The `cmd` of the command at `place`.
 pub(crate) fn kind_at(image: Bytes, place: u64) -> u32
     requires walked { IsWalked (bytes_of image) }
     requires good { IsGood (bytes_of image) place }
@@ -172,7 +172,7 @@ pub(crate) fn kind_at(image: Bytes, place: u64) -> u32
     word_at(image, place)
 }
 
-/// The size of the command at `place`.
+/// The `cmdsize` of the command at `place`, in bytes.
 pub(crate) fn size_at(image: Bytes, place: u64) -> u64
     requires walked { IsWalked (bytes_of image) }
     requires good { IsGood (bytes_of image) place }

@@ -15,7 +15,7 @@ const ID: [u8; 32] = [
     b'd', b'y', b'l', 0, 0,
 ];
 
-/// An image of this type with so many commands, in `size` bytes from the 32nd on.
+/// An image of this type, with `count` commands in the `size` bytes after the header.
 fn image_of(
     alloc: Global,
     file_type: u8,
@@ -69,14 +69,14 @@ fn refuses_short_commands(rt: HostRuntime) -> Result<(), Fail> {
     let bytes = image_of(rt.alloc(), EXECUTE, 1, 8, &BAD_UUID)?;
     assert_eq!(rt; first_break(&bytes), at(Rule::CommandShort, 0x20));
 
-    // More bytes than the structure needs are no harm.
+    // A command may be longer than its structure.
     let mut uuid = [0; 32];
     uuid[0] = 0x1b;
     uuid[4] = 32;
     let bytes = image_of(rt.alloc(), EXECUTE, 1, 32, &uuid)?;
     assert_eq!(rt; first_break(&bytes), None);
 
-    // The sizes of so many sections have a sum that 32 bits do not hold.
+    // 80 bytes for each of 2^32 - 1 sections do not fit in 32 bits.
     let mut segment = [0; 72];
     segment[0] = 0x19;
     segment[4] = 72;

@@ -3,6 +3,6 @@ use Rattle.macho_fields.specs.Bytes.{bytes_of}
 use Rattle.macho_image.proofs.Places.{IsAt}
 use Rattle.macho_image.proofs.walk.command_walk.Given as goal
 
--- so many commands stand before this place, which the walk has reached
+-- the walk has passed `_walked` commands, and reached this place
 abbrev pub invariant-loop-walked : goal.invariant-loop-walked
 invariant-loop-walked l = (l.place ≤ l.end) × IsAt (bytes_of l.image) l._walked l.place

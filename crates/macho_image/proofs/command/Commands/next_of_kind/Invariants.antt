@@ -2,7 +2,7 @@ use Rattle.std.proofs.Common.{◌≡◌}
 use Rattle.macho_image.specs.Command.{left_of_kind}
 use Rattle.macho_image.proofs.command.Commands.next_of_kind.Given as goal
 
--- only commands of other kinds were passed over
+-- only commands of other kinds were skipped
 abbrev pub invariant-loop-command : goal.invariant-loop-command
 invariant-loop-command l =
     (goal.iterator-loop-command).can_next l.self × (goal.iterator-loop-command).is_finite l.self

@@ -2,7 +2,7 @@ use Rattle.std.proofs.Common.{◌≡◌}
 use Rattle.macho_image.proofs.Entries.{base_among}
 use Rattle.macho_image.proofs.image.Image.base.Given as goal
 
--- no segment that was passed gives the base
+-- no segment before this one is the base
 abbrev pub invariant-loop-segment : goal.invariant-loop-segment
 invariant-loop-segment l =
     (goal.iterator-loop-segment).can_next l.segment-iterator

@@ -6,7 +6,7 @@ use Rattle.macho_image.specs.Segment.{HoldSegments}
 use Rattle.macho_image.proofs.HeldSegments.{counted}
 use Rattle.macho_image.proofs.image.Image.section_count.Given as goal
 
--- the sections of the segments that were passed are counted
+-- the sections of the segments before this one are counted
 abbrev pub invariant-loop-command : goal.invariant-loop-command
 invariant-loop-command l =
     let image = bytes_of l.image in
