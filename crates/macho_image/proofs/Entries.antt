@@ -17,7 +17,8 @@ abbrev pub base_among : List Structure → Option ℕ
 base_among segments =
     option_map (λ s. vmaddr s.image s.place) (find (λ s. shows_start s.image s.place) segments)
 
-first_or_rest : (image : List ℕ) (x : ℕ) (b : Bool) (f : Option Structure) (g : Option ℕ) → option_map (λ s. vmaddr s.image s.place) f ≡ option_map (vmaddr image) g → option_map (λ s. vmaddr s.image s.place) (cond b (Some (structure_at image x)) f) ≡ option_map (vmaddr image) (cond b (Some x) g)
+first_or_rest : (image : List ℕ) (x : ℕ) (b : Bool) (f : Option Structure) (g : Option ℕ) → option_map (λ s. vmaddr s.image s.place) f ≡ option_map (vmaddr image) g
+    → option_map (λ s. vmaddr s.image s.place) (cond b (Some (structure_at image x)) f) ≡ option_map (vmaddr image) (cond b (Some x) g)
 first_or_rest image x true f g same = refl
 first_or_rest image x false f g same = same
 
@@ -26,7 +27,8 @@ base_of_map image [] = refl
 base_of_map image (x ∷ xs) =
     first_or_rest image x (shows_start image x) (find (λ s. shows_start s.image s.place) (map (structure_at image) xs)) (find (shows_start image) xs) (base_of_map image xs)
 
-pub base_seen : (image : List ℕ) (all : List Structure) (r : Option ℕ) → r ≡ base_among all → OfCommands image (λ commands. all ≡ map (structure_at image) (segments_of image commands)) → OfCommands image (λ commands. r ≡ base_of image commands)
+pub base_seen : (image : List ℕ) (all : List Structure) (r : Option ℕ) → r ≡ base_among all
+    → OfCommands image (λ commands. all ≡ map (structure_at image) (segments_of image commands)) → OfCommands image (λ commands. r ≡ base_of image commands)
 base_seen image all r is (commands, are, same) =
     (commands, are, is ∙ (ap base_among same ∙ base_of_map image (segments_of image commands)))
 
@@ -42,7 +44,8 @@ sum_is_address None n past = elim (cases_lt n 18446744073709551616) [ inl less �
 sum_is_address (Some x) n (less, is) =
     ap Some is ∙ sym (ap (λ b. cond b (Some n) None) (lt-ltb n 18446744073709551616 less))
 
-sum_of_both : (image : List ℕ) (base : ℕ) (main : MainCommand) (b m : Option ℕ) → Some base ≡ b → Some main ≡ option_map (main_command_at image) m → address (base + main.entryoff) ≡ option_and_then (λ x. option_and_then (λ y. address (x + entryoff image y)) m) b
+sum_of_both : (image : List ℕ) (base : ℕ) (main : MainCommand) (b m : Option ℕ) → Some base ≡ b → Some main ≡ option_map (main_command_at image) m
+    → address (base + main.entryoff) ≡ option_and_then (λ x. option_and_then (λ y. address (x + entryoff image y)) m) b
 sum_of_both image base main None m e f = absurd (cc)
 sum_of_both image base main (Some x) None e f = absurd (cc)
 sum_of_both image base main (Some x) (Some y) e f =
@@ -50,7 +53,9 @@ sum_of_both image base main (Some x) (Some y) e f =
     let main_is : main ≡ main_command_at image y = cc in
     ap₂ (λ u v. address (u + v)) base_is (ap (λ (c : MainCommand). c.entryoff) main_is)
 
-pub entry_seen : (image : List ℕ) (base : ℕ) (main : MainCommand) (r : Option ℕ) → OfCommands image (λ commands. Some base ≡ base_of image commands) → OfCommands image (λ commands. Some main ≡ option_map (main_command_at image) (first_of_kind image loader.LC_MAIN commands)) → SomeIff r (base + main.entryoff < 18446744073709551616) (base + main.entryoff) → OfCommands image (λ commands. r ≡ entry_of image commands)
+pub entry_seen : (image : List ℕ) (base : ℕ) (main : MainCommand) (r : Option ℕ) → OfCommands image (λ commands. Some base ≡ base_of image commands)
+    → OfCommands image (λ commands. Some main ≡ option_map (main_command_at image) (first_of_kind image loader.LC_MAIN commands))
+    → SomeIff r (base + main.entryoff < 18446744073709551616) (base + main.entryoff) → OfCommands image (λ commands. r ≡ entry_of image commands)
 entry_seen image base main r (commands, are, some) (others, they, main_is) sum =
     let here = subst (λ these. Some main ≡ option_map (main_command_at image) (first_of_kind image loader.LC_MAIN these)) (commands_unique image others commands they are) main_is in
     (commands, are, sum_is_address r (base + main.entryoff) sum ∙ sum_of_both image base main (base_of image commands) (first_of_kind image loader.LC_MAIN commands) some here)

@@ -23,11 +23,13 @@ segment_listed = (6, lit< tt, refl)
 -- the records after the structure of a segment are its sections
 records_are_sections : (image : List ℕ) (segment : ℕ) → command_kind image segment ≡ loader.LC_SEGMENT_64 → 72 ≤ command_size image segment → records_size image segment ≡ 80 * nsects image segment
 records_are_sections image segment is holds =
-    ap (λ b. cond b (80 * record_count image segment 64) (cond (command_kind image segment == loader.LC_BUILD_VERSION) (8 * record_count image segment 20) 0)) (eq-eqb (command_kind image segment) loader.LC_SEGMENT_64 is)
+    ap (λ b. cond b (80 * record_count image segment 64) (cond (command_kind image segment == loader.LC_BUILD_VERSION) (8 * record_count image segment 20) 0))
+    (eq-eqb (command_kind image segment) loader.LC_SEGMENT_64 is)
     ∙ ap (λ b. 80 * cond b (nsects image segment) 0) (le-leb 68 (command_size image segment) (omega arith))
 
 -- a command that is a segment holds its sections
-holds_sections : (image commands : List ℕ) (segment : ℕ) → Keeps image → AreCommands image commands → Contains commands segment → command_kind image segment ≡ loader.LC_SEGMENT_64 → 72 + 80 * nsects image segment ≤ command_size image segment
+holds_sections : (image commands : List ℕ) (segment : ℕ) → Keeps image → AreCommands image commands → Contains commands segment → command_kind image segment ≡ loader.LC_SEGMENT_64
+    → 72 + 80 * nsects image segment ≤ command_size image segment
 holds_sections image commands segment opened are has is =
     let whole : 72 + records_size image segment ≤ command_size image segment = structure_inside image commands opened are segment (loader.LC_SEGMENT_64, 72) has segment_listed (sym is) in
     let records : records_size image segment ≡ 80 * nsects image segment = records_are_sections image segment is (omega arith) in omega arith
@@ -42,10 +44,13 @@ held_segment image commands segment opened are has =
 pub all_segments_hold : (image : List ℕ) (all : List CommandView) → IsOpened image → AreAll image all → HoldSegments image all
 all_segments_hold image all is_opened (commands, are, is) =
     let opened = opened_keeps image is_opened in
-    let kept : left_of_kind loader.LC_SEGMENT_64 all ≡ map (command_at image) (segments_of image commands) = ap (left_of_kind loader.LC_SEGMENT_64) is ∙ left_of_kind-map image loader.LC_SEGMENT_64 commands in
-    subst (All (λ c. HoldsSegment image c.place)) (sym kept) (All-map (λ c. HoldsSegment image c.place) (command_at image) (segments_of image commands) (λ k d less. held_segment image commands _ opened are (All-contains_itself (segments_of image commands) k d less)))
+    let kept : left_of_kind loader.LC_SEGMENT_64 all ≡ map (command_at image) (segments_of image commands) = ap (left_of_kind loader.LC_SEGMENT_64) is ∙ left_of_kind-map image
+    loader.LC_SEGMENT_64 commands in
+    subst (All (λ c. HoldsSegment image c.place)) (sym kept) (All-map (λ c. HoldsSegment image c.place) (command_at image) (segments_of image commands)
+    (λ k d less. held_segment image commands _ opened are (All-contains_itself (segments_of image commands) k d less)))
 
-pub segments_seen : (image : List ℕ) (all : List CommandView) → IsOpened image → AreAll image all → OfCommands image (λ commands. segments_left image all ≡ map (structure_at image) (segments_of image commands))
+pub segments_seen : (image : List ℕ) (all : List CommandView) → IsOpened image → AreAll image all
+    → OfCommands image (λ commands. segments_left image all ≡ map (structure_at image) (segments_of image commands))
 segments_seen image all opened are =
     all_seen (λ c. structure_at image c.place) (structure_at image) image all loader.LC_SEGMENT_64 72 segment_listed (λ c here. refl) opened are
 
@@ -73,7 +78,8 @@ abbrev pub counted : List ℕ → List CommandView → ℕ
 counted image commands =
     sum_by (λ c. nsects image c.place) (left_of_kind loader.LC_SEGMENT_64 commands)
 
-pub counted_more : (image : List ℕ) (old rest : List CommandView) (c : CommandView) → old ≡ c ∷ rest → sum_by (λ c. nsects image c.place) old ≡ nsects image c.place + sum_by (λ c. nsects image c.place) rest
+pub counted_more : (image : List ℕ) (old rest : List CommandView) (c : CommandView) → old ≡ c ∷ rest
+    → sum_by (λ c. nsects image c.place) old ≡ nsects image c.place + sum_by (λ c. nsects image c.place) rest
 counted_more image old rest c is =
     ap (sum_by (λ v. nsects image v.place)) is ∙ sum_by-cons (λ v. nsects image v.place) c rest
 
@@ -84,7 +90,8 @@ sum_of_places f image (x ∷ xs) =
 
 pub all_counted : (image : List ℕ) (all : List CommandView) → AreAll image all → OfCommands image (λ commands. counted image all ≡ section_count image commands)
 all_counted image all (commands, are, is) =
-    let kept : left_of_kind loader.LC_SEGMENT_64 all ≡ map (command_at image) (segments_of image commands) = ap (left_of_kind loader.LC_SEGMENT_64) is ∙ left_of_kind-map image loader.LC_SEGMENT_64 commands in
+    let kept : left_of_kind loader.LC_SEGMENT_64 all ≡ map (command_at image) (segments_of image commands) = ap (left_of_kind loader.LC_SEGMENT_64) is ∙ left_of_kind-map image
+    loader.LC_SEGMENT_64 commands in
     (commands, are, ap (sum_by (λ c. nsects image c.place)) kept ∙ sum_of_places (nsects image) image (segments_of image commands))
 
 -- the sections of a command, where it is a segment, lie in it
@@ -101,7 +108,8 @@ in_command n size true holds = holds refl
 in_command n size false holds = omega arith
 
 -- so all sections of a chain of commands fit into it
-count_in_chain : (image : List ℕ) (start : ℕ) (xs : List ℕ) (next : ℕ) → Follow image start xs next → start ≤ commands_end image → All (HoldsItsSections image) xs → start + 80 * section_count image xs ≤ commands_end image
+count_in_chain : (image : List ℕ) (start : ℕ) (xs : List ℕ) (next : ℕ) → Follow image start xs next → start ≤ commands_end image → All (HoldsItsSections image) xs
+    → start + 80 * section_count image xs ≤ commands_end image
 count_in_chain image start [] next chain within hold = omega arith
 count_in_chain image start (x ∷ xs) next (first, good, rest) within hold =
     let is_segment : Bool = command_kind image x == loader.LC_SEGMENT_64 in
@@ -117,5 +125,7 @@ count_fits image all is_opened (commands, are, is) =
     let opened = opened_keeps image is_opened in
     let (length_is, next, chain) = are in
     let inside : commands_end image ≤ length image = opened.inside in
-    let same : counted image all ≡ section_count image commands = ap (λ vs. counted image vs) is ∙ (ap (sum_by (λ c. nsects image c.place)) (left_of_kind-map image loader.LC_SEGMENT_64 commands) ∙ sum_of_places (nsects image) image (segments_of image commands)) in
-    let fits : 32 + 80 * section_count image commands ≤ commands_end image = count_in_chain image 32 commands next chain (omega arith) (λ k d less is_segment. let holds = holds_sections image commands _ opened are (All-contains_itself commands k d less) is_segment in omega arith) in omega arith
+    let same : counted image all ≡ section_count image commands = ap (λ vs. counted image vs) is ∙
+    (ap (sum_by (λ c. nsects image c.place)) (left_of_kind-map image loader.LC_SEGMENT_64 commands) ∙ sum_of_places (nsects image) image (segments_of image commands)) in
+    let fits : 32 + 80 * section_count image commands ≤ commands_end image = count_in_chain image 32 commands next chain (omega arith)
+    (λ k d less is_segment. let holds = holds_sections image commands _ opened are (All-contains_itself commands k d less) is_segment in omega arith) in omega arith

@@ -29,7 +29,8 @@ inside_all image start each count inside =
     rw inside (items_counted start each 0 count ∙ ap (λ p. items_from each p count) first)
 
 -- what is listed of the first command of a kind, where there is one
-some_listed : {B : Type 0} (g : ℕ → B) (f : ℕ → List ℕ) (first : Option ℕ) (found : Option B) (t : B) (xs : List ℕ) → found ≡ option_map g first → found ≡ Some t → ((c : ℕ) → t ≡ g c → f c ≡ xs) → option_map_or f first [] ≡ xs
+some_listed : {B : Type 0} (g : ℕ → B) (f : ℕ → List ℕ) (first : Option ℕ) (found : Option B) (t : B) (xs : List ℕ) → found ≡ option_map g first → found ≡ Some t
+    → ((c : ℕ) → t ≡ g c → f c ≡ xs) → option_map_or f first [] ≡ xs
 some_listed g f None found t xs is some each = absurd (cc)
 some_listed g f (Some c) found t xs is some each = each c (same_Some t (g c) (sym some ∙ is))
 
@@ -42,19 +43,24 @@ abbrev pub items_of : {B : Type 0} → (ℕ → B) → (B → ℕ) → (B → �
 items_of g start count each image kind commands = option_map_or (λ c. items_inside image (start (g c)) each (count (g c))) (first_of_kind image kind commands) []
 
 -- a table that was found and lies inside the image has the items of the image
-table_found : {B C : Type 0} (g : ℕ → B) (start count : B → ℕ) (item : ℕ → C) (each : ℕ) (image : List ℕ) (kind : ℕ) (found : Option B) (t : B) → IsFound g image kind found → found ≡ Some t → nat_le (start t + each * count t) (length image) ≡ true → OfCommands image (λ commands. map item (items_from each (start t) (count t)) ≡ map item (items_of g start count each image kind commands))
+table_found : {B C : Type 0} (g : ℕ → B) (start count : B → ℕ) (item : ℕ → C) (each : ℕ) (image : List ℕ) (kind : ℕ) (found : Option B) (t : B) → IsFound g image kind found
+    → found ≡ Some t → nat_le (start t + each * count t) (length image) ≡ true
+    → OfCommands image (λ commands. map item (items_from each (start t) (count t)) ≡ map item (items_of g start count each image kind commands))
 table_found {B} g start count item each image kind found t (commands, are, is) some inside =
     (commands, are, ap (map item) (sym (some_listed g _ (first_of_kind image kind commands) found t (items_from each (start t) (count t)) is some here)))
   where
     here : (c : ℕ) → t ≡ g c → items_inside image (start (g c)) each (count (g c)) ≡ items_from each (start t) (count t)
     here c same = subst (λ (s : B). items_inside image (start s) each (count s) ≡ items_from each (start t) (count t)) same (inside_all image (start t) each (count t) inside)
 
-pub symbols_seen : (image bytes : List ℕ) (found : Option Symtab) (t : Symtab) → bytes ≡ image → IsFound (symtab_at image) image loader.LC_SYMTAB found → found ≡ Some t → nat_le (t.symoff + 16 * t.nsyms) (length bytes) ≡ true → OfCommands image (λ commands. symbols_from bytes t.symoff t.nsyms ≡ map (symbol_at image) (symbols_of image commands))
+pub symbols_seen : (image bytes : List ℕ) (found : Option Symtab) (t : Symtab) → bytes ≡ image → IsFound (symtab_at image) image loader.LC_SYMTAB found → found ≡ Some t
+    → nat_le (t.symoff + 16 * t.nsyms) (length bytes) ≡ true → OfCommands image (λ commands. symbols_from bytes t.symoff t.nsyms ≡ map (symbol_at image) (symbols_of image commands))
 symbols_seen image bytes found t same is some inside =
     let within : nat_le (t.symoff + 16 * t.nsyms) (length image) ≡ true = ap (λ b. nat_le (t.symoff + 16 * t.nsyms) (length b)) (sym same) ∙ inside in
     rw same (table_found (symtab_at image) (λ (s : Symtab). s.symoff) (λ (s : Symtab). s.nsyms) (symbol_at image) 16 image loader.LC_SYMTAB found t is some within)
 
-pub indirects_seen : (image bytes : List ℕ) (found : Option Dysymtab) (t : Dysymtab) → bytes ≡ image → IsFound (dysymtab_at image) image loader.LC_DYSYMTAB found → found ≡ Some t → nat_le (t.indirectsymoff + 4 * t.nindirectsyms) (length bytes) ≡ true → OfCommands image (λ commands. indirects_from bytes t.indirectsymoff t.nindirectsyms ≡ map (indirect_at image) (indirects_of image commands))
+pub indirects_seen : (image bytes : List ℕ) (found : Option Dysymtab) (t : Dysymtab) → bytes ≡ image → IsFound (dysymtab_at image) image loader.LC_DYSYMTAB found → found ≡ Some t
+    → nat_le (t.indirectsymoff + 4 * t.nindirectsyms) (length bytes) ≡ true
+    → OfCommands image (λ commands. indirects_from bytes t.indirectsymoff t.nindirectsyms ≡ map (indirect_at image) (indirects_of image commands))
 indirects_seen image bytes found t same is some inside =
     let within : nat_le (t.indirectsymoff + 4 * t.nindirectsyms) (length image) ≡ true = ap (λ b. nat_le (t.indirectsymoff + 4 * t.nindirectsyms) (length b)) (sym same) ∙ inside in
     rw same (table_found (dysymtab_at image) (λ (s : Dysymtab). s.indirectsymoff) (λ (s : Dysymtab). s.nindirectsyms) (indirect_at image) 4 image loader.LC_DYSYMTAB found t is some within)

@@ -20,7 +20,8 @@ IsListed kind least = Contains structures (kind, least)
 
 -- a command of a listed kind that is not short holds its structure
 pub holds_structure : (image : List ℕ) (command kind least : ℕ) → IsListed kind least → command_kind image command ≡ kind → ¬ IsShort image command → least ≤ command_size image command
-holds_structure image command kind least (k, less, at) is whole = elim (cases_lt (command_size image command) least) [ inr most ↦ most | inl short ↦ absurd (whole (k, (kind, least), less, at, (sym is, omega arith))) ]
+holds_structure image command kind least (k, less, at) is whole = elim (cases_lt (command_size image command) least)
+    [ inr most ↦ most | inl short ↦ absurd (whole (k, (kind, least), less, at, (sym is, omega arith))) ]
 
 -- such a command lies inside the image, as do its bytes
 pub record IsHeld (image : List ℕ) (least command : ℕ) : Type 0 where
@@ -28,7 +29,8 @@ pub record IsHeld (image : List ℕ) (least command : ℕ) : Type 0 where
   pub holds : least ≤ command_size image command
   pub long : length (part command (command_size image command) image) ≡ command_size image command
 
-pub held : (image commands : List ℕ) (kind least command : ℕ) → IsListed kind least → Keeps image → AreCommands image commands → Contains (of_kind image kind commands) command → IsHeld image least command
+pub held : (image commands : List ℕ) (kind least command : ℕ) → IsListed kind least → Keeps image → AreCommands image commands → Contains (of_kind image kind commands) command
+    → IsHeld image least command
 held image commands kind least command listed opened are has =
     let among = of_kind_among image commands kind command has in
     let good : command + command_size image command ≤ commands_end image = (command_good image commands command are among).inside in
@@ -56,19 +58,29 @@ all_long image all kind least listed is_opened (commands, are, is) =
         let b = here.long in omega arith
 
 -- what f reads of each of them is what g reads of the image
-pub all_seen : {B : Type 0} (f : CommandView → B) (g : ℕ → B) (image : List ℕ) (all : List CommandView) (kind least : ℕ) → IsListed kind least → ((c : ℕ) → IsHeld image least c → f (command_at image c) ≡ g c) → IsOpened image → AreAll image all → OfCommands image (λ commands. map f (left_of_kind kind all) ≡ map g (of_kind image kind commands))
+pub all_seen : {B : Type 0} (f : CommandView → B) (g : ℕ → B) (image : List ℕ) (all : List CommandView) (kind least : ℕ) → IsListed kind least
+    → ((c : ℕ) → IsHeld image least c → f (command_at image c) ≡ g c) → IsOpened image → AreAll image all
+    → OfCommands image (λ commands. map f (left_of_kind kind all) ≡ map g (of_kind image kind commands))
 all_seen f g image all kind least listed reads is_opened (commands, are, is) =
     let opened = opened_keeps image is_opened in
-    let kept : left_of_kind kind all ≡ map (command_at image) (of_kind image kind commands) = ap (left_of_kind kind) is ∙ left_of_kind-map image kind commands in
-    (commands, are, ap (map f) kept ∙ map-views f g image (of_kind image kind commands) (λ k d less. reads _ (held image commands kind least _ listed opened are (All-contains_itself (of_kind image kind commands) k d less))))
+    let kept : left_of_kind kind all ≡ map (command_at image) (of_kind image kind commands) = ap (left_of_kind kind) is ∙ left_of_kind-map image kind commands in (
+      commands,
+      are,
+      ap (map f) kept ∙ map-views f g image (of_kind image kind commands) (λ k d less. reads _
+          (held image commands kind least _ listed opened are (All-contains_itself (of_kind image kind commands) k d less))),
+    )
 
 -- so the first of them is found, and none where there is none
-pub none_found : {B : Type 0} (f : CommandView → B) (g : ℕ → B) (image : List ℕ) (all : List CommandView) (kind least : ℕ) (r : Option B) → IsListed kind least → ((c : ℕ) → IsHeld image least c → f (command_at image c) ≡ g c) → IsOpened image → AreAll image all → left_of_kind kind all ≡ [] → r ≡ None → OfCommands image (λ commands. r ≡ option_map g (first_of_kind image kind commands))
+pub none_found : {B : Type 0} (f : CommandView → B) (g : ℕ → B) (image : List ℕ) (all : List CommandView) (kind least : ℕ) (r : Option B) → IsListed kind least
+    → ((c : ℕ) → IsHeld image least c → f (command_at image c) ≡ g c) → IsOpened image → AreAll image all → left_of_kind kind all ≡ [] → r ≡ None
+    → OfCommands image (λ commands. r ≡ option_map g (first_of_kind image kind commands))
 none_found f g image all kind least r listed reads is_opened are none is =
     let (commands, these, same) = all_seen f g image all kind least listed reads is_opened are in
     (commands, these, is ∙ none_first f g (left_of_kind kind all) (of_kind image kind commands) same none)
 
-pub first_found : {B : Type 0} (f : CommandView → B) (g : ℕ → B) (image : List ℕ) (all rest : List CommandView) (v : CommandView) (kind least : ℕ) (b : B) → IsListed kind least → ((c : ℕ) → IsHeld image least c → f (command_at image c) ≡ g c) → IsOpened image → AreAll image all → left_of_kind kind all ≡ v ∷ rest → b ≡ f v → OfCommands image (λ commands. Some b ≡ option_map g (first_of_kind image kind commands))
+pub first_found : {B : Type 0} (f : CommandView → B) (g : ℕ → B) (image : List ℕ) (all rest : List CommandView) (v : CommandView) (kind least : ℕ) (b : B) → IsListed kind least
+    → ((c : ℕ) → IsHeld image least c → f (command_at image c) ≡ g c) → IsOpened image → AreAll image all → left_of_kind kind all ≡ v ∷ rest → b ≡ f v
+    → OfCommands image (λ commands. Some b ≡ option_map g (first_of_kind image kind commands))
 first_found f g image all rest v kind least b listed reads is_opened are some is =
     let (commands, these, same) = all_seen f g image all kind least listed reads is_opened are in
     (commands, these, some_first f g (left_of_kind kind all) rest (of_kind image kind commands) v b same some is)

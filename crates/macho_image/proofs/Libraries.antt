@@ -44,10 +44,13 @@ pub record IsHeldLibrary (image : List ℕ) (command : ℕ) : Type 0 where
   pub holds : 24 ≤ command_size image command
   pub ended : HasZero image (command + name_offset image command) (command + command_size image command)
 
-name_ended : (image : List ℕ) (command kind : ℕ) → command_kind image command ≡ kind → Contains named_kinds (kind, 24) → ¬ HasBadName image command → HasZero image (name_start image command) (command + command_size image command)
-name_ended image command kind is (k, less, at) good = elim (zero_or_none image (name_start image command) (command + command_size image command)) [ inl ended ↦ ended | inr endless ↦ absurd (good (k, (kind, 24), less, at, (sym is, inr endless))) ]
+name_ended : (image : List ℕ) (command kind : ℕ) → command_kind image command ≡ kind → Contains named_kinds (kind, 24) → ¬ HasBadName image command
+    → HasZero image (name_start image command) (command + command_size image command)
+name_ended image command kind is (k, less, at) good = elim (zero_or_none image (name_start image command) (command + command_size image command))
+    [ inl ended ↦ ended | inr endless ↦ absurd (good (k, (kind, 24), less, at, (sym is, inr endless))) ]
 
-held_library : (image commands : List ℕ) (command : ℕ) → Keeps image → AreCommands image commands → Contains commands command → is_library (command_kind image command) ≡ true → IsHeldLibrary image command
+held_library : (image commands : List ℕ) (command : ℕ) → Keeps image → AreCommands image commands → Contains commands command → is_library (command_kind image command) ≡ true
+    → IsHeldLibrary image command
 held_library image commands command opened are has is =
     let kind = command_kind image command in
     let names = names_library kind is in
@@ -81,12 +84,15 @@ library_seen image c here =
     let bytes = part c size image in
     let holds : 24 ≤ size = here.holds in
     let offset : word bytes 8 ≡ name_offset image c = word_in_part c size 8 image (omega arith) in
-    let name : name_from bytes (word bytes 8) ≡ name_from image (name_start image c) = ap (name_from bytes) offset ∙ name_in_part image c size (name_offset image c) (zero_in_part image c size (name_offset image c) here.inside here.ended) in
+    let name : name_from bytes (word bytes 8) ≡ name_from image (name_start image c) = ap (name_from bytes) offset ∙ name_in_part image c size (name_offset image c)
+    (zero_in_part image c size (name_offset image c) here.inside here.ended) in
     let current : word bytes 16 ≡ word image (c + 16) = word_in_part c size 16 image (omega arith) in
     let compatible : word bytes 20 ≡ word image (c + 20) = word_in_part c size 20 image (omega arith) in
     same name current compatible
   where
-    same : {m n : List ℕ} {a b d e : ℕ} → m ≡ n → a ≡ b → d ≡ e → (let made : DylibView = record { place = c; cmd = command_kind image c; name = m; current = a; compatible = d } in made) ≡ (let made : DylibView = record { place = c; cmd = command_kind image c; name = n; current = b; compatible = e } in made)
+    same : {m n : List ℕ} {a b d e : ℕ} → m ≡ n → a ≡ b → d ≡ e
+        → (let made : DylibView = record { place = c; cmd = command_kind image c; name = m; current = a; compatible = d } in made) ≡
+        (let made : DylibView = record { place = c; cmd = command_kind image c; name = n; current = b; compatible = e } in made)
     same {n = n} {a = a} {d = d} x y z =
         ap (λ (w : List ℕ). let made : DylibView = record { place = c; cmd = command_kind image c; name = w; current = a; compatible = d } in made) x
         ∙ ap₂ (λ (u v : ℕ). let made : DylibView = record { place = c; cmd = command_kind image c; name = n; current = u; compatible = v } in made) y z

@@ -37,7 +37,8 @@ name_ends bytes start z low at first =
     let here : start + (z - start) ≡ z = omega arith in
     let size : length (drop start bytes) ≡ length bytes - start = length-drop start bytes in
     let at_end : get_or (drop start bytes) (z - start) 0 ≡ 0 = get_or-drop start bytes (z - start) 0 ∙ (ap (slice_index bytes) here ∙ is) in
-    let len : position_or_len is_zero (drop start bytes) ≡ z - start = position_or_len_is is_zero (drop start bytes) (z - start) 0 (omega arith) (not_before before) (λ _. eq-eqb (get_or (drop start bytes) (z - start) 0) 0 at_end) in
+    let len : position_or_len is_zero (drop start bytes) ≡ z - start = position_or_len_is is_zero (drop start bytes) (z - start) 0 (omega arith) (not_before before)
+    (λ _. eq-eqb (get_or (drop start bytes) (z - start) 0) 0 at_end) in
     ap (λ n. take n (drop start bytes)) (sym len)
   where
     not_before : ((k : ℕ) → start ≤ k → k < z → slice_index bytes k ≢ 0) → (k : ℕ) → k < z - start → (get_or (drop start bytes) k 0 == 0) ≡ false
@@ -54,28 +55,35 @@ name_of_take xs n k less is =
     ends m e low high =
         let size : length (take n xs) ≡ min n (length xs) = length-take n xs in
         let passes : (get_or (take n xs) m 0 == 0) ≡ true = subst (λ i. (get_or (take n xs) i 0 == 0) ≡ true) (sym e) (passes_at_first is_zero (take n xs) 0 (omega arith)) in
-        let same : position_or_len is_zero xs ≡ m = position_or_len_is is_zero xs m 0 (omega arith) (λ j less'. subst (λ v. (v == 0) ≡ false) (get_or-take n xs j 0 (omega arith)) (fails_before_first is_zero (take n xs) j 0 (omega arith))) (λ _. subst (λ v. (v == 0) ≡ true) (get_or-take n xs m 0 low) passes) in
+        let same : position_or_len is_zero xs ≡ m = position_or_len_is is_zero xs m 0 (omega arith)
+        (λ j less'. subst (λ v. (v == 0) ≡ false) (get_or-take n xs j 0 (omega arith)) (fails_before_first is_zero (take n xs) j 0 (omega arith)))
+        (λ _. subst (λ v. (v == 0) ≡ true) (get_or-take n xs m 0 low) passes) in
         ap (λ i. take i (take n xs)) (sym e) ∙ (take-take m n xs (omega arith) ∙ ap (λ i. take i xs) (sym same))
 
-pub name_in_part : (image : List ℕ) (place size offset : ℕ) → HasZero (part place size image) offset (length (part place size image)) → name_from (part place size image) offset ≡ name_from image (place + offset)
+pub name_in_part : (image : List ℕ) (place size offset : ℕ) → HasZero (part place size image) offset (length (part place size image))
+    → name_from (part place size image) offset ≡ name_from image (place + offset)
 name_in_part image place size offset (z, low, high, inside, is) =
     let long : length (part place size image) ≡ min size (length image - place) = part_length image place size in
     let rest : drop offset (part place size image) ≡ take (size - offset) (drop (place + offset) image) = drop-part place size offset image (omega arith) in
     let left : length (drop offset (part place size image)) ≡ length (part place size image) - offset = length-drop offset (part place size image) in
     let here : offset + (z - offset) ≡ z = omega arith in
-    let zero_here : get_or (drop offset (part place size image)) (z - offset) 0 ≡ 0 = get_or-drop offset (part place size image) (z - offset) 0 ∙ (ap (slice_index (part place size image)) here ∙ is) in
+    let zero_here : get_or (drop offset (part place size image)) (z - offset) 0 ≡ 0 = get_or-drop offset (part place size image) (z - offset) 0 ∙
+    (ap (slice_index (part place size image)) here ∙ is) in
     let less : z - offset < length (drop offset (part place size image)) = omega arith in
-    ap (λ xs. take (position_or_len is_zero xs) xs) rest ∙ name_of_take (drop (place + offset) image) (size - offset) (z - offset) (subst (λ xs. z - offset < length xs) rest less) (subst (λ xs. get_or xs (z - offset) 0 ≡ 0) rest zero_here)
+    ap (λ xs. take (position_or_len is_zero xs) xs) rest ∙ name_of_take (drop (place + offset) image) (size - offset) (z - offset) (subst (λ xs. z - offset < length xs) rest less)
+    (subst (λ xs. get_or xs (z - offset) 0 ≡ 0) rest zero_here)
 
 -- a zero byte of the image that lies in a part is one of the part
-pub zero_in_part : (image : List ℕ) (place size offset : ℕ) → place + size ≤ length image → HasZero image (place + offset) (place + size) → HasZero (part place size image) offset (length (part place size image))
+pub zero_in_part : (image : List ℕ) (place size offset : ℕ) → place + size ≤ length image → HasZero image (place + offset) (place + size)
+    → HasZero (part place size image) offset (length (part place size image))
 zero_in_part image place size offset within (z, low, high, inside, is) =
     let long : length (part place size image) ≡ min size (length image - place) = part_length image place size in
     let here : place + (z - place) ≡ z = omega arith in
     (z - place, omega arith, omega arith, omega arith, part_at image place size (z - place) (omega arith) ∙ (ap (slice_index image) here ∙ is))
 
 -- a short name ends before the first zero byte of its 16 bytes, or has all of them
-short_name_ends : (bytes : List ℕ) (start n : ℕ) → n ≤ 16 → start + 16 ≤ length bytes → ¬ HasZero bytes start (start + n) → (n < 16 → slice_index bytes (start + n) ≡ 0) → part start n bytes ≡ short_name bytes start
+short_name_ends : (bytes : List ℕ) (start n : ℕ) → n ≤ 16 → start + 16 ≤ length bytes → ¬ HasZero bytes start (start + n) → (n < 16 → slice_index bytes (start + n) ≡ 0)
+    → part start n bytes ≡ short_name bytes start
 short_name_ends bytes start n most inside first ends =
     let size : length (part start 16 bytes) ≡ min 16 (length bytes - start) = part_length bytes start 16 in
     let len : position_or_len is_zero (part start 16 bytes) ≡ n = position_or_len_is is_zero (part start 16 bytes) n 0 (omega arith) before at_end in
@@ -89,7 +97,8 @@ short_name_ends bytes start n most inside first ends =
         let size : length (part start 16 bytes) ≡ min 16 (length bytes - start) = part_length bytes start 16 in
         eq-eqb (get_or (part start 16 bytes) n 0) 0 (part_at bytes start 16 n (omega arith) ∙ ends (omega arith))
 
-pub short_name_to_zero : (bytes : List ℕ) (start end : ℕ) → start + 16 ≤ length bytes → Covers start 16 end → slice_get bytes end ≡ Some 0 → ¬ HasZero bytes start end → part start (end - start) bytes ≡ short_name bytes start
+pub short_name_to_zero : (bytes : List ℕ) (start end : ℕ) → start + 16 ≤ length bytes → Covers start 16 end → slice_get bytes end ≡ Some 0 → ¬ HasZero bytes start end
+    → part start (end - start) bytes ≡ short_name bytes start
 short_name_to_zero bytes start end inside (low, high) at first =
     let here : start + (end - start) ≡ end = omega arith in
     let (within, is) = got_at bytes end 0 at in

@@ -11,13 +11,17 @@ use Rattle.macho_image.proofs.Places.{IsAt, IsOver, is_command, none_at_all}
 abbrev pub OfKind : List ℕ → ℕ → List ℕ → ℕ → Type 0
 OfKind image kind commands command = command_kind image command ≡ kind
 
-pub none_before_end : (image : List ℕ) (kind end walked place : ℕ) → IsOver image (OfKind image kind) walked place → end ≤ place → (commands : List ℕ) → AreCommands image commands → ¬ HasKindBefore image commands kind end
+pub none_before_end : (image : List ℕ) (kind end walked place : ℕ) → IsOver image (OfKind image kind) walked place → end ≤ place → (commands : List ℕ) → AreCommands image commands
+    → ¬ HasKindBefore image commands kind end
 none_before_end image kind end walked place over most commands are (k, x, inside, at, (less, same)) = over.none commands are x (k, inside, at) (omega arith) same
 
-pub none_of_kind : (image : List ℕ) (kind end walked place : ℕ) → IsOver image (OfKind image kind) walked place → walked ≡ command_count image → (commands : List ℕ) → AreCommands image commands → ¬ HasKindBefore image commands kind end
-none_of_kind image kind end walked place over all commands are (k, x, inside, at, (less, same)) = none_at_all image (OfKind image kind) walked place over.at all over.none commands are x (k, inside, at) same
+pub none_of_kind : (image : List ℕ) (kind end walked place : ℕ) → IsOver image (OfKind image kind) walked place → walked ≡ command_count image → (commands : List ℕ)
+    → AreCommands image commands → ¬ HasKindBefore image commands kind end
+none_of_kind image kind end walked place over all commands are (k, x, inside, at, (less, same)) = none_at_all image (OfKind image kind) walked place over.at all over.none commands
+    are x (k, inside, at) same
 
-pub one_of_kind : (image : List ℕ) (kind end walked place : ℕ) → IsAt image walked place → walked < command_count image → place < end → command_kind image place ≡ kind → (commands : List ℕ) → AreCommands image commands → HasKindBefore image commands kind end
+pub one_of_kind : (image : List ℕ) (kind end walked place : ℕ) → IsAt image walked place → walked < command_count image → place < end → command_kind image place ≡ kind
+    → (commands : List ℕ) → AreCommands image commands → HasKindBefore image commands kind end
 one_of_kind image kind end walked place at few less same commands are =
     let (k, inside, is) = is_command image commands walked place are at few in (k, place, inside, is, (less, same))
 
@@ -31,7 +35,8 @@ id_is_inside image commands whole are = (λ h. (h.0, h.1, h.2, h.3, h.4.1), insi
         (k, x, within, at, (omega (arith, good.inside, good.least, whole.inside), same))
 
 -- the size of the image bounds no place
-pub has_id_by_search : (image commands : List ℕ) (size : ℕ) (found : Bool) → size ≡ length image → IsWalked image → AreCommands image commands → (IsTrue found ↔ HasKindBefore image commands 13 size) → IsTrue found ↔ HasDylibId image commands
+pub has_id_by_search : (image commands : List ℕ) (size : ℕ) (found : Bool) → size ≡ length image → IsWalked image → AreCommands image commands
+    → (IsTrue found ↔ HasKindBefore image commands 13 size) → IsTrue found ↔ HasDylibId image commands
 has_id_by_search image commands size found same whole are search =
     let before = subst (λ end. IsTrue found ↔ HasKindBefore image commands 13 end) same search in
     let inside = id_is_inside image commands whole are in
@@ -41,7 +46,8 @@ has_id_by_search image commands size found same whole are search =
 abbrev pub HasWrongId : List ℕ → List ℕ → Type 0
 HasWrongId image commands = ((file_type image ≡ 6) × ¬ HasDylibId image commands) ⊎ ((file_type image ≡ 2) × HasDylibId image commands)
 
-pub id_broken : (image commands : List ℕ) (type : ℕ) (has : Bool) → type ≡ file_type image → IsRead image → (IsTrue has ↔ HasDylibId image commands) → not (beq (eqb type 6) has) ≡ true → HasWrongId image commands
+pub id_broken : (image commands : List ℕ) (type : ℕ) (has : Bool) → type ≡ file_type image → IsRead image → (IsTrue has ↔ HasDylibId image commands)
+    → not (beq (eqb type 6) has) ≡ true → HasWrongId image commands
 id_broken image commands type true e read h t =
     elim read [
       | inl program ↦ inr (program, h.0 refl)

@@ -7,7 +7,8 @@ use Rattle.macho_fields.specs.Image.{command_kind, of_kind}
 use Rattle.macho_image.specs.Command.{CommandView, command_at, left_of_kind, AreLong}
 
 -- a command is kept among the views where it is kept among the places
-pub keep_or_pass : (image : List ℕ) (x : ℕ) (vs : List CommandView) (xs : List ℕ) (b : Bool) → vs ≡ map (command_at image) xs → cond b (command_at image x ∷ vs) vs ≡ map (command_at image) (cond b (x ∷ xs) xs)
+pub keep_or_pass : (image : List ℕ) (x : ℕ) (vs : List CommandView) (xs : List ℕ) (b : Bool) → vs ≡ map (command_at image) xs
+    → cond b (command_at image x ∷ vs) vs ≡ map (command_at image) (cond b (x ∷ xs) xs)
 keep_or_pass image x vs xs true same = ap (λ ys. command_at image x ∷ ys) same
 keep_or_pass image x vs xs false same = same
 
@@ -34,7 +35,8 @@ abbrev first_or : {B : Type 0} → B → List B → B
 first_or other [] = other
 first_or other (x ∷ xs) = x
 
-pub some_first : {B : Type 0} (f : CommandView → B) (g : ℕ → B) (vs rest : List CommandView) (xs : List ℕ) (v : CommandView) (b : B) → map f vs ≡ map g xs → vs ≡ v ∷ rest → b ≡ f v → Some b ≡ option_map g (slice_get xs 0)
+pub some_first : {B : Type 0} (f : CommandView → B) (g : ℕ → B) (vs rest : List CommandView) (xs : List ℕ) (v : CommandView) (b : B) → map f vs ≡ map g xs → vs ≡ v ∷ rest
+    → b ≡ f v → Some b ≡ option_map g (slice_get xs 0)
 some_first f g vs rest [] v b same is gives =
     let shorter : length (map f vs) ≡ 0 = ap length same in
     let longer : length (map f vs) ≡ length (f v ∷ map f rest) = ap (λ ys. length (map f ys)) is in

@@ -51,13 +51,16 @@ module _ (image : List ℕ) (arch : Option (ℕ × ℕ)) where
   kept_name walked below keeps = let (commands, are) = walked.commands in kept_all image arch (kept_by_commands image arch commands rule.Name (λ _ h. h) are below (keeps commands are))
 
   -- where the rules before it are not broken, the answer of a rule is that of the opening
-  pub header_answer : (r : Rule) (found b : Break) {T : Type 0} (answer : Result T Break) → answer ≡ Err b → b ≡ found → rank r < 19 → ((commands : List ℕ) (place : ℕ) → ¬ BreaksCommands image commands r place) → Kept (rank r)
+  pub header_answer : (r : Rule) (found b : Break) {T : Type 0} (answer : Result T Break) → answer ≡ Err b → b ≡ found → rank r < 19
+      → ((commands : List ℕ) (place : ℕ) → ¬ BreaksCommands image commands r place) → Kept (rank r)
       → (found.rule ≡ r) × BreaksHeader image arch r found.place × ((place : ℕ) → BreaksHeader image arch r place → found.place ≤ place) → Decides (BreaksOpening image arch) answer
   header_answer r found b answer is same early never below says =
       decides_err (BreaksOpening image arch) r found answer (is ∙ ap Err same) below (opening_by_header image arch {T = ℕ} r (Err found) early never says)
 
-  pub commands_answer : (r : Rule) (found b : Break) {T : Type 0} (answer : Result T Break) → answer ≡ Err b → b ≡ found → rank r < 19 → ((place : ℕ) → ¬ BreaksHeader image arch r place) → IsWalked image → Kept (rank r)
-      → ((commands : List ℕ) → AreCommands image commands → (found.rule ≡ r) × BreaksCommands image commands r found.place × ((place : ℕ) → BreaksCommands image commands r place → found.place ≤ place)) → Decides (BreaksOpening image arch) answer
+  pub commands_answer : (r : Rule) (found b : Break) {T : Type 0} (answer : Result T Break) → answer ≡ Err b → b ≡ found → rank r < 19
+      → ((place : ℕ) → ¬ BreaksHeader image arch r place) → IsWalked image → Kept (rank r)
+      → ((commands : List ℕ) → AreCommands image commands → (found.rule ≡ r) × BreaksCommands image commands r found.place ×
+      ((place : ℕ) → BreaksCommands image commands r place → found.place ≤ place)) → Decides (BreaksOpening image arch) answer
   commands_answer r found b answer is same early never walked below says =
       let (commands, are) = walked.commands in
       decides_err (BreaksOpening image arch) r found answer (is ∙ ap Err same) below (opening_by_commands image arch {T = ℕ} commands r (Err found) early never are (says commands are))

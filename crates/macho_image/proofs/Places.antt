@@ -89,7 +89,8 @@ NoneBefore image P place = (commands : List ℕ) → AreCommands image commands 
 pub none_first : (image : List ℕ) (P : List ℕ → ℕ → Type 0) → NoneBefore image P 32
 none_first image P commands are p has less = let late = starts_below image 32 commands are.1 p are.2 has in absurd (omega arith)
 
-pub none_next : (image : List ℕ) (P : List ℕ → ℕ → Type 0) (walked place : ℕ) → IsAt image walked place → walked < command_count image → NoneBefore image P place → ((commands : List ℕ) → AreCommands image commands → ¬ P commands place) → NoneBefore image P (place + command_size image place)
+pub none_next : (image : List ℕ) (P : List ℕ → ℕ → Type 0) (walked place : ℕ) → IsAt image walked place → walked < command_count image → NoneBefore image P place
+    → ((commands : List ℕ) → AreCommands image commands → ¬ P commands place) → NoneBefore image P (place + command_size image place)
 none_next image P walked place at few none here commands are p has less is =
     elim (cases_order p place) [
       | inl same ↦ here commands are (subst (P commands) same is)
@@ -100,20 +101,23 @@ none_next image P walked place at few none here commands are p has less is =
     ]
 
 -- all commands lie before the place after them
-pub none_at_all : (image : List ℕ) (P : List ℕ → ℕ → Type 0) (walked place : ℕ) → IsAt image walked place → walked ≡ command_count image → NoneBefore image P place → (commands : List ℕ) → AreCommands image commands → (p : ℕ) → Contains commands p → ¬ P commands p
+pub none_at_all : (image : List ℕ) (P : List ℕ → ℕ → Type 0) (walked place : ℕ) → IsAt image walked place → walked ≡ command_count image → NoneBefore image P place
+    → (commands : List ℕ) → AreCommands image commands → (p : ℕ) → Contains commands p → ¬ P commands p
 none_at_all image P walked place at all none commands are p has =
     let same : at.places ≡ commands = commands_unique image at.places commands (at.count ∙ all, place, at.chain) are in
     none commands are p has (ends_after image 32 at.places place p at.chain (subst (λ cs. Contains cs p) (sym same) has))
 
 -- the first command that breaks a rule is its least place
-pub rule_broken : (image : List ℕ) (r : Rule) (place : ℕ) → ((commands : List ℕ) (p : ℕ) → BreaksCommands image commands r p → Contains commands p) → NoneBefore image (λ commands. BreaksCommands image commands r) place → ((commands : List ℕ) → AreCommands image commands → BreaksCommands image commands r place)
+pub rule_broken : (image : List ℕ) (r : Rule) (place : ℕ) → ((commands : List ℕ) (p : ℕ) → BreaksCommands image commands r p → Contains commands p)
+    → NoneBefore image (λ commands. BreaksCommands image commands r) place → ((commands : List ℕ) → AreCommands image commands → BreaksCommands image commands r place)
     → (commands : List ℕ) → AreCommands image commands → (r ≡ r) × BreaksCommands image commands r place × ((p : ℕ) → BreaksCommands image commands r p → place ≤ p)
 rule_broken image r place among none here commands are = (refl, here commands are, least)
   where
     least : (p : ℕ) → BreaksCommands image commands r p → place ≤ p
     least p broken = elim (cases_lt p place) [ inl less ↦ absurd (none commands are p (among commands p broken) less broken) | inr most ↦ most ]
 
-pub rule_kept : (image : List ℕ) (r : Rule) (walked place : ℕ) → ((commands : List ℕ) (p : ℕ) → BreaksCommands image commands r p → Contains commands p) → IsAt image walked place → walked ≡ command_count image → NoneBefore image (λ commands. BreaksCommands image commands r) place
+pub rule_kept : (image : List ℕ) (r : Rule) (walked place : ℕ) → ((commands : List ℕ) (p : ℕ) → BreaksCommands image commands r p → Contains commands p) → IsAt image walked place
+    → walked ≡ command_count image → NoneBefore image (λ commands. BreaksCommands image commands r) place
     → (commands : List ℕ) → AreCommands image commands → (p : ℕ) → ¬ BreaksCommands image commands r p
 rule_kept image r walked place among at all none commands are p broken = none_at_all image (λ cs. BreaksCommands image cs r) walked place at all none commands are p (among commands p broken) broken
 
@@ -125,7 +129,8 @@ pub record IsOver (image : List ℕ) (P : List ℕ → ℕ → Type 0) (walked p
 pub over_first : (image : List ℕ) (P : List ℕ → ℕ → Type 0) → IsOver image P 0 32
 over_first image P = record { at = at_first image; none = none_first image P }
 
-pub over_next : (image : List ℕ) (P : List ℕ → ℕ → Type 0) (walked place next : ℕ) → next ≡ place + command_size image place → IsOver image P walked place → walked < command_count image → IsGood image place → ((commands : List ℕ) → AreCommands image commands → ¬ P commands place) → IsOver image P (walked + 1) next
+pub over_next : (image : List ℕ) (P : List ℕ → ℕ → Type 0) (walked place next : ℕ) → next ≡ place + command_size image place → IsOver image P walked place
+    → walked < command_count image → IsGood image place → ((commands : List ℕ) → AreCommands image commands → ¬ P commands place) → IsOver image P (walked + 1) next
 over_next image P walked place next moved over less good here = subst (IsOver image P (walked + 1)) (sym moved) after
   where
     after : IsOver image P (walked + 1) (place + command_size image place)

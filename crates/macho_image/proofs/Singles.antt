@@ -33,7 +33,8 @@ build_seen image c here =
     let sdk : word bytes 16 ≡ word image (c + 16) = word_in_part c (command_size image c) 16 image (omega arith) in
     same platform minos sdk
   where
-    same : {a b d e f g : ℕ} → a ≡ b → d ≡ e → f ≡ g → (let made : Build = record { place = c; platform = a; minos = d; sdk = f } in made) ≡ (let made : Build = record { place = c; platform = b; minos = e; sdk = g } in made)
+    same : {a b d e f g : ℕ} → a ≡ b → d ≡ e → f ≡ g
+        → (let made : Build = record { place = c; platform = a; minos = d; sdk = f } in made) ≡ (let made : Build = record { place = c; platform = b; minos = e; sdk = g } in made)
     same {b = b} {d = d} {f = f} p m s =
         ap (λ (x : ℕ). let made : Build = record { place = c; platform = x; minos = d; sdk = f } in made) p
         ∙ ap₂ (λ (x y : ℕ). let made : Build = record { place = c; platform = b; minos = x; sdk = y } in made) m s

@@ -76,7 +76,8 @@ abbrev are_below : ℕ → List ℕ → Bool
 are_below most offsets = list_all (λ o. nat_le (o + 4) most) offsets
 
 fit_within : (most size : ℕ) (offsets : List ℕ) → most ≤ size → are_below most offsets ≡ true → All (λ o. o + 4 ≤ size) offsets
-fit_within most size offsets holds below k d less = let here : slice_index_or offsets k d + 4 ≤ most = leb-true _ _ (AllPass-from_list_all (λ o. nat_le (o + 4) most) offsets below k d less) in omega arith
+fit_within most size offsets holds below k d less = let here : slice_index_or offsets k d + 4 ≤ most = leb-true _ _
+    (AllPass-from_list_all (λ o. nat_le (o + 4) most) offsets below k d less) in omega arith
 
 pub symtab_seen : (image : List ℕ) (c : ℕ) → IsHeld image 24 c → symtab_in (command_at image c) ≡ symtab_at image c
 symtab_seen image c here =

@@ -83,14 +83,17 @@ has_room_for_name k n = list_any (λ structure. structure.0 == k && nat_le 12 st
 pub named_is_long : (image : List ℕ) (command least : ℕ) → number_for (command_kind image command) named_kinds ≡ Some least → ¬ IsShort image command → 12 ≤ command_size image command
 named_is_long image command least some whole =
     elim (cases_lt (command_size image command) 12) [
-      | inl short ↦ absurd (whole (any_weaker (λ structure. (structure.0 == command_kind image command && nat_le 12 structure.1) ≡ true) (λ structure. (structure.0 ≡ command_kind image command) × (command_size image command < structure.1 + records_size image command)) structures (longer short) listed))
+      | inl short ↦ absurd (whole (any_weaker (λ structure. (structure.0 == command_kind image command && nat_le 12 structure.1) ≡ true)
+          (λ structure. (structure.0 ≡ command_kind image command) × (command_size image command < structure.1 + records_size image command)) structures (longer short) listed))
       | inr long ↦ long
     ]
   where
     listed : Any (λ structure. (structure.0 == command_kind image command && nat_le 12 structure.1) ≡ true) structures
-    listed = Any-from_list_any (λ structure. structure.0 == command_kind image command && nat_le 12 structure.1) structures (number_passes has_room_for_name (command_kind image command) least named_kinds refl some)
+    listed = Any-from_list_any (λ structure. structure.0 == command_kind image command && nat_le 12 structure.1) structures
+        (number_passes has_room_for_name (command_kind image command) least named_kinds refl some)
 
-    longer : command_size image command < 12 → (structure : ℕ × ℕ) → (structure.0 == command_kind image command && nat_le 12 structure.1) ≡ true → (structure.0 ≡ command_kind image command) × (command_size image command < structure.1 + records_size image command)
+    longer : command_size image command < 12 → (structure : ℕ × ℕ) → (structure.0 == command_kind image command && nat_le 12 structure.1) ≡ true
+        → (structure.0 ≡ command_kind image command) × (command_size image command < structure.1 + records_size image command)
     longer short structure passes =
         let both = and_parts (structure.0 == command_kind image command) (nat_le 12 structure.1) passes in
         let room : 12 ≤ structure.1 = leb-true 12 structure.1 both.1 in
@@ -101,10 +104,12 @@ pub unlisted : (image : List ℕ) (command : ℕ) → number_for (command_kind i
 unlisted image command none = no_number (λ n. command_size image command < n + records_size image command) (command_kind image command) structures none
 
 -- a listed command is short by its size
-pub listed_short : (image : List ℕ) (command size : ℕ) → number_for (command_kind image command) structures ≡ Some size → command_size image command < size + records_size image command → IsShort image command
+pub listed_short : (image : List ℕ) (command size : ℕ) → number_for (command_kind image command) structures ≡ Some size
+    → command_size image command < size + records_size image command → IsShort image command
 listed_short image command size some short = number_entry (λ n. command_size image command < n + records_size image command) (command_kind image command) size structures some short
 
-pub short_listed : (image : List ℕ) (command size : ℕ) → number_for (command_kind image command) structures ≡ Some size → IsShort image command → command_size image command < size + records_size image command
+pub short_listed : (image : List ℕ) (command size : ℕ) → number_for (command_kind image command) structures ≡ Some size → IsShort image command
+    → command_size image command < size + records_size image command
 short_listed image command size some short = entry_number (λ n. command_size image command < n + records_size image command) (command_kind image command) size structures refl some short
 
 -- the name of a command is bad by its least offset
@@ -121,8 +126,10 @@ pub bad_named : (image : List ℕ) (command least : ℕ) → number_for (command
 bad_named image command least some bad = entry_number (IsBadFrom image command) (command_kind image command) least named_kinds refl some bad
 
 -- where the offset is not too small, a name is bad by where it ends
-pub unended_bad : (image : List ℕ) (command least : ℕ) (ended : Bool) → number_for (command_kind image command) named_kinds ≡ Some least → least ≤ name_offset image command → (IsTrue ended ↔ HasZero image (name_start image command) (command + command_size image command)) → IsTrue (not ended) ↔ HasBadName image command
+pub unended_bad : (image : List ℕ) (command least : ℕ) (ended : Bool) → number_for (command_kind image command) named_kinds ≡ Some least → least ≤ name_offset image command
+    → (IsTrue ended ↔ HasZero image (name_start image command) (command + command_size image command)) → IsTrue (not ended) ↔ HasBadName image command
 unended_bad image command least ended some enough ends = (
   λ h. named_bad image command least some (inr (λ zero. both_ways ended (not-true ended h) (ends.1 zero))),
-  λ bad. ⊎_elim (λ less. let low : name_offset image command < least = less in absurd (omega arith)) (λ none. not_from_false ended (false_from_ne_true ended (λ t. none (ends.0 t)))) (bad_named image command least some bad),
+  λ bad. ⊎_elim (λ less. let low : name_offset image command < least = less in absurd (omega arith))
+      (λ none. not_from_false ended (false_from_ne_true ended (λ t. none (ends.0 t)))) (bad_named image command least some bad),
 )

@@ -38,6 +38,8 @@ pub walk_left : (image : List ℕ) (place left size : ℕ) → 0 < left → size
 walk_left image place left size some is can =
     subst (λ s. CanWalk image (place + s) (left - 1)) (sym is) (can_walk_on image place left some can)
 
-pub yields_first : (image : List ℕ) (place left size : ℕ) (c : CommandView) → 0 < left → c ≡ command_at image place → size ≡ c.size → commands_left image place left ≡ c ∷ commands_left image (place + size) (left - 1)
+pub yields_first : (image : List ℕ) (place left size : ℕ) (c : CommandView) → 0 < left → c ≡ command_at image place → size ≡ c.size
+    → commands_left image place left ≡ c ∷ commands_left image (place + size) (left - 1)
 yields_first image place left size c some is e =
-    commands-step image place left some ∙ ap₂ (λ (v : CommandView) (s : ℕ). v ∷ commands_left image (place + s) (left - 1)) (sym is) (let same : command_size image place ≡ size = sym (e ∙ ap (λ v. v.size) is) in same)
+    commands-step image place left some ∙ ap₂ (λ (v : CommandView) (s : ℕ). v ∷ commands_left image (place + s) (left - 1)) (sym is)
+    (let same : command_size image place ≡ size = sym (e ∙ ap (λ v. v.size) is) in same)

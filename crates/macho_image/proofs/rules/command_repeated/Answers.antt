@@ -16,7 +16,8 @@ pub returns-then-is_repeated : goal.returns-then-is_repeated
 returns-then-is_repeated c =
     let image = bytes_of c.args.image in
     rule_broken image rule.CommandRepeated c.loop-walked.place (λ commands p broken. broken.0) c.loop-walked.invariant.none
-    (λ commands are. (let h = (c.is_repeated.ensures commands are).0 c.if-is_repeated.true in (is_command image commands c.loop-walked._walked c.loop-walked.place are c.loop-walked.invariant.at (omega arith), h.0, h.1)))
+    (λ commands are. (let h = (c.is_repeated.ensures commands are).0 c.if-is_repeated.true in
+    (is_command image commands c.loop-walked._walked c.loop-walked.place are c.loop-walked.invariant.at (omega arith), h.0, h.1)))
 
 pub size_at-place-requires-clause-good : goal.size_at-place-requires-clause-good
 size_at-place-requires-clause-good c =
@@ -26,7 +27,8 @@ pub loop-walked-preserved : goal.loop-walked-preserved
 loop-walked-preserved c =
     let image = bytes_of c.args.image in
     let place = c.loop-walked.place in
-    over_next image (Breaking image rule.CommandRepeated) c.loop-walked._walked place (place + c.size_at-place.result) (ap (λ n. place + n) c.size_at-place.ensures.size) c.loop-walked.invariant (omega arith)
+    over_next image (Breaking image rule.CommandRepeated) c.loop-walked._walked place (place + c.size_at-place.result) (ap (λ n. place + n) c.size_at-place.ensures.size)
+    c.loop-walked.invariant (omega arith)
     (good_at image c.loop-walked._walked place c.requires c.loop-walked.invariant.at (omega arith))
     (λ commands are broken. both_ways c.is_repeated.result c.if-is_repeated.false ((c.is_repeated.ensures commands are).1 (broken.1, broken.2)))
 

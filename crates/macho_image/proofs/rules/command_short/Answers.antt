@@ -26,7 +26,8 @@ pub loop-walked-preserved : goal.loop-walked-preserved
 loop-walked-preserved c =
     let image = bytes_of c.args.image in
     let place = c.loop-walked.place in
-    over_next image (Breaking image rule.CommandShort) c.loop-walked._walked place (place + c.size_at-place.result) (ap (λ n. place + n) c.size_at-place.ensures.size) c.loop-walked.invariant (omega arith)
+    over_next image (Breaking image rule.CommandShort) c.loop-walked._walked place (place + c.size_at-place.result) (ap (λ n. place + n) c.size_at-place.ensures.size)
+    c.loop-walked.invariant (omega arith)
     (good_at image c.loop-walked._walked place c.requires c.loop-walked.invariant.at (omega arith))
     (λ commands are broken. both_ways c.is_short.result c.if-is_short.false (c.is_short.ensures.1 broken.1))
 

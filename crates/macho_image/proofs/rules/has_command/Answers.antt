@@ -19,7 +19,8 @@ kind_at-requires-clause-good c =
 
 pub returns-then-kind_at-kind : goal.returns-then-kind_at-kind
 returns-then-kind_at-kind c commands are =
-    let one = one_of_kind (bytes_of c.args.image) c.args.kind c.args.end c.loop-walked._walked c.loop-walked.place c.loop-walked.invariant.at (omega arith) c.if-place-end.false (sym c.kind_at.ensures ∙ c.if-kind_at-kind.true) commands are in
+    let one = one_of_kind (bytes_of c.args.image) c.args.kind c.args.end c.loop-walked._walked c.loop-walked.place c.loop-walked.invariant.at (omega arith) c.if-place-end.false
+    (sym c.kind_at.ensures ∙ c.if-kind_at-kind.true) commands are in
     (λ h. one, λ any. refl)
 
 pub size_at-place-requires-clause-good : goal.size_at-place-requires-clause-good

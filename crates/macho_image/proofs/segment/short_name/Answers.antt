@@ -11,7 +11,8 @@ pub returns : goal.returns
 returns c =
     let bytes = bytes_of c.args.image in
     let start = c.args.structure + c.args.offset in
-    let name : IfSome (Some c.unwrap.result) (λ b. b.now ≡ part start c.match-first_zero.len bytes) = subst (λ r. IfSome r (λ b. b.now ≡ part start c.match-first_zero.len bytes)) c.unwrap.ensures c.part.ensures.bytes in
+    let name : IfSome (Some c.unwrap.result) (λ b. b.now ≡ part start c.match-first_zero.len bytes) = subst (λ r. IfSome r (λ b. b.now ≡ part start c.match-first_zero.len bytes))
+    c.unwrap.ensures c.part.ensures.bytes in
     elim c.match-first_zero.branch [
       | in-Some w ↦ name ∙ (ap (λ n. part start n bytes) w.len-is ∙ short_name_to_zero bytes start w.in-Some.end c.requires w.in-Some.ensures.zero.0 w.in-Some.ensures.zero.1 w.in-Some.ensures.first)
       | in-None w ↦ name ∙ (ap (λ n. part start n bytes) w.len-is ∙ short_name_whole bytes start c.requires (λ has. false≢true (w.in-None.ensures.found.1 has)))

@@ -13,8 +13,11 @@ returns-in_default-clause-decides c =
 pub loop-walked-preserved : goal.loop-walked-preserved
 loop-walked-preserved c =
     let image = bytes_of c.args.image in
-    let good : IsGood image c.loop-walked.place = c.in-Some.ensures.good.0 refl in
-    (omega (arith, good.inside, c.in-Some.ensures.next), subst (IsAt image (c.loop-walked._walked + 1)) (sym c.in-Some.ensures.next) (at_next image c.loop-walked._walked c.loop-walked.place c.loop-walked.invariant.1 good))
+    let good : IsGood image c.loop-walked.place = c.in-Some.ensures.good.0 refl in (
+      omega (arith, good.inside, c.in-Some.ensures.next),
+      subst (IsAt image (c.loop-walked._walked + 1)) (sym c.in-Some.ensures.next)
+          (at_next image c.loop-walked._walked c.loop-walked.place c.loop-walked.invariant.1 good),
+    )
 
 pub returns-clause-decides : goal.returns-clause-decides
 returns-clause-decides c =

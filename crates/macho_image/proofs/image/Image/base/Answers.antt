@@ -6,7 +6,8 @@ pub returns-then-shows_start : goal.returns-then-shows_start
 returns-then-shows_start c =
     let here = ap base_among c.in-Some.ensures.steps ∙ base_here c.in-Some.segment c.next.new.self c.shows_start.result c.if-shows_start.true c.shows_start.ensures in
     let all = c.loop-segment.invariant.2 ∙ here in
-    base_seen c.args.self.now c.segments-segment-items.result _ (ap Some c.vmaddr.ensures ∙ (sym all ∙ ap base_among c.into_iter-segment-iterator.ensures.into_iter_gives)) c.segments-segment-items.ensures.segments
+    base_seen c.args.self.now c.segments-segment-items.result _ (ap Some c.vmaddr.ensures ∙ (sym all ∙ ap base_among c.into_iter-segment-iterator.ensures.into_iter_gives))
+    c.segments-segment-items.ensures.segments
 
 pub returns : goal.returns
 returns c =

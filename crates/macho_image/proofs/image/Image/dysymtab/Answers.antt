@@ -7,7 +7,8 @@ use Rattle.macho_image.proofs.image.Image.dysymtab.Goals as goal
 
 pub returns-in_err-command : goal.returns-in_err-command
 returns-in_err-command c =
-    none_found dysymtab_in (dysymtab_at c.args.self.now) c.args.self.now c.commands.result loader.LC_DYSYMTAB 80 c.from_residual.result dysymtab_listed (dysymtab_seen c.args.self.now) c.commands.ensures.opened c.commands.ensures.commands c.in_err-command.ensures.0 c.from_residual.ensures
+    none_found dysymtab_in (dysymtab_at c.args.self.now) c.args.self.now c.commands.result loader.LC_DYSYMTAB 80 c.from_residual.result dysymtab_listed
+    (dysymtab_seen c.args.self.now) c.commands.ensures.opened c.commands.ensures.commands c.in_err-command.ensures.0 c.from_residual.ensures
 
 pub dysymtab_from-requires : goal.dysymtab_from-requires
 dysymtab_from-requires c =
@@ -15,4 +16,5 @@ dysymtab_from-requires c =
 
 pub returns : goal.returns
 returns c =
-    first_found dysymtab_in (dysymtab_at c.args.self.now) c.args.self.now c.commands.result _ _ loader.LC_DYSYMTAB 80 c.dysymtab_from.result dysymtab_listed (dysymtab_seen c.args.self.now) c.commands.ensures.opened c.commands.ensures.commands c.in_ok-command.ensures c.dysymtab_from.ensures
+    first_found dysymtab_in (dysymtab_at c.args.self.now) c.args.self.now c.commands.result _ _ loader.LC_DYSYMTAB 80 c.dysymtab_from.result dysymtab_listed
+    (dysymtab_seen c.args.self.now) c.commands.ensures.opened c.commands.ensures.commands c.in_ok-command.ensures c.dysymtab_from.ensures

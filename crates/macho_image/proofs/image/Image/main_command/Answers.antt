@@ -7,7 +7,8 @@ use Rattle.macho_image.proofs.image.Image.main_command.Goals as goal
 
 pub returns-in_err-command : goal.returns-in_err-command
 returns-in_err-command c =
-    none_found main_command_in (main_command_at c.args.self.now) c.args.self.now c.commands.result loader.LC_MAIN 24 c.from_residual.result main_listed (main_command_seen c.args.self.now) c.commands.ensures.opened c.commands.ensures.commands c.in_err-command.ensures.0 c.from_residual.ensures
+    none_found main_command_in (main_command_at c.args.self.now) c.args.self.now c.commands.result loader.LC_MAIN 24 c.from_residual.result main_listed
+    (main_command_seen c.args.self.now) c.commands.ensures.opened c.commands.ensures.commands c.in_err-command.ensures.0 c.from_residual.ensures
 
 pub main_command_from-requires : goal.main_command_from-requires
 main_command_from-requires c =
@@ -15,4 +16,5 @@ main_command_from-requires c =
 
 pub returns : goal.returns
 returns c =
-    first_found main_command_in (main_command_at c.args.self.now) c.args.self.now c.commands.result _ _ loader.LC_MAIN 24 c.main_command_from.result main_listed (main_command_seen c.args.self.now) c.commands.ensures.opened c.commands.ensures.commands c.in_ok-command.ensures c.main_command_from.ensures
+    first_found main_command_in (main_command_at c.args.self.now) c.args.self.now c.commands.result _ _ loader.LC_MAIN 24 c.main_command_from.result main_listed
+    (main_command_seen c.args.self.now) c.commands.ensures.opened c.commands.ensures.commands c.in_ok-command.ensures c.main_command_from.ensures

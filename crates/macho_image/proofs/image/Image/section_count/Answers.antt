@@ -7,8 +7,11 @@ use Rattle.macho_image.proofs.HeldSegments.{all_segments_hold, first_segment, re
 use Rattle.macho_image.proofs.image.Image.section_count.Goals as goal
 
 pub loop-command-init : goal.loop-command-init
-loop-command-init c =
-    (subst (λ image. HoldSegments image c.commands-commands.result) (sym c.bytes-image.ensures.bytes) (all_segments_hold c.args.self.now c.commands-commands.result c.commands-commands.ensures.opened c.commands-commands.ensures.commands), omega arith)
+loop-command-init c = (
+  subst (λ image. HoldSegments image c.commands-commands.result) (sym c.bytes-image.ensures.bytes)
+      (all_segments_hold c.args.self.now c.commands-commands.result c.commands-commands.ensures.opened c.commands-commands.ensures.commands),
+  omega arith,
+)
 
 pub word_in-requires : goal.word_in-requires
 word_in-requires c =
@@ -17,7 +20,8 @@ word_in-requires c =
 pub overflow_add-count : goal.overflow_add-count
 overflow_add-count c =
     let image = bytes_of c.bytes-image.result in
-    let fits : 80 * counted image c.commands-commands.result ≤ length image = subst (λ i. 80 * counted i c.commands-commands.result ≤ length i) (sym c.bytes-image.ensures.bytes) (count_fits c.args.self.now c.commands-commands.result c.commands-commands.ensures.opened c.commands-commands.ensures.commands) in
+    let fits : 80 * counted image c.commands-commands.result ≤ length image = subst (λ i. 80 * counted i c.commands-commands.result ≤ length i) (sym c.bytes-image.ensures.bytes)
+    (count_fits c.args.self.now c.commands-commands.result c.commands-commands.ensures.opened c.commands-commands.ensures.commands) in
     let count : c.loop-command.count + counted image c.loop-command.commands ≡ counted image c.commands-commands.result = c.loop-command.invariant.1 in
     let more : counted image c.loop-command.commands ≡ nsects image c.in-Some.command.place + counted image c.next_of_kind.new.self = counted_more image _ _ _ c.in-Some.ensures in
     let here : c.from-count.result ≡ nsects image c.in-Some.command.place = c.from-count.ensures ∙ c.word_in.ensures in

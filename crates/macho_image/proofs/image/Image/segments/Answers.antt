@@ -11,4 +11,5 @@ invariant_of-result c =
 
 pub returns-clause-segments : goal.returns-clause-segments
 returns-clause-segments c =
-    subst (λ image. OfCommands c.args.self.now (λ commands. segments_left image c.commands.result ≡ map (structure_at c.args.self.now) (segments_of c.args.self.now commands))) (sym c.bytes.ensures.bytes) (segments_seen c.args.self.now c.commands.result c.commands.ensures.opened c.commands.ensures.commands)
+    subst (λ image. OfCommands c.args.self.now (λ commands. segments_left image c.commands.result ≡ map (structure_at c.args.self.now) (segments_of c.args.self.now commands)))
+    (sym c.bytes.ensures.bytes) (segments_seen c.args.self.now c.commands.result c.commands.ensures.opened c.commands.ensures.commands)

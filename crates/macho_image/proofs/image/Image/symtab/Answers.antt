@@ -7,7 +7,8 @@ use Rattle.macho_image.proofs.image.Image.symtab.Goals as goal
 
 pub returns-in_err-command : goal.returns-in_err-command
 returns-in_err-command c =
-    none_found symtab_in (symtab_at c.args.self.now) c.args.self.now c.commands.result loader.LC_SYMTAB 24 c.from_residual.result symtab_listed (symtab_seen c.args.self.now) c.commands.ensures.opened c.commands.ensures.commands c.in_err-command.ensures.0 c.from_residual.ensures
+    none_found symtab_in (symtab_at c.args.self.now) c.args.self.now c.commands.result loader.LC_SYMTAB 24 c.from_residual.result symtab_listed (symtab_seen c.args.self.now)
+    c.commands.ensures.opened c.commands.ensures.commands c.in_err-command.ensures.0 c.from_residual.ensures
 
 pub symtab_from-requires : goal.symtab_from-requires
 symtab_from-requires c =
@@ -15,4 +16,5 @@ symtab_from-requires c =
 
 pub returns : goal.returns
 returns c =
-    first_found symtab_in (symtab_at c.args.self.now) c.args.self.now c.commands.result _ _ loader.LC_SYMTAB 24 c.symtab_from.result symtab_listed (symtab_seen c.args.self.now) c.commands.ensures.opened c.commands.ensures.commands c.in_ok-command.ensures c.symtab_from.ensures
+    first_found symtab_in (symtab_at c.args.self.now) c.args.self.now c.commands.result _ _ loader.LC_SYMTAB 24 c.symtab_from.result symtab_listed (symtab_seen c.args.self.now)
+    c.commands.ensures.opened c.commands.ensures.commands c.in_ok-command.ensures c.symtab_from.ensures

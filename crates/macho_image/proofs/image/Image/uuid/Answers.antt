@@ -7,7 +7,8 @@ use Rattle.macho_image.proofs.image.Image.uuid.Goals as goal
 
 pub returns-in_err-command : goal.returns-in_err-command
 returns-in_err-command c =
-    none_found uuid_in (uuid_at c.args.self.now) c.args.self.now c.commands.result loader.LC_UUID 24 c.from_residual.result uuid_listed (uuid_seen c.args.self.now) c.commands.ensures.opened c.commands.ensures.commands c.in_err-command.ensures.0 c.from_residual.ensures
+    none_found uuid_in (uuid_at c.args.self.now) c.args.self.now c.commands.result loader.LC_UUID 24 c.from_residual.result uuid_listed (uuid_seen c.args.self.now)
+    c.commands.ensures.opened c.commands.ensures.commands c.in_err-command.ensures.0 c.from_residual.ensures
 
 pub uuid_from-requires : goal.uuid_from-requires
 uuid_from-requires c =
@@ -15,4 +16,5 @@ uuid_from-requires c =
 
 pub returns : goal.returns
 returns c =
-    first_found uuid_in (uuid_at c.args.self.now) c.args.self.now c.commands.result _ _ loader.LC_UUID 24 c.uuid_from.result uuid_listed (uuid_seen c.args.self.now) c.commands.ensures.opened c.commands.ensures.commands c.in_ok-command.ensures c.uuid_from.ensures
+    first_found uuid_in (uuid_at c.args.self.now) c.args.self.now c.commands.result _ _ loader.LC_UUID 24 c.uuid_from.result uuid_listed (uuid_seen c.args.self.now)
+    c.commands.ensures.opened c.commands.ensures.commands c.in_ok-command.ensures c.uuid_from.ensures
