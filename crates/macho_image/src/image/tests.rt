@@ -1,107 +1,257 @@
+//! Each view on its happy path. The files are bytes written out, with no number of the crate.
+
 use super::*;
+use crate::{Build, Dysymtab, Indirect, MainCommand, Symbol, Symtab};
 use macho_fields::Rule;
 use std::alloc::{AllocError, Global};
 use std::test::Fail;
 
-const EXECUTE: u8 = 2;
-
-const DYLIB: u8 = 6;
-
-const BAD_UUID: [u8; 8] = [0x1b, 0, 0, 0, 8, 0, 0, 0];
-
-/// `LC_ID_DYLIB` with the name `/a.dyl`.
-const ID: [u8; 32] = [
-    0xd, 0, 0, 0, 32, 0, 0, 0, 24, 0, 0, 0, 2, 0, 0, 0, 0, 0, 1, 0, 0, 0, 1, 0, b'/', b'a', b'.',
-    b'd', b'y', b'l', 0, 0,
+/// A program for x86-64 with 7 commands in 368 bytes. Its subtype has a capability bit.
+const HEADER: [u8; 32] = [
+    0xcf, 0xfa, 0xed, 0xfe, 7, 0, 0, 1, 3, 0, 0, 0x80, 2, 0, 0, 0, 7, 0, 0, 0, 0x70, 1, 0, 0, 0, 0,
+    0, 0, 0, 0, 0, 0,
 ];
 
-/// An image of this type, with `count` commands in the `size` bytes after the header.
-fn image_of(
-    alloc: Global,
-    file_type: u8,
-    count: u8,
-    size: u8,
-    commands: &[u8],
-) -> Result<Vec<u8>, AllocError> {
+/// `LC_SEGMENT_64` with one section, at 0x20.
+const SEGMENT: [u8; 72] = [
+    0x19, 0, 0, 0, 152, 0, 0, 0, b'_', b'_', b'T', b'E', b'X', b'T', 0, 0, 0, 0, 0, 0, 0, 0, 0, 0,
+    0, 0, 0, 0, 1, 0, 0, 0, 0, 0x40, 0, 0, 0, 0, 0, 0, 0, 0, 0, 0, 0, 0, 0, 0, 0xac, 1, 0, 0, 0, 0,
+    0, 0, 7, 0, 0, 0, 5, 0, 0, 0, 1, 0, 0, 0, 0, 0, 0, 0,
+];
+
+/// Its `section_64`, at 0x68.
+const SECTION: [u8; 80] = [
+    b'_', b'_', b't', b'e', b'x', b't', 0, 0, 0, 0, 0, 0, 0, 0, 0, 0, b'_', b'_', b'T', b'E', b'X',
+    b'T', 0, 0, 0, 0, 0, 0, 0, 0, 0, 0, 0, 3, 0, 0, 1, 0, 0, 0, 0x10, 0, 0, 0, 0, 0, 0, 0, 0, 3, 0,
+    0, 4, 0, 0, 0, 0, 0x11, 0, 0, 2, 0, 0, 0, 0, 4, 0, 0x80, 0, 0, 0, 0, 0, 0, 0, 0, 0, 0, 0, 0,
+];
+
+/// `LC_SYMTAB`, at 0xb8: a symbol at 0x190, and 8 bytes of strings at 0x1a0.
+const SYMTAB: [u8; 24] = [
+    2, 0, 0, 0, 24, 0, 0, 0, 0x90, 1, 0, 0, 1, 0, 0, 0, 0xa0, 1, 0, 0, 8, 0, 0, 0,
+];
+
+/// `LC_DYSYMTAB`, at 0xd0: an indirect entry at 0x1a8.
+const DYSYMTAB: [u8; 80] = [
+    0xb, 0, 0, 0, 80, 0, 0, 0, 21, 0, 0, 0, 22, 0, 0, 0, 23, 0, 0, 0, 24, 0, 0, 0, 25, 0, 0, 0, 26,
+    0, 0, 0, 27, 0, 0, 0, 28, 0, 0, 0, 29, 0, 0, 0, 30, 0, 0, 0, 31, 0, 0, 0, 32, 0, 0, 0, 0xa8, 1,
+    0, 0, 1, 0, 0, 0, 33, 0, 0, 0, 34, 0, 0, 0, 35, 0, 0, 0, 36, 0, 0, 0,
+];
+
+/// `LC_UUID`, at 0x120.
+const UUID: [u8; 24] = [
+    0x1b, 0, 0, 0, 24, 0, 0, 0, 1, 2, 3, 4, 5, 6, 7, 8, 9, 10, 11, 12, 13, 14, 15, 16,
+];
+
+/// `LC_MAIN`, at 0x138.
+const MAIN: [u8; 24] = [
+    0x28, 0, 0, 0x80, 24, 0, 0, 0, 0, 3, 0, 0, 0, 0, 0, 0, 0, 0x80, 0, 0, 0, 0, 0, 0,
+];
+
+/// `LC_BUILD_VERSION`, at 0x150.
+const BUILD: [u8; 24] = [
+    0x32, 0, 0, 0, 24, 0, 0, 0, 1, 0, 0, 0, 0, 0, 11, 0, 0, 1, 13, 0, 0, 0, 0, 0,
+];
+
+/// `LC_LOAD_DYLIB`, at 0x168.
+const DYLIB: [u8; 40] = [
+    0xc, 0, 0, 0, 40, 0, 0, 0, 24, 0, 0, 0, 2, 0, 0, 0, 0, 0, 0x27, 5, 0, 0, 1, 0, b'/', b'u',
+    b's', b'r', b'/', b'l', b'i', b'b', b'/', b'a', b'.', b'd', b'y', b'l', 0, 0,
+];
+
+/// A symbol, 8 bytes of strings and an indirect entry.
+const TABLES: [u8; 28] = [
+    1, 0, 0, 0, 0xf, 1, 0x10, 0, 0, 3, 0, 0, 1, 0, 0, 0, 0, b'_', b'm', b'a', b'i', b'n', 0, 0, 0,
+    0, 0, 0x80,
+];
+
+/// A dynamic library with `LC_ID_DYLIB` alone.
+const LIBRARY: [u8; 64] = [
+    0xcf, 0xfa, 0xed, 0xfe, 0xc, 0, 0, 1, 0, 0, 0, 0, 6, 0, 0, 0, 1, 0, 0, 0, 32, 0, 0, 0, 0, 0, 0,
+    0, 0, 0, 0, 0, 0xd, 0, 0, 0, 32, 0, 0, 0, 24, 0, 0, 0, 2, 0, 0, 0, 0, 0, 1, 0, 0, 0, 1, 0,
+    b'/', b'a', b'.', b'd', b'y', b'l', 0, 0,
+];
+
+fn program(alloc: Global) -> Result<Vec<u8>, AllocError> {
     let mut bytes = Vec::new(alloc);
-    bytes.extend_from_slice(&[0xcf, 0xfa, 0xed, 0xfe, 7, 0, 0, 1, 3, 0, 0, 0])?;
-    bytes.extend_from_slice(&[file_type, 0, 0, 0, count, 0, 0, 0, size, 0, 0, 0])?;
-    bytes.extend_from_slice(&[0; 8])?;
-    bytes.extend_from_slice(commands)?;
+    bytes.extend_from_slice(&HEADER)?;
+    bytes.extend_from_slice(&SEGMENT)?;
+    bytes.extend_from_slice(&SECTION)?;
+    bytes.extend_from_slice(&SYMTAB)?;
+    bytes.extend_from_slice(&DYSYMTAB)?;
+    bytes.extend_from_slice(&UUID)?;
+    bytes.extend_from_slice(&MAIN)?;
+    bytes.extend_from_slice(&BUILD)?;
+    bytes.extend_from_slice(&DYLIB)?;
+    bytes.extend_from_slice(&TABLES)?;
     Ok(bytes)
-}
-
-/// The first rule that the bytes break.
-fn first_break(bytes: &[u8]) -> Option<Break> {
-    Image::open(Bytes::new(bytes), None).err()
-}
-
-fn at(rule: Rule, place: u64) -> Option<Break> {
-    Some(Break { rule, place })
 }
 
 #[test]
 fn opens_a_library(rt: HostRuntime) -> Result<(), Fail> {
-    let bytes = image_of(rt.alloc(), DYLIB, 1, 32, &ID)?;
-    // The capability bits of a table's entry are not compared.
-    let image = Image::open(Bytes::new(&bytes), Some((0x0100_0007, 0x8000_0003)))?;
-    assert_eq!(rt; image.bytes().len(), 64);
+    let bytes = Bytes::new(&LIBRARY);
+    // The capability bits of a universal file's entry are not compared.
+    let image = Image::open(bytes, Some((0x0100_000c, 0x8000_0000)))?;
+    assert_eq!(rt; (image.kind(), image.bytes().len()), (Kind::Dylib, 64));
+    assert_eq!(rt; (image.base(), image.entry()), (None, None));
+    let id = image.dylibs().next().expect(&rt, "the library itself");
+    assert_eq!(rt;
+        (id.place, id.cmd, id.name),
+        (0x20, 0xd, b"/a.dyl".as_slice())
+    );
 
-    let other = Image::open(Bytes::new(&bytes), Some((0x0100_000c, 0)));
-    assert_eq!(rt; other.err(), at(Rule::ArchMismatch, 4));
+    let other = Image::open(bytes, Some((0x0100_0007, 0))).err();
+    assert_eq!(rt;
+        other,
+        Some(Break {
+            rule: Rule::ArchMismatch,
+            place: 4
+        })
+    );
     Ok(())
 }
 
 #[test]
-fn refuses_headers(rt: HostRuntime) -> Result<(), Fail> {
-    let bytes = image_of(rt.alloc(), DYLIB, 1, 8, &[])?;
-    assert_eq!(rt; first_break(&bytes), at(Rule::CommandsOutside, 20));
-    let bytes = image_of(rt.alloc(), DYLIB, 1, 0, &[])?;
-    assert_eq!(rt; first_break(&bytes), at(Rule::CommandWalk, 32));
-    let bytes = image_of(rt.alloc(), 8, 0, 0, &[])?;
-    assert_eq!(rt; first_break(&bytes), at(Rule::FileType, 12));
-    assert_eq!(rt; first_break(b"short"), at(Rule::HeaderTruncated, 0));
+fn header_and_commands(rt: HostRuntime) -> Result<(), Fail> {
+    let bytes = program(rt.alloc())?;
+    let image = Image::open(Bytes::new(&bytes), None)?;
+    assert_eq!(rt;
+        (image.kind(), image.arch()),
+        (Kind::Execute, (0x0100_0007, 3))
+    );
+    assert_eq!(rt;
+        (image.base(), image.entry()),
+        (Some(0x1_0000_0000), Some(0x1_0000_0300))
+    );
+    let command = image.commands().nth(4).expect(&rt, "LC_MAIN");
+    assert_eq!(rt;
+        (command.place, command.cmd, command.size),
+        (0x138, 0x8000_0028, 24)
+    );
+    assert_eq!(rt; command.bytes, MAIN.as_slice());
+    assert_eq!(rt;
+        image.uuid(),
+        Some([1, 2, 3, 4, 5, 6, 7, 8, 9, 10, 11, 12, 13, 14, 15, 16])
+    );
+    assert_eq!(rt;
+        image.main_command(),
+        Some(MainCommand {
+            place: 0x138,
+            entryoff: 0x300,
+            stacksize: 0x8000
+        })
+    );
+    assert_eq!(rt;
+        image.builds().next(),
+        Some(Build {
+            place: 0x150,
+            platform: 1,
+            minos: 0x000b_0000,
+            sdk: 0x000d_0100
+        })
+    );
+    let library = image.dylibs().next().expect(&rt, "a library");
+    assert_eq!(rt;
+        (library.place, library.name),
+        (0x168, b"/usr/lib/a.dyl".as_slice())
+    );
+    assert_eq!(rt;
+        (library.current, library.compatible),
+        (0x0527_0000, 0x0001_0000)
+    );
     Ok(())
 }
 
 #[test]
-fn refuses_short_commands(rt: HostRuntime) -> Result<(), Fail> {
-    let bytes = image_of(rt.alloc(), EXECUTE, 1, 8, &BAD_UUID)?;
-    assert_eq!(rt; first_break(&bytes), at(Rule::CommandShort, 0x20));
-
-    // A command may be longer than its structure.
-    let mut uuid = [0; 32];
-    uuid[0] = 0x1b;
-    uuid[4] = 32;
-    let bytes = image_of(rt.alloc(), EXECUTE, 1, 32, &uuid)?;
-    assert_eq!(rt; first_break(&bytes), None);
-
-    // 80 bytes for each of 2^32 - 1 sections do not fit in 32 bits.
-    let mut segment = [0; 72];
-    segment[0] = 0x19;
-    segment[4] = 72;
-    segment[64..68].copy_from_slice(&[0xff; 4]);
-    let bytes = image_of(rt.alloc(), EXECUTE, 1, 72, &segment)?;
-    assert_eq!(rt; first_break(&bytes), at(Rule::CommandShort, 0x20));
+fn segments_and_sections(rt: HostRuntime) -> Result<(), Fail> {
+    let bytes = program(rt.alloc())?;
+    let image = Image::open(Bytes::new(&bytes), None)?;
+    assert_eq!(rt; image.section_count(), 1);
+    let segment = image.segments().next().expect(&rt, "a segment");
+    assert_eq!(rt;
+        (segment.place(), segment.name()),
+        (0x20, b"__TEXT".as_slice())
+    );
+    assert_eq!(rt;
+        (segment.vmaddr(), segment.vmsize()),
+        (0x1_0000_0000, 0x4000)
+    );
+    assert_eq!(rt; (segment.fileoff(), segment.filesize()), (0, 0x1ac));
+    assert_eq!(rt; (segment.initprot(), segment.nsects()), (5, 1));
+    let section = segment.sections().next().expect(&rt, "a section");
+    assert_eq!(rt;
+        (section.place(), section.name()),
+        (0x68, b"__text".as_slice())
+    );
+    assert_eq!(rt; (section.addr(), section.size()), (0x1_0000_0300, 0x10));
+    assert_eq!(rt;
+        (section.offset(), section.reloff(), section.nreloc()),
+        (0x300, 0x1100, 2)
+    );
+    assert_eq!(rt;
+        (section.flags(), section.is_zero_fill()),
+        (0x8000_0400, false)
+    );
     Ok(())
 }
 
 #[test]
-fn refuses_names_of_libraries(rt: HostRuntime) -> Result<(), Fail> {
-    let bytes = image_of(rt.alloc(), DYLIB, 0, 0, &[])?;
-    assert_eq!(rt; first_break(&bytes), at(Rule::DylibId, 0xc));
-    let bytes = image_of(rt.alloc(), EXECUTE, 1, 32, &ID)?;
-    assert_eq!(rt; first_break(&bytes), at(Rule::DylibId, 0xc));
-
-    let mut endless = ID;
-    endless[24..].copy_from_slice(b"/l.dylib");
-    let bytes = image_of(rt.alloc(), DYLIB, 1, 32, &endless)?;
-    assert_eq!(rt; first_break(&bytes), at(Rule::Name, 0x20));
-
-    let mut twice = Vec::new(rt.alloc());
-    twice.extend_from_slice(&ID)?;
-    twice.extend_from_slice(&ID)?;
-    let bytes = image_of(rt.alloc(), DYLIB, 2, 64, &twice)?;
-    assert_eq!(rt; first_break(&bytes), at(Rule::CommandRepeated, 0x40));
+fn symbols(rt: HostRuntime) -> Result<(), Fail> {
+    let bytes = program(rt.alloc())?;
+    let image = Image::open(Bytes::new(&bytes), None)?;
+    assert_eq!(rt;
+        image.symtab(),
+        Some(Symtab {
+            place: 0xb8,
+            symoff: 0x190,
+            nsyms: 1,
+            stroff: 0x1a0,
+            strsize: 8
+        })
+    );
+    assert_eq!(rt;
+        image.symbols().next(),
+        Some(Symbol {
+            place: 0x190,
+            strx: 1,
+            kind: 0xf,
+            sect: 1,
+            desc: 0x10,
+            value: 0x1_0000_0300
+        })
+    );
+    assert_eq!(rt; image.symbol_name(1), Some(b"_main".as_slice()));
+    assert_eq!(rt;
+        image.indirects().next(),
+        Some(Indirect {
+            place: 0x1a8,
+            value: 0x8000_0000
+        })
+    );
+    assert_eq!(rt; image.dysymtab(), Some(dysymtab()));
     Ok(())
+}
+
+fn dysymtab() -> Dysymtab {
+    Dysymtab {
+        place: 0xd0,
+        ilocalsym: 21,
+        nlocalsym: 22,
+        iextdefsym: 23,
+        nextdefsym: 24,
+        iundefsym: 25,
+        nundefsym: 26,
+        tocoff: 27,
+        ntoc: 28,
+        modtaboff: 29,
+        nmodtab: 30,
+        extrefsymoff: 31,
+        nextrefsyms: 32,
+        indirectsymoff: 0x1a8,
+        nindirectsyms: 1,
+        extreloff: 33,
+        nextrel: 34,
+        locreloff: 35,
+        nlocrel: 36,
+    }
 }
