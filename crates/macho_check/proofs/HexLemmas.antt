@@ -6,7 +6,7 @@ use Rattle.std.specs.Prelude.{slice_set}
 use Rattle.std.specs.Fmt.{digits, digits_onto, digit_glyph}
 use Rattle.macho_check.specs.Hex.{hex}
 
--- the digits of n, of which there are at most 48 more than `places`, before those that stand
+-- the digits of n, of which there are at most 48 more than `places`, before those in `after`
 pub digits_before : ℕ → ℕ → List ℕ → List ℕ
 digits_before places n after = digits_onto (48 + places) 16 false n after
 
@@ -22,7 +22,7 @@ pub last_digit : (k i n : ℕ) (after : List ℕ) → k ≡ i + 1 → n / 16 ≡
 unfolding digits_before
 last_digit k i n after e h = rw (one_more k i e, h) refl
 
--- the last digit of a larger number goes behind those of the rest
+-- the last digit of a larger number goes after those of the rest
 pub next_digit : (k i n : ℕ) (after : List ℕ) → k ≡ i + 1 → 0 < n / 16
     → digits_before k n after ≡ digits_before i (n / 16) (digit_glyph false (n % 16) ∷ after)
 unfolding digits_before

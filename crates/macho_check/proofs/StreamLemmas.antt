@@ -1,8 +1,9 @@
 -- Texts that are written one after the other.
-use Rattle.std.proofs.Common.{◌≡◌, ℕ, ◌+◌, ◌-◌, arith, Result, Ok, Err, IsErr, List, [], ◌∷◌, ◌++◌, Option, length, take, drop, refl, sym, ap, ◌∙◌, append_assoc, append-nil, take-append-drop, subst}
+use Rattle.std.proofs.Common.{◌≡◌, ℕ, ◌+◌, ◌-◌, arith, Result, Ok, Err, IsErr, List, [], ◌∷◌, ◌++◌, Option, Some, None, OnErr, length, take, drop, refl, sym, ap, ◌∙◌, append_assoc, append-nil, take-append-drop, subst}
 use Rattle.std.proofs.lemmas.Grind.{common_steps}
-use Rattle.std.proofs.Math.Seq.{take-add, take-append-add, take-append_seam}
-use Rattle.std.proofs.KnownBytes.{Appends-nil, Appends-trans}
+use Rattle.std.proofs.Math.Seq.{take-add, take-append-add, take-append_seam, take-length}
+use Rattle.std.proofs.KnownBytes.{Appends-kept, Appends-nil, Appends-trans}
+use Rattle.std.specs.Io.KnownBytes.{Keeps}
 use Rattle.macho_check.specs.Stream.{Wrote, WrotePrefix, Writes, joined}
 
 pub wrote_nothing : (a : Option (List ℕ)) → Wrote a a []
@@ -31,7 +32,7 @@ wrote_prefix_more a b xs ys h = record {
   appended = rw (take_front h.count xs ys) h.appended;
 }
 
--- `&text[i..]`, as a slice's length gives it
+-- `&text[i..]`, with the length of the slice
 pub rest_is : (n i : ℕ) (text : List ℕ) → length text ≡ n → take (n - i) (drop i text) ≡ drop i text
 rest_is n i text e = grind (arith, common_steps)
 
@@ -46,6 +47,23 @@ pub wrote_next_prefix : (a b c : Option (List ℕ)) (i : ℕ) (text : List ℕ) 
 wrote_next_prefix a b c i text first second =
     subst (WrotePrefix a c) (take-append-drop i text) (wrote_prefix_then a b c _ _ first (rw (rest_is (length text) i text refl) at second))
 
+-- a whole text, and then a fault that wrote nothing
+pub wrote_then_kept : (a b c : Option (List ℕ)) (text : List ℕ) → Wrote a b text → Keeps b c → WrotePrefix a c text
+wrote_then_kept a b c text wrote kept = record {
+  count = length text;
+  appended = rw (take-length text) (Appends-kept a b c text wrote.appended kept);
+}
+
+-- a fault that wrote nothing
+pub wrote_prefix_kept : (a b : Option (List ℕ)) (text : List ℕ) → Keeps a b → WrotePrefix a b text
+wrote_prefix_kept None b text h = record { count = 0; appended = tt }
+wrote_prefix_kept (Some x) None text h = absurd h
+wrote_prefix_kept (Some x) (Some y) text h = record { count = 0; appended = h ∙ sym (append-nil x) }
+
+pub fault_kept : {T E : Type 0} (a b : Option (List ℕ)) (r : Result T E) (text : List ℕ) → OnErr r (Keeps a b) → OnErr r (WrotePrefix a b text)
+fault_kept a b (Ok x) text h = tt
+fault_kept a b (Err e) text h = wrote_prefix_kept a b text h
+
 -- a fault after a prefix
 pub writes_fault : {T E : Type 0} (a b : Option (List ℕ)) (r : Result T E) (text : List ℕ) → IsErr r → WrotePrefix a b text → Writes a b r text
 writes_fault a b (Ok x) text h p = absurd (cc)
@@ -55,7 +73,7 @@ pub wrote_none : (a : Option (List ℕ)) → Wrote a a (joined [])
 unfolding joined
 wrote_none a = wrote_nothing a
 
--- a text, and then those behind it
+-- a text, and then those after it
 pub wrote_next_text : (a b c : Option (List ℕ)) (text : List ℕ) (rest : List (List ℕ)) → Wrote a b text → Wrote b c (joined rest) → Wrote a c (joined (text ∷ rest))
 unfolding joined
 wrote_next_text a b c text rest first second = wrote_then a b c text (joined rest) first second
@@ -64,7 +82,7 @@ pub wrote_last_text : (a b : Option (List ℕ)) (text : List ℕ) → Wrote a b 
 unfolding joined
 wrote_last_text a b text h = rw (append-nil text) h
 
--- a text, and then a prefix of those behind it
+-- a text, and then a prefix of those after it
 pub wrote_prefix_next_text : (a b c : Option (List ℕ)) (text : List ℕ) (rest : List (List ℕ)) → Wrote a b text → WrotePrefix b c (joined rest) → WrotePrefix a c (joined (text ∷ rest))
 unfolding joined
 wrote_prefix_next_text a b c text rest first second = wrote_prefix_then a b c text (joined rest) first second

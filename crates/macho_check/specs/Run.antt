@@ -1,7 +1,8 @@
--- What a run tells of its input, and with which status the program ends.
-use Rattle.std.specs.Prelude.{◌≡◌, ℕ, List, Result, Ok, Err}
+-- What a run writes of its input, and with which status the program ends.
+use Rattle.std.specs.Prelude.{◌≡◌, ℕ, ◌≤◌, List, length, Option, IfSome, Result, Ok, Err}
 use Rattle.macho_fields.specs.First.{IsUnbroken, IsFirstBroken}
 use Rattle.macho_fields.specs.declared.rule.Break.{Break}
+use Rattle.macho_check.specs.Stream.{Wrote, WrotePrefix}
 use Rattle.macho_check.specs.Text.{accepted_text, break_text}
 use Rattle.macho_check.specs.declared.run.Outcome.{Outcome}
 use Rattle.macho_check.specs.declared.run.Outcome.TheVariants.{Accepted, Refused}
@@ -15,9 +16,20 @@ abbrev pub IsVerdict : List ℕ → Outcome → List ℕ → Type 0
 IsVerdict file Accepted text = IsUnbroken file × (text ≡ accepted_text)
 IsVerdict file Refused text = (b : Break) × IsFirstBroken file b × (text ≡ break_text b)
 
+-- the input is within the limit, and the text of the outcome, which is right for it, was written
+abbrev pub WroteVerdict : Option (List ℕ) → ℕ → Outcome → Option (List ℕ) → Option (List ℕ) → Type 0
+WroteVerdict input limit outcome old new =
+    IfSome input (λ file. (length file ≤ limit) × ((text : List ℕ) × IsVerdict file outcome text × Wrote old new text))
+
+-- the same of a prefix of the text
+abbrev pub WroteVerdictPrefix : Option (List ℕ) → ℕ → Option (List ℕ) → Option (List ℕ) → Type 0
+WroteVerdictPrefix input limit old new =
+    IfSome input (λ file. (length file ≤ limit) × ((outcome : Outcome) × (text : List ℕ) × IsVerdict file outcome text × WrotePrefix old new text))
+
 abbrev pub status_of : Result Outcome RunFault → ℕ
 status_of (Ok Accepted) = 0
 status_of (Ok Refused) = 1
+status_of (Err fault.Usage) = 2
 status_of (Err fault.Read) = 3
 status_of (Err fault.TooLong) = 3
 status_of (Err fault.Write) = 3

@@ -4,9 +4,9 @@ ghost use Rattle.std.specs.Prelude.{Some, None, false};
 
 use crate::stream::{Failed, Input, Output};
 use std::io;
-use std::io::Write;
+use std::io::{ErrorKind, Read, Write};
 
-/// An input over bytes in memory that gives one byte a read, counts its reads, and may fail at one.
+/// An input over bytes in memory. It returns one byte a read, counts its reads, and may fail at one.
 #[derive(Drop)]
 pub(crate) struct SlowReader<'a> {
     pub(crate) bytes: &'a [u8],
@@ -54,7 +54,7 @@ impl Input for SlowReader<'_> {
     }
 }
 
-/// An input that never ends. It gives one byte a read, and counts its reads.
+/// An input that never ends. It returns one byte a read, and counts its reads.
 #[derive(Drop)]
 pub(crate) struct EndlessReader {
     pub(crate) reads: u64,
@@ -87,6 +87,7 @@ pub(crate) struct SlowWriter {
     pub(crate) bytes: Vec<u8>,
     pub(crate) room: usize,
     pub(crate) has_failed: bool,
+    pub(crate) is_flushed: bool,
 }
 
 impl SlowWriter {
@@ -95,6 +96,7 @@ impl SlowWriter {
             bytes,
             room,
             has_failed: false,
+            is_flushed: false,
         }
     }
 }
@@ -104,10 +106,13 @@ impl Output for SlowWriter {
 
     ghost contents = { λ s. Some s.bytes.items };
 
+    ghost is_flushed = { λ s. s.is_flushed };
+
     fn write(&mut self, piece: &[u8]) -> Result<usize, Failed> {
         if self.has_failed {
             return Err(Failed);
         }
+        self.is_flushed = false;
         if piece.is_empty() {
             return Ok(0);
         }
@@ -119,29 +124,101 @@ impl Output for SlowWriter {
         Ok(1)
     }
 
+    fn flush(&mut self) -> Result<(), Failed> {
+        if self.has_failed {
+            return Err(Failed);
+        }
+        self.is_flushed = true;
+        Ok(())
+    }
+
     fn failed(&self) -> bool {
         self.has_failed
     }
 }
 
-/// A writer of std that takes one byte a call, but none at its third call.
+/// A reader of std over bytes in memory. It counts its calls, and fails at one of them alone.
 #[derive(Drop)]
-pub(crate) struct PausingWriter {
-    pub(crate) bytes: Vec<u8>,
-    pub(crate) calls: u64,
+pub(crate) struct CountingReader<'a> {
+    pub(crate) bytes: &'a [u8],
+    pub(crate) reads: u64,
+    /// Which call fails, from 1 on, and 0 for none.
+    pub(crate) fails_at: u64,
 }
 
-impl Write for PausingWriter {
-    fn write(&mut self, piece: &[u8]) -> io::Result<usize> {
-        self.calls = self.calls.saturating_add(1);
-        if self.calls == 3 || piece.is_empty() {
-            return Ok(0);
+impl<'a> CountingReader<'a> {
+    pub(crate) fn new(bytes: &'a [u8], fails_at: u64) -> CountingReader<'a> {
+        CountingReader {
+            bytes,
+            reads: 0,
+            fails_at,
         }
-        self.bytes.push(piece[0])?;
-        Ok(1)
+    }
+}
+
+impl Read for CountingReader<'_> {
+    fn read(&mut self, piece: &mut [u8]) -> io::Result<usize> {
+        self.reads = self.reads.saturating_add(1);
+        if self.reads == self.fails_at {
+            return Err(io::Error::from(ErrorKind::Interrupted));
+        }
+        self.bytes.read(piece)
+    }
+}
+
+/// What one call of a `CountingWriter` does in place of its work.
+#[derive(Clone, Copy, PartialEq, Eq)]
+pub(crate) enum Fault {
+    /// It fails.
+    Error,
+    /// It takes no bytes.
+    NoBytes,
+}
+
+/// A writer of std into memory. It counts its calls, and one of them alone goes wrong.
+#[derive(Drop)]
+pub(crate) struct CountingWriter {
+    pub(crate) bytes: Vec<u8>,
+    pub(crate) writes: u64,
+    pub(crate) flushes: u64,
+    /// Which call, a write or a flush, goes wrong, from 1 on, and 0 for none.
+    pub(crate) fails_at: u64,
+    pub(crate) fault: Fault,
+}
+
+impl CountingWriter {
+    pub(crate) fn new(bytes: Vec<u8>, fails_at: u64, fault: Fault) -> CountingWriter {
+        CountingWriter {
+            bytes,
+            writes: 0,
+            flushes: 0,
+            fails_at,
+            fault,
+        }
+    }
+
+    fn goes_wrong(&self) -> bool {
+        self.writes.saturating_add(self.flushes) == self.fails_at
+    }
+}
+
+impl Write for CountingWriter {
+    fn write(&mut self, piece: &[u8]) -> io::Result<usize> {
+        self.writes = self.writes.saturating_add(1);
+        if self.goes_wrong() {
+            return match self.fault {
+                Fault::Error => Err(io::Error::from(ErrorKind::Interrupted)),
+                Fault::NoBytes => Ok(0),
+            };
+        }
+        self.bytes.write(piece)
     }
 
     fn flush(&mut self) -> io::Result<()> {
+        self.flushes = self.flushes.saturating_add(1);
+        if self.goes_wrong() {
+            return Err(io::Error::from(ErrorKind::Interrupted));
+        }
         Ok(())
     }
 }

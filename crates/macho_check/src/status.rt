@@ -1,9 +1,11 @@
 //! The status with which the program ends.
 
 ghost use Rattle.std.specs.Prelude.{◌≡◌};
+ghost use Rattle.std.specs.Process.{exit_status};
 ghost use Rattle.macho_check.specs.Run.{status_of};
 
 use crate::run::{Outcome, RunFault};
+use std::process::ExitCode;
 
 /// The file is accepted.
 pub const ACCEPTED: u8 = 0;
@@ -16,14 +18,22 @@ pub const STREAM_FAULT: u8 = 3;
 /// There was no memory.
 pub const OUT_OF_MEMORY: u8 = 4;
 
-/// The status that tells how a run ended.
+/// The status for how a run ended.
 pub fn check_status(ended: &Result<Outcome, RunFault>) -> u8
     ensures { result ≡ status_of ended.now }
 {
     match ended {
         Ok(Outcome::Accepted) => ACCEPTED,
         Ok(Outcome::Refused) => REFUSED,
+        Err(RunFault::Usage) => USAGE,
         Err(RunFault::Read | RunFault::TooLong | RunFault::Write) => STREAM_FAULT,
         Err(RunFault::Memory) => OUT_OF_MEMORY,
     }
+}
+
+/// The same as what `main` returns.
+pub fn exit_code(ended: &Result<Outcome, RunFault>) -> ExitCode
+    ensures { exit_status result ≡ status_of ended.now }
+{
+    ExitCode::from(check_status(ended))
 }

@@ -1,4 +1,4 @@
-//! The texts of a verdict, written one part after the other.
+//! The text of a broken rule, written one part after the other.
 
 ghost use Rattle.std.specs.Prelude.{◌≡◌, ◌<◌, ◌∷◌, [], false, drop, codes, IsErr, IsTrue};
 ghost use Rattle.macho_check.specs.Stream.{Writes, FailsAtFault, joined};
@@ -28,7 +28,7 @@ fn digit(value: u8) -> u8
     }
 }
 
-// Puts a number's digits at the end of the array, and answers where they begin.
+// Puts a number's digits at the end of the array, and returns where they begin.
 fn put_digits(number: u64, digits: &mut [u8; MAX_DIGITS]) -> usize
     ensures start { result < MAX_DIGITS }
     ensures digits { drop result digits.new ≡ hex number }

@@ -2,7 +2,7 @@
 
 ghost use Rattle.std.specs.Prelude.{◌≡◌, ◌≢◌, ◌+◌, ◌<◌, ◌≤◌, ◌↔◌, [], length, vec_len, IfOk, IfSome, OnOk, IsErr, IsErrOf, IsTrue};
 ghost use Rattle.std.specs.Io.KnownBytes.{IsAtEnd};
-ghost use Rattle.macho_check.specs.Stream.{Writes, FailsAtFault};
+ghost use Rattle.macho_check.specs.Stream.{TookAtMost, Writes, FailsAtFault};
 ghost use Rattle.macho_check.specs.declared.transfer.ReadFault.TheVariants.{Read, Memory};
 
 use crate::stream::{Failed, Input, Output};
@@ -54,14 +54,16 @@ impl From<Failed> for WriteFault {
 const PIECE_SIZE: usize = 65536;
 
 /// Reads all of the input into memory, in at most `limit + 1` reads.
-///
-/// It promises nothing of the input once there was no memory.
 pub fn read_all<R: Input>(alloc: Global, limit: u64, reader: &mut R) -> Result<Vec<u8>, ReadFault>
     ensures within_limit { IfOk result (λ bytes. vec_len bytes ≤ limit) }
     ensures all { IfOk result (λ bytes. IfSome (R.remaining reader.old) (λ all. bytes.items ≡ all)) }
     ensures at_end { OnOk result (IsAtEnd (R.remaining reader.new)) }
     ensures too_long { IsErrOf result ReadFault.TooLong
         → IfSome (R.remaining reader.old) (λ all. limit < length all) }
+    ensures one_too_many { IsErrOf result ReadFault.TooLong
+        → TookAtMost (limit + 1) (R.remaining reader.old) (R.remaining reader.new) }
+    ensures memory { IsErrOf result ReadFault.Memory
+        → TookAtMost limit (R.remaining reader.old) (R.remaining reader.new) }
     ensures failed { IsErrOf result ReadFault.Read ↔ IsTrue (R.has_failed reader.new) }
     ensures stays_failed { IsTrue (R.has_failed reader.old) → IsErrOf result ReadFault.Read }
     ensures few_reads { R.reads reader.new ≤ R.reads reader.old + limit + 1 }
@@ -87,6 +89,8 @@ fn expect_end<R: Input>(reader: &mut R) -> Result<(), ReadFault>
     ensures still_at_end { OnOk result (IsAtEnd (R.remaining reader.new)) }
     ensures too_long { IsErrOf result ReadFault.TooLong
         → IfSome (R.remaining reader.old) (λ all. 0 < length all) }
+    ensures one_byte { IsErrOf result ReadFault.TooLong
+        → TookAtMost 1 (R.remaining reader.old) (R.remaining reader.new) }
     ensures failed { IsErrOf result ReadFault.Read ↔ IsTrue (R.has_failed reader.new) }
     ensures stays_failed { IsTrue (R.has_failed reader.old) → IsErrOf result ReadFault.Read }
     ensures one_read { R.reads reader.new ≤ R.reads reader.old + 1 }
@@ -105,6 +109,7 @@ pub fn write_all<W: Output>(text: &[u8], writer: &mut W) -> Result<(), WriteFaul
     ensures bytes { Writes (W.contents writer.old) (W.contents writer.new) result text.now }
     ensures failed { FailsAtFault (W.has_failed writer.old) (W.has_failed writer.new) result }
     ensures stays_failed { IsTrue (W.has_failed writer.old) → text.now ≢ [] → IsErr result }
+    ensures untouched { text.now ≡ [] → writer.new ≡ writer.old }
 {
     let mut written = 0;
     while written < text.len() {

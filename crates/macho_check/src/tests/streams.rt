@@ -1,11 +1,17 @@
-//! Streams: how many reads there are, which bytes come out, and that calls succeed.
+//! Streams: how many reads, writes and flushes there are, which bytes come out, and that calls succeed.
 
-use crate::doubles::{EndlessReader, PausingWriter, SlowReader, SlowWriter};
-use crate::stream::{Failed, FromRead, FromWrite, Input, Output};
+use crate::doubles::{
+    CountingReader, CountingWriter, EndlessReader, Fault, SlowReader, SlowWriter,
+};
+use crate::from_read::FromRead;
+use crate::from_write::FromWrite;
+use crate::run::{Outcome, RunFault, run, run_program};
+use crate::status::{check_status, exit_code};
+use crate::stream::{Failed, Input, Output};
 use crate::text::{write_break, write_hex};
 use crate::transfer::{ReadFault, WriteFault, read_all, write_all};
 use macho_fields::{Break, Rule};
-use std::process::Abort;
+use std::process::{Abort, ExitCode};
 use std::test::Fail;
 
 const TEXT: &[u8; 32] = b"abcdefghijklmnopqrstuvwxyz012345";
@@ -59,6 +65,7 @@ fn answers_a_failed_read(rt: HostRuntime) {
         let fault = read_all(rt.alloc(), 32, &mut reader).err();
         assert_eq!(rt; fault, Some(ReadFault::Read), "at read {fails_at}");
         assert!(rt; reader.failed());
+        assert_eq!(rt; reader.reads, fails_at);
         let again = read_all(rt.alloc(), 32, &mut reader).err();
         assert_eq!(rt; again, Some(ReadFault::Read));
     }
@@ -67,15 +74,49 @@ fn answers_a_failed_read(rt: HostRuntime) {
 #[test]
 fn reads_a_reader_of_std(rt: HostRuntime) -> Result<(), Fail> {
     let mut long = Vec::new(rt.alloc());
-    for i in 0..100_000u32 {
+    for i in 0..(1 << 20) + 1u32 {
         long.push((i % 251) as u8)?;
     }
-    let mut bytes = long.as_slice();
-    let mut reader = FromRead::new(&mut bytes);
-    let read = read_all(rt.alloc(), 100_000, &mut reader).expect(&rt, "at the limit");
+    let mut counted = CountingReader::new(long.as_slice(), 0);
+    let mut reader = FromRead::new(&mut counted);
+    let read = read_all(rt.alloc(), 1 << 32, &mut reader).expect(&rt, "within the limit");
     assert!(rt; !reader.failed());
     assert_eq!(rt; read.as_slice(), long.as_slice());
+    // 16 pieces of 65,536 bytes, one of a single byte, and the end.
+    assert_eq!(rt; counted.reads, 18);
     Ok(())
+}
+
+#[test]
+fn each_read_is_one_of_std(rt: HostRuntime) {
+    let bytes = [7u8; 1000];
+    let mut piece = [0u8; 1000];
+    for size in 0..1001 {
+        let mut counted = CountingReader::new(&bytes, 0);
+        let mut reader = FromRead::new(&mut counted);
+        assert_eq!(rt; reader.read(&mut piece[..size]), Ok(size));
+        assert!(rt; !reader.failed(), "after {size} bytes");
+        assert_eq!(rt; counted.reads, 1);
+        assert_eq!(rt; counted.bytes.len(), 1000 - size);
+    }
+}
+
+#[test]
+fn no_read_follows_an_error_of_std(rt: HostRuntime) {
+    let mut piece = [0u8; 4];
+    for fails_at in 1..8u64 {
+        let mut counted = CountingReader::new(TEXT, fails_at);
+        let mut reader = FromRead::new(&mut counted);
+        for _ in 1..fails_at {
+            assert_eq!(rt; reader.read(&mut piece), Ok(4));
+        }
+        assert!(rt; !reader.failed());
+        for _ in 0..3 {
+            assert_eq!(rt; reader.read(&mut piece), Err(Failed));
+            assert!(rt; reader.failed());
+        }
+        assert_eq!(rt; counted.reads, fails_at);
+    }
 }
 
 #[test]
@@ -98,17 +139,139 @@ fn stops_at_a_failed_write(rt: HostRuntime) {
 }
 
 #[test]
-fn a_write_of_no_bytes_is_a_fault(rt: HostRuntime) {
-    let mut writer = PausingWriter {
-        bytes: Vec::new(rt.alloc()),
-        calls: 0,
-    };
-    let mut output = FromWrite::new(&mut writer);
-    assert!(rt; write_all(b"abcd", &mut output).is_err());
-    assert!(rt; output.failed());
-    assert!(rt; output.write(b"cd").is_err());
-    assert_eq!(rt; writer.bytes.as_slice(), b"ab".as_slice());
-    assert_eq!(rt; writer.calls, 3);
+fn each_write_is_one_of_std(rt: HostRuntime) {
+    let bytes = [7u8; 1000];
+    for size in 0..1001 {
+        let mut counted = CountingWriter::new(Vec::new(rt.alloc()), 0, Fault::Error);
+        let mut writer = FromWrite::new(&mut counted);
+        assert_eq!(rt; writer.write(&bytes[..size]), Ok(size));
+        assert!(rt; !writer.failed(), "after {size} bytes");
+        assert_eq!(rt; (counted.writes, counted.flushes), (1, 0));
+
+        let mut writer = FromWrite::new(&mut counted);
+        assert!(rt; writer.flush().is_ok());
+        assert!(rt; !writer.failed());
+        assert_eq!(rt; (counted.writes, counted.flushes), (1, 1));
+        assert_eq!(rt; counted.bytes.as_slice(), &bytes[..size]);
+    }
+}
+
+#[test]
+fn no_write_follows_an_error_of_std(rt: HostRuntime) {
+    for fault in [Fault::Error, Fault::NoBytes] {
+        for fails_at in 1..8u64 {
+            let mut counted = CountingWriter::new(Vec::new(rt.alloc()), fails_at, fault);
+            let mut writer = FromWrite::new(&mut counted);
+            for _ in 1..fails_at {
+                assert_eq!(rt; writer.write(b"abcd"), Ok(4));
+            }
+            assert!(rt; !writer.failed());
+            for _ in 0..3 {
+                assert_eq!(rt; writer.write(b"abcd"), Err(Failed));
+                assert_eq!(rt; writer.flush(), Err(Failed));
+                assert!(rt; writer.failed());
+            }
+            assert_eq!(rt; (counted.writes, counted.flushes), (fails_at, 0));
+        }
+    }
+}
+
+#[test]
+fn no_call_follows_a_failed_flush(rt: HostRuntime) {
+    let mut counted = CountingWriter::new(Vec::new(rt.alloc()), 2, Fault::Error);
+    let mut writer = FromWrite::new(&mut counted);
+    assert!(rt; write_all(b"abcd", &mut writer).is_ok());
+    assert!(rt; write_all(b"", &mut writer).is_ok());
+    assert_eq!(rt; writer.flush(), Err(Failed));
+    assert_eq!(rt; writer.flush(), Err(Failed));
+    assert_eq!(rt; writer.write(b"e"), Err(Failed));
+    assert!(rt; writer.failed());
+    assert_eq!(rt; (counted.writes, counted.flushes), (1, 1));
+    assert_eq!(rt; counted.bytes.as_slice(), b"abcd".as_slice());
+}
+
+/// A header alone, which keeps every rule.
+const BARE_HEADER: &[u8; 32] =
+    b"\xcf\xfa\xed\xfe\x07\0\0\x01\x03\0\0\0\x02\0\0\0\0\0\0\0\0\0\0\0\0\0\0\0\0\0\0\0";
+
+const READ_LINE: &str = "macho-check: read failed\n";
+
+const WRITE_LINE: &str = "macho-check: write failed\n";
+
+const USAGE_LINE: &str = "usage: macho-check check FILE | where FILE SLICE ADDRESS\n";
+
+#[test]
+fn ends_of_the_program(rt: HostRuntime) {
+    // How many words, which read and which call of the writer fail; the status, both texts, and how
+    // many reads, writes and flushes there were.
+    for (words, bad_read, bad_write, status, text, line, calls) in [
+        (Some(1), 0, 0, 0, "accepted\n", "", (2, 1, 1)),
+        (Some(0), 0, 0, 0, "accepted\n", "", (2, 1, 1)),
+        (Some(1), 1, 0, 3, "", READ_LINE, (1, 0, 0)),
+        (Some(1), 2, 0, 3, "", READ_LINE, (2, 0, 0)),
+        (Some(1), 0, 1, 3, "", WRITE_LINE, (2, 1, 0)),
+        (Some(1), 0, 2, 3, "accepted\n", WRITE_LINE, (2, 1, 1)),
+        (Some(2), 0, 0, 2, "", USAGE_LINE, (0, 0, 0)),
+        (Some(7), 1, 1, 2, "", USAGE_LINE, (0, 0, 0)),
+        (None, 0, 0, 3, "", READ_LINE, (0, 0, 0)),
+    ] {
+        let mut reader = CountingReader::new(BARE_HEADER, bad_read);
+        let mut writer = CountingWriter::new(Vec::new(rt.alloc()), bad_write, Fault::Error);
+        let mut errors = CountingWriter::new(Vec::new(rt.alloc()), 0, Fault::Error);
+        let ended = run_program(
+            rt.alloc(),
+            words,
+            &mut FromRead::new(&mut reader),
+            &mut FromWrite::new(&mut writer),
+            &mut FromWrite::new(&mut errors),
+        );
+        assert_eq!(rt; check_status(&ended), status, "of {words:?} words");
+        assert_eq!(rt; exit_code(&ended), ExitCode::from(status));
+        assert_eq!(rt; writer.bytes.as_slice(), text.as_bytes());
+        assert_eq!(rt; errors.bytes.as_slice(), line.as_bytes());
+        assert_eq!(rt; (reader.reads, writer.writes, writer.flushes), calls);
+        assert_eq!(rt;
+            (errors.writes, errors.flushes),
+            (u64::from(!line.is_empty()), 0)
+        );
+    }
+}
+
+#[test]
+fn faults_of_standard_error_are_ignored(rt: HostRuntime) {
+    let mut writer = CountingWriter::new(Vec::new(rt.alloc()), 0, Fault::Error);
+    let mut errors = CountingWriter::new(Vec::new(rt.alloc()), 1, Fault::Error);
+    let ended = run_program(
+        rt.alloc(),
+        None,
+        &mut SlowReader::new(BARE_HEADER),
+        &mut FromWrite::new(&mut writer),
+        &mut FromWrite::new(&mut errors),
+    );
+    assert_eq!(rt; ended, Err(RunFault::Read));
+    assert_eq!(rt; (errors.writes, errors.flushes), (1, 0));
+    assert!(rt; errors.bytes.is_empty());
+}
+
+#[test]
+fn a_refusal_that_is_cut_off(rt: HostRuntime) {
+    // The line goes out in six writes, and then there is the flush.
+    let line = b"refused: magic at 0x0\n".as_slice();
+    for fails_at in 0..9u64 {
+        let mut writer = CountingWriter::new(Vec::new(rt.alloc()), fails_at, Fault::Error);
+        let mut output = FromWrite::new(&mut writer);
+        let ended = run(rt.alloc(), 1, &mut SlowReader::new(b"a"), &mut output);
+        let calls = writer.writes.saturating_add(writer.flushes);
+        if (1..8).contains(&fails_at) {
+            assert_eq!(rt; ended, Err(RunFault::Write), "at call {fails_at}");
+            assert_eq!(rt; calls, fails_at);
+            assert!(rt; line.starts_with(writer.bytes.as_slice()));
+        } else {
+            assert_eq!(rt; ended, Ok(Outcome::Refused));
+            assert_eq!(rt; (writer.writes, writer.flushes), (6, 1));
+            assert_eq!(rt; writer.bytes.as_slice(), line);
+        }
+    }
 }
 
 #[test]

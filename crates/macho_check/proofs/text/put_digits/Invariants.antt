@@ -3,7 +3,7 @@ use Rattle.macho_check.specs.Hex.{hex}
 use Rattle.macho_check.proofs.HexLemmas.{digits_before}
 use Rattle.macho_check.proofs.text.put_digits.Given as goal
 
--- what is left of the number goes before the digits that stand
+-- the digits of what is left of the number go before those in the array
 abbrev pub invariant-loop-rest : goal.invariant-loop-rest
 invariant-loop-rest l = record {
   all_places : length l.digits ≡ 16;

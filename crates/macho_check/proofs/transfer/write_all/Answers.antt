@@ -12,5 +12,6 @@ loop-written-preserved g c = record {
   in_text = search rules;
   wrote = wrote_next _ _ _ _ _ _ c.loop-written.invariant.wrote c.in_ok-written.ensures.wrote;
   same = search rules;
+  untouched = search rules;
   working = search rules;
 }

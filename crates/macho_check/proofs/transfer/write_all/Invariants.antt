@@ -7,6 +7,7 @@ invariant-loop-written g l = record {
   in_text : l.written ≤ length l.text;
   wrote : Wrote (g.W.Output.contents l.initial.writer) (g.W.Output.contents l.writer) (take l.written l.text);
   same : g.W.Output.has_failed l.writer ≡ g.W.Output.has_failed l.initial.writer;
+  untouched : l.written ≡ 0 → l.writer ≡ l.initial.writer;
   working : 0 < l.written → ¬ IsTrue (g.W.Output.has_failed l.initial.writer);
 }
 

@@ -1,6 +1,6 @@
 -- A reader of std counts no reads. The other clauses are its own.
 use Rattle.std.proofs.Common.{rules, lit≤}
-use Rattle.macho_check.proofs.stream.FromReadInput.TheImpl.Goals as goal
+use Rattle.macho_check.proofs.from_read.FromReadInput.TheImpl.Goals as goal
 
 pub read-tells : goal.read-tells
 read-tells g c = record {
