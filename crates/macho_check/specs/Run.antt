@@ -26,6 +26,7 @@ abbrev pub WroteVerdictPrefix : Option (List ℕ) → ℕ → Option (List ℕ) 
 WroteVerdictPrefix input limit old new =
     IfSome input (λ file. (length file ≤ limit) × ((outcome : Outcome) × (text : List ℕ) × IsVerdict file outcome text × WrotePrefix old new text))
 
+-- the status with which the program ends
 abbrev pub status_of : Result Outcome RunFault → ℕ
 status_of (Ok Accepted) = 0
 status_of (Ok Refused) = 1

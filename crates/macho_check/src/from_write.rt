@@ -87,10 +87,11 @@ impl<W: Write> Output for FromWrite<'_, W> {
     }
 }
 
-// The same for a write, which has also failed if it took none of a piece that has bytes.
+// The answer for a write of std: any error is a failure, and so is a write that took none of a piece
+// that has bytes.
 fn write_answer(given: io::Result<usize>, piece: &[u8]) -> Result<usize, Failed>
     ensures count { IfOk result (λ count. given ≡ Ok count) }
-    ensures failed { IsErr result ↔ IsErr given ⊎ ((given ≡ Ok 0) × (piece.now ≢ [])) }
+    ensures failed { IsErr result ↔ (IsErr given ⊎ ((given ≡ Ok 0) × (piece.now ≢ []))) }
 {
     match given {
         Ok(count) if count > 0 || piece.is_empty() => Ok(count),

@@ -34,7 +34,7 @@ pub enum RunFault {
     Read,
     /// The input has more bytes than the limit.
     TooLong,
-    /// A write failed.
+    /// A write or the flush failed.
     Write,
     /// There was no memory.
     Memory,
