@@ -10,6 +10,8 @@ use Rattle.macho_check.specs.declared.transfer.ReadFault.{ReadFault}
 use Rattle.macho_check.specs.declared.transfer.ReadFault.TheVariants as read
 use Rattle.macho_check.specs.declared.run.RunFault.{RunFault}
 use Rattle.macho_check.specs.declared.run.RunFault.TheVariants as fault
+use Rattle.macho_check.specs.declared.program.ProgramFault.{ProgramFault}
+use Rattle.macho_check.specs.declared.program.ProgramFault.TheVariants as program
 
 -- the outcome is right for the file, and this is its text
 abbrev pub IsVerdict : List ℕ → Outcome → List ℕ → Type 0
@@ -30,11 +32,16 @@ WroteVerdictPrefix input limit old new =
 abbrev pub status_of : Result Outcome RunFault → ℕ
 status_of (Ok Accepted) = 0
 status_of (Ok Refused) = 1
-status_of (Err fault.Usage) = 2
 status_of (Err fault.Read) = 3
 status_of (Err fault.TooLong) = 3
 status_of (Err fault.Write) = 3
 status_of (Err fault.Memory) = 4
+
+-- the status of the whole program
+abbrev pub exit_of : Result Outcome ProgramFault → ℕ
+exit_of (Ok outcome) = status_of (Ok outcome)
+exit_of (Err program.Usage) = 2
+exit_of (Err (program.Run f)) = status_of (Err f)
 
 -- a fault of reading, as one of the run
 abbrev pub run_fault_of : ReadFault → RunFault

@@ -4,6 +4,8 @@ use Rattle.macho_fields.specs.RuleNames.{name_of}
 use Rattle.macho_fields.specs.declared.rule.Break.{Break}
 use Rattle.macho_check.specs.declared.run.RunFault.{RunFault}
 use Rattle.macho_check.specs.declared.run.RunFault.TheVariants as fault
+use Rattle.macho_check.specs.declared.program.ProgramFault.{ProgramFault}
+use Rattle.macho_check.specs.declared.program.ProgramFault.TheVariants as program
 use Rattle.macho_check.specs.Stream.{joined}
 use Rattle.macho_check.specs.Hex.{prefixed_hex}
 
@@ -15,10 +17,13 @@ abbrev pub break_text : Break → List ℕ
 break_text b =
     joined (codes "refused: " ∷ name_of b.rule ∷ codes " at " ∷ prefixed_hex b.place ∷ codes "\n" ∷ [])
 
--- what goes to standard error
-abbrev pub fault_text : RunFault → List ℕ
-fault_text fault.Usage = codes "usage: macho-check check FILE | where FILE SLICE ADDRESS\n"
-fault_text fault.Read = codes "macho-check: read failed\n"
-fault_text fault.TooLong = codes "macho-check: more than 4294967296 bytes\n"
-fault_text fault.Write = codes "macho-check: write failed\n"
-fault_text fault.Memory = codes "macho-check: out of memory\n"
+-- the lines of faults, which go to standard error
+abbrev pub run_fault_line : RunFault → List ℕ
+run_fault_line fault.Read = codes "macho-check: read failed\n"
+run_fault_line fault.TooLong = codes "macho-check: more than 4294967296 bytes\n"
+run_fault_line fault.Write = codes "macho-check: write failed\n"
+run_fault_line fault.Memory = codes "macho-check: out of memory\n"
+
+abbrev pub fault_line : ProgramFault → List ℕ
+fault_line program.Usage = codes "usage: macho-check check FILE | where FILE SLICE ADDRESS\n"
+fault_line (program.Run f) = run_fault_line f

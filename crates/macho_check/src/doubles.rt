@@ -87,7 +87,6 @@ pub(crate) struct SlowWriter {
     pub(crate) bytes: Vec<u8>,
     pub(crate) room: usize,
     pub(crate) has_failed: bool,
-    pub(crate) is_flushed: bool,
 }
 
 impl SlowWriter {
@@ -96,7 +95,6 @@ impl SlowWriter {
             bytes,
             room,
             has_failed: false,
-            is_flushed: false,
         }
     }
 }
@@ -106,13 +104,10 @@ impl Output for SlowWriter {
 
     ghost contents = { λ s. Some s.bytes.items };
 
-    ghost is_flushed = { λ s. s.is_flushed };
-
     fn write(&mut self, piece: &[u8]) -> Result<usize, Failed> {
         if self.has_failed {
             return Err(Failed);
         }
-        self.is_flushed = false;
         if piece.is_empty() {
             return Ok(0);
         }
@@ -122,14 +117,6 @@ impl Output for SlowWriter {
         }
         self.room -= 1;
         Ok(1)
-    }
-
-    fn flush(&mut self) -> Result<(), Failed> {
-        if self.has_failed {
-            return Err(Failed);
-        }
-        self.is_flushed = true;
-        Ok(())
     }
 
     fn failed(&self) -> bool {

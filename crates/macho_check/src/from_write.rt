@@ -4,7 +4,7 @@ ghost use Rattle.std.specs.Prelude.{◌≡◌, ◌≢◌, ◌≤◌, ◌↔◌, 
 ghost use Rattle.std.specs.Io.KnownBytes.{Keeps};
 ghost use Rattle.macho_check.specs.Stream.{Wrote};
 
-use crate::stream::{Failed, Output, answer_of};
+use crate::stream::{Failed, Flush, Output, answer_of};
 use std::io;
 use std::io::Write;
 
@@ -37,8 +37,6 @@ impl<W: Write> Output for FromWrite<'_, W> {
 
     ghost contents = { λ s. W.contents s.writer.now };
 
-    ghost is_flushed = { λ s. s.is_flushed };
-
     fn write(&mut self, piece: &[u8]) -> Result<usize, Failed>
         ensures count { IfOk result (λ n. n ≤ length piece.now) }
         ensures progress { IfOk result (λ n. n ≡ 0 → piece.now ≡ []) }
@@ -63,6 +61,14 @@ impl<W: Write> Output for FromWrite<'_, W> {
         answer
     }
 
+    fn failed(&self) -> bool {
+        self.has_failed
+    }
+}
+
+impl<W: Write> Flush for FromWrite<'_, W> {
+    ghost is_flushed = { λ s. s.is_flushed };
+
     fn flush(&mut self) -> Result<(), Failed>
         ensures failed { IsErr result ↔ IsTrue self.new.has_failed }
         ensures stays_failed { IsTrue self.old.has_failed → IsErr result }
@@ -80,10 +86,6 @@ impl<W: Write> Output for FromWrite<'_, W> {
         self.has_failed = answer.is_err();
         self.is_flushed = answer.is_ok();
         answer
-    }
-
-    fn failed(&self) -> bool {
-        self.has_failed
     }
 }
 

@@ -8,6 +8,7 @@ mod from_read;
 mod from_write;
 #[cfg(test)]
 mod notation;
+mod program;
 mod run;
 mod status;
 mod stream;
@@ -18,7 +19,7 @@ mod transfer;
 
 use from_read::FromRead;
 use from_write::FromWrite;
-use run::run_program;
+use program::run_program;
 use status::exit_code;
 use std::env;
 use std::process::ExitCode;

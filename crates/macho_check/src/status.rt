@@ -2,8 +2,9 @@
 
 ghost use Rattle.std.specs.Prelude.{◌≡◌};
 ghost use Rattle.std.specs.Process.{exit_status};
-ghost use Rattle.macho_check.specs.Run.{status_of};
+ghost use Rattle.macho_check.specs.Run.{status_of, exit_of};
 
+use crate::program::ProgramFault;
 use crate::run::{Outcome, RunFault};
 use std::process::ExitCode;
 
@@ -25,15 +26,18 @@ pub fn check_status(ended: &Result<Outcome, RunFault>) -> u8
     match ended {
         Ok(Outcome::Accepted) => ACCEPTED,
         Ok(Outcome::Refused) => REFUSED,
-        Err(RunFault::Usage) => USAGE,
         Err(RunFault::Read | RunFault::TooLong | RunFault::Write) => STREAM_FAULT,
         Err(RunFault::Memory) => OUT_OF_MEMORY,
     }
 }
 
-/// The same as what `main` returns.
-pub fn exit_code(ended: &Result<Outcome, RunFault>) -> ExitCode
-    ensures { exit_status result ≡ status_of ended.now }
+/// The status of the whole program, as `main` returns it.
+pub fn exit_code(ended: &Result<Outcome, ProgramFault>) -> ExitCode
+    ensures { exit_status result ≡ exit_of ended.now }
 {
-    ExitCode::from(check_status(ended))
+    ExitCode::from(match *ended {
+        Ok(outcome) => check_status(&Ok(outcome)),
+        Err(ProgramFault::Usage) => USAGE,
+        Err(ProgramFault::Run(fault)) => check_status(&Err(fault)),
+    })
 }

@@ -36,12 +36,10 @@ pub trait Input {
 
 /// A stream of bytes to write.
 pub trait Output {
-    /// Whether a write or a flush has failed.
+    /// Whether a write has failed.
     ghost has_failed: { Self → Bool };
     /// The bytes that were written, or `None` where the stream does not report them.
     ghost contents: { Self → Option (List ℕ) };
-    /// Whether a flush succeeded after the last write.
-    ghost is_flushed: { Self → Bool };
 
     /// Writes the first bytes of the piece, and returns how many: none only of an empty piece.
     fn write(&mut self, piece: &[u8]) -> Result<usize, Failed>
@@ -52,16 +50,22 @@ pub trait Output {
         ensures wrote { IfOk result (λ n. Wrote (contents self.old) (contents self.new) (take n piece.now)) }
         ensures fault { OnErr result (WrotePrefix (contents self.old) (contents self.new) piece.now) };
 
-    /// Hands on what the stream may hold back of its bytes.
-    fn flush(&mut self) -> Result<(), Failed>
-        ensures failed { IsErr result ↔ IsTrue (has_failed self.new) }
-        ensures stays_failed { IsTrue (has_failed self.old) → IsErr result }
-        ensures flushed { OnOk result (IsTrue (is_flushed self.new)) }
-        ensures kept { Keeps (contents self.old) (contents self.new) };
-
-    /// Whether a write or a flush has failed. From then on each of them fails.
+    /// Whether a write has failed. From then on each write fails.
     fn failed(&self) -> bool
         ensures { result ≡ has_failed self.now };
+}
+
+/// An output that may hold bytes back until it is flushed. A failed flush is a failed write.
+pub trait Flush: Output {
+    /// Whether a flush succeeded after the last write.
+    ghost is_flushed: { Self → Bool };
+
+    /// Hands on the bytes that are held back.
+    fn flush(&mut self) -> Result<(), Failed>
+        ensures failed { IsErr result ↔ IsTrue (Self.has_failed self.new) }
+        ensures stays_failed { IsTrue (Self.has_failed self.old) → IsErr result }
+        ensures flushed { OnOk result (IsTrue (is_flushed self.new)) }
+        ensures kept { Keeps (Self.contents self.old) (Self.contents self.new) };
 }
 
 // The answer for a result of std: any error is a failure, an interrupted call included.

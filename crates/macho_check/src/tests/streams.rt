@@ -5,9 +5,10 @@ use crate::doubles::{
 };
 use crate::from_read::FromRead;
 use crate::from_write::FromWrite;
-use crate::run::{Outcome, RunFault, run, run_program};
-use crate::status::{check_status, exit_code};
-use crate::stream::{Failed, Input, Output};
+use crate::program::{ProgramFault, run_program};
+use crate::run::{Outcome, RunFault, run};
+use crate::status::exit_code;
+use crate::stream::{Failed, Flush, Input, Output};
 use crate::text::{write_break, write_hex};
 use crate::transfer::{ReadFault, WriteFault, read_all, write_all};
 use macho_fields::{Break, Rule};
@@ -225,8 +226,11 @@ fn ends_of_the_program(rt: HostRuntime) {
             &mut FromWrite::new(&mut writer),
             &mut FromWrite::new(&mut errors),
         );
-        assert_eq!(rt; check_status(&ended), status, "of {words:?} words");
-        assert_eq!(rt; exit_code(&ended), ExitCode::from(status));
+        assert_eq!(rt;
+            exit_code(&ended),
+            ExitCode::from(status),
+            "of {words:?} words"
+        );
         assert_eq!(rt; writer.bytes.as_slice(), text.as_bytes());
         assert_eq!(rt; errors.bytes.as_slice(), line.as_bytes());
         assert_eq!(rt; (reader.reads, writer.writes, writer.flushes), calls);
@@ -248,27 +252,27 @@ fn faults_of_standard_error_are_ignored(rt: HostRuntime) {
         &mut FromWrite::new(&mut writer),
         &mut FromWrite::new(&mut errors),
     );
-    assert_eq!(rt; ended, Err(RunFault::Read));
+    assert_eq!(rt; ended, Err(ProgramFault::Run(RunFault::Read)));
     assert_eq!(rt; (errors.writes, errors.flushes), (1, 0));
     assert!(rt; errors.bytes.is_empty());
 }
 
 #[test]
 fn a_refusal_that_is_cut_off(rt: HostRuntime) {
-    // The line goes out in six writes, and then there is the flush.
+    // The line goes out in six writes.
     let line = b"refused: magic at 0x0\n".as_slice();
-    for fails_at in 0..9u64 {
+    for fails_at in 0..8u64 {
         let mut writer = CountingWriter::new(Vec::new(rt.alloc()), fails_at, Fault::Error);
         let mut output = FromWrite::new(&mut writer);
         let ended = run(rt.alloc(), 1, &mut SlowReader::new(b"a"), &mut output);
         let calls = writer.writes.saturating_add(writer.flushes);
-        if (1..8).contains(&fails_at) {
+        if (1..7).contains(&fails_at) {
             assert_eq!(rt; ended, Err(RunFault::Write), "at call {fails_at}");
             assert_eq!(rt; calls, fails_at);
             assert!(rt; line.starts_with(writer.bytes.as_slice()));
         } else {
             assert_eq!(rt; ended, Ok(Outcome::Refused));
-            assert_eq!(rt; (writer.writes, writer.flushes), (6, 1));
+            assert_eq!(rt; (writer.writes, writer.flushes), (6, 0));
             assert_eq!(rt; writer.bytes.as_slice(), line);
         }
     }
