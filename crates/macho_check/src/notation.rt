@@ -10,6 +10,7 @@ use macho_fields::header::machine::{
     CPU_TYPE_X86_64,
 };
 use std::alloc::{AllocError, Global};
+use std::test::Fail;
 
 /// The cputype and cpusubtype of the architectures that tests have images of.
 pub(crate) const X86_64: (u32, u32) = (CPU_TYPE_X86_64, CPU_SUBTYPE_X86_64_ALL);
@@ -107,6 +108,31 @@ impl File {
     pub(crate) fn bytes(mut self, bytes: &[u8]) -> Result<File, AllocError> {
         self.bytes.extend_from_slice(bytes)?;
         Ok(self)
+    }
+
+    /// Bytes written out as pairs of hexadecimal digits, and `.N` as N zeros.
+    pub(crate) fn written(mut self, text: &str) -> Result<File, Fail> {
+        for word in text.split_whitespace() {
+            self = match word.strip_prefix('.') {
+                Some(count) => self.zeros(count.parse()?)?,
+                None => self.hexadecimal(word)?,
+            };
+        }
+        Ok(self)
+    }
+
+    fn hexadecimal(mut self, digits: &str) -> Result<File, Fail> {
+        for pair in digits.as_bytes().chunks(2) {
+            let digits = str::from_utf8(pair)?;
+            self.bytes.push(u8::from_str_radix(digits, 16)?)?;
+        }
+        Ok(self)
+    }
+
+    /// So many zeros.
+    fn zeros(self, count: usize) -> Result<File, AllocError> {
+        let end = self.bytes.len().saturating_add(count);
+        self.zeros_to(end)
     }
 
     pub(crate) fn word(self, number: u32) -> Result<File, AllocError> {

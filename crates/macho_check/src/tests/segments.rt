@@ -1,6 +1,6 @@
 //! Verdicts of the rules of segments and sections.
 
-use super::{ACCEPTED, check_told, check_verdict};
+use super::{ACCEPTED, check_report, check_verdict};
 use crate::notation::{File, Section, Segment};
 use macho_fields::header::loader::{
     MH_EXECUTE, S_GB_ZEROFILL, S_THREAD_LOCAL_ZEROFILL, S_ZEROFILL,
@@ -135,7 +135,7 @@ fn whole_executable(rt: HostRuntime) -> Result<(), Fail> {
         (0x2e7, b"refused: commands-outside at 0x14\n".as_slice()),
     ] {
         let cut = bytes.get(..len).expect(&rt, "a longer file");
-        check_told(&rt, cut, text, 1);
+        check_report(&rt, cut, text, 1);
     }
     Ok(())
 }

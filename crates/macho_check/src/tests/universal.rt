@@ -1,6 +1,6 @@
 //! Verdicts of the rules of universal files.
 
-use super::{ACCEPTED, check_told, check_verdict};
+use super::{ACCEPTED, check_report, check_verdict};
 use crate::notation::{ARM64, ARM64E, FatArch, FatArch64, File, I386, Segment, X86_64};
 use macho_fields::header::fat::{FAT_MAGIC, FAT_MAGIC_64};
 use macho_fields::header::loader::{MH_BUNDLE, MH_EXECUTE};
@@ -130,7 +130,7 @@ fn no_slices(rt: HostRuntime) {
         (b"\xca\xfe\xba\xbf".as_slice(), truncated),
         (b"\xca\xfe\xba\xbe\0\0\0\x01".as_slice(), truncated),
     ] {
-        check_told(&rt, file, text, 1);
+        check_report(&rt, file, text, 1);
     }
 }
 
@@ -199,7 +199,7 @@ fn cut_universal(rt: HostRuntime) -> Result<(), Fail> {
         (3, b"refused: magic at 0x0\n".as_slice()),
     ] {
         let cut = file.as_slice().get(..len).expect(&rt, "a longer file");
-        check_told(&rt, cut, text, 1);
+        check_report(&rt, cut, text, 1);
     }
     Ok(())
 }

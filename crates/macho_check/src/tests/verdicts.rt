@@ -1,6 +1,6 @@
 //! Verdicts on small files, from bytes to text and status.
 
-use super::check_told;
+use super::check_report;
 use crate::doubles::{EndlessReader, SlowReader, SlowWriter};
 use crate::notation::File;
 use crate::run::{Outcome, RunFault, run};
@@ -17,7 +17,7 @@ const UNLISTED: u32 = 0x99;
 fn bare_header(rt: HostRuntime) -> Result<(), Fail> {
     let file = File::new(rt.alloc()).header(MH_EXECUTE, 0, 0)?;
     assert_eq!(rt; file.as_slice().len(), 32);
-    check_told(&rt, file.as_slice(), b"accepted\n", 0);
+    check_report(&rt, file.as_slice(), b"accepted\n", 0);
     Ok(())
 }
 
@@ -28,7 +28,7 @@ fn no_magic(rt: HostRuntime) {
         b"\xca\xfe\xba".as_slice(),
         b"\xfe\xed\xfa\xcf\0\0\0\0".as_slice(),
     ] {
-        check_told(&rt, file, b"refused: magic at 0x0\n", 1);
+        check_report(&rt, file, b"refused: magic at 0x0\n", 1);
     }
 }
 
@@ -37,7 +37,7 @@ fn cut_header(rt: HostRuntime) -> Result<(), Fail> {
     let file = File::new(rt.alloc()).header(MH_EXECUTE, 0, 0)?;
     let text = b"refused: header-truncated at 0x0\n";
     let cut = file.as_slice().get(..31).expect(&rt, "a whole header");
-    check_told(&rt, cut, text, 1);
+    check_report(&rt, cut, text, 1);
     Ok(())
 }
 
@@ -47,7 +47,7 @@ fn command_of_no_size(rt: HostRuntime) -> Result<(), Fail> {
         .header(MH_EXECUTE, 1, 8)?
         .command(UNLISTED, 0)?;
     let text = b"refused: command-walk at 0x20\n";
-    check_told(&rt, file.as_slice(), text, 1);
+    check_report(&rt, file.as_slice(), text, 1);
     Ok(())
 }
 
@@ -61,7 +61,7 @@ fn command_past_the_end(rt: HostRuntime) -> Result<(), Fail> {
         let file = File::new(rt.alloc())
             .header(MH_EXECUTE, ncmds, 8)?
             .command(UNLISTED, 8)?;
-        check_told(&rt, file.as_slice(), text, status);
+        check_report(&rt, file.as_slice(), text, status);
     }
     Ok(())
 }
@@ -69,36 +69,36 @@ fn command_past_the_end(rt: HostRuntime) -> Result<(), Fail> {
 #[test]
 fn bundle(rt: HostRuntime) -> Result<(), Fail> {
     let file = File::new(rt.alloc()).header(MH_BUNDLE, 0, 0)?;
-    check_told(&rt, file.as_slice(), b"refused: file-type at 0xc\n", 1);
+    check_report(&rt, file.as_slice(), b"refused: file-type at 0xc\n", 1);
     Ok(())
 }
 
 #[test]
 fn library_id(rt: HostRuntime) -> Result<(), Fail> {
     let none = File::new(rt.alloc()).header(MH_DYLIB, 0, 0)?;
-    check_told(&rt, none.as_slice(), b"refused: dylib-id at 0xc\n", 1);
+    check_report(&rt, none.as_slice(), b"refused: dylib-id at 0xc\n", 1);
 
     let good = File::new(rt.alloc())
         .header(MH_DYLIB, 1, 32)?
         .dylib(LC_ID_DYLIB, b"/a.dyl\0\0")?;
-    check_told(&rt, good.as_slice(), b"accepted\n", 0);
+    check_report(&rt, good.as_slice(), b"accepted\n", 0);
 
     let unended = File::new(rt.alloc())
         .header(MH_DYLIB, 1, 32)?
         .dylib(LC_ID_DYLIB, b"/l.dylib")?;
-    check_told(&rt, unended.as_slice(), b"refused: name at 0x20\n", 1);
+    check_report(&rt, unended.as_slice(), b"refused: name at 0x20\n", 1);
 
     let twice = File::new(rt.alloc())
         .header(MH_DYLIB, 2, 64)?
         .dylib(LC_ID_DYLIB, b"/a.dyl\0\0")?
         .dylib(LC_ID_DYLIB, b"/a.dyl\0\0")?;
     let text = b"refused: command-repeated at 0x40\n";
-    check_told(&rt, twice.as_slice(), text, 1);
+    check_report(&rt, twice.as_slice(), text, 1);
 
     let executable = File::new(rt.alloc())
         .header(MH_EXECUTE, 1, 32)?
         .dylib(LC_ID_DYLIB, b"/a.dyl\0\0")?;
-    check_told(&rt, executable.as_slice(), b"refused: dylib-id at 0xc\n", 1);
+    check_report(&rt, executable.as_slice(), b"refused: dylib-id at 0xc\n", 1);
     Ok(())
 }
 
@@ -108,13 +108,13 @@ fn short_commands(rt: HostRuntime) -> Result<(), Fail> {
     let bare = File::new(rt.alloc())
         .header(MH_EXECUTE, 1, 8)?
         .command(LC_UUID, 8)?;
-    check_told(&rt, bare.as_slice(), text, 1);
+    check_report(&rt, bare.as_slice(), text, 1);
 
     let long = File::new(rt.alloc())
         .header(MH_EXECUTE, 1, 32)?
         .command(LC_UUID, 32)?
         .zeros_to(64)?;
-    check_told(&rt, long.as_slice(), b"accepted\n", 0);
+    check_report(&rt, long.as_slice(), b"accepted\n", 0);
 
     // Sizes that a product in 32 bits would take for 72 and for 8 more.
     for nsects in [u32::MAX, 53_687_091, 53_687_092] {
@@ -124,7 +124,7 @@ fn short_commands(rt: HostRuntime) -> Result<(), Fail> {
             .zeros_to(32 + 64)?
             .word(nsects)?
             .word(0)?;
-        check_told(&rt, crowded.as_slice(), text, 1);
+        check_report(&rt, crowded.as_slice(), text, 1);
     }
     Ok(())
 }

@@ -1,184 +1,201 @@
-//! The views of an opened image, on an executable with something for each of them.
+//! The views of an opened image.
 
-use crate::notation::{Dysymtab, File};
+use super::layout::check_layout;
+use crate::notation::File;
 use macho_fields::Bytes;
-use macho_fields::header::loader::{LC_LOAD_DYLIB, LC_SEGMENT_64, LC_SYMTAB, MH_EXECUTE};
-use macho_fields::header::machine::{CPU_SUBTYPE_X86_64_ALL, CPU_TYPE_X86_64};
-use macho_image::{Image, Kind};
+use macho_image::Image;
+use std::process::Abort;
 use std::test::Fail;
 
-#[test]
-fn header_and_commands(rt: HostRuntime) -> Result<(), Fail> {
-    let file = File::executable(rt.alloc())?;
-    let image = Image::open(Bytes::new(file.as_slice()), None).expect(&rt, "an unbroken image");
-    assert_eq!(rt; image.bytes().len(), 0x202c);
-    assert_eq!(rt; image.kind(), Kind::Execute);
-    assert_eq!(rt; image.arch(), (CPU_TYPE_X86_64, CPU_SUBTYPE_X86_64_ALL));
-
-    let mut places = image
-        .commands()
-        .map(|command| (command.place, command.cmd, command.size));
-    assert_eq!(rt; places.next(), Some((0x20, LC_SEGMENT_64, 72)));
-    assert_eq!(rt; places.next(), Some((0x68, LC_SEGMENT_64, 152)));
-    assert_eq!(rt; places.nth(2), Some((0x230, LC_SYMTAB, 24)));
-    assert_eq!(rt; places.last(), Some((0x2b0, LC_LOAD_DYLIB, 56)));
-    assert!(rt; image.commands().nth(9).is_some() && image.commands().nth(10).is_none());
-    let first = image.commands().next().expect(&rt, "a command");
-    assert_eq!(rt; first.bytes.len(), 72);
-    Ok(())
+/// Compares the views of a file that is written out.
+fn check_written(rt: &(impl Abort + AllocGlobal), bytes: &str, lines: &str) -> Result<(), Fail> {
+    let file = File::new(rt.alloc()).written(bytes)?;
+    let image = Image::open(Bytes::new(file.as_slice()), None)?;
+    check_layout(rt, &image, lines)
 }
 
 #[test]
-fn one_of_a_kind(rt: HostRuntime) -> Result<(), Fail> {
+fn whole_executable(rt: HostRuntime) -> Result<(), Fail> {
     let file = File::executable(rt.alloc())?;
-    let image = Image::open(Bytes::new(file.as_slice()), None).expect(&rt, "an unbroken image");
-    let uuid = image.uuid().expect(&rt, "an identifier");
-    assert_eq!(rt;
-        uuid.as_slice(),
-        b"\x00\x11\x22\x33\x44\x55\x66\x77\x88\x99\xaa\xbb\xcc\xdd\xee\xff".as_slice()
-    );
-    let entry = image.main_command().expect(&rt, "an entry");
-    assert_eq!(rt;
-        (entry.place, entry.entryoff, entry.stacksize),
-        (0x298, 0xf00, 0)
-    );
-    Ok(())
+    let image = Image::open(Bytes::new(file.as_slice()), None)?;
+    check_layout(
+        &rt,
+        &image,
+        "
+        Execute of 8236 bytes for 0x1000007 0x3
+        0x20 command 0x19 size 72 of 72
+        0x68 command 0x19 size 152 of 152
+        0x100 command 0x19 size 232 of 232
+        0x1e8 command 0x19 size 72 of 72
+        0x230 command 0x2 size 24 of 24
+        0x248 command 0xe size 32 of 32
+        0x268 command 0x1b size 24 of 24
+        0x280 command 0x32 size 24 of 24
+        0x298 command 0x80000028 size 24 of 24
+        0x2b0 command 0xc size 56 of 56
+        0x20 segment __PAGEZERO addr 0x0 0x100000000 file 0x0 0x0 initprot 0 nsects 0
+        0x68 segment __TEXT addr 0x100000000 0x1000 file 0x0 0x1000 initprot 5 nsects 1
+        0xb0 section __text addr 0x100000f00 0x100 offset 0xf00 reloc 0x0 0 flags 0x0 bytes
+        0x100 segment __DATA addr 0x100001000 0x2000 file 0x1000 0x1000 initprot 3 nsects 2
+        0x148 section __data addr 0x100001000 0x10 offset 0x1000 reloc 0x0 0 flags 0x0 bytes
+        0x198 section __bss addr 0x100001010 0x20 offset 0x0 reloc 0x0 0 flags 0x1 zeros
+        0x1e8 segment __LINKEDIT addr 0x100003000 0x1000 file 0x2000 0x2c initprot 1 nsects 0
+        Symtab { place: 560, symoff: 8192, nsyms: 2, stroff: 8224, strsize: 12 }
+        0x2000 symbol Some(\"_main\") strx 1 type 0xf sect 1 desc 0x0 value 0x100000f00
+        0x2010 symbol Some(\"_x\") strx 7 type 0xf sect 2 desc 0x0 value 0x100001000
+        0x2b0 dylib 0xc /usr/lib/libSystem.B.dylib current 0x5270000 compatible 0x10000
+        0x280 build platform 1 minos 0xb0000 sdk 0xd0100
+        uuid 00112233445566778899AABBCCDDEEFF
+        MainCommand { place: 664, entryoff: 3840, stacksize: 0 }
+        base 0x100000000
+        entry 0x100000f00
+        sections 3
+        ",
+    )
 }
 
 #[test]
-fn builds_and_libraries(rt: HostRuntime) -> Result<(), Fail> {
-    let file = File::executable(rt.alloc())?;
-    let image = Image::open(Bytes::new(file.as_slice()), None).expect(&rt, "an unbroken image");
-    let mut builds = image.builds();
-    let build = builds.next().expect(&rt, "a build version");
-    assert_eq!(rt; (build.place, build.platform), (0x280, 1));
-    assert_eq!(rt; (build.minos, build.sdk), (0x000b_0000, 0x000d_0100));
-    assert!(rt; builds.next().is_none());
-
-    let mut dylibs = image.dylibs();
-    let library = dylibs.next().expect(&rt, "a library");
-    assert_eq!(rt; (library.place, library.cmd), (0x2b0, LC_LOAD_DYLIB));
-    assert_eq!(rt; library.name, b"/usr/lib/libSystem.B.dylib".as_slice());
-    assert_eq!(rt;
-        (library.current, library.compatible),
-        (0x0527_0000, 0x0001_0000)
-    );
-    assert!(rt; dylibs.next().is_none());
-    Ok(())
+fn libraries(rt: HostRuntime) -> Result<(), Fail> {
+    check_written(
+        &rt,
+        "cffaedfe 0c000001 02000080 06000000 06000000 c0000000 .8
+        0c000000 20000000 18000000 .4 01000000 02000000 2f612e64796c0000
+        18000080 20000000 18000000 .4 03000000 04000000 2f622e64796c0000
+        0d000000 20000000 18000000 .4 05000000 06000000 2f632e64796c0000
+        1f000080 20000000 19000000 .4 07000000 08000000 2f642e64796c0000
+        20000000 20000000 1f000000 .4 09000000 0a000000 2f652e64796c0000
+        23000080 20000000 18000000 .4 0b000000 0c000000 2f00662e64796c00",
+        "
+        Dylib of 224 bytes for 0x100000c 0x2
+        0x20 command 0xc size 32 of 32
+        0x40 command 0x80000018 size 32 of 32
+        0x60 command 0xd size 32 of 32
+        0x80 command 0x8000001f size 32 of 32
+        0xa0 command 0x20 size 32 of 32
+        0xc0 command 0x80000023 size 32 of 32
+        0x20 dylib 0xc /a.dyl current 0x1 compatible 0x2
+        0x40 dylib 0x80000018 /b.dyl current 0x3 compatible 0x4
+        0x60 dylib 0xd /c.dyl current 0x5 compatible 0x6
+        0x80 dylib 0x8000001f d.dyl current 0x7 compatible 0x8
+        0xa0 dylib 0x20  current 0x9 compatible 0xa
+        0xc0 dylib 0x80000023 / current 0xb compatible 0xc
+        sections 0
+        ",
+    )
 }
 
 #[test]
-fn segments(rt: HostRuntime) -> Result<(), Fail> {
-    let file = File::executable(rt.alloc())?;
-    let image = Image::open(Bytes::new(file.as_slice()), None).expect(&rt, "an unbroken image");
-    let mut segments = image.segments();
-    let zero = segments.next().expect(&rt, "the first segment");
-    assert_eq!(rt; zero.name(), b"__PAGEZERO".as_slice());
-    assert_eq!(rt; (zero.vmaddr(), zero.vmsize()), (0, 0x1_0000_0000));
-    assert!(rt; zero.sections().next().is_none());
-
-    let data = segments.nth(1).expect(&rt, "the third segment");
-    assert_eq!(rt; (data.place(), data.name()), (0x100, b"__DATA".as_slice()));
-    assert_eq!(rt; (data.vmaddr(), data.vmsize()), (0x1_0000_1000, 0x2000));
-    assert_eq!(rt; (data.fileoff(), data.filesize()), (0x1000, 0x1000));
-    assert_eq!(rt; (data.initprot(), data.nsects()), (3, 2));
-    assert!(rt; segments.nth(1).is_none());
-    assert_eq!(rt; image.section_count(), 3);
-    Ok(())
+fn entry_without_a_base(rt: HostRuntime) -> Result<(), Fail> {
+    check_written(
+        &rt,
+        "cffaedfe 07000001 03000000 02000000 01000000 18000000 .8
+        28000080 18000000 0700000000000000 0900000000000000",
+        "
+        Execute of 56 bytes for 0x1000007 0x3
+        0x20 command 0x80000028 size 24 of 24
+        MainCommand { place: 32, entryoff: 7, stacksize: 9 }
+        sections 0
+        ",
+    )
 }
 
 #[test]
-fn sections(rt: HostRuntime) -> Result<(), Fail> {
-    let file = File::executable(rt.alloc())?;
-    let image = Image::open(Bytes::new(file.as_slice()), None).expect(&rt, "an unbroken image");
-    let segment = image.segments().nth(2).expect(&rt, "the third segment");
-    let mut sections = segment.sections();
-    let data = sections.next().expect(&rt, "the first section");
-    assert_eq!(rt; (data.place(), data.name()), (0x148, b"__data".as_slice()));
-    assert_eq!(rt; (data.addr(), data.size()), (0x1_0000_1000, 0x10));
-    assert_eq!(rt;
-        (data.offset(), data.reloff(), data.nreloc()),
-        (0x1000, 0, 0)
-    );
-    assert!(rt; !data.is_zero_fill());
-
-    let zeros = sections.next().expect(&rt, "the second section");
-    assert_eq!(rt; (zeros.place(), zeros.name()), (0x198, b"__bss".as_slice()));
-    assert_eq!(rt; (zeros.addr(), zeros.size()), (0x1_0000_1010, 0x20));
-    assert_eq!(rt; zeros.flags(), 1);
-    assert!(rt; zeros.is_zero_fill() && sections.next().is_none());
-    Ok(())
+fn base_without_an_entry(rt: HostRuntime) -> Result<(), Fail> {
+    // The sum of the base and the entry's offset is 2^64.
+    check_written(
+        &rt,
+        "cffaedfe 07000001 03000000 02000000 02000000 60000000 .8
+        19000000 48000000 41424344454647484142434445464748
+        0010000000000000 0100000000000000 .8 0100000000000000 07000000 05000000 .8
+        28000080 18000000 00f0ffffffffffff .8",
+        "
+        Execute of 128 bytes for 0x1000007 0x3
+        0x20 command 0x19 size 72 of 72
+        0x68 command 0x80000028 size 24 of 24
+        0x20 segment ABCDEFGHABCDEFGH addr 0x1000 0x1 file 0x0 0x1 initprot 5 nsects 0
+        MainCommand { place: 104, entryoff: 18446744073709547520, stacksize: 0 }
+        base 0x1000
+        sections 0
+        ",
+    )
 }
 
 #[test]
-fn entry_counts_from_the_base(rt: HostRuntime) -> Result<(), Fail> {
-    let file = File::executable(rt.alloc())?;
-    let image = Image::open(Bytes::new(file.as_slice()), None).expect(&rt, "an unbroken image");
-    assert_eq!(rt; image.base(), Some(0x1_0000_0000));
-    assert_eq!(rt; image.entry(), Some(0x1_0000_0f00));
-    Ok(())
+fn words_of_the_groups(rt: HostRuntime) -> Result<(), Fail> {
+    check_written(
+        &rt,
+        "cffaedfe 07000001 03000000 02000000 01000000 50000000 .8 0b000000 50000000
+        01000000 02000000 03000000 04000000 05000000 06000000
+        07000000 08000000 09000000 0a000000 0b000000 0c000000
+        70000000 02000000 0d000000 0e000000 0f000000 10000000 00000080 05000000",
+        "
+        Execute of 120 bytes for 0x1000007 0x3
+        0x20 command 0xb size 80 of 80
+        Dysymtab { place: 32, ilocalsym: 1, nlocalsym: 2, iextdefsym: 3, nextdefsym: 4, \
+            iundefsym: 5, nundefsym: 6, tocoff: 7, ntoc: 8, modtaboff: 9, nmodtab: 10, \
+            extrefsymoff: 11, nextrefsyms: 12, indirectsymoff: 112, nindirectsyms: 2, \
+            extreloff: 13, nextrel: 14, locreloff: 15, nlocrel: 16 }
+        0x70 indirect 0x80000000
+        0x74 indirect 0x5
+        sections 0
+        ",
+    )
 }
 
 #[test]
-fn symbols_and_names(rt: HostRuntime) -> Result<(), Fail> {
-    let file = File::executable(rt.alloc())?;
-    let image = Image::open(Bytes::new(file.as_slice()), None).expect(&rt, "an unbroken image");
-    let table = image.symtab().expect(&rt, "a symbol table");
-    assert_eq!(rt;
-        (table.place, table.symoff, table.nsyms),
-        (0x230, 0x2000, 2)
-    );
-    assert_eq!(rt; (table.stroff, table.strsize), (0x2020, 12));
+fn cut_indirect_table(rt: HostRuntime) -> Result<(), Fail> {
+    // Of the table's two entries one byte is missing.
+    check_written(
+        &rt,
+        "cffaedfe 07000001 03000000 02000000 01000000 50000000 .8 0b000000 50000000
+        .48 70000000 02000000 .16 .7",
+        "
+        Execute of 119 bytes for 0x1000007 0x3
+        0x20 command 0xb size 80 of 80
+        Dysymtab { place: 32, ilocalsym: 0, nlocalsym: 0, iextdefsym: 0, nextdefsym: 0, \
+            iundefsym: 0, nundefsym: 0, tocoff: 0, ntoc: 0, modtaboff: 0, nmodtab: 0, \
+            extrefsymoff: 0, nextrefsyms: 0, indirectsymoff: 112, nindirectsyms: 2, \
+            extreloff: 0, nextrel: 0, locreloff: 0, nlocrel: 0 }
+        sections 0
+        ",
+    )
+}
 
-    let mut symbols = image.symbols();
-    let main = symbols.next().expect(&rt, "the first symbol");
-    assert_eq!(rt;
-        (main.place, main.strx, main.value),
-        (0x2000, 1, 0x1_0000_0f00)
-    );
-    assert_eq!(rt; (main.kind, main.sect, main.desc), (0x0f, 1, 0));
-    let data = symbols.next().expect(&rt, "the second symbol");
-    assert_eq!(rt; (data.place, data.strx, data.sect), (0x2010, 7, 2));
-    assert!(rt; symbols.next().is_none());
-
-    assert_eq!(rt; image.symbol_name(1), Some(b"_main".as_slice()));
-    assert_eq!(rt; image.symbol_name(7), Some(b"_x".as_slice()));
-    assert_eq!(rt; image.symbol_name(9), Some(b"".as_slice()));
-    for strx in [0, 12, u32::MAX] {
-        assert!(rt; image.symbol_name(strx).is_none());
+/// The names at these offsets in the string table of a file.
+fn check_names(
+    rt: &(impl Abort + AllocGlobal),
+    file: &[u8],
+    names: &[(u32, Option<&str>)],
+) -> Result<(), Fail> {
+    let image = Image::open(Bytes::new(file), None)?;
+    for (strx, name) in names {
+        assert_eq!(rt;
+            image.symbol_name(*strx),
+            name.map(str::as_bytes),
+            "at {strx}"
+        );
     }
-    assert!(rt; image.dysymtab().is_none() && image.indirects().next().is_none());
     Ok(())
 }
 
 #[test]
-fn indirect_entries(rt: HostRuntime) -> Result<(), Fail> {
-    let table = Dysymtab {
-        indirectsymoff: 112,
-        nindirectsyms: 2,
-        ..Dysymtab::default()
-    };
-    let file = File::new(rt.alloc())
-        .header(MH_EXECUTE, 1, 80)?
-        .dysymtab(table)?
-        .word(0x8000_0000)?
-        .word(5)?;
-    let image = Image::open(Bytes::new(file.as_slice()), None).expect(&rt, "an unbroken image");
-    let words = image.dysymtab().expect(&rt, "the command");
-    assert_eq!(rt;
-        (words.place, words.indirectsymoff, words.nindirectsyms),
-        (0x20, 112, 2)
-    );
-    let mut entries = image.indirects();
-    let first = entries.next().expect(&rt, "an entry");
-    assert_eq!(rt; (first.place, first.value), (112, 0x8000_0000));
-    let second = entries.next().expect(&rt, "another entry");
-    assert_eq!(rt; (second.place, second.value), (116, 5));
-    assert!(rt; entries.next().is_none());
+fn symbol_names(rt: HostRuntime) -> Result<(), Fail> {
+    let file = File::executable(rt.alloc())?;
+    let names = [
+        (1, Some("_main")),
+        (7, Some("_x")),
+        (9, Some("")),
+        (0, None),
+        (12, None),
+        (u32::MAX, None),
+    ];
+    check_names(&rt, file.as_slice(), names.as_slice())?;
 
-    // A table of which one byte is missing gives nothing.
-    let cut = file.as_slice().get(..119).expect(&rt, "a longer file");
-    let image = Image::open(Bytes::new(cut), None).expect(&rt, "an unbroken image");
-    assert!(rt; image.indirects().next().is_none());
-    Ok(())
+    // The string table is 00 61 00 62, with a zero byte after it.
+    let file = File::new(rt.alloc()).written(
+        "cffaedfe 07000001 03000000 02000000 01000000 18000000 .8
+        02000000 18000000 38000000 01000000 48000000 04000000 01000000 01 .11 0061006200",
+    )?;
+    let names = [(1, Some("a")), (2, Some("")), (3, None), (4, None)];
+    check_names(&rt, file.as_slice(), names.as_slice())
 }
