@@ -22,7 +22,7 @@ pub(crate) const ARM64E: (u32, u32) = (CPU_TYPE_ARM64, CPU_SUBTYPE_ARM64E);
 /// The 32-bit x86 architecture, whose images are not read.
 pub(crate) const I386: (u32, u32) = (7, 3);
 
-/// The bytes of a file so far.
+/// The bytes of a file up to here.
 #[derive(Drop)]
 pub(crate) struct File {
     bytes: Vec<u8>,
@@ -49,7 +49,7 @@ pub(crate) struct Segment<'a>(
     pub(crate) u32,
 );
 
-/// The words of `dysymtab_command` behind its size, in their order.
+/// The words of `dysymtab_command` after its size, in their order.
 #[derive(Clone, Copy, Default)]
 pub(crate) struct Dysymtab {
     pub(crate) ilocalsym: u32,
@@ -110,13 +110,23 @@ impl File {
         Ok(self)
     }
 
-    /// Bytes written out as pairs of hexadecimal digits, and `.N` as N zeros.
+    /// Bytes written out as pairs of hexadecimal digits, `.N` as N zeros, and `N*` before digits
+    /// that are repeated.
     pub(crate) fn written(mut self, text: &str) -> Result<File, Fail> {
         for word in text.split_whitespace() {
             self = match word.strip_prefix('.') {
                 Some(count) => self.zeros(count.parse()?)?,
-                None => self.hexadecimal(word)?,
+                None => self.repeated(word)?,
             };
+        }
+        Ok(self)
+    }
+
+    fn repeated(mut self, word: &str) -> Result<File, Fail> {
+        let (count, digits) = word.split_once('*').unwrap_or(("1", word));
+        let count: u32 = count.parse()?;
+        for _ in 0..count {
+            self = self.hexadecimal(digits)?;
         }
         Ok(self)
     }
@@ -277,7 +287,7 @@ impl File {
         Ok(file)
     }
 
-    /// A word and the one behind it, as an offset and a count.
+    /// A word and the next one, as an offset and a count.
     fn pair(self, words: (u32, u32)) -> Result<File, AllocError> {
         self.word(words.0)?.word(words.1)
     }
@@ -288,7 +298,7 @@ impl File {
         self.word(strx)?.bytes(&[kind, sect, 0, 0])?.long(0)
     }
 
-    /// `dylib_command` with these name bytes behind it, both versions 1.0.0.
+    /// `dylib_command` with these name bytes after it, both versions 1.0.0.
     pub(crate) fn dylib(self, cmd: u32, name: &[u8]) -> Result<File, AllocError> {
         let size = 24u32.saturating_add(u32::try_from(name.len()).unwrap_or(u32::MAX));
         let named = self.command(cmd, size)?.word(24)?.word(2)?;
@@ -315,11 +325,16 @@ impl File {
         let nfat_arch = u32::try_from(entries.len()).unwrap_or(u32::MAX);
         let mut file = self.fat_header(FAT_MAGIC, nfat_arch)?;
         for entry in entries {
-            let FatArch((cputype, cpusubtype), offset, size, align) = *entry;
-            let named = file.big_word(cputype)?.big_word(cpusubtype)?;
-            file = named.big_word(offset)?.big_word(size)?.big_word(align)?;
+            file = file.fat_arch(*entry)?;
         }
         Ok(file)
+    }
+
+    /// `fat_arch`.
+    pub(crate) fn fat_arch(self, entry: FatArch) -> Result<File, AllocError> {
+        let FatArch((cputype, cpusubtype), offset, size, align) = entry;
+        let named = self.big_word(cputype)?.big_word(cpusubtype)?;
+        named.big_word(offset)?.big_word(size)?.big_word(align)
     }
 
     /// `fat_header` and its wide entries.

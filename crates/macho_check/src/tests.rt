@@ -8,6 +8,7 @@ mod literal;
 mod mapping;
 mod real;
 mod segments;
+mod sizes;
 mod streams;
 mod symbols;
 mod universal;
