@@ -6,6 +6,7 @@ mod layers;
 mod layout;
 mod literal;
 mod mapping;
+mod numbers;
 mod real;
 mod segments;
 mod sizes;
@@ -30,11 +31,11 @@ fn check_report(rt: &(impl Abort + AllocGlobal), file: &[u8], text: &[u8], statu
     let mut reader = SlowReader::new(file);
     let mut writer = SlowWriter::new(Vec::new(rt.alloc()), 1000);
     let ended = run(rt.alloc(), 1 << 32, &mut reader, &mut writer);
-    let told = str::from_utf8(writer.bytes.as_slice()).unwrap_or("");
+    let report = str::from_utf8(writer.bytes.as_slice()).unwrap_or("");
     assert_eq!(rt;
         writer.bytes.as_slice(),
         text,
-        "of {} bytes is told {told}",
+        "of {} bytes: {report}",
         file.len()
     );
     assert_eq!(rt; check_status(&ended), status);
@@ -47,7 +48,7 @@ fn check_verdict(rt: &(impl Abort + AllocGlobal), file: &File, text: &str) {
 }
 
 /// Compares the verdicts on files that are written out. A line is `BYTES : TEXT`, in which
-/// `(A | B)` stands for a line with `A` and one with `B`. Each file begins with the bytes of
+/// `(A | B)` is a choice: a line with `A` and one with `B`. Each file begins with the bytes of
 /// `front`. A line that begins with `#` is a comment.
 fn check_lines(rt: &(impl Abort + AllocGlobal), front: &str, lines: &str) -> Result<(), Fail> {
     for line in lines.lines() {

@@ -25,7 +25,7 @@ fn text(vmaddr: u64, initprot: u32) -> Segment<'static> {
 #[test]
 fn entry_places(rt: HostRuntime) -> Result<(), Fail> {
     let refused = "refused: entry at 0x68\n";
-    for (initprot, entryoff, told) in [
+    for (initprot, entryoff, report) in [
         (5, 127, ACCEPTED),
         (5, 128, refused),
         (5, u64::MAX, refused),
@@ -44,7 +44,7 @@ fn entry_places(rt: HostRuntime) -> Result<(), Fail> {
     ] {
         let file = entered(rt.alloc(), &[text(0x1000, initprot)], entryoff)?;
         assert_eq!(rt; file.as_slice().len(), 128);
-        check_verdict(&rt, &file, told);
+        check_verdict(&rt, &file, report);
     }
     let alone = entered(rt.alloc(), &[], 0)?;
     check_verdict(&rt, &alone, "refused: entry at 0x20\n");
@@ -56,7 +56,7 @@ fn entry_in_another_segment(rt: HostRuntime) -> Result<(), Fail> {
     let refused = "refused: entry at 0xb0\n";
     let code = Segment("__CODE", 0x5000, 0x1000, 100, 50, 4);
     let below = Segment("__BELOW", 0, 0x1000, 100, 50, 4);
-    for (first, second, entryoff, told) in [
+    for (first, second, entryoff, report) in [
         // The segment that gives the base need not be executable.
         (text(0x1000, 1), code, 0x4000, ACCEPTED),
         (text(0x1000, 1), code, 0x4031, ACCEPTED),
@@ -73,7 +73,7 @@ fn entry_in_another_segment(rt: HostRuntime) -> Result<(), Fail> {
         (text(0x1000, 1), text(0x4000, 5), 0x3000, ACCEPTED),
     ] {
         let file = entered(rt.alloc(), &[first, second], entryoff)?;
-        check_verdict(&rt, &file, told);
+        check_verdict(&rt, &file, report);
     }
     Ok(())
 }
@@ -81,19 +81,19 @@ fn entry_in_another_segment(rt: HostRuntime) -> Result<(), Fail> {
 #[test]
 fn base_of_the_entry(rt: HostRuntime) -> Result<(), Fail> {
     let refused = "refused: entry at 0xb0\n";
-    // No base: unmapped, without file bytes, or from another place of the file on.
+    // No base: unmapped, without file bytes, or not from the start of the file.
     for other in [
         Segment("__UNMAPPED", 0x8000, 0, 0, 128, 5),
         Segment("__PAGEZERO", 0x8000, 0x1000, 0, 0, 5),
-        Segment("__BEHIND", 0x8000, 0x1000, 1, 128, 5),
+        Segment("__LATER", 0x8000, 0x1000, 1, 128, 5),
     ] {
-        for (segments, entryoff, told) in [
+        for (segments, entryoff, report) in [
             ([other, text(0x1000, 5)], 127, ACCEPTED),
             ([other, text(0x1000, 5)], 128, refused),
             ([other, other_code()], 0, refused),
         ] {
             let file = entered(rt.alloc(), &segments, entryoff)?;
-            check_verdict(&rt, &file, told);
+            check_verdict(&rt, &file, report);
         }
     }
     Ok(())
@@ -106,12 +106,12 @@ fn other_code() -> Segment<'static> {
 
 #[test]
 fn entry_of_a_library(rt: HostRuntime) -> Result<(), Fail> {
-    for (entryoff, told) in [(127, ACCEPTED), (128, "refused: entry at 0x88\n")] {
+    for (entryoff, report) in [(127, ACCEPTED), (128, "refused: entry at 0x88\n")] {
         let library = File::new(rt.alloc())
             .header(MH_DYLIB, 3, 128)?
             .dylib(LC_ID_DYLIB, b"/a.dyl\0\0")?;
         let file = library.segment(text(0x1000, 5), 0)?.main_command(entryoff)?;
-        check_verdict(&rt, &file, told);
+        check_verdict(&rt, &file, report);
     }
     Ok(())
 }
@@ -119,7 +119,7 @@ fn entry_of_a_library(rt: HostRuntime) -> Result<(), Fail> {
 #[test]
 fn entry_before_the_next_slice(rt: HostRuntime) -> Result<(), Fail> {
     let entries = [FatArch(X86_64, 64, 128, 0), FatArch(ARM64, 192, 31, 0)];
-    for (entryoff, told) in [
+    for (entryoff, report) in [
         (127, "refused: header-truncated at 0xc0\n"),
         (128, "refused: entry at 0xa8\n"),
     ] {
@@ -129,7 +129,7 @@ fn entry_before_the_next_slice(rt: HostRuntime) -> Result<(), Fail> {
             .segment(text(0x1000, 5), 0)?
             .main_command(entryoff)?;
         let file = first.header_of(ARM64, MH_EXECUTE, 0, 0)?;
-        check_verdict(&rt, &file, told);
+        check_verdict(&rt, &file, report);
     }
     Ok(())
 }

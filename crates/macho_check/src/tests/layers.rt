@@ -26,19 +26,32 @@ pub(super) fn check_slices(
     expected: &[Expected],
 ) -> Result<(), Fail> {
     let list = slices(rt.alloc(), Bytes::new(file))?;
-    assert_eq!(rt; list.len(), expected.len());
     let verified = verify(rt.alloc(), file)?;
-    let count = verified.slice_count();
-    assert_eq!(rt; usize::try_from(count)?, expected.len());
-    for (index, slice) in list.iter().enumerate() {
-        let Expected(start, len, arch, read) = *expected.get(index).ok_or("a slice too many")?;
+    check_count(rt, &verified, u64::try_from(expected.len())?)?;
+    assert_eq!(rt; list.len(), expected.len());
+    for (slice, expected) in list.iter().zip(expected) {
+        let Expected(start, len, arch, read) = *expected;
         let span = Span { start, len };
         assert_eq!(rt; *slice, Slice { span, arch, read });
-        check_slice(rt, &verified, u64::try_from(index)?, slice)?;
     }
+    let mut index = 0u64;
+    for slice in &list {
+        check_slice(rt, &verified, index, slice)?;
+        index = index.saturating_add(1);
+    }
+    Ok(())
+}
+
+/// Compares the number of slices, and looks for one past the last.
+fn check_count(
+    rt: &(impl Abort + AllocGlobal),
+    verified: &Verified,
+    count: u64,
+) -> Result<(), Fail> {
+    assert_eq!(rt; verified.slice_count(), count);
     for index in [count, 1 << 32, u64::MAX] {
         assert!(rt; verified.slice(index).is_none() && verified.image(index).is_none());
-        assert!(rt; Mapping::of(rt.alloc(), &verified, index)?.is_none());
+        assert!(rt; Mapping::of(rt.alloc(), verified, index)?.is_none());
     }
     Ok(())
 }

@@ -25,12 +25,26 @@ fn layout(alloc: Global, image: &Image) -> Result<String, Fail> {
     let mut text = header(alloc, image)?;
     text.push_str(&commands(alloc, image)?)?;
     text.push_str(&segments(alloc, image)?)?;
-    text.push_str(&tables(alloc, image)?)?;
+    text.push_str(&linkedit(alloc, image)?)?;
+    text.push_str(&others(alloc, image)?)?;
+    Ok(text)
+}
+
+/// The tables and what is in them.
+fn linkedit(alloc: Global, image: &Image) -> Result<String, Fail> {
+    let mut text = tables(alloc, image)?;
     text.push_str(&symbols(alloc, image)?)?;
     text.push_str(&indirects(alloc, image)?)?;
-    text.push_str(&dylibs(alloc, image)?)?;
+    Ok(text)
+}
+
+/// What other commands give.
+fn others(alloc: Global, image: &Image) -> Result<String, Fail> {
+    let mut text = dylibs(alloc, image)?;
     text.push_str(&builds(alloc, image)?)?;
-    text.push_str(&ends(alloc, image)?)?;
+    text.push_str(&uuid(alloc, image)?)?;
+    text.push_str(&entry(alloc, image)?)?;
+    text.push_str(&format!(in alloc; "sections {}\n", image.section_count())?)?;
     Ok(text)
 }
 
@@ -168,22 +182,6 @@ fn builds(alloc: Global, image: &Image) -> Result<String, Fail> {
     Ok(text)
 }
 
-/// What an image has once at most.
-fn ends(alloc: Global, image: &Image) -> Result<String, Fail> {
-    let mut text = uuid(alloc, image)?;
-    if let Some(main) = image.main_command() {
-        text.push_str(&format!(in alloc; "{main:?}\n")?)?;
-    }
-    if let Some(base) = image.base() {
-        text.push_str(&format!(in alloc; "base {base:#x}\n")?)?;
-    }
-    if let Some(entry) = image.entry() {
-        text.push_str(&format!(in alloc; "entry {entry:#x}\n")?)?;
-    }
-    text.push_str(&format!(in alloc; "sections {}\n", image.section_count())?)?;
-    Ok(text)
-}
-
 fn uuid(alloc: Global, image: &Image) -> Result<String, Fail> {
     let mut text = String::new(alloc);
     if let Some(uuid) = image.uuid() {
@@ -192,6 +190,20 @@ fn uuid(alloc: Global, image: &Image) -> Result<String, Fail> {
             text.push_str(&format!(in alloc; "{byte:02X}")?)?;
         }
         text.push_str("\n")?;
+    }
+    Ok(text)
+}
+
+fn entry(alloc: Global, image: &Image) -> Result<String, Fail> {
+    let mut text = String::new(alloc);
+    if let Some(main) = image.main_command() {
+        text.push_str(&format!(in alloc; "{main:?}\n")?)?;
+    }
+    if let Some(base) = image.base() {
+        text.push_str(&format!(in alloc; "base {base:#x}\n")?)?;
+    }
+    if let Some(entry) = image.entry() {
+        text.push_str(&format!(in alloc; "entry {entry:#x}\n")?)?;
     }
     Ok(text)
 }

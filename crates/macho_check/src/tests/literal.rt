@@ -229,8 +229,22 @@ fn symbol_types(rt: HostRuntime) -> Result<(), Fail> {
         (0e | 0f | 1e | 1f) .11 00610062 : refused: symbol-section at 0x38
         (00 | 01 | 02 | 04 | 06 | 08 | 0a | 0c | 10 | 11) .11 00610062 : accepted
         (20 | 40 | 80 | e0 | 2e | 2f | 4e | 4f | 8e | 8f | ee | ff) .11 00610062 : accepted
-        # nlist_64 has 16 bytes.
-        01 .10 : refused: table-range at 0x20
+        ",
+    )
+}
+
+#[test]
+fn places_of_symbols(rt: HostRuntime) -> Result<(), Fail> {
+    // Symbols of 16 bytes from 56 on, and no strings.
+    check_lines(
+        &rt,
+        "cffaedfe 07000001 03000000 02000000 01000000 18000000 .8 02000000 18000000 38000000",
+        "
+        01000000 .8 .15 : refused: table-range at 0x20
+        01000000 .8 .16 : accepted
+        02000000 .8 .31 : refused: table-range at 0x20
+        02000000 .8 .32 : accepted
+        02000000 .8 .16 01000000 .12 : refused: symbol-name at 0x48
         ",
     )
 }

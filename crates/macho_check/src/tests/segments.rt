@@ -291,15 +291,15 @@ fn section_types(rt: HostRuntime) -> Result<(), Fail> {
 
 #[test]
 fn section_offsets(rt: HostRuntime) -> Result<(), Fail> {
-    let behind = Segment("__DATA", 0x1000, 0x1000, 32, 152, 3);
+    let shifted = Segment("__DATA", 0x1000, 0x1000, 32, 152, 3);
     // The place that the address gives needs more than 32 bits, or more than 64.
     let large = Segment("__LARGE", 0x1000, 1 << 33, 0, 184, 3);
     let far = Segment("__FAR", 0x1000, 0x1000, 1 << 32, 0, 3);
     let farthest = Segment("__FAR", 0x1000, 0x1000, u64::MAX - 0xf, 0, 3);
     for (segment, part, text) in [
-        (behind, Section("__x", 0x1000, 152, 32, 0), ACCEPTED),
-        (behind, Section("__x", 0x1000, 153, 32, 0), SECTION_FILE),
-        (behind, Section("__x", 0x1000, 8, 0, 0), SECTION_FILE),
+        (shifted, Section("__x", 0x1000, 152, 32, 0), ACCEPTED),
+        (shifted, Section("__x", 0x1000, 153, 32, 0), SECTION_FILE),
+        (shifted, Section("__x", 0x1000, 8, 0, 0), SECTION_FILE),
         (
             large,
             Section("__x", 0x1_0000_10b0, 8, 0xb0, 0),

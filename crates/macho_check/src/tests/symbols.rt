@@ -15,7 +15,7 @@ use std::test::Fail;
 const TABLE_RANGE: &str = "refused: table-range at 0x20\n";
 
 const SYMBOL_GROUP: &str = "refused: symbol-group at 0x20\n";
-/// The first symbol behind a symbol table's command alone.
+/// The first symbol, right after a single command of a symbol table.
 const SYMBOL_NAME: &str = "refused: symbol-name at 0x38\n";
 
 const SYMBOL_SECTION: &str = "refused: symbol-section at 0x38\n";
@@ -337,7 +337,7 @@ fn symbol_names(rt: HostRuntime) -> Result<(), Fail> {
         // The name is judged before the section.
         (3, 0x0f, SYMBOL_NAME),
     ] {
-        // The zero byte behind the string table ends none of its names.
+        // The zero byte after the string table ends none of its names.
         let file = one_symbol(rt.alloc(), Symbol(strx, kind, 0), 72, b"\0a\0b")?.bytes(&[0])?;
         assert_eq!(rt; file.as_slice().len(), 77);
         check_verdict(&rt, &file, text);

@@ -14,16 +14,16 @@ const MH_OBJECT: u32 = 1;
 /// The first bytes of a 32-bit little-endian image, which is not read.
 const UNREAD: &[u8] = &[0xce, 0xfa, 0xed, 0xfe];
 
-/// The first entry, of a bare header behind the table.
+/// The first entry, of a bare header after the table.
 const FIRST: FatArch = FatArch(X86_64, 64, 32, 0);
 
-/// These entries, the bare header of the first, and the bytes behind it.
+/// These entries, the bare header of the first, and the bytes after it.
 fn beside(alloc: Global, entries: &[FatArch], bytes: &[u8]) -> Result<File, AllocError> {
     let table = File::new(alloc).fat(entries)?.zeros_to(64)?;
     table.header(MH_EXECUTE, 0, 0)?.bytes(bytes)
 }
 
-/// A bare arm64 header, and behind it a bare header of this architecture.
+/// A bare arm64 header, and after it a bare header of this architecture.
 fn twins(alloc: Global, second: FatArch, header: (u32, u32)) -> Result<File, AllocError> {
     let table = File::new(alloc).fat(&[FatArch(ARM64, 64, 32, 0), second])?;
     table
@@ -315,7 +315,7 @@ fn places_in_the_file(rt: HostRuntime) -> Result<(), Fail> {
         let header = beside(rt.alloc(), &[FIRST, second], b"")?.header_of(
             ARM64, filetype, ncmds, 72,
         )?;
-        // The file goes on behind the slice.
+        // The file goes on after the slice.
         let file = header.segment(segment, 0)?.zeros_to(400)?;
         check_verdict(&rt, &file, text);
     }
