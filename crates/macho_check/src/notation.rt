@@ -2,8 +2,8 @@
 
 use macho_fields::header::fat::{FAT_MAGIC, FAT_MAGIC_64};
 use macho_fields::header::loader::{
-    LC_BUILD_VERSION, LC_DYSYMTAB, LC_LOAD_DYLIB, LC_LOAD_DYLINKER, LC_MAIN, LC_SEGMENT_64,
-    LC_SYMTAB, LC_UUID, MH_EXECUTE, MH_MAGIC_64,
+    LC_BUILD_VERSION, LC_LOAD_DYLIB, LC_LOAD_DYLINKER, LC_MAIN, LC_SEGMENT_64, LC_SYMTAB, LC_UUID,
+    MH_EXECUTE, MH_MAGIC_64,
 };
 use macho_fields::header::machine::{
     CPU_SUBTYPE_ARM64_ALL, CPU_SUBTYPE_ARM64E, CPU_SUBTYPE_X86_64_ALL, CPU_TYPE_ARM64,
@@ -48,29 +48,6 @@ pub(crate) struct Segment<'a>(
     pub(crate) u64,
     pub(crate) u32,
 );
-
-/// The words of `dysymtab_command` after its size, in their order.
-#[derive(Clone, Copy, Default)]
-pub(crate) struct Dysymtab {
-    pub(crate) ilocalsym: u32,
-    pub(crate) nlocalsym: u32,
-    pub(crate) iextdefsym: u32,
-    pub(crate) nextdefsym: u32,
-    pub(crate) iundefsym: u32,
-    pub(crate) nundefsym: u32,
-    pub(crate) tocoff: u32,
-    pub(crate) ntoc: u32,
-    pub(crate) modtaboff: u32,
-    pub(crate) nmodtab: u32,
-    pub(crate) extrefsymoff: u32,
-    pub(crate) nextrefsyms: u32,
-    pub(crate) indirectsymoff: u32,
-    pub(crate) nindirectsyms: u32,
-    pub(crate) extreloff: u32,
-    pub(crate) nextrel: u32,
-    pub(crate) locreloff: u32,
-    pub(crate) nlocrel: u32,
-}
 
 /// An entry of the symbol table without a value: `n_strx`, `n_type` and `n_sect`.
 #[derive(Clone, Copy)]
@@ -251,23 +228,6 @@ impl File {
             .word(strsize)
     }
 
-    /// `dysymtab_command`.
-    pub(crate) fn dysymtab(self, words: Dysymtab) -> Result<File, AllocError> {
-        let groups = self
-            .command(LC_DYSYMTAB, 80)?
-            .pair((words.ilocalsym, words.nlocalsym))?
-            .pair((words.iextdefsym, words.nextdefsym))?
-            .pair((words.iundefsym, words.nundefsym))?;
-        let tables = groups
-            .pair((words.tocoff, words.ntoc))?
-            .pair((words.modtaboff, words.nmodtab))?
-            .pair((words.extrefsymoff, words.nextrefsyms))?;
-        tables
-            .pair((words.indirectsymoff, words.nindirectsyms))?
-            .pair((words.extreloff, words.nextrel))?
-            .pair((words.locreloff, words.nlocrel))
-    }
-
     /// `linkedit_data_command`.
     pub(crate) fn linkedit(
         self,
@@ -276,15 +236,6 @@ impl File {
         datasize: u32,
     ) -> Result<File, AllocError> {
         self.command(cmd, 16)?.pair((dataoff, datasize))
-    }
-
-    /// `dyld_info_command` with the offset and size of its five tables.
-    pub(crate) fn dyld_info(self, cmd: u32, tables: [(u32, u32); 5]) -> Result<File, AllocError> {
-        let mut file = self.command(cmd, 48)?;
-        for table in tables {
-            file = file.pair(table)?;
-        }
-        Ok(file)
     }
 
     /// A word and the next one, as an offset and a count.

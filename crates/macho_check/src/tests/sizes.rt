@@ -1,14 +1,14 @@
 //! Files that are long, or of many parts: no size but those of the format is a limit.
 
 use super::layers::{Expected, check_slices};
+use super::mapping::check_sources;
 use super::{ACCEPTED, check_lines, check_verdict};
 use crate::notation::{FatArch, File, Segment};
 use macho_fields::header::fat::FAT_MAGIC;
 use macho_fields::header::loader::MH_EXECUTE;
 use macho_fields::header::machine::CPU_TYPE_X86_64;
-use macho_rules::{Mapping, Source, Verified, verify};
+use macho_rules::{Source, verify};
 use std::alloc::{AllocError, Global};
-use std::process::Abort;
 use std::test::Fail;
 
 #[test]
@@ -65,17 +65,14 @@ fn addresses_in_many_segments(rt: HostRuntime) -> Result<(), Fail> {
     let last = Segment("__LAST", 0x40_0000, 0x1000, 8, 16, 0);
     let file = many_segments(rt.alloc(), last)?;
     let verified = verify(rt.alloc(), file.as_slice())?;
-    let mut mapping = Mapping::of(rt.alloc(), &verified, 0)?.ok_or("no mapping")?;
-    for (address, source) in [
+    let sources = [
         (0, Some(Source::Zero)),
         (0x3f_ffff, Some(Source::Zero)),
         (0x40_000f, Some(Source::File(23))),
         (0x40_0010, Some(Source::Zero)),
         (0x40_1000, None),
-    ] {
-        assert_eq!(rt; mapping.source(address), source);
-    }
-    Ok(())
+    ];
+    check_sources(&rt, &verified, 0, &sources)
 }
 
 /// Where a slice of so many begins: after the table, each of 104 bytes.
@@ -114,7 +111,14 @@ fn many_slices_side_by_side(rt: HostRuntime) -> Result<(), Fail> {
         check_slices(&rt, file.as_slice(), &expected)?;
         let verified = verify(rt.alloc(), file.as_slice())?;
         for index in 0..count {
-            check_mapping(&rt, &verified, index)?;
+            let vmaddr = u64::from(index).saturating_mul(0x1000);
+            let sources = [
+                (vmaddr, Some(Source::File(0))),
+                (vmaddr.saturating_add(103), Some(Source::File(103))),
+                (vmaddr.saturating_add(0xfff), Some(Source::Zero)),
+                (vmaddr.saturating_add(0x1000), None),
+            ];
+            check_sources(&rt, &verified, u64::from(index), &sources)?;
         }
     }
     Ok(())
@@ -136,24 +140,4 @@ fn expected_slices(alloc: Global, count: u32) -> Result<Vec<Expected>, AllocErro
         expected.push(Expected(start, 104, Some((CPU_TYPE_X86_64, index)), true))?;
     }
     Ok(expected)
-}
-
-/// Compares what is at the first addresses, and at the last, of the segment of an image.
-fn check_mapping(
-    rt: &(impl Abort + AllocGlobal),
-    verified: &Verified,
-    index: u32,
-) -> Result<(), Fail> {
-    let mapping = Mapping::of(rt.alloc(), verified, u64::from(index))?;
-    let mut mapping = mapping.ok_or("no mapping")?;
-    let vmaddr = u64::from(index).saturating_mul(0x1000);
-    for (distance, source) in [
-        (5, Some(Source::File(5))),
-        (103, Some(Source::File(103))),
-        (0xfff, Some(Source::Zero)),
-        (0x1000, None),
-    ] {
-        assert_eq!(rt; mapping.source(vmaddr.saturating_add(distance)), source);
-    }
-    Ok(())
 }

@@ -1,10 +1,9 @@
 //! Verdicts of the rules of tables and symbols.
 
-use super::{ACCEPTED, check_verdict};
-use crate::notation::{Dysymtab, File, Segment, Symbol};
+use super::{ACCEPTED, check_lines, check_verdict};
+use crate::notation::{File, Segment, Symbol};
 use macho_fields::header::loader::{
-    INDIRECT_SYMBOL_ABS, INDIRECT_SYMBOL_LOCAL, LC_CODE_SIGNATURE, LC_DATA_IN_CODE,
-    LC_DYLD_CHAINED_FIXUPS, LC_DYLD_EXPORTS_TRIE, LC_DYLD_INFO, LC_DYLD_INFO_ONLY,
+    LC_CODE_SIGNATURE, LC_DATA_IN_CODE, LC_DYLD_CHAINED_FIXUPS, LC_DYLD_EXPORTS_TRIE,
     LC_DYLIB_CODE_SIGN_DRS, LC_FUNCTION_STARTS, LC_LINKER_OPTIMIZATION_HINT, LC_SEGMENT_SPLIT_INFO,
     MH_EXECUTE,
 };
@@ -14,7 +13,6 @@ use std::test::Fail;
 /// The first command.
 const TABLE_RANGE: &str = "refused: table-range at 0x20\n";
 
-const SYMBOL_GROUP: &str = "refused: symbol-group at 0x20\n";
 /// The first symbol, right after a single command of a symbol table.
 const SYMBOL_NAME: &str = "refused: symbol-name at 0x38\n";
 
@@ -33,20 +31,6 @@ fn one_symbol(
         .symtab(56, 1, stroff, strsize)?
         .nlist(symbol)?
         .bytes(strings)
-}
-
-/// An executable with the groups and tables of these words alone, 112 bytes.
-fn no_symbols(alloc: Global, words: Dysymtab) -> Result<File, AllocError> {
-    File::new(alloc).header(MH_EXECUTE, 1, 80)?.dysymtab(words)
-}
-
-/// An executable of one symbol with these groups and tables: 152 bytes, the last 16 of the symbol.
-fn grouped_symbol(alloc: Global, words: Dysymtab) -> Result<File, AllocError> {
-    File::new(alloc)
-        .header(MH_EXECUTE, 2, 104)?
-        .symtab(136, 1, 0, 0)?
-        .dysymtab(words)?
-        .nlist(Symbol(0, 0, 0))
 }
 
 #[test]
@@ -97,67 +81,46 @@ fn linkedit_ranges(rt: HostRuntime) -> Result<(), Fail> {
 
 #[test]
 fn dyld_info_ranges(rt: HostRuntime) -> Result<(), Fail> {
-    let none = (0, 0);
-    for cmd in [LC_DYLD_INFO, LC_DYLD_INFO_ONLY] {
-        for (tables, text) in [
-            ([none, none, none, none, (80, 1)], TABLE_RANGE),
-            ([none, none, none, none, (79, 1)], ACCEPTED),
-            ([(80, 1), none, none, none, none], TABLE_RANGE),
-            ([none, (80, 1), none, none, none], TABLE_RANGE),
-            ([none, none, (80, 1), none, none], TABLE_RANGE),
-            ([none, none, none, (80, 1), none], TABLE_RANGE),
-            ([(79, 1); 5], ACCEPTED),
-            ([(u32::MAX, 0); 5], ACCEPTED),
-            ([(0, 80), none, none, none, (1, u32::MAX)], TABLE_RANGE),
-        ] {
-            let header = File::new(rt.alloc()).header(MH_EXECUTE, 1, 48)?;
-            let file = header.dyld_info(cmd, tables)?;
-            assert_eq!(rt; file.as_slice().len(), 80);
-            check_verdict(&rt, &file, text);
-        }
-    }
-    Ok(())
+    // The offset and size of five tables, in a file of 80 bytes.
+    check_lines(
+        &rt,
+        "cffaedfe 07000001 03000000 02000000 01000000 30000000 .8",
+        "
+        (22000000 | 22000080) 30000000 .32 50000000 01000000 : refused: table-range at 0x20
+        (22000000 | 22000080) 30000000 .32 4f000000 01000000 : accepted
+        (22000000 | 22000080) 30000000 50000000 01000000 .32 : refused: table-range at 0x20
+        (22000000 | 22000080) 30000000 .8 50000000 01000000 .24 : refused: table-range at 0x20
+        (22000000 | 22000080) 30000000 .16 50000000 01000000 .16 : refused: table-range at 0x20
+        (22000000 | 22000080) 30000000 .24 50000000 01000000 .8 : refused: table-range at 0x20
+        (22000000 | 22000080) 30000000 5*4f00000001000000 : accepted
+        (22000000 | 22000080) 30000000 5*ffffffff00000000 : accepted
+        (22000000 | 22000080) 30000000 .4 50000000 .24 01000000 ffffffff : \
+            refused: table-range at 0x20
+        ",
+    )
 }
 
 #[test]
-fn table_ranges(rt: HostRuntime) -> Result<(), Fail> {
-    let group = "refused: symbol-group at 0x38\n";
-    for (first, count, text) in [
-        (0, 1, ACCEPTED),
-        (0, 2, group),
-        (u32::MAX, 1, group),
-        (1, 1, group),
-        (u32::MAX, 0, ACCEPTED),
-    ] {
-        for words in [
-            Dysymtab {
-                ilocalsym: first,
-                nlocalsym: count,
-                ..Dysymtab::default()
-            },
-            Dysymtab {
-                iextdefsym: first,
-                nextdefsym: count,
-                ..Dysymtab::default()
-            },
-            Dysymtab {
-                iundefsym: first,
-                nundefsym: count,
-                ..Dysymtab::default()
-            },
-        ] {
-            let file = grouped_symbol(rt.alloc(), words)?;
-            assert_eq!(rt; file.as_slice().len(), 152);
-            check_verdict(&rt, &file, text);
-        }
-    }
-    let words = Dysymtab {
-        nlocalsym: 1,
-        iundefsym: 5,
-        ..Dysymtab::default()
-    };
-    check_verdict(&rt, &grouped_symbol(rt.alloc(), words)?, ACCEPTED);
-    Ok(())
+fn groups_of_one_symbol(rt: HostRuntime) -> Result<(), Fail> {
+    // The first index and the count of each group: local, defined and undefined symbols.
+    check_lines(
+        &rt,
+        "cffaedfe 07000001 03000000 02000000 02000000 68000000 .8
+        02000000 18000000 88000000 01000000 .8 0b000000 50000000",
+        "
+        (00000000 01000000 | ffffffff 00000000) .64 .16 : accepted
+        (00000000 02000000 | ffffffff 01000000) .64 .16 : refused: symbol-group at 0x38
+        01000000 01000000 .64 .16 : refused: symbol-group at 0x38
+        .8 (00000000 01000000 | ffffffff 00000000) .56 .16 : accepted
+        .8 (00000000 02000000 | ffffffff 01000000) .56 .16 : refused: symbol-group at 0x38
+        .8 01000000 01000000 .56 .16 : refused: symbol-group at 0x38
+        .16 (00000000 01000000 | ffffffff 00000000) .48 .16 : accepted
+        .16 (00000000 02000000 | ffffffff 01000000) .48 .16 : refused: symbol-group at 0x38
+        .16 01000000 01000000 .48 .16 : refused: symbol-group at 0x38
+        # One local symbol, and the first index of no undefined ones.
+        .4 01000000 .8 05000000 .52 .16 : accepted
+        ",
+    )
 }
 
 #[test]
@@ -180,145 +143,93 @@ fn symbol_table_ranges(rt: HostRuntime) -> Result<(), Fail> {
     Ok(())
 }
 
+/// An executable of one `dysymtab_command`, up to its words: 112 bytes with them.
+const GROUPS: &str = "cffaedfe 07000001 03000000 02000000 01000000 50000000 .8 0b000000 50000000";
+
 #[test]
 fn dysymtab_ranges(rt: HostRuntime) -> Result<(), Fail> {
-    // Where one entry ends with the file, and where one byte is left out.
-    for (last_8, last_56, last_4, text) in [
-        (104, 56, 108, ACCEPTED),
-        (105, 56, 108, TABLE_RANGE),
-        (104, 57, 108, TABLE_RANGE),
-        (104, 56, 109, TABLE_RANGE),
-    ] {
-        let words = Dysymtab {
-            tocoff: last_8,
-            ntoc: 1,
-            modtaboff: last_56,
-            nmodtab: 1,
-            extrefsymoff: last_4,
-            nextrefsyms: 1,
-            extreloff: last_8,
-            nextrel: 1,
-            locreloff: last_8,
-            nlocrel: 1,
-            ..Dysymtab::default()
-        };
-        check_verdict(&rt, &no_symbols(rt.alloc(), words)?, text);
-    }
-    Ok(())
+    // Where one entry of each table ends with the file, and where one byte is left out.
+    check_lines(
+        &rt,
+        GROUPS,
+        "
+        .24 68000000 01000000 38000000 01000000 6c000000 01000000 .8 \
+            68000000 01000000 68000000 01000000 : accepted
+        .24 69000000 01000000 38000000 01000000 6c000000 01000000 .8 \
+            69000000 01000000 69000000 01000000 : refused: table-range at 0x20
+        .24 68000000 01000000 39000000 01000000 6c000000 01000000 .8 \
+            68000000 01000000 68000000 01000000 : refused: table-range at 0x20
+        .24 68000000 01000000 38000000 01000000 6d000000 01000000 .8 \
+            68000000 01000000 68000000 01000000 : refused: table-range at 0x20
+        ",
+    )
 }
 
 #[test]
 fn dysymtab_ranges_alone(rt: HostRuntime) -> Result<(), Fail> {
-    for words in [
-        Dysymtab {
-            tocoff: 105,
-            ntoc: 1,
-            ..Dysymtab::default()
-        },
-        Dysymtab {
-            modtaboff: 0,
-            nmodtab: 3,
-            ..Dysymtab::default()
-        },
-        Dysymtab {
-            extrefsymoff: 109,
-            nextrefsyms: 1,
-            ..Dysymtab::default()
-        },
-        Dysymtab {
-            indirectsymoff: 0,
-            nindirectsyms: 1 << 30,
-            ..Dysymtab::default()
-        },
-        Dysymtab {
-            extreloff: 0,
-            nextrel: 1 << 29,
-            ..Dysymtab::default()
-        },
-        Dysymtab {
-            locreloff: 0,
-            nlocrel: 15,
-            ..Dysymtab::default()
-        },
-        // The range is judged before the group.
-        Dysymtab {
-            nlocalsym: 1,
-            ntoc: 15,
-            ..Dysymtab::default()
-        },
-    ] {
-        check_verdict(&rt, &no_symbols(rt.alloc(), words)?, TABLE_RANGE);
-    }
-    Ok(())
+    check_lines(
+        &rt,
+        GROUPS,
+        "
+        .24 (68000000 01000000 | 00000000 0e000000 | ffffffff 00000000) .40 : accepted
+        .24 (69000000 01000000 | 00000000 0f000000) .40 : refused: table-range at 0x20
+        .32 (38000000 01000000 | 00000000 02000000 | ffffffff 00000000) .32 : accepted
+        .32 (39000000 01000000 | 00000000 03000000) .32 : refused: table-range at 0x20
+        .40 (6c000000 01000000 | 00000000 1c000000 | ffffffff 00000000) .24 : accepted
+        .40 (6d000000 01000000 | 00000000 1d000000) .24 : refused: table-range at 0x20
+        .48 (6d000000 01000000 | 00000000 00000040) .16 : refused: table-range at 0x20
+        .56 (68000000 01000000 | 00000000 0e000000 | ffffffff 00000000) .8 : accepted
+        .56 (69000000 01000000 | 00000000 00000020) .8 : refused: table-range at 0x20
+        .64 (68000000 01000000 | 00000000 0e000000 | ffffffff 00000000) : accepted
+        .64 (69000000 01000000 | 00000000 0f000000) : refused: table-range at 0x20
+        # The range is judged before the group.
+        .4 01000000 .20 0f000000 .40 : refused: table-range at 0x20
+        ",
+    )
 }
 
 #[test]
 fn symbol_groups(rt: HostRuntime) -> Result<(), Fail> {
-    let local = Dysymtab {
-        nlocalsym: 1,
-        ..Dysymtab::default()
-    };
-    check_verdict(&rt, &no_symbols(rt.alloc(), local)?, SYMBOL_GROUP);
-
-    let indirect = Dysymtab {
-        indirectsymoff: 112,
-        nindirectsyms: 2,
-        ..Dysymtab::default()
-    };
-    let file = no_symbols(rt.alloc(), indirect)?
-        .word(INDIRECT_SYMBOL_LOCAL)?
-        .word(0)?;
-    assert_eq!(rt; file.as_slice().len(), 120);
-    check_verdict(&rt, &file, "refused: indirect-index at 0x74\n");
-    Ok(())
+    check_lines(
+        &rt,
+        GROUPS,
+        "
+        .4 01000000 .64 : refused: symbol-group at 0x20
+        .48 70000000 02000000 .16 00000080 00000000 : refused: indirect-index at 0x74
+        ",
+    )
 }
 
 #[test]
 fn indirect_entries(rt: HostRuntime) -> Result<(), Fail> {
-    let second = "refused: indirect-index at 0x9c\n";
-    let words = Dysymtab {
-        indirectsymoff: 152,
-        nindirectsyms: 2,
-        ..Dysymtab::default()
-    };
-    for (entry, text) in [
-        (0, ACCEPTED),
-        (1, second),
-        (INDIRECT_SYMBOL_LOCAL, ACCEPTED),
-        (INDIRECT_SYMBOL_ABS, ACCEPTED),
-        (INDIRECT_SYMBOL_LOCAL | INDIRECT_SYMBOL_ABS, ACCEPTED),
-        (INDIRECT_SYMBOL_LOCAL | 5, ACCEPTED),
-        (INDIRECT_SYMBOL_ABS | 5, ACCEPTED),
-        (0x2000_0000, second),
-        (0x3fff_ffff, second),
-    ] {
-        let file = grouped_symbol(rt.alloc(), words)?.word(0)?.word(entry)?;
-        check_verdict(&rt, &file, text);
-    }
-    let twice = grouped_symbol(rt.alloc(), words)?.word(1)?.word(1)?;
-    check_verdict(&rt, &twice, "refused: indirect-index at 0x98\n");
-    Ok(())
+    // Two entries at 152, after the only symbol at 136.
+    check_lines(
+        &rt,
+        "cffaedfe 07000001 03000000 02000000 02000000 68000000 .8
+        02000000 18000000 88000000 01000000 .8 0b000000 50000000 .48 98000000 02000000 .16 .16",
+        "
+        00000000 (00000000 | 00000080 | 00000040 | 000000c0 | 05000080 | 05000040) : accepted
+        00000000 (01000000 | 00000020 | ffffff3f) : refused: indirect-index at 0x9c
+        01000000 01000000 : refused: indirect-index at 0x98
+        ",
+    )
 }
 
 #[test]
-fn groups_in_front_of_symbols(rt: HostRuntime) -> Result<(), Fail> {
-    for (nlocalsym, entry, text) in [
-        (1, 0, ACCEPTED),
-        (2, 0, SYMBOL_GROUP),
-        (1, 1, "refused: indirect-index at 0x98\n"),
-    ] {
-        let words = Dysymtab {
-            nlocalsym,
-            indirectsymoff: 152,
-            nindirectsyms: 1,
-            ..Dysymtab::default()
-        };
-        let header = File::new(rt.alloc()).header(MH_EXECUTE, 2, 104)?;
-        let commands = header.dysymtab(words)?.symtab(136, 1, 0, 0)?;
-        let file = commands.nlist(Symbol(0, 0, 0))?.word(entry)?;
-        check_verdict(&rt, &file, text);
-    }
-    Ok(())
+fn groups_before_symbols(rt: HostRuntime) -> Result<(), Fail> {
+    // The command of the groups comes first.
+    check_lines(
+        &rt,
+        "cffaedfe 07000001 03000000 02000000 02000000 68000000 .8 0b000000 50000000",
+        "
+        .4 01000000 .40 98000000 01000000 .16 02000000 18000000 88000000 01000000 .8 \
+            .16 00000000 : accepted
+        .4 02000000 .40 98000000 01000000 .16 02000000 18000000 88000000 01000000 .8 \
+            .16 00000000 : refused: symbol-group at 0x20
+        .4 01000000 .40 98000000 01000000 .16 02000000 18000000 88000000 01000000 .8 \
+            .16 01000000 : refused: indirect-index at 0x98
+        ",
+    )
 }
 
 #[test]

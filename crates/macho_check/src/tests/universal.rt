@@ -1,15 +1,12 @@
 //! Verdicts of the rules of universal files.
 
-use super::{ACCEPTED, check_report, check_verdict};
+use super::{ACCEPTED, check_lines, check_report, check_verdict};
 use crate::notation::{ARM64, ARM64E, FatArch, FatArch64, File, I386, Segment, X86_64};
 use macho_fields::header::fat::{FAT_MAGIC, FAT_MAGIC_64};
 use macho_fields::header::loader::{MH_BUNDLE, MH_EXECUTE};
 use macho_fields::header::machine::CPU_TYPE_ARM64;
 use std::alloc::{AllocError, Global};
 use std::test::Fail;
-
-/// A file type that is refused.
-const MH_OBJECT: u32 = 1;
 
 /// The first bytes of a 32-bit little-endian image, which is not read.
 const UNREAD: &[u8] = &[0xce, 0xfa, 0xed, 0xfe];
@@ -228,27 +225,24 @@ fn alignments(rt: HostRuntime) -> Result<(), Fail> {
 
 #[test]
 fn order_of_slices(rt: HostRuntime) -> Result<(), Fail> {
-    let entries = [FatArch(I386, 68, 4, 0), FatArch(ARM64, 64, 4, 0)];
-    let file = File::new(rt.alloc()).fat(&entries)?.zeros_to(72)?;
-    check_verdict(&rt, &file, "refused: fat-slice-magic at 0x40\n");
-
-    let file = beside(rt.alloc(), &[FIRST, FatArch(I386, 70, 0, 0)], b"")?;
-    assert_eq!(rt; file.as_slice().len(), 96);
-    check_verdict(&rt, &file, "refused: fat-slice-magic at 0x46\n");
-
-    let unread = FatArch(I386, 95, 4, 0);
-    let file = beside(rt.alloc(), &[FIRST, unread], b"\0\0\0")?;
-    assert_eq!(rt; file.as_slice().len(), 99);
-    check_verdict(&rt, &file, "refused: fat-overlap at 0x1c\n");
-
-    let entries = [FatArch(X86_64, 96, 32, 0), FatArch(ARM64, 64, 32, 0)];
-    let table = File::new(rt.alloc()).fat(&entries)?.zeros_to(64)?;
-    let file = table
-        .header_of(ARM64, MH_OBJECT, 0, 0)?
-        .header(MH_OBJECT, 0, 0)?;
-    assert_eq!(rt; file.as_slice().len(), 128);
-    check_verdict(&rt, &file, "refused: file-type at 0x6c\n");
-    Ok(())
+    check_lines(
+        &rt,
+        "cafebabe 00000002",
+        "
+        # Two foreign slices, the second entry's at the lower offset.
+        00000007 00000003 00000044 00000004 .4 0100000c 00000000 00000040 00000004 .4 .24 : \
+            refused: fat-slice-magic at 0x40
+        # An empty slice within the first, and one that shares its last byte.
+        01000007 00000003 00000040 00000020 .4 00000007 00000003 00000046 00000000 .4 .16 \
+            cffaedfe 07000001 03000000 02000000 .16 : refused: fat-slice-magic at 0x46
+        01000007 00000003 00000040 00000020 .4 00000007 00000003 0000005f 00000004 .4 .16 \
+            cffaedfe 07000001 03000000 02000000 .19 : refused: fat-overlap at 0x1c
+        # Two object files, the first entry's at the higher offset.
+        01000007 00000003 00000060 00000020 .4 0100000c 00000000 00000040 00000020 .4 .16 \
+            cffaedfe 0c000001 00000000 01000000 .16 \
+            cffaedfe 07000001 03000000 01000000 .16 : refused: file-type at 0x6c
+        ",
+    )
 }
 
 #[test]
