@@ -10,6 +10,17 @@ use std::io;
 #[derive(Clone, Copy, Debug, PartialEq, Eq)]
 pub struct Failed;
 
+// The answer for a result of std: any error is a failure, an interrupted call included.
+pub(crate) fn answer_of<T: Drop>(given: io::Result<T>) -> Result<T, Failed>
+    ensures value { IfOk result (λ value. given ≡ Ok value) }
+    ensures failed { IsErr result ↔ IsErr given }
+{
+    match given {
+        Ok(value) => Ok(value),
+        Err(_) => Err(Failed),
+    }
+}
+
 /// A stream of bytes to read.
 ///
 /// Of what a failed read took, nothing is claimed.
@@ -66,15 +77,4 @@ pub trait Flush: Output {
         ensures stays_failed { IsTrue (Self.has_failed self.old) → IsErr result }
         ensures flushed { OnOk result (IsTrue (is_flushed self.new)) }
         ensures kept { Keeps (Self.contents self.old) (Self.contents self.new) };
-}
-
-// The answer for a result of std: any error is a failure, an interrupted call included.
-pub(crate) fn answer_of<T: Drop>(given: io::Result<T>) -> Result<T, Failed>
-    ensures value { IfOk result (λ value. given ≡ Ok value) }
-    ensures failed { IsErr result ↔ IsErr given }
-{
-    match given {
-        Ok(value) => Ok(value),
-        Err(_) => Err(Failed),
-    }
 }
