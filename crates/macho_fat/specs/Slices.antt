@@ -23,7 +23,7 @@ pub record AreSlices (file : List ℕ) (slices : List Slice) : Type 0 where
   pub all : map slice_of slices ≡ slices_of file
   pub read : All (MarksRead file) slices
 
--- A fault is the first broken rule of the file, or that there was no memory, which is asked for only
+-- A fault is the first broken rule of the file, or that there was no memory, which is answered only
 -- where no rule up to fat-align is broken.
 abbrev pub IsFatFault : List ℕ → FatFault → Type 0
 IsFatFault file (fault.Broken b) = IsLeast (BreaksFile file) b

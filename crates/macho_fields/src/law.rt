@@ -1,4 +1,4 @@
-//! What the definitions promise by themselves. Each law is the contract of a function that does
+//! What follows from the definitions alone. Each law is the contract of a function that does
 //! nothing when it is called: the premises are its `requires`, the conclusion its `ensures`.
 
 ghost use Rattle.std.specs.Prelude.{◌≡◌, ◌≤◌, ◌↔◌, length};

@@ -38,7 +38,7 @@ pub enum Rule {
     FileType,
     /// The load commands end past the end of the image.
     CommandsOutside,
-    /// A load command ends past the end of the commands, or has a size that none can have.
+    /// There is no whole load command where one is due, or its size is impossible.
     CommandWalk,
     /// A load command is too small for its own fields.
     CommandShort,

@@ -14,9 +14,9 @@ use Rattle.macho_fat.specs.declared.fault.FatFault.TheVariants as fault
 use Rattle.macho_rules.specs.declared.refusal.Refusal.{Refusal}
 use Rattle.macho_rules.specs.declared.refusal.Refusal.TheVariants as refusal
 
--- A refusal of a file is its first broken rule, or that there was no memory. That is asked for only
--- where the header and the table of the file are whole, and the slice of each entry begins after the
--- table, lies in the file and is aligned.
+-- A refusal of a file is its first broken rule, or that there was no memory. That is answered only
+-- where the header and the table of the file are whole, and the slice of each entry begins after
+-- the table, lies in the file and is aligned.
 abbrev pub IsRefusal : List ℕ → Refusal → Type 0
 IsRefusal file (refusal.Broken b) = IsFirstBroken file b
 IsRefusal file refusal.Memory =

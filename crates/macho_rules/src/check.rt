@@ -16,7 +16,7 @@ use std::alloc::Global;
 
 /// Decides the rules of an opened image, in their order: those of its segments, its sections, its
 /// tables, its symbols and its entry. It returns the first broken one, with its place in the image.
-/// It takes no memory yet, and so never returns `Memory`.
+/// It never returns `Memory`.
 pub fn check_image(alloc: Global, image: &Image) -> Result<(), Refusal>
     ensures unbroken { OnOk result (NothingBreaks (BreaksOpened image.now)) }
     ensures refused { IfErr result (IsImageRefusal image.now) }
@@ -26,7 +26,7 @@ pub fn check_image(alloc: Global, image: &Image) -> Result<(), Refusal>
     Ok(())
 }
 
-/// What `check_image` decides, which takes no memory yet.
+/// What `check_image` decides, without an allocator.
 pub(crate) fn check_rules(image: &Image) -> Result<(), Break>
     ensures { Decides (BreaksOpened image.now) result }
 {
