@@ -38,6 +38,21 @@ fn long_file(rt: HostRuntime) -> Result<(), Fail> {
     )
 }
 
+#[test]
+fn long_universal_file(rt: HostRuntime) -> Result<(), Fail> {
+    // Two bare headers, at 0x40 and at 2^20: an executable or an object file for arm64.
+    check_lines(
+        &rt,
+        "cafebabe 00000002 01000007 00000003 00000040 00000020 .4
+        0100000c .4 00100000 00000020 .4 .16
+        cffaedfe 07000001 03000000 02000000 .16 .1048480 cffaedfe 0c000001 .4",
+        "
+        02000000 .16 : accepted
+        01000000 .16 : refused: file-type at 0x10000c
+        ",
+    )
+}
+
 /// An executable of 1,024 segments of 0x1000 addresses each, from 0 on, and one more.
 fn many_segments(alloc: Global, last: Segment) -> Result<File, AllocError> {
     let mut file = File::new(alloc).header(MH_EXECUTE, 1025, 1025 * 72)?;

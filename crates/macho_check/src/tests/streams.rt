@@ -90,15 +90,16 @@ fn reads_a_reader_of_std(rt: HostRuntime) -> Result<(), Fail> {
 
 #[test]
 fn each_read_is_one_of_std(rt: HostRuntime) {
-    let bytes = [7u8; 1000];
-    let mut piece = [0u8; 1000];
-    for size in 0..1001 {
+    // All lengths that the program reads.
+    let bytes = [7u8; 65_536];
+    let mut piece = [0u8; 65_536];
+    for size in 0..65_537 {
         let mut counted = CountingReader::new(&bytes, 0);
         let mut reader = FromRead::new(&mut counted);
         assert_eq!(rt; reader.read(&mut piece[..size]), Ok(size));
         assert!(rt; !reader.failed(), "after {size} bytes");
         assert_eq!(rt; counted.reads, 1);
-        assert_eq!(rt; counted.bytes.len(), 1000 - size);
+        assert_eq!(rt; counted.bytes.len(), 65_536 - size);
     }
 }
 
