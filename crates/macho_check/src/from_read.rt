@@ -10,8 +10,8 @@ use std::io::Read;
 /// A reader of std as an input. It has failed at the reader's first error, an interrupted read included.
 #[derive(Drop)]
 pub struct FromRead<'a, R: Read> {
-    pub reader: &'a mut R,
-    pub has_failed: bool,
+    reader: &'a mut R,
+    has_failed: bool,
 }
 
 impl<'a, R: Read> FromRead<'a, R> {

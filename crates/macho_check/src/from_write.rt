@@ -12,9 +12,9 @@ use std::io::Write;
 /// and once the writer takes none of a piece that has bytes.
 #[derive(Drop)]
 pub struct FromWrite<'a, W: Write> {
-    pub writer: &'a mut W,
-    pub has_failed: bool,
-    pub is_flushed: bool,
+    writer: &'a mut W,
+    has_failed: bool,
+    is_flushed: bool,
 }
 
 impl<'a, W: Write> FromWrite<'a, W> {

@@ -1,7 +1,7 @@
 //! The text of a broken rule, written one part after the other.
 
-ghost use Rattle.std.specs.Prelude.{◌≡◌, ◌<◌, ◌∷◌, [], false, drop, codes, IsErr, IsTrue};
-ghost use Rattle.macho_check.specs.Stream.{Writes, FailsAtFault, joined};
+ghost use Rattle.std.specs.Prelude.{◌≡◌, ◌<◌, false, drop, IsErr, IsTrue};
+ghost use Rattle.macho_check.specs.Stream.{Writes, FailsAtFault};
 ghost use Rattle.macho_check.specs.Hex.{hex, prefixed_hex};
 ghost use Rattle.macho_check.specs.Text.{break_text};
 ghost use Rattle.std.specs.Fmt.{digit_glyph};

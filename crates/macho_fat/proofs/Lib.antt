@@ -2,4 +2,3 @@ pub mod Alignment
 pub mod Entries
 pub mod Listed
 pub mod Magics
-pub mod Order

@@ -1,4 +1,2 @@
-pub mod Table
-pub mod Contents
-pub mod Magic
 pub mod Slices
+pub mod Scaffold

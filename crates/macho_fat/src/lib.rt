@@ -5,8 +5,7 @@ mod check;
 pub mod fault;
 mod rules;
 pub mod slice;
-pub mod slices;
 mod table;
 
 pub use fault::FatFault;
-pub use slice::Slice;
+pub use slice::{Slice, slices};

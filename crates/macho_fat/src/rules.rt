@@ -1,18 +1,19 @@
-//! The rules of a file, one a function. (`mach-o/fat.h`)
+//! The rules of a file, one a function: each takes over where the rules before it are unbroken.
+//! (`mach-o/fat.h`)
 
 ghost use Rattle.std.specs.Prelude.{◌≡◌, ◌*◌, ◌^◌, ◌<◌, ◌↔◌, ℕ, IsTrue, IfOk, MatchOption};
 ghost use Rattle.macho_fields.specs.Bytes.{bytes_of};
-ghost use Rattle.macho_fields.specs.Layers.{DecidesRule};
+ghost use Rattle.macho_fields.specs.First.{rank};
+ghost use Rattle.macho_fields.specs.Layers.{KeptBelow, Continues};
 ghost use Rattle.macho_fields.specs.Rules.{BreaksFile, WithEarlier, SharePlace};
-ghost use Rattle.macho_fields.specs.Universal.{IsUniversal, IsImage, IsUnreadImage, entry_count, entry_slice};
+ghost use Rattle.macho_fields.specs.Universal.{IsUniversal, IsImage, IsUnreadImage, IsForeign, entry_count, entry_slice, slice_bytes};
 ghost use Rattle.macho_fields.specs.declared.rule.Rule.{Rule};
-ghost use Rattle.macho_fat.specs.Magic.{IsForeign, lesser_of};
-ghost use Rattle.macho_fat.specs.Table.{IsFormat};
+ghost use Rattle.macho_fat.specs.Scaffold.{IsFormat, lesser_of};
 
-use crate::table::{ENTRY_COUNT, Table, entry_size};
+use crate::table::{NFAT_ARCH, Table, entry_size};
 use macho_fields::header::fat::{FAT_HEADER_SIZE, FAT_MAGIC, FAT_MAGIC_64};
 use macho_fields::header::loader::{MH_MAGIC, MH_MAGIC_64};
-use macho_fields::{Break, Bytes, Order, Rule, table_end};
+use macho_fields::{Break, Bytes, Order, Rule, Span};
 
 /// What a file is, by the magic number with which it begins.
 #[derive(Clone, Copy)]
@@ -25,7 +26,7 @@ pub(crate) enum Format {
 
 /// The file begins with the magic number of a format that is read.
 pub(crate) fn magic(file: Bytes) -> Result<Format, Break>
-    ensures decides { DecidesRule (BreaksFile (bytes_of file.entry) Rule.Magic) Rule.Magic result }
+    ensures continues { Continues (BreaksFile (bytes_of file.entry)) Rule.Magic result }
     ensures format { IfOk result (IsFormat (bytes_of file.entry)) }
 {
     if is_image(file) {
@@ -33,28 +34,25 @@ pub(crate) fn magic(file: Bytes) -> Result<Format, Break>
     }
     match file.u32_at(Order::Big, 0) {
         Some(FAT_MAGIC | FAT_MAGIC_64) => Ok(Format::Universal),
-        _ => Err(Break {
-            rule: Rule::Magic,
-            place: 0,
-        }),
+        _ => Err(Break::at(Rule::Magic, 0)),
     }
 }
 
 /// The header and the table of a universal file lie inside the file.
 pub(crate) fn fat_truncated(file: Bytes) -> Result<Table, Break>
-    requires { IsUniversal (bytes_of file) }
-    ensures decides { DecidesRule (BreaksFile (bytes_of file.entry) Rule.FatTruncated)
-        Rule.FatTruncated result }
+    requires universal { IsUniversal (bytes_of file) }
+    requires kept { KeptBelow (BreaksFile (bytes_of file)) (rank Rule.FatTruncated) }
+    ensures continues { Continues (BreaksFile (bytes_of file.entry)) Rule.FatTruncated result }
     ensures table { IfOk result (λ table. table ≡ bytes_of file.entry) }
 {
-    let truncated = Break {
-        rule: Rule::FatTruncated,
-        place: ENTRY_COUNT,
-    };
-    let count = file.u32_at(Order::Big, ENTRY_COUNT).ok_or(truncated)?;
+    let truncated = Break::at(Rule::FatTruncated, NFAT_ARCH);
+    let count = file.u32_at(Order::Big, NFAT_ARCH).ok_or(truncated)?;
     let wide = file.u32_at(Order::Big, 0) == Some(FAT_MAGIC_64);
-    let end = table_end(FAT_HEADER_SIZE, u64::from(count), entry_size(wide));
-    if end > u128::from(file.len()) {
+    let entries = Span {
+        start: FAT_HEADER_SIZE,
+        len: u64::from(count) * entry_size(wide),
+    };
+    if !file.contains(entries) {
         return Err(truncated);
     }
     Ok(Table::new(file, wide, count))
@@ -62,11 +60,12 @@ pub(crate) fn fat_truncated(file: Bytes) -> Result<Table, Break>
 
 /// Each slice lies inside the file.
 pub(crate) fn fat_slice_outside(table: &Table) -> Result<(), Break>
-    ensures { DecidesRule (BreaksFile table.now Rule.FatSliceOutside) Rule.FatSliceOutside result }
+    requires { KeptBelow (BreaksFile table.now) (rank Rule.FatSliceOutside) }
+    ensures { Continues (BreaksFile table.now) Rule.FatSliceOutside result }
 {
     for k in 0..table.count() {
         let entry = table.entry(k);
-        if entry.span.end() > u128::from(table.file_len()) {
+        if !table.contains(entry.span) {
             return Err(entry.breaks(Rule::FatSliceOutside));
         }
     }
@@ -75,7 +74,8 @@ pub(crate) fn fat_slice_outside(table: &Table) -> Result<(), Break>
 
 /// Each slice begins after the table.
 pub(crate) fn fat_slice_in_table(table: &Table) -> Result<(), Break>
-    ensures { DecidesRule (BreaksFile table.now Rule.FatSliceInTable) Rule.FatSliceInTable result }
+    requires { KeptBelow (BreaksFile table.now) (rank Rule.FatSliceInTable) }
+    ensures { Continues (BreaksFile table.now) Rule.FatSliceInTable result }
 {
     for k in 0..table.count() {
         let entry = table.entry(k);
@@ -88,8 +88,8 @@ pub(crate) fn fat_slice_in_table(table: &Table) -> Result<(), Break>
 
 /// The offset of each slice is a multiple of its alignment.
 pub(crate) fn fat_align(table: &Table) -> Result<(), Break>
-    requires { (place : ℕ) → ¬ BreaksFile table.now Rule.FatSliceInTable place }
-    ensures { DecidesRule (BreaksFile table.now Rule.FatAlign) Rule.FatAlign result }
+    requires { KeptBelow (BreaksFile table.now) (rank Rule.FatAlign) }
+    ensures { Continues (BreaksFile table.now) Rule.FatAlign result }
 {
     for k in 0..table.count() {
         let entry = table.entry(k);
@@ -113,7 +113,8 @@ fn is_aligned(offset: u64, align: u32) -> bool
 
 /// No slice has a byte in common with an earlier one.
 pub(crate) fn fat_overlap(table: &Table) -> Result<(), Break>
-    ensures { DecidesRule (BreaksFile table.now Rule.FatOverlap) Rule.FatOverlap result }
+    requires { KeptBelow (BreaksFile table.now) (rank Rule.FatOverlap) }
+    ensures { Continues (BreaksFile table.now) Rule.FatOverlap result }
 {
     for k in 0..table.count() {
         if shares_with_earlier(table, k) {
@@ -140,7 +141,8 @@ fn shares_with_earlier(table: &Table, later: u32) -> bool
 
 /// No slice has the architecture of an earlier one.
 pub(crate) fn fat_duplicate(table: &Table) -> Result<(), Break>
-    ensures { DecidesRule (BreaksFile table.now Rule.FatDuplicate) Rule.FatDuplicate result }
+    requires { KeptBelow (BreaksFile table.now) (rank Rule.FatDuplicate) }
+    ensures { Continues (BreaksFile table.now) Rule.FatDuplicate result }
 {
     for k in 0..table.count() {
         if repeats_earlier(table, k) {
@@ -167,18 +169,15 @@ fn repeats_earlier(table: &Table, later: u32) -> bool
 
 /// Each slice begins with the magic number of an image, which may be one that is not read.
 pub(crate) fn fat_slice_magic(table: &Table) -> Result<(), Break>
-    requires { (place : ℕ) → ¬ BreaksFile table.now Rule.FatSliceOutside place }
-    ensures { DecidesRule (BreaksFile table.now Rule.FatSliceMagic) Rule.FatSliceMagic result }
+    requires { KeptBelow (BreaksFile table.now) (rank Rule.FatSliceMagic) }
+    ensures { Continues (BreaksFile table.now) Rule.FatSliceMagic result }
 {
     let mut least = None;
     for k in 0..table.count() {
         least = lesser(least, foreign_place(table, k));
     }
     match least {
-        Some(place) => Err(Break {
-            rule: Rule::FatSliceMagic,
-            place,
-        }),
+        Some(place) => Err(Break::at(Rule::FatSliceMagic, place)),
         None => Ok(()),
     }
 }
@@ -187,8 +186,9 @@ pub(crate) fn fat_slice_magic(table: &Table) -> Result<(), Break>
 fn foreign_place(table: &Table, k: u32) -> Option<u64>
     requires entry { k < entry_count table.now }
     requires inside { (place : ℕ) → ¬ BreaksFile table.now Rule.FatSliceOutside place }
-    ensures { MatchOption result (¬ IsForeign table.now k)
-        (λ place. (place ≡ (entry_slice table.now k).start) × IsForeign table.now k) }
+    ensures { let slice = entry_slice table.now k in
+        MatchOption result (¬ IsForeign (slice_bytes table.now slice))
+        (λ place. (place ≡ slice.start) × IsForeign (slice_bytes table.now slice)) }
 {
     let bytes = table.slice_bytes(k);
     if is_image(bytes) || is_unread_image(bytes) {
@@ -211,18 +211,15 @@ fn lesser(a: Option<u64>, b: Option<u64>) -> Option<u64>
 
 /// Some slice is a 64-bit little-endian image.
 pub(crate) fn fat_empty(table: &Table) -> Result<(), Break>
-    requires { (place : ℕ) → ¬ BreaksFile table.now Rule.FatSliceOutside place }
-    ensures { DecidesRule (BreaksFile table.now Rule.FatEmpty) Rule.FatEmpty result }
+    requires { KeptBelow (BreaksFile table.now) (rank Rule.FatEmpty) }
+    ensures { Continues (BreaksFile table.now) Rule.FatEmpty result }
 {
     for k in 0..table.count() {
         if is_image(table.slice_bytes(k)) {
             return Ok(());
         }
     }
-    Err(Break {
-        rule: Rule::FatEmpty,
-        place: ENTRY_COUNT,
-    })
+    Err(Break::at(Rule::FatEmpty, NFAT_ARCH))
 }
 
 /// Whether the bytes begin with the magic number of a 64-bit little-endian image.

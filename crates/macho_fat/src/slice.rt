@@ -1,6 +1,19 @@
-//! A slice of a file.
+//! The slices of a file.
 
-use macho_fields::Span;
+ghost use Rattle.std.specs.Prelude.{◌≡◌, false, length, map, All, IfOk, OnOk, IfErr};
+ghost use Rattle.std.specs.Vec.{vec_capacity};
+ghost use Rattle.macho_fields.specs.Bytes.{bytes_of};
+ghost use Rattle.macho_fields.specs.Layers.{NothingBreaks};
+ghost use Rattle.macho_fields.specs.Rules.{BreaksFile};
+ghost use Rattle.macho_fields.specs.Universal.{is_universal, slices_of, IsImage};
+ghost use Rattle.macho_fat.specs.Slices.{slice_of, MarksRead, AreSlices, IsFatFault};
+
+use crate::check::check_file;
+use crate::fault::FatFault;
+use crate::rules::is_image;
+use crate::table::Table;
+use macho_fields::{Bytes, Span};
+use std::alloc::{AllocError, Global};
 
 /// The part of a file that holds one image.
 #[derive(Clone, Copy, Debug, PartialEq, Eq)]
@@ -14,3 +27,65 @@ pub struct Slice {
     /// not read.
     pub read: bool,
 }
+
+/// The slices of a file: the whole of a file that is one image, and otherwise one slice for each
+/// entry of the table, in order. Where one of the rules of the file, from `magic` to `fat-empty`,
+/// is broken, it returns the first broken one. The list has room for its slices and no more. No
+/// memory is asked for where one of the rules from `magic` to `fat-align` is broken.
+pub fn slices(alloc: Global, file: Bytes) -> Result<Vec<Slice>, FatFault>
+    ensures slices { IfOk result (λ slices.
+        map slice_of slices.items ≡ slices_of (bytes_of file.entry)) }
+    ensures read { IfOk result (λ slices. All (MarksRead (bytes_of file.entry)) slices.items) }
+    ensures capacity { IfOk result (λ slices.
+        vec_capacity slices ≡ length (slices_of (bytes_of file.entry))) }
+    ensures unbroken { OnOk result (NothingBreaks (BreaksFile (bytes_of file.entry))) }
+    ensures refused { IfErr result (IsFatFault (bytes_of file.entry)) }
+{
+    // The rules are decided without memory, before any is asked for.
+    match check_file(file)? {
+        None => Ok(whole(alloc, file)?),
+        Some(table) => Ok(listed(alloc, &table)?),
+    }
+}
+
+/// The one slice of a file that is an image.
+fn whole(alloc: Global, file: Bytes) -> Result<Vec<Slice>, AllocError>
+    requires image { IsImage (bytes_of file) }
+    requires plain { is_universal (bytes_of file) ≡ false }
+    ensures slices { IfOk result (λ slices. AreSlices (bytes_of file.entry) slices.items) }
+    ensures capacity { IfOk result (λ slices.
+        vec_capacity slices ≡ length (slices_of (bytes_of file.entry))) }
+{
+    let mut slices = Vec::with_capacity(alloc, 1)?;
+    slices.push_reserved(Slice {
+        span: Span {
+            start: 0,
+            len: file.len(),
+        },
+        arch: None,
+        read: true,
+    });
+    Ok(slices)
+}
+
+/// The slices of a table, in order, in a file that breaks none of its rules.
+fn listed(alloc: Global, table: &Table) -> Result<Vec<Slice>, AllocError>
+    requires { NothingBreaks (BreaksFile table.now) }
+    ensures slices { IfOk result (λ slices. AreSlices table.now slices.items) }
+    ensures capacity { IfOk result (λ slices.
+        vec_capacity slices ≡ length (slices_of table.now)) }
+{
+    let mut slices = Vec::with_capacity(alloc, table.count() as usize)?;
+    for k in 0..table.count() {
+        let entry = table.entry(k);
+        slices.push_reserved(Slice {
+            span: entry.span,
+            arch: Some(entry.arch),
+            read: is_image(table.slice_bytes(k)),
+        });
+    }
+    Ok(slices)
+}
+
+#[cfg(test)]
+mod tests;

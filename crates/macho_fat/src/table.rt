@@ -9,21 +9,32 @@ use macho_fields::{Break, Bytes, Order, Rule, Span};
 use std::marker::Model;
 
 /// `fat_header.nfat_arch`
-pub(crate) const ENTRY_COUNT: u64 = 4;
+pub(crate) const NFAT_ARCH: u64 = 4;
 
-// The offsets in an entry of the fields after `cputype`. In a `fat_arch_64` offset and size have
-// 64 bits.
-const CPU_SUBTYPE: u64 = 4;
+/// Where an entry has its fields: their offsets from that of `cputype`, with which it begins.
+#[derive(Clone, Copy)]
+struct Fields {
+    cpusubtype: u64,
+    offset: u64,
+    size: u64,
+    align: u64,
+}
 
-const OFFSET: u64 = 8;
+/// `fat_arch`
+const FAT_ARCH: Fields = Fields {
+    cpusubtype: 4,
+    offset: 8,
+    size: 12,
+    align: 16,
+};
 
-const SIZE: u64 = 12;
-
-const ALIGN: u64 = 16;
-
-const SIZE_64: u64 = 16;
-
-const ALIGN_64: u64 = 24;
+/// `fat_arch_64`, whose `offset` and `size` have 64 bits.
+const FAT_ARCH_64: Fields = Fields {
+    cpusubtype: 4,
+    offset: 8,
+    size: 16,
+    align: 24,
+};
 
 /// The size in bytes of an entry: a `fat_arch_64` where entries are wide, otherwise a `fat_arch`.
 pub(crate) fn entry_size(wide: bool) -> u64
@@ -48,7 +59,7 @@ impl<'a> Model for Table<'a> {
     ghost use Rattle.std.specs.Prelude.{List, ℕ, ◌≡◌};
     ghost use Rattle.macho_fields.specs.Bytes.{bytes_of};
     ghost use Rattle.macho_fields.specs.Universal.{has_wide_entries, entry_count};
-    ghost use Rattle.macho_fat.specs.Table.{HasTable};
+    ghost use Rattle.macho_fat.specs.Scaffold.{HasTable};
 
     ghost Value = { List ℕ };
 
@@ -80,22 +91,20 @@ impl Entry {
         ensures rule { result.rule ≡ rule }
         ensures place { result.place ≡ self.place }
     {
-        Break {
-            rule,
-            place: self.place,
-        }
+        Break::at(rule, self.place)
     }
 }
 
 impl<'a> Table<'a> {
-    ghost use Rattle.std.specs.Prelude.{◌≡◌, ◌+◌, ◌≤◌, ◌<◌, ℕ, length, if◌then◌else◌};
+    ghost use Rattle.std.specs.Prelude.{◌≡◌, ◌+◌, ◌≤◌, ◌<◌, ◌↔◌, ℕ, IsTrue, length, if◌then◌else◌};
     ghost use Rattle.macho_fields.specs.Bytes.{bytes_of};
     ghost use Rattle.macho_fields.specs.Field.{number};
     ghost use Rattle.macho_fields.specs.declared.bytes.Order.{Order};
     ghost use Rattle.macho_fields.specs.declared.rule.Rule.{Rule};
     ghost use Rattle.macho_fields.specs.Rules.{BreaksFile};
+    ghost use Rattle.macho_fields.specs.Span.{end_of};
     ghost use Rattle.macho_fields.specs.Universal.{has_wide_entries, entry_count, entry_slice, table_end, slice_bytes};
-    ghost use Rattle.macho_fat.specs.Table.{HasTable, IsEntry};
+    ghost use Rattle.macho_fat.specs.Scaffold.{HasTable, IsEntry};
 
     /// The table of a universal file. Its entries are `fat_arch_64` where they are wide, otherwise
     /// `fat_arch`.
@@ -116,11 +125,11 @@ impl<'a> Table<'a> {
         self.count
     }
 
-    /// How many bytes the file has.
-    pub(crate) fn file_len(&self) -> u64
-        ensures { result ≡ length self.now }
+    /// Whether a span ends within the file.
+    pub(crate) fn contains(&self, span: Span) -> bool
+        ensures { IsTrue result ↔ (end_of span ≤ length self.now) }
     {
-        self.file.len()
+        self.file.contains(span)
     }
 
     /// The offset at which the table ends.
@@ -136,20 +145,16 @@ impl<'a> Table<'a> {
         ensures { IsEntry self.now k result }
     {
         let place = FAT_HEADER_SIZE + u64::from(k) * entry_size(self.wide);
-        let (size, align) = if self.wide {
-            (SIZE_64, ALIGN_64)
-        } else {
-            (SIZE, ALIGN)
-        };
-        let subtype = self.word_at(place + CPU_SUBTYPE);
+        let fields = if self.wide { FAT_ARCH_64 } else { FAT_ARCH };
+        let subtype = self.word_at(place + fields.cpusubtype);
         Entry {
             place,
             arch: (self.word_at(place), subtype & !CPU_SUBTYPE_MASK),
             span: Span {
-                start: self.offset_at(place + OFFSET),
-                len: self.offset_at(place + size),
+                start: self.offset_at(place + fields.offset),
+                len: self.offset_at(place + fields.size),
             },
-            align: self.word_at(place + align),
+            align: self.word_at(place + fields.align),
         }
     }
 

@@ -1,7 +1,7 @@
 -- The commands of an image follow one another, in one way only.
-use Rattle.std.proofs.Common.{◌≡◌, ℕ, suc, zero, ◌+◌, ◌≤◌, ◌<◌, List, [], ◌∷◌, length, All, AllPairs, refl, sym, ap₂, ◌∙◌, subst, arith}
+use Rattle.std.proofs.Common.{◌≡◌, ℕ, suc, zero, ◌+◌, ◌≤◌, ◌<◌, List, [], ◌∷◌, length, All, AllPairs, refl, sym, ap, ap₂, ◌∙◌, subst, arith}
 use Rattle.std.specs.List.Sorted.{IsStrictlyIncreasing}
-use Rattle.macho_fields.specs.Image.{command_size, Follow, AreCommands}
+use Rattle.macho_fields.specs.Image.{command_size, places_from, commands_of, Follow, AreCommands}
 
 pub follow_unique : (image : List ℕ) (start : ℕ) (xs ys : List ℕ) (m n : ℕ) → length xs ≡ length ys → Follow image start xs m → Follow image start ys n → xs ≡ ys
 follow_unique image start [] [] m n e f g = refl
@@ -16,6 +16,17 @@ follow_unique image start (x ∷ xs) (y ∷ ys) m n e f g =
 -- an image has at most one list of commands
 pub commands_unique : (image xs ys : List ℕ) → AreCommands image xs → AreCommands image ys → xs ≡ ys
 commands_unique image xs ys (n, m, f) (k, l, g) = follow_unique image 32 xs ys m l (n ∙ sym k) f g
+
+counted_off_from : (image : List ℕ) (start : ℕ) (xs : List ℕ) (next : ℕ) → Follow image start xs next → xs ≡ places_from image start (length xs)
+counted_off_from image start [] next chain = refl
+counted_off_from image start (x ∷ xs) next chain =
+    let rest : xs ≡ places_from image (x + command_size image x) (length xs) = counted_off_from image (x + command_size image x) xs next chain.2 in
+    let first : x ≡ start = chain.0 in
+    ap (λ ys. x ∷ ys) rest ∙ ap (λ p. p ∷ places_from image (p + command_size image p) (length xs)) first
+
+-- the list of the commands of an image is counted off by their sizes
+pub counted_off : (image commands : List ℕ) → AreCommands image commands → commands ≡ commands_of image
+counted_off image commands (count, next, chain) = counted_off_from image 32 commands next chain ∙ ap (places_from image 32) count
 
 pub places_above : (image : List ℕ) (start : ℕ) (xs : List ℕ) (m : ℕ) → Follow image start xs m → All (λ place. start ≤ place) xs
 places_above image start [] m f k d h = absurd (omega arith)

@@ -15,7 +15,13 @@ nothing_before f (inl h) = absurd (omega arith)
 nothing_before f (inr h) = let p : 1 ≤ rank f.rule = rank_positive f.rule in ⊎_elim (λ k. absurd (omega arith)) (λ k. absurd (omega arith)) h.1
 
 pub empty_file : IsFirstBroken [] (record { rule = rule.Magic; place = 0 })
-empty_file = (record { scope = 0; rule = rule.Magic; place = 0 }, (refl, λ h. ⊎_elim (λ k. let p : 4 ≤ 0 = k.0 in absurd (omega arith)) (λ k. let p : 4 ≤ 0 = k.0 in absurd (omega arith)) h), λ f _. nothing_before f, refl, refl)
+empty_file = (
+  record { scope = 0; rule = rule.Magic; place = 0 },
+  (refl, λ h. ⊎_elim (λ k. let p : 4 ≤ 0 = k.0 in absurd (omega arith)) (λ k. let p : 4 ≤ 0 = k.0 in absurd (omega arith)) h),
+  λ f _. nothing_before f,
+  refl,
+  refl,
+)
 
 -- the bytes of a small number, the lowest first
 abbrev pub four : ℕ → List ℕ
@@ -57,16 +63,18 @@ pub command_of_no_size : IsFirstBroken no_size (record { rule = rule.CommandWalk
 command_of_no_size = first_in_image no_size refl (lit≤ tt, refl) rule.CommandWalk 32 (walk_is_least no_size good 32 ([], lit< tt, refl, λ g. let p : 8 ≤ 0 = g.least in absurd (omega arith)))
   where
     good : IsHeader no_size
-    good = record { long_enough = lit≤ tt; kind = inl refl; commands_inside = lit≤ tt }
+    good = record { long_enough = lit≤ tt; kind = refl; commands_inside = lit≤ tt }
 
 abbrev past_end : List ℕ
 past_end = header 2 2 8 ++ four 0x99 ++ four 8
 
 pub command_past_end : IsFirstBroken past_end (record { rule = rule.CommandWalk; place = 40 })
-command_past_end = first_in_image past_end refl (lit≤ tt, refl) rule.CommandWalk 40 (walk_is_least past_end good 40 (32 ∷ [], lit< tt, (refl, first, refl), λ g. let p : 48 ≤ 40 = g.head in absurd (omega arith)))
+command_past_end =
+    first_in_image past_end refl (lit≤ tt, refl) rule.CommandWalk 40
+    (walk_is_least past_end good 40 (32 ∷ [], lit< tt, (refl, first, refl), λ g. let p : 48 ≤ 40 = g.head in absurd (omega arith)))
   where
     good : IsHeader past_end
-    good = record { long_enough = lit≤ tt; kind = inl refl; commands_inside = lit≤ tt }
+    good = record { long_enough = lit≤ tt; kind = refl; commands_inside = lit≤ tt }
 
     first : IsGood past_end 32
     first = record { head = lit≤ tt; whole = refl; least = lit≤ tt; inside = lit≤ tt }

@@ -1,10 +1,13 @@
 -- Small images that break no rule: a header alone, and one with a command that is not listed.
-use Rattle.std.proofs.Common.{◌*◌, Any, ◌≡◌, ℕ, ◌+◌, ◌<◌, ◌⊎◌, List, [], ◌∷◌, ◌++◌, length, Bool, false, ◌&&◌, ◌==◌, nat_lt, Contains, None, refl, sym, subst, arith, lit≤, inl, inr, ⊎_elim}
+use Rattle.std.proofs.Common.{◌*◌, Any, ◌≡◌, ℕ, ◌+◌, ◌<◌, ◌⊎◌, List, [], ◌∷◌, ◌++◌, length, true, false, true≢false, ◌&&◌, nat_lt, Contains, None, IsSomeAnd, refl, sym, subst, arith, lit≤, inl, inr}
 use Rattle.std.specs.List.{list_any}
-use Rattle.std.proofs.lemmas.Bool.{eq-eqb, lt-ltb, and_from}
-use Rattle.macho_fields.specs.Field.{HasZero}
-use Rattle.macho_fields.specs.Image.{command_size, command_kind, file_type, AreCommands, word}
-use Rattle.macho_fields.specs.Command.{IsShort, structures, records_size, HasBadName, named_kinds, name_start}
+use Rattle.std.proofs.lemmas.Bool.{lt-ltb, and_from}
+use Rattle.macho_fields.specs.Image.{command_size, command_kind, file_type, AreCommands}
+use Rattle.macho_fields.specs.LoadCommands.{structure_of}
+use Rattle.macho_fields.specs.FileTypes.{file_type_of}
+use Rattle.macho_fields.specs.Command.{IsShort, IsBadName, HasBadName, HasDylibId, least_size}
+use Rattle.macho_fields.specs.declared.load_command.Structure.{Structure}
+use Rattle.macho_fields.specs.declared.file_type.FileType.{FileType}
 use Rattle.macho_fields.specs.Symbol.{IsOutside, tables_of}
 use Rattle.macho_fields.specs.Rules.{BreaksImage, BreaksCommands}
 use Rattle.macho_fields.specs.First.{IsUnbroken}
@@ -12,8 +15,18 @@ use Rattle.macho_fields.specs.declared.rule.Rule.{Rule}
 use Rattle.macho_fields.specs.declared.rule.Rule.TheVariants as rule
 use Rattle.macho_fields.proofs.Plain.{unbroken_image}
 use Rattle.macho_fields.proofs.Walks.{IsHeader, breaks_by_commands}
+use Rattle.macho_fields.proofs.Options.{of_none}
 use Rattle.macho_fields.proofs.Lists.{none_in_nil, any_nil, only_one, any_one, none_by_test}
 use Rattle.macho_fields.proofs.ExampleHeaders.{header, four}
+
+abbrev BadId : List ℕ → List ℕ → FileType → Type 0
+BadId image commands listed = ((listed.names_itself ≡ true) × ¬ HasDylibId image commands) ⊎ ((listed.names_itself ≡ false) × HasDylibId image commands)
+
+-- an executable breaks the rule only where it names itself
+executable_names : (image commands : List ℕ) → file_type image ≡ 2 → IsSomeAnd (file_type_of (file_type image)) (BadId image commands) → HasDylibId image commands
+executable_names image commands kind bad =
+    let wrong : IsSomeAnd (file_type_of 2) (BadId image commands) = subst (λ n. IsSomeAnd (file_type_of n) (BadId image commands)) kind bad in
+    elim wrong [ inl k ↦ absurd (true≢false (sym k.0)) | inr k ↦ k.1 ]
 
 -- an executable without commands breaks no rule
 pub nothing_commanded : (image : List ℕ) → file_type image ≡ 2 → (r : Rule) (place : ℕ) → ¬ BreaksCommands image [] r place
@@ -33,7 +46,7 @@ nothing_commanded image kind rule.CommandsOutside place h = h
 nothing_commanded image kind rule.CommandWalk place h = h
 nothing_commanded image kind rule.CommandShort place h = none_in_nil place h.0
 nothing_commanded image kind rule.CommandRepeated place h = none_in_nil place h.0
-nothing_commanded image kind rule.DylibId place h = ⊎_elim (λ k. let e = k.0 in absurd (omega arith)) (λ k. any_nil _ k.1) h.1
+nothing_commanded image kind rule.DylibId place h = any_nil _ (executable_names image [] kind h.1)
 nothing_commanded image kind rule.Name place h = none_in_nil place h.0
 nothing_commanded image kind rule.SegmentAddress place h = none_in_nil place h.0
 nothing_commanded image kind rule.SegmentSize place h = none_in_nil place h.0
@@ -57,7 +70,7 @@ pub bare_header : IsUnbroken bare
 bare_header = unbroken_image bare refl (lit≤ tt, refl) none
   where
     good : IsHeader bare
-    good = record { long_enough = lit≤ tt; kind = inl refl; commands_inside = lit≤ tt }
+    good = record { long_enough = lit≤ tt; kind = refl; commands_inside = lit≤ tt }
 
     none : (r : Rule) (place : ℕ) → ¬ BreaksImage bare None r place
     none r place b = nothing_commanded bare refl r place (breaks_by_commands bare [] good (refl, 32, refl) r place b)
@@ -70,19 +83,10 @@ pub bytes_left_over : IsUnbroken left_over
 bytes_left_over = unbroken_image left_over refl (lit≤ tt, refl) none
   where
     good : IsHeader left_over
-    good = record { long_enough = lit≤ tt; kind = inl refl; commands_inside = lit≤ tt }
+    good = record { long_enough = lit≤ tt; kind = refl; commands_inside = lit≤ tt }
 
     none : (r : Rule) (place : ℕ) → ¬ BreaksImage left_over None r place
     none r place b = nothing_commanded left_over refl r place (breaks_by_commands left_over [] good (refl, 32, refl) r place b)
-
--- the test of `IsShort`
-abbrev pub is_short : List ℕ → ℕ → ℕ × ℕ → Bool
-is_short image command row = row.0 == command_kind image command && nat_lt (command_size image command) (row.1 + records_size image command)
-
-not_short : (image : List ℕ) (command : ℕ) → list_any (is_short image command) structures ≡ false → ¬ IsShort image command
-not_short image command e =
-    none_by_test (λ row. (row.0 ≡ command_kind image command) × (command_size image command < row.1 + records_size image command)) (is_short image command) structures
-    (λ row h. and_from (row.0 == command_kind image command) (nat_lt (command_size image command) (row.1 + records_size image command)) (eq-eqb row.0 (command_kind image command) h.0) (lt-ltb (command_size image command) (row.1 + records_size image command) h.1)) e
 
 -- What one command of a kind without name, library or repetition cannot break.
 module _ (image : List ℕ) (at : ℕ) where
@@ -92,22 +96,23 @@ module _ (image : List ℕ) (at : ℕ) where
   pub not_repeated : ¬ BreaksCommands image (32 ∷ []) rule.CommandRepeated at
   not_repeated h =
       let here : 32 ≡ at = only_one 32 at h.0 in
-      let (before, same) = any_one (λ earlier. (earlier < at) × (command_kind image earlier ≡ command_kind image at)) 32 h.2 in
+      let (before, same) = any_one (λ earlier. (earlier < at) × (command_kind image earlier ≡ command_kind image at)) 32 h.1.1 in
       let less : 32 < at = before in absurd (omega arith)
 
-  pub keeps_size : list_any (is_short image 32) structures ≡ false → ¬ BreaksCommands image (32 ∷ []) rule.CommandShort at
-  keeps_size e h = not_short image 32 e (subst (IsShort image) (sym (only_one 32 at h.0)) h.1)
+  pub keeps_size : structure_of (command_kind image 32) ≡ None → ¬ BreaksCommands image (32 ∷ []) rule.CommandShort at
+  keeps_size unlisted h =
+      let short : Structure → Type 0 = λ structure. command_size image 32 < least_size image 32 structure in
+      of_none short (structure_of (command_kind image 32)) unlisted (subst (IsShort image) (sym (only_one 32 at h.0)) h.1)
 
   pub no_library : file_type image ≡ 2 → ¬ (command_kind image 32 ≡ 0xd) → ¬ BreaksCommands image (32 ∷ []) rule.DylibId at
-  no_library kind other h = elim h.1 [ inl k ↦ absurd (let e : file_type image ≡ 6 = k.0 in omega arith) | inr k ↦ other (any_one (λ command. command_kind image command ≡ 0xd) 32 k.1) ]
+  no_library kind other h = other (any_one (λ command. command_kind image command ≡ 0xd) 32 (executable_names image (32 ∷ []) kind h.1))
 
-  pub no_name : list_any (λ row. row.0 == command_kind image 32) named_kinds ≡ false → ¬ BreaksCommands image (32 ∷ []) rule.Name at
-  no_name e h =
-      let bad : HasBadName image 32 = subst (HasBadName image) (sym (only_one 32 at h.0)) h.1 in
-      none_by_test (λ row. (row.0 ≡ command_kind image 32) × ((word image (32 + 8) < row.1) ⊎ ¬ HasZero image (name_start image 32) (32 + command_size image 32)))
-      (λ row. row.0 == command_kind image 32) named_kinds (λ row n. eq-eqb row.0 (command_kind image 32) n.0) e bad
+  pub no_name : structure_of (command_kind image 32) ≡ None → ¬ BreaksCommands image (32 ∷ []) rule.Name at
+  no_name unlisted h = of_none (IsBadName image 32) (structure_of (command_kind image 32)) unlisted (subst (HasBadName image) (sym (only_one 32 at h.0)) h.1)
 
-none_outside : (image : List ℕ) (at : ℕ) → list_any (λ table. nat_lt 0 table.1 && nat_lt (length image) (table.0 + table.1 * table.2)) (tables_of image 32) ≡ false → ¬ BreaksCommands image (32 ∷ []) rule.TableRange at
+none_outside : (image : List ℕ) (at : ℕ)
+    → list_any (λ table. nat_lt 0 table.1 && nat_lt (length image) (table.0 + table.1 * table.2)) (tables_of image 32) ≡ false
+    → ¬ BreaksCommands image (32 ∷ []) rule.TableRange at
 none_outside image at e h =
     none_by_test (IsOutside image) (λ table. nat_lt 0 table.1 && nat_lt (length image) (table.0 + table.1 * table.2)) (tables_of image 32)
     (λ table out. and_from (nat_lt 0 table.1) (nat_lt (length image) (table.0 + table.1 * table.2)) (lt-ltb 0 table.1 out.0) (lt-ltb (length image) (table.0 + table.1 * table.2) out.1)) e
@@ -154,7 +159,7 @@ pub unlisted_command : IsUnbroken unlisted
 unlisted_command = unbroken_image unlisted refl (lit≤ tt, refl) none
   where
     good : IsHeader unlisted
-    good = record { long_enough = lit≤ tt; kind = inl refl; commands_inside = lit≤ tt }
+    good = record { long_enough = lit≤ tt; kind = refl; commands_inside = lit≤ tt }
 
     are : AreCommands unlisted (32 ∷ [])
     are = (refl, 40, (refl, record { head = lit≤ tt; whole = refl; least = lit≤ tt; inside = lit≤ tt }, refl))

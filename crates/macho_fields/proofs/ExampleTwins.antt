@@ -39,7 +39,10 @@ universal = (lit≤ tt, refl)
 apart : (place : ℕ) → place < 96 → 96 ≤ place → ⊥
 apart place a b = absurd (omega arith)
 
-no_overlap : (k : ℕ) → k < 2 → ¬ ((i : ℕ) × (i < k) × ((place : ℕ) × ((entry_slice twins i).start ≤ place) × (place < (entry_slice twins i).start + (entry_slice twins i).size) × ((entry_slice twins k).start ≤ place) × (place < (entry_slice twins k).start + (entry_slice twins k).size)))
+no_overlap : (k : ℕ) → k < 2
+    → ¬ ((i : ℕ) × (i < k) × ((place : ℕ)
+    × ((entry_slice twins i).start ≤ place) × (place < (entry_slice twins i).start + (entry_slice twins i).size)
+    × ((entry_slice twins k).start ≤ place) × (place < (entry_slice twins k).start + (entry_slice twins k).size)))
 no_overlap zero low (i, less, h) = absurd (omega arith)
 no_overlap (suc zero) low (zero, less, (place, a, b, c, d)) = apart place b c
 no_overlap (suc zero) low (suc i, less, h) = absurd (omega arith)
@@ -59,12 +62,21 @@ no_duplicate (suc (suc k)) low h = absurd (omega arith)
 file_keeps : (r : Rule) (at : ℕ) → ¬ BreaksFile twins r at
 file_keeps rule.Magic at h = h.1 (inl universal)
 file_keeps rule.FatTruncated at h = ⊎_elim (λ k. let p : 128 < 8 = k in absurd (omega arith)) (λ k. let p : 128 < 48 = k in absurd (omega arith)) h.2
-file_keeps rule.FatSliceOutside at (u, (k, low, e, h)) = below_two (λ n. ¬ (128 < (entry_slice twins n).start + (entry_slice twins n).size)) (λ g. let p : 128 < 96 = g in absurd (omega arith)) (λ g. let p : 128 < 128 = g in absurd (omega arith)) k low h
-file_keeps rule.FatSliceInTable at (u, (k, low, e, h)) = below_two (λ n. ¬ ((entry_slice twins n).start < 48)) (λ g. let p : 64 < 48 = g in absurd (omega arith)) (λ g. let p : 96 < 48 = g in absurd (omega arith)) k low h
+file_keeps rule.FatSliceOutside at (u, (k, low, e, h)) =
+    below_two (λ n. ¬ (128 < (entry_slice twins n).start + (entry_slice twins n).size))
+    (λ g. let p : 128 < 96 = g in absurd (omega arith)) (λ g. let p : 128 < 128 = g in absurd (omega arith)) k low h
+file_keeps rule.FatSliceInTable at (u, (k, low, e, h)) =
+    below_two (λ n. ¬ ((entry_slice twins n).start < 48))
+    (λ g. let p : 64 < 48 = g in absurd (omega arith)) (λ g. let p : 96 < 48 = g in absurd (omega arith)) k low h
 file_keeps rule.FatAlign at (u, (k, low, e, h)) = below_two (λ n. ¬ ((m : ℕ) → m * 2 ^ entry_align twins n ≢ (entry_slice twins n).start)) (λ g. g 64 refl) (λ g. g 96 refl) k low h
 file_keeps rule.FatOverlap at (u, (k, low, e, (i, less, (place, (a, b), (c, d))))) = no_overlap k low (i, less, (place, a, b, c, d))
 file_keeps rule.FatDuplicate at (u, (k, low, e, h)) = no_duplicate k low h
-file_keeps rule.FatSliceMagic at (u, h) = elim (any_two (λ slice. (at ≡ slice.start) × ¬ (IsImage (slice_bytes twins slice) ⊎ IsUnreadImage (slice_bytes twins slice))) (entry_slice twins 0) (entry_slice twins 1) h) [ inl k ↦ k.1 (inl (lit≤ tt, refl)) | inr k ↦ k.1 (inl (lit≤ tt, refl)) ]
+file_keeps rule.FatSliceMagic at (u, h) =
+    elim (any_two (λ slice. (at ≡ slice.start) × ¬ (IsImage (slice_bytes twins slice) ⊎ IsUnreadImage (slice_bytes twins slice)))
+    (entry_slice twins 0) (entry_slice twins 1) h) [
+      | inl k ↦ k.1 (inl (lit≤ tt, refl))
+      | inr k ↦ k.1 (inl (lit≤ tt, refl))
+    ]
 file_keeps rule.FatEmpty at (e, u, h) = h 0 (entry_slice twins 0) (lit< tt) (lit≤ tt, refl)
 file_keeps rule.HeaderTruncated at h = h
 file_keeps rule.ArchMismatch at h = h
@@ -93,7 +105,7 @@ abbrev first : List ℕ
 first = other_header 0
 
 first_header : IsHeader first
-first_header = record { long_enough = lit≤ tt; kind = inl refl; commands_inside = lit≤ tt }
+first_header = record { long_enough = lit≤ tt; kind = refl; commands_inside = lit≤ tt }
 
 first_keeps_header : (r : Rule) (at : ℕ) → ¬ BreaksHeader first (Some (0x0100000c, 0)) r at
 first_keeps_header rule.Magic at h = h
@@ -137,7 +149,9 @@ second_least r at b (inl less) = ten (rank_determines_rule r rule.HeaderTruncate
   where
     ten : r ≡ rule.HeaderTruncated → ⊥
     ten e = ⊎_elim (λ k. let p : 32 < 32 = k.1 in absurd (omega arith)) (λ k. k.2) (subst (λ q. BreaksImage first (Some (0x0100000c, 2)) q at) e b)
-second_least r at b (inr (e, less)) = ⊎_elim (λ k. let p : at ≡ 4 = k.0 in absurd (omega arith)) (λ k. k.2) (subst (λ q. BreaksImage first (Some (0x0100000c, 2)) q at) (rank_determines_rule r rule.ArchMismatch e) b)
+second_least r at b (inr (e, less)) =
+    ⊎_elim (λ k. let p : at ≡ 4 = k.0 in absurd (omega arith)) (λ k. k.2)
+    (subst (λ q. BreaksImage first (Some (0x0100000c, 2)) q at) (rank_determines_rule r rule.ArchMismatch e) b)
 
 none_before : (scope : ℕ) (r : Rule) (at : ℕ) → IsBrokenIn twins scope r at → ¬ IsBefore (record { scope = scope; rule = r; place = at }) (record { scope = 2; rule = rule.ArchMismatch; place = 4 })
 none_before zero r at h before = file_keeps r at h
@@ -147,4 +161,10 @@ none_before (suc (suc zero)) r at h (inr later) = second_least r at h.1 later.1
 none_before (suc (suc (suc k))) r at h before = absurd h
 
 pub second_slice_mismatch : IsFirstBroken twins (record { rule = rule.ArchMismatch; place = 100 })
-second_slice_mismatch = (record { scope = 2; rule = rule.ArchMismatch; place = 4 }, ((lit≤ tt, refl), inl (refl, inr (λ e. let p : ◌≡◌ {A = ℕ} 2 0 = e in absurd (omega arith)))), (λ other. none_before other.scope other.rule other.place), refl, refl)
+second_slice_mismatch = (
+  record { scope = 2; rule = rule.ArchMismatch; place = 4 },
+  ((lit≤ tt, refl), inl (refl, inr (λ e. let p : ◌≡◌ {A = ℕ} 2 0 = e in absurd (omega arith)))),
+  (λ other. none_before other.scope other.rule other.place),
+  refl,
+  refl,
+)

@@ -11,7 +11,9 @@ module _ (file : List ℕ) (none : ¬ ((b : Break) × IsFirstBroken file b)) whe
       none (record { rule = fault.rule; place = scope_start file fault.scope + fault.place }, (fault, broken, (λ other h earlier. before other earlier h), refl, refl))
 
   -- in turn at each place of a rule, for each rule of a scope, and in each scope
-  places_kept : (scope q : ℕ) → ((f : Fault) → f.scope < scope → ¬ IsBroken file f) → ((f : Fault) → f.scope ≡ scope → rank f.rule < q → ¬ IsBroken file f) → (n : ℕ) (f : Fault) → f.scope ≡ scope → rank f.rule ≡ q → f.place < n → ¬ IsBroken file f
+  places_kept : (scope q : ℕ) → ((f : Fault) → f.scope < scope → ¬ IsBroken file f)
+      → ((f : Fault) → f.scope ≡ scope → rank f.rule < q → ¬ IsBroken file f)
+      → (n : ℕ) (f : Fault) → f.scope ≡ scope → rank f.rule ≡ q → f.place < n → ¬ IsBroken file f
   places_kept scope q scopes ranks zero f s r less = absurd (omega arith)
   places_kept scope q scopes ranks (suc n) f s r less = kept_after f (λ other earlier. elim earlier [
     | inl lower ↦ scopes other (omega (arith, s))

@@ -5,11 +5,11 @@ use Rattle.std.proofs.lemmas.Bool.{cases_lt}
 use Rattle.std.proofs.Math.Nat.{mul-le-mul_right}
 use Rattle.macho_fields.specs.Universal.{FileSlice, IsUniversal, IsImage, entry_count, entry_size, entry_place, entry_slice, table_end, slices_of, slice_bytes}
 use Rattle.macho_fields.specs.Rules.{AtEntry, BreaksFile, BreaksImage}
+use Rattle.macho_fields.specs.Layers.{KeptBelow}
 use Rattle.macho_fields.specs.First.{rank, Fault, IsBroken, IsBrokenIn, IsBefore, IsFirstBroken, scope_start}
 use Rattle.macho_fields.specs.declared.rule.Rule.{Rule}
 use Rattle.macho_fields.specs.declared.rule.Rule.TheVariants as rule
 use Rattle.macho_fields.specs.declared.rule.Break.{Break}
-use Rattle.macho_fields.proofs.Layers.{KeptBelow}
 use Rattle.macho_fields.proofs.Inside.{item_of_range, place_inside}
 use Rattle.macho_fields.proofs.Scopes.{of_slice}
 use Rattle.macho_fields.proofs.Sound.{slice_inside}
@@ -81,12 +81,16 @@ module _ (file : List ℕ) where
   abbrev NoneBefore : ℕ → Rule → ℕ → Type 0
   NoneBefore scope r place = (other : Fault) → IsBroken file other → ¬ IsBefore other (record { scope = scope; rule = r; place = place })
 
-  in_slice : (k : ℕ) (r : Rule) (place : ℕ) (o : Option FileSlice) → slice_get (slices_of file) k ≡ o → IsSomeAnd o (λ slice. IsImage (slice_bytes file slice) × BreaksImage (slice_bytes file slice) slice.arch r place) → NoneBefore (suc k) r place → scope_start file (suc k) + place ≤ length file
+  in_slice : (k : ℕ) (r : Rule) (place : ℕ) (o : Option FileSlice) → slice_get (slices_of file) k ≡ o
+      → IsSomeAnd o (λ slice. IsImage (slice_bytes file slice) × BreaksImage (slice_bytes file slice) slice.arch r place)
+      → NoneBefore (suc k) r place → scope_start file (suc k) + place ≤ length file
   in_slice k r place None is broken first = absurd broken
   in_slice k r place (Some slice) is (image, broken) first =
       let bytes = slice_bytes file slice in
       let ends = slice_inside file (λ other p h. first (record { scope = 0; rule = other; place = p }) h (inl (omega arith))) k slice is in
-      let most = place_inside bytes slice.arch r place (λ other p less h. first (record { scope = suc k; rule = other; place = p }) (of_slice file k slice other p is image h) (inr (refl, inl less))) broken in
+      let most = place_inside bytes slice.arch r place
+      (λ other p less h. first (record { scope = suc k; rule = other; place = p }) (of_slice file k slice other p is image h) (inr (refl, inl less)))
+      broken in
       let start : scope_start file (suc k) ≡ slice.start = ap (λ o. option_map_or (λ (s : FileSlice). s.start) o 0) is in
       omega (arith, start, length-take slice.size (drop slice.start file))
 

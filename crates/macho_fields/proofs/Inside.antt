@@ -1,22 +1,20 @@
 -- The place of the first break of an image lies in the image, or just after its last byte.
 use Rattle.std.proofs.Common.{◌≡◌, ℕ, suc, zero, ◌+◌, ◌*◌, ◌≤◌, ◌<◌, ◌⊎◌, List, [], ◌∷◌, length, map, Contains, Option, refl, sym, ap, ◌∙◌, arith, lit≤, lit<, inl, inr, ⊎_elim}
-use Rattle.std.proofs.lemmas.Bool.{cases_lt, le-leb}
+use Rattle.std.proofs.lemmas.Bool.{cases_lt}
 use Rattle.std.specs.List.{range_with_len}
 use Rattle.macho_fields.specs.Image.{commands_end, command_kind, command_size, Follow, AreCommands, of_kind}
-use Rattle.macho_fields.specs.Command.{records_size, record_count}
 use Rattle.macho_fields.specs.Segment.{segments_of, AtSection, nsects}
 use Rattle.macho_fields.specs.Symbol.{symoff, nsyms, stroff, strsize, indirectsymoff, nindirectsyms, tables_of, AtSymbol}
 use Rattle.macho_fields.specs.Rules.{BreaksHeader, BreaksImage}
 use Rattle.macho_fields.specs.First.{rank}
-use Rattle.macho_fields.specs.Layers.{IsLeast}
+use Rattle.macho_fields.specs.Layers.{KeptBelow, IsLeast}
 use Rattle.macho_fields.specs.declared.rule.Rule.{Rule}
 use Rattle.macho_fields.specs.declared.rule.Rule.TheVariants as rule
 use Rattle.macho_fields.specs.declared.rule.Break.{Break}
 use Rattle.macho_fields.specs.declared.header.loader.TheConstants as loader
 use Rattle.macho_fields.proofs.Parts.{command_good, of_kind_is, of_kind_among}
 use Rattle.macho_fields.proofs.Lists.{contains_first}
-use Rattle.macho_fields.proofs.Opened.{Keeps, keeps_rules, command_inside, structure_inside}
-use Rattle.macho_fields.proofs.Layers.{KeptBelow}
+use Rattle.macho_fields.proofs.Opened.{Keeps, keeps_rules, command_inside, sections_inside}
 
 -- an item of a list that is made of a range
 pub item_of_range : {X : Type 0} (f : ℕ → X) (start n : ℕ) (x : X) → Contains (map f (range_with_len start n)) x → (k : ℕ) × (k < n) × (x ≡ f (start + k))
@@ -27,15 +25,13 @@ item_of_range f start (suc n) x (suc k, less, at) =
     (suc j, omega arith, is ∙ ap f (let p : (start + 1) + j ≡ start + suc j = omega arith in p))
 
 -- a segment of an opened image lies inside it with its sections
-pub segment_holds : (image commands : List ℕ) → Keeps image → AreCommands image commands → (segment : ℕ) → Contains (segments_of image commands) segment → segment + 72 + 80 * nsects image segment ≤ length image
+pub segment_holds : (image commands : List ℕ) → Keeps image → AreCommands image commands → (segment : ℕ)
+    → Contains (segments_of image commands) segment → segment + 72 + 80 * nsects image segment ≤ length image
 segment_holds image commands opened are segment has =
     let among = of_kind_among image commands loader.LC_SEGMENT_64 segment has in
-    let is : command_kind image segment ≡ loader.LC_SEGMENT_64 = of_kind_is image commands loader.LC_SEGMENT_64 segment has in
-    let whole : 72 + records_size image segment ≤ command_size image segment = structure_inside image commands opened are segment (loader.LC_SEGMENT_64, 72) among (6, lit< tt, refl) (sym is) in
-    let size : records_size image segment ≡ 80 * record_count image segment 64 = rw is refl in
-    let count : record_count image segment 64 ≡ nsects image segment = rw (le-leb 68 (command_size image segment) (omega arith)) refl in
+    let whole = sections_inside image commands opened are segment among (of_kind_is image commands loader.LC_SEGMENT_64 segment has) in
     let most = command_inside image commands opened are segment among in
-    omega (arith, size, count)
+    omega arith
 
 chain_inside : (image : List ℕ) (start : ℕ) (xs : List ℕ) (next : ℕ) → Follow image start xs next → (next ≡ start) ⊎ (next ≤ commands_end image)
 chain_inside image start [] next f = inl (sym f)
@@ -74,7 +70,7 @@ module _ (image : List ℕ) (arch : Option (ℕ × ℕ)) where
   at_kind n late below commands are kind place has = at_command n late below commands are place (of_kind_among image commands kind place has)
 
   opens : (n : ℕ) → 19 ≤ n → Below n → Keeps image
-  opens n late below = keeps_rules image arch (λ r place h. let less = h.0 in below r place (omega arith) h.1)
+  opens n late below = keeps_rules image arch (λ r place less h. below r place (omega arith) h)
 
   at_section : (n : ℕ) → 19 ≤ n → Below n → (commands : List ℕ) → AreCommands image commands → (P : ℕ → ℕ → Type 0) (place : ℕ) → AtSection image commands P place → place ≤ length image
   at_section n late below commands are P place (j, segment, less, at, (has, p)) =
@@ -83,7 +79,8 @@ module _ (image : List ℕ) (arch : Option (ℕ × ℕ)) where
       omega (arith, is)
 
   -- a table of a command whose rule is unbroken ends inside
-  table_inside : (n : ℕ) → 27 ≤ n → Below n → (commands : List ℕ) → AreCommands image commands → (command : ℕ) → Contains commands command → (table : ℕ × ℕ × ℕ) → Contains (tables_of image command) table → 0 < table.1 → table.0 + table.1 * table.2 ≤ length image
+  table_inside : (n : ℕ) → 27 ≤ n → Below n → (commands : List ℕ) → AreCommands image commands → (command : ℕ) → Contains commands command
+      → (table : ℕ × ℕ × ℕ) → Contains (tables_of image command) table → 0 < table.1 → table.0 + table.1 * table.2 ≤ length image
   table_inside n late below commands are command has table (k, less, at) some = elim (cases_lt (length image) (table.0 + table.1 * table.2)) [
     | inl out ↦ absurd (below rule.TableRange command (omega arith) (inr (commands, are, (has, (k, table, less, at, (some, out))))))
     | inr most ↦ most
@@ -99,12 +96,15 @@ module _ (image : List ℕ) (arch : Option (ℕ × ℕ)) where
       let most : symoff image symtab + nsyms image symtab * 16 ≤ length image = table_inside n late below commands are symtab among (symoff image symtab, nsyms image symtab, 16) has (omega arith) in
       omega (arith, is)
 
-  at_indirect : (n : ℕ) → 27 ≤ n → Below n → (commands : List ℕ) → AreCommands image commands → (dysymtab k place : ℕ) → Contains (of_kind image loader.LC_DYSYMTAB commands) dysymtab → k < nindirectsyms image dysymtab → place ≡ indirectsymoff image dysymtab + 4 * k → place ≤ length image
+  at_indirect : (n : ℕ) → 27 ≤ n → Below n → (commands : List ℕ) → AreCommands image commands → (dysymtab k place : ℕ)
+      → Contains (of_kind image loader.LC_DYSYMTAB commands) dysymtab → k < nindirectsyms image dysymtab
+      → place ≡ indirectsymoff image dysymtab + 4 * k → place ≤ length image
   at_indirect n late below commands are dysymtab k place found lower is =
       let among = of_kind_among image commands loader.LC_DYSYMTAB dysymtab found in
       let kind : command_kind image dysymtab ≡ loader.LC_DYSYMTAB = of_kind_is image commands loader.LC_DYSYMTAB dysymtab found in
       let has : Contains (tables_of image dysymtab) (indirectsymoff image dysymtab, nindirectsyms image dysymtab, 4) = rw kind (3, lit< tt, refl) in
-      let most : indirectsymoff image dysymtab + nindirectsyms image dysymtab * 4 ≤ length image = table_inside n late below commands are dysymtab among (indirectsymoff image dysymtab, nindirectsyms image dysymtab, 4) has (omega arith) in
+      let most : indirectsymoff image dysymtab + nindirectsyms image dysymtab * 4 ≤ length image =
+      table_inside n late below commands are dysymtab among (indirectsymoff image dysymtab, nindirectsyms image dysymtab, 4) has (omega arith) in
       omega (arith, is)
 
   -- the place at which a rule is broken
@@ -131,14 +131,32 @@ module _ (image : List ℕ) (arch : Option (ℕ × ℕ)) where
   place_inside rule.SegmentSize place below h = ⊎_elim (λ k. absurd k) (λ k. at_kind 20 (lit≤ tt) below k.0 k.1 loader.LC_SEGMENT_64 place k.2.0) h
   place_inside rule.SegmentFile place below h = ⊎_elim (λ k. absurd k) (λ k. at_kind 21 (lit≤ tt) below k.0 k.1 loader.LC_SEGMENT_64 place k.2.0) h
   place_inside rule.SegmentOverlap place below h = ⊎_elim (λ k. absurd k) (λ k. at_kind 22 (lit≤ tt) below k.0 k.1 loader.LC_SEGMENT_64 place k.2.0) h
-  place_inside rule.SectionAddress place below h = ⊎_elim (λ k. absurd k) (λ k. let (j, segment, less, at, (has, p)) = k.2 in at_section 23 (lit≤ tt) below k.0 k.1 (λ _ _. place ≡ place) place (j, segment, less, at, (has, refl))) h
-  place_inside rule.SectionFile place below h = ⊎_elim (λ k. absurd k) (λ k. let (j, segment, less, at, (has, p)) = k.2 in at_section 24 (lit≤ tt) below k.0 k.1 (λ _ _. place ≡ place) place (j, segment, less, at, (has, refl))) h
-  place_inside rule.SectionRelocs place below h = ⊎_elim (λ k. absurd k) (λ k. let (j, segment, less, at, (has, p)) = k.2 in at_section 25 (lit≤ tt) below k.0 k.1 (λ _ _. place ≡ place) place (j, segment, less, at, (has, refl))) h
+  place_inside rule.SectionAddress place below h =
+      ⊎_elim (λ k. absurd k) (λ k.
+      let (j, segment, less, at, (has, p)) = k.2 in
+      at_section 23 (lit≤ tt) below k.0 k.1 (λ _ _. place ≡ place) place (j, segment, less, at, (has, refl))) h
+  place_inside rule.SectionFile place below h =
+      ⊎_elim (λ k. absurd k) (λ k.
+      let (j, segment, less, at, (has, p)) = k.2 in
+      at_section 24 (lit≤ tt) below k.0 k.1 (λ _ _. place ≡ place) place (j, segment, less, at, (has, refl))) h
+  place_inside rule.SectionRelocs place below h =
+      ⊎_elim (λ k. absurd k) (λ k.
+      let (j, segment, less, at, (has, p)) = k.2 in
+      at_section 25 (lit≤ tt) below k.0 k.1 (λ _ _. place ≡ place) place (j, segment, less, at, (has, refl))) h
   place_inside rule.TableRange place below h = ⊎_elim (λ k. absurd k) (λ k. at_command 26 (lit≤ tt) below k.0 k.1 place k.2.0) h
   place_inside rule.SymbolGroup place below h = ⊎_elim (λ k. absurd k) (λ k. at_kind 27 (lit≤ tt) below k.0 k.1 loader.LC_DYSYMTAB place k.2.0) h
-  place_inside rule.SymbolName place below h = ⊎_elim (λ k. absurd k) (λ k. let (j, symtab, less, at, (i, lower, is, p)) = k.2 in at_symbol 28 (lit≤ tt) below k.0 k.1 (λ _ _. place ≡ place) place (j, symtab, less, at, (i, lower, is, refl))) h
-  place_inside rule.SymbolSection place below h = ⊎_elim (λ k. absurd k) (λ k. let (j, symtab, less, at, (i, lower, is, p)) = k.2 in at_symbol 29 (lit≤ tt) below k.0 k.1 (λ _ _. place ≡ place) place (j, symtab, less, at, (i, lower, is, refl))) h
-  place_inside rule.IndirectIndex place below h = ⊎_elim (λ k. absurd k) (λ k. let (j, dysymtab, less, at, (i, lower, is, p, q)) = k.2 in at_indirect 30 (lit≤ tt) below k.0 k.1 dysymtab i place (j, less, at) lower is) h
+  place_inside rule.SymbolName place below h =
+      ⊎_elim (λ k. absurd k) (λ k.
+      let (j, symtab, less, at, (i, lower, is, p)) = k.2 in
+      at_symbol 28 (lit≤ tt) below k.0 k.1 (λ _ _. place ≡ place) place (j, symtab, less, at, (i, lower, is, refl))) h
+  place_inside rule.SymbolSection place below h =
+      ⊎_elim (λ k. absurd k) (λ k.
+      let (j, symtab, less, at, (i, lower, is, p)) = k.2 in
+      at_symbol 29 (lit≤ tt) below k.0 k.1 (λ _ _. place ≡ place) place (j, symtab, less, at, (i, lower, is, refl))) h
+  place_inside rule.IndirectIndex place below h =
+      ⊎_elim (λ k. absurd k) (λ k.
+      let (j, dysymtab, less, at, (i, lower, is, p)) = k.2 in
+      at_indirect 30 (lit≤ tt) below k.0 k.1 dysymtab i place (j, less, at) lower is) h
   place_inside rule.Entry place below h = ⊎_elim (λ k. absurd k) (λ k. at_kind 31 (lit≤ tt) below k.0 k.1 loader.LC_MAIN place k.2.0) h
 
 -- the first break of an image

@@ -7,6 +7,8 @@ pub mod Sound
 pub mod Ranks
 pub mod Unique
 pub mod Lists
+pub mod Options
+pub mod LoadCommands
 pub mod Plain
 pub mod ExampleHeaders
 pub mod ExampleImages
@@ -14,10 +16,10 @@ pub mod ExampleNoSlices
 pub mod ExampleTwins
 pub mod Layers
 pub mod Zeros
+pub mod Strings
 pub mod Opened
 pub mod Inside
 pub mod Scopes
-pub mod Images
 pub mod Texts
 pub mod InFile
 pub mod FirstExists

@@ -1,29 +1,42 @@
 -- The commands of an image whose walk does not break.
-use Rattle.std.proofs.Common.{◌≡◌, ℕ, suc, zero, ◌+◌, ◌≤◌, ◌==◌, List, [], ◌∷◌, ◌++◌, length, Bool, filter, true, All, Contains, Option, refl, sym, arith, inl, inr, length-append, le_refl}
+use Rattle.std.proofs.Common.{◌≡◌, ℕ, suc, zero, ◌+◌, ◌≤◌, ◌==◌, List, [], ◌∷◌, ◌++◌, length, Bool, filter, true, All, Contains, Option, refl, sym, subst, arith, inl, inr, length-append, le_refl}
 use Rattle.std.proofs.lemmas.Bool.{eqb-true}
 use Rattle.std.proofs.lemmas.List.Elements.{All-contains, filter_passes, All-filter, All-contains_itself}
-use Rattle.macho_fields.specs.Image.{command_size, command_count, command_kind, IsGood, Follow, IsChain, AreCommands, of_kind}
+use Rattle.macho_fields.specs.Image.{command_size, command_count, command_kind, IsGood, Follow, IsChain, AreCommands, commands_of, of_kind}
 use Rattle.macho_fields.specs.Rules.{BreaksHeader}
 use Rattle.macho_fields.specs.declared.rule.Rule.TheVariants as rule
+use Rattle.macho_fields.proofs.Chains.{counted_off}
 use Rattle.macho_fields.proofs.Decided.{good_or_not}
 
 pub follow_more : (image : List ℕ) (start : ℕ) (xs : List ℕ) (m : ℕ) → Follow image start xs m → IsGood image m → Follow image start (xs ++ m ∷ []) (m + command_size image m)
 follow_more image start [] m f good = (sym f, good, refl)
 follow_more image start (x ∷ xs) m f good = (f.0, f.1, follow_more image (x + command_size image x) xs m f.2 good)
 
-walk_goes_on : (image : List ℕ) (arch : Option (ℕ × ℕ)) → ((place : ℕ) → ¬ BreaksHeader image arch rule.CommandWalk place) → (n : ℕ) → n ≤ command_count image → (xs : List ℕ) × (length xs ≡ n) × ((next : ℕ) × IsChain image xs next)
+walk_goes_on : (image : List ℕ) (arch : Option (ℕ × ℕ)) → ((place : ℕ) → ¬ BreaksHeader image arch rule.CommandWalk place)
+    → (n : ℕ) → n ≤ command_count image → (xs : List ℕ) × (length xs ≡ n) × ((next : ℕ) × IsChain image xs next)
 walk_goes_on image arch keeps zero most = ([], refl, (32, refl))
 walk_goes_on image arch keeps (suc n) most = one_more (walk_goes_on image arch keeps n (omega arith))
   where
     one_more : (xs : List ℕ) × (length xs ≡ n) × ((next : ℕ) × IsChain image xs next) → (xs : List ℕ) × (length xs ≡ suc n) × ((next : ℕ) × IsChain image xs next)
-    one_more (xs, e, (next, chain)) = elim (good_or_not image next) [ inl good ↦ (xs ++ next ∷ [], omega (arith, length-append xs (next ∷ [])), (next + command_size image next, follow_more image 32 xs next chain good)) | inr bad ↦ absurd (keeps next (xs, omega arith, chain, bad)) ]
+    one_more (xs, e, (next, chain)) =
+        elim (good_or_not image next) [
+          | inl good ↦
+              (xs ++ next ∷ [], omega (arith, length-append xs (next ∷ [])), (next + command_size image next, follow_more image 32 xs next chain good))
+          | inr bad ↦ absurd (keeps next (xs, omega arith, chain, bad))
+        ]
 
 -- an image whose walk does not break has its commands
-pub commands_of : (image : List ℕ) (arch : Option (ℕ × ℕ)) → ((place : ℕ) → ¬ BreaksHeader image arch rule.CommandWalk place) → (commands : List ℕ) × AreCommands image commands
-commands_of image arch keeps = whole (walk_goes_on image arch keeps (command_count image) (le_refl (command_count image)))
+pub commands_exist : (image : List ℕ) (arch : Option (ℕ × ℕ)) → ((place : ℕ) → ¬ BreaksHeader image arch rule.CommandWalk place) → (commands : List ℕ) × AreCommands image commands
+commands_exist image arch keeps = whole (walk_goes_on image arch keeps (command_count image) (le_refl (command_count image)))
   where
     whole : (xs : List ℕ) × (length xs ≡ command_count image) × ((next : ℕ) × IsChain image xs next) → (commands : List ℕ) × AreCommands image commands
     whole (xs, e, (next, chain)) = (xs, (e, next, chain))
+
+-- they are those that are counted off by their sizes
+pub commands_of_walk : (image : List ℕ) (arch : Option (ℕ × ℕ)) → ((place : ℕ) → ¬ BreaksHeader image arch rule.CommandWalk place) → AreCommands image (commands_of image)
+commands_of_walk image arch keeps =
+    let (commands, are) = commands_exist image arch keeps in
+    subst (AreCommands image) (counted_off image commands are) are
 
 commands_good : (image : List ℕ) (start : ℕ) (xs : List ℕ) (m : ℕ) → Follow image start xs m → All (IsGood image) xs
 commands_good image start [] m f k d h = absurd (omega arith)

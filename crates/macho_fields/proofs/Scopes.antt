@@ -19,14 +19,17 @@ file_kept file keeps zero r place most broken = keeps r place broken
 file_kept file keeps (suc k) r place most broken = absurd (omega arith)
 
 -- what is broken in a scope is broken in its slice
-in_slice : (file : List ℕ) (k : ℕ) (slice : FileSlice) (r : Rule) (place : ℕ) → slice_get (slices_of file) k ≡ Some slice → IsBrokenIn file (suc k) r place → IsImage (slice_bytes file slice) × BreaksImage (slice_bytes file slice) slice.arch r place
+in_slice : (file : List ℕ) (k : ℕ) (slice : FileSlice) (r : Rule) (place : ℕ) → slice_get (slices_of file) k ≡ Some slice
+    → IsBrokenIn file (suc k) r place → IsImage (slice_bytes file slice) × BreaksImage (slice_bytes file slice) slice.arch r place
 in_slice file k slice r place is broken = subst (λ o. IsSomeAnd o (λ s. IsImage (slice_bytes file s) × BreaksImage (slice_bytes file s) s.arch r place)) is broken
 
-pub of_slice : (file : List ℕ) (k : ℕ) (slice : FileSlice) (r : Rule) (place : ℕ) → slice_get (slices_of file) k ≡ Some slice → IsImage (slice_bytes file slice) → BreaksImage (slice_bytes file slice) slice.arch r place → IsBrokenIn file (suc k) r place
+pub of_slice : (file : List ℕ) (k : ℕ) (slice : FileSlice) (r : Rule) (place : ℕ) → slice_get (slices_of file) k ≡ Some slice
+    → IsImage (slice_bytes file slice) → BreaksImage (slice_bytes file slice) slice.arch r place → IsBrokenIn file (suc k) r place
 of_slice file k slice r place is image broken = subst (λ o. IsSomeAnd o (λ s. IsImage (slice_bytes file s) × BreaksImage (slice_bytes file s) s.arch r place)) (sym is) (image, broken)
 
 -- one slice more: an image that breaks nothing, or none
-pub image_kept : (file : List ℕ) (k : ℕ) (slice : FileSlice) → slice_get (slices_of file) k ≡ Some slice → KeptScopes file k → NothingBreaks (BreaksImage (slice_bytes file slice) slice.arch) → KeptScopes file (suc k)
+pub image_kept : (file : List ℕ) (k : ℕ) (slice : FileSlice) → slice_get (slices_of file) k ≡ Some slice → KeptScopes file k
+    → NothingBreaks (BreaksImage (slice_bytes file slice) slice.arch) → KeptScopes file (suc k)
 image_kept file k slice is kept keeps scope r place most broken = elim (cases_lt k scope) [
   | inr lower ↦ kept scope r place lower broken
   | inl upper ↦
@@ -62,8 +65,16 @@ file_first file b (here, least) = (record { scope = 0; rule = b.rule; place = b.
     none_before other broken (inr (same, later)) = least other.rule other.place (subst (λ s. IsBrokenIn file s other.rule other.place) same broken) later
 
 -- the first break of a slice, where nothing is broken in the scopes before it
-pub slice_first : (file : List ℕ) (k : ℕ) (slice : FileSlice) (found b : Break) → slice_get (slices_of file) k ≡ Some slice → KeptScopes file k → IsImage (slice_bytes file slice) → IsLeast (BreaksImage (slice_bytes file slice) slice.arch) found → b.rule ≡ found.rule → b.place ≡ slice.start + found.place → IsFirstBroken file b
-slice_first file k slice found b is kept image (here, least) same_rule same_place = (record { scope = suc k; rule = found.rule; place = found.place }, of_slice file k slice found.rule found.place is image here, none_before, same_rule, start)
+pub slice_first : (file : List ℕ) (k : ℕ) (slice : FileSlice) (found b : Break) → slice_get (slices_of file) k ≡ Some slice → KeptScopes file k
+    → IsImage (slice_bytes file slice) → IsLeast (BreaksImage (slice_bytes file slice) slice.arch) found
+    → b.rule ≡ found.rule → b.place ≡ slice.start + found.place → IsFirstBroken file b
+slice_first file k slice found b is kept image (here, least) same_rule same_place = (
+  record { scope = suc k; rule = found.rule; place = found.place },
+  of_slice file k slice found.rule found.place is image here,
+  none_before,
+  same_rule,
+  start,
+)
   where
     none_before : (other : Fault) → IsBroken file other → ¬ IsBefore other (record { scope = suc k; rule = found.rule; place = found.place })
     none_before other broken (inl less) = kept other.scope other.rule other.place (omega arith) broken

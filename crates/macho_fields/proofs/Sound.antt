@@ -9,7 +9,7 @@ use Rattle.macho_fields.specs.First.{IsUnbroken}
 use Rattle.macho_fields.specs.Loader.{IsSoundImage, IsSound}
 use Rattle.macho_fields.specs.declared.rule.Rule.{Rule}
 use Rattle.macho_fields.specs.declared.rule.Rule.TheVariants as rule
-use Rattle.macho_fields.proofs.Parts.{commands_of}
+use Rattle.macho_fields.proofs.Parts.{commands_exist}
 use Rattle.macho_fields.proofs.SoundImage.{sound_image}
 
 get_at : {X : Type 0} (xs : List X) (k : ℕ) (d : X) → k < length xs → slice_get xs k ≡ Some (get_or xs k d)
@@ -31,7 +31,16 @@ got_from_one y (suc i) x e = cc
 -- Of a file that breaks none of its own rules
 module _ (file : List ℕ) (keeps_file : (r : Rule) (place : ℕ) → ¬ BreaksFile file r place) where
   begins : 4 ≤ length file
-  begins = elim (cases_lt (length file) 4) [ inl h ↦ absurd (keeps_file rule.Magic 0 (refl, λ b. elim b [ inl u ↦ let p = u.0 in absurd (omega arith) | inr i ↦ let p = i.0 in absurd (omega arith) ])) | inr h ↦ h ]
+  begins = elim (cases_lt (length file) 4) [
+    | inl h ↦ absurd (keeps_file rule.Magic 0 (
+      refl,
+      λ b. elim b [
+        | inl u ↦ let p = u.0 in absurd (omega arith)
+        | inr i ↦ let p = i.0 in absurd (omega arith)
+      ],
+    ))
+    | inr h ↦ h
+  ]
 
   -- the slice at a place of the list is an entry, or the whole file
   slice_is : (k : ℕ) (slice : FileSlice) → slice_get (slices_of file) k ≡ Some slice
@@ -51,7 +60,14 @@ module _ (file : List ℕ) (keeps_file : (r : Rule) (place : ℕ) → ¬ BreaksF
           (not, none, is)
 
   pub slice_inside : (k : ℕ) (slice : FileSlice) → slice_get (slices_of file) k ≡ Some slice → slice.start + slice.size ≤ length file
-  slice_inside k slice e = elim (slice_is k slice e) [ inl (u, less, is) ↦ entry u less is | inr (not, none, is) ↦ let first : slice.start ≡ 0 = ap (λ s. s.start) is in let all : slice.size ≡ length file = ap (λ s. s.size) is in omega arith ]
+  slice_inside k slice e =
+      elim (slice_is k slice e) [
+        | inl (u, less, is) ↦ entry u less is
+        | inr (not, none, is) ↦
+            let first : slice.start ≡ 0 = ap (λ s. s.start) is in
+            let all : slice.size ≡ length file = ap (λ s. s.size) is in
+            omega arith
+      ]
     where
       entry : IsUniversal file → k < entry_count file → slice ≡ entry_slice file k → slice.start + slice.size ≤ length file
       entry u less is = elim (cases_lt (length file) ((entry_slice file k).start + (entry_slice file k).size)) [
@@ -60,7 +76,19 @@ module _ (file : List ℕ) (keeps_file : (r : Rule) (place : ℕ) → ¬ BreaksF
       ]
 
   slices_apart : (i j : ℕ) (a b : FileSlice) (place : ℕ) → slice_get (slices_of file) i ≡ Some a → slice_get (slices_of file) j ≡ Some b → HasPlace a place → HasPlace b place → i ≡ j
-  slices_apart i j a b place e f in_a in_b = elim (slice_is i a e) [ inl (u, less, is) ↦ elim (slice_is j b f) [ inl (v, lower, also) ↦ entries u less lower is also | inr (not, none, also) ↦ absurd (true≢false (sym u.1 ∙ not)) ] | inr (not, none, is) ↦ elim (slice_is j b f) [ inl (v, lower, also) ↦ absurd (true≢false (sym v.1 ∙ not)) | inr (n, zeroth, also) ↦ none ∙ sym zeroth ] ]
+  slices_apart i j a b place e f in_a in_b =
+      elim (slice_is i a e) [
+        | inl (u, less, is) ↦
+            elim (slice_is j b f) [
+              | inl (v, lower, also) ↦ entries u less lower is also
+              | inr (not, none, also) ↦ absurd (true≢false (sym u.1 ∙ not))
+            ]
+        | inr (not, none, is) ↦
+            elim (slice_is j b f) [
+              | inl (v, lower, also) ↦ absurd (true≢false (sym v.1 ∙ not))
+              | inr (n, zeroth, also) ↦ none ∙ sym zeroth
+            ]
+      ]
     where
       entries : IsUniversal file → i < entry_count file → j < entry_count file → a ≡ entry_slice file i → b ≡ entry_slice file j → i ≡ j
       entries u less lower is also =
@@ -78,10 +106,21 @@ module _ (file : List ℕ) (keeps_file : (r : Rule) (place : ℕ) → ¬ BreaksF
       entry : k < entry_count file → slice ≡ entry_slice file k → table_end file ≤ place
       entry less is =
           let here : HasPlace (entry_slice file k) place = subst (λ s. HasPlace s place) is in' in
-          elim (cases_lt ((entry_slice file k).start) (table_end file)) [ inl before ↦ absurd (keeps_file rule.FatSliceInTable (entry_place file k) (u, (k, less, refl, before))) | inr most ↦ omega arith ]
+          elim (cases_lt ((entry_slice file k).start) (table_end file)) [
+            | inl before ↦ absurd (keeps_file rule.FatSliceInTable (entry_place file k) (u, (k, less, refl, before)))
+            | inr most ↦ omega arith
+          ]
 
   one_arch : (i j : ℕ) (a b : FileSlice) → IsUniversal file → slice_get (slices_of file) i ≡ Some a → slice_get (slices_of file) j ≡ Some b → a.arch ≡ b.arch → i ≡ j
-  one_arch i j a b u e f same = elim (slice_is i a e) [ inr (not, none, is) ↦ absurd (true≢false (sym u.1 ∙ not)) | inl (v, less, is) ↦ elim (slice_is j b f) [ inr (not, none, is) ↦ absurd (true≢false (sym u.1 ∙ not)) | inl (w, lower, also) ↦ entries less lower is also ] ]
+  one_arch i j a b u e f same =
+      elim (slice_is i a e) [
+        | inr (not, none, is) ↦ absurd (true≢false (sym u.1 ∙ not))
+        | inl (v, less, is) ↦
+            elim (slice_is j b f) [
+              | inr (not, none, is) ↦ absurd (true≢false (sym u.1 ∙ not))
+              | inl (w, lower, also) ↦ entries less lower is also
+            ]
+      ]
     where
       entries : i < entry_count file → j < entry_count file → a ≡ entry_slice file i → b ≡ entry_slice file j → i ≡ j
       entries less lower is also =
@@ -97,15 +136,17 @@ module _ (file : List ℕ) (unbroken : IsUnbroken file) where
   keeps : (r : Rule) (place : ℕ) → ¬ BreaksFile file r place
   keeps r place h = unbroken (record { scope = 0; rule = r; place = place }) h
 
-  keeps_image : (k : ℕ) (slice : FileSlice) → slice_get (slices_of file) k ≡ Some slice → IsImage (slice_bytes file slice) → (r : Rule) (place : ℕ) → ¬ BreaksImage (slice_bytes file slice) slice.arch r place
+  keeps_image : (k : ℕ) (slice : FileSlice) → slice_get (slices_of file) k ≡ Some slice → IsImage (slice_bytes file slice)
+      → (r : Rule) (place : ℕ) → ¬ BreaksImage (slice_bytes file slice) slice.arch r place
   keeps_image k slice e is r place b =
       unbroken (record { scope = suc k; rule = r; place = place })
       (subst (λ o. IsSomeAnd o (λ s. IsImage (slice_bytes file s) × BreaksImage (slice_bytes file s) s.arch r place)) (sym e) (is, b))
 
-  image_sound : (k : ℕ) (slice : FileSlice) → slice_get (slices_of file) k ≡ Some slice → IsImage (slice_bytes file slice) → (commands : List ℕ) × AreCommands (slice_bytes file slice) commands × IsSoundImage (slice_bytes file slice) commands
+  image_sound : (k : ℕ) (slice : FileSlice) → slice_get (slices_of file) k ≡ Some slice → IsImage (slice_bytes file slice)
+      → (commands : List ℕ) × AreCommands (slice_bytes file slice) commands × IsSoundImage (slice_bytes file slice) commands
   image_sound k slice e is =
       let keeps = keeps_image k slice e is in
-      let (commands, are) = commands_of (slice_bytes file slice) slice.arch (λ place h. keeps rule.CommandWalk place (inl h)) in
+      let (commands, are) = commands_exist (slice_bytes file slice) slice.arch (λ place h. keeps rule.CommandWalk place (inl h)) in
       (commands, are, sound_image (slice_bytes file slice) slice.arch keeps commands are)
 
 -- an unbroken file is sound

@@ -2,8 +2,8 @@
 use Rattle.std.proofs.Common.{◌≡◌, ◌≢◌, ℕ, ◌+◌, ◌-◌, ◌*◌, ◌≤◌, ◌<◌, ◌⊎◌, List, length, false, slice_index, bit_and, Any, Contains, Option, IsSomeAnd, refl, sym, ap, subst, arith, inl, inr}
 use Rattle.std.proofs.lemmas.Bool.{cases_lt, cases_eq, cases_order, lt-ltb}
 use Rattle.macho_fields.specs.Field.{HasZero, Covers}
-use Rattle.macho_fields.specs.Image.{word, long, command_kind, command_size, AreCommands, of_kind}
-use Rattle.macho_fields.specs.Command.{structures, records_size, named_kinds, name_start}
+use Rattle.macho_fields.specs.Image.{word, long, command_size, AreCommands, of_kind}
+use Rattle.macho_fields.specs.Command.{HasStructure, least_size, IsNamed, name_start}
 use Rattle.macho_fields.specs.Segment.{segments_of, sections_in, vmaddr, vmsize, fileoff, filesize, initprot, base_of, Supplies, IsInFilePart, IsExecutable, section_address, section_size, section_offset, is_zero_fill, File, source}
 use Rattle.macho_fields.specs.Symbol.{tables_of, IsOutside, HasEndlessName}
 use Rattle.macho_fields.specs.Rules.{BreaksCommands, BreaksImage}
@@ -12,7 +12,7 @@ use Rattle.macho_fields.specs.Loader.Reads.{in_header, in_command, in_structure,
 use Rattle.macho_fields.specs.declared.rule.Rule.{Rule}
 use Rattle.macho_fields.specs.declared.rule.Rule.TheVariants as rule
 use Rattle.macho_fields.proofs.Decided.{not_not, both_or_not, le_or_not, any_or_not, some_or_not, zero_or_none}
-use Rattle.macho_fields.proofs.Opened.{Keeps, keeps_rules, command_inside, structure_inside, name_ended}
+use Rattle.macho_fields.proofs.Opened.{Keeps, keeps_rules, command_inside, with_structure, name_ended}
 
 -- an item that has P, as an element
 with_item : {X : Type 0} (P : X → Type 0) (xs : List X) → Any P xs → (x : X) × (Contains xs x × P x)
@@ -26,7 +26,7 @@ module _ (image : List ℕ) (arch : Option (ℕ × ℕ)) (keeps : (r : Rule) (pl
   keeps_commands r place h = keeps r place (inr (commands, are, h))
 
   opened : Keeps image
-  opened = keeps_rules image arch (λ r place h. keeps r place h.1)
+  opened = keeps_rules image arch (λ r place early h. keeps r place h)
 
   reads_header : (place : ℕ) → place < 32 → place < length image
   reads_header place h = let most = opened.header in omega arith
@@ -36,16 +36,20 @@ module _ (image : List ℕ) (arch : Option (ℕ × ℕ)) (keeps : (r : Rule) (pl
       let (command, (has, h)) = with_item (λ command. Covers command (command_size image command) place) commands any in
       let most = command_inside image commands opened are command has in omega arith
 
-  reads_structure : (place : ℕ) → Any (λ command. Any (λ row. (row.0 ≡ command_kind image command) × Covers command (row.1 + records_size image command) place) structures) commands → place < length image
+  abbrev StructureHolds : ℕ → ℕ → Type 0
+  StructureHolds place command = HasStructure image command (λ structure. Covers command (least_size image command structure) place)
+
+  reads_structure : (place : ℕ) → Any (StructureHolds place) commands → place < length image
   reads_structure place any =
-      let (command, (has, rows)) = with_item (λ command. Any (λ row. (row.0 ≡ command_kind image command) × Covers command (row.1 + records_size image command) place) structures) commands any in
-      let (row, (listed, h)) = with_item (λ row. (row.0 ≡ command_kind image command) × Covers command (row.1 + records_size image command) place) structures rows in
-      let fits : row.1 + records_size image command ≤ command_size image command = structure_inside image commands opened are command row has listed h.0 in
-      let from : Covers command (row.1 + records_size image command) place = h.1 in
+      let (command, (has, holds)) = with_item (StructureHolds place) commands any in
+      let (structure, listed, from, fits) = with_structure image commands opened are command (λ structure. Covers command (least_size image command structure) place) has holds in
       let most = command_inside image commands opened are command has in omega arith
 
   segment_inside : (segment : ℕ) → Contains (segments_of image commands) segment → 0 < filesize image segment → fileoff image segment + filesize image segment ≤ length image
-  segment_inside segment has some = elim (cases_lt (length image) (fileoff image segment + filesize image segment)) [ inl h ↦ absurd (keeps_commands rule.SegmentFile segment (has, some, h)) | inr h ↦ h ]
+  segment_inside segment has some = elim (cases_lt (length image) (fileoff image segment + filesize image segment)) [
+    | inl h ↦ absurd (keeps_commands rule.SegmentFile segment (has, (some, h)))
+    | inr h ↦ h
+  ]
 
   reads_segment : (place : ℕ) → Any (λ segment. Covers (fileoff image segment) (filesize image segment) place) (segments_of image commands) → place < length image
   reads_segment place any =
@@ -56,8 +60,16 @@ module _ (image : List ℕ) (arch : Option (ℕ × ℕ)) (keeps : (r : Rule) (pl
   one_segment a b address has_a has_b in_a in_b =
       elim (cases_order a b) [
         | inl e ↦ e
-        | inr (inl less) ↦ absurd (keeps_commands rule.SegmentOverlap b (has_b, as_any (λ earlier. (earlier < b) × ((at : ℕ) × Supplies image earlier at × Supplies image b at)) (segments_of image commands) a has_a (less, (address, in_a, in_b))))
-        | inr (inr less) ↦ absurd (keeps_commands rule.SegmentOverlap a (has_a, as_any (λ earlier. (earlier < a) × ((at : ℕ) × Supplies image earlier at × Supplies image a at)) (segments_of image commands) b has_b (less, (address, in_b, in_a))))
+        | inr (inl less) ↦ absurd (keeps_commands rule.SegmentOverlap b (
+          has_b,
+          as_any (λ earlier. (earlier < b) × ((at : ℕ) × Supplies image earlier at × Supplies image b at)) (segments_of image commands) a has_a
+              (less, (address, in_a, in_b)),
+        ))
+        | inr (inr less) ↦ absurd (keeps_commands rule.SegmentOverlap a (
+          has_a,
+          as_any (λ earlier. (earlier < a) × ((at : ℕ) × Supplies image earlier at × Supplies image a at)) (segments_of image commands) b has_b
+              (less, (address, in_b, in_a)),
+        ))
       ]
 
   -- Sections
@@ -70,9 +82,14 @@ module _ (image : List ℕ) (arch : Option (ℕ × ℕ)) (keeps : (r : Rule) (pl
   section_in_segment : (segment section : ℕ) → Contains (segments_of image commands) segment → Contains (sections_in image segment) section → 0 < vmsize image segment → 0 < section_size image section
       → (vmaddr image segment ≤ section_address image section) × (section_address image section + section_size image section ≤ vmaddr image segment + vmsize image segment)
   section_in_segment segment section has in' mapped some =
-      not_not (both_or_not (le_or_not (vmaddr image segment) (section_address image section)) (le_or_not (section_address image section + section_size image section) (vmaddr image segment + vmsize image segment)))
-      (λ out. keeps_commands rule.SectionAddress section (as_any (λ s. Contains (sections_in image s) section × ((0 < vmsize image s) × (0 < section_size image section)
-      × ¬ ((vmaddr image s ≤ section_address image section) × (section_address image section + section_size image section ≤ vmaddr image s + vmsize image s)))) (segments_of image commands) segment has (in', (mapped, some, out))))
+      not_not
+      (both_or_not (le_or_not (vmaddr image segment) (section_address image section))
+      (le_or_not (section_address image section + section_size image section) (vmaddr image segment + vmsize image segment)))
+      (λ out. keeps_commands rule.SectionAddress section
+      (as_any (λ s. Contains (sections_in image s) section × ((0 < vmsize image s) × (0 < section_size image section)
+      × ¬ ((vmaddr image s ≤ section_address image section)
+      × (section_address image section + section_size image section ≤ vmaddr image s + vmsize image s))))
+      (segments_of image commands) segment has (in', (mapped, some, out))))
 
   abbrev BadFilePlace : ℕ → ℕ → Type 0
   BadFilePlace segment section = (0 < section_size image section) × (is_zero_fill image section ≡ false)
@@ -80,15 +97,23 @@ module _ (image : List ℕ) (arch : Option (ℕ × ℕ)) (keeps : (r : Rule) (pl
       ⊎ ((vmsize image segment ≡ 0) × (length image < section_offset image section + section_size image section)))
 
   no_bad_file_place : (segment section : ℕ) → Contains (segments_of image commands) segment → Contains (sections_in image segment) section → ¬ BadFilePlace segment section
-  no_bad_file_place segment section has in' bad = keeps_commands rule.SectionFile section (as_any (λ s. Contains (sections_in image s) section × BadFilePlace s section) (segments_of image commands) segment has (in', bad))
+  no_bad_file_place segment section has in' bad =
+      keeps_commands rule.SectionFile section
+      (as_any (λ s. Contains (sections_in image s) section × BadFilePlace s section) (segments_of image commands) segment has (in', bad))
 
-  section_in_part : (segment section : ℕ) → Contains (segments_of image commands) segment → Contains (sections_in image segment) section → 0 < vmsize image segment → 0 < section_size image section → is_zero_fill image section ≡ false → IsInFilePart image segment section
+  section_in_part : (segment section : ℕ) → Contains (segments_of image commands) segment → Contains (sections_in image segment) section
+      → 0 < vmsize image segment → 0 < section_size image section → is_zero_fill image section ≡ false → IsInFilePart image segment section
   section_in_part segment section has in' mapped some fill = not_not (in_part_or_not segment section) (λ out. no_bad_file_place segment section has in' (some, fill, inl (mapped, out)))
 
-  section_inside : (segment section : ℕ) → Contains (segments_of image commands) segment → Contains (sections_in image segment) section → 0 < section_size image section → is_zero_fill image section ≡ false → section_offset image section + section_size image section ≤ length image
+  section_inside : (segment section : ℕ) → Contains (segments_of image commands) segment → Contains (sections_in image segment) section
+      → 0 < section_size image section → is_zero_fill image section ≡ false → section_offset image section + section_size image section ≤ length image
   section_inside segment section has in' some fill =
       elim (cases_eq (vmsize image segment) 0) [
-        | inl none ↦ elim (cases_lt (length image) (section_offset image section + section_size image section)) [ inl h ↦ absurd (no_bad_file_place segment section has in' (some, fill, inr (none, h))) | inr h ↦ h ]
+        | inl none ↦
+            elim (cases_lt (length image) (section_offset image section + section_size image section)) [
+              | inl h ↦ absurd (no_bad_file_place segment section has in' (some, fill, inr (none, h)))
+              | inr h ↦ h
+            ]
         | inr mapped ↦ mapped_inside mapped
       ]
     where
@@ -108,7 +133,8 @@ module _ (image : List ℕ) (arch : Option (ℕ × ℕ)) (keeps : (r : Rule) (pl
       let most = section_inside segment section has in' (omega arith) h.0 in omega arith
 
   section_source : (segment section k : ℕ) → Contains (segments_of image commands) segment → Contains (sections_in image segment) section → 0 < vmsize image segment → k < section_size image section
-      → Supplies image segment (section_address image section + k) × (is_zero_fill image section ≡ false → source image segment (section_address image section + k) ≡ File (section_offset image section + k))
+      → Supplies image segment (section_address image section + k)
+      × (is_zero_fill image section ≡ false → source image segment (section_address image section + k) ≡ File (section_offset image section + k))
   section_source segment section k has in' mapped less = (here, from)
     where
       bounds : (vmaddr image segment ≤ section_address image section) × (section_address image section + section_size image section ≤ vmaddr image segment + vmsize image segment)
@@ -148,7 +174,8 @@ module _ (image : List ℕ) (arch : Option (ℕ × ℕ)) (keeps : (r : Rule) (pl
       let (segment, (has, sections)) = with_item (λ segment. Any (RelocsAre start len) (sections_in image segment)) (segments_of image commands) any in
       let (section, (in', h)) = with_item (RelocsAre start len) (sections_in image segment) sections in
       elim (cases_lt (length image) (word image (section + 56) + 8 * word image (section + 60))) [
-        | inl out ↦ absurd (keeps_commands rule.SectionRelocs section (as_any (λ s. Contains (sections_in image s) section × BadRelocs section) (segments_of image commands) segment has (in', (h.0, out))))
+        | inl out ↦ absurd (keeps_commands rule.SectionRelocs section
+            (as_any (λ s. Contains (sections_in image s) section × BadRelocs section) (segments_of image commands) segment has (in', (h.0, out))))
         | inr most ↦ subst (λ n. start + n ≤ length image) (sym h.2) (subst (λ n. n + 8 * word image (section + 60) ≤ length image) (sym h.1) most)
       ]
 
@@ -158,7 +185,7 @@ module _ (image : List ℕ) (arch : Option (ℕ × ℕ)) (keeps : (r : Rule) (pl
   -- Names
 
   abbrev CommandName : ℕ → ℕ → ℕ → Type 0
-  CommandName start end command = Any (λ row. row.0 ≡ command_kind image command) named_kinds × (start ≡ name_start image command) × (end ≡ command + command_size image command)
+  CommandName start end command = IsNamed image command × (start ≡ name_start image command) × (end ≡ command + command_size image command)
 
   abbrev SymbolName : ℕ → ℕ → ℕ → Type 0
   SymbolName start end symtab = (k : ℕ) × (k < word image (symtab + 12))
@@ -177,14 +204,17 @@ module _ (image : List ℕ) (arch : Option (ℕ × ℕ)) (keeps : (r : Rule) (pl
       let symbol = word image (symtab + 8) + 16 * name.0 in
       let ended : HasZero image (word image (symtab + 16) + word image symbol) (word image (symtab + 16) + word image (symtab + 20)) =
       not_not (zero_or_none image (word image (symtab + 16) + word image symbol) (word image (symtab + 16) + word image (symtab + 20)))
-      (λ none. keeps_commands rule.SymbolName symbol (as_any (λ s. (k : ℕ) × (k < word image (s + 12)) × (symbol ≡ word image (s + 8) + 16 * k) × HasEndlessName image s symbol) (of_kind image 0x2 commands) symtab has
+      (λ none. keeps_commands rule.SymbolName symbol
+      (as_any (λ s. (k : ℕ) × (k < word image (s + 12)) × (symbol ≡ word image (s + 8) + 16 * k) × HasEndlessName image s symbol)
+      (of_kind image 0x2 commands) symtab has
       (name.0, name.1, refl, (name.2.0, none)))) in
       subst (λ n. HasZero image n end) (sym name.2.1) (subst (λ n. HasZero image (word image (symtab + 16) + word image symbol) n) (sym name.2.2) ended)
 
   names_ended : (start end : ℕ) → IsName image commands start end → HasZero image start end
   names_ended start end name = elim name [ inl n ↦ command_name start end n | inr n ↦ symbol_name start end n ]
 
-  reads_name : (start end place : ℕ) → IsName image commands start end → start ≤ place → ((before : ℕ) → start ≤ before → before < place → before < length image → slice_index image before ≢ 0) → place < length image
+  reads_name : (start end place : ℕ) → IsName image commands start end → start ≤ place
+      → ((before : ℕ) → start ≤ before → before < place → before < length image → slice_index image before ≢ 0) → place < length image
   reads_name start end place name low none =
       let (z, from, to, inside, is) = names_ended start end name in
       elim (cases_lt z place) [ inl less ↦ absurd (none z from less inside is) | inr most ↦ omega arith ]
@@ -201,7 +231,10 @@ module _ (image : List ℕ) (arch : Option (ℕ × ℕ)) (keeps : (r : Rule) (pl
   -- The entry
 
   executable_or_not : (address : ℕ) → IsExecutable image commands address ⊎ ¬ IsExecutable image commands address
-  executable_or_not address = any_or_not (λ segment. Supplies image segment address × (address < vmaddr image segment + filesize image segment) × (bit_and (initprot image segment) 4 ≢ 0)) each (segments_of image commands)
+  executable_or_not address =
+      any_or_not
+      (λ segment. Supplies image segment address × (address < vmaddr image segment + filesize image segment) × (bit_and (initprot image segment) 4 ≢ 0))
+      each (segments_of image commands)
     where
       each : (segment : ℕ) → (Supplies image segment address × (address < vmaddr image segment + filesize image segment) × (bit_and (initprot image segment) 4 ≢ 0))
           ⊎ ¬ (Supplies image segment address × (address < vmaddr image segment + filesize image segment) × (bit_and (initprot image segment) 4 ≢ 0))
@@ -221,7 +254,11 @@ module _ (image : List ℕ) (arch : Option (ℕ × ℕ)) (keeps : (r : Rule) (pl
           ]
 
   entry_runs : (main : ℕ) → Contains (of_kind image 0x80000028 commands) main → IsSomeAnd (base_of image commands) (λ base. IsExecutable image commands (base + long image (main + 8)))
-  entry_runs main has = not_not (some_or_not (λ base. IsExecutable image commands (base + long image (main + 8))) (λ base. executable_or_not (base + long image (main + 8))) (base_of image commands)) (λ none. keeps_commands rule.Entry main (has, none))
+  entry_runs main has =
+      not_not
+      (some_or_not (λ base. IsExecutable image commands (base + long image (main + 8)))
+      (λ base. executable_or_not (base + long image (main + 8))) (base_of image commands))
+      (λ none. keeps_commands rule.Entry main (has, none))
 
   pub sound_image : IsSoundImage image commands
   sound_image = record { reads = reads_inside; one_segment = one_segment; sections = section_source; names = names_ended; entries = entry_runs }

@@ -14,7 +14,8 @@ module _ {n : ℕ} where
       (end, more ∙ (ap (λ l. l ++ concat parts) one ∙ append_assoc (inline_text s) x (concat parts)))
 
   -- an empty text holds afterwards the three parts that were written, the last of them from a hole
-  pub text_written : (s t : InlineText n) (first middle last : List ℕ) (hole : Option (List ℕ)) → inline_text s ≡ [] → IsIntact s → hole ≡ Some last → WritesText AppendsIfIntact s (Some first ++? Some middle ++? hole) t → inline_text t ≡ first ++ (middle ++ last)
+  pub text_written : (s t : InlineText n) (first middle last : List ℕ) (hole : Option (List ℕ)) → inline_text s ≡ [] → IsIntact s
+      → hole ≡ Some last → WritesText AppendsIfIntact s (Some first ++? Some middle ++? hole) t → inline_text t ≡ first ++ (middle ++ last)
   text_written s t first middle last hole empty intact is text =
       let wrote : WritesInCalls AppendsIfIntact s (first ++ (middle ++ last)) t = subst (λ o. WritesText AppendsIfIntact s (Some first ++? Some middle ++? o) t) is text in
       (after_calls s wrote.parts t wrote.calls intact).1 ∙ (ap (λ l. l ++ concat wrote.parts) empty ∙ wrote.whole)

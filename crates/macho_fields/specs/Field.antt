@@ -1,6 +1,7 @@
 -- Bytes as numbers, and ranges of places. A file is a list of bytes. A place is an offset in bytes
 -- from its start.
-use Rattle.std.specs.Prelude.{◌≡◌, ℕ, ◌+◌, ◌≤◌, ◌<◌, List, length, drop, take, slice_index, Option, Some, None, nat_le, if◌then◌else◌}
+use Rattle.std.specs.Prelude.{◌≡◌, ℕ, ◌+◌, ◌≤◌, ◌<◌, ◌==◌, List, length, drop, take, slice_index, Option, Some, None, nat_le, if◌then◌else◌}
+use Rattle.std.specs.List.{before_first}
 use Rattle.byteorder.specs.Endian.{big_number, little_number}
 use Rattle.macho_fields.specs.declared.bytes.Order.{Order}
 use Rattle.macho_fields.specs.declared.bytes.Order.TheVariants.{Big, Little}
@@ -19,6 +20,10 @@ field order width bytes place =
 -- the len bytes from start on
 abbrev pub part : ℕ → ℕ → List ℕ → List ℕ
 part start len bytes = take len (drop start bytes)
+
+-- the bytes from start on, up to the first zero byte
+abbrev pub string_from : ℕ → List ℕ → List ℕ
+string_from start bytes = before_first (λ byte. byte == 0) (drop start bytes)
 
 -- a place is one of the len places from start on
 abbrev pub Covers : ℕ → ℕ → ℕ → Type 0

@@ -6,6 +6,7 @@ use Rattle.macho_fields.specs.declared.header.fat.TheConstants as fat
 use Rattle.macho_fields.specs.declared.header.loader.TheConstants as loader
 use Rattle.macho_fields.specs.declared.header.machine.TheConstants as machine
 use Rattle.macho_fields.specs.declared.header.nlist.TheConstants as nlist
+use Rattle.macho_fields.specs.declared.header.reloc.TheConstants as reloc
 use Rattle.macho_fields.specs.declared.header.vm_prot.TheConstants as vm_prot
 
 -- mach-o/fat.h
@@ -22,9 +23,7 @@ pub record AreFatConstants : Type 0 where
 pub record AreLoaderConstants : Type 0 where
   -- mach_header.magic and mach_header_64.magic
   pub MH_MAGIC : loader.MH_MAGIC ≡ 0xfeedface
-  pub MH_CIGAM : loader.MH_CIGAM ≡ 0xcefaedfe
   pub MH_MAGIC_64 : loader.MH_MAGIC_64 ≡ 0xfeedfacf
-  pub MH_CIGAM_64 : loader.MH_CIGAM_64 ≡ 0xcffaedfe
   -- mach_header_64.filetype
   pub MH_EXECUTE : loader.MH_EXECUTE ≡ 0x2
   pub MH_DYLIB : loader.MH_DYLIB ≡ 0x6
@@ -34,6 +33,13 @@ pub record AreLoaderConstants : Type 0 where
   pub LOAD_COMMAND_SIZE : loader.LOAD_COMMAND_SIZE ≡ 8
   pub SEGMENT_COMMAND_64_SIZE : loader.SEGMENT_COMMAND_64_SIZE ≡ 72
   pub SECTION_64_SIZE : loader.SECTION_64_SIZE ≡ 80
+  -- the sizes of build_tool_version, dylib_table_of_contents, dylib_module_64, dylib_reference, and
+  -- of an entry of the indirect symbol table
+  pub BUILD_TOOL_VERSION_SIZE : loader.BUILD_TOOL_VERSION_SIZE ≡ 8
+  pub DYLIB_TABLE_OF_CONTENTS_SIZE : loader.DYLIB_TABLE_OF_CONTENTS_SIZE ≡ 8
+  pub DYLIB_MODULE_64_SIZE : loader.DYLIB_MODULE_64_SIZE ≡ 56
+  pub DYLIB_REFERENCE_SIZE : loader.DYLIB_REFERENCE_SIZE ≡ 4
+  pub INDIRECT_ENTRY_SIZE : loader.INDIRECT_ENTRY_SIZE ≡ 4
   -- load_command.cmd
   pub LC_SYMTAB : loader.LC_SYMTAB ≡ 0x2
   pub LC_DYSYMTAB : loader.LC_DYSYMTAB ≡ 0xb
@@ -95,8 +101,11 @@ pub record AreNlistConstants : Type 0 where
   -- the size of nlist_64
   pub NLIST_64_SIZE : nlist.NLIST_64_SIZE ≡ 16
 
+-- mach-o/reloc.h
+pub record AreRelocConstants : Type 0 where
+  -- the size of relocation_info
+  pub RELOCATION_INFO_SIZE : reloc.RELOCATION_INFO_SIZE ≡ 8
+
 -- mach/vm_prot.h
 pub record AreVmProtConstants : Type 0 where
-  pub VM_PROT_READ : vm_prot.VM_PROT_READ ≡ 0x01
-  pub VM_PROT_WRITE : vm_prot.VM_PROT_WRITE ≡ 0x02
   pub VM_PROT_EXECUTE : vm_prot.VM_PROT_EXECUTE ≡ 0x04

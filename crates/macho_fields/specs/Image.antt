@@ -1,7 +1,7 @@
 -- An image, its header and its chain of load commands. The fields of an image are little-endian,
 -- and its places are counted from its own first byte. (mach-o/loader.h: mach_header_64,
 -- load_command)
-use Rattle.std.specs.Prelude.{◌≡◌, ℕ, ◌+◌, ◌%◌, ◌≤◌, ◌==◌, List, [], ◌∷◌, length, filter}
+use Rattle.std.specs.Prelude.{◌≡◌, ℕ, zero, suc, ◌+◌, ◌%◌, ◌≤◌, ◌==◌, List, [], ◌∷◌, length, filter}
 use Rattle.macho_fields.specs.Field.{number}
 use Rattle.macho_fields.specs.declared.bytes.Order.TheVariants.{Little}
 use Rattle.macho_fields.specs.declared.header.loader.TheConstants as loader
@@ -61,6 +61,18 @@ IsChain image places next = Follow image loader.MACH_HEADER_64_SIZE places next
 abbrev pub AreCommands : List ℕ → List ℕ → Type 0
 AreCommands image commands =
     (length commands ≡ command_count image) × (next : ℕ) × IsChain image commands next
+
+-- so many places, of which the first is at start, and each other one cmdsize bytes after the one
+-- before it
+abbrev pub places_from : List ℕ → ℕ → ℕ → List ℕ
+places_from image start zero = []
+places_from image start (suc left) =
+    start ∷ places_from image (start + command_size image start) left
+
+-- The places of all commands of an image whose walk does not break: AreCommands holds of this list
+-- and of no other.
+abbrev pub commands_of : List ℕ → List ℕ
+commands_of image = places_from image loader.MACH_HEADER_64_SIZE (command_count image)
 
 -- the commands of one kind, in order
 abbrev pub of_kind : List ℕ → ℕ → List ℕ → List ℕ

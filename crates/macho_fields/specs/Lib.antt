@@ -5,6 +5,8 @@ pub mod Span
 pub mod RuleNames
 pub mod Universal
 pub mod Image
+pub mod LoadCommands
+pub mod FileTypes
 pub mod Command
 pub mod Segment
 pub mod Symbol

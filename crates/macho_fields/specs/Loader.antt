@@ -3,18 +3,19 @@
 use Rattle.std.specs.Prelude.{◌≡◌, ◌≢◌, ℕ, ◌+◌, ◌*◌, ◌≤◌, ◌<◌, ◌⊎◌, List, length, false, Any, slice_index, Some, All, Contains, slice_get, IsSomeAnd}
 use Rattle.macho_fields.specs.Field.{Covers, HasZero}
 use Rattle.macho_fields.specs.Universal.{FileSlice, slices_of, slice_bytes, HasPlace, IsImage, IsUniversal, table_end}
-use Rattle.macho_fields.specs.Image.{command_kind, command_size, of_kind, AreCommands}
-use Rattle.macho_fields.specs.Command.{structures, records_size, named_kinds, name_start}
+use Rattle.macho_fields.specs.Image.{command_size, of_kind, AreCommands}
+use Rattle.macho_fields.specs.Command.{HasStructure, least_size, IsNamed, name_start}
 use Rattle.macho_fields.specs.Segment.{segments_of, sections_in, fileoff, filesize, section_size, section_offset, reloff, nreloc, is_zero_fill, vmsize, section_address, Supplies, File, source, base_of, entryoff, IsExecutable}
 use Rattle.macho_fields.specs.Symbol.{nsyms, symoff, stroff, strsize, n_strx, tables_of}
 use Rattle.macho_fields.specs.declared.header.loader.TheConstants as loader
 use Rattle.macho_fields.specs.declared.header.nlist.TheConstants as nlist
+use Rattle.macho_fields.specs.declared.header.reloc.TheConstants as reloc
 
 -- A name, by its start and by the end of what has to contain it: the name of a command, and the
 -- command; or the name of a symbol with an n_strx, and the string table.
 abbrev pub IsName : List ℕ → List ℕ → ℕ → ℕ → Type 0
 IsName image commands start end =
-    Any (λ command. Any (λ named. named.0 ≡ command_kind image command) named_kinds
+    Any (λ command. IsNamed image command
     × (start ≡ name_start image command) × (end ≡ command + command_size image command)) commands
     ⊎ Any (λ symtab. (k : ℕ) × (k < nsyms image symtab)
     × let strx = n_strx image (symoff image symtab + nlist.NLIST_64_SIZE * k) in
@@ -23,13 +24,14 @@ IsName image commands start end =
     (of_kind image loader.LC_SYMTAB commands)
 
 -- A table, by its start and its length in bytes: one that a command bounds, or the relocations of a
--- section (mach-o/reloc.h: relocation_info of 8 bytes).
+-- section (mach-o/reloc.h: relocation_info).
 abbrev pub IsTable : List ℕ → List ℕ → ℕ → ℕ → Type 0
 IsTable image commands start len =
     Any (λ command. Any (λ table. (0 < table.1) × (start ≡ table.0) × (len ≡ table.1 * table.2))
     (tables_of image command)) commands
     ⊎ Any (λ segment. Any (λ section. (0 < nreloc image section) × (start ≡ reloff image section)
-    × (len ≡ 8 * nreloc image section)) (sections_in image segment)) (segments_of image commands)
+    × (len ≡ reloc.RELOCATION_INFO_SIZE * nreloc image section)) (sections_in image segment))
+    (segments_of image commands)
 
 -- The loader reads a place: in the header; in a command; in the structure of a listed command and
 -- its records; in the file range of a segment; in that of a section that is not zero-fill; in a
@@ -40,8 +42,8 @@ pub data Reads (image commands : List ℕ) (place : ℕ) : Type 0 where
       Any (λ command. Covers command (command_size image command) place) commands
       → Reads image commands place
   in_structure :
-      Any (λ command. Any (λ structure. (structure.0 ≡ command_kind image command)
-      × Covers command (structure.1 + records_size image command) place) structures) commands
+      Any (λ command. HasStructure image command (λ structure.
+      Covers command (least_size image command structure) place)) commands
       → Reads image commands place
   in_segment :
       Any (λ segment. Covers (fileoff image segment) (filesize image segment) place)

@@ -1,11 +1,12 @@
 -- Where each rule is broken: the rule, and the place that is reported. docs/RULES.md says the same
 -- in words, and names the structures. A rule is judged where the rules before it are unbroken.
-use Rattle.std.specs.Prelude.{◌≡◌, ◌≢◌, ℕ, ◌+◌, ◌*◌, ◌^◌, ◌≤◌, ◌<◌, ◌⊎◌, List, length, false, Option, IsSomeAnd, Any, All, Contains}
-use Rattle.macho_fields.specs.Universal.{FileSlice, IsUniversal, entry_count, entry_place, entry_align, entry_slice, slices_of, table_end, slice_bytes, masked, HasPlace, IsImage, IsUnreadImage}
-use Rattle.macho_fields.specs.Image.{word, cpu_type, cpu_subtype, file_type, command_count, commands_end, command_kind, IsGood, IsChain, AreCommands, of_kind}
-use Rattle.macho_fields.specs.Command.{IsShort, unique_kinds, HasBadName, HasDylibId}
-use Rattle.macho_fields.specs.Segment.{segments_of, vmaddr, vmsize, fileoff, filesize, AtSection, section_count, section_address, section_size, section_offset, reloff, nreloc, is_zero_fill, Supplies, IsInFilePart, base_of, entryoff, IsExecutable}
-use Rattle.macho_fields.specs.Symbol.{symbol_count, indirectsymoff, nindirectsyms, groups_of, tables_of, IsOutside, AtSymbol, n_sect, HasEndlessName, NamesSection, IsSymbolIndex}
+use Rattle.std.specs.Prelude.{◌≡◌, ◌≢◌, ℕ, ◌+◌, ◌*◌, ◌^◌, ◌<◌, ◌⊎◌, List, length, Option, None, IsSomeAnd, Any, All, Contains}
+use Rattle.macho_fields.specs.Universal.{FileSlice, IsUniversal, entry_count, entry_place, entry_align, entry_slice, slices_of, table_end, slice_bytes, masked, HasPlace, IsImage, IsForeign}
+use Rattle.macho_fields.specs.Image.{word, cpu_type, cpu_subtype, file_type, command_count, commands_end, IsGood, IsChain, AreCommands, of_kind}
+use Rattle.macho_fields.specs.FileTypes.{file_type_of}
+use Rattle.macho_fields.specs.Command.{IsShort, RepeatsEarlier, IsMisnamed, HasBadName}
+use Rattle.macho_fields.specs.Segment.{segments_of, AtSection, section_count, PassesLastAddress, IsLongerInFile, PassesImage, OverlapsEarlier, IsOutsideMemory, IsMisplaced, HasRelocsOutside, HasNoEntry}
+use Rattle.macho_fields.specs.Symbol.{symbol_count, indirectsymoff, nindirectsyms, groups_of, tables_of, IsOutside, AtSymbol, HasEndlessName, IsInNoSection, PassesSymbols, NamesNoSymbol}
 use Rattle.macho_fields.specs.declared.header.loader.TheConstants as loader
 use Rattle.macho_fields.specs.declared.rule.Rule.{Rule}
 use Rattle.macho_fields.specs.declared.rule.Rule.TheVariants as rule
@@ -46,8 +47,7 @@ BreaksFile file rule.FatDuplicate place =
     place
 BreaksFile file rule.FatSliceMagic place =
     IsUniversal file
-    × Any (λ slice. (place ≡ slice.start)
-    × ¬ (IsImage (slice_bytes file slice) ⊎ IsUnreadImage (slice_bytes file slice)))
+    × Any (λ slice. (place ≡ slice.start) × IsForeign (slice_bytes file slice))
     (slices_of file)
 BreaksFile file rule.FatEmpty place =
     (place ≡ 4) × IsUniversal file
@@ -64,7 +64,7 @@ BreaksHeader image arch rule.ArchMismatch place =
     × IsSomeAnd arch (λ pair.
     (pair.0 ≢ cpu_type image) ⊎ (masked pair.1 ≢ masked (cpu_subtype image)))
 BreaksHeader image arch rule.FileType place =
-    (place ≡ 12) × (file_type image ≢ loader.MH_EXECUTE) × (file_type image ≢ loader.MH_DYLIB)
+    (place ≡ 12) × (file_type_of (file_type image) ≡ None)
 BreaksHeader image arch rule.CommandsOutside place =
     (place ≡ 20) × (length image < commands_end image)
 BreaksHeader image arch rule.CommandWalk place =
@@ -78,63 +78,40 @@ abbrev pub BreaksCommands : List ℕ → List ℕ → Rule → ℕ → Type 0
 BreaksCommands image commands rule.CommandShort place =
     Contains commands place × IsShort image place
 BreaksCommands image commands rule.CommandRepeated place =
-    Contains commands place × Contains unique_kinds (command_kind image place)
-    × Any (λ earlier.
-    (earlier < place) × (command_kind image earlier ≡ command_kind image place)) commands
+    Contains commands place × RepeatsEarlier image commands place
 BreaksCommands image commands rule.DylibId place =
-    (place ≡ 12)
-    × (((file_type image ≡ loader.MH_DYLIB) × ¬ HasDylibId image commands)
-    ⊎ ((file_type image ≡ loader.MH_EXECUTE) × HasDylibId image commands))
+    (place ≡ 12) × IsMisnamed image commands
 BreaksCommands image commands rule.Name place = Contains commands place × HasBadName image place
 BreaksCommands image commands rule.SegmentAddress place =
-    Contains (segments_of image commands) place × (2 ^ 64 < vmaddr image place + vmsize image place)
+    Contains (segments_of image commands) place × PassesLastAddress image place
 BreaksCommands image commands rule.SegmentSize place =
-    Contains (segments_of image commands) place
-    × (0 < vmsize image place) × (vmsize image place < filesize image place)
+    Contains (segments_of image commands) place × IsLongerInFile image place
 BreaksCommands image commands rule.SegmentFile place =
-    Contains (segments_of image commands) place
-    × (0 < filesize image place) × (length image < fileoff image place + filesize image place)
+    Contains (segments_of image commands) place × PassesImage image place
 BreaksCommands image commands rule.SegmentOverlap place =
-    Contains (segments_of image commands) place
-    × Any (λ earlier. (earlier < place)
-    × ((address : ℕ) × Supplies image earlier address × Supplies image place address))
-    (segments_of image commands)
+    Contains (segments_of image commands) place × OverlapsEarlier image commands place
 BreaksCommands image commands rule.SectionAddress place =
-    AtSection image commands (λ segment section.
-    (0 < vmsize image segment) × (0 < section_size image section)
-    × ¬ ((vmaddr image segment ≤ section_address image section)
-    × (section_address image section + section_size image section
-    ≤ vmaddr image segment + vmsize image segment))) place
+    AtSection image commands (IsOutsideMemory image) place
 BreaksCommands image commands rule.SectionFile place =
-    AtSection image commands (λ segment section.
-    (0 < section_size image section) × (is_zero_fill image section ≡ false)
-    × (((0 < vmsize image segment) × ¬ IsInFilePart image segment section)
-    ⊎ ((vmsize image segment ≡ 0)
-    × (length image < section_offset image section + section_size image section)))) place
+    AtSection image commands (IsMisplaced image) place
 BreaksCommands image commands rule.SectionRelocs place =
-    AtSection image commands (λ segment section.
-    (0 < nreloc image section)
-    × (length image < reloff image section + 8 * nreloc image section)) place
+    AtSection image commands (λ segment. HasRelocsOutside image) place
 BreaksCommands image commands rule.TableRange place =
     Contains commands place × Any (IsOutside image) (tables_of image place)
 BreaksCommands image commands rule.SymbolGroup place =
     Contains (of_kind image loader.LC_DYSYMTAB commands) place
-    × Any (λ group. (0 < group.1) × (symbol_count image commands < group.0 + group.1))
-    (groups_of image place)
+    × Any (PassesSymbols (symbol_count image commands)) (groups_of image place)
 BreaksCommands image commands rule.SymbolName place =
     AtSymbol image commands (HasEndlessName image) place
 BreaksCommands image commands rule.SymbolSection place =
-    AtSymbol image commands (λ symtab symbol. NamesSection image symbol
-    × ((n_sect image symbol ≡ 0) ⊎ (section_count image commands < n_sect image symbol))) place
+    AtSymbol image commands (λ symtab. IsInNoSection image (section_count image commands)) place
 BreaksCommands image commands rule.IndirectIndex place =
     Any (λ dysymtab. (k : ℕ) × (k < nindirectsyms image dysymtab)
     × (place ≡ indirectsymoff image dysymtab + 4 * k)
-    × IsSymbolIndex (word image place) × (symbol_count image commands ≤ word image place))
+    × NamesNoSymbol (symbol_count image commands) (word image place))
     (of_kind image loader.LC_DYSYMTAB commands)
 BreaksCommands image commands rule.Entry place =
-    Contains (of_kind image loader.LC_MAIN commands) place
-    × ¬ IsSomeAnd (base_of image commands)
-    (λ base. IsExecutable image commands (base + entryoff image place))
+    Contains (of_kind image loader.LC_MAIN commands) place × HasNoEntry image commands place
 BreaksCommands image commands other place = ⊥
 
 -- An image breaks a rule of its header and walk, or one that needs its commands.

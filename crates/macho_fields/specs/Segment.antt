@@ -1,6 +1,6 @@
 -- Segments, their sections, and what is at an address. A segment and a section are named by the
 -- place of their structure. (mach-o/loader.h: segment_command_64, section_64, entry_point_command)
-use Rattle.std.specs.Prelude.{◌&&◌, ◌||◌, ◌≡◌, ◌≢◌, ℕ, ◌+◌, ◌-◌, ◌*◌, ◌%◌, ◌≤◌, ◌<◌, ◌==◌, nat_lt, List, map, find, sum_by, Any, Contains, Option, Bool, bit_and, if◌then◌else◌}
+use Rattle.std.specs.Prelude.{◌&&◌, ◌||◌, ◌≡◌, ◌≢◌, ℕ, ◌+◌, ◌-◌, ◌*◌, ◌%◌, ◌^◌, ◌≤◌, ◌<◌, ◌==◌, ◌⊎◌, nat_lt, List, length, map, find, sum_by, Any, Contains, Option, IsSomeAnd, Bool, false, bit_and, if◌then◌else◌}
 use Rattle.std.specs.List.{range_with_len}
 use Rattle.std.specs.Option.{option_map}
 use Rattle.macho_fields.specs.Field.{Covers}
@@ -98,21 +98,80 @@ IsInFilePart image segment section =
     (section_offset image section ≡ fileoff image segment + past)
     × (past + section_size image section ≤ filesize image segment)
 
--- the vmaddr of the first mapped segment that has the start of the file
+-- a segment is mapped, and has the start of the file
+abbrev pub shows_start : List ℕ → ℕ → Bool
+shows_start image segment =
+    fileoff image segment == 0 && nat_lt 0 (filesize image segment)
+    && nat_lt 0 (vmsize image segment)
+
+-- the vmaddr of the first such segment
 abbrev pub base_of : List ℕ → List ℕ → Option ℕ
 base_of image commands =
-    option_map (vmaddr image)
-    (find (λ segment. fileoff image segment == 0 && nat_lt 0 (filesize image segment)
-    && nat_lt 0 (vmsize image segment)) (segments_of image commands))
+    option_map (vmaddr image) (find (shows_start image) (segments_of image commands))
 
 -- entry_point_command: entryoff at 8, which is counted from the base
 abbrev pub entryoff : List ℕ → ℕ → ℕ
 entryoff image command = long image (command + 8)
 
--- a mapped segment has a byte of the file at the address, and its initprot allows execution
+-- the segment has a byte of the file at the address, and its initprot allows execution
 -- (mach/vm_prot.h: VM_PROT_EXECUTE)
+abbrev pub RunsAt : List ℕ → ℕ → ℕ → Type 0
+RunsAt image address segment =
+    Supplies image segment address × (address < vmaddr image segment + filesize image segment)
+    × (bit_and (initprot image segment) vm_prot.VM_PROT_EXECUTE ≢ 0)
+
+-- some segment runs at the address
 abbrev pub IsExecutable : List ℕ → List ℕ → ℕ → Type 0
-IsExecutable image commands address =
-    Any (λ segment. Supplies image segment address
-    × (address < vmaddr image segment + filesize image segment)
-    × (bit_and (initprot image segment) vm_prot.VM_PROT_EXECUTE ≢ 0)) (segments_of image commands)
+IsExecutable image commands address = Any (RunsAt image address) (segments_of image commands)
+
+-- What the rules of segments and sections say of one of them
+
+-- the addresses of the segment end past 2^64
+abbrev pub PassesLastAddress : List ℕ → ℕ → Type 0
+PassesLastAddress image segment = 2 ^ 64 < vmaddr image segment + vmsize image segment
+
+-- the segment is mapped, and has more bytes in the file than in memory
+abbrev pub IsLongerInFile : List ℕ → ℕ → Type 0
+IsLongerInFile image segment =
+    (0 < vmsize image segment) × (vmsize image segment < filesize image segment)
+
+-- the segment has bytes in the file, and they end past the image
+abbrev pub PassesImage : List ℕ → ℕ → Type 0
+PassesImage image segment =
+    (0 < filesize image segment) × (length image < fileoff image segment + filesize image segment)
+
+-- an earlier segment supplies an address of the segment
+abbrev pub OverlapsEarlier : List ℕ → List ℕ → ℕ → Type 0
+OverlapsEarlier image commands segment =
+    Any (λ earlier. (earlier < segment)
+    × ((address : ℕ) × Supplies image earlier address × Supplies image segment address))
+    (segments_of image commands)
+
+-- the segment is mapped, and its section has an address outside the segment
+abbrev pub IsOutsideMemory : List ℕ → ℕ → ℕ → Type 0
+IsOutsideMemory image segment section =
+    (0 < vmsize image segment) × (0 < section_size image section)
+    × ¬ ((vmaddr image segment ≤ section_address image section)
+    × (section_address image section + section_size image section
+    ≤ vmaddr image segment + vmsize image segment))
+
+-- The section has bytes, and they are not where its addresses say; or, where the segment is not
+-- mapped, they end past the image.
+abbrev pub IsMisplaced : List ℕ → ℕ → ℕ → Type 0
+IsMisplaced image segment section =
+    (0 < section_size image section) × (is_zero_fill image section ≡ false)
+    × (((0 < vmsize image segment) × ¬ IsInFilePart image segment section)
+    ⊎ ((vmsize image segment ≡ 0)
+    × (length image < section_offset image section + section_size image section)))
+
+-- the section has relocations, and they end past the image
+-- (mach-o/reloc.h: relocation_info of 8 bytes)
+abbrev pub HasRelocsOutside : List ℕ → ℕ → Type 0
+HasRelocsOutside image section =
+    (0 < nreloc image section) × (length image < reloff image section + 8 * nreloc image section)
+
+-- there is no base, or no segment runs at the address that the LC_MAIN names
+abbrev pub HasNoEntry : List ℕ → List ℕ → ℕ → Type 0
+HasNoEntry image commands main =
+    ¬ IsSomeAnd (base_of image commands)
+    (λ base. IsExecutable image commands (base + entryoff image main))

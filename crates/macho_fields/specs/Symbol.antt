@@ -1,26 +1,42 @@
 -- The tables that commands bound, symbols and indirect entries.
--- (mach-o/loader.h: symtab_command, dysymtab_command, linkedit_data_command, dyld_info_command;
--- mach-o/nlist.h: nlist_64)
-use Rattle.std.specs.Prelude.{◌≡◌, ◌≢◌, ℕ, ◌+◌, ◌*◌, ◌<◌, ◌==◌, List, [], ◌∷◌, length, find, filter, map, Any, slice_index, bit_and}
+-- (mach-o/loader.h: symtab_command, dysymtab_command; mach-o/nlist.h: nlist_64)
+use Rattle.std.specs.Prelude.{◌≡◌, ◌≢◌, ℕ, ◌+◌, ◌*◌, ◌≤◌, ◌<◌, ◌==◌, ◌⊎◌, List, [], ◌∷◌, length, find, map, Any, slice_index, bit_and}
 use Rattle.std.specs.Option.{option_map_or}
 use Rattle.macho_fields.specs.Field.{number, HasZero}
 use Rattle.macho_fields.specs.Image.{word, long, command_kind, of_kind}
+use Rattle.macho_fields.specs.LoadCommands.{structure_of, width_size, table_fields, symbol_table}
+use Rattle.macho_fields.specs.LoadCommands.{string_table, contents_table, module_table}
+use Rattle.macho_fields.specs.LoadCommands.{reference_table, indirect_table, external_relocations}
+use Rattle.macho_fields.specs.LoadCommands.{local_relocations}
 use Rattle.macho_fields.specs.declared.bytes.Order.TheVariants.{Little}
+use Rattle.macho_fields.specs.declared.load_command.TableFields.{TableFields}
+use Rattle.macho_fields.specs.declared.load_command.Width.{Width}
 use Rattle.macho_fields.specs.declared.header.loader.TheConstants as loader
 use Rattle.macho_fields.specs.declared.header.nlist.TheConstants as nlist
 
--- symtab_command: symoff at 8, nsyms 12, stroff 16, strsize 20
+-- the number in a field of the width
+abbrev pub number_of : Width → List ℕ → ℕ → ℕ
+number_of width image place = number Little (width_size width) image place
+
+-- a table that a command bounds: the place of its first item, and how many items it has
+abbrev pub table_place : List ℕ → ℕ → TableFields → ℕ
+table_place image command fields = number_of fields.width image (command + fields.place)
+
+abbrev pub item_count : List ℕ → ℕ → TableFields → ℕ
+item_count image command fields = number_of fields.width image (command + fields.count)
+
+-- symtab_command
 abbrev pub symoff : List ℕ → ℕ → ℕ
-symoff image symtab = word image (symtab + 8)
+symoff image symtab = table_place image symtab symbol_table
 
 abbrev pub nsyms : List ℕ → ℕ → ℕ
-nsyms image symtab = word image (symtab + 12)
+nsyms image symtab = item_count image symtab symbol_table
 
 abbrev pub stroff : List ℕ → ℕ → ℕ
-stroff image symtab = word image (symtab + 16)
+stroff image symtab = table_place image symtab string_table
 
 abbrev pub strsize : List ℕ → ℕ → ℕ
-strsize image symtab = word image (symtab + 20)
+strsize image symtab = item_count image symtab string_table
 
 -- how many symbols an image has: nsyms of its LC_SYMTAB, 0 where there is none
 abbrev pub symbol_count : List ℕ → List ℕ → ℕ
@@ -28,56 +44,79 @@ symbol_count image commands =
     option_map_or (nsyms image)
     (find (λ command. command_kind image command == loader.LC_SYMTAB) commands) 0
 
--- dysymtab_command: indirectsymoff at 56, nindirectsyms 60
+-- dysymtab_command: ilocalsym at 8, nlocalsym 12, iextdefsym 16, nextdefsym 20, iundefsym 24,
+-- nundefsym 28, and its tables
+abbrev pub ilocalsym : List ℕ → ℕ → ℕ
+ilocalsym image dysymtab = word image (dysymtab + 8)
+
+abbrev pub nlocalsym : List ℕ → ℕ → ℕ
+nlocalsym image dysymtab = word image (dysymtab + 12)
+
+abbrev pub iextdefsym : List ℕ → ℕ → ℕ
+iextdefsym image dysymtab = word image (dysymtab + 16)
+
+abbrev pub nextdefsym : List ℕ → ℕ → ℕ
+nextdefsym image dysymtab = word image (dysymtab + 20)
+
+abbrev pub iundefsym : List ℕ → ℕ → ℕ
+iundefsym image dysymtab = word image (dysymtab + 24)
+
+abbrev pub nundefsym : List ℕ → ℕ → ℕ
+nundefsym image dysymtab = word image (dysymtab + 28)
+
+abbrev pub tocoff : List ℕ → ℕ → ℕ
+tocoff image dysymtab = table_place image dysymtab contents_table
+
+abbrev pub ntoc : List ℕ → ℕ → ℕ
+ntoc image dysymtab = item_count image dysymtab contents_table
+
+abbrev pub modtaboff : List ℕ → ℕ → ℕ
+modtaboff image dysymtab = table_place image dysymtab module_table
+
+abbrev pub nmodtab : List ℕ → ℕ → ℕ
+nmodtab image dysymtab = item_count image dysymtab module_table
+
+abbrev pub extrefsymoff : List ℕ → ℕ → ℕ
+extrefsymoff image dysymtab = table_place image dysymtab reference_table
+
+abbrev pub nextrefsyms : List ℕ → ℕ → ℕ
+nextrefsyms image dysymtab = item_count image dysymtab reference_table
+
 abbrev pub indirectsymoff : List ℕ → ℕ → ℕ
-indirectsymoff image dysymtab = word image (dysymtab + 56)
+indirectsymoff image dysymtab = table_place image dysymtab indirect_table
 
 abbrev pub nindirectsyms : List ℕ → ℕ → ℕ
-nindirectsyms image dysymtab = word image (dysymtab + 60)
+nindirectsyms image dysymtab = item_count image dysymtab indirect_table
 
--- The three groups of symbols of a dysymtab_command, each a first index and a count: ilocalsym at 8
--- and nlocalsym 12, iextdefsym 16 and nextdefsym 20, iundefsym 24 and nundefsym 28.
+abbrev pub extreloff : List ℕ → ℕ → ℕ
+extreloff image dysymtab = table_place image dysymtab external_relocations
+
+abbrev pub nextrel : List ℕ → ℕ → ℕ
+nextrel image dysymtab = item_count image dysymtab external_relocations
+
+abbrev pub locreloff : List ℕ → ℕ → ℕ
+locreloff image dysymtab = table_place image dysymtab local_relocations
+
+abbrev pub nlocrel : List ℕ → ℕ → ℕ
+nlocrel image dysymtab = item_count image dysymtab local_relocations
+
+-- the three groups of symbols of a dysymtab_command, each a first index and a count
 abbrev pub groups_of : List ℕ → ℕ → List (ℕ × ℕ)
 groups_of image dysymtab =
-    (word image (dysymtab + 8), word image (dysymtab + 12))
-    ∷ (word image (dysymtab + 16), word image (dysymtab + 20))
-    ∷ (word image (dysymtab + 24), word image (dysymtab + 28)) ∷ []
-
--- The tables that commands bound: the kind of the command; the offset in it of the field with the
--- place of the table; that of the field with the count of its items; the size of an item. The
--- places are symoff and stroff of symtab_command; tocoff, modtaboff, extrefsymoff, indirectsymoff,
--- extreloff and locreloff of dysymtab_command; dataoff of linkedit_data_command; rebase_off,
--- bind_off, weak_bind_off, lazy_bind_off and export_off of dyld_info_command. The items of
--- dysymtab_command are dylib_table_of_contents of 8 bytes, dylib_module_64 of 56, dylib_reference
--- of 4, indirect entries of 4, and twice relocation_info of 8.
-abbrev pub table_fields : List (ℕ × ℕ × ℕ × ℕ)
-table_fields =
-    (loader.LC_SYMTAB, 8, 12, nlist.NLIST_64_SIZE) ∷ (loader.LC_SYMTAB, 16, 20, 1)
-    ∷ (loader.LC_DYSYMTAB, 32, 36, 8) ∷ (loader.LC_DYSYMTAB, 40, 44, 56)
-    ∷ (loader.LC_DYSYMTAB, 48, 52, 4) ∷ (loader.LC_DYSYMTAB, 56, 60, 4)
-    ∷ (loader.LC_DYSYMTAB, 64, 68, 8) ∷ (loader.LC_DYSYMTAB, 72, 76, 8)
-    ∷ (loader.LC_CODE_SIGNATURE, 8, 12, 1) ∷ (loader.LC_SEGMENT_SPLIT_INFO, 8, 12, 1)
-    ∷ (loader.LC_FUNCTION_STARTS, 8, 12, 1) ∷ (loader.LC_DATA_IN_CODE, 8, 12, 1)
-    ∷ (loader.LC_DYLIB_CODE_SIGN_DRS, 8, 12, 1)
-    ∷ (loader.LC_LINKER_OPTIMIZATION_HINT, 8, 12, 1)
-    ∷ (loader.LC_DYLD_EXPORTS_TRIE, 8, 12, 1) ∷ (loader.LC_DYLD_CHAINED_FIXUPS, 8, 12, 1)
-    ∷ (loader.LC_DYLD_INFO, 8, 12, 1) ∷ (loader.LC_DYLD_INFO, 16, 20, 1)
-    ∷ (loader.LC_DYLD_INFO, 24, 28, 1) ∷ (loader.LC_DYLD_INFO, 32, 36, 1)
-    ∷ (loader.LC_DYLD_INFO, 40, 44, 1)
-    ∷ (loader.LC_DYLD_INFO_ONLY, 8, 12, 1) ∷ (loader.LC_DYLD_INFO_ONLY, 16, 20, 1)
-    ∷ (loader.LC_DYLD_INFO_ONLY, 24, 28, 1) ∷ (loader.LC_DYLD_INFO_ONLY, 32, 36, 1)
-    ∷ (loader.LC_DYLD_INFO_ONLY, 40, 44, 1) ∷ []
+    (ilocalsym image dysymtab, nlocalsym image dysymtab)
+    ∷ (iextdefsym image dysymtab, nextdefsym image dysymtab)
+    ∷ (iundefsym image dysymtab, nundefsym image dysymtab) ∷ []
 
 -- a table: the place of its first item, the count of its items, the size of an item
-abbrev pub table_at : List ℕ → ℕ → ℕ × ℕ × ℕ × ℕ → ℕ × ℕ × ℕ
+abbrev pub table_at : List ℕ → ℕ → TableFields → ℕ × ℕ × ℕ
 table_at image command fields =
-    (word image (command + fields.1), word image (command + fields.2), fields.3)
+    (table_place image command fields, item_count image command fields, fields.item_size)
 
 -- the tables of a command
 abbrev pub tables_of : List ℕ → ℕ → List (ℕ × ℕ × ℕ)
 tables_of image command =
-    map (table_at image command)
-    (filter (λ fields. fields.0 == command_kind image command) table_fields)
+    option_map_or (λ structure. map (table_at image command) (table_fields structure))
+    (structure_of (command_kind image command)) []
 
 -- a table that has items ends past the image
 abbrev pub IsOutside : List ℕ → ℕ × ℕ × ℕ → Type 0
@@ -121,8 +160,22 @@ NamesSection image symbol =
     (bit_and (n_type image symbol) nlist.N_STAB ≡ 0)
     × (bit_and (n_type image symbol) nlist.N_TYPE ≡ nlist.N_SECT)
 
+-- the symbol names a section, and none of so many sections has its number
+abbrev pub IsInNoSection : List ℕ → ℕ → ℕ → Type 0
+IsInNoSection image sections symbol =
+    NamesSection image symbol
+    × ((n_sect image symbol ≡ 0) ⊎ (sections < n_sect image symbol))
+
+-- a group of symbols that is not empty ends past so many symbols
+abbrev pub PassesSymbols : ℕ → ℕ × ℕ → Type 0
+PassesSymbols symbols group = (0 < group.1) × (symbols < group.0 + group.1)
+
 -- an indirect entry is the index of a symbol: it is marked neither local nor absolute
 abbrev pub IsSymbolIndex : ℕ → Type 0
 IsSymbolIndex entry =
     (bit_and entry loader.INDIRECT_SYMBOL_LOCAL ≡ 0)
     × (bit_and entry loader.INDIRECT_SYMBOL_ABS ≡ 0)
+
+-- an indirect entry is an index that none of so many symbols has
+abbrev pub NamesNoSymbol : ℕ → ℕ → Type 0
+NamesNoSymbol symbols entry = IsSymbolIndex entry × (symbols ≤ entry)

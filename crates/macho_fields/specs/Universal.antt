@@ -88,3 +88,7 @@ IsUnreadImage bytes =
     (4 ≤ length bytes)
     × ((number Little 4 bytes 0 ≡ loader.MH_MAGIC) ⊎ (number Big 4 bytes 0 ≡ loader.MH_MAGIC)
     ⊎ (number Big 4 bytes 0 ≡ loader.MH_MAGIC_64))
+
+-- They begin with that of neither.
+abbrev pub IsForeign : List ℕ → Type 0
+IsForeign bytes = ¬ (IsImage bytes ⊎ IsUnreadImage bytes)

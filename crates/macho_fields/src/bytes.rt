@@ -2,7 +2,7 @@
 
 ghost use Rattle.std.specs.Prelude.{◌≡◌, ◌+◌, ◌≤◌, ◌↔◌, [], length, slice_get, IsTrue, IsSome, IfSome};
 ghost use Rattle.macho_fields.specs.Bytes.{bytes_of};
-ghost use Rattle.macho_fields.specs.Field.{field, part, HasZero};
+ghost use Rattle.macho_fields.specs.Field.{field, part, string_from, HasZero};
 ghost use Rattle.macho_fields.specs.Span.{end_of, Holds};
 
 use crate::span::Span;
@@ -87,6 +87,13 @@ impl<'a> Bytes<'a> {
         })
     }
 
+    /// Whether `span` ends inside the bytes. An empty span is inside up to the very end.
+    pub fn contains(self, span: Span) -> bool
+        ensures { IsTrue result ↔ (end_of span ≤ length (bytes_of self.entry)) }
+    {
+        span.end() <= u128::from(self.len())
+    }
+
     /// The bytes at the places of `span`, which are not copied, or `None` where `span` ends past
     /// them. An empty span has no bytes, and is inside up to the very end.
     pub fn part(self, span: Span) -> Option<&'a [u8]>
@@ -109,6 +116,17 @@ impl<'a> Bytes<'a> {
         let within = rest.get(..span.len as usize).unwrap_or(rest);
         let index = memchr(0, within)?;
         Some(span.start + index as u64)
+    }
+
+    /// The bytes of `span` before the first zero byte in it, which are not copied, or `None` where
+    /// none of its bytes is zero.
+    pub fn string_in(self, span: Span) -> Option<&'a [u8]>
+        ensures ended { IsSome result ↔ HasZero (bytes_of self.entry) span.start (end_of span) }
+        ensures string { IfSome result (λ string.
+            string.now ≡ string_from span.start (bytes_of self.entry)) }
+    {
+        let end = self.first_zero(span)?;
+        self.bytes_at(span.start, end - span.start)
     }
 
     fn bytes_at(self, place: u64, width: u64) -> Option<&'a [u8]>

@@ -1,8 +1,10 @@
 //! The numbers of the public headers, by their public names. Each is stated once more, as one
-//! number, in `law::constants_are_those_of_the_headers`.
+//! number, in `law::constants_are_those_of_the_headers`; the offset of a field is stated where the
+//! definitions read the field.
 
 pub mod fat;
 pub mod loader;
 pub mod machine;
 pub mod nlist;
+pub mod reloc;
 pub mod vm_prot;

@@ -1,24 +1,27 @@
 //! What follows from the definitions alone. Each law is the contract of a function that does
 //! nothing when it is called: the premises are its `requires`, the conclusion its `ensures`.
 
-ghost use Rattle.std.specs.Prelude.{◌≡◌, ◌≤◌, ◌↔◌, length};
+ghost use Rattle.std.specs.Prelude.{◌≡◌, ◌≤◌, ◌↔◌, ℕ, None, length};
 ghost use Rattle.std.specs.List.Sorted.{IsStrictlyIncreasing};
 ghost use Rattle.macho_fields.specs.Header.{AreFatConstants, AreLoaderConstants};
 ghost use Rattle.macho_fields.specs.Header.{AreMachineConstants, AreNlistConstants};
-ghost use Rattle.macho_fields.specs.Header.{AreVmProtConstants};
-ghost use Rattle.macho_fields.specs.Image.{AreCommands};
+ghost use Rattle.macho_fields.specs.Header.{AreRelocConstants, AreVmProtConstants};
+ghost use Rattle.macho_fields.specs.Image.{AreCommands, commands_of};
 ghost use Rattle.macho_fields.specs.First.{IsFirstBroken, IsUnbroken};
 ghost use Rattle.macho_fields.specs.Loader.{IsSound};
+ghost use Rattle.macho_fields.specs.Rules.{BreaksImage};
+ghost use Rattle.macho_fields.specs.declared.rule.Rule.{Rule};
 
 use crate::rule::Break;
 
-/// Each constant of `header` is the number that its public header defines, as `specs/Header.antt`
-/// lists them.
+/// Each constant of `header` that is no offset of a field is the number that its public header
+/// defines, as `specs/Header.antt` lists them.
 pub fn constants_are_those_of_the_headers()
     ensures fat { AreFatConstants }
     ensures loader { AreLoaderConstants }
     ensures machine { AreMachineConstants }
     ensures nlist { AreNlistConstants }
+    ensures reloc { AreRelocConstants }
     ensures vm_prot { AreVmProtConstants }
 {}
 
@@ -29,6 +32,22 @@ pub fn commands_are_one(image: &[u8], commands: &[u64], others: &[u64])
     ensures { commands.now ≡ others.now }
 {
     let _image = image;
+}
+
+/// The list of commands of an image is counted off by their sizes.
+pub fn commands_are_counted_off(image: &[u8], commands: &[u64])
+    requires { AreCommands image.now commands.now }
+    ensures { commands.now ≡ commands_of image.now }
+{
+    let _counted_off = commands;
+}
+
+/// An image whose walk does not break has its commands.
+pub fn unbroken_walk_has_commands(image: &[u8])
+    requires { (place : ℕ) → ¬ BreaksImage image.now None Rule.CommandWalk place }
+    ensures { AreCommands image.now (commands_of image.now) }
+{
+    let _walked = image;
 }
 
 /// The places of the commands of an image rise.

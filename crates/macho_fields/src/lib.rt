@@ -3,11 +3,17 @@
 //! rules of the layout by name, and the constants of the public headers.
 
 pub mod bytes;
+pub mod file_type;
 pub mod header;
 pub mod law;
+pub mod load_command;
 pub mod rule;
 pub mod span;
 
 pub use bytes::{Bytes, Order};
+pub use file_type::{FileType, Kind, file_type_of};
+pub use load_command::{
+    LoadCommand, Records, Structure, TableFields, Width, is_unique, names_library, structure_of,
+};
 pub use rule::{Break, Rule};
 pub use span::{Span, table_end};

@@ -142,6 +142,14 @@ pub struct Break {
 const LONGEST_TEXT: usize = 40;
 
 impl Break {
+    /// The break of `rule` at `place`.
+    pub const fn at(rule: Rule, place: u64) -> Break
+        ensures rule { result.rule ≡ rule }
+        ensures place { result.place ≡ place }
+    {
+        Break { rule, place }
+    }
+
     /// The text in reports, with room for the longest.
     fn text(self) -> Result<InlineText<LONGEST_TEXT>, fmt::Error>
         ensures { IfOk result (λ text. inline_text text ≡ text_of self) }

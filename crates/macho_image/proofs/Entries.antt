@@ -1,41 +1,41 @@
 -- The base of an opened image, and the entry point of its program.
-use Rattle.std.proofs.Common.{◌≡◌, ℕ, ◌+◌, ◌<◌, inl, inr, ap₂, subst, List, [], ◌∷◌, map, cond, Bool, true, false, Option, None, Some, refl, sym, ap, ◌∙◌}
+use Rattle.std.proofs.Common.{◌≡◌, ℕ, ◌+◌, ◌<◌, inl, inr, ap₂, List, [], ◌∷◌, map, cond, Bool, true, false, Option, None, Some, refl, sym, ap, ◌∙◌}
 use Rattle.std.specs.Prelude.{find}
 use Rattle.std.specs.Option.{option_map, option_and_then, SomeIff}
 use Rattle.std.proofs.lemmas.Bool.{cases_lt, lt-ltb, le-ltb}
-use Rattle.macho_fields.specs.Segment.{vmaddr, segments_of, base_of, entryoff}
+use Rattle.macho_fields.specs.Segment.{vmaddr, segments_of, shows_start, base_of, entryoff}
 use Rattle.macho_fields.specs.declared.header.loader.TheConstants as loader
-use Rattle.macho_fields.proofs.Chains.{commands_unique}
-use Rattle.macho_image.specs.Command.{OfCommands, first_of_kind}
+use Rattle.macho_fields.specs.Image.{commands_of}
+use Rattle.macho_image.specs.Command.{first_of_kind}
 use Rattle.macho_image.specs.Single.{main_command_at}
 use Rattle.macho_image.specs.declared.main_command.MainCommand.{MainCommand}
-use Rattle.macho_image.specs.Segment.{Structure, structure_at}
-use Rattle.macho_image.specs.Entry.{shows_start, address, entry_of}
+use Rattle.macho_image.specs.Segment.{SegmentView, segment_at}
+use Rattle.macho_image.specs.Entry.{address, entry_of}
 
 -- the base among the segments
-abbrev pub base_among : List Structure → Option ℕ
+abbrev pub base_among : List SegmentView → Option ℕ
 base_among segments =
     option_map (λ s. vmaddr s.image s.place) (find (λ s. shows_start s.image s.place) segments)
 
-first_or_rest : (image : List ℕ) (x : ℕ) (b : Bool) (f : Option Structure) (g : Option ℕ) → option_map (λ s. vmaddr s.image s.place) f ≡ option_map (vmaddr image) g
-    → option_map (λ s. vmaddr s.image s.place) (cond b (Some (structure_at image x)) f) ≡ option_map (vmaddr image) (cond b (Some x) g)
+first_or_rest : (image : List ℕ) (x : ℕ) (b : Bool) (f : Option SegmentView) (g : Option ℕ) → option_map (λ s. vmaddr s.image s.place) f ≡ option_map (vmaddr image) g
+    → option_map (λ s. vmaddr s.image s.place) (cond b (Some (segment_at image x)) f) ≡ option_map (vmaddr image) (cond b (Some x) g)
 first_or_rest image x true f g same = refl
 first_or_rest image x false f g same = same
 
-base_of_map : (image xs : List ℕ) → base_among (map (structure_at image) xs) ≡ option_map (vmaddr image) (find (shows_start image) xs)
+base_of_map : (image xs : List ℕ) → base_among (map (segment_at image) xs) ≡ option_map (vmaddr image) (find (shows_start image) xs)
 base_of_map image [] = refl
 base_of_map image (x ∷ xs) =
-    first_or_rest image x (shows_start image x) (find (λ s. shows_start s.image s.place) (map (structure_at image) xs)) (find (shows_start image) xs) (base_of_map image xs)
+    first_or_rest image x (shows_start image x) (find (λ s. shows_start s.image s.place) (map (segment_at image) xs)) (find (shows_start image) xs) (base_of_map image xs)
 
-pub base_seen : (image : List ℕ) (all : List Structure) (r : Option ℕ) → r ≡ base_among all
-    → OfCommands image (λ commands. all ≡ map (structure_at image) (segments_of image commands)) → OfCommands image (λ commands. r ≡ base_of image commands)
-base_seen image all r is (commands, are, same) =
-    (commands, are, is ∙ (ap base_among same ∙ base_of_map image (segments_of image commands)))
+pub base_seen : (image : List ℕ) (all : List SegmentView) (r : Option ℕ) → r ≡ base_among all
+    → all ≡ map (segment_at image) (segments_of image (commands_of image)) → r ≡ base_of image (commands_of image)
+base_seen image all r is same =
+    is ∙ (ap base_among same ∙ base_of_map image (segments_of image (commands_of image)))
 
 -- a segment that shows the start is the base
-pub base_here : (s : Structure) (rest : List Structure) (b : Bool) → b ≡ true → b ≡ shows_start s.image s.place → base_among (s ∷ rest) ≡ Some (vmaddr s.image s.place)
+pub base_here : (s : SegmentView) (rest : List SegmentView) (b : Bool) → b ≡ true → b ≡ shows_start s.image s.place → base_among (s ∷ rest) ≡ Some (vmaddr s.image s.place)
 base_here s rest b is same =
-    ap (λ t. option_map (λ (u : Structure). vmaddr u.image u.place) (cond t (Some s) (find (λ u. shows_start u.image u.place) rest))) (sym same ∙ is)
+    ap (λ t. option_map (λ (u : SegmentView). vmaddr u.image u.place) (cond t (Some s) (find (λ u. shows_start u.image u.place) rest))) (sym same ∙ is)
 
 -- The entry point
 
@@ -53,9 +53,8 @@ sum_of_both image base main (Some x) (Some y) e f =
     let main_is : main ≡ main_command_at image y = cc in
     ap₂ (λ u v. address (u + v)) base_is (ap (λ (c : MainCommand). c.entryoff) main_is)
 
-pub entry_seen : (image : List ℕ) (base : ℕ) (main : MainCommand) (r : Option ℕ) → OfCommands image (λ commands. Some base ≡ base_of image commands)
-    → OfCommands image (λ commands. Some main ≡ option_map (main_command_at image) (first_of_kind image loader.LC_MAIN commands))
-    → SomeIff r (base + main.entryoff < 18446744073709551616) (base + main.entryoff) → OfCommands image (λ commands. r ≡ entry_of image commands)
-entry_seen image base main r (commands, are, some) (others, they, main_is) sum =
-    let here = subst (λ these. Some main ≡ option_map (main_command_at image) (first_of_kind image loader.LC_MAIN these)) (commands_unique image others commands they are) main_is in
-    (commands, are, sum_is_address r (base + main.entryoff) sum ∙ sum_of_both image base main (base_of image commands) (first_of_kind image loader.LC_MAIN commands) some here)
+pub entry_seen : (image : List ℕ) (base : ℕ) (main : MainCommand) (r : Option ℕ) → Some base ≡ base_of image (commands_of image)
+    → Some main ≡ option_map (main_command_at image) (first_of_kind image loader.LC_MAIN (commands_of image))
+    → SomeIff r (base + main.entryoff < 18446744073709551616) (base + main.entryoff) → r ≡ entry_of image (commands_of image)
+entry_seen image base main r some main_is sum =
+    sum_is_address r (base + main.entryoff) sum ∙ sum_of_both image base main (base_of image (commands_of image)) (first_of_kind image loader.LC_MAIN (commands_of image)) some main_is

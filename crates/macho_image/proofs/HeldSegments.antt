@@ -1,75 +1,56 @@
 -- The segments of an opened image, and their sections.
-use Rattle.std.proofs.Common.{◌≡◌, ℕ, suc, zero, ◌+◌, ◌*◌, ◌≤◌, ◌==◌, List, [], ◌∷◌, length, map, cond, Bool, true, false, All, Contains, refl, sym, ap, ap₂, ◌∙◌, subst, arith, lit<}
-use Rattle.std.specs.List.{sum_by, range_with_len}
-use Rattle.std.proofs.lemmas.Bool.{eq-eqb, eqb-true, le-leb}
+use Rattle.std.proofs.Common.{◌≡◌, ℕ, suc, zero, ◌+◌, ◌*◌, ◌≤◌, ◌==◌, List, [], ◌∷◌, ◌++◌, length, map, cond, Bool, true, false, All, Contains, refl, sym, ap, ap₂, ◌∙◌, subst, arith}
+use Rattle.std.specs.List.{sum_by, range_with_len, flat_map}
+use Rattle.std.proofs.lemmas.List.{map-append}
+use Rattle.std.proofs.lemmas.Bool.{eqb-true}
 use Rattle.std.proofs.lemmas.List.Elements.{All-contains_itself, All-map, All-tail}
 use Rattle.std.proofs.lemmas.List.Sums.{sum_by-cons}
-use Rattle.macho_fields.specs.Image.{command_kind, command_size, commands_end, Follow, AreCommands}
-use Rattle.macho_fields.specs.Command.{records_size, record_count}
-use Rattle.macho_fields.specs.Segment.{nsects, segments_of, section_count, sections_in}
+use Rattle.macho_fields.specs.Image.{command_kind, command_size, commands_end, commands_of, Follow, AreCommands}
+use Rattle.macho_fields.specs.Segment.{nsects, segments_of, section_count}
 use Rattle.macho_fields.specs.declared.header.loader.TheConstants as loader
-use Rattle.macho_fields.proofs.Opened.{Keeps, structure_inside, command_inside}
+use Rattle.macho_fields.proofs.Opened.{Keeps, sections_inside, command_inside}
 use Rattle.macho_fields.proofs.Parts.{of_kind_is, of_kind_among}
 use Rattle.macho_image.specs.Opened.{IsOpened}
-use Rattle.macho_image.specs.Command.{OfCommands, CommandView, command_at, left_of_kind}
-use Rattle.macho_image.specs.Segment.{structure_at, HoldsSegment, HoldSegments, segments_left, sections_from}
+use Rattle.macho_image.specs.Command.{CommandView, command_at}
+use Rattle.macho_image.specs.Scaffold.{left_of_kind, HoldsSegment, HoldSegments, sections_from, sections_among}
+use Rattle.macho_image.specs.Segment.{SegmentView, segment_at, section_at, sections_with, sections_of}
 use Rattle.macho_image.proofs.Opened.{opened_keeps}
-use Rattle.macho_image.proofs.OfOneKind.{left_of_kind-map}
-use Rattle.macho_image.proofs.Kept.{IsListed, AreAll, all_seen}
-
-segment_listed : IsListed loader.LC_SEGMENT_64 72
-segment_listed = (6, lit< tt, refl)
-
--- the records after the structure of a segment are its sections
-records_are_sections : (image : List ℕ) (segment : ℕ) → command_kind image segment ≡ loader.LC_SEGMENT_64 → 72 ≤ command_size image segment → records_size image segment ≡ 80 * nsects image segment
-records_are_sections image segment is holds =
-    ap (λ b. cond b (80 * record_count image segment 64) (cond (command_kind image segment == loader.LC_BUILD_VERSION) (8 * record_count image segment 20) 0))
-    (eq-eqb (command_kind image segment) loader.LC_SEGMENT_64 is)
-    ∙ ap (λ b. 80 * cond b (nsects image segment) 0) (le-leb 68 (command_size image segment) (omega arith))
-
--- a command that is a segment holds its sections
-holds_sections : (image commands : List ℕ) (segment : ℕ) → Keeps image → AreCommands image commands → Contains commands segment → command_kind image segment ≡ loader.LC_SEGMENT_64
-    → 72 + 80 * nsects image segment ≤ command_size image segment
-holds_sections image commands segment opened are has is =
-    let whole : 72 + records_size image segment ≤ command_size image segment = structure_inside image commands opened are segment (loader.LC_SEGMENT_64, 72) has segment_listed (sym is) in
-    let records : records_size image segment ≡ 80 * nsects image segment = records_are_sections image segment is (omega arith) in omega arith
+use Rattle.macho_image.proofs.OpenedWalk.{opened_commands}
+use Rattle.macho_image.proofs.Kept.{AreAll, all_kept}
 
 held_segment : (image commands : List ℕ) (segment : ℕ) → Keeps image → AreCommands image commands → Contains (segments_of image commands) segment → HoldsSegment image segment
 held_segment image commands segment opened are has =
     let among = of_kind_among image commands loader.LC_SEGMENT_64 segment has in
-    let holds : 72 + 80 * nsects image segment ≤ command_size image segment = holds_sections image commands segment opened are among (of_kind_is image commands loader.LC_SEGMENT_64 segment has) in
+    let holds : 72 + 80 * nsects image segment ≤ command_size image segment = sections_inside image commands opened are segment among (of_kind_is image commands loader.LC_SEGMENT_64 segment has) in
     let inside : segment + command_size image segment ≤ length image = command_inside image commands opened are segment among in omega arith
 
 -- the segments of an opened image lie inside it
 pub all_segments_hold : (image : List ℕ) (all : List CommandView) → IsOpened image → AreAll image all → HoldSegments image all
-all_segments_hold image all is_opened (commands, are, is) =
-    let opened = opened_keeps image is_opened in
-    let kept : left_of_kind loader.LC_SEGMENT_64 all ≡ map (command_at image) (segments_of image commands) = ap (left_of_kind loader.LC_SEGMENT_64) is ∙ left_of_kind-map image
-    loader.LC_SEGMENT_64 commands in
-    subst (All (λ c. HoldsSegment image c.place)) (sym kept) (All-map (λ c. HoldsSegment image c.place) (command_at image) (segments_of image commands)
-    (λ k d less. held_segment image commands _ opened are (All-contains_itself (segments_of image commands) k d less)))
-
-pub segments_seen : (image : List ℕ) (all : List CommandView) → IsOpened image → AreAll image all
-    → OfCommands image (λ commands. segments_left image all ≡ map (structure_at image) (segments_of image commands))
-segments_seen image all opened are =
-    all_seen (λ c. structure_at image c.place) (structure_at image) image all loader.LC_SEGMENT_64 72 segment_listed (λ c here. refl) opened are
-
--- where segments lie inside the image, the first does, and the others do
-pub first_segment : (image : List ℕ) (old rest : List CommandView) (c : CommandView) → old ≡ c ∷ rest → All (λ c. HoldsSegment image c.place) old → HoldsSegment image c.place
-first_segment image old rest c is hold = subst (All (λ v. HoldsSegment image v.place)) is hold 0 c (omega arith)
-
-pub rest_segments : (image : List ℕ) (old rest : List CommandView) (c : CommandView) → old ≡ c ∷ rest → All (λ c. HoldsSegment image c.place) old → All (λ c. HoldsSegment image c.place) rest
-rest_segments image old rest c is hold = All-tail (λ v. HoldsSegment image v.place) c rest (subst (All (λ v. HoldsSegment image v.place)) is hold)
+all_segments_hold image all opened is =
+    let segments = segments_of image (commands_of image) in
+    subst (All (λ c. HoldsSegment image c.place)) (sym (all_kept image all loader.LC_SEGMENT_64 is)) (All-map (λ c. HoldsSegment image c.place) (command_at image) segments
+    (λ k d less. held_segment image (commands_of image) _ (opened_keeps image opened) (opened_commands image opened) (All-contains_itself segments k d less)))
 
 -- Sections
 
-sections_from_by : (image : List ℕ) (start place a n : ℕ) → place ≡ start + 80 * a → sections_from image place n ≡ map (structure_at image) (map (λ k. start + 80 * k) (range_with_len a n))
-sections_from_by image start place a zero is = refl
-sections_from_by image start place a (suc n) is =
-    ap₂ (λ p rest. structure_at image p ∷ rest) is (sections_from_by image start (place + 80) (a + 1) n (omega arith))
+sections_from_by : (image : List ℕ) (segment start place a n : ℕ) → place ≡ start + 80 * a
+    → sections_from image segment place n ≡ map (section_at image) (map (λ section. (segment, section)) (map (λ k. start + 80 * k) (range_with_len a n)))
+sections_from_by image segment start place a zero is = refl
+sections_from_by image segment start place a (suc n) is =
+    ap₂ (λ p rest. section_at image (segment, p) ∷ rest) is (sections_from_by image segment start (place + 80) (a + 1) n (omega arith))
 
-pub sections_seen : (image : List ℕ) (segment : ℕ) → sections_from image (segment + 72) (nsects image segment) ≡ map (structure_at image) (sections_in image segment)
-sections_seen image segment = sections_from_by image (segment + 72) (segment + 72) 0 (nsects image segment) (omega arith)
+pub sections_seen : (image : List ℕ) (segment : ℕ) → sections_from image segment (segment + 72) (nsects image segment) ≡ map (section_at image) (sections_with image segment)
+sections_seen image segment = sections_from_by image segment (segment + 72) (segment + 72) 0 (nsects image segment) (omega arith)
+
+-- the sections of some segments
+sections_by_segment : (image segments : List ℕ) → sections_among (map (segment_at image) segments) ≡ map (section_at image) (flat_map (sections_with image) segments)
+sections_by_segment image [] = refl
+sections_by_segment image (x ∷ xs) =
+    ap (λ rest. map (section_at image) (sections_with image x) ++ rest) (sections_by_segment image xs) ∙ sym (map-append (section_at image) (sections_with image x) (flat_map (sections_with image) xs))
+
+pub all_sections_seen : (image commands : List ℕ) (all : List SegmentView) → all ≡ map (segment_at image) (segments_of image commands)
+    → sections_among all ≡ map (section_at image) (sections_of image commands)
+all_sections_seen image commands all is = ap sections_among is ∙ sections_by_segment image (segments_of image commands)
 
 -- The number of sections
 
@@ -88,11 +69,9 @@ sum_of_places f image [] = refl
 sum_of_places f image (x ∷ xs) =
     sum_by-cons (λ c. f c.place) (command_at image x) (map (command_at image) xs) ∙ (ap (λ n. f x + n) (sum_of_places f image xs) ∙ sym (sum_by-cons f x xs))
 
-pub all_counted : (image : List ℕ) (all : List CommandView) → AreAll image all → OfCommands image (λ commands. counted image all ≡ section_count image commands)
-all_counted image all (commands, are, is) =
-    let kept : left_of_kind loader.LC_SEGMENT_64 all ≡ map (command_at image) (segments_of image commands) = ap (left_of_kind loader.LC_SEGMENT_64) is ∙ left_of_kind-map image
-    loader.LC_SEGMENT_64 commands in
-    (commands, are, ap (sum_by (λ c. nsects image c.place)) kept ∙ sum_of_places (nsects image) image (segments_of image commands))
+pub all_counted : (image : List ℕ) (all : List CommandView) → AreAll image all → counted image all ≡ section_count image (commands_of image)
+all_counted image all is =
+    ap (sum_by (λ c. nsects image c.place)) (all_kept image all loader.LC_SEGMENT_64 is) ∙ sum_of_places (nsects image) image (segments_of image (commands_of image))
 
 -- the sections of a command, where it is a segment, lie in it
 abbrev HoldsItsSections : List ℕ → ℕ → Type 0
@@ -121,11 +100,12 @@ count_in_chain image start (x ∷ xs) next (first, good, rest) within hold =
     let more : x + size + 80 * section_count image xs ≤ commands_end image = count_in_chain image (x + size) xs next rest end (All-tail (HoldsItsSections image) x xs hold) in omega arith
 
 pub count_fits : (image : List ℕ) (all : List CommandView) → IsOpened image → AreAll image all → 80 * counted image all ≤ length image
-count_fits image all is_opened (commands, are, is) =
+count_fits image all is_opened is =
     let opened = opened_keeps image is_opened in
+    let commands = commands_of image in
+    let are = opened_commands image is_opened in
     let (length_is, next, chain) = are in
     let inside : commands_end image ≤ length image = opened.inside in
-    let same : counted image all ≡ section_count image commands = ap (λ vs. counted image vs) is ∙
-    (ap (sum_by (λ c. nsects image c.place)) (left_of_kind-map image loader.LC_SEGMENT_64 commands) ∙ sum_of_places (nsects image) image (segments_of image commands)) in
+    let same : counted image all ≡ section_count image commands = all_counted image all is in
     let fits : 32 + 80 * section_count image commands ≤ commands_end image = count_in_chain image 32 commands next chain (omega arith)
-    (λ k d less is_segment. let holds = holds_sections image commands _ opened are (All-contains_itself commands k d less) is_segment in omega arith) in omega arith
+    (λ k d less is_segment. let holds = sections_inside image commands opened are _ (All-contains_itself commands k d less) is_segment in omega arith) in omega arith

@@ -5,8 +5,10 @@ use Rattle.std.specs.List.{range_with_len}
 use Rattle.std.proofs.lemmas.Option.{same_Some}
 use Rattle.std.specs.Option.{option_map, option_map_or}
 use Rattle.macho_fields.specs.declared.header.loader.TheConstants as loader
-use Rattle.macho_image.specs.Command.{OfCommands, first_of_kind}
-use Rattle.macho_image.specs.Symbol.{symtab_at, dysymtab_at, items_inside, items_from, symbol_at, symbols_of, symbols_from, indirect_at, indirects_of, indirects_from}
+use Rattle.macho_fields.specs.Image.{commands_of}
+use Rattle.macho_image.specs.Command.{first_of_kind}
+use Rattle.macho_image.specs.Symbol.{symtab_at, dysymtab_at, items_inside, symbol_at, symbols_of, indirect_at, indirects_of}
+use Rattle.macho_image.specs.Scaffold.{items_from, symbols_from, indirects_from}
 use Rattle.macho_image.specs.declared.symtab.Symtab.{Symtab}
 use Rattle.macho_image.specs.declared.dysymtab.Dysymtab.{Dysymtab}
 use Rattle.macho_image.specs.declared.symbol.Symbol.{Symbol}
@@ -36,7 +38,7 @@ some_listed g f (Some c) found t xs is some each = each c (same_Some t (g c) (sy
 
 -- what a search for the first command of a kind finds
 abbrev pub IsFound : {B : Type 0} → (ℕ → B) → List ℕ → ℕ → Option B → Type 0
-IsFound g image kind found = OfCommands image (λ commands. found ≡ option_map g (first_of_kind image kind commands))
+IsFound g image kind found = found ≡ option_map g (first_of_kind image kind (commands_of image))
 
 -- the items of the table that the first command of a kind bounds
 abbrev pub items_of : {B : Type 0} → (ℕ → B) → (B → ℕ) → (B → ℕ) → ℕ → List ℕ → ℕ → List ℕ → List ℕ
@@ -45,22 +47,22 @@ items_of g start count each image kind commands = option_map_or (λ c. items_ins
 -- a table that was found and lies inside the image has the items of the image
 table_found : {B C : Type 0} (g : ℕ → B) (start count : B → ℕ) (item : ℕ → C) (each : ℕ) (image : List ℕ) (kind : ℕ) (found : Option B) (t : B) → IsFound g image kind found
     → found ≡ Some t → nat_le (start t + each * count t) (length image) ≡ true
-    → OfCommands image (λ commands. map item (items_from each (start t) (count t)) ≡ map item (items_of g start count each image kind commands))
-table_found {B} g start count item each image kind found t (commands, are, is) some inside =
-    (commands, are, ap (map item) (sym (some_listed g _ (first_of_kind image kind commands) found t (items_from each (start t) (count t)) is some here)))
+    → map item (items_from each (start t) (count t)) ≡ map item (items_of g start count each image kind (commands_of image))
+table_found {B} g start count item each image kind found t is some inside =
+    ap (map item) (sym (some_listed g _ (first_of_kind image kind (commands_of image)) found t (items_from each (start t) (count t)) is some here))
   where
     here : (c : ℕ) → t ≡ g c → items_inside image (start (g c)) each (count (g c)) ≡ items_from each (start t) (count t)
     here c same = subst (λ (s : B). items_inside image (start s) each (count s) ≡ items_from each (start t) (count t)) same (inside_all image (start t) each (count t) inside)
 
 pub symbols_seen : (image bytes : List ℕ) (found : Option Symtab) (t : Symtab) → bytes ≡ image → IsFound (symtab_at image) image loader.LC_SYMTAB found → found ≡ Some t
-    → nat_le (t.symoff + 16 * t.nsyms) (length bytes) ≡ true → OfCommands image (λ commands. symbols_from bytes t.symoff t.nsyms ≡ map (symbol_at image) (symbols_of image commands))
+    → nat_le (t.symoff + 16 * t.nsyms) (length bytes) ≡ true → symbols_from bytes t.symoff t.nsyms ≡ map (symbol_at image) (symbols_of image (commands_of image))
 symbols_seen image bytes found t same is some inside =
     let within : nat_le (t.symoff + 16 * t.nsyms) (length image) ≡ true = ap (λ b. nat_le (t.symoff + 16 * t.nsyms) (length b)) (sym same) ∙ inside in
     rw same (table_found (symtab_at image) (λ (s : Symtab). s.symoff) (λ (s : Symtab). s.nsyms) (symbol_at image) 16 image loader.LC_SYMTAB found t is some within)
 
 pub indirects_seen : (image bytes : List ℕ) (found : Option Dysymtab) (t : Dysymtab) → bytes ≡ image → IsFound (dysymtab_at image) image loader.LC_DYSYMTAB found → found ≡ Some t
     → nat_le (t.indirectsymoff + 4 * t.nindirectsyms) (length bytes) ≡ true
-    → OfCommands image (λ commands. indirects_from bytes t.indirectsymoff t.nindirectsyms ≡ map (indirect_at image) (indirects_of image commands))
+    → indirects_from bytes t.indirectsymoff t.nindirectsyms ≡ map (indirect_at image) (indirects_of image (commands_of image))
 indirects_seen image bytes found t same is some inside =
     let within : nat_le (t.indirectsymoff + 4 * t.nindirectsyms) (length image) ≡ true = ap (λ b. nat_le (t.indirectsymoff + 4 * t.nindirectsyms) (length b)) (sym same) ∙ inside in
     rw same (table_found (dysymtab_at image) (λ (s : Dysymtab). s.indirectsymoff) (λ (s : Dysymtab). s.nindirectsyms) (indirect_at image) 4 image loader.LC_DYSYMTAB found t is some within)

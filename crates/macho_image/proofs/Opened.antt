@@ -1,19 +1,18 @@
 -- What holds of an image once it is opened.
-use Rattle.std.proofs.Common.{◌≡◌, ℕ, List, None, inl, inr}
-use Rattle.macho_fields.specs.Image.{file_type}
-use Rattle.macho_image.specs.Opened.{IsOpened}
-use Rattle.macho_fields.specs.Layers.{NothingBreaks, BreaksOpening}
+use Rattle.std.proofs.Common.{ℕ, List, None}
+use Rattle.macho_fields.specs.Layers.{KeptBelow}
+use Rattle.macho_fields.specs.Rules.{BreaksImage}
 use Rattle.macho_fields.proofs.Opened.{Keeps, keeps_rules}
+use Rattle.macho_image.specs.Opened.{IsOpened}
 
 -- bytes that break none of the rules of opening may be opened
-pub may_open : (image : List ℕ) → NothingBreaks (BreaksOpening image None) → IsOpened image
+pub may_open : (image : List ℕ) → KeptBelow (BreaksImage image None) 19 → IsOpened image
 unfolding IsOpened
-may_open image keeps = keeps
+may_open image below = below
+
+pub opened_below : (image : List ℕ) → IsOpened image → KeptBelow (BreaksImage image None) 19
+unfolding IsOpened
+opened_below image opened = opened
 
 pub opened_keeps : (image : List ℕ) → IsOpened image → Keeps image
-unfolding IsOpened
-opened_keeps image opened = keeps_rules image None opened
-
--- an opened image that is no program is a dynamic library
-pub library_otherwise : (image : List ℕ) → IsOpened image → (file_type image ≡ 2 → ⊥) → file_type image ≡ 6
-library_otherwise image opened other = elim ((opened_keeps image opened).kind) [ inl run ↦ absurd (other run) | inr linked ↦ linked ]
+opened_keeps image opened = keeps_rules image None (opened_below image opened)

@@ -1,25 +1,23 @@
 -- The walk over the commands of an opened image.
-use Rattle.std.proofs.Common.{◌≡◌, ℕ, ◌≤◌, List, length, map, All, sym, ap, subst}
+use Rattle.std.proofs.Common.{◌≡◌, ℕ, List, Option, None, sym, subst, arith}
 use Rattle.std.proofs.lemmas.List.Elements.{All-contains_itself}
-use Rattle.macho_fields.specs.Image.{command_count, commands_end, IsGood, AreCommands}
+use Rattle.macho_fields.specs.Image.{command_count, commands_of, AreCommands}
+use Rattle.macho_fields.specs.Layers.{KeptBelow}
+use Rattle.macho_fields.specs.Rules.{BreaksImage}
 use Rattle.macho_fields.proofs.Parts.{command_good}
 use Rattle.macho_image.specs.Opened.{IsOpened}
-use Rattle.macho_image.specs.Command.{OfCommands, command_at, commands_left, CanWalk}
-use Rattle.macho_image.proofs.Opened.{opened_keeps}
-use Rattle.macho_image.proofs.Walked.{commands_walk}
+use Rattle.macho_image.specs.Scaffold.{CanWalk}
+use Rattle.macho_image.proofs.Opened.{opened_below}
+use Rattle.macho_image.proofs.Opening.{commands_inside, has_commands}
 
-walk_of : (image commands : List ℕ) → commands_end image ≤ length image → AreCommands image commands → CanWalk image 32 (command_count image)
-walk_of image commands inside are = record {
-  good = subst (All (IsGood image)) (commands_walk image commands are) (λ k d less. command_good image commands _ are (All-contains_itself commands k d less));
-  inside = inside;
-}
+-- an opened image has its commands
+pub opened_commands : (image : List ℕ) → IsOpened image → AreCommands image (commands_of image)
+opened_commands image opened = has_commands image None 19 (omega arith) (opened_below image opened)
 
-pub opened_walk : (image : List ℕ) (left : ℕ) → left ≡ command_count image → IsOpened image → CanWalk image 32 left
-opened_walk image left count is_opened =
-    let opened = opened_keeps image is_opened in
-    subst (CanWalk image 32) (sym count) (walk_of image opened.commands.0 opened.inside opened.commands.1)
-
-pub opened_commands : (image : List ℕ) (left : ℕ) → left ≡ command_count image → IsOpened image → OfCommands image (λ commands. commands_left image 32 left ≡ map (command_at image) commands)
-opened_commands image left count is_opened =
-    let (commands, are) = (opened_keeps image is_opened).commands in
-    (commands, are, subst (λ n. commands_left image 32 n ≡ map (command_at image) commands) (sym count) (ap (map (command_at image)) (sym (commands_walk image commands are))))
+-- where the walk does not break, all commands can be gone over
+pub can_walk : (image : List ℕ) (arch : Option (ℕ × ℕ)) (left : ℕ) → left ≡ command_count image → KeptBelow (BreaksImage image arch) 15 → CanWalk image 32 left
+can_walk image arch left count below =
+    subst (CanWalk image 32) (sym count) (record {
+      good = λ k d less. command_good image (commands_of image) _ (has_commands image arch 15 (omega arith) below) (All-contains_itself (commands_of image) k d less);
+      inside = commands_inside image arch 15 (omega arith) below;
+    })

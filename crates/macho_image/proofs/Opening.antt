@@ -1,66 +1,68 @@
--- The rules of an opening, one after another in their order.
-use Rattle.std.proofs.Common.{◌≡◌, ℕ, ◌≤◌, ◌<◌, List, Option, Result, Err, ap, ◌∙◌}
-use Rattle.macho_fields.specs.Image.{AreCommands}
-use Rattle.macho_fields.specs.Rules.{BreaksHeader, BreaksCommands}
+-- What holds of an image where the rules up to some rank are unbroken, and how a rule goes on.
+use Rattle.std.proofs.Common.{◌≡◌, ℕ, ◌+◌, ◌≤◌, List, length, Contains, None, Option, refl, arith, subst, inl, inr, ⊎_elim}
+use Rattle.std.proofs.lemmas.Bool.{cases_lt}
+use Rattle.macho_fields.specs.Image.{commands_end, commands_of, AreCommands}
+use Rattle.macho_fields.specs.Command.{IsShort}
+use Rattle.macho_fields.specs.Rules.{BreaksHeader, BreaksCommands, BreaksImage}
 use Rattle.macho_fields.specs.First.{rank}
-use Rattle.macho_fields.specs.Layers.{NothingBreaks, BreaksOpening, Decides}
+use Rattle.macho_fields.specs.Layers.{KeptBelow, IsLeast}
 use Rattle.macho_fields.specs.declared.rule.Rule.TheVariants as rule
 use Rattle.macho_fields.specs.declared.rule.Rule.{Rule}
 use Rattle.macho_fields.specs.declared.rule.Break.{Break}
-use Rattle.macho_fields.proofs.Layers.{KeptBelow, kept_none, kept_all, kept_by_header, kept_by_commands, decides_err, opening_by_header, opening_by_commands}
-use Rattle.macho_image.specs.Walked.{IsWalked}
+use Rattle.macho_fields.proofs.Chains.{commands_unique, counted_off}
+use Rattle.macho_fields.proofs.Layers.{kept_more, least_at}
+use Rattle.macho_fields.proofs.Parts.{commands_exist}
+use Rattle.macho_fields.proofs.Ranks.{image_alone, image_rule_rank}
 
 module _ (image : List ℕ) (arch : Option (ℕ × ℕ)) where
-  -- no rule of an opening below this rank is broken
-  abbrev Kept : ℕ → Type 0
-  Kept n = KeptBelow (BreaksOpening image arch) n
+  -- the rules before the rank are unbroken
+  abbrev pub Kept : ℕ → Type 0
+  Kept n = KeptBelow (BreaksImage image arch) n
 
-  -- a rule of the header that is not broken
-  abbrev HeaderKeeps : Rule → Type 0
-  HeaderKeeps r = (place : ℕ) → ¬ BreaksHeader image arch r place
+  -- no image breaks a rule of the file
+  pub kept_none : Kept 10
+  kept_none r place less broken = let late = image_rule_rank image arch r place broken in absurd (omega arith)
 
-  -- a rule of the commands that is not broken
-  abbrev CommandsKeep : Rule → Type 0
-  CommandsKeep r = (commands : List ℕ) → AreCommands image commands → (place : ℕ) → ¬ BreaksCommands image commands r place
+  -- an earlier rank
+  pub kept_less : (m n : ℕ) → m ≤ n → Kept n → Kept m
+  kept_less m n most below r place before = below r place (omega arith)
 
-  pub kept_truncated : HeaderKeeps rule.HeaderTruncated → Kept 11
-  kept_truncated keeps = kept_by_header image arch rule.HeaderTruncated (λ _ _ h. h) (kept_none image arch) keeps
+  pub has_header : (n : ℕ) → 11 ≤ n → Kept n → 32 ≤ length image
+  has_header n late below = elim (cases_lt (length image) 32) [ inl short ↦ absurd (below rule.HeaderTruncated 0 (omega arith) (inl (refl, short))) | inr most ↦ most ]
 
-  pub kept_arch : Kept 11 → HeaderKeeps rule.ArchMismatch → Kept 12
-  kept_arch below keeps = kept_by_header image arch rule.ArchMismatch (λ _ _ h. h) below keeps
+  pub commands_inside : (n : ℕ) → 14 ≤ n → Kept n → commands_end image ≤ length image
+  commands_inside n late below = elim (cases_lt (length image) (commands_end image)) [ inl short ↦ absurd (below rule.CommandsOutside 20 (omega arith) (inl (refl, short))) | inr most ↦ most ]
 
-  pub kept_kind : Kept 12 → HeaderKeeps rule.FileType → Kept 13
-  kept_kind below keeps = kept_by_header image arch rule.FileType (λ _ _ h. h) below keeps
+  pub has_commands : (n : ℕ) → 15 ≤ n → Kept n → AreCommands image (commands_of image)
+  has_commands n late below =
+      let (commands, are) = commands_exist image arch (λ place broken. below rule.CommandWalk place (omega arith) (inl broken)) in
+      subst (AreCommands image) (counted_off image commands are) are
 
-  pub kept_outside : Kept 13 → HeaderKeeps rule.CommandsOutside → Kept 14
-  kept_outside below keeps = kept_by_header image arch rule.CommandsOutside (λ _ _ h. h) below keeps
+  pub none_short : (n : ℕ) → 16 ≤ n → Kept n → (command : ℕ) → Contains (commands_of image) command → ¬ IsShort image command
+  none_short n late below command has short = below rule.CommandShort command (omega arith) (inr (commands_of image, has_commands n (omega arith) below, (has, short)))
 
-  pub kept_walk : Kept 14 → HeaderKeeps rule.CommandWalk → Kept 15
-  kept_walk below keeps = kept_by_header image arch rule.CommandWalk (λ _ _ h. h) below keeps
+  -- what is unbroken for an architecture is unbroken where none is compared
+  pub kept_alone : (n : ℕ) → Kept n → KeptBelow (BreaksImage image None) n
+  kept_alone n below r place less broken = below r place less (image_alone image arch r place broken)
 
-  pub kept_short : IsWalked image → Kept 15 → CommandsKeep rule.CommandShort → Kept 16
-  kept_short walked below keeps = let (commands, are) = walked.commands in kept_by_commands image arch commands rule.CommandShort (λ _ h. h) are below (keeps commands are)
+  -- a rule that no command breaks is broken where the header breaks it
+  module _ (r : Rule) (never : (commands : List ℕ) (place : ℕ) → ¬ BreaksCommands image commands r place) (below : Kept (rank r)) where
+    pub header_kept : ((place : ℕ) → ¬ BreaksHeader image arch r place) → Kept (rank r + 1)
+    header_kept none = kept_more (BreaksImage image arch) r below (λ place broken. ⊎_elim (none place) (λ h. never h.0 place h.2) broken)
 
-  pub kept_repeated : IsWalked image → Kept 16 → CommandsKeep rule.CommandRepeated → Kept 17
-  kept_repeated walked below keeps = let (commands, are) = walked.commands in kept_by_commands image arch commands rule.CommandRepeated (λ _ h. h) are below (keeps commands are)
+    pub header_broken : (b : Break) → b.rule ≡ r → BreaksHeader image arch r b.place → ((place : ℕ) → BreaksHeader image arch r place → b.place ≤ place) → IsLeast (BreaksImage image arch) b
+    header_broken b is here least = least_at (BreaksImage image arch) r b below (is, inl here, λ place broken. ⊎_elim (least place) (λ h. absurd (never h.0 place h.2)) broken)
 
-  pub kept_id : IsWalked image → Kept 17 → CommandsKeep rule.DylibId → Kept 18
-  kept_id walked below keeps = let (commands, are) = walked.commands in kept_by_commands image arch commands rule.DylibId (λ _ h. h) are below (keeps commands are)
+  -- a rule that no header breaks is broken where the commands break it
+  module _ (r : Rule) (never : (place : ℕ) → ¬ BreaksHeader image arch r place) (late : 15 ≤ rank r) (below : Kept (rank r)) where
+    of_commands : (place : ℕ) → BreaksImage image arch r place → BreaksCommands image (commands_of image) r place
+    of_commands place (inl h) = absurd (never place h)
+    of_commands place (inr h) = subst (λ others. BreaksCommands image others r place) (commands_unique image h.0 (commands_of image) h.1 (has_commands (rank r) late below)) h.2
 
-  pub kept_name : IsWalked image → Kept 18 → CommandsKeep rule.Name → NothingBreaks (BreaksOpening image arch)
-  kept_name walked below keeps = let (commands, are) = walked.commands in kept_all image arch (kept_by_commands image arch commands rule.Name (λ _ h. h) are below (keeps commands are))
+    pub commands_kept : ((place : ℕ) → ¬ BreaksCommands image (commands_of image) r place) → Kept (rank r + 1)
+    commands_kept none = kept_more (BreaksImage image arch) r below (λ place broken. none place (of_commands place broken))
 
-  -- where the rules before it are not broken, the answer of a rule is that of the opening
-  pub header_answer : (r : Rule) (found b : Break) {T : Type 0} (answer : Result T Break) → answer ≡ Err b → b ≡ found → rank r < 19
-      → ((commands : List ℕ) (place : ℕ) → ¬ BreaksCommands image commands r place) → Kept (rank r)
-      → (found.rule ≡ r) × BreaksHeader image arch r found.place × ((place : ℕ) → BreaksHeader image arch r place → found.place ≤ place) → Decides (BreaksOpening image arch) answer
-  header_answer r found b answer is same early never below says =
-      decides_err (BreaksOpening image arch) r found answer (is ∙ ap Err same) below (opening_by_header image arch {T = ℕ} r (Err found) early never says)
-
-  pub commands_answer : (r : Rule) (found b : Break) {T : Type 0} (answer : Result T Break) → answer ≡ Err b → b ≡ found → rank r < 19
-      → ((place : ℕ) → ¬ BreaksHeader image arch r place) → IsWalked image → Kept (rank r)
-      → ((commands : List ℕ) → AreCommands image commands → (found.rule ≡ r) × BreaksCommands image commands r found.place ×
-      ((place : ℕ) → BreaksCommands image commands r place → found.place ≤ place)) → Decides (BreaksOpening image arch) answer
-  commands_answer r found b answer is same early never walked below says =
-      let (commands, are) = walked.commands in
-      decides_err (BreaksOpening image arch) r found answer (is ∙ ap Err same) below (opening_by_commands image arch {T = ℕ} commands r (Err found) early never are (says commands are))
+    pub commands_broken : (b : Break) → b.rule ≡ r → BreaksCommands image (commands_of image) r b.place
+        → ((place : ℕ) → BreaksCommands image (commands_of image) r place → b.place ≤ place) → IsLeast (BreaksImage image arch) b
+    commands_broken b is here least =
+        least_at (BreaksImage image arch) r b below (is, inr (commands_of image, has_commands (rank r) late below, here), λ place broken. least place (of_commands place broken))

@@ -1,8 +1,9 @@
 -- A walk over the commands of an image, step by step.
-use Rattle.std.proofs.Common.{◌≡◌, ℕ, suc, zero, ◌+◌, ◌-◌, ◌<◌, List, [], ◌∷◌, length, map, All, refl, sym, ap, ap₂, ◌∙◌, subst, arith}
+use Rattle.std.proofs.Common.{◌≡◌, ℕ, suc, zero, ◌+◌, ◌-◌, ◌<◌, List, ◌∷◌, map, All, sym, ap, ap₂, ◌∙◌, subst, arith}
 use Rattle.std.proofs.lemmas.List.Elements.{All-tail}
-use Rattle.macho_fields.specs.Image.{command_size, command_count, IsGood, Follow, AreCommands}
-use Rattle.macho_image.specs.Command.{CommandView, command_at, places_from, commands_left, CanWalk}
+use Rattle.macho_fields.specs.Image.{command_size, IsGood, places_from}
+use Rattle.macho_image.specs.Command.{CommandView, command_at}
+use Rattle.macho_image.specs.Scaffold.{commands_left, CanWalk}
 
 -- where some remain, the first is the one at the place
 pub places-step : (image : List ℕ) (place left : ℕ) → 0 < left → places_from image place left ≡ place ∷ places_from image (place + command_size image place) (left - 1)
@@ -21,17 +22,6 @@ can_walk_on image place left some can = record {
   good = All-tail (IsGood image) place (places_from image (place + command_size image place) (left - 1)) (subst (All (IsGood image)) (places-step image place left some) can.good);
   inside = can.inside;
 }
-
-follow_walk : (image : List ℕ) (start : ℕ) (xs : List ℕ) (next : ℕ) → Follow image start xs next → xs ≡ places_from image start (length xs)
-follow_walk image start [] next chain = refl
-follow_walk image start (x ∷ xs) next chain =
-    let rest : xs ≡ places_from image (x + command_size image x) (length xs) = follow_walk image (x + command_size image x) xs next chain.2 in
-    let first : x ≡ start = chain.0 in
-    ap (λ ys. x ∷ ys) rest ∙ ap (λ p. p ∷ places_from image (p + command_size image p) (length xs)) first
-
--- the commands of an image are those of a walk over it
-pub commands_walk : (image commands : List ℕ) → AreCommands image commands → commands ≡ places_from image 32 (command_count image)
-commands_walk image commands (count, next, chain) = follow_walk image 32 commands next chain ∙ ap (places_from image 32) count
 
 -- what a step of the walk leaves
 pub walk_left : (image : List ℕ) (place left size : ℕ) → 0 < left → size ≡ command_size image place → CanWalk image place left → CanWalk image (place + size) (left - 1)

@@ -1,15 +1,9 @@
 -- The base address of an image, and the address of its entry point.
-use Rattle.std.specs.Prelude.{◌&&◌, ℕ, ◌+◌, ◌==◌, ◌^◌, nat_lt, List, Bool, Option, Some, None, if◌then◌else◌}
+use Rattle.std.specs.Prelude.{ℕ, ◌+◌, ◌^◌, nat_lt, List, Option, Some, None, if◌then◌else◌}
 use Rattle.std.specs.Option.{option_and_then}
-use Rattle.macho_fields.specs.Segment.{vmsize, fileoff, filesize, base_of, entryoff}
+use Rattle.macho_fields.specs.Segment.{base_of, entryoff}
 use Rattle.macho_fields.specs.declared.header.loader.TheConstants as loader
 use Rattle.macho_image.specs.Command.{first_of_kind}
-
--- a segment is mapped, and begins with the first bytes of the image
-abbrev pub shows_start : List ℕ → ℕ → Bool
-shows_start image segment =
-    fileoff image segment == 0 && nat_lt 0 (filesize image segment)
-    && nat_lt 0 (vmsize image segment)
 
 -- the number as an address of 64 bits, and none where it does not fit
 abbrev pub address : ℕ → Option ℕ

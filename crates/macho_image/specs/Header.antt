@@ -1,11 +1,9 @@
 -- The header of an opened image. (mach-o/loader.h: mach_header_64)
-use Rattle.std.specs.Prelude.{◌≡◌, ℕ, List}
+use Rattle.std.specs.Prelude.{◌≡◌, ℕ, List, IsSomeAnd}
+use Rattle.macho_fields.specs.FileTypes.{file_type_of}
 use Rattle.macho_fields.specs.Image.{file_type}
-use Rattle.macho_fields.specs.declared.header.loader.TheConstants as loader
-use Rattle.macho_image.specs.declared.image.Kind.{Kind}
-use Rattle.macho_image.specs.declared.image.Kind.TheVariants as kind
+use Rattle.macho_fields.specs.declared.file_type.Kind.{Kind}
 
--- the image is of this type
+-- the filetype of the image is that of such an image
 abbrev pub IsKind : List ℕ → Kind → Type 0
-IsKind image kind.Execute = file_type image ≡ loader.MH_EXECUTE
-IsKind image kind.Dylib = file_type image ≡ loader.MH_DYLIB
+IsKind image kind = IsSomeAnd (file_type_of (file_type image)) (λ listed. listed.kind ≡ kind)

@@ -4,8 +4,9 @@ pub mod Build
 pub mod Single
 pub mod Library
 pub mod Opened
-pub mod Walked
-pub mod Table
+pub mod Unique
+pub mod Opening
 pub mod Segment
 pub mod Entry
 pub mod Symbol
+pub mod Scaffold

@@ -1,19 +1,35 @@
--- The segments of an opened image, and their sections, each as a structure at a place of the image.
--- (mach-o/loader.h: segment_command_64, section_64)
-use Rattle.std.specs.Prelude.{ℕ, zero, suc, ◌+◌, ◌*◌, ◌≤◌, ◌==◌, List, [], ◌∷◌, map, length, All}
+-- The segments of an opened image, and their sections. (mach-o/loader.h: segment_command_64,
+-- section_64)
+use Rattle.std.specs.Prelude.{ℕ, ◌+◌, ◌==◌, List, map, flat_map}
 use Rattle.std.specs.List.{before_first}
 use Rattle.macho_fields.specs.Field.{part}
-use Rattle.macho_fields.specs.Segment.{nsects}
-use Rattle.macho_fields.specs.declared.header.loader.TheConstants as loader
-use Rattle.macho_image.specs.Command.{CommandView, left_of_kind}
+use Rattle.macho_fields.specs.Segment.{segments_of, sections_in}
 
--- a structure of an image, by its place
-pub record Structure : Type 0 where
+-- a segment of an image, by its place
+pub record SegmentView : Type 0 where
   pub image : List ℕ
   pub place : ℕ
 
-abbrev pub structure_at : List ℕ → ℕ → Structure
-structure_at image place = record { image = image; place = place }
+abbrev pub segment_at : List ℕ → ℕ → SegmentView
+segment_at image place = record { image = image; place = place }
+
+-- a section of an image, by the place of its segment and its own
+pub record SectionView : Type 0 where
+  pub image : List ℕ
+  pub segment : ℕ
+  pub place : ℕ
+
+-- a segment and the section are named by their places
+abbrev pub section_at : List ℕ → ℕ × ℕ → SectionView
+section_at image places = record { image = image; segment = places.0; place = places.1 }
+
+-- the sections of a segment, each with the segment
+abbrev pub sections_with : List ℕ → ℕ → List (ℕ × ℕ)
+sections_with image segment = map (λ section. (segment, section)) (sections_in image segment)
+
+-- the sections of all segments, in the order of the commands, each with its segment
+abbrev pub sections_of : List ℕ → List ℕ → List (ℕ × ℕ)
+sections_of image commands = flat_map (sections_with image) (segments_of image commands)
 
 -- a name in 16 bytes, which ends before the first zero byte, where there is one
 abbrev pub short_name : List ℕ → ℕ → List ℕ
@@ -25,28 +41,3 @@ segment_name image segment = short_name image (segment + 8)
 
 abbrev pub section_name : List ℕ → ℕ → List ℕ
 section_name image section = short_name image section
-
--- the structure of a segment and its sections lie inside the image
-abbrev pub HoldsSegment : List ℕ → ℕ → Type 0
-HoldsSegment image segment =
-    segment + loader.SEGMENT_COMMAND_64_SIZE + loader.SECTION_64_SIZE * nsects image segment
-    ≤ length image
-
-abbrev pub HoldsSection : List ℕ → ℕ → Type 0
-HoldsSection image section = section + loader.SECTION_64_SIZE ≤ length image
-
--- the segments among the commands that remain
-abbrev pub segments_left : List ℕ → List CommandView → List Structure
-segments_left image commands =
-    map (λ c. structure_at image c.place) (left_of_kind loader.LC_SEGMENT_64 commands)
-
--- they lie inside the image
-abbrev pub HoldSegments : List ℕ → List CommandView → Type 0
-HoldSegments image commands =
-    All (λ c. HoldsSegment image c.place) (left_of_kind loader.LC_SEGMENT_64 commands)
-
--- `left` sections from a place on, one after another
-abbrev pub sections_from : List ℕ → ℕ → ℕ → List Structure
-sections_from image place zero = []
-sections_from image place (suc left) =
-    structure_at image place ∷ sections_from image (place + loader.SECTION_64_SIZE) left

@@ -4,15 +4,11 @@ use Rattle.std.specs.Prelude.{ℕ, ◌+◌, List}
 use Rattle.macho_fields.specs.Field.{part}
 use Rattle.macho_fields.specs.Image.{long}
 use Rattle.macho_fields.specs.Segment.{entryoff}
-use Rattle.macho_image.specs.Command.{CommandView}
 use Rattle.macho_image.specs.declared.main_command.MainCommand.{MainCommand}
 
 -- uuid_command: the 16 bytes of uuid at 8
 abbrev pub uuid_at : List ℕ → ℕ → List ℕ
 uuid_at image command = part (command + 8) 16 image
-
-abbrev pub uuid_in : CommandView → List ℕ
-uuid_in c = part 8 16 c.bytes
 
 -- entry_point_command: entryoff at 8, stacksize at 16
 abbrev pub main_command_at : List ℕ → ℕ → MainCommand
@@ -21,6 +17,3 @@ main_command_at image command = record {
   entryoff = entryoff image command;
   stacksize = long image (command + 16);
 }
-
-abbrev pub main_command_in : CommandView → MainCommand
-main_command_in c = record { place = c.place; entryoff = long c.bytes 8; stacksize = long c.bytes 16 }

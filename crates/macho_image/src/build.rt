@@ -1,10 +1,12 @@
 //! The platforms that an image is built for. (`mach-o/loader.h`: `build_version_command`)
 
-ghost use Rattle.std.specs.Prelude.{◌≡◌, ◌≤◌, length};
-ghost use Rattle.macho_image.specs.Command.{command_of};
-ghost use Rattle.macho_image.specs.Build.{build_in};
+ghost use Rattle.std.specs.Prelude.{◌≡◌, ◌+◌, ◌≤◌, length};
+ghost use Rattle.macho_fields.specs.Bytes.{bytes_of};
+ghost use Rattle.macho_fields.specs.LoadCommands.{structure_size};
+ghost use Rattle.macho_fields.specs.declared.load_command.Structure.TheVariants.{BuildVersionCommand};
+ghost use Rattle.macho_image.specs.Build.{build_at};
 
-use crate::command::{Command, Commands, word_at};
+use crate::command::{Commands, word_in};
 use crate::image::Image;
 use macho_fields::Bytes;
 use macho_fields::header::loader::LC_BUILD_VERSION;
@@ -28,22 +30,21 @@ pub struct Build {
 /// The builds of an image that remain, in the order of the commands.
 #[derive(Drop)]
 pub struct Builds<'a> {
+    image: Bytes<'a>,
     commands: Commands<'a>,
 }
 
 impl<'a> Model for Builds<'a> {
     ghost use Rattle.std.specs.Prelude.{List};
-    ghost use Rattle.macho_fields.specs.declared.header.loader.TheConstants.{LC_BUILD_VERSION};
+    ghost use Rattle.macho_fields.specs.Bytes.{bytes_of};
     ghost use Rattle.macho_image.specs.declared.build.Build.{Build};
-    ghost use Rattle.macho_image.specs.declared.build.TheConstants.{STRUCTURE_SIZE};
-    ghost use Rattle.macho_image.specs.Command.{left_of_kind, AreLong};
-    ghost use Rattle.macho_image.specs.Build.{builds_left};
+    ghost use Rattle.macho_image.specs.Scaffold.{builds_left, HoldBuilds};
 
     ghost Value = { List Build };
 
-    ghost view = { λ builds. builds_left builds.commands };
+    ghost view = { λ builds. builds_left (bytes_of builds.image) builds.commands };
 
-    ghost invariant = { λ builds. AreLong STRUCTURE_SIZE (left_of_kind LC_BUILD_VERSION builds.commands) };
+    ghost invariant = { λ builds. HoldBuilds (bytes_of builds.image) builds.commands };
 }
 
 impl<'a> Iterator for Builds<'a> {
@@ -57,29 +58,26 @@ impl<'a> Iterator for Builds<'a> {
 
     fn next(&mut self) -> Option<Build> {
         let command = self.commands.next_of_kind(LC_BUILD_VERSION)?;
-        Some(build_from(command))
+        Some(build_from(self.image, command.place))
     }
 }
 
 impl<'a> Image<'a> {
     ghost use Rattle.std.specs.Prelude.{◌≡◌, map};
-    ghost use Rattle.macho_fields.specs.Image.{of_kind};
-    ghost use Rattle.macho_image.specs.Command.{OfCommands};
+    ghost use Rattle.macho_fields.specs.Image.{commands_of, of_kind};
     ghost use Rattle.macho_image.specs.Build.{build_at};
 
     /// The `LC_BUILD_VERSION` commands, in the order of the commands.
     pub fn builds(&self) -> Builds<'a>
-        ensures { OfCommands self.now (λ commands.
-            result ≡ map (build_at self.now) (of_kind self.now LC_BUILD_VERSION commands)) }
+        ensures { result ≡ map (build_at self.now)
+            (of_kind self.now LC_BUILD_VERSION (commands_of self.now)) }
     {
         Builds {
+            image: self.bytes(),
             commands: self.commands(),
         }
     }
 }
-
-/// The size in bytes of `build_version_command`.
-const STRUCTURE_SIZE: u64 = 24;
 
 // The offsets of the fields in `build_version_command`.
 const PLATFORM: u64 = 8;
@@ -88,15 +86,15 @@ const MINOS: u64 = 12;
 
 const SDK: u64 = 16;
 
-fn build_from(command: Command) -> Build
-    requires { STRUCTURE_SIZE ≤ length command.bytes.now }
-    ensures { result ≡ build_in (command_of command.entry) }
+/// The `build_version_command` at `place`.
+fn build_from(image: Bytes, place: u64) -> Build
+    requires { place + structure_size BuildVersionCommand ≤ length (bytes_of image) }
+    ensures { result ≡ build_at (bytes_of image.entry) place }
 {
-    let bytes = Bytes::new(command.bytes);
     Build {
-        place: command.place,
-        platform: word_at(bytes, PLATFORM),
-        minos: word_at(bytes, MINOS),
-        sdk: word_at(bytes, SDK),
+        place,
+        platform: word_in(image, place, PLATFORM),
+        minos: word_in(image, place, MINOS),
+        sdk: word_in(image, place, SDK),
     }
 }

@@ -32,7 +32,8 @@ pub struct Commands<'a> {
 impl<'a> Model for Commands<'a> {
     ghost use Rattle.std.specs.Prelude.{List};
     ghost use Rattle.macho_fields.specs.Bytes.{bytes_of};
-    ghost use Rattle.macho_image.specs.Command.{CommandView, commands_left, CanWalk};
+    ghost use Rattle.macho_image.specs.Command.{CommandView};
+    ghost use Rattle.macho_image.specs.Scaffold.{commands_left, CanWalk};
 
     ghost Value = { List CommandView };
 
@@ -64,7 +65,8 @@ impl<'a> Iterator for Commands<'a> {
 
 impl<'a> Commands<'a> {
     ghost use Rattle.std.specs.Iterator.{YieldsFirstBy};
-    ghost use Rattle.macho_image.specs.Command.{command_of, left_of_kind};
+    ghost use Rattle.macho_image.specs.Command.{command_of};
+    ghost use Rattle.macho_image.specs.Scaffold.{left_of_kind};
 
     /// The next command whose `cmd` is `wanted`. The commands before it are skipped.
     pub(crate) fn next_of_kind(&mut self, wanted: u32) -> Option<Command<'a>>
@@ -85,7 +87,7 @@ fn command_from(image: Bytes, place: u64) -> Command
     requires inside { commands_end (bytes_of image) ≤ length (bytes_of image) }
     ensures { command_of result ≡ command_at (bytes_of image.entry) place }
 {
-    let size = word_at(image, place + COMMAND_SIZE);
+    let size = word_at(image, place + CMDSIZE);
     let span = Span {
         start: place,
         len: u64::from(size),
@@ -99,7 +101,7 @@ fn command_from(image: Bytes, place: u64) -> Command
 }
 
 /// The offset of `cmdsize` in a command.
-pub(crate) const COMMAND_SIZE: u64 = 4;
+pub(crate) const CMDSIZE: u64 = 4;
 
 /// The 32-bit field at `place`.
 pub(crate) fn word_at(bytes: Bytes, place: u64) -> u32

@@ -4,13 +4,19 @@
 ghost use Rattle.std.specs.Prelude.{◌≡◌, ◌+◌, ◌≤◌, length};
 ghost use Rattle.macho_fields.specs.Bytes.{bytes_of};
 ghost use Rattle.macho_fields.specs.Image.{word};
-ghost use Rattle.macho_image.specs.Command.{command_of};
-ghost use Rattle.macho_image.specs.Symbol.{dysymtab_in};
+ghost use Rattle.macho_fields.specs.LoadCommands.{structure_size};
+ghost use Rattle.macho_fields.specs.declared.load_command.Structure.TheVariants.{DysymtabCommand};
+ghost use Rattle.macho_image.specs.Symbol.{dysymtab_at};
 
-use crate::command::{Command, word_at};
+use crate::command::word_in;
 use crate::image::Image;
 use macho_fields::Bytes;
 use macho_fields::header::loader::LC_DYSYMTAB;
+use macho_fields::header::loader::dysymtab_command::{
+    EXTREFSYMOFF, EXTRELOFF, IEXTDEFSYM, ILOCALSYM, INDIRECTSYMOFF, IUNDEFSYM, LOCRELOFF,
+    MODTABOFF, NEXTDEFSYM, NEXTREFSYMS, NEXTREL, NINDIRECTSYMS, NLOCALSYM, NLOCREL, NMODTAB, NTOC,
+    NUNDEFSYM, TOCOFF,
+};
 
 /// The `LC_DYSYMTAB` command: three groups of symbols, each a first index in the symbol table and a
 /// number of symbols, and six tables, each an offset in bytes and a number of entries.
@@ -60,88 +66,52 @@ pub struct Dysymtab {
 impl<'a> Image<'a> {
     ghost use Rattle.std.specs.Prelude.{◌≡◌};
     ghost use Rattle.std.specs.Option.{option_map};
-    ghost use Rattle.macho_image.specs.Command.{OfCommands, first_of_kind};
+    ghost use Rattle.macho_fields.specs.Image.{commands_of};
+    ghost use Rattle.macho_image.specs.Command.{first_of_kind};
     ghost use Rattle.macho_image.specs.Symbol.{dysymtab_at};
 
     /// The `LC_DYSYMTAB` command, or `None` where the image has none.
     pub fn dysymtab(&self) -> Option<Dysymtab>
-        ensures { OfCommands self.now (λ commands.
-            result ≡ option_map (dysymtab_at self.now) (first_of_kind self.now LC_DYSYMTAB commands)) }
+        ensures { result ≡ option_map (dysymtab_at self.now)
+            (first_of_kind self.now LC_DYSYMTAB (commands_of self.now)) }
     {
-        let command = self.commands().next_of_kind(LC_DYSYMTAB)?;
-        Some(dysymtab_from(command))
+        let place = self.place_of(LC_DYSYMTAB)?;
+        Some(dysymtab_from(self.bytes(), place))
     }
 }
 
-// The offsets of the fields in `dysymtab_command`.
-const ILOCALSYM: u64 = 8;
-
-const NLOCALSYM: u64 = 12;
-
-const IEXTDEFSYM: u64 = 16;
-
-const NEXTDEFSYM: u64 = 20;
-
-const IUNDEFSYM: u64 = 24;
-
-const NUNDEFSYM: u64 = 28;
-
-const TOCOFF: u64 = 32;
-
-const NTOC: u64 = 36;
-
-const MODTABOFF: u64 = 40;
-
-const NMODTAB: u64 = 44;
-
-const EXTREFSYMOFF: u64 = 48;
-
-const NEXTREFSYMS: u64 = 52;
-
-const INDIRECTSYMOFF: u64 = 56;
-
-const NINDIRECTSYMS: u64 = 60;
-
-const EXTRELOFF: u64 = 64;
-
-const NEXTREL: u64 = 68;
-
-const LOCRELOFF: u64 = 72;
-
-const NLOCREL: u64 = 76;
-
-fn dysymtab_from(command: Command) -> Dysymtab
-    requires { 80 ≤ length command.bytes.now }
-    ensures { result ≡ dysymtab_in (command_of command.entry) }
+/// The `dysymtab_command` at `place`.
+fn dysymtab_from(image: Bytes, place: u64) -> Dysymtab
+    requires { place + structure_size DysymtabCommand ≤ length (bytes_of image) }
+    ensures { result ≡ dysymtab_at (bytes_of image.entry) place }
 {
-    let bytes = Bytes::new(command.bytes);
     Dysymtab {
-        place: command.place,
-        ilocalsym: field_at(bytes, ILOCALSYM),
-        nlocalsym: field_at(bytes, NLOCALSYM),
-        iextdefsym: field_at(bytes, IEXTDEFSYM),
-        nextdefsym: field_at(bytes, NEXTDEFSYM),
-        iundefsym: field_at(bytes, IUNDEFSYM),
-        nundefsym: field_at(bytes, NUNDEFSYM),
-        tocoff: field_at(bytes, TOCOFF),
-        ntoc: field_at(bytes, NTOC),
-        modtaboff: field_at(bytes, MODTABOFF),
-        nmodtab: field_at(bytes, NMODTAB),
-        extrefsymoff: field_at(bytes, EXTREFSYMOFF),
-        nextrefsyms: field_at(bytes, NEXTREFSYMS),
-        indirectsymoff: field_at(bytes, INDIRECTSYMOFF),
-        nindirectsyms: field_at(bytes, NINDIRECTSYMS),
-        extreloff: field_at(bytes, EXTRELOFF),
-        nextrel: field_at(bytes, NEXTREL),
-        locreloff: field_at(bytes, LOCRELOFF),
-        nlocrel: field_at(bytes, NLOCREL),
+        place,
+        ilocalsym: field_in(image, place, ILOCALSYM),
+        nlocalsym: field_in(image, place, NLOCALSYM),
+        iextdefsym: field_in(image, place, IEXTDEFSYM),
+        nextdefsym: field_in(image, place, NEXTDEFSYM),
+        iundefsym: field_in(image, place, IUNDEFSYM),
+        nundefsym: field_in(image, place, NUNDEFSYM),
+        tocoff: field_in(image, place, TOCOFF),
+        ntoc: field_in(image, place, NTOC),
+        modtaboff: field_in(image, place, MODTABOFF),
+        nmodtab: field_in(image, place, NMODTAB),
+        extrefsymoff: field_in(image, place, EXTREFSYMOFF),
+        nextrefsyms: field_in(image, place, NEXTREFSYMS),
+        indirectsymoff: field_in(image, place, INDIRECTSYMOFF),
+        nindirectsyms: field_in(image, place, NINDIRECTSYMS),
+        extreloff: field_in(image, place, EXTRELOFF),
+        nextrel: field_in(image, place, NEXTREL),
+        locreloff: field_in(image, place, LOCRELOFF),
+        nlocrel: field_in(image, place, NLOCREL),
     }
 }
 
-/// The 32-bit field at `place`, as a 64-bit number.
-fn field_at(bytes: Bytes, place: u64) -> u64
-    requires { place + 4 ≤ length (bytes_of bytes) }
-    ensures { result ≡ word (bytes_of bytes.entry) place }
+/// The 32-bit field at `offset` in the structure that begins at `place`, as a 64-bit number.
+fn field_in(image: Bytes, place: u64, offset: u64) -> u64
+    requires { place + offset + 4 ≤ length (bytes_of image) }
+    ensures { result ≡ word (bytes_of image.entry) (place + offset) }
 {
-    u64::from(word_at(bytes, place))
+    u64::from(word_in(image, place, offset))
 }

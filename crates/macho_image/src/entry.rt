@@ -2,7 +2,7 @@
 //! `segment_command_64`, `entry_point_command`)
 
 ghost use Rattle.std.specs.Prelude.{◌≡◌};
-ghost use Rattle.macho_image.specs.Entry.{shows_start};
+ghost use Rattle.macho_fields.specs.Segment.{shows_start};
 
 use crate::image::Image;
 use crate::segment::Segment;
@@ -10,13 +10,13 @@ use crate::segment::Segment;
 impl<'a> Image<'a> {
     ghost use Rattle.std.specs.Prelude.{◌≡◌};
     ghost use Rattle.macho_fields.specs.Segment.{base_of};
-    ghost use Rattle.macho_image.specs.Command.{OfCommands};
+    ghost use Rattle.macho_fields.specs.Image.{commands_of};
     ghost use Rattle.macho_image.specs.Entry.{entry_of};
 
     /// The base address of the image: the `vmaddr` of the first segment with a `fileoff` of 0 whose
     /// `filesize` and `vmsize` are not 0. `None` where there is no such segment.
     pub fn base(&self) -> Option<u64>
-        ensures { OfCommands self.now (λ commands. result ≡ base_of self.now commands) }
+        ensures { result ≡ base_of self.now (commands_of self.now) }
     {
         for segment in self.segments() {
             if shows_start(&segment) {
@@ -29,7 +29,7 @@ impl<'a> Image<'a> {
     /// The address of the entry point: the base address and the `entryoff` of `LC_MAIN`. `None`
     /// where the image has no `LC_MAIN` or no base, and where the sum is 2^64 or more.
     pub fn entry(&self) -> Option<u64>
-        ensures { OfCommands self.now (λ commands. result ≡ entry_of self.now commands) }
+        ensures { result ≡ entry_of self.now (commands_of self.now) }
     {
         let base = self.base()?;
         let main = self.main_command()?;

@@ -1,49 +1,45 @@
 //! An opened image. (`mach-o/loader.h`: `mach_header_64`)
 
 use crate::command::{Commands, word_at};
-use crate::rules::{command_repeated, command_short, dylib_id, name};
+use crate::rules::{command_repeated, command_short, dylib_id, name, unique_places};
+use crate::unique::UniquePlaces;
 use crate::walk::{
-    COMMAND_COUNT, FILE_TYPE, arch_mismatch, arch_of, command_walk, commands_outside, file_type,
+    FILETYPE, Opening, arch_mismatch, arch_of, command_walk, commands_outside, file_type,
     header_truncated,
 };
-use macho_fields::header::loader::{MACH_HEADER_64_SIZE, MH_EXECUTE};
-use macho_fields::{Break, Bytes};
+pub use macho_fields::Kind;
+use macho_fields::{Break, Bytes, file_type_of};
 use std::marker::Model;
 
 /// The bytes of a 64-bit image that breaks no rule of `Image::open`.
 #[derive(Drop)]
 pub struct Image<'a> {
     bytes: Bytes<'a>,
-}
-
-/// The type of an image. (`mach_header_64.filetype`)
-#[derive(Clone, Copy, Debug, PartialEq, Eq)]
-pub enum Kind {
-    /// A program. (`MH_EXECUTE`)
-    Execute,
-    /// A dynamic library. (`MH_DYLIB`)
-    Dylib,
+    unique: UniquePlaces,
 }
 
 impl<'a> Model for Image<'a> {
     ghost use Rattle.std.specs.Prelude.{List, ℕ};
     ghost use Rattle.macho_fields.specs.Bytes.{bytes_of};
-    ghost use Rattle.macho_image.specs.Opened.{IsOpened};
+    ghost use Rattle.macho_image.specs.Opening.{IsKnown};
 
     ghost Value = { List ℕ };
 
     ghost view = { λ image. bytes_of image.bytes };
 
-    ghost invariant = { λ image. IsOpened (bytes_of image.bytes) };
+    ghost invariant = { λ image. IsKnown (bytes_of image.bytes) image.unique };
 }
 
 impl<'a> Image<'a> {
     ghost use Rattle.std.specs.Prelude.{◌≡◌, IfOk, map};
     ghost use Rattle.macho_fields.specs.Bytes.{bytes_of};
-    ghost use Rattle.macho_fields.specs.Layers.{BreaksOpening, Decides};
-    ghost use Rattle.macho_fields.specs.Image.{cpu_type, cpu_subtype};
+    ghost use Rattle.macho_fields.specs.LoadCommands.{IsUnique};
+    ghost use Rattle.macho_fields.specs.Rules.{BreaksImage};
+    ghost use Rattle.macho_fields.specs.Layers.{Continues};
+    ghost use Rattle.macho_fields.specs.Image.{cpu_type, cpu_subtype, commands_of};
     ghost use Rattle.macho_fields.specs.Universal.{masked};
-    ghost use Rattle.macho_image.specs.Command.{OfCommands, command_at};
+    ghost use Rattle.macho_fields.specs.declared.rule.Rule.{Rule};
+    ghost use Rattle.macho_image.specs.Command.{command_at, first_of_kind};
     ghost use Rattle.macho_image.specs.Header.{IsKind};
     ghost use Rattle.macho_image.specs.Opened.{IsOpened};
 
@@ -54,19 +50,30 @@ impl<'a> Image<'a> {
     /// The error is the first broken rule, of `header-truncated` to `name`, and the least offset at
     /// which it is broken.
     pub fn open(bytes: Bytes<'a>, arch: Option<(u32, u32)>) -> Result<Image<'a>, Break>
-        ensures decides { Decides (BreaksOpening (bytes_of bytes.entry) arch) result }
+        ensures decides { Continues (BreaksImage (bytes_of bytes.entry) arch) Rule.Name result }
         ensures image { IfOk result (λ image. image ≡ bytes_of bytes.entry) }
     {
-        header_truncated(bytes)?;
-        arch_mismatch(bytes, arch)?;
-        file_type(bytes)?;
-        commands_outside(bytes)?;
-        command_walk(bytes)?;
-        command_short(bytes)?;
-        command_repeated(bytes)?;
-        dylib_id(bytes)?;
-        name(bytes)?;
-        Ok(Image { bytes })
+        let opening = Opening { bytes, arch };
+        header_truncated(opening)?;
+        arch_mismatch(opening)?;
+        file_type(opening)?;
+        commands_outside(opening)?;
+        command_walk(opening)?;
+        command_short(opening)?;
+        let unique = command_repeated(opening)?;
+        dylib_id(opening, unique)?;
+        name(opening)?;
+        Ok(Image { bytes, unique })
+    }
+
+    /// The image of bytes that break no rule of [`Image::open`], as it found before. They are not
+    /// judged again.
+    pub fn reopen(bytes: Bytes<'a>) -> Image<'a>
+        requires { IsOpened (bytes_of bytes) }
+        ensures { result ≡ bytes_of bytes.entry }
+    {
+        let unique = unique_places(Opening { bytes, arch: None });
+        Image { bytes, unique }
     }
 
     /// All bytes of the image.
@@ -78,16 +85,10 @@ impl<'a> Image<'a> {
     }
 
     /// The type of the image. (`mach_header_64.filetype`)
-    #[tactic(none)]
     pub fn kind(&self) -> Kind
         ensures { IsKind self.now result }
     {
-        let file_type = word_at(self.bytes, FILE_TYPE);
-        if file_type == MH_EXECUTE {
-            Kind::Execute
-        } else {
-            Kind::Dylib
-        }
+        file_type_of(word_at(self.bytes, FILETYPE)).unwrap().kind
     }
 
     /// The `cputype` of the image, and its `cpusubtype` without the capability bits.
@@ -101,14 +102,22 @@ impl<'a> Image<'a> {
 
     /// The `ncmds` load commands, in the order of the file.
     pub fn commands(&self) -> Commands<'a>
-        ensures commands { OfCommands self.now (λ commands. result ≡ map (command_at self.now) commands) }
+        ensures commands { result ≡ map (command_at self.now) (commands_of self.now) }
         ensures opened { IsOpened self.now }
     {
-        Commands {
-            image: self.bytes,
-            place: MACH_HEADER_64_SIZE,
-            left: word_at(self.bytes, COMMAND_COUNT),
-        }
+        let opening = Opening {
+            bytes: self.bytes,
+            arch: None,
+        };
+        opening.commands()
+    }
+
+    /// The place of the command of this kind, of which an image has at most one.
+    pub(crate) fn place_of(&self, kind: u32) -> Option<u64>
+        requires { IsUnique kind }
+        ensures { result ≡ first_of_kind self.now kind (commands_of self.now) }
+    {
+        self.unique.of(kind)
     }
 }
 

@@ -4,10 +4,8 @@ use crate::command::word_at;
 use crate::image::Image;
 use crate::table::is_inside;
 use macho_fields::Bytes;
+use macho_fields::header::loader::INDIRECT_ENTRY_SIZE;
 use std::marker::Model;
-
-/// The size in bytes of an indirect entry.
-const ENTRY_SIZE: u64 = 4;
 
 /// An entry of the indirect symbol table: 32 bits. (`indirectsymoff` of `dysymtab_command`)
 #[derive(Clone, Copy, Debug, PartialEq, Eq)]
@@ -31,15 +29,15 @@ impl<'a> Model for Indirects<'a> {
     ghost use Rattle.std.specs.Prelude.{◌+◌, ◌*◌, ◌≤◌, List, length};
     ghost use Rattle.macho_fields.specs.Bytes.{bytes_of};
     ghost use Rattle.macho_image.specs.declared.indirect.Indirect.{Indirect};
-    ghost use Rattle.macho_image.specs.declared.indirect.TheConstants.{ENTRY_SIZE};
-    ghost use Rattle.macho_image.specs.Symbol.{indirects_from};
+    ghost use Rattle.macho_fields.specs.declared.header.loader.TheConstants.{INDIRECT_ENTRY_SIZE};
+    ghost use Rattle.macho_image.specs.Scaffold.{indirects_from};
 
     ghost Value = { List Indirect };
 
     ghost view = { λ entries. indirects_from (bytes_of entries.image) entries.place entries.left };
 
     ghost invariant = { λ entries.
-        entries.place + ENTRY_SIZE * entries.left ≤ length (bytes_of entries.image) };
+        entries.place + INDIRECT_ENTRY_SIZE * entries.left ≤ length (bytes_of entries.image) };
 }
 
 impl<'a> Iterator for Indirects<'a> {
@@ -59,7 +57,7 @@ impl<'a> Iterator for Indirects<'a> {
             place: self.place,
             value: word_at(self.image, self.place),
         };
-        self.place += ENTRY_SIZE;
+        self.place += INDIRECT_ENTRY_SIZE;
         self.left -= 1;
         Some(entry)
     }
@@ -67,24 +65,28 @@ impl<'a> Iterator for Indirects<'a> {
 
 impl<'a> Image<'a> {
     ghost use Rattle.std.specs.Prelude.{◌≡◌, map};
-    ghost use Rattle.macho_image.specs.Command.{OfCommands};
+    ghost use Rattle.macho_fields.specs.Image.{commands_of};
     ghost use Rattle.macho_image.specs.Symbol.{indirects_of, indirect_at};
 
     /// The `nindirectsyms` entries of the indirect symbol table, in its order. None where the table
     /// does not lie inside the image, and where the image has no `LC_DYSYMTAB`.
     pub fn indirects(&self) -> Indirects<'a>
-        ensures { OfCommands self.now (λ commands.
-            result ≡ map (indirect_at self.now) (indirects_of self.now commands)) }
+        ensures { result ≡ map (indirect_at self.now)
+            (indirects_of self.now (commands_of self.now)) }
     {
         let image = self.bytes();
         match self.dysymtab() {
             Some(table)
-                if is_inside(image, table.indirectsymoff, table.nindirectsyms, ENTRY_SIZE) =>
-                Indirects {
+                if is_inside(
                     image,
-                    place: table.indirectsymoff,
-                    left: table.nindirectsyms,
-                },
+                    table.indirectsymoff,
+                    table.nindirectsyms,
+                    INDIRECT_ENTRY_SIZE,
+                ) => Indirects {
+                image,
+                place: table.indirectsymoff,
+                left: table.nindirectsyms,
+            },
             _ => Indirects {
                 image,
                 place: 0,

@@ -17,6 +17,7 @@ pub mod segment;
 pub mod symbol;
 pub mod symtab;
 mod table;
+mod unique;
 pub mod uuid;
 mod walk;
 
@@ -27,7 +28,7 @@ pub use image::{Image, Kind};
 pub use indirect::{Indirect, Indirects};
 pub use library::{Dylib, Dylibs};
 pub use main_command::MainCommand;
-pub use section::{Section, Sections};
+pub use section::{AllSections, Section, Sections};
 pub use segment::{Segment, Segments};
 pub use symbol::{Symbol, Symbols};
 pub use symtab::Symtab;

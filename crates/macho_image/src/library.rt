@@ -1,30 +1,19 @@
 //! The dynamic libraries that an image names. (`mach-o/loader.h`: `dylib_command`)
 
-ghost use Rattle.std.specs.Prelude.{◌≡◌, length};
+ghost use Rattle.std.specs.Prelude.{◌≡◌};
 ghost use Rattle.std.specs.Iterator.{YieldsFirstBy};
 ghost use Rattle.macho_fields.specs.Bytes.{bytes_of};
+ghost use Rattle.macho_fields.specs.Command.{name_start};
+ghost use Rattle.macho_fields.specs.Field.{string_from};
 ghost use Rattle.macho_image.specs.Command.{command_of};
-ghost use Rattle.macho_fields.specs.Field.{HasZero};
-ghost use Rattle.macho_image.specs.Library.{HoldsLibrary, name_from, dylib_of, dylib_in, is_library, libraries_left};
+ghost use Rattle.macho_image.specs.Library.{dylib_of, dylib_at};
+ghost use Rattle.macho_image.specs.Scaffold.{HoldsLibrary, libraries_left};
 
-use crate::command::{Command, Commands, word_at};
+use crate::command::{Command, Commands, word_at, word_in};
 use crate::image::Image;
-use macho_fields::header::loader::{
-    LC_ID_DYLIB, LC_LAZY_LOAD_DYLIB, LC_LOAD_DYLIB, LC_LOAD_UPWARD_DYLIB, LC_LOAD_WEAK_DYLIB,
-    LC_REEXPORT_DYLIB,
-};
-use macho_fields::{Bytes, Span};
+use macho_fields::header::loader::LC_STR_OFFSET;
+use macho_fields::{Bytes, Span, names_library};
 use std::marker::Model;
-
-/// The values of `cmd` of the commands that name a library.
-const LIBRARY_KINDS: [u32; 6] = [
-    LC_LOAD_DYLIB,
-    LC_ID_DYLIB,
-    LC_LAZY_LOAD_DYLIB,
-    LC_LOAD_WEAK_DYLIB,
-    LC_REEXPORT_DYLIB,
-    LC_LOAD_UPWARD_DYLIB,
-];
 
 /// A library that an image is linked with, or the image itself. (`dylib_command`)
 ///
@@ -46,18 +35,21 @@ pub struct Dylib<'a> {
 /// The libraries of an image that remain, in the order of the commands.
 #[derive(Drop)]
 pub struct Dylibs<'a> {
+    image: Bytes<'a>,
     commands: Commands<'a>,
 }
 
 impl<'a> Model for Dylibs<'a> {
     ghost use Rattle.std.specs.Prelude.{List};
-    ghost use Rattle.macho_image.specs.Library.{DylibView, dylibs_left, HoldLibraries};
+    ghost use Rattle.macho_fields.specs.Bytes.{bytes_of};
+    ghost use Rattle.macho_image.specs.Library.{DylibView};
+    ghost use Rattle.macho_image.specs.Scaffold.{dylibs_left, HoldLibraries};
 
     ghost Value = { List DylibView };
 
-    ghost view = { λ dylibs. dylibs_left dylibs.commands };
+    ghost view = { λ dylibs. dylibs_left (bytes_of dylibs.image) dylibs.commands };
 
-    ghost invariant = { λ dylibs. HoldLibraries dylibs.commands };
+    ghost invariant = { λ dylibs. HoldLibraries (bytes_of dylibs.image) dylibs.commands };
 }
 
 impl<'a> Iterator for Dylibs<'a> {
@@ -72,22 +64,22 @@ impl<'a> Iterator for Dylibs<'a> {
 
     fn next(&mut self) -> Option<Dylib<'a>> {
         let command = next_library(&mut self.commands)?;
-        Some(dylib_from(command))
+        Some(dylib_from(self.image, command.place))
     }
 }
 
 impl<'a> Image<'a> {
     ghost use Rattle.std.specs.Prelude.{◌≡◌, map};
-    ghost use Rattle.macho_image.specs.Command.{OfCommands};
+    ghost use Rattle.macho_fields.specs.Image.{commands_of};
     ghost use Rattle.macho_image.specs.Library.{libraries, dylib_at};
 
     /// The libraries that the image names, in the order of the commands. The `LC_ID_DYLIB` of a
     /// library is one of them.
     pub fn dylibs(&self) -> Dylibs<'a>
-        ensures { OfCommands self.now (λ commands.
-            result ≡ map (dylib_at self.now) (libraries self.now commands)) }
+        ensures { result ≡ map (dylib_at self.now) (libraries self.now (commands_of self.now)) }
     {
         Dylibs {
+            image: self.bytes(),
             commands: self.commands(),
         }
     }
@@ -98,53 +90,42 @@ fn next_library<'a>(commands: &mut Commands<'a>) -> Option<Command<'a>>
     ensures { YieldsFirstBy command_of libraries_left commands.old result commands.new }
 {
     while let Some(command) = commands.next() {
-        if is_library_kind(command.cmd) {
+        if names_library(command.cmd) {
             return Some(command);
         }
     }
     None
 }
 
-fn is_library_kind(cmd: u32) -> bool
-    ensures { result ≡ is_library cmd }
-{
-    LIBRARY_KINDS.contains(&cmd)
-}
-
 // The offsets of the fields in `dylib_command`.
-const NAME_OFFSET: u64 = 8;
-
 const CURRENT_VERSION: u64 = 16;
 
 const COMPATIBILITY_VERSION: u64 = 20;
 
-fn dylib_from(command: Command) -> Dylib
-    requires { HoldsLibrary (command_of command) }
-    ensures { dylib_of result ≡ dylib_in (command_of command.entry) }
+/// The `dylib_command` at `place`.
+fn dylib_from(image: Bytes, place: u64) -> Dylib
+    requires { HoldsLibrary (bytes_of image) place }
+    ensures { dylib_of result ≡ dylib_at (bytes_of image.entry) place }
 {
-    let bytes = Bytes::new(command.bytes);
     Dylib {
-        place: command.place,
-        cmd: command.cmd,
-        name: name_from(bytes, u64::from(word_at(bytes, NAME_OFFSET))),
-        current: word_at(bytes, CURRENT_VERSION),
-        compatible: word_at(bytes, COMPATIBILITY_VERSION),
+        place,
+        cmd: word_at(image, place),
+        name: name_of(image, place),
+        current: word_in(image, place, CURRENT_VERSION),
+        compatible: word_in(image, place, COMPATIBILITY_VERSION),
     }
 }
 
-/// The bytes from `start` up to the first zero byte.
-fn name_from(bytes: Bytes, start: u64) -> &[u8]
-    requires { HasZero (bytes_of bytes) start (length (bytes_of bytes)) }
-    ensures { result.now ≡ name_from (bytes_of bytes.entry) start }
+/// The name of the `dylib_command` at `place`.
+fn name_of(image: Bytes, place: u64) -> &[u8]
+    requires { HoldsLibrary (bytes_of image) place }
+    ensures { result.now ≡ string_from (name_start (bytes_of image.entry) place)
+        (bytes_of image.entry) }
 {
+    let start = place + u64::from(word_in(image, place, LC_STR_OFFSET));
     let rest = Span {
         start,
-        len: bytes.len() - start,
+        len: image.len() - start,
     };
-    let end = bytes.first_zero(rest).unwrap();
-    let name = Span {
-        start,
-        len: end - start,
-    };
-    bytes.part(name).unwrap()
+    image.string_in(rest).unwrap()
 }

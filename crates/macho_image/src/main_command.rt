@@ -1,15 +1,17 @@
 //! The entry point of a program. (`mach-o/loader.h`: `entry_point_command`)
 
-ghost use Rattle.std.specs.Prelude.{◌≡◌, ◌≤◌, length};
-ghost use Rattle.macho_image.specs.Command.{command_of};
-ghost use Rattle.macho_image.specs.Single.{main_command_in};
+ghost use Rattle.std.specs.Prelude.{◌≡◌, ◌+◌, ◌≤◌, length};
+ghost use Rattle.macho_fields.specs.Bytes.{bytes_of};
+ghost use Rattle.macho_fields.specs.LoadCommands.{structure_size};
+ghost use Rattle.macho_fields.specs.declared.load_command.Structure.TheVariants.{EntryPointCommand};
+ghost use Rattle.macho_image.specs.Single.{main_command_at};
 
-use crate::command::{Command, long_at};
+use crate::command::long_in;
 use crate::image::Image;
 use macho_fields::Bytes;
 use macho_fields::header::loader::LC_MAIN;
 
-/// The `LC_MAIN` command. (`entry_point_command` of `mach-o/loader.h`)
+/// The `LC_MAIN` command. (`entry_point_command`)
 #[derive(Clone, Copy, Debug, PartialEq, Eq)]
 pub struct MainCommand {
     /// Where its command begins in the image.
@@ -23,16 +25,17 @@ pub struct MainCommand {
 impl<'a> Image<'a> {
     ghost use Rattle.std.specs.Prelude.{◌≡◌};
     ghost use Rattle.std.specs.Option.{option_map};
-    ghost use Rattle.macho_image.specs.Command.{OfCommands, first_of_kind};
+    ghost use Rattle.macho_fields.specs.Image.{commands_of};
+    ghost use Rattle.macho_image.specs.Command.{first_of_kind};
     ghost use Rattle.macho_image.specs.Single.{main_command_at};
 
     /// The `LC_MAIN` command, or `None` where the image has none.
     pub fn main_command(&self) -> Option<MainCommand>
-        ensures { OfCommands self.now (λ commands.
-            result ≡ option_map (main_command_at self.now) (first_of_kind self.now LC_MAIN commands)) }
+        ensures { result ≡ option_map (main_command_at self.now)
+            (first_of_kind self.now LC_MAIN (commands_of self.now)) }
     {
-        let command = self.commands().next_of_kind(LC_MAIN)?;
-        Some(main_command_from(command))
+        let place = self.place_of(LC_MAIN)?;
+        Some(main_command_from(self.bytes(), place))
     }
 }
 
@@ -41,14 +44,14 @@ const ENTRYOFF: u64 = 8;
 
 const STACKSIZE: u64 = 16;
 
-fn main_command_from(command: Command) -> MainCommand
-    requires { 24 ≤ length command.bytes.now }
-    ensures { result ≡ main_command_in (command_of command.entry) }
+/// The `entry_point_command` at `place`.
+fn main_command_from(image: Bytes, place: u64) -> MainCommand
+    requires { place + structure_size EntryPointCommand ≤ length (bytes_of image) }
+    ensures { result ≡ main_command_at (bytes_of image.entry) place }
 {
-    let bytes = Bytes::new(command.bytes);
     MainCommand {
-        place: command.place,
-        entryoff: long_at(bytes, ENTRYOFF),
-        stacksize: long_at(bytes, STACKSIZE),
+        place,
+        entryoff: long_in(image, place, ENTRYOFF),
+        stacksize: long_in(image, place, STACKSIZE),
     }
 }

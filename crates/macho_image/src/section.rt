@@ -1,7 +1,8 @@
 //! The sections of a segment. (`mach-o/loader.h`: `section_64`)
 
 use crate::command::{long_in, word_in};
-use crate::segment::short_name;
+use crate::image::Image;
+use crate::segment::{Segment, Segments, short_name};
 use macho_fields::Bytes;
 use macho_fields::header::loader::{
     S_GB_ZEROFILL, S_THREAD_LOCAL_ZEROFILL, S_ZEROFILL, SECTION_64_SIZE, SECTION_TYPE,
@@ -12,24 +13,39 @@ use std::marker::Model;
 #[derive(Drop)]
 pub struct Section<'a> {
     image: Bytes<'a>,
+    segment: u64,
     place: u64,
 }
 
 impl<'a> Model for Section<'a> {
     ghost use Rattle.macho_fields.specs.Bytes.{bytes_of};
-    ghost use Rattle.macho_image.specs.Segment.{Structure, structure_at, HoldsSection};
+    ghost use Rattle.macho_image.specs.Segment.{SectionView, section_at};
+    ghost use Rattle.macho_image.specs.Scaffold.{HoldsSection};
 
-    ghost Value = { Structure };
+    ghost Value = { SectionView };
 
-    ghost view = { λ section. structure_at (bytes_of section.image) section.place };
+    ghost view = { λ section.
+        section_at (bytes_of section.image) (section.segment, section.place) };
 
-    ghost invariant = { λ section. HoldsSection (bytes_of section.image) section.place };
+    ghost invariant = { λ section.
+        HoldsSection (bytes_of section.image) section.segment section.place };
 }
 
 impl<'a> Section<'a> {
-    ghost use Rattle.std.specs.Prelude.{◌≡◌};
-    ghost use Rattle.macho_fields.specs.Segment.{section_address, section_size, section_offset, reloff, nreloc, section_flags, is_zero_fill};
-    ghost use Rattle.macho_image.specs.Segment.{section_name};
+    ghost use Rattle.std.specs.Prelude.{◌≡◌, ◌%◌};
+    ghost use Rattle.macho_fields.specs.Segment.{section_address, section_size, section_offset};
+    ghost use Rattle.macho_fields.specs.Segment.{reloff, nreloc, section_flags, is_zero_fill};
+    ghost use Rattle.macho_image.specs.Segment.{segment_at, section_name};
+
+    /// The segment that it belongs to.
+    pub fn segment(&self) -> Segment<'a>
+        ensures { result ≡ segment_at self.now.image self.now.segment }
+    {
+        Segment {
+            image: self.image,
+            place: self.segment,
+        }
+    }
 
     /// Where its `section_64` begins in the image.
     pub fn place(&self) -> u64
@@ -92,11 +108,17 @@ impl<'a> Section<'a> {
     pub fn is_zero_fill(&self) -> bool
         ensures { result ≡ is_zero_fill self.now.image self.now.place }
     {
-        let section_type = word_in(self.image, self.place, FLAGS) & SECTION_TYPE;
         matches!(
-            section_type,
+            self.section_type(),
             S_ZEROFILL | S_GB_ZEROFILL | S_THREAD_LOCAL_ZEROFILL
         )
+    }
+
+    /// Its type: the low byte of its flags.
+    fn section_type(&self) -> u32
+        ensures { result ≡ section_flags self.now.image self.now.place % 256 }
+    {
+        word_in(self.image, self.place, FLAGS) & SECTION_TYPE
     }
 }
 
@@ -104,22 +126,24 @@ impl<'a> Section<'a> {
 #[derive(Drop)]
 pub struct Sections<'a> {
     pub(crate) image: Bytes<'a>,
+    pub(crate) segment: u64,
     pub(crate) place: u64,
     pub(crate) left: u64,
 }
 
 impl<'a> Model for Sections<'a> {
-    ghost use Rattle.std.specs.Prelude.{◌+◌, ◌*◌, ◌≤◌, List, length};
+    ghost use Rattle.std.specs.Prelude.{List};
     ghost use Rattle.macho_fields.specs.Bytes.{bytes_of};
-    ghost use Rattle.macho_fields.specs.declared.header.loader.TheConstants.{SECTION_64_SIZE};
-    ghost use Rattle.macho_image.specs.Segment.{Structure, sections_from};
+    ghost use Rattle.macho_image.specs.Segment.{SectionView};
+    ghost use Rattle.macho_image.specs.Scaffold.{sections_from, HoldSections};
 
-    ghost Value = { List Structure };
+    ghost Value = { List SectionView };
 
-    ghost view = { λ sections. sections_from (bytes_of sections.image) sections.place sections.left };
+    ghost view = { λ sections.
+        sections_from (bytes_of sections.image) sections.segment sections.place sections.left };
 
     ghost invariant = { λ sections.
-        sections.place + SECTION_64_SIZE * sections.left ≤ length (bytes_of sections.image) };
+        HoldSections (bytes_of sections.image) sections.segment sections.place sections.left };
 }
 
 impl<'a> Iterator for Sections<'a> {
@@ -137,11 +161,75 @@ impl<'a> Iterator for Sections<'a> {
         }
         let section = Section {
             image: self.image,
+            segment: self.segment,
             place: self.place,
         };
         self.place += SECTION_64_SIZE;
         self.left -= 1;
         Some(section)
+    }
+}
+
+/// The sections of all segments of an image that remain, in the order of the commands.
+#[derive(Drop)]
+pub struct AllSections<'a> {
+    /// Those of the segment that is reached.
+    sections: Sections<'a>,
+    /// The segments after it.
+    segments: Segments<'a>,
+}
+
+impl<'a> Model for AllSections<'a> {
+    ghost use Rattle.std.specs.Prelude.{◌++◌, List};
+    ghost use Rattle.macho_image.specs.Segment.{SectionView};
+    ghost use Rattle.macho_image.specs.Scaffold.{sections_among};
+
+    ghost Value = { List SectionView };
+
+    ghost view = { λ all. all.sections ++ sections_among all.segments };
+}
+
+impl<'a> Iterator for AllSections<'a> {
+    ghost use Rattle.std.specs.Iterator.{YieldsFirst, item_count};
+
+    type Item = Section<'a>;
+
+    ghost next_gives = { YieldsFirst (λ left. left) };
+
+    ghost remaining = { item_count (λ left. left) };
+
+    fn next(&mut self) -> Option<Section<'a>> {
+        loop {
+            if let Some(section) = self.sections.next() {
+                return Some(section);
+            }
+            let segment = self.segments.next()?;
+            self.sections = segment.sections();
+        }
+    }
+}
+
+impl<'a> Image<'a> {
+    ghost use Rattle.std.specs.Prelude.{◌≡◌, map};
+    ghost use Rattle.macho_fields.specs.Image.{commands_of};
+    ghost use Rattle.macho_image.specs.Opened.{IsOpened};
+    ghost use Rattle.macho_image.specs.Segment.{section_at, sections_of};
+
+    /// The sections of all segments, in the order of the commands.
+    pub fn sections(&self) -> AllSections<'a>
+        ensures sections { result ≡ map (section_at self.now)
+            (sections_of self.now (commands_of self.now)) }
+        ensures opened { IsOpened self.now }
+    {
+        AllSections {
+            sections: Sections {
+                image: self.bytes(),
+                segment: 0,
+                place: 0,
+                left: 0,
+            },
+            segments: self.segments(),
+        }
     }
 }
 

@@ -7,6 +7,7 @@ ghost use Rattle.macho_image.specs.Segment.{short_name};
 use crate::command::{Commands, long_in, word_in};
 use crate::image::Image;
 use crate::section::Sections;
+use macho_fields::header::loader::segment_command_64::NSECTS;
 use macho_fields::header::loader::{LC_SEGMENT_64, SEGMENT_COMMAND_64_SIZE};
 use macho_fields::{Bytes, Span};
 use std::marker::Model;
@@ -14,25 +15,26 @@ use std::marker::Model;
 /// A segment of an image. (`segment_command_64`)
 #[derive(Drop)]
 pub struct Segment<'a> {
-    image: Bytes<'a>,
-    place: u64,
+    pub(crate) image: Bytes<'a>,
+    pub(crate) place: u64,
 }
 
 impl<'a> Model for Segment<'a> {
     ghost use Rattle.macho_fields.specs.Bytes.{bytes_of};
-    ghost use Rattle.macho_image.specs.Segment.{Structure, structure_at, HoldsSegment};
+    ghost use Rattle.macho_image.specs.Segment.{SegmentView, segment_at};
+    ghost use Rattle.macho_image.specs.Scaffold.{HoldsSegment};
 
-    ghost Value = { Structure };
+    ghost Value = { SegmentView };
 
-    ghost view = { λ segment. structure_at (bytes_of segment.image) segment.place };
+    ghost view = { λ segment. segment_at (bytes_of segment.image) segment.place };
 
     ghost invariant = { λ segment. HoldsSegment (bytes_of segment.image) segment.place };
 }
 
 impl<'a> Segment<'a> {
     ghost use Rattle.std.specs.Prelude.{◌≡◌, map};
-    ghost use Rattle.macho_fields.specs.Segment.{vmaddr, vmsize, fileoff, filesize, initprot, nsects, sections_in};
-    ghost use Rattle.macho_image.specs.Segment.{structure_at, segment_name};
+    ghost use Rattle.macho_fields.specs.Segment.{vmaddr, vmsize, fileoff, filesize, initprot, nsects};
+    ghost use Rattle.macho_image.specs.Segment.{section_at, sections_with, segment_name};
 
     /// Where its command begins in the image.
     pub fn place(&self) -> u64
@@ -92,11 +94,12 @@ impl<'a> Segment<'a> {
 
     /// Its sections, in the order of the file.
     pub fn sections(&self) -> Sections<'a>
-        ensures { result ≡ map (structure_at self.now.image)
-            (sections_in self.now.image self.now.place) }
+        ensures { result ≡ map (section_at self.now.image)
+            (sections_with self.now.image self.now.place) }
     {
         Sections {
             image: self.image,
+            segment: self.place,
             place: self.place + SEGMENT_COMMAND_64_SIZE,
             left: self.nsects(),
         }
@@ -113,9 +116,10 @@ pub struct Segments<'a> {
 impl<'a> Model for Segments<'a> {
     ghost use Rattle.std.specs.Prelude.{List};
     ghost use Rattle.macho_fields.specs.Bytes.{bytes_of};
-    ghost use Rattle.macho_image.specs.Segment.{Structure, segments_left, HoldSegments};
+    ghost use Rattle.macho_image.specs.Segment.{SegmentView};
+    ghost use Rattle.macho_image.specs.Scaffold.{segments_left, HoldSegments};
 
-    ghost Value = { List Structure };
+    ghost Value = { List SegmentView };
 
     ghost view = { λ segments. segments_left (bytes_of segments.image) segments.commands };
 
@@ -143,14 +147,14 @@ impl<'a> Iterator for Segments<'a> {
 impl<'a> Image<'a> {
     ghost use Rattle.std.specs.Prelude.{◌≡◌, map};
     ghost use Rattle.macho_fields.specs.Segment.{segments_of, section_count};
-    ghost use Rattle.macho_image.specs.Command.{OfCommands};
+    ghost use Rattle.macho_fields.specs.Image.{commands_of};
     ghost use Rattle.macho_image.specs.Opened.{IsOpened};
-    ghost use Rattle.macho_image.specs.Segment.{structure_at};
+    ghost use Rattle.macho_image.specs.Segment.{segment_at};
 
     /// The segments of the image, one for each `LC_SEGMENT_64`, in the order of the commands.
     pub fn segments(&self) -> Segments<'a>
-        ensures segments { OfCommands self.now (λ commands.
-            result ≡ map (structure_at self.now) (segments_of self.now commands)) }
+        ensures segments { result ≡ map (segment_at self.now)
+            (segments_of self.now (commands_of self.now)) }
         ensures opened { IsOpened self.now }
     {
         Segments {
@@ -161,7 +165,7 @@ impl<'a> Image<'a> {
 
     /// The number of sections of all segments of the image: the sum of `nsects`.
     pub fn section_count(&self) -> u64
-        ensures { OfCommands self.now (λ commands. result ≡ section_count self.now commands) }
+        ensures { result ≡ section_count self.now (commands_of self.now) }
     {
         let image = self.bytes();
         let mut commands = self.commands();
@@ -179,16 +183,14 @@ pub(crate) fn short_name(image: Bytes, structure: u64, offset: u64) -> &[u8]
     requires { structure + offset + SHORT_NAME_SIZE ≤ length (bytes_of image) }
     ensures { result.now ≡ short_name (bytes_of image.entry) (structure + offset) }
 {
-    let start = structure + offset;
     let whole = Span {
-        start,
+        start: structure + offset,
         len: SHORT_NAME_SIZE,
     };
-    let len = match image.first_zero(whole) {
-        Some(end) => end - start,
-        None => SHORT_NAME_SIZE,
-    };
-    image.part(Span { start, len }).unwrap()
+    match image.string_in(whole) {
+        Some(string) => string,
+        None => image.part(whole).unwrap(),
+    }
 }
 
 /// The size in bytes of the name of a segment or a section.
@@ -206,5 +208,3 @@ const FILEOFF: u64 = 40;
 const FILESIZE: u64 = 48;
 
 const INITPROT: u64 = 60;
-
-const NSECTS: u64 = 64;

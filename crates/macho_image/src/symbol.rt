@@ -41,7 +41,7 @@ impl<'a> Model for Symbols<'a> {
     ghost use Rattle.macho_fields.specs.Bytes.{bytes_of};
     ghost use Rattle.macho_fields.specs.declared.header.nlist.TheConstants.{NLIST_64_SIZE};
     ghost use Rattle.macho_image.specs.declared.symbol.Symbol.{Symbol};
-    ghost use Rattle.macho_image.specs.Symbol.{symbols_from};
+    ghost use Rattle.macho_image.specs.Scaffold.{symbols_from};
 
     ghost Value = { List Symbol };
 
@@ -73,14 +73,13 @@ impl<'a> Iterator for Symbols<'a> {
 
 impl<'a> Image<'a> {
     ghost use Rattle.std.specs.Prelude.{◌≡◌, map};
-    ghost use Rattle.macho_image.specs.Command.{OfCommands};
+    ghost use Rattle.macho_fields.specs.Image.{commands_of};
     ghost use Rattle.macho_image.specs.Symbol.{symbols_of, symbol_at};
 
     /// The `nsyms` symbols of `LC_SYMTAB`, in the order of the table. None where the table does not
     /// lie inside the image, and where the image has no `LC_SYMTAB`.
     pub fn symbols(&self) -> Symbols<'a>
-        ensures { OfCommands self.now (λ commands.
-            result ≡ map (symbol_at self.now) (symbols_of self.now commands)) }
+        ensures { result ≡ map (symbol_at self.now) (symbols_of self.now (commands_of self.now)) }
     {
         let image = self.bytes();
         match self.symtab() {
@@ -98,14 +97,14 @@ impl<'a> Image<'a> {
     }
 }
 
-// The offsets of the fields in `nlist_64`.
-const N_TYPE: u64 = 4;
+// The offsets of `n_type`, `n_sect`, `n_desc` and `n_value` in `nlist_64`.
+const TYPE_OFFSET: u64 = 4;
 
-const N_SECT: u64 = 5;
+const SECT_OFFSET: u64 = 5;
 
-const N_DESC: u64 = 6;
+const DESC_OFFSET: u64 = 6;
 
-const N_VALUE: u64 = 8;
+const VALUE_OFFSET: u64 = 8;
 
 /// The symbol at `place`.
 fn symbol_from(image: Bytes, place: u64) -> Symbol
@@ -115,9 +114,9 @@ fn symbol_from(image: Bytes, place: u64) -> Symbol
     Symbol {
         place,
         strx: word_at(image, place),
-        kind: image.u8_at(place + N_TYPE).unwrap(),
-        sect: image.u8_at(place + N_SECT).unwrap(),
-        desc: image.u16_at(Order::Little, place + N_DESC).unwrap(),
-        value: long_at(image, place + N_VALUE),
+        kind: image.u8_at(place + TYPE_OFFSET).unwrap(),
+        sect: image.u8_at(place + SECT_OFFSET).unwrap(),
+        desc: image.u16_at(Order::Little, place + DESC_OFFSET).unwrap(),
+        value: long_at(image, place + VALUE_OFFSET),
     }
 }

@@ -2,13 +2,15 @@
 
 ghost use Rattle.std.specs.Prelude.{◌≡◌, ◌+◌, ◌≤◌, ◌↔◌, length, IsSome, IfSome};
 ghost use Rattle.macho_fields.specs.Bytes.{bytes_of};
-ghost use Rattle.macho_image.specs.Command.{command_of};
-ghost use Rattle.macho_image.specs.Library.{name_from};
-ghost use Rattle.macho_image.specs.Symbol.{symtab_in, EndsInStrings};
+ghost use Rattle.macho_fields.specs.Field.{string_from};
+ghost use Rattle.macho_fields.specs.LoadCommands.{structure_size};
+ghost use Rattle.macho_fields.specs.declared.load_command.Structure.TheVariants.{SymtabCommand};
+ghost use Rattle.macho_image.specs.Symbol.{symtab_at, EndsInStrings};
 
-use crate::command::{Command, word_at};
+use crate::command::word_in;
 use crate::image::Image;
 use macho_fields::header::loader::LC_SYMTAB;
+use macho_fields::header::loader::symtab_command::{NSYMS, STROFF, STRSIZE, SYMOFF};
 use macho_fields::{Bytes, Span};
 
 /// The `LC_SYMTAB` command: the tables of the symbols and of their names. (`symtab_command`)
@@ -29,33 +31,31 @@ pub struct Symtab {
 impl<'a> Image<'a> {
     ghost use Rattle.std.specs.Prelude.{◌≡◌, ◌↔◌, IsSome, IfSome};
     ghost use Rattle.std.specs.Option.{option_map};
-    ghost use Rattle.macho_image.specs.Command.{OfCommands, first_of_kind};
+    ghost use Rattle.macho_fields.specs.Image.{commands_of};
+    ghost use Rattle.macho_image.specs.Command.{first_of_kind};
     ghost use Rattle.macho_image.specs.Symbol.{symtab_at, HasName, IsNameAt};
 
     /// The `LC_SYMTAB` command, or `None` where the image has none.
     pub fn symtab(&self) -> Option<Symtab>
-        ensures { OfCommands self.now (λ commands.
-            result ≡ option_map (symtab_at self.now) (first_of_kind self.now LC_SYMTAB commands)) }
+        ensures { result ≡ option_map (symtab_at self.now)
+            (first_of_kind self.now LC_SYMTAB (commands_of self.now)) }
     {
-        let command = self.commands().next_of_kind(LC_SYMTAB)?;
-        Some(symtab_from(command))
+        let place = self.place_of(LC_SYMTAB)?;
+        Some(symtab_from(self.bytes(), place))
     }
 
     /// The name at `strx`, an offset in bytes in the strings, without the zero byte that ends it.
     /// It is borrowed from the image. `None` where `strx` is 0, where the image has no `LC_SYMTAB`,
     /// where the strings do not lie inside the image, and where none of their bytes ends the name.
     pub fn symbol_name(&self, strx: u32) -> Option<&'a [u8]>
-        ensures named { OfCommands self.now (λ commands.
-            IsSome result ↔ HasName self.now commands strx) }
-        ensures name { OfCommands self.now (λ commands.
-            IfSome result (λ name. IsNameAt self.now commands strx name.now)) }
+        ensures named { IsSome result ↔ HasName self.now (commands_of self.now) strx }
+        ensures name { IfSome result (λ name. IsNameAt self.now (commands_of self.now) strx name.now) }
     {
-        let image = self.bytes();
-        let symtab = self.symtab()?;
         if strx == 0 {
             return None;
         }
-        name_in(image, symtab, u64::from(strx))
+        let symtab = self.symtab()?;
+        name_in(self.bytes(), symtab, u64::from(strx))
     }
 }
 
@@ -64,44 +64,30 @@ fn name_in<'a>(image: Bytes<'a>, symtab: Symtab, strx: u64) -> Option<&'a [u8]>
     ensures named { IsSome result ↔
         EndsInStrings (bytes_of image.entry) symtab.stroff symtab.strsize strx }
     ensures name { IfSome result (λ name.
-        name.now ≡ name_from (bytes_of image.entry) (symtab.stroff + strx)) }
+        name.now ≡ string_from (symtab.stroff + strx) (bytes_of image.entry)) }
 {
     let strings = Span {
         start: symtab.stroff,
         len: symtab.strsize,
     };
-    if strings.end() > u128::from(image.len()) {
+    if !image.contains(strings) {
         return None;
     }
-    let rest = symtab.strsize.checked_sub(strx)?;
+    let len = symtab.strsize.checked_sub(strx)?;
     let start = symtab.stroff + strx;
-    let end = image.first_zero(Span { start, len: rest })?;
-    let name = Span {
-        start,
-        len: end - start,
-    };
-    image.part(name)
+    image.string_in(Span { start, len })
 }
 
-// The offsets of the fields in `symtab_command`.
-const SYMOFF: u64 = 8;
-
-const NSYMS: u64 = 12;
-
-const STROFF: u64 = 16;
-
-const STRSIZE: u64 = 20;
-
-fn symtab_from(command: Command) -> Symtab
-    requires { 24 ≤ length command.bytes.now }
-    ensures { result ≡ symtab_in (command_of command.entry) }
+/// The `symtab_command` at `place`.
+fn symtab_from(image: Bytes, place: u64) -> Symtab
+    requires { place + structure_size SymtabCommand ≤ length (bytes_of image) }
+    ensures { result ≡ symtab_at (bytes_of image.entry) place }
 {
-    let bytes = Bytes::new(command.bytes);
     Symtab {
-        place: command.place,
-        symoff: u64::from(word_at(bytes, SYMOFF)),
-        nsyms: u64::from(word_at(bytes, NSYMS)),
-        stroff: u64::from(word_at(bytes, STROFF)),
-        strsize: u64::from(word_at(bytes, STRSIZE)),
+        place,
+        symoff: u64::from(word_in(image, place, SYMOFF)),
+        nsyms: u64::from(word_in(image, place, NSYMS)),
+        stroff: u64::from(word_in(image, place, STROFF)),
+        strsize: u64::from(word_in(image, place, STRSIZE)),
     }
 }

@@ -1,38 +1,46 @@
 //! The UUID of a build. (`mach-o/loader.h`: `uuid_command`)
 
-ghost use Rattle.std.specs.Prelude.{◌≡◌, ◌≤◌, length};
-ghost use Rattle.macho_image.specs.Command.{command_of};
-ghost use Rattle.macho_image.specs.Single.{uuid_in};
+ghost use Rattle.std.specs.Prelude.{◌≡◌, ◌+◌, ◌≤◌, length};
+ghost use Rattle.macho_fields.specs.Bytes.{bytes_of};
+ghost use Rattle.macho_fields.specs.LoadCommands.{structure_size};
+ghost use Rattle.macho_fields.specs.declared.load_command.Structure.TheVariants.{UuidCommand};
+ghost use Rattle.macho_image.specs.Single.{uuid_at};
 
-use crate::command::Command;
 use crate::image::Image;
 use macho_fields::header::loader::LC_UUID;
+use macho_fields::{Bytes, Span};
 
 impl<'a> Image<'a> {
     ghost use Rattle.std.specs.Prelude.{◌≡◌};
     ghost use Rattle.std.specs.Option.{option_map};
-    ghost use Rattle.macho_image.specs.Command.{OfCommands, first_of_kind};
+    ghost use Rattle.macho_fields.specs.Image.{commands_of};
+    ghost use Rattle.macho_image.specs.Command.{first_of_kind};
     ghost use Rattle.macho_image.specs.Single.{uuid_at};
 
     /// The 16 bytes of the UUID of the build, or `None` where the image has no `LC_UUID`.
     /// (`uuid_command`)
     pub fn uuid(&self) -> Option<[u8; 16]>
-        ensures { OfCommands self.now (λ commands.
-            result ≡ option_map (uuid_at self.now) (first_of_kind self.now LC_UUID commands)) }
+        ensures { result ≡ option_map (uuid_at self.now)
+            (first_of_kind self.now LC_UUID (commands_of self.now)) }
     {
-        let command = self.commands().next_of_kind(LC_UUID)?;
-        Some(uuid_from(command))
+        let place = self.place_of(LC_UUID)?;
+        Some(uuid_from(self.bytes(), place))
     }
 }
 
-// The offsets in `uuid_command` at which the field `uuid` begins and ends.
-const UUID: usize = 8;
+/// The offset of the field `uuid` in `uuid_command`, and its size in bytes.
+const UUID: u64 = 8;
 
-const UUID_END: usize = 24;
+const UUID_SIZE: u64 = 16;
 
-fn uuid_from(command: Command) -> [u8; 16]
-    requires { 24 ≤ length command.bytes.now }
-    ensures { result ≡ uuid_in (command_of command.entry) }
+/// The UUID of the `uuid_command` at `place`.
+fn uuid_from(image: Bytes, place: u64) -> [u8; 16]
+    requires { place + structure_size UuidCommand ≤ length (bytes_of image) }
+    ensures { result ≡ uuid_at (bytes_of image.entry) place }
 {
-    <[u8; 16]>::try_from(&command.bytes[UUID..UUID_END]).unwrap()
+    let uuid = Span {
+        start: place + UUID,
+        len: UUID_SIZE,
+    };
+    <[u8; 16]>::try_from(image.part(uuid).unwrap()).unwrap()
 }

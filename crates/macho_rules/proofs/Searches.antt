@@ -1,9 +1,9 @@
 -- A search for the first item that breaks a rule, over items whose places do not fall.
-use Rattle.std.proofs.Common.{◌≡◌, ℕ, suc, zero, ◌+◌, ◌≤◌, ◌<◌, ◌⊎◌, List, [], ◌∷◌, map, Contains, refl, sym, subst, arith, inl, inr, le_refl}
+use Rattle.std.proofs.Common.{◌≡◌, ℕ, suc, zero, ◌+◌, ◌≤◌, ◌<◌, ◌⊎◌, List, [], ◌∷◌, ◌++◌, map, filter, Any, Bool, Contains, refl, sym, subst, arith, inl, inr, le_refl}
 use Rattle.std.specs.Prelude.{⊤}
 use Rattle.std.specs.List.{range_with_len}
-use Rattle.std.proofs.lemmas.Bool.{cases_eq}
-use Rattle.macho_fields.specs.declared.rule.Rule.{Rule}
+use Rattle.std.proofs.lemmas.Bool.{cases_Bool, cases_eq}
+use Rattle.std.proofs.lemmas.List.Elements.{Contains-append_cases, All-contains, All-filter, All-contains_itself}
 
 pub has_nothing : {X : Type 0} (x : X) → ¬ Contains [] x
 has_nothing x (k, less, at) = absurd (omega arith)
@@ -18,10 +18,35 @@ pub first_or_later : {X : Type 0} (x y : X) (xs : List X) → Contains (x ∷ xs
 first_or_later x y xs (zero, less, at) = inl at
 first_or_later x y xs (suc k, less, at) = inr (k, omega arith, at)
 
+-- each item and each later one have R
+abbrev pub Ordered : {X : Type 0} → (X → X → Type 0) → List X → Type 0
+Ordered R [] = ⊤
+Ordered {X = X} R (x ∷ xs) = ((y : X) → Contains xs y → R x y) × Ordered R xs
+
+pub ordered_weaken : {X : Type 0} (R S : X → X → Type 0) → ((x y : X) → R x y → S x y) → (xs : List X) → Ordered R xs → Ordered S xs
+ordered_weaken R S to [] order = tt
+ordered_weaken R S to (x ∷ xs) (first, rest) = (λ y has. to x y (first y has), ordered_weaken R S to xs rest)
+
+pub ordered_append : {X : Type 0} (R : X → X → Type 0) (xs ys : List X) → Ordered R xs → Ordered R ys → ((x y : X) → Contains xs x → Contains ys y → R x y) → Ordered R (xs ++ ys)
+ordered_append R [] ys up down across = down
+ordered_append {X = X} R (x ∷ xs) ys (first, up) down across =
+    (λ y has. either y (Contains-append_cases xs ys y has), ordered_append R xs ys up down (λ a b has_a has_b. across a b (has_later x a xs has_a) has_b))
+  where
+    either : (y : X) → Contains xs y ⊎ Contains ys y → R x y
+    either y (inl among) = first y among
+    either y (inr after) = across x y (has_first x xs) after
+
+unfiltered : {X : Type 0} (test : X → Bool) (xs : List X) (y : X) → Contains (filter test xs) y → Contains xs y
+unfiltered test xs y has = All-contains (Contains xs) (filter test xs) y (All-filter test (Contains xs) xs (All-contains_itself xs)) has
+
+pub ordered_filter : {X : Type 0} (R : X → X → Type 0) (test : X → Bool) (xs : List X) → Ordered R xs → Ordered R (filter test xs)
+ordered_filter R test [] up = tt
+ordered_filter R test (x ∷ xs) (first, up) =
+    let rest = ordered_filter R test xs up in elim (cases_Bool (test x)) [ inl t ↦ rw t (λ y has. first y (unfiltered test xs y has), rest) | inr f ↦ rw f rest ]
+
 -- the place of each item is not below that of an earlier one
 abbrev pub Rising : {X : Type 0} → (X → ℕ) → List X → Type 0
-Rising place [] = ⊤
-Rising {X = X} place (x ∷ xs) = ((y : X) → Contains xs y → place x ≤ place y) × Rising place xs
+Rising place xs = Ordered (λ a b. place a ≤ place b) xs
 
 -- Of all items these are left, and none that was passed has P.
 pub record Searching {X : Type 0} (place : X → ℕ) (P : X → Type 0) (all left : List X) : Type 0 where
@@ -32,17 +57,32 @@ pub record Searching {X : Type 0} (place : X → ℕ) (P : X → Type 0) (all le
 pub search_all : {X : Type 0} (place : X → ℕ) (P : X → Type 0) (all : List X) → Rising place all → Searching place P all all
 search_all place P all rising = record { rising = rising; among = λ x has. has; ahead = λ x has is. has }
 
-pub search_next : {X : Type 0} (place : X → ℕ) (P : X → Type 0) (all left rest : List X) (x : X) → left ≡ x ∷ rest → Searching place P all left → ¬ P x → Searching place P all rest
-search_next {X = X} place P all left rest x is search passed =
-    let rising : Rising place (x ∷ rest) = subst (Rising place) is search.rising in record {
-      rising = rising.1;
-      among = λ y has. search.among y (subst (λ ys. Contains ys y) (sym is) (has_later x y rest has));
-      ahead = λ y has broken. later y broken (first_or_later x y rest (subst (λ ys. Contains ys y) is (search.ahead y has broken)));
-    }
-  where
-    later : (y : X) → P y → (x ≡ y) ⊎ Contains rest y → Contains rest y
-    later y broken (inl same) = absurd (passed (subst P (sym same) broken))
-    later y broken (inr has) = has
+module _ {X : Type 0} (place : X → ℕ) (P : X → Type 0) (all left rest : List X) (x : X) (is : left ≡ x ∷ rest) (search : Searching place P all left) where
+  pub first_among : Contains all x
+  first_among = search.among x (subst (λ ys. Contains ys x) (sym is) (has_first x rest))
+
+  pub search_next : ¬ P x → Searching place P all rest
+  search_next passed =
+      let rising : Rising place (x ∷ rest) = subst (Rising place) is search.rising in record {
+        rising = rising.1;
+        among = λ y has. search.among y (subst (λ ys. Contains ys y) (sym is) (has_later x y rest has));
+        ahead = λ y has broken. later y broken (first_or_later x y rest (subst (λ ys. Contains ys y) is (search.ahead y has broken)));
+      }
+    where
+      later : (y : X) → P y → (x ≡ y) ⊎ Contains rest y → Contains rest y
+      later y broken (inl same) = absurd (passed (subst P (sym same) broken))
+      later y broken (inr has) = has
+
+  -- an item with P is not before the first that is left
+  pub not_before : (y : X) → Contains all y → P y → place x ≤ place y
+  not_before y has broken = first_or (first_or_later x y rest (subst (λ ys. Contains ys y) is (search.ahead y has broken)))
+    where
+      first_or : (x ≡ y) ⊎ Contains rest y → place x ≤ place y
+      first_or (inl same) = subst (λ z. place x ≤ place z) same (le_refl (place x))
+      first_or (inr later) = (subst (Rising place) is search.rising).0 y later
+
+pub none_left : {X : Type 0} (place : X → ℕ) (P : X → Type 0) (all left : List X) → left ≡ [] → Searching place P all left → (x : X) → Contains all x → ¬ P x
+none_left place P all left is search x has broken = has_nothing x (subst (λ ys. Contains ys x) is (search.ahead x has broken))
 
 -- the breaks of a rule are the places of the items with P
 pub record AreBreaks {X : Type 0} (breaks : ℕ → Type 0) (place : X → ℕ) (P : X → Type 0) (all : List X) : Type 0 where
@@ -50,17 +90,13 @@ pub record AreBreaks {X : Type 0} (breaks : ℕ → Type 0) (place : X → ℕ) 
   pub only : (p : ℕ) → breaks p → (x : X) × Contains all x × P x × (place x ≡ p)
 
 -- the first item with P has the least place
-pub search_found : {X : Type 0} (breaks : ℕ → Type 0) (r : Rule) (place : X → ℕ) (P : X → Type 0) (all left rest : List X) (x : X) → left ≡ x ∷ rest → AreBreaks breaks place P all
-    → Searching place P all left → P x → (r ≡ r) × breaks (place x) × ((p : ℕ) → breaks p → place x ≤ p)
-search_found {X = X} breaks r place P all left rest x is breaking search here =
-    (refl, breaking.broken x (search.among x (subst (λ ys. Contains ys x) (sym is) (has_first x rest))) here, λ p broken. least p (breaking.only p broken))
+pub search_found : {X : Type 0} (breaks : ℕ → Type 0) (place : X → ℕ) (P : X → Type 0) (all left rest : List X) (x : X) → left ≡ x ∷ rest → AreBreaks breaks place P all
+    → Searching place P all left → P x → breaks (place x) × ((p : ℕ) → breaks p → place x ≤ p)
+search_found {X = X} breaks place P all left rest x is breaking search here =
+    (breaking.broken x (first_among place P all left rest x is search) here, λ p broken. least p (breaking.only p broken))
   where
-    not_before : (y : X) → (x ≡ y) ⊎ Contains rest y → place x ≤ place y
-    not_before y (inl same) = subst (λ z. place x ≤ place z) same (le_refl (place x))
-    not_before y (inr has) = (subst (Rising place) is search.rising).0 y has
-
     least : (p : ℕ) → (y : X) × Contains all y × P y × (place y ≡ p) → place x ≤ p
-    least p (y, has, broken, at) = subst (λ q. place x ≤ q) at (not_before y (first_or_later x y rest (subst (λ ys. Contains ys y) is (search.ahead y has broken))))
+    least p (y, has, broken, at) = subst (λ q. place x ≤ q) at (not_before place P all left rest x is search y has broken)
 
 -- where all were passed, the rule is unbroken
 pub search_ended : {X : Type 0} (breaks : ℕ → Type 0) (place : X → ℕ) (P : X → Type 0) (all left : List X) → left ≡ [] → AreBreaks breaks place P all → Searching place P all left
@@ -68,7 +104,7 @@ pub search_ended : {X : Type 0} (breaks : ℕ → Type 0) (place : X → ℕ) (P
 search_ended {X = X} breaks place P all left is breaking search p broken = none (breaking.only p broken)
   where
     none : (y : X) × Contains all y × P y × (place y ≡ p) → ⊥
-    none (y, has, at, same) = has_nothing y (subst (λ ys. Contains ys y) is (search.ahead y has at))
+    none (y, has, at, same) = none_left place P all left is search y has at
 
 -- Items of a table, one for each number of a range
 
@@ -111,23 +147,28 @@ mapped_has {A = A} {X = X} at (q ∷ ps) x has = elim (first_or_later (at q) x (
     one_on : (p : A) × Contains ps p × (at p ≡ x) → (p : A) × Contains (q ∷ ps) p × (at p ≡ x)
     one_on (p, has_p, is) = (p, has_later q p ps has_p, is)
 
-pub items_rise : {X : Type 0} (place : X → ℕ) (at : ℕ → X) → ((p : ℕ) → place (at p) ≡ p) → (ps : List ℕ) → Rising (λ p. p) ps → Rising place (map at ps)
-items_rise place at same [] rising = tt
-items_rise {X = X} place at same (q ∷ ps) (first, rest) = (λ y has. above y (mapped_has at ps y has), items_rise place at same ps rest)
+pub ordered_map : {A X : Type 0} (R : X → X → Type 0) (at : A → X) (ps : List A) → Ordered (λ p q. R (at p) (at q)) ps → Ordered R (map at ps)
+ordered_map R at [] order = tt
+ordered_map {A = A} {X = X} R at (q ∷ ps) (first, rest) = (λ y has. above y (mapped_has at ps y has), ordered_map R at ps rest)
   where
-    above : (y : X) → (p : ℕ) × Contains ps p × (at p ≡ y) → place (at q) ≤ place y
-    above y (p, has, is) =
-        let low : q ≤ p = first p has in
-        let here : place (at q) ≡ q = same q in
-        let there : place y ≡ p = subst (λ z. place z ≡ p) is (same p) in omega arith
+    above : (y : X) → (p : A) × Contains ps p × (at p ≡ y) → R (at q) y
+    above y (p, has, is) = subst (R (at q)) is (first p has)
 
 -- a rule that is broken at those places at which an item has P
-pub are_breaks_at : {X : Type 0} (breaks : ℕ → Type 0) (place : X → ℕ) (P : X → Type 0) (at : ℕ → X) → ((p : ℕ) → place (at p) ≡ p) → (ps : List ℕ)
-    → ((p : ℕ) → Contains ps p → P (at p) → breaks p) → ((p : ℕ) → breaks p → Contains ps p × P (at p)) → AreBreaks breaks place P (map at ps)
-are_breaks_at {X = X} breaks place P at same ps to from = record {
+pub are_breaks_at : {A X : Type 0} (breaks : ℕ → Type 0) (place : X → ℕ) (P : X → Type 0) (at : A → X) (ps : List A) → ((p : A) → Contains ps p → P (at p) → breaks (place (at p)))
+    → ((q : ℕ) → breaks q → (p : A) × Contains ps p × P (at p) × (place (at p) ≡ q)) → AreBreaks breaks place P (map at ps)
+are_breaks_at {A = A} {X = X} breaks place P at ps to from = record {
   broken = λ x has here. here_too x here (mapped_has at ps x has);
-  only = λ p broken. (at p, has_mapped at ps p (from p broken).0, (from p broken).1, same p);
+  only = λ q broken. let (p, has, here, same) = from q broken in (at p, has_mapped at ps p has, here, same);
 }
   where
-    here_too : (x : X) → P x → (p : ℕ) × Contains ps p × (at p ≡ x) → breaks (place x)
-    here_too x here (p, has, is) = subst (λ z. breaks (place z)) is (subst breaks (sym (same p)) (to p has (subst P (sym is) here)))
+    here_too : (x : X) → P x → (p : A) × Contains ps p × (at p ≡ x) → breaks (place x)
+    here_too x here (p, has, is) = subst (λ z. breaks (place z)) is (to p has (subst P (sym is) here))
+
+-- whether some item has P, as a search finds it
+
+pub any_of : {X : Type 0} (P : X → Type 0) (xs : List X) (x : X) → Contains xs x → P x → Any P xs
+any_of P xs x (k, less, at) here = (k, x, less, at, here)
+
+pub one_of : {X : Type 0} (P : X → Type 0) (xs : List X) → Any P xs → (x : X) × Contains xs x × P x
+one_of P xs (k, x, less, at, here) = (x, (k, less, at), here)

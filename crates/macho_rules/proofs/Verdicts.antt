@@ -1,44 +1,58 @@
 -- From the answers on slices and images to the verdict on a file.
-use Rattle.std.proofs.Common.{◌≡◌, ◌↔◌, ℕ, suc, ◌+◌, ◌-◌, ◌≤◌, ◌<◌, List, length, map, drop, slice_get, slice_index_or, false, Option, Some, None, Result, Ok, Err, IfOk, IfErr, IfSome, IsSome, IsErrAnd, IsTrue, Bor, nat_lt, inl, inr, refl, sym, ap, ◌∙◌, subst, arith, length-drop}
+use Rattle.std.proofs.Common.{◌≡◌, ◌↔◌, ℕ, suc, ◌+◌, ◌-◌, ◌≤◌, ◌<◌, List, length, map, drop, slice_get, slice_index_or, false, Option, Some, None}
+use Rattle.std.proofs.Common.{Result, Ok, Err, IfErr, OnOk, IfSome, IsErrAnd, IsTrue, Bor, nat_lt, inl, inr, sym, ap, ◌∙◌, subst, arith, length-drop}
 use Rattle.std.specs.Option.{option_map}
 use Rattle.std.proofs.lemmas.List.{length-take-le, length-map}
 use Rattle.std.proofs.lemmas.Option.{slice_get-map, slice_get-get_or, slice_get_past}
 use Rattle.std.proofs.lemmas.Bool.{false≢true, cases_lt, lt-ltb, ltb-true}
 use Rattle.std.specs.Option.{is_some}
-use Rattle.std.specs.Result.{result_ok}
 use Rattle.macho_fields.specs.Field.{part}
 use Rattle.macho_fields.specs.Universal.{FileSlice, slices_of, slice_bytes, IsImage}
-use Rattle.macho_fields.specs.First.{IsUnbroken, IsFirstBroken}
+use Rattle.macho_fields.specs.First.{rank, IsUnbroken}
 use Rattle.macho_fields.specs.Rules.{BreaksImage}
-use Rattle.macho_fields.specs.Layers.{IsLeast, NothingBreaks, Decides, BreaksOpening, BreaksOpened}
-use Rattle.macho_fields.specs.declared.rule.Break.{Break}
-use Rattle.macho_fields.proofs.Images.{opening_first, opened_first, image_unbroken}
-use Rattle.macho_fields.proofs.Ranks.{image_alone}
+use Rattle.macho_fields.specs.Layers.{KeptBelow, NothingBreaks}
+use Rattle.macho_fields.specs.declared.rule.Rule.{Rule}
+use Rattle.macho_fields.proofs.Ranks.{image_alone, commands_alone}
 use Rattle.macho_fields.proofs.Scopes.{KeptScopes, of_slice, file_first, slice_first}
 use Rattle.macho_fields.proofs.Sound.{slice_inside}
 use Rattle.macho_fat.specs.Slices.{slice_of, AreSlices, IsFatFault}
 use Rattle.macho_fat.specs.declared.fault.FatFault.{FatFault}
 use Rattle.macho_fat.specs.declared.fault.FatFault.TheVariants as fault
 use Rattle.macho_fat.specs.declared.slice.Slice.{Slice}
-use Rattle.macho_rules.specs.Verdict.{IsRefusal, IsSliceBreak, IsVerified, refusal_of}
+use Rattle.macho_image.specs.Opened.{IsOpened}
+use Rattle.macho_rules.specs.Verdict.{IsVerified, IsRefusal, IsImageRefusal, IsSliceRefusal, refusal_of}
 use Rattle.macho_rules.specs.declared.refusal.Refusal.{Refusal}
+use Rattle.macho_rules.specs.declared.refusal.Refusal.TheVariants as refusal
 
 -- a broken rule that is passed on as a refusal
 pub passed_on : {T : Type 0} (P : Refusal → Type 0) (answer : Result T Refusal) (r : Refusal) → IsErrAnd answer (λ given. given ≡ r) → P r → IfErr answer P
 passed_on P (Ok x) r is p = absurd is
 passed_on P (Err given) r is p = subst P (sym is) p
 
--- what decides the rules of an opened image decides those of its bytes
-pub image_decided : {T : Type 0} (image : List ℕ) (arch : Option (ℕ × ℕ)) → NothingBreaks (BreaksOpening image arch) → (answer : Result T Break)
-    → Decides (BreaksOpened image) answer → Decides (BreaksImage image arch) answer
-image_decided image arch opened (Ok x) kept = image_unbroken image arch opened kept
-image_decided image arch opened (Err b) least = opened_first image arch b opened least
+-- A break of an image is one of its opening, or one that needs no architecture.
+module _ (image : List ℕ) (arch : Option (ℕ × ℕ)) (opening : KeptBelow (BreaksImage image arch) 19) where
+  alone : (r : Rule) (place : ℕ) → BreaksImage image arch r place → BreaksImage image None r place
+  alone r place broken = elim (cases_lt (rank r) 19) [
+    | inl early ↦ absurd (opening r place early broken)
+    | inr late ↦ commands_alone image arch r place (omega (arith, late)) broken
+  ]
 
--- a break that ends the opening of an image is its first
-pub opening_decided : {T : Type 0} (image : List ℕ) (arch : Option (ℕ × ℕ)) (b : Break) (answer : Result T Break) → IsErrAnd answer (λ given. given ≡ b)
-    → IsLeast (BreaksOpening image arch) b → Decides (BreaksImage image arch) answer
-opening_decided image arch b (Ok x) is least = absurd is
-opening_decided image arch b (Err given) is least = subst (IsLeast (BreaksImage image arch)) (sym is) (opening_first image arch b least)
+  -- so what is decided of an opened image is decided of its bytes
+  pub opened_unbroken : NothingBreaks (BreaksImage image None) → NothingBreaks (BreaksImage image arch)
+  opened_unbroken none r place broken = none r place (alone r place broken)
+
+  pub opened_refused : (refused : Refusal) → IsImageRefusal image None refused → IsImageRefusal image arch refused
+  opened_refused (refusal.Broken b) (here, least) = (image_alone image arch b.rule b.place here, λ r place broken. least r place (alone r place broken))
+  opened_refused refusal.Memory (below, mapped) = (λ r place early broken. below r place early (alone r place broken), mapped)
+
+-- what refuses one thing refuses another
+pub refused_for : {T E : Type 0} (P Q : E → Type 0) → ((e : E) → P e → Q e) → (answer : Result T E) → IfErr answer P → IfErr answer Q
+refused_for P Q to (Ok x) is = tt
+refused_for P Q to (Err e) is = to e is
+
+pub kept_for : {T E P Q : Type 0} → (P → Q) → (answer : Result T E) → OnOk answer P → OnOk answer Q
+kept_for to (Ok x) p = to p
+kept_for to (Err e) p = tt
 
 pub part_length : (start len : ℕ) (bytes : List ℕ) → start + len ≤ length bytes → length (part start len bytes) ≡ len
 part_length start len bytes inside = length-take-le len (drop start bytes) (let rest : length (drop start bytes) ≡ length bytes - start = length-drop start bytes in omega arith)
@@ -55,10 +69,11 @@ pub slice_at : (file : List ℕ) (slices : List Slice) → AreSlices file slices
 slice_at file slices are k d less =
     ap (λ ss. slice_get ss k) (sym are.all) ∙ (slice_get-map slice_of slices k ∙ ap (option_map slice_of) (slice_get-get_or slices k d less))
 
--- the first break of a slice is that of the file, where nothing is broken before the slice
-pub slice_broken : (file : List ℕ) (k : ℕ) (slice : FileSlice) → slice_get (slices_of file) k ≡ Some slice → KeptScopes file k → IsImage (slice_bytes file slice) → (b : Break)
-    → IsSliceBreak file slice b → IsFirstBroken file b
-slice_broken file k slice is kept image b (found, least, rule, place) = slice_first file k slice found b is kept image least rule place
+-- a refusal of a slice is one of the file, where nothing is broken before the slice
+pub slice_refused : (file : List ℕ) (k : ℕ) (slice : FileSlice) → slice_get (slices_of file) k ≡ Some slice → KeptScopes file k → IsImage (slice_bytes file slice) → (refused : Refusal)
+    → IsSliceRefusal file slice refused → IsRefusal file refused
+slice_refused file k slice is kept image (refusal.Broken b) (found, least, rule, place) = slice_first file k slice found b is kept image least rule place
+slice_refused file k slice is kept image refusal.Memory none = λ r place early broken. kept 0 r place (omega arith) broken
 
 pub slices_counted : (file : List ℕ) (slices : List Slice) → AreSlices file slices → length slices ≡ length (slices_of file)
 slices_counted file slices are =
@@ -89,19 +104,12 @@ pub verified_inside : (file : List ℕ) (slices : List Slice) → IsVerified fil
 verified_inside file slices keeps k slice is =
     slice_inside file (λ r place broken. verified_unbroken file slices keeps (record { scope = 0; rule = r; place = place }) broken) k slice (sym is)
 
--- an image of a verified file opens
-pub verified_opens : {T : Type 0} (file : List ℕ) (slices : List Slice) → IsVerified file slices → (k : ℕ) (slice : FileSlice) → Some slice ≡ slice_get (slices_of file) k
-    → IsImage (slice_bytes file slice) → (answer : Result T Break) → Decides (BreaksOpening (slice_bytes file slice) slice.arch) answer → IsSome (result_ok answer)
-verified_opens file slices keeps k slice is image (Ok x) unbroken = refl
-verified_opens file slices keeps k slice is image (Err b) (broken, least) =
-    absurd (verified_unbroken file slices keeps (record { scope = suc k; rule = b.rule; place = b.place }) (of_slice file k slice b.rule b.place (sym is) image broken.1))
-
--- and keeps the rules of an opened image
+-- an image of a verified file breaks nothing
 pub verified_keeps : (file : List ℕ) (slices : List Slice) → IsVerified file slices → (k : ℕ) (slice : FileSlice) → Some slice ≡ slice_get (slices_of file) k
-    → IsImage (slice_bytes file slice) → NothingBreaks (BreaksOpened (slice_bytes file slice))
+    → IsImage (slice_bytes file slice) → NothingBreaks (BreaksImage (slice_bytes file slice) None)
 verified_keeps file slices keeps k slice is image r place broken =
     verified_unbroken file slices keeps (record { scope = suc k; rule = r; place = place })
-    (of_slice file k slice r place (sym is) image (image_alone (slice_bytes file slice) slice.arch r place broken.1))
+    (of_slice file k slice r place (sym is) image (image_alone (slice_bytes file slice) slice.arch r place broken))
 
 -- what a list gives at an index is the slice of the file
 pub slice_given : (file : List ℕ) (slices : List Slice) → AreSlices file slices → (k : ℕ) (got : Option (Bor Slice)) → is_some got ≡ nat_lt k (length slices)
@@ -121,7 +129,7 @@ read_given file slices are k None test found = tt
 read_given file slices are k (Some s) test found =
     subst (λ (x : Slice). IsTrue x.read ↔ IsImage (slice_bytes file (slice_of x))) (sym found) (are.read k s.now (ltb-true k (length slices) (sym test)))
 
--- what an opening gives is the image of the bytes that were opened
-pub ok_given : {T : Type 0} (P Q : T → Type 0) (answer : Result T Break) → ((x : T) → P x → Q x) → IfOk answer P → IfSome (result_ok answer) Q
-ok_given P Q (Ok x) to p = to x p
-ok_given P Q (Err b) to p = tt
+-- which is opened, then
+pub unbroken_opened : (image : List ℕ) → NothingBreaks (BreaksImage image None) → IsOpened image
+unfolding IsOpened
+unbroken_opened image none r place early broken = none r place broken

@@ -1,5 +1,5 @@
 pub mod Check
-pub mod TableFields
-pub mod Entry
 pub mod Verdict
+pub mod Source
 pub mod Mapping
+pub mod Scaffold

@@ -1,9 +1,11 @@
 -- The verdict on a file, on a slice of it and on an image.
-use Rattle.std.specs.Prelude.{◌≡◌, ℕ, ◌+◌, ◌≤◌, List}
+use Rattle.std.specs.Prelude.{◌≡◌, ℕ, ◌+◌, ◌≤◌, ◌<◌, List, Any, Option}
 use Rattle.macho_fields.specs.Universal.{FileSlice, slice_bytes}
 use Rattle.macho_fields.specs.Rules.{BreaksFile, BreaksImage}
 use Rattle.macho_fields.specs.First.{rank, IsFirstBroken, IsUnbroken}
-use Rattle.macho_fields.specs.Layers.{IsLeast, BreaksOpened}
+use Rattle.macho_fields.specs.Image.{commands_of}
+use Rattle.macho_fields.specs.Layers.{IsLeast, KeptBelow}
+use Rattle.macho_fields.specs.Segment.{segments_of, vmsize}
 use Rattle.macho_fields.specs.declared.rule.Rule.{Rule}
 use Rattle.macho_fields.specs.declared.rule.Rule.TheVariants as rule
 use Rattle.macho_fields.specs.declared.rule.Break.{Break}
@@ -14,6 +16,26 @@ use Rattle.macho_fat.specs.declared.fault.FatFault.TheVariants as fault
 use Rattle.macho_rules.specs.declared.refusal.Refusal.{Refusal}
 use Rattle.macho_rules.specs.declared.refusal.Refusal.TheVariants as refusal
 
+-- the image has a mapped segment
+abbrev pub HasMapped : List ℕ → Type 0
+HasMapped image =
+    Any (λ segment. 0 < vmsize image segment) (segments_of image (commands_of image))
+
+-- A refusal of an image is its first broken rule, or that there was no memory. That is answered only
+-- where a segment is mapped, and the rules before segment-overlap are unbroken.
+abbrev pub IsImageRefusal : List ℕ → Option (ℕ × ℕ) → Refusal → Type 0
+IsImageRefusal image arch (refusal.Broken b) = IsLeast (BreaksImage image arch) b
+IsImageRefusal image arch refusal.Memory =
+    KeptBelow (BreaksImage image arch) (rank rule.SegmentOverlap) × HasMapped image
+
+-- A refusal of a slice is one of its image, with the place of the break in the file.
+abbrev pub IsSliceRefusal : List ℕ → FileSlice → Refusal → Type 0
+IsSliceRefusal file slice (refusal.Broken b) =
+    (found : Break) × IsLeast (BreaksImage (slice_bytes file slice) slice.arch) found
+    × (b.rule ≡ found.rule) × (b.place ≡ slice.start + found.place)
+IsSliceRefusal file slice refusal.Memory =
+    IsImageRefusal (slice_bytes file slice) slice.arch refusal.Memory
+
 -- A refusal of a file is its first broken rule, or that there was no memory. That is answered only
 -- where the header and the table of the file are whole, and the slice of each entry begins after
 -- the table, lies in the file and is aligned.
@@ -22,21 +44,10 @@ IsRefusal file (refusal.Broken b) = IsFirstBroken file b
 IsRefusal file refusal.Memory =
     (r : Rule) (place : ℕ) → rank r ≤ rank rule.FatAlign → ¬ BreaksFile file r place
 
--- a refusal of an opened image is the first broken rule of those that are left; no memory is taken
-abbrev pub IsImageRefusal : List ℕ → Refusal → Type 0
-IsImageRefusal image (refusal.Broken b) = IsLeast (BreaksOpened image) b
-IsImageRefusal image refusal.Memory = ⊥
-
 -- a fault of the slices, as a refusal
 abbrev pub refusal_of : FatFault → Refusal
 refusal_of (fault.Broken b) = refusal.Broken b
 refusal_of fault.Memory = refusal.Memory
-
--- b is the first broken rule of a slice, with its place in the file
-abbrev pub IsSliceBreak : List ℕ → FileSlice → Break → Type 0
-IsSliceBreak file slice b =
-    (found : Break) × IsLeast (BreaksImage (slice_bytes file slice) slice.arch) found
-    × (b.rule ≡ found.rule) × (b.place ≡ slice.start + found.place)
 
 -- the file breaks no rule, and these are its slices
 pub record HasNoBreak (file : List ℕ) (slices : List Slice) : Type 0 where

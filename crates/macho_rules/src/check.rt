@@ -1,7 +1,8 @@
 //! The rules of an opened image, in their order.
 
-ghost use Rattle.std.specs.Prelude.{OnOk, IfErr};
-ghost use Rattle.macho_fields.specs.Layers.{BreaksOpened, Decides, NothingBreaks};
+ghost use Rattle.std.specs.Prelude.{OnOk, IfErr, None};
+ghost use Rattle.macho_fields.specs.Rules.{BreaksImage};
+ghost use Rattle.macho_fields.specs.Layers.{NothingBreaks};
 ghost use Rattle.macho_rules.specs.Verdict.{IsImageRefusal};
 
 use crate::entry::entry;
@@ -10,26 +11,19 @@ use crate::sections::{section_address, section_file, section_relocs};
 use crate::segments::{segment_address, segment_file, segment_overlap, segment_size};
 use crate::symbols::{indirect_index, symbol_name, symbol_section};
 use crate::tables::{symbol_group, table_range};
-use macho_fields::Break;
 use macho_image::Image;
 use std::alloc::Global;
 
 /// Decides the rules of an opened image, in their order: those of its segments, its sections, its
 /// tables, its symbols and its entry. It returns the first broken one, with its place in the image.
-/// It never returns `Memory`.
+///
+/// `Memory` is returned only where the rules up to `segment-file` are kept and a segment is mapped.
+/// It takes no memory yet, which is not promised.
 pub fn check_image(alloc: Global, image: &Image) -> Result<(), Refusal>
-    ensures unbroken { OnOk result (NothingBreaks (BreaksOpened image.now)) }
-    ensures refused { IfErr result (IsImageRefusal image.now) }
+    ensures unbroken { OnOk result (NothingBreaks (BreaksImage image.now None)) }
+    ensures refused { IfErr result (IsImageRefusal image.now None) }
 {
     let _ = alloc;
-    check_rules(image)?;
-    Ok(())
-}
-
-/// What `check_image` decides, without an allocator.
-pub(crate) fn check_rules(image: &Image) -> Result<(), Break>
-    ensures { Decides (BreaksOpened image.now) result }
-{
     segment_address(image)?;
     segment_size(image)?;
     segment_file(image)?;

@@ -1,50 +1,45 @@
 //! The rule of the entry of an image. (`mach-o/loader.h`: `entry_point_command`)
 
-ghost use Rattle.std.specs.Prelude.{◌+◌, ◌↔◌, IsSomeAnd, IsTrue};
-ghost use Rattle.macho_fields.specs.Segment.{base_of, IsExecutable};
+ghost use Rattle.std.specs.Prelude.{◌≡◌, ◌↔◌, IsTrue};
+ghost use Rattle.macho_fields.specs.Image.{commands_of};
+ghost use Rattle.macho_fields.specs.Segment.{IsExecutable, HasNoEntry, RunsAt};
 ghost use Rattle.macho_fields.specs.declared.rule.Rule.{Rule};
-ghost use Rattle.macho_rules.specs.Check.{DecidesImage};
-ghost use Rattle.macho_image.specs.Command.{OfCommands};
-ghost use Rattle.macho_rules.specs.Entry.{RunsAt};
-ghost use Rattle.macho_image.specs.Opened.{IsOpened};
+ghost use Rattle.macho_image.specs.Single.{main_command_at};
+ghost use Rattle.macho_rules.specs.Check.{KeptBefore, JudgesUpTo};
 
 use macho_fields::header::vm_prot::VM_PROT_EXECUTE;
 use macho_fields::{Break, Rule};
-use macho_image::{Image, Segment};
+use macho_image::{Image, MainCommand, Segment};
 
 /// The entry is at a byte of the file, in memory that may be executed.
 pub(crate) fn entry(image: &Image) -> Result<(), Break>
-    requires { IsOpened image.now }
-    ensures { DecidesImage image.now Rule.Entry result }
+    requires { KeptBefore image.now Rule.Entry }
+    ensures { JudgesUpTo image.now Rule.Entry result }
 {
     let Some(main) = image.main_command() else {
         return Ok(());
     };
-    if is_entry(image, main.entryoff) {
-        return Ok(());
+    if has_no_entry(image, main) {
+        return Err(Break::at(Rule::Entry, main.place));
     }
-    Err(Break {
-        rule: Rule::Entry,
-        place: main.place,
-    })
+    Ok(())
 }
 
-/// Whether the image has a base, and `entryoff` bytes after it a byte that may be executed.
-fn is_entry(image: &Image, entryoff: u64) -> bool
-    ensures { OfCommands image.now (λ commands. IsTrue result
-        ↔ IsSomeAnd (base_of image.now commands)
-        (λ base. IsExecutable image.now commands (base + entryoff))) }
+/// Whether there is no base, or no segment runs at the address that `main` names.
+fn has_no_entry(image: &Image, main: MainCommand) -> bool
+    requires { main ≡ main_command_at image.now main.place }
+    ensures { IsTrue result ↔ HasNoEntry image.now (commands_of image.now) main.place }
 {
     let Some(base) = image.base() else {
-        return false;
+        return true;
     };
-    is_executable(image, u128::from(base) + u128::from(entryoff))
+    !is_executable(image, u128::from(base) + u128::from(main.entryoff))
 }
 
 /// Whether a segment has a byte at the address that may be executed.
 fn is_executable(image: &Image, address: u128) -> bool
-    ensures { OfCommands image.now (λ commands. IsTrue result
-        ↔ IsExecutable image.now commands address) }
+    ensures { IsTrue result
+        ↔ IsExecutable image.now (commands_of image.now) address }
 {
     for segment in image.segments() {
         if runs_at(&segment, address) {

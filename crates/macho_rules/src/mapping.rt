@@ -1,15 +1,14 @@
 //! What is at the addresses of a loaded image. (`mach-o/loader.h`: `segment_command_64`)
 
-ghost use Rattle.std.specs.Prelude.{◌≡◌, ◌+◌, ◌≤◌, ◌<◌, ◌^◌, ◌↔◌, ℕ, All, IsTrue, map};
+ghost use Rattle.std.specs.Prelude.{◌≡◌, All};
 ghost use Rattle.std.specs.Option.{option_map};
-ghost use Rattle.macho_fields.specs.Segment.{fileoff, filesize};
-ghost use Rattle.macho_rules.specs.Mapping.{mapped_at, view_of, source_of, source_in, source_from, FitsFile, SuppliesAt};
+ghost use Rattle.macho_rules.specs.Source.{source_of};
+ghost use Rattle.macho_rules.specs.Scaffold.{sources_in, FitsFile};
 
 use crate::verdict::Verified;
-use macho_fields::Span;
+use macho_fields::{Bytes, Span};
 use macho_image::{Image, Segment};
 use std::alloc::{AllocError, Global};
-use std::marker::Model;
 
 /// What is at an address of a loaded image.
 #[derive(Clone, Copy, Debug, PartialEq, Eq)]
@@ -24,6 +23,8 @@ pub enum Source {
 #[derive(Drop)]
 pub struct Mapping {
     segments: Vec<MappedSegment>,
+
+    ghost fits: { All FitsFile segments.items },
 }
 
 /// A segment that has addresses.
@@ -35,25 +36,16 @@ struct MappedSegment {
     filesize: u64,
 }
 
-impl Model for Mapping {
-    ghost use Rattle.std.specs.Prelude.{List, All, map};
-    ghost use Rattle.macho_rules.specs.Mapping.{MappedView, view_of, FitsFile};
-
-    ghost Value = { List MappedView };
-
-    ghost view = { λ mapping. map view_of mapping.segments.items };
-
-    ghost invariant = { λ mapping. All FitsFile (map view_of mapping.segments.items) };
-}
-
 impl Mapping {
-    ghost use Rattle.std.specs.Prelude.{◌≡◌, ◌↔◌, IfOk, OnOk, OnErr, IfSome, IsSome, IsSomeAnd, slice_get};
+    ghost use Rattle.std.specs.Prelude.{◌≡◌, ◌↔◌, None, IfOk, OnErr, IfSome, IsSome, IsSomeAnd, slice_get};
     ghost use Rattle.std.specs.Option.{option_map};
-    ghost use Rattle.macho_fields.specs.Layers.{BreaksOpened, NothingBreaks};
+    ghost use Rattle.macho_fields.specs.Bytes.{bytes_of};
+    ghost use Rattle.macho_fields.specs.Layers.{NothingBreaks};
+    ghost use Rattle.macho_fields.specs.Rules.{BreaksImage};
     ghost use Rattle.macho_fields.specs.Universal.{slices_of, slice_bytes, IsImage};
-    ghost use Rattle.macho_image.specs.Command.{OfCommands};
-    ghost use Rattle.macho_image.specs.Opened.{IsOpened};
-    ghost use Rattle.macho_rules.specs.Mapping.{mapped_of, source_of, source_in, HasMapped, GivesSources};
+    ghost use Rattle.macho_rules.specs.Mapping.{sources, GivesSources};
+    ghost use Rattle.macho_rules.specs.Source.{source_of};
+    ghost use Rattle.macho_rules.specs.Verdict.{HasMapped};
 
     /// The mapping of the image in the slice with this index, or `None` where the slice is of
     /// another kind, or there is none. It takes memory for the mapped segments of the image alone,
@@ -64,28 +56,26 @@ impl Mapping {
             (λ slice. IsImage (slice_bytes verified.now slice))) }
         ensures sources { IfOk result (λ mapping. IfSome mapping (λ mapping.
             IsSomeAnd (slice_get (slices_of verified.now) index) (λ slice.
-            GivesSources (slice_bytes verified.now slice) mapping))) }
+            GivesSources (slice_bytes verified.now slice) (sources mapping)))) }
         ensures memory { OnErr result (IsSomeAnd (slice_get (slices_of verified.now) index)
             (λ slice. IsImage (slice_bytes verified.now slice)
             × HasMapped (slice_bytes verified.now slice))) }
     {
-        let Some(image) = verified.image(index) else {
+        let Some(bytes) = verified.image_bytes(index) else {
             return Ok(None);
         };
-        let mapping = Mapping::of_image(alloc, &image)?;
+        let mapping = Mapping::of_image(alloc, bytes)?;
         Ok(Some(mapping))
     }
 
     /// The mapping of an unbroken image.
-    fn of_image(alloc: Global, image: &Image) -> Result<Mapping, AllocError>
-        requires { NothingBreaks (BreaksOpened image.now) }
-        ensures mapping { IfOk result (λ mapping.
-            OfCommands image.now (λ commands. mapping ≡ mapped_of image.now commands)) }
-        ensures opened { OnOk result (IsOpened image.now) }
-        ensures memory { OnErr result (HasMapped image.now) }
+    fn of_image(alloc: Global, bytes: Bytes) -> Result<Mapping, AllocError>
+        requires { NothingBreaks (BreaksImage (bytes_of bytes) None) }
+        ensures sources { IfOk result (λ mapping.
+            GivesSources (bytes_of bytes.entry) (sources mapping)) }
+        ensures memory { OnErr result (HasMapped (bytes_of bytes.entry)) }
     {
-        // Called for its contract: the length of the image, where each segment's bytes end, fits.
-        let _ = image.bytes().len();
+        let image = Image::reopen(bytes);
         let mut segments = Vec::new(alloc);
         for segment in image.segments() {
             if segment.vmsize() > 0 {
@@ -97,7 +87,7 @@ impl Mapping {
 
     /// What is at the address, or `None` where no segment supplies it.
     pub fn source(&mut self, addr: u64) -> Option<Source>
-        ensures source { option_map source_of result ≡ source_in self.old addr }
+        ensures source { option_map source_of result ≡ sources self.old addr }
         ensures same { self.new ≡ self.old }
     {
         source_in(&self.segments, addr)
@@ -106,8 +96,8 @@ impl Mapping {
 
 /// What the first of the segments that supplies the address has there.
 fn source_in(segments: &[MappedSegment], addr: u64) -> Option<Source>
-    requires { All FitsFile (map view_of segments.now) }
-    ensures { option_map source_of result ≡ source_in (map view_of segments.now) addr }
+    requires { All FitsFile segments.now }
+    ensures { option_map source_of result ≡ sources_in segments.now addr }
 {
     for segment in segments {
         if segment.supplies(addr) {
@@ -118,11 +108,12 @@ fn source_in(segments: &[MappedSegment], addr: u64) -> Option<Source>
 }
 
 impl MappedSegment {
-    ghost use Rattle.std.specs.Prelude.{◌≡◌, ◌+◌, ◌≤◌, ◌<◌, ◌^◌, ◌↔◌, IsTrue};
-    ghost use Rattle.macho_rules.specs.Mapping.{mapped_at, view_of, source_of, source_from, FitsFile, SuppliesAt};
+    ghost use Rattle.std.specs.Prelude.{◌≡◌, ◌↔◌, IsTrue};
+    ghost use Rattle.macho_rules.specs.Source.{source_of};
+    ghost use Rattle.macho_rules.specs.Scaffold.{mapped_at, source_from, FitsFile, Maps};
 
     fn new(segment: &Segment) -> MappedSegment
-        ensures { view_of result ≡ mapped_at segment.now.image segment.now.place }
+        ensures { result ≡ mapped_at segment.now.image segment.now.place }
     {
         MappedSegment {
             vmaddr: segment.vmaddr(),
@@ -134,7 +125,7 @@ impl MappedSegment {
 
     /// Whether the address is one of the segment.
     fn supplies(&self, addr: u64) -> bool
-        ensures { IsTrue result ↔ SuppliesAt addr (view_of self.now) }
+        ensures { IsTrue result ↔ Maps addr self.now }
     {
         let memory = Span {
             start: self.vmaddr,
@@ -145,9 +136,9 @@ impl MappedSegment {
 
     /// What the segment has at one of its addresses.
     fn source(&self, addr: u64) -> Source
-        requires supplies { SuppliesAt addr (view_of self.now) }
-        requires fits { FitsFile (view_of self.now) }
-        ensures { source_of result ≡ source_from addr (view_of self.now) }
+        requires supplies { Maps addr self.now }
+        requires fits { FitsFile self.now }
+        ensures { source_of result ≡ source_from addr self.now }
     {
         let past = addr - self.vmaddr;
         if past < self.filesize {

@@ -1,95 +1,88 @@
 //! The rules of the segments of an image. (`mach-o/loader.h`: `segment_command_64`)
 
-ghost use Rattle.std.specs.Prelude.{◌≡◌, ◌↔◌, ℕ, List, length, IsTrue};
-ghost use Rattle.macho_fields.specs.Image.{AreCommands};
+ghost use Rattle.std.specs.Prelude.{◌≡◌, ◌↔◌, IsTrue};
+ghost use Rattle.macho_fields.specs.Bytes.{bytes_of};
+ghost use Rattle.macho_fields.specs.Image.{commands_of};
 ghost use Rattle.macho_fields.specs.Segment.{vmaddr, vmsize, fileoff, filesize};
+ghost use Rattle.macho_fields.specs.Segment.{PassesLastAddress, IsLongerInFile, PassesImage, OverlapsEarlier};
 ghost use Rattle.macho_fields.specs.declared.rule.Rule.{Rule};
-ghost use Rattle.macho_rules.specs.Check.{DecidesImage, PassesLastAddress, IsLongerInImage, PassesImage, OverlapsEarlier};
+ghost use Rattle.macho_rules.specs.Check.{KeptBefore, JudgesUpTo};
 
-use macho_fields::{Break, Rule, Span};
+use macho_fields::{Break, Bytes, Rule, Span};
 use macho_image::{Image, Segment};
 
 /// One past the last address.
 const ADDRESS_END: u128 = 1 << 64;
 
-/// No segment passes the last address.
+/// No segment passes the last address. The rules before this one are unbroken in each opened image.
 pub(crate) fn segment_address(image: &Image) -> Result<(), Break>
-    ensures { DecidesImage image.now Rule.SegmentAddress result }
+    ensures { JudgesUpTo image.now Rule.SegmentAddress result }
 {
     for segment in image.segments() {
         if passes_last_address(&segment) {
-            return Err(Break {
-                rule: Rule::SegmentAddress,
-                place: segment.place(),
-            });
+            return Err(Break::at(Rule::SegmentAddress, segment.place()));
         }
     }
     Ok(())
 }
 
-/// Whether the addresses of the segment pass the last one.
+/// Whether the addresses of the segment end past 2^64.
 fn passes_last_address(segment: &Segment) -> bool
     ensures { IsTrue result ↔ PassesLastAddress segment.now.image segment.now.place }
 {
     memory(segment).end() > ADDRESS_END
 }
 
-/// No mapped segment has more bytes in the image than in memory.
+/// No mapped segment has more bytes in the file than in memory.
 pub(crate) fn segment_size(image: &Image) -> Result<(), Break>
-    ensures { DecidesImage image.now Rule.SegmentSize result }
+    requires { KeptBefore image.now Rule.SegmentSize }
+    ensures { JudgesUpTo image.now Rule.SegmentSize result }
 {
     for segment in image.segments() {
-        if is_longer_in_image(&segment) {
-            return Err(Break {
-                rule: Rule::SegmentSize,
-                place: segment.place(),
-            });
+        if is_longer_in_file(&segment) {
+            return Err(Break::at(Rule::SegmentSize, segment.place()));
         }
     }
     Ok(())
 }
 
-/// Whether the segment is mapped, and has more bytes in the image than in memory.
-fn is_longer_in_image(segment: &Segment) -> bool
-    ensures { IsTrue result ↔ IsLongerInImage segment.now.image segment.now.place }
+/// Whether the segment is mapped, and has more bytes in the file than in memory.
+fn is_longer_in_file(segment: &Segment) -> bool
+    ensures { IsTrue result ↔ IsLongerInFile segment.now.image segment.now.place }
 {
     segment.vmsize() > 0 && segment.filesize() > segment.vmsize()
 }
 
 /// The bytes of each segment lie inside the image.
 pub(crate) fn segment_file(image: &Image) -> Result<(), Break>
-    ensures { DecidesImage image.now Rule.SegmentFile result }
+    requires { KeptBefore image.now Rule.SegmentFile }
+    ensures { JudgesUpTo image.now Rule.SegmentFile result }
 {
-    let image_len = image.bytes().len();
+    let bytes = image.bytes();
     for segment in image.segments() {
-        if passes_image(&segment, image_len) {
-            return Err(Break {
-                rule: Rule::SegmentFile,
-                place: segment.place(),
-            });
+        if passes_image(bytes, &segment) {
+            return Err(Break::at(Rule::SegmentFile, segment.place()));
         }
     }
     Ok(())
 }
 
-/// Whether the segment has bytes in the image, and they pass its end.
-fn passes_image(segment: &Segment, image_len: u64) -> bool
-    requires { image_len ≡ length segment.now.image }
+/// Whether the segment has bytes in the file, and they end past the image.
+fn passes_image(image: Bytes, segment: &Segment) -> bool
+    requires { bytes_of image ≡ segment.now.image }
     ensures { IsTrue result ↔ PassesImage segment.now.image segment.now.place }
 {
-    segment.filesize() > 0 && file_part(segment).end() > u128::from(image_len)
+    segment.filesize() > 0 && !image.contains(file_part(segment))
 }
 
 /// No mapped segment has an address in common with an earlier one.
 pub(crate) fn segment_overlap(image: &Image) -> Result<(), Break>
-    ensures { DecidesImage image.now Rule.SegmentOverlap result }
+    requires { KeptBefore image.now Rule.SegmentOverlap }
+    ensures { JudgesUpTo image.now Rule.SegmentOverlap result }
 {
     for segment in image.segments() {
         if overlaps_earlier(image, &segment) {
-            return Err(Break {
-                rule: Rule::SegmentOverlap,
-                place: segment.place(),
-            });
+            return Err(Break::at(Rule::SegmentOverlap, segment.place()));
         }
     }
     Ok(())
@@ -98,8 +91,7 @@ pub(crate) fn segment_overlap(image: &Image) -> Result<(), Break>
 /// Whether the segment has an address in common with an earlier one.
 fn overlaps_earlier(image: &Image, segment: &Segment) -> bool
     requires { segment.now.image ≡ image.now }
-    ensures { (commands : List ℕ) → AreCommands image.now commands
-        → (IsTrue result ↔ OverlapsEarlier image.now commands segment.now.place) }
+    ensures { IsTrue result ↔ OverlapsEarlier image.now (commands_of image.now) segment.now.place }
 {
     for earlier in image.segments() {
         if earlier.place() >= segment.place() {

@@ -2,18 +2,17 @@
 
 ghost use Rattle.std.specs.Prelude.{◌≡◌, ◌+◌, ◌≤◌, ◌↔◌, OnOk, IfOk, IfErr, IfSome, IsSome, IsSomeAnd, IsTrue, length};
 ghost use Rattle.macho_fields.specs.Bytes.{bytes_of};
-ghost use Rattle.macho_fields.specs.First.{IsUnbroken, IsFirstBroken};
-ghost use Rattle.macho_fields.specs.Layers.{NothingBreaks, Decides};
+ghost use Rattle.macho_fields.specs.First.{IsUnbroken};
+ghost use Rattle.macho_fields.specs.Layers.{NothingBreaks};
 ghost use Rattle.macho_fields.specs.Loader.{IsSound};
 ghost use Rattle.macho_fields.specs.Rules.{BreaksFile, BreaksImage};
 ghost use Rattle.macho_fields.specs.Universal.{slice_bytes, IsImage};
 ghost use Rattle.macho_fat.specs.Slices.{slice_of, AreSlices};
-ghost use Rattle.macho_rules.specs.Verdict.{IsRefusal, IsSliceBreak};
+ghost use Rattle.macho_rules.specs.Verdict.{IsRefusal, IsImageRefusal, IsSliceRefusal};
 
-use crate::check::check_rules;
+use crate::check::check_image;
 use crate::refusal::Refusal;
-use macho_fat::Slice;
-use macho_fat::slices::slices;
+use macho_fat::{Slice, slices};
 use macho_fields::{Break, Bytes};
 use macho_image::Image;
 use std::alloc::Global;
@@ -55,54 +54,58 @@ pub fn verify<'a>(alloc: Global, file: &'a [u8]) -> Result<Verified<'a>, Refusal
 {
     let file = Bytes::new(file);
     let slices = slices(alloc, file)?;
-    check_slices(file, &slices)?;
+    check_slices(alloc, file, &slices)?;
     Ok(Verified { file, slices })
 }
 
 /// Decides the rules of each 64-bit slice, one slice after the other.
-fn check_slices(file: Bytes, slices: &[Slice]) -> Result<(), Break>
+fn check_slices(alloc: Global, file: Bytes, slices: &[Slice]) -> Result<(), Refusal>
     requires slices { AreSlices (bytes_of file) slices.now }
     requires file_rules { NothingBreaks (BreaksFile (bytes_of file)) }
     ensures unbroken { OnOk result (IsUnbroken (bytes_of file.entry)) }
-    ensures broken { IfErr result (IsFirstBroken (bytes_of file.entry)) }
+    ensures refused { IfErr result (IsRefusal (bytes_of file.entry)) }
 {
     for slice in slices {
         if slice.read {
-            check_slice(file, slice)?;
+            check_slice(alloc, file, slice)?;
         }
     }
     Ok(())
 }
 
 /// Decides the rules of one slice. The place of a break is its offset in the file.
-fn check_slice(file: Bytes, slice: &Slice) -> Result<(), Break>
+fn check_slice(alloc: Global, file: Bytes, slice: &Slice) -> Result<(), Refusal>
     requires { (slice_of slice.now).start + (slice_of slice.now).size ≤ length (bytes_of file) }
     ensures unbroken { OnOk result (NothingBreaks
         (BreaksImage (slice_bytes (bytes_of file.entry) (slice_of slice.now)) slice.now.arch)) }
-    ensures broken { IfErr result (IsSliceBreak (bytes_of file.entry) (slice_of slice.now)) }
+    ensures refused { IfErr result (IsSliceRefusal (bytes_of file.entry) (slice_of slice.now)) }
 {
     let bytes = Bytes::new(file.part(slice.span).unwrap());
-    match check_bytes(bytes, slice.arch) {
+    match check_bytes(alloc, bytes, slice.arch) {
         Ok(()) => Ok(()),
-        Err(broken) => Err(Break {
-            rule: broken.rule,
-            place: slice.span.start + broken.place,
-        }),
+        Err(Refusal::Broken(broken)) => {
+            let place = slice.span.start + broken.place;
+            Err(Refusal::Broken(Break::at(broken.rule, place)))
+        }
+        Err(Refusal::Memory) => Err(Refusal::Memory),
     }
 }
 
 /// Decides the rules of an image, which a universal file may name for an architecture.
-fn check_bytes(bytes: Bytes, arch: Option<(u32, u32)>) -> Result<(), Break>
-    ensures { Decides (BreaksImage (bytes_of bytes.entry) arch) result }
+fn check_bytes(alloc: Global, bytes: Bytes, arch: Option<(u32, u32)>) -> Result<(), Refusal>
+    ensures unbroken { OnOk result (NothingBreaks (BreaksImage (bytes_of bytes.entry) arch)) }
+    ensures refused { IfErr result (IsImageRefusal (bytes_of bytes.entry) arch) }
 {
     let image = Image::open(bytes, arch)?;
-    check_rules(&image)
+    check_image(alloc, &image)
 }
 
 impl<'a> Verified<'a> {
-    ghost use Rattle.std.specs.Prelude.{◌≡◌, ◌↔◌, length, slice_get, IsSome, IfSome, IsSomeAnd, IsTrue};
+    ghost use Rattle.std.specs.Prelude.{◌≡◌, ◌↔◌, length, slice_get, None, IsSome, IfSome, IsSomeAnd, IsTrue};
     ghost use Rattle.std.specs.Option.{option_map};
-    ghost use Rattle.macho_fields.specs.Layers.{BreaksOpened, NothingBreaks};
+    ghost use Rattle.macho_fields.specs.Layers.{NothingBreaks};
+    ghost use Rattle.macho_fields.specs.Bytes.{bytes_of};
+    ghost use Rattle.macho_fields.specs.Rules.{BreaksImage};
     ghost use Rattle.macho_fields.specs.Universal.{slices_of, slice_bytes, IsImage};
     ghost use Rattle.macho_fat.specs.Slices.{slice_of};
 
@@ -125,19 +128,32 @@ impl<'a> Verified<'a> {
     }
 
     /// The image in the slice with this index, or `None` where the slice is of another kind, or
-    /// there is none. It goes over the commands of the image once more.
+    /// there is none. It goes over the commands of the image once more, and judges nothing.
     pub fn image(&self, index: u64) -> Option<Image<'a>>
         ensures is_image { IsSome result ↔ IsSomeAnd (slice_get (slices_of self.now) index)
             (λ slice. IsImage (slice_bytes self.now slice)) }
         ensures image { IfSome result (λ image. IsSomeAnd (slice_get (slices_of self.now) index)
             (λ slice. image ≡ slice_bytes self.now slice)) }
-        ensures unbroken { IfSome result (λ image. NothingBreaks (BreaksOpened image)) }
+        ensures unbroken { IfSome result (λ image. NothingBreaks (BreaksImage image None)) }
+    {
+        let bytes = self.image_bytes(index)?;
+        Some(Image::reopen(bytes))
+    }
+
+    /// The bytes of the image in the slice with this index, or `None` where the slice is of another
+    /// kind, or there is none.
+    pub(crate) fn image_bytes(&self, index: u64) -> Option<Bytes<'a>>
+        ensures is_image { IsSome result ↔ IsSomeAnd (slice_get (slices_of self.now) index)
+            (λ slice. IsImage (slice_bytes self.now slice)) }
+        ensures bytes { IfSome result (λ bytes. IsSomeAnd (slice_get (slices_of self.now) index)
+            (λ slice. bytes_of bytes ≡ slice_bytes self.now slice)) }
+        ensures unbroken { IfSome result (λ bytes.
+            NothingBreaks (BreaksImage (bytes_of bytes) None)) }
     {
         let slice = self.slice(index)?;
         if !slice.read {
             return None;
         }
-        let bytes = Bytes::new(self.file.part(slice.span).unwrap());
-        Image::open(bytes, slice.arch).ok()
+        Some(Bytes::new(self.file.part(slice.span).unwrap()))
     }
 }

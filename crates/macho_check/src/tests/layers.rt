@@ -1,57 +1,50 @@
 //! The calls of single layers, and what a verified file gives.
 
-use crate::notation::{ARM64, ARM64E, FatArch, File, I386, X86_64};
-use macho_fat::Slice;
-use macho_fat::slices::slices;
-use macho_fields::header::loader::MH_EXECUTE;
+use super::same;
+use crate::notation::{executable, written};
+use macho_fat::{Slice, slices};
+use macho_fields::header::machine::CPU_TYPE_ARM64;
 use macho_fields::{Break, Bytes, Rule, Span};
 use macho_image::Image;
 use macho_rules::{Mapping, Refusal, Verified, check_image, verify};
 use std::process::Abort;
 use std::test::Fail;
 
-/// A slice that is expected: start, length, architecture, and whether it is read.
-#[derive(Clone, Copy)]
-pub(super) struct Expected(
-    pub(super) u64,
-    pub(super) u64,
-    pub(super) Option<(u32, u32)>,
-    pub(super) bool,
-);
-
-/// Compares the slices of a file that keeps all rules, in the list and in the verified file.
-pub(super) fn check_slices(
-    rt: &(impl Abort + AllocGlobal),
-    file: &[u8],
-    expected: &[Expected],
-) -> Result<(), Fail> {
-    let list = slices(rt.alloc(), Bytes::new(file))?;
-    let verified = verify(rt.alloc(), file)?;
-    check_count(rt, &verified, u64::try_from(expected.len())?)?;
-    assert_eq!(rt; list.len(), expected.len());
-    for (slice, expected) in list.iter().zip(expected) {
-        let Expected(start, len, arch, read) = *expected;
-        let span = Span { start, len };
-        assert_eq!(rt; *slice, Slice { span, arch, read });
-    }
-    let mut index = 0u64;
-    for slice in &list {
-        check_slice(rt, &verified, index, slice)?;
-        index = index.saturating_add(1);
-    }
-    Ok(())
+/// A slice of these bytes and this architecture, and whether it is read.
+fn slice(start: u64, len: u64, arch: Option<(u32, u32)>, read: bool) -> Slice {
+    let span = Span { start, len };
+    Slice { span, arch, read }
 }
 
-/// Compares the number of slices, and looks for one past the last.
-fn check_count(
+/// Compares the slices of a file that keeps all rules, in the list and in the verified file.
+fn check_slices(
+    rt: &(impl Abort + AllocGlobal),
+    file: &[u8],
+    expected: &[Slice],
+) -> Result<(), Fail> {
+    let list = slices(rt.alloc(), Bytes::new(file))?;
+    same(rt, &list.as_slice(), &expected);
+    let verified = verify(rt.alloc(), file)?;
+    let mut count = 0u64;
+    for slice in expected {
+        check_slice(rt, &verified, count, slice)?;
+        count = count.saturating_add(1);
+    }
+    same(rt, &verified.slice_count(), &count);
+    check_past(rt, &verified, count)
+}
+
+/// Looks for slices past the last.
+fn check_past(
     rt: &(impl Abort + AllocGlobal),
     verified: &Verified,
     count: u64,
 ) -> Result<(), Fail> {
-    assert_eq!(rt; verified.slice_count(), count);
     for index in [count, 1 << 32, u64::MAX] {
-        assert!(rt; verified.slice(index).is_none() && verified.image(index).is_none());
-        assert!(rt; Mapping::of(rt.alloc(), verified, index)?.is_none());
+        same(rt, &verified.slice(index), &None);
+        same(rt, &verified.image(index).is_none(), &true);
+        let mapping = Mapping::of(rt.alloc(), verified, index)?;
+        same(rt, &mapping.is_none(), &true);
     }
     Ok(())
 }
@@ -63,77 +56,64 @@ fn check_slice(
     index: u64,
     slice: &Slice,
 ) -> Result<(), Fail> {
-    assert_eq!(rt; verified.slice(index), Some(slice));
+    same(rt, &verified.slice(index), &Some(slice));
     let mapping = Mapping::of(rt.alloc(), verified, index)?;
-    assert_eq!(rt; mapping.is_some(), slice.read);
-    match verified.image(index) {
-        Some(image) => {
-            assert!(rt; slice.read);
-            assert_eq!(rt; image.bytes().len(), slice.span.len);
-            assert_eq!(rt; image.arch(), slice.arch.unwrap_or(image.arch()));
-        }
-        None => assert!(rt; !slice.read),
-    }
+    same(rt, &mapping.is_some(), &slice.read);
+    let Some(image) = verified.image(index) else {
+        same(rt, &slice.read, &false);
+        return Ok(());
+    };
+    same(rt, &slice.read, &true);
+    same(rt, &image.bytes().len(), &slice.span.len);
+    same(rt, &image.arch(), &slice.arch.unwrap_or(image.arch()));
     Ok(())
 }
 
 #[test]
 fn slices_of_a_plain_file(rt: HostRuntime) -> Result<(), Fail> {
-    let bare = File::new(rt.alloc()).header(MH_EXECUTE, 0, 0)?;
-    check_slices(&rt, bare.as_slice(), &[Expected(0, 32, None, true)])?;
-    let file = File::executable(rt.alloc())?;
-    check_slices(&rt, file.as_slice(), &[Expected(0, 0x202c, None, true)])
+    let bare = written(rt.alloc(), "cffaedfe 07000001 03000000 02000000 .16")?;
+    check_slices(&rt, &bare, &[slice(0, 32, None, true)])?;
+    let file = executable(rt.alloc())?;
+    check_slices(&rt, &file, &[slice(0, 0x202c, None, true)])
 }
 
 #[test]
 fn slices_of_twins(rt: HostRuntime) -> Result<(), Fail> {
-    let entries = [
-        FatArch(ARM64, 96, 32, 0),
-        FatArch((ARM64E.0, 0x8000_0002), 128, 32, 0),
-        FatArch(I386, 160, 4, 0),
-    ];
-    let table = File::new(rt.alloc()).fat(&entries)?.zeros_to(96)?;
-    let images = table
-        .header_of(ARM64, MH_EXECUTE, 0, 0)?
-        .header_of(ARM64E, MH_EXECUTE, 0, 0)?;
-    let file = images.bytes(&[0xce, 0xfa, 0xed, 0xfe])?;
+    // Of the entries the second has a capability byte, and the third names an image of 32 bits.
+    let file = written(
+        rt.alloc(),
+        "cafebabe 00000003 0100000c 00000000 00000060 00000020 .4
+        0100000c 80000002 00000080 00000020 .4 00000007 00000003 000000a0 00000004 .4 .28
+        cffaedfe 0c000001 00000000 02000000 .16 cffaedfe 0c000001 02000000 02000000 .16 cefaedfe",
+    )?;
     let expected = [
-        Expected(96, 32, Some(ARM64), true),
-        Expected(128, 32, Some(ARM64E), true),
-        Expected(160, 4, Some(I386), false),
+        slice(96, 32, Some((CPU_TYPE_ARM64, 0)), true),
+        slice(128, 32, Some((CPU_TYPE_ARM64, 2)), true),
+        slice(160, 4, Some((7, 3)), false),
     ];
-    check_slices(&rt, file.as_slice(), &expected)
-}
-
-#[test]
-fn unread_slice(rt: HostRuntime) -> Result<(), Fail> {
-    let entries = [FatArch(X86_64, 64, 32, 0), FatArch(I386, 96, 4, 0)];
-    let table = File::new(rt.alloc()).fat(&entries)?.zeros_to(64)?;
-    let file = table.header(MH_EXECUTE, 0, 0)?.bytes(b"\xce\xfa\xed\xfe")?;
-    let expected = [
-        Expected(64, 32, Some(X86_64), true),
-        Expected(96, 4, Some(I386), false),
-    ];
-    check_slices(&rt, file.as_slice(), &expected)
+    check_slices(&rt, &file, &expected)
 }
 
 #[test]
 fn opened_and_broken(rt: HostRuntime) -> Result<(), Fail> {
-    let bare = File::new(rt.alloc()).header(MH_EXECUTE, 0, 0)?;
-    let image = Image::open(Bytes::new(bare.as_slice()), None)?;
-    assert_eq!(rt; check_image(rt.alloc(), &image), Ok(()));
+    let file = written(rt.alloc(), "cffaedfe 07000001 03000000 02000000 .16")?;
+    let image = Image::open(Bytes::new(&file), None)?;
+    same(&rt, &check_image(rt.alloc(), &image), &Ok(()));
 
     // The entry has no base to count from. The place is in the image.
-    let entry = File::new(rt.alloc()).header(MH_EXECUTE, 1, 24)?;
-    let file = entry.main_command(0)?;
-    let image = Image::open(Bytes::new(file.as_slice()), None)?;
+    let file = written(
+        rt.alloc(),
+        "cffaedfe 07000001 03000000 02000000 01000000 18000000 .8 28000080 18000000 .16",
+    )?;
+    let image = Image::open(Bytes::new(&file), None)?;
     let broken = Break {
         rule: Rule::Entry,
         place: 0x20,
     };
-    assert_eq!(rt;
-        check_image(rt.alloc(), &image),
-        Err(Refusal::Broken(broken))
+    same(
+        &rt,
+        &check_image(rt.alloc(), &image),
+        &Err(Refusal::Broken(broken)),
     );
     Ok(())
 }

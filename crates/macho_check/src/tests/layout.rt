@@ -1,7 +1,8 @@
-//! The views of an image as text, one line for each part.
+//! The views of an image as text: a line for each part, with its name and its numbers.
 
-use macho_image::{Image, Section, Segment};
-use std::alloc::Global;
+use super::same;
+use macho_image::{Image, Kind};
+use std::alloc::{AllocError, Global};
 use std::process::Abort;
 use std::test::Fail;
 
@@ -14,196 +15,204 @@ pub(super) fn check_layout(
     let text = layout(rt.alloc(), image)?;
     let mut given = text.lines();
     for line in lines.trim().lines() {
-        assert_eq!(rt; given.next(), Some(line.trim()));
+        same(rt, &given.next(), &Some(line.trim()));
     }
-    assert_eq!(rt; given.next(), None);
+    same(rt, &given.next(), &None);
     Ok(())
 }
 
 /// The text of all views.
-fn layout(alloc: Global, image: &Image) -> Result<String, Fail> {
-    let mut text = header(alloc, image)?;
-    text.push_str(&commands(alloc, image)?)?;
-    text.push_str(&segments(alloc, image)?)?;
-    text.push_str(&linkedit(alloc, image)?)?;
-    text.push_str(&others(alloc, image)?)?;
+fn layout(alloc: Global, image: &Image) -> Result<String, AllocError> {
+    let mut text = String::new(alloc);
+    header(&mut text, alloc, image)?;
+    commands(&mut text, alloc, image)?;
+    segments(&mut text, alloc, image)?;
+    linkedit(&mut text, alloc, image)?;
+    dylibs(&mut text, alloc, image)?;
+    builds(&mut text, alloc, image)?;
+    uuid(&mut text, alloc, image)?;
+    entry(&mut text, alloc, image)?;
     Ok(text)
 }
 
 /// The tables and what is in them.
-fn linkedit(alloc: Global, image: &Image) -> Result<String, Fail> {
-    let mut text = tables(alloc, image)?;
-    text.push_str(&symbols(alloc, image)?)?;
-    text.push_str(&indirects(alloc, image)?)?;
-    Ok(text)
+fn linkedit(text: &mut String, alloc: Global, image: &Image) -> Result<(), AllocError> {
+    tables(text, alloc, image)?;
+    symbols(text, alloc, image)?;
+    indirects(text, alloc, image)
 }
 
-/// What other commands give.
-fn others(alloc: Global, image: &Image) -> Result<String, Fail> {
-    let mut text = dylibs(alloc, image)?;
-    text.push_str(&builds(alloc, image)?)?;
-    text.push_str(&uuid(alloc, image)?)?;
-    text.push_str(&entry(alloc, image)?)?;
-    text.push_str(&format!(in alloc; "sections {}\n", image.section_count())?)?;
-    Ok(text)
-}
-
-/// A name as text.
-fn name(bytes: &[u8]) -> &str {
-    str::from_utf8(bytes).unwrap_or("?")
-}
-
-fn header(alloc: Global, image: &Image) -> Result<String, Fail> {
+/// The image with its size, cputype, cpusubtype and number of sections.
+fn header(text: &mut String, alloc: Global, image: &Image) -> Result<(), AllocError> {
+    let kind = match image.kind() {
+        Kind::Execute => "executable",
+        Kind::Dylib => "dylib",
+    };
     let (cputype, cpusubtype) = image.arch();
-    Ok(format!(in alloc;
-        "{:?} of {} bytes for {cputype:#x} {cpusubtype:#x}\n",
-        image.kind(),
-        image.bytes().len()
-    )?)
+    let numbers = [
+        image.bytes().len(),
+        u64::from(cputype),
+        u64::from(cpusubtype),
+        image.section_count(),
+    ];
+    line(text, alloc, kind, b"", &numbers)
 }
 
-fn commands(alloc: Global, image: &Image) -> Result<String, Fail> {
-    let mut text = String::new(alloc);
-    for command in image.commands() {
-        let line = format!(in alloc;
-            "{:#x} command {:#x} size {} of {}\n",
-            command.place,
-            command.cmd,
-            command.size,
-            command.bytes.len()
-        )?;
-        text.push_str(&line)?;
+/// Appends a line: what it is of, a name, and numbers.
+fn line(
+    text: &mut String,
+    alloc: Global,
+    part: &str,
+    name: &[u8],
+    numbers: &[u64],
+) -> Result<(), AllocError> {
+    text.push_str(part)?;
+    text.push_str(" ")?;
+    text.push_str(str::from_utf8(name).unwrap_or("?"))?;
+    for number in numbers {
+        text.push_str(&format!(in alloc; " {number:#x}")?)?;
     }
-    Ok(text)
+    text.push_str("\n")
 }
 
-fn segments(alloc: Global, image: &Image) -> Result<String, Fail> {
-    let mut text = String::new(alloc);
+/// Each command with its place, number, size and number of bytes.
+fn commands(text: &mut String, alloc: Global, image: &Image) -> Result<(), AllocError> {
+    for command in image.commands() {
+        let numbers = [
+            command.place,
+            u64::from(command.cmd),
+            u64::from(command.size),
+            command.bytes.len() as u64,
+        ];
+        line(text, alloc, "command", b"", &numbers)?;
+    }
+    Ok(())
+}
+
+/// Each segment with its place, vmaddr, vmsize, fileoff, filesize, initprot and nsects, and its
+/// sections, each with its place, addr, size, offset, reloff, nreloc and flags.
+fn segments(text: &mut String, alloc: Global, image: &Image) -> Result<(), AllocError> {
     for segment in image.segments() {
-        text.push_str(&segment_line(alloc, &segment)?)?;
+        let numbers = [
+            segment.place(),
+            segment.vmaddr(),
+            segment.vmsize(),
+            segment.fileoff(),
+            segment.filesize(),
+            segment.initprot(),
+            segment.nsects(),
+        ];
+        line(text, alloc, "segment", segment.name(), &numbers)?;
         for section in segment.sections() {
-            text.push_str(&section_line(alloc, &section)?)?;
+            let part = if section.is_zero_fill() {
+                "zeros"
+            } else {
+                "section"
+            };
+            let numbers = [
+                section.place(),
+                section.addr(),
+                section.size(),
+                section.offset(),
+                section.reloff(),
+                section.nreloc(),
+                section.flags(),
+            ];
+            line(text, alloc, part, section.name(), &numbers)?;
         }
     }
-    Ok(text)
+    Ok(())
 }
 
-fn segment_line(alloc: Global, segment: &Segment) -> Result<String, Fail> {
-    Ok(format!(in alloc;
-        "{:#x} segment {} addr {:#x} {:#x} file {:#x} {:#x} initprot {} nsects {}\n",
-        segment.place(),
-        name(segment.name()),
-        segment.vmaddr(),
-        segment.vmsize(),
-        segment.fileoff(),
-        segment.filesize(),
-        segment.initprot(),
-        segment.nsects()
-    )?)
-}
-
-fn section_line(alloc: Global, section: &Section) -> Result<String, Fail> {
-    let kind = if section.is_zero_fill() {
-        "zeros"
-    } else {
-        "bytes"
-    };
-    Ok(format!(in alloc;
-        "{:#x} section {} addr {:#x} {:#x} offset {:#x} reloc {:#x} {} flags {:#x} {kind}\n",
-        section.place(),
-        name(section.name()),
-        section.addr(),
-        section.size(),
-        section.offset(),
-        section.reloff(),
-        section.nreloc(),
-        section.flags()
-    )?)
-}
-
-fn tables(alloc: Global, image: &Image) -> Result<String, Fail> {
-    let mut text = String::new(alloc);
+/// The two commands of symbols, with their places and words.
+fn tables(text: &mut String, alloc: Global, image: &Image) -> Result<(), AllocError> {
     if let Some(table) = image.symtab() {
         text.push_str(&format!(in alloc; "{table:?}\n")?)?;
     }
     if let Some(table) = image.dysymtab() {
         text.push_str(&format!(in alloc; "{table:?}\n")?)?;
     }
-    Ok(text)
+    Ok(())
 }
 
-fn symbols(alloc: Global, image: &Image) -> Result<String, Fail> {
-    let mut text = String::new(alloc);
+/// Each symbol with its place, `n_strx`, `n_type`, `n_sect`, `n_desc` and `n_value`.
+fn symbols(text: &mut String, alloc: Global, image: &Image) -> Result<(), AllocError> {
     for symbol in image.symbols() {
-        let named = image.symbol_name(symbol.strx).map(name);
-        let line = format!(in alloc;
-            "{:#x} symbol {named:?} strx {} type {:#x} sect {} desc {:#x} value {:#x}\n",
-            symbol.place, symbol.strx, symbol.kind, symbol.sect, symbol.desc, symbol.value
-        )?;
-        text.push_str(&line)?;
+        let name = image.symbol_name(symbol.strx).unwrap_or(b"(none)");
+        let numbers = [
+            symbol.place,
+            u64::from(symbol.strx),
+            u64::from(symbol.kind),
+            u64::from(symbol.sect),
+            u64::from(symbol.desc),
+            symbol.value,
+        ];
+        line(text, alloc, "symbol", name, &numbers)?;
     }
-    Ok(text)
+    Ok(())
 }
 
-fn indirects(alloc: Global, image: &Image) -> Result<String, Fail> {
-    let mut text = String::new(alloc);
+/// Each indirect entry with its place and value.
+fn indirects(text: &mut String, alloc: Global, image: &Image) -> Result<(), AllocError> {
     for entry in image.indirects() {
-        let line = format!(in alloc; "{:#x} indirect {:#x}\n", entry.place, entry.value)?;
-        text.push_str(&line)?;
+        let numbers = [entry.place, u64::from(entry.value)];
+        line(text, alloc, "indirect", b"", &numbers)?;
     }
-    Ok(text)
+    Ok(())
 }
 
-fn dylibs(alloc: Global, image: &Image) -> Result<String, Fail> {
-    let mut text = String::new(alloc);
+/// Each library with its place, command, current and compatibility version.
+fn dylibs(text: &mut String, alloc: Global, image: &Image) -> Result<(), AllocError> {
     for dylib in image.dylibs() {
-        let line = format!(in alloc;
-            "{:#x} dylib {:#x} {} current {:#x} compatible {:#x}\n",
+        let numbers = [
             dylib.place,
-            dylib.cmd,
-            name(dylib.name),
-            dylib.current,
-            dylib.compatible
-        )?;
-        text.push_str(&line)?;
+            u64::from(dylib.cmd),
+            u64::from(dylib.current),
+            u64::from(dylib.compatible),
+        ];
+        line(text, alloc, "dylib", dylib.name, &numbers)?;
     }
-    Ok(text)
+    Ok(())
 }
 
-fn builds(alloc: Global, image: &Image) -> Result<String, Fail> {
-    let mut text = String::new(alloc);
+/// Each build version with its place, platform, minos and sdk.
+fn builds(text: &mut String, alloc: Global, image: &Image) -> Result<(), AllocError> {
     for build in image.builds() {
-        let line = format!(in alloc;
-            "{:#x} build platform {} minos {:#x} sdk {:#x}\n",
-            build.place, build.platform, build.minos, build.sdk
-        )?;
-        text.push_str(&line)?;
+        let numbers = [
+            build.place,
+            u64::from(build.platform),
+            u64::from(build.minos),
+            u64::from(build.sdk),
+        ];
+        line(text, alloc, "build", b"", &numbers)?;
     }
-    Ok(text)
+    Ok(())
 }
 
-fn uuid(alloc: Global, image: &Image) -> Result<String, Fail> {
-    let mut text = String::new(alloc);
-    if let Some(uuid) = image.uuid() {
-        text.push_str("uuid ")?;
-        for byte in uuid.as_slice() {
-            text.push_str(&format!(in alloc; "{byte:02X}")?)?;
-        }
-        text.push_str("\n")?;
+/// The bytes of the uuid.
+fn uuid(text: &mut String, alloc: Global, image: &Image) -> Result<(), AllocError> {
+    match image.uuid() {
+        Some(uuid) => line(text, alloc, "uuid", b"", &uuid.map(u64::from)),
+        None => Ok(()),
     }
-    Ok(text)
 }
 
-fn entry(alloc: Global, image: &Image) -> Result<String, Fail> {
-    let mut text = String::new(alloc);
+/// The place of `LC_MAIN` with its two numbers; the base, and the entry.
+fn entry(text: &mut String, alloc: Global, image: &Image) -> Result<(), AllocError> {
     if let Some(main) = image.main_command() {
-        text.push_str(&format!(in alloc; "{main:?}\n")?)?;
+        line(
+            text,
+            alloc,
+            "main",
+            b"",
+            &[main.place, main.entryoff, main.stacksize],
+        )?;
     }
     if let Some(base) = image.base() {
-        text.push_str(&format!(in alloc; "base {base:#x}\n")?)?;
+        line(text, alloc, "base", b"", &[base])?;
     }
     if let Some(entry) = image.entry() {
-        text.push_str(&format!(in alloc; "entry {entry:#x}\n")?)?;
+        line(text, alloc, "entry", b"", &[entry])?;
     }
-    Ok(text)
+    Ok(())
 }

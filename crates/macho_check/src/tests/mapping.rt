@@ -1,12 +1,13 @@
 //! What stands at the addresses of verified images.
 
-use crate::notation::File;
+use super::same;
+use crate::notation::{append, executable, written};
 use macho_rules::{Mapping, Source, Verified, verify};
 use std::process::Abort;
 use std::test::Fail;
 
 /// Compares what is at these addresses of an image.
-pub(super) fn check_sources(
+fn check_sources(
     rt: &(impl Abort + AllocGlobal),
     verified: &Verified,
     index: u64,
@@ -15,14 +16,18 @@ pub(super) fn check_sources(
     let mapping = Mapping::of(rt.alloc(), verified, index)?;
     let mut mapping = mapping.ok_or("no mapping")?;
     for (address, source) in sources {
-        assert_eq!(rt; mapping.source(*address), *source, "at {address:#x}");
+        same(
+            rt,
+            &(*address, mapping.source(*address)),
+            &(*address, *source),
+        );
     }
     Ok(())
 }
 
 #[test]
 fn address_queries(rt: HostRuntime) -> Result<(), Fail> {
-    let file = File::executable(rt.alloc())?;
+    let file = executable(rt.alloc())?;
     let sources = [
         (0, Some(Source::Zero)),
         (0xffff_ffff, Some(Source::Zero)),
@@ -34,10 +39,11 @@ fn address_queries(rt: HostRuntime) -> Result<(), Fail> {
         (0x1_0000_4000, None),
         (u64::MAX, None),
     ];
-    let verified = verify(rt.alloc(), file.as_slice())?;
+    let verified = verify(rt.alloc(), &file)?;
     check_sources(&rt, &verified, 0, &sources)?;
     for index in [1, 1 << 32, u64::MAX] {
-        assert!(rt; Mapping::of(rt.alloc(), &verified, index)?.is_none());
+        let mapping = Mapping::of(rt.alloc(), &verified, index)?;
+        same(&rt, &mapping.is_none(), &true);
     }
     Ok(())
 }
@@ -46,16 +52,18 @@ fn address_queries(rt: HostRuntime) -> Result<(), Fail> {
 fn slices_have_mappings_of_their_own(rt: HostRuntime) -> Result<(), Fail> {
     // The second slice is of 32 bits. The third, of 108 bytes at 132, has a segment of its last
     // four bytes, which ends with the last address.
-    let file = File::new(rt.alloc()).written(
+    let file = written(
+        rt.alloc(),
         "cafebabe 00000003 0100000c 00000000 00000060 00000020 .4
         00000007 00000003 00000080 00000004 .4 00000007 00000009 00000084 0000006c .4 .28
         cffaedfe 0c000001 00000000 02000000 .16 cefaedfe
         cffaedfe 07000000 09000000 02000000 01000000 48000000 .8 19000000 48000000 .16
         f8ffffffffffffff 0800000000000000 6800000000000000 0400000000000000 .4 01000000 .8 .4",
     )?;
-    let verified = verify(rt.alloc(), file.as_slice())?;
+    let verified = verify(rt.alloc(), &file)?;
     check_sources(&rt, &verified, 0, &[(0, None)])?;
-    assert!(rt; Mapping::of(rt.alloc(), &verified, 1)?.is_none());
+    let mapping = Mapping::of(rt.alloc(), &verified, 1)?;
+    same(&rt, &mapping.is_none(), &true);
     // Places count from the start of the slice.
     let sources = [
         (0xffff_ffff_ffff_fffb, Some(Source::File(107))),
@@ -63,4 +71,31 @@ fn slices_have_mappings_of_their_own(rt: HostRuntime) -> Result<(), Fail> {
         (0xffff_ffff_ffff_fff7, None),
     ];
     check_sources(&rt, &verified, 2, &sources)
+}
+
+#[test]
+fn many_segments(rt: HostRuntime) -> Result<(), Fail> {
+    // 1,024 segments of 0x1000 addresses each, from 0 on, and one of 16 bytes of the file.
+    let mut file = written(
+        rt.alloc(),
+        "cffaedfe 07000001 03000000 02000000 01040000 48200100 .8",
+    )?;
+    for index in 0..1024u64 {
+        append(&mut file, "19000000 48000000 .16")?;
+        file.extend_from_slice(&index.saturating_mul(0x1000).to_le_bytes())?;
+        append(&mut file, "00100000 .4 .32")?;
+    }
+    append(
+        &mut file,
+        "19000000 48000000 .16 00004000 .4 00100000 .4 08000000 .4 10000000 .4 .16",
+    )?;
+    let verified = verify(rt.alloc(), &file)?;
+    let sources = [
+        (0, Some(Source::Zero)),
+        (0x3f_ffff, Some(Source::Zero)),
+        (0x40_000f, Some(Source::File(23))),
+        (0x40_0010, Some(Source::Zero)),
+        (0x40_1000, None),
+    ];
+    check_sources(&rt, &verified, 0, &sources)
 }

@@ -4,11 +4,14 @@
 //! `llvm-objdump --macho --private-headers --indirect-symbols` and `llvm-nm -p -x`.
 
 use super::layout::check_layout;
-use super::{ACCEPTED, check_verdict};
-use crate::notation::{ARM64, File, X86_64};
+use super::{check_verdict, same};
+use crate::notation::written;
 use macho_fat::Slice;
 use macho_fields::Span;
-use macho_rules::verify;
+use macho_fields::header::machine::{CPU_TYPE_ARM64, CPU_TYPE_X86_64};
+use macho_rules::{Verified, verify};
+use std::alloc::Global;
+use std::process::Abort;
 use std::test::Fail;
 
 /// An executable for x86_64.
@@ -80,143 +83,150 @@ const LIBRARY: &str = "\
     7cb47c7a 85dabd8b 48892ca7 0bea8125 04fd12bf 4986c56f a4d4f39e cfbce7a1 80828506 \
     81517b5c ce202fc1";
 
+fn program_file(alloc: Global) -> Result<Vec<u8>, Fail> {
+    written(alloc, PROGRAM)
+}
+
+fn library_file(alloc: Global) -> Result<Vec<u8>, Fail> {
+    written(alloc, LIBRARY)
+}
+
 #[test]
 fn program(rt: HostRuntime) -> Result<(), Fail> {
-    let file = File::new(rt.alloc()).written(PROGRAM)?;
-    check_verdict(&rt, &file, ACCEPTED);
-    let verified = verify(rt.alloc(), file.as_slice())?;
+    let file = program_file(rt.alloc())?;
+    check_verdict(&rt, &file, "accepted");
+    let verified = verify(rt.alloc(), &file)?;
     let image = verified.image(0).ok_or("no image")?;
     check_layout(
         &rt,
         &image,
         "
-        Execute of 12528 bytes for 0x1000007 0x3
-        0x20 command 0x19 size 72 of 72
-        0x68 command 0x19 size 152 of 152
-        0x100 command 0x19 size 152 of 152
-        0x198 command 0x19 size 232 of 232
-        0x280 command 0x19 size 72 of 72
-        0x2c8 command 0x80000022 size 48 of 48
-        0x2f8 command 0x2 size 24 of 24
-        0x310 command 0xb size 80 of 80
-        0x360 command 0xe size 32 of 32
-        0x380 command 0x1b size 24 of 24
-        0x398 command 0x32 size 32 of 32
-        0x3b8 command 0x80000028 size 24 of 24
-        0x3d0 command 0xc size 48 of 48
-        0x400 command 0x26 size 16 of 16
-        0x410 command 0x29 size 16 of 16
-        0x20 segment __PAGEZERO addr 0x0 0x100000000 file 0x0 0x0 initprot 0 nsects 0
-        0x68 segment __TEXT addr 0x100000000 0x1000 file 0x0 0x1000 initprot 5 nsects 1
-        0xb0 section __text addr 0x100000440 0x1b offset 0x440 reloc 0x0 0 flags 0x80000400 bytes
-        0x100 segment __DATA_CONST addr 0x100001000 0x1000 file 0x1000 0x1000 initprot 3 nsects 1
-        0x148 section __got addr 0x100001000 0x8 offset 0x1000 reloc 0x0 0 flags 0x6 bytes
-        0x198 segment __DATA addr 0x100002000 0x1000 file 0x2000 0x1000 initprot 3 nsects 2
-        0x1e0 section __data addr 0x100002000 0x4 offset 0x2000 reloc 0x0 0 flags 0x0 bytes
-        0x230 section __common addr 0x100002010 0x10 offset 0x0 reloc 0x0 0 flags 0x1 zeros
-        0x280 segment __LINKEDIT addr 0x100003000 0xf0 file 0x3000 0xf0 initprot 1 nsects 0
+        executable  0x30f0 0x1000007 0x3 0x4
+        command  0x20 0x19 0x48 0x48
+        command  0x68 0x19 0x98 0x98
+        command  0x100 0x19 0x98 0x98
+        command  0x198 0x19 0xe8 0xe8
+        command  0x280 0x19 0x48 0x48
+        command  0x2c8 0x80000022 0x30 0x30
+        command  0x2f8 0x2 0x18 0x18
+        command  0x310 0xb 0x50 0x50
+        command  0x360 0xe 0x20 0x20
+        command  0x380 0x1b 0x18 0x18
+        command  0x398 0x32 0x20 0x20
+        command  0x3b8 0x80000028 0x18 0x18
+        command  0x3d0 0xc 0x30 0x30
+        command  0x400 0x26 0x10 0x10
+        command  0x410 0x29 0x10 0x10
+        segment __PAGEZERO 0x20 0x0 0x100000000 0x0 0x0 0x0 0x0
+        segment __TEXT 0x68 0x100000000 0x1000 0x0 0x1000 0x5 0x1
+        section __text 0xb0 0x100000440 0x1b 0x440 0x0 0x0 0x80000400
+        segment __DATA_CONST 0x100 0x100001000 0x1000 0x1000 0x1000 0x3 0x1
+        section __got 0x148 0x100001000 0x8 0x1000 0x0 0x0 0x6
+        segment __DATA 0x198 0x100002000 0x1000 0x2000 0x1000 0x3 0x2
+        section __data 0x1e0 0x100002000 0x4 0x2000 0x0 0x0 0x0
+        zeros __common 0x230 0x100002010 0x10 0x0 0x0 0x0 0x1
+        segment __LINKEDIT 0x280 0x100003000 0xf0 0x3000 0xf0 0x1 0x0
         Symtab { place: 760, symoff: 12384, nsyms: 5, stroff: 12472, strsize: 56 }
         Dysymtab { place: 784, ilocalsym: 0, nlocalsym: 0, iextdefsym: 0, nextdefsym: 4, \
             iundefsym: 4, nundefsym: 1, tocoff: 0, ntoc: 0, modtaboff: 0, nmodtab: 0, \
             extrefsymoff: 0, nextrefsyms: 0, indirectsymoff: 12464, nindirectsyms: 1, \
             extreloff: 0, nextrel: 0, locreloff: 0, nlocrel: 0 }
-        0x3060 symbol Some(\"_start\") strx 2 type 0xf sect 1 desc 0x0 value 0x100000440
-        0x3070 symbol Some(\"_counter\") strx 9 type 0xf sect 3 desc 0x0 value 0x100002000
-        0x3080 symbol Some(\"_total\") strx 18 type 0xf sect 4 desc 0x0 value 0x100002010
-        0x3090 symbol Some(\"__mh_execute_header\") strx 31 type 0xf sect 1 desc 0x10 value \
-            0x100000000
-        0x30a0 symbol Some(\"_step\") strx 25 type 0x1 sect 0 desc 0x100 value 0x0
-        0x30b0 indirect 0x4
-        0x3d0 dylib 0xc /usr/lib/libdemo.dylib current 0x10203 compatible 0x10200
-        0x398 build platform 1 minos 0xb0000 sdk 0xb0000
-        uuid 4C4C443555553144A1CEE5F04E5E6C2C
-        MainCommand { place: 952, entryoff: 1088, stacksize: 0 }
-        base 0x100000000
-        entry 0x100000440
-        sections 4
+        symbol _start 0x3060 0x2 0xf 0x1 0x0 0x100000440
+        symbol _counter 0x3070 0x9 0xf 0x3 0x0 0x100002000
+        symbol _total 0x3080 0x12 0xf 0x4 0x0 0x100002010
+        symbol __mh_execute_header 0x3090 0x1f 0xf 0x1 0x10 0x100000000
+        symbol _step 0x30a0 0x19 0x1 0x0 0x100 0x0
+        indirect  0x30b0 0x4
+        dylib /usr/lib/libdemo.dylib 0x3d0 0xc 0x10203 0x10200
+        build  0x398 0x1 0xb0000 0xb0000
+        uuid  0x4c 0x4c 0x44 0x35 0x55 0x55 0x31 0x44 0xa1 0xce 0xe5 0xf0 0x4e 0x5e 0x6c 0x2c
+        main  0x3b8 0x440 0x0
+        base  0x100000000
+        entry  0x100000440
         ",
     )
 }
 
 const LIBRARY_X86_64: &str = "
-        Dylib of 4184 bytes for 0x1000007 0x3
-        0x20 command 0x19 size 232 of 232
-        0x108 command 0x19 size 72 of 72
-        0x150 command 0x80000022 size 48 of 48
-        0x180 command 0x2 size 24 of 24
-        0x198 command 0xb size 80 of 80
-        0x1e8 command 0xd size 48 of 48
-        0x218 command 0x1b size 24 of 24
-        0x230 command 0x32 size 32 of 32
-        0x250 command 0x26 size 16 of 16
-        0x260 command 0x29 size 16 of 16
-        0x20 segment __TEXT addr 0x0 0x1000 file 0x0 0x1000 initprot 5 nsects 2
-        0x68 section __text addr 0x290 0x9 offset 0x290 reloc 0x0 0 flags 0x80000400 bytes
-        0xb8 section __const addr 0x29c 0x4 offset 0x29c reloc 0x0 0 flags 0x0 bytes
-        0x108 segment __LINKEDIT addr 0x1000 0x58 file 0x1000 0x58 initprot 1 nsects 0
+        dylib  0x1058 0x1000007 0x3 0x2
+        command  0x20 0x19 0xe8 0xe8
+        command  0x108 0x19 0x48 0x48
+        command  0x150 0x80000022 0x30 0x30
+        command  0x180 0x2 0x18 0x18
+        command  0x198 0xb 0x50 0x50
+        command  0x1e8 0xd 0x30 0x30
+        command  0x218 0x1b 0x18 0x18
+        command  0x230 0x32 0x20 0x20
+        command  0x250 0x26 0x10 0x10
+        command  0x260 0x29 0x10 0x10
+        segment __TEXT 0x20 0x0 0x1000 0x0 0x1000 0x5 0x2
+        section __text 0x68 0x290 0x9 0x290 0x0 0x0 0x80000400
+        section __const 0xb8 0x29c 0x4 0x29c 0x0 0x0 0x0
+        segment __LINKEDIT 0x108 0x1000 0x58 0x1000 0x58 0x1 0x0
         Symtab { place: 384, symoff: 4136, nsyms: 2, stroff: 4168, strsize: 16 }
         Dysymtab { place: 408, ilocalsym: 0, nlocalsym: 0, iextdefsym: 0, nextdefsym: 2, \
             iundefsym: 2, nundefsym: 0, tocoff: 0, ntoc: 0, modtaboff: 0, nmodtab: 0, \
             extrefsymoff: 0, nextrefsyms: 0, indirectsymoff: 0, nindirectsyms: 0, extreloff: 0, \
             nextrel: 0, locreloff: 0, nlocrel: 0 }
-        0x1028 symbol Some(\"_twice\") strx 2 type 0xf sect 1 desc 0x0 value 0x290
-        0x1038 symbol Some(\"_step\") strx 9 type 0xf sect 2 desc 0x0 value 0x29c
-        0x1e8 dylib 0xd /usr/lib/libdemo.dylib current 0x10203 compatible 0x10200
-        0x230 build platform 1 minos 0xb0000 sdk 0xb0000
-        uuid 4C4C449755553144A1FB002FEFB95AB3
-        base 0x0
-        sections 2
+        symbol _twice 0x1028 0x2 0xf 0x1 0x0 0x290
+        symbol _step 0x1038 0x9 0xf 0x2 0x0 0x29c
+        dylib /usr/lib/libdemo.dylib 0x1e8 0xd 0x10203 0x10200
+        build  0x230 0x1 0xb0000 0xb0000
+        uuid  0x4c 0x4c 0x44 0x97 0x55 0x55 0x31 0x44 0xa1 0xfb 0x0 0x2f 0xef 0xb9 0x5a 0xb3
+        base  0x0
 ";
 
 const LIBRARY_ARM64: &str = "
-        Dylib of 16768 bytes for 0x100000c 0x0
-        0x20 command 0x19 size 232 of 232
-        0x108 command 0x19 size 72 of 72
-        0x150 command 0x80000022 size 48 of 48
-        0x180 command 0x2 size 24 of 24
-        0x198 command 0xb size 80 of 80
-        0x1e8 command 0xd size 48 of 48
-        0x218 command 0x1b size 24 of 24
-        0x230 command 0x32 size 32 of 32
-        0x250 command 0x26 size 16 of 16
-        0x260 command 0x29 size 16 of 16
-        0x270 command 0x1d size 16 of 16
-        0x20 segment __TEXT addr 0x0 0x4000 file 0x0 0x4000 initprot 5 nsects 2
-        0x68 section __text addr 0x2a0 0x8 offset 0x2a0 reloc 0x0 0 flags 0x80000400 bytes
-        0xb8 section __const addr 0x2a8 0x4 offset 0x2a8 reloc 0x0 0 flags 0x0 bytes
-        0x108 segment __LINKEDIT addr 0x4000 0x180 file 0x4000 0x180 initprot 1 nsects 0
+        dylib  0x4180 0x100000c 0x0 0x2
+        command  0x20 0x19 0xe8 0xe8
+        command  0x108 0x19 0x48 0x48
+        command  0x150 0x80000022 0x30 0x30
+        command  0x180 0x2 0x18 0x18
+        command  0x198 0xb 0x50 0x50
+        command  0x1e8 0xd 0x30 0x30
+        command  0x218 0x1b 0x18 0x18
+        command  0x230 0x32 0x20 0x20
+        command  0x250 0x26 0x10 0x10
+        command  0x260 0x29 0x10 0x10
+        command  0x270 0x1d 0x10 0x10
+        segment __TEXT 0x20 0x0 0x4000 0x0 0x4000 0x5 0x2
+        section __text 0x68 0x2a0 0x8 0x2a0 0x0 0x0 0x80000400
+        section __const 0xb8 0x2a8 0x4 0x2a8 0x0 0x0 0x0
+        segment __LINKEDIT 0x108 0x4000 0x180 0x4000 0x180 0x1 0x0
         Symtab { place: 384, symoff: 16424, nsyms: 2, stroff: 16456, strsize: 16 }
         Dysymtab { place: 408, ilocalsym: 0, nlocalsym: 0, iextdefsym: 0, nextdefsym: 2, \
             iundefsym: 2, nundefsym: 0, tocoff: 0, ntoc: 0, modtaboff: 0, nmodtab: 0, \
             extrefsymoff: 0, nextrefsyms: 0, indirectsymoff: 0, nindirectsyms: 0, extreloff: 0, \
             nextrel: 0, locreloff: 0, nlocrel: 0 }
-        0x4028 symbol Some(\"_twice\") strx 2 type 0xf sect 1 desc 0x0 value 0x2a0
-        0x4038 symbol Some(\"_step\") strx 9 type 0xf sect 2 desc 0x0 value 0x2a8
-        0x1e8 dylib 0xd /usr/lib/libdemo.dylib current 0x10203 compatible 0x10200
-        0x230 build platform 1 minos 0xb0000 sdk 0xb0000
-        uuid 4C4C447155553144A1A3CB547D9BF742
-        base 0x0
-        sections 2
+        symbol _twice 0x4028 0x2 0xf 0x1 0x0 0x2a0
+        symbol _step 0x4038 0x9 0xf 0x2 0x0 0x2a8
+        dylib /usr/lib/libdemo.dylib 0x1e8 0xd 0x10203 0x10200
+        build  0x230 0x1 0xb0000 0xb0000
+        uuid  0x4c 0x4c 0x44 0x71 0x55 0x55 0x31 0x44 0xa1 0xa3 0xcb 0x54 0x7d 0x9b 0xf7 0x42
+        base  0x0
 ";
 
 #[test]
 fn library(rt: HostRuntime) -> Result<(), Fail> {
-    let file = File::new(rt.alloc()).written(LIBRARY)?;
-    check_verdict(&rt, &file, ACCEPTED);
-    let verified = verify(rt.alloc(), file.as_slice())?;
-    assert_eq!(rt; verified.slice_count(), 2);
-    for (index, start, len, arch, lines) in [
-        (0, 48, 4184, X86_64, LIBRARY_X86_64),
-        (1, 4240, 16768, ARM64, LIBRARY_ARM64),
-    ] {
-        let slice = Slice {
-            span: Span { start, len },
-            arch: Some(arch),
-            read: true,
-        };
-        assert_eq!(rt; verified.slice(index).copied(), Some(slice));
-        let image = verified.image(index).ok_or("no image")?;
-        check_layout(&rt, &image, lines)?;
-    }
-    Ok(())
+    let file = library_file(rt.alloc())?;
+    check_verdict(&rt, &file, "accepted");
+    let verified = verify(rt.alloc(), &file)?;
+    same(&rt, &verified.slice_count(), &2);
+    check_slice(&rt, &verified, 0, (48, 4184, CPU_TYPE_X86_64, 3));
+    check_slice(&rt, &verified, 1, (4240, 16768, CPU_TYPE_ARM64, 0));
+    let image = verified.image(0).ok_or("no image")?;
+    check_layout(&rt, &image, LIBRARY_X86_64)?;
+    let image = verified.image(1).ok_or("no image")?;
+    check_layout(&rt, &image, LIBRARY_ARM64)
+}
+
+/// Compares the start, length and architecture of a slice that is read.
+fn check_slice(rt: &impl Abort, verified: &Verified, index: u64, expected: (u64, u64, u32, u32)) {
+    let (start, len, cputype, cpusubtype) = expected;
+    let slice = Slice {
+        span: Span { start, len },
+        arch: Some((cputype, cpusubtype)),
+        read: true,
+    };
+    same(rt, &verified.slice(index), &Some(&slice));
 }

@@ -1,5 +1,6 @@
 //! Streams: how many reads, writes and flushes there are, which bytes come out, and that calls succeed.
 
+use super::same;
 use crate::doubles::{
     CountingReader, CountingWriter, EndlessReader, Fault, SlowReader, SlowWriter,
 };
@@ -7,7 +8,7 @@ use crate::from_read::FromRead;
 use crate::from_write::FromWrite;
 use crate::program::{ProgramFault, run_program};
 use crate::run::{Outcome, RunFault, run};
-use crate::status::exit_code;
+use crate::status::{check_status, exit_code};
 use crate::stream::{Failed, Flush, Input, Output};
 use crate::text::{write_break, write_hex};
 use crate::transfer::{ReadFault, WriteFault, read_all, write_all};
@@ -21,9 +22,9 @@ const TEXT: &[u8; 32] = b"abcdefghijklmnopqrstuvwxyz012345";
 fn reads_one_byte_at_a_time(rt: HostRuntime) {
     let mut reader = SlowReader::new(TEXT);
     let read = read_all(rt.alloc(), 32, &mut reader).expect(&rt, "32 bytes at limit 32");
-    assert_eq!(rt; read.as_slice(), TEXT.as_slice());
-    assert_eq!(rt; reader.reads, 33);
-    assert!(rt; !reader.failed());
+    same(&rt, &read.as_slice(), &TEXT.as_slice());
+    same(&rt, &reader.reads, &33);
+    same(&rt, &reader.failed(), &false);
 }
 
 #[test]
@@ -35,14 +36,14 @@ fn stops_at_the_limit(rt: HostRuntime) {
     ] {
         let mut reader = SlowReader::new(text);
         let fault = read_all(rt.alloc(), limit, &mut reader).err();
-        assert_eq!(rt; fault, Some(ReadFault::TooLong), "at limit {limit}");
-        assert_eq!(rt; reader.reads, limit + 1);
+        same(&rt, &(limit, fault), &(limit, Some(ReadFault::TooLong)));
+        same(&rt, &reader.reads, &(limit + 1));
     }
     let mut reader = EndlessReader { reads: 0 };
     let fault = read_all(rt.alloc(), 64, &mut reader).err();
-    assert_eq!(rt; fault, Some(ReadFault::TooLong));
-    assert_eq!(rt; reader.reads, 65);
-    assert!(rt; !reader.failed());
+    same(&rt, &fault, &Some(ReadFault::TooLong));
+    same(&rt, &reader.reads, &65);
+    same(&rt, &reader.failed(), &false);
 }
 
 #[test]
@@ -54,7 +55,7 @@ fn reads_within_the_limit(rt: HostRuntime) {
     ] {
         let mut reader = SlowReader::new(text);
         let read = read_all(rt.alloc(), limit, &mut reader).expect(&rt, "within the limit");
-        assert_eq!(rt; read.as_slice(), text);
+        same(&rt, &read.as_slice(), &text);
     }
 }
 
@@ -64,11 +65,11 @@ fn answers_a_failed_read(rt: HostRuntime) {
         let mut reader = SlowReader::new(TEXT);
         reader.fails_at = Some(fails_at);
         let fault = read_all(rt.alloc(), 32, &mut reader).err();
-        assert_eq!(rt; fault, Some(ReadFault::Read), "at read {fails_at}");
-        assert!(rt; reader.failed());
-        assert_eq!(rt; reader.reads, fails_at);
+        same(&rt, &(fails_at, fault), &(fails_at, Some(ReadFault::Read)));
+        same(&rt, &reader.failed(), &true);
+        same(&rt, &reader.reads, &fails_at);
         let again = read_all(rt.alloc(), 32, &mut reader).err();
-        assert_eq!(rt; again, Some(ReadFault::Read));
+        same(&rt, &again, &Some(ReadFault::Read));
     }
 }
 
@@ -81,10 +82,10 @@ fn reads_a_reader_of_std(rt: HostRuntime) -> Result<(), Fail> {
     let mut counted = CountingReader::new(long.as_slice(), 0);
     let mut reader = FromRead::new(&mut counted);
     let read = read_all(rt.alloc(), 1 << 32, &mut reader).expect(&rt, "within the limit");
-    assert!(rt; !reader.failed());
-    assert_eq!(rt; read.as_slice(), long.as_slice());
+    same(&rt, &reader.failed(), &false);
+    same(&rt, &read.as_slice(), &long.as_slice());
     // 16 pieces of 65,536 bytes, one of a single byte, and the end.
-    assert_eq!(rt; counted.reads, 18);
+    same(&rt, &counted.reads, &18);
     Ok(())
 }
 
@@ -96,10 +97,10 @@ fn each_read_is_one_of_std(rt: HostRuntime) {
     for size in 0..65_537 {
         let mut counted = CountingReader::new(&bytes, 0);
         let mut reader = FromRead::new(&mut counted);
-        assert_eq!(rt; reader.read(&mut piece[..size]), Ok(size));
-        assert!(rt; !reader.failed(), "after {size} bytes");
-        assert_eq!(rt; counted.reads, 1);
-        assert_eq!(rt; counted.bytes.len(), 65_536 - size);
+        same(&rt, &reader.read(&mut piece[..size]), &Ok(size));
+        same(&rt, &reader.failed(), &false);
+        same(&rt, &counted.reads, &1);
+        same(&rt, &counted.bytes.len(), &(65_536 - size));
     }
 }
 
@@ -110,34 +111,34 @@ fn no_read_follows_an_error_of_std(rt: HostRuntime) {
         let mut counted = CountingReader::new(TEXT, fails_at);
         let mut reader = FromRead::new(&mut counted);
         for _ in 1..fails_at {
-            assert_eq!(rt; reader.read(&mut piece), Ok(4));
+            same(&rt, &reader.read(&mut piece), &Ok(4));
         }
-        assert!(rt; !reader.failed());
+        same(&rt, &reader.failed(), &false);
         for _ in 0..3 {
-            assert_eq!(rt; reader.read(&mut piece), Err(Failed));
-            assert!(rt; reader.failed());
+            same(&rt, &reader.read(&mut piece), &Err(Failed));
+            same(&rt, &reader.failed(), &true);
         }
-        assert_eq!(rt; counted.reads, fails_at);
+        same(&rt, &counted.reads, &fails_at);
     }
 }
 
 #[test]
 fn writes_the_whole_text(rt: HostRuntime) {
     let mut writer = SlowWriter::new(Vec::new(rt.alloc()), 100);
-    assert!(rt; write_all(TEXT, &mut writer).is_ok());
-    assert!(rt; write_all(b"", &mut writer).is_ok());
-    assert!(rt; !writer.failed());
-    assert_eq!(rt; writer.bytes.as_slice(), TEXT.as_slice());
+    same(&rt, &write_all(TEXT, &mut writer).is_ok(), &true);
+    same(&rt, &write_all(b"", &mut writer).is_ok(), &true);
+    same(&rt, &writer.failed(), &false);
+    same(&rt, &writer.bytes.as_slice(), &TEXT.as_slice());
 }
 
 #[test]
 fn stops_at_a_failed_write(rt: HostRuntime) {
     let mut writer = SlowWriter::new(Vec::new(rt.alloc()), 4);
-    assert!(rt; write_all(b"abcdefgh", &mut writer).is_err());
-    assert!(rt; writer.failed());
-    assert!(rt; write_all(b"i", &mut writer).is_err());
-    assert!(rt; write_all(b"", &mut writer).is_ok());
-    assert_eq!(rt; writer.bytes.as_slice(), b"abcd".as_slice());
+    same(&rt, &write_all(b"abcdefgh", &mut writer).is_err(), &true);
+    same(&rt, &writer.failed(), &true);
+    same(&rt, &write_all(b"i", &mut writer).is_err(), &true);
+    same(&rt, &write_all(b"", &mut writer).is_ok(), &true);
+    same(&rt, &writer.bytes.as_slice(), &b"abcd".as_slice());
 }
 
 #[test]
@@ -146,15 +147,15 @@ fn each_write_is_one_of_std(rt: HostRuntime) {
     for size in 0..1001 {
         let mut counted = CountingWriter::new(Vec::new(rt.alloc()), 0, Fault::Error);
         let mut writer = FromWrite::new(&mut counted);
-        assert_eq!(rt; writer.write(&bytes[..size]), Ok(size));
-        assert!(rt; !writer.failed(), "after {size} bytes");
-        assert_eq!(rt; (counted.writes, counted.flushes), (1, 0));
+        same(&rt, &writer.write(&bytes[..size]), &Ok(size));
+        same(&rt, &writer.failed(), &false);
+        same(&rt, &(counted.writes, counted.flushes), &(1, 0));
 
         let mut writer = FromWrite::new(&mut counted);
-        assert!(rt; writer.flush().is_ok());
-        assert!(rt; !writer.failed());
-        assert_eq!(rt; (counted.writes, counted.flushes), (1, 1));
-        assert_eq!(rt; counted.bytes.as_slice(), &bytes[..size]);
+        same(&rt, &writer.flush().is_ok(), &true);
+        same(&rt, &writer.failed(), &false);
+        same(&rt, &(counted.writes, counted.flushes), &(1, 1));
+        same(&rt, &counted.bytes.as_slice(), &&bytes[..size]);
     }
 }
 
@@ -165,15 +166,15 @@ fn no_write_follows_an_error_of_std(rt: HostRuntime) {
             let mut counted = CountingWriter::new(Vec::new(rt.alloc()), fails_at, fault);
             let mut writer = FromWrite::new(&mut counted);
             for _ in 1..fails_at {
-                assert_eq!(rt; writer.write(b"abcd"), Ok(4));
+                same(&rt, &writer.write(b"abcd"), &Ok(4));
             }
-            assert!(rt; !writer.failed());
+            same(&rt, &writer.failed(), &false);
             for _ in 0..3 {
-                assert_eq!(rt; writer.write(b"abcd"), Err(Failed));
-                assert_eq!(rt; writer.flush(), Err(Failed));
-                assert!(rt; writer.failed());
+                same(&rt, &writer.write(b"abcd"), &Err(Failed));
+                same(&rt, &writer.flush(), &Err(Failed));
+                same(&rt, &writer.failed(), &true);
             }
-            assert_eq!(rt; (counted.writes, counted.flushes), (fails_at, 0));
+            same(&rt, &(counted.writes, counted.flushes), &(fails_at, 0));
         }
     }
 }
@@ -182,14 +183,14 @@ fn no_write_follows_an_error_of_std(rt: HostRuntime) {
 fn no_call_follows_a_failed_flush(rt: HostRuntime) {
     let mut counted = CountingWriter::new(Vec::new(rt.alloc()), 2, Fault::Error);
     let mut writer = FromWrite::new(&mut counted);
-    assert!(rt; write_all(b"abcd", &mut writer).is_ok());
-    assert!(rt; write_all(b"", &mut writer).is_ok());
-    assert_eq!(rt; writer.flush(), Err(Failed));
-    assert_eq!(rt; writer.flush(), Err(Failed));
-    assert_eq!(rt; writer.write(b"e"), Err(Failed));
-    assert!(rt; writer.failed());
-    assert_eq!(rt; (counted.writes, counted.flushes), (1, 1));
-    assert_eq!(rt; counted.bytes.as_slice(), b"abcd".as_slice());
+    same(&rt, &write_all(b"abcd", &mut writer).is_ok(), &true);
+    same(&rt, &write_all(b"", &mut writer).is_ok(), &true);
+    same(&rt, &writer.flush(), &Err(Failed));
+    same(&rt, &writer.flush(), &Err(Failed));
+    same(&rt, &writer.write(b"e"), &Err(Failed));
+    same(&rt, &writer.failed(), &true);
+    same(&rt, &(counted.writes, counted.flushes), &(1, 1));
+    same(&rt, &counted.bytes.as_slice(), &b"abcd".as_slice());
 }
 
 /// A header alone, which keeps every rule.
@@ -202,44 +203,56 @@ const WRITE_LINE: &str = "macho-check: write failed\n";
 
 const USAGE_LINE: &str = "usage: macho-check check FILE | where FILE SLICE ADDRESS\n";
 
+/// How the program ends: its status, what it writes to both outputs, and how many reads, writes and
+/// flushes there are.
+#[derive(Clone, Copy)]
+struct End(u8, &'static str, &'static str, (u64, u64, u64));
+
+/// Compares the end of the program, on so many words, where this read and this call of the writer
+/// fail.
+fn check_end(
+    rt: &(impl Abort + AllocGlobal),
+    words: Option<usize>,
+    bad_read: u64,
+    bad_write: u64,
+    expected: End,
+) {
+    let End(status, text, line, calls) = expected;
+    let mut reader = CountingReader::new(BARE_HEADER, bad_read);
+    let mut writer = CountingWriter::new(Vec::new(rt.alloc()), bad_write, Fault::Error);
+    let mut errors = CountingWriter::new(Vec::new(rt.alloc()), 0, Fault::Error);
+    let ended = run_program(
+        rt.alloc(),
+        words,
+        &mut FromRead::new(&mut reader),
+        &mut FromWrite::new(&mut writer),
+        &mut FromWrite::new(&mut errors),
+    );
+    same(rt, &exit_code(&ended), &ExitCode::from(status));
+    same(rt, &writer.bytes.as_slice(), &text.as_bytes());
+    same(rt, &errors.bytes.as_slice(), &line.as_bytes());
+    same(rt, &(reader.reads, writer.writes, writer.flushes), &calls);
+    let lines = u64::from(!line.is_empty());
+    same(rt, &(errors.writes, errors.flushes), &(lines, 0));
+}
+
 #[test]
 fn ends_of_the_program(rt: HostRuntime) {
-    // How many words, which read and which call of the writer fail; the status, both texts, and how
-    // many reads, writes and flushes there were.
-    for (words, bad_read, bad_write, status, text, line, calls) in [
-        (Some(1), 0, 0, 0, "accepted\n", "", (2, 1, 1)),
-        (Some(0), 0, 0, 0, "accepted\n", "", (2, 1, 1)),
-        (Some(1), 1, 0, 3, "", READ_LINE, (1, 0, 0)),
-        (Some(1), 2, 0, 3, "", READ_LINE, (2, 0, 0)),
-        (Some(1), 0, 1, 3, "", WRITE_LINE, (2, 1, 0)),
-        (Some(1), 0, 2, 3, "accepted\n", WRITE_LINE, (2, 1, 1)),
-        (Some(2), 0, 0, 2, "", USAGE_LINE, (0, 0, 0)),
-        (Some(7), 1, 1, 2, "", USAGE_LINE, (0, 0, 0)),
-        (None, 0, 0, 3, "", READ_LINE, (0, 0, 0)),
-    ] {
-        let mut reader = CountingReader::new(BARE_HEADER, bad_read);
-        let mut writer = CountingWriter::new(Vec::new(rt.alloc()), bad_write, Fault::Error);
-        let mut errors = CountingWriter::new(Vec::new(rt.alloc()), 0, Fault::Error);
-        let ended = run_program(
-            rt.alloc(),
-            words,
-            &mut FromRead::new(&mut reader),
-            &mut FromWrite::new(&mut writer),
-            &mut FromWrite::new(&mut errors),
-        );
-        assert_eq!(rt;
-            exit_code(&ended),
-            ExitCode::from(status),
-            "of {words:?} words"
-        );
-        assert_eq!(rt; writer.bytes.as_slice(), text.as_bytes());
-        assert_eq!(rt; errors.bytes.as_slice(), line.as_bytes());
-        assert_eq!(rt; (reader.reads, writer.writes, writer.flushes), calls);
-        assert_eq!(rt;
-            (errors.writes, errors.flushes),
-            (u64::from(!line.is_empty()), 0)
-        );
-    }
+    check_end(&rt, Some(1), 0, 0, End(0, "accepted\n", "", (2, 1, 1)));
+    check_end(&rt, Some(0), 0, 0, End(0, "accepted\n", "", (2, 1, 1)));
+    check_end(&rt, Some(1), 1, 0, End(3, "", READ_LINE, (1, 0, 0)));
+    check_end(&rt, Some(1), 2, 0, End(3, "", READ_LINE, (2, 0, 0)));
+    check_end(&rt, Some(1), 0, 1, End(3, "", WRITE_LINE, (2, 1, 0)));
+    check_end(
+        &rt,
+        Some(1),
+        0,
+        2,
+        End(3, "accepted\n", WRITE_LINE, (2, 1, 1)),
+    );
+    check_end(&rt, Some(2), 0, 0, End(2, "", USAGE_LINE, (0, 0, 0)));
+    check_end(&rt, Some(7), 1, 1, End(2, "", USAGE_LINE, (0, 0, 0)));
+    check_end(&rt, None, 0, 0, End(3, "", READ_LINE, (0, 0, 0)));
 }
 
 #[test]
@@ -253,9 +266,9 @@ fn faults_of_standard_error_are_ignored(rt: HostRuntime) {
         &mut FromWrite::new(&mut writer),
         &mut FromWrite::new(&mut errors),
     );
-    assert_eq!(rt; ended, Err(ProgramFault::Run(RunFault::Read)));
-    assert_eq!(rt; (errors.writes, errors.flushes), (1, 0));
-    assert!(rt; errors.bytes.is_empty());
+    same(&rt, &ended, &Err(ProgramFault::Run(RunFault::Read)));
+    same(&rt, &(errors.writes, errors.flushes), &(1, 0));
+    same(&rt, &errors.bytes.is_empty(), &true);
 }
 
 #[test]
@@ -268,13 +281,13 @@ fn a_refusal_that_is_cut_off(rt: HostRuntime) {
         let ended = run(rt.alloc(), 1, &mut SlowReader::new(b"a"), &mut output);
         let calls = writer.writes.saturating_add(writer.flushes);
         if (1..7).contains(&fails_at) {
-            assert_eq!(rt; ended, Err(RunFault::Write), "at call {fails_at}");
-            assert_eq!(rt; calls, fails_at);
-            assert!(rt; line.starts_with(writer.bytes.as_slice()));
+            same(&rt, &ended, &Err(RunFault::Write));
+            same(&rt, &calls, &fails_at);
+            same(&rt, &line.starts_with(writer.bytes.as_slice()), &true);
         } else {
-            assert_eq!(rt; ended, Ok(Outcome::Refused));
-            assert_eq!(rt; (writer.writes, writer.flushes), (6, 0));
-            assert_eq!(rt; writer.bytes.as_slice(), line);
+            same(&rt, &ended, &Ok(Outcome::Refused));
+            same(&rt, &(writer.writes, writer.flushes), &(6, 0));
+            same(&rt, &writer.bytes.as_slice(), &line);
         }
     }
 }
@@ -290,8 +303,8 @@ fn writes_numbers(rt: HostRuntime) {
     ];
     for (number, text) in cases {
         let mut writer = SlowWriter::new(Vec::new(rt.alloc()), 100);
-        assert!(rt; write_hex(number, &mut writer).is_ok());
-        assert_eq!(rt; writer.bytes.as_slice(), text, "of {number}");
+        same(&rt, &write_hex(number, &mut writer).is_ok(), &true);
+        same(&rt, &writer.bytes.as_slice(), &text);
     }
 }
 
@@ -303,9 +316,56 @@ fn writes_a_break(rt: HostRuntime) {
         rule: Rule::SegmentFile,
         place: 0x1e8,
     };
-    assert!(rt; write_break(&broken, &mut writer).is_ok());
-    assert_eq!(rt;
-        bytes.as_slice(),
-        b"refused: segment-file at 0x1e8\n".as_slice()
+    same(&rt, &write_break(&broken, &mut writer).is_ok(), &true);
+    same(
+        &rt,
+        &bytes.as_slice(),
+        &b"refused: segment-file at 0x1e8\n".as_slice(),
     );
+}
+
+#[test]
+fn failing_streams(rt: HostRuntime) {
+    for (limit, fails_at, room, outcome, status, reads, text) in [
+        (32, None, 1000, Ok(Outcome::Accepted), 0, 33, "accepted\n"),
+        (31, None, 1000, Err(RunFault::TooLong), 3, 32, ""),
+        (32, Some(2), 1000, Err(RunFault::Read), 3, 2, ""),
+        (32, None, 4, Err(RunFault::Write), 3, 33, "acce"),
+    ] {
+        let mut reader = SlowReader::new(BARE_HEADER);
+        reader.fails_at = fails_at;
+        let mut writer = SlowWriter::new(Vec::new(rt.alloc()), room);
+        let ended = run(rt.alloc(), limit, &mut reader, &mut writer);
+        same(
+            &rt,
+            &(ended, check_status(&ended), reader.reads),
+            &(outcome, status, reads),
+        );
+        same(&rt, &writer.bytes.as_slice(), &text.as_bytes());
+    }
+}
+
+#[test]
+fn endless_input(rt: HostRuntime) {
+    let mut reader = EndlessReader { reads: 0 };
+    let mut writer = SlowWriter::new(Vec::new(rt.alloc()), 1000);
+    let ended = run(rt.alloc(), 64, &mut reader, &mut writer);
+    same(&rt, &ended, &Err(RunFault::TooLong));
+    same(&rt, &reader.reads, &65);
+    same(&rt, &writer.bytes.is_empty(), &true);
+}
+
+#[test]
+fn lines_of_faults(rt: HostRuntime) -> Result<(), Fail> {
+    for (fault, line) in [
+        (RunFault::Read, "macho-check: read failed"),
+        (RunFault::TooLong, "macho-check: more than 4294967296 bytes"),
+        (RunFault::Write, "macho-check: write failed"),
+        (RunFault::Memory, "macho-check: out of memory"),
+    ] {
+        let text = fault.to_string(rt.alloc())?;
+        same(&rt, &text.as_str(), &line);
+    }
+    same(&rt, &check_status(&Err(RunFault::Memory)), &4);
+    Ok(())
 }

@@ -2,12 +2,8 @@
 
 /// The magic number of a 32-bit image, in the byte order of its fields.
 pub const MH_MAGIC: u32 = 0xfeed_face;
-/// The magic number of a 32-bit image, in the opposite byte order.
-pub const MH_CIGAM: u32 = 0xcefa_edfe;
 /// The magic number of a 64-bit image, in the byte order of its fields.
 pub const MH_MAGIC_64: u32 = 0xfeed_facf;
-/// The magic number of a 64-bit image, in the opposite byte order.
-pub const MH_CIGAM_64: u32 = 0xcffa_edfe;
 
 /// An executable, which is run as a program.
 pub const MH_EXECUTE: u32 = 2;
@@ -24,6 +20,16 @@ pub const LOAD_COMMAND_SIZE: u64 = 8;
 pub const SEGMENT_COMMAND_64_SIZE: u64 = 72;
 /// The size in bytes of `section_64`.
 pub const SECTION_64_SIZE: u64 = 80;
+/// The size in bytes of `build_tool_version`, of which records follow `build_version_command`.
+pub const BUILD_TOOL_VERSION_SIZE: u64 = 8;
+/// The size in bytes of `dylib_table_of_contents`, an entry of the table of contents.
+pub const DYLIB_TABLE_OF_CONTENTS_SIZE: u64 = 8;
+/// The size in bytes of `dylib_module_64`, an entry of the table of modules.
+pub const DYLIB_MODULE_64_SIZE: u64 = 56;
+/// The size in bytes of `dylib_reference`, an entry of the table of referenced symbols.
+pub const DYLIB_REFERENCE_SIZE: u64 = 4;
+/// The size in bytes of an indirect entry, an index of a symbol.
+pub const INDIRECT_ENTRY_SIZE: u64 = 4;
 
 /// The bit of a command that the dynamic linker must know to load the image.
 pub const LC_REQ_DYLD: u32 = 0x8000_0000;
@@ -99,3 +105,79 @@ pub const S_THREAD_LOCAL_ZEROFILL: u32 = 0x12;
 pub const INDIRECT_SYMBOL_LOCAL: u32 = 0x8000_0000;
 /// The mark of an indirect entry whose symbol has a fixed value.
 pub const INDIRECT_SYMBOL_ABS: u32 = 0x4000_0000;
+
+/// The offset of the 32-bit field `lc_str.offset` in each command with a name. The field says how
+/// far from the start of the command the name begins.
+pub const LC_STR_OFFSET: u64 = 8;
+
+/// The offsets of the 32-bit fields of `symtab_command`.
+pub mod symtab_command {
+    /// The place of the symbols.
+    pub const SYMOFF: u64 = 8;
+    /// The number of symbols.
+    pub const NSYMS: u64 = 12;
+    /// The place of the strings.
+    pub const STROFF: u64 = 16;
+    /// The number of bytes of the strings.
+    pub const STRSIZE: u64 = 20;
+}
+
+/// The offsets of the 32-bit fields of `dysymtab_command`.
+pub mod dysymtab_command {
+    /// The index of the first local symbol.
+    pub const ILOCALSYM: u64 = 8;
+    /// The number of local symbols.
+    pub const NLOCALSYM: u64 = 12;
+    /// The index of the first defined external symbol.
+    pub const IEXTDEFSYM: u64 = 16;
+    /// The number of defined external symbols.
+    pub const NEXTDEFSYM: u64 = 20;
+    /// The index of the first undefined symbol.
+    pub const IUNDEFSYM: u64 = 24;
+    /// The number of undefined symbols.
+    pub const NUNDEFSYM: u64 = 28;
+    /// The place of the table of contents.
+    pub const TOCOFF: u64 = 32;
+    /// The number of entries of the table of contents.
+    pub const NTOC: u64 = 36;
+    /// The place of the table of modules.
+    pub const MODTABOFF: u64 = 40;
+    /// The number of modules.
+    pub const NMODTAB: u64 = 44;
+    /// The place of the table of referenced symbols.
+    pub const EXTREFSYMOFF: u64 = 48;
+    /// The number of referenced symbols.
+    pub const NEXTREFSYMS: u64 = 52;
+    /// The place of the indirect entries.
+    pub const INDIRECTSYMOFF: u64 = 56;
+    /// The number of indirect entries.
+    pub const NINDIRECTSYMS: u64 = 60;
+    /// The place of the external relocations.
+    pub const EXTRELOFF: u64 = 64;
+    /// The number of external relocations.
+    pub const NEXTREL: u64 = 68;
+    /// The place of the local relocations.
+    pub const LOCRELOFF: u64 = 72;
+    /// The number of local relocations.
+    pub const NLOCREL: u64 = 76;
+}
+
+/// The offsets of the 32-bit fields of `linkedit_data_command`.
+pub mod linkedit_data_command {
+    /// The place of the data.
+    pub const DATAOFF: u64 = 8;
+    /// The number of bytes of the data.
+    pub const DATASIZE: u64 = 12;
+}
+
+/// The offset of a 32-bit field of `segment_command_64`.
+pub mod segment_command_64 {
+    /// The number of sections.
+    pub const NSECTS: u64 = 64;
+}
+
+/// The offset of a 32-bit field of `build_version_command`.
+pub mod build_version_command {
+    /// The number of tools.
+    pub const NTOOLS: u64 = 20;
+}

@@ -1,7 +1,9 @@
-use Rattle.std.proofs.Common.{◌<◌, ◌∙◌, arith}
+use Rattle.std.proofs.Common.{◌<◌, ◌∙◌, arith, lit<}
 use Rattle.std.proofs.lemmas.Bool.{both_ways}
 use Rattle.macho_fields.specs.Universal.{entry_count}
+use Rattle.macho_fields.specs.Rules.{BreaksFile}
 use Rattle.macho_fields.specs.declared.rule.Rule.TheVariants as rule
+use Rattle.macho_fields.proofs.Layers.{kept_more, least_at}
 use Rattle.macho_fat.proofs.Entries.{IsMisaligned, none_more, entry_broken, entries_kept, begins_late, aligned_entry, misaligned_entry}
 use Rattle.macho_fat.proofs.rules.fat_align.Goals as goal
 
@@ -9,16 +11,17 @@ pub is_aligned-requires : goal.is_aligned-requires
 is_aligned-requires c =
     let file = c.args.table.now in
     let less : c.loop-k.k < entry_count file = omega (arith, c.count-k-end.ensures.count) in
-    let late = begins_late file c.loop-k.k c.count-k-end.ensures.table.universal less c.requires in omega (arith, late, c.entry-entry.ensures.start)
+    let late = begins_late file c.loop-k.k c.count-k-end.ensures.table.universal less (λ place. c.requires rule.FatSliceInTable place (lit< tt)) in omega (arith, late, c.entry-entry.ensures.start)
 
 pub returns-then-not-is_aligned : goal.returns-then-not-is_aligned
 returns-then-not-is_aligned c =
     let file = c.args.table.now in
     let less : c.loop-k.k < entry_count file = omega (arith, c.count-k-end.ensures.count) in
-    entry_broken file (IsMisaligned file) rule.FatAlign c.loop-k.k c.breaks.result c.count-k-end.ensures.table.universal less c.loop-k.invariant
+    least_at (BreaksFile file) rule.FatAlign c.breaks.result c.requires
+    (entry_broken file (IsMisaligned file) rule.FatAlign c.loop-k.k c.breaks.result c.count-k-end.ensures.table.universal less c.loop-k.invariant
     (misaligned_entry file c.loop-k.k c.entry-entry.result.span.start c.entry-entry.result.align c.entry-entry.ensures.start c.entry-entry.ensures.align
     (λ m. both_ways c.is_aligned.result c.if-not-is_aligned.true (c.is_aligned.ensures.1 m)))
-    c.breaks.ensures.rule (c.breaks.ensures.place ∙ c.entry-entry.ensures.place)
+    c.breaks.ensures.rule (c.breaks.ensures.place ∙ c.entry-entry.ensures.place))
 
 pub loop-k-preserved : goal.loop-k-preserved
 loop-k-preserved c =
@@ -28,4 +31,6 @@ loop-k-preserved c =
     (c.is_aligned.ensures.0 c.if-not-is_aligned.false))
 
 pub returns : goal.returns
-returns c = entries_kept c.args.table.now (IsMisaligned c.args.table.now) c.loop-k.k (omega (arith, c.count-k-end.ensures.count)) c.loop-k.invariant
+returns c =
+    let file = c.args.table.now in
+    kept_more (BreaksFile file) rule.FatAlign c.requires (entries_kept file (IsMisaligned file) c.loop-k.k (omega (arith, c.count-k-end.ensures.count)) c.loop-k.invariant)

@@ -1,17 +1,21 @@
-use Rattle.std.proofs.Common.{◌≡◌, ◌<◌, refl, sym, subst, arith}
+use Rattle.std.proofs.Common.{◌≡◌, ◌<◌, sym, subst, arith}
 use Rattle.std.proofs.lemmas.Bool.{both_ways}
 use Rattle.macho_fields.specs.Universal.{IsImage, entry_count, slice_bytes}
+use Rattle.macho_fields.specs.Rules.{BreaksFile}
+use Rattle.macho_fields.specs.declared.rule.Rule.TheVariants as rule
+use Rattle.macho_fields.proofs.Layers.{kept_more, least_at}
 use Rattle.macho_fat.proofs.Entries.{none_more}
 use Rattle.macho_fat.proofs.Listed.{each_entry}
 use Rattle.macho_fat.proofs.Magics.{IsRead, empty_broken}
 use Rattle.macho_fat.proofs.rules.fat_empty.Goals as goal
 
 pub returns-then-is_image : goal.returns-then-is_image
-returns-then-is_image c place broken =
+returns-then-is_image c =
     let file = c.args.table.now in
     let less : c.loop-k.k < entry_count file = omega (arith, c.count-k-end.ensures.count) in
-    each_entry file (λ slice. ¬ IsImage (slice_bytes file slice)) c.count-k-end.ensures.table.universal broken.2 c.loop-k.k less
-    (subst IsImage c.slice_bytes.ensures (c.is_image.ensures.0 c.if-is_image.true))
+    kept_more (BreaksFile file) rule.FatEmpty c.requires
+    (λ place broken. each_entry file (λ slice. ¬ IsImage (slice_bytes file slice)) c.count-k-end.ensures.table.universal broken.2 c.loop-k.k less
+    (subst IsImage c.slice_bytes.ensures (c.is_image.ensures.0 c.if-is_image.true)))
 
 pub loop-k-preserved : goal.loop-k-preserved
 loop-k-preserved c =
@@ -19,8 +23,7 @@ loop-k-preserved c =
     (λ h. both_ways c.is_image.result c.if-is_image.false (c.is_image.ensures.1 (subst IsImage (sym c.slice_bytes.ensures) h)))
 
 pub returns : goal.returns
-returns c = (
-  refl,
-  empty_broken c.args.table.now c.loop-k.k (omega (arith, c.count-k-end.ensures.count)) c.count-k-end.ensures.table.universal c.loop-k.invariant,
-  λ place broken. let same : place ≡ 4 = broken.0 in omega arith,
-)
+returns c =
+    let file = c.args.table.now in
+    let broken = empty_broken file c.loop-k.k c.at.result.place c.at.ensures.place (omega (arith, c.count-k-end.ensures.count)) c.count-k-end.ensures.table.universal c.loop-k.invariant in
+    least_at (BreaksFile file) rule.FatEmpty c.at.result c.requires (c.at.ensures.rule, broken, λ place other. let same : place ≡ 4 = other.0 in omega (arith, same, c.at.ensures.place))

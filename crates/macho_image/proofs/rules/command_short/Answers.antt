@@ -1,37 +1,47 @@
-use Rattle.std.proofs.Common.{◌+◌, ap, arith}
+use Rattle.std.proofs.Common.{[], ◌++◌, ◌∷◌, arith, ◌∙◌}
 use Rattle.std.proofs.lemmas.Bool.{both_ways}
 use Rattle.macho_fields.specs.Bytes.{bytes_of}
+use Rattle.macho_fields.specs.Command.{IsShort}
 use Rattle.macho_fields.specs.declared.rule.Rule.TheVariants as rule
-use Rattle.macho_image.proofs.Places.{Breaking, is_command, good_at, over_first, over_next, rule_broken, rule_kept}
+use Rattle.macho_image.specs.Command.{command_of}
+use Rattle.macho_image.proofs.Passed.{all_left, next, pass, left_broken, left_kept}
+use Rattle.macho_image.proofs.Alone.{next_alone, next_short}
 use Rattle.macho_image.proofs.rules.command_short.Goals as goal
 
-pub loop-walked-init : goal.loop-walked-init
-loop-walked-init c = over_first (bytes_of c.args.image) (Breaking (bytes_of c.args.image) rule.CommandShort)
+pub loop-command-init : goal.loop-command-init
+loop-command-init c = (tt, tt, ([], all_left _ _ _ (c.into_iter-command-iterator.ensures.into_iter_gives ∙ c.commands-command-items.ensures)))
 
-pub is_short-requires-clause-good : goal.is_short-requires-clause-good
-is_short-requires-clause-good c =
-    good_at (bytes_of c.args.image) c.loop-walked._walked c.loop-walked.place c.requires c.loop-walked.invariant.at (omega arith)
+pub is_short-requires : goal.is_short-requires
+is_short-requires c =
+    let image = bytes_of c.args.opening.bytes in
+    let (passed, left) = c.loop-command.invariant.2 in
+    next_alone image c.args.opening.arch 15 (omega arith) c.requires passed (command_of c.in-Some.command) _ (next image (IsShort image) passed _ _ _ c.in-Some.ensures.steps left)
 
 pub returns-then-is_short : goal.returns-then-is_short
 returns-then-is_short c =
-    let image = bytes_of c.args.image in
-    rule_broken image rule.CommandShort c.loop-walked.place (λ commands p broken. broken.0) c.loop-walked.invariant.none
-    (λ commands are. (is_command image commands c.loop-walked._walked c.loop-walked.place are c.loop-walked.invariant.at (omega arith), c.is_short.ensures.0 c.if-is_short.true))
+    let image = bytes_of c.args.opening.bytes in
+    let arch = c.args.opening.arch in
+    let (passed, left) = c.loop-command.invariant.2 in
+    let short = next_short image arch 15 (omega arith) c.requires passed (command_of c.in-Some.command) _ (next image (IsShort image) passed _ _ _ c.in-Some.ensures.steps left) in
+    left_broken image arch rule.CommandShort (IsShort image) (λ _ h. h) (omega arith) (λ _ h. h) (λ _ h. h) c.requires passed _ left _ _ (command_of c.in-Some.command) c.in-Some.ensures.steps
+    c.at.ensures.rule c.at.ensures.place (short.0 (c.is_short.ensures.0 c.if-is_short.true))
 
-pub size_at-place-requires-clause-good : goal.size_at-place-requires-clause-good
-size_at-place-requires-clause-good c =
-    good_at (bytes_of c.args.image) c.loop-walked._walked c.loop-walked.place c.requires c.loop-walked.invariant.at (omega arith)
-
-pub loop-walked-preserved : goal.loop-walked-preserved
-loop-walked-preserved c =
-    let image = bytes_of c.args.image in
-    let place = c.loop-walked.place in
-    over_next image (Breaking image rule.CommandShort) c.loop-walked._walked place (place + c.size_at-place.result) (ap (λ n. place + n) c.size_at-place.ensures.size)
-    c.loop-walked.invariant (omega arith)
-    (good_at image c.loop-walked._walked place c.requires c.loop-walked.invariant.at (omega arith))
-    (λ commands are broken. both_ways c.is_short.result c.if-is_short.false (c.is_short.ensures.1 broken.1))
+pub loop-command-preserved : goal.loop-command-preserved
+loop-command-preserved c =
+    let image = bytes_of c.args.opening.bytes in
+    let (passed, left) = c.loop-command.invariant.2 in
+    let short = next_short image c.args.opening.arch 15 (omega arith) c.requires passed (command_of c.in-Some.command) _ (next image (IsShort image) passed _ _ _ c.in-Some.ensures.steps left) in (
+      tt,
+      tt,
+      (
+        passed ++ c.in-Some.command.place ∷ [],
+        pass image (IsShort image) passed _ _ (command_of c.in-Some.command) c.in-Some.ensures.steps left
+            (λ here. both_ways c.is_short.result c.if-is_short.false (c.is_short.ensures.1 (short.1 here))),
+      ),
+    )
 
 pub returns : goal.returns
 returns c =
-    let image = bytes_of c.args.image in
-    rule_kept image rule.CommandShort c.loop-walked._walked c.loop-walked.place (λ commands p broken. broken.0) c.loop-walked.invariant.at (omega arith) c.loop-walked.invariant.none
+    let image = bytes_of c.args.opening.bytes in
+    let (passed, left) = c.loop-command.invariant.2 in
+    left_kept image c.args.opening.arch rule.CommandShort (IsShort image) (λ _ h. h) (omega arith) (λ _ h. h) (λ _ h. h) c.requires passed _ left c.in-None.ensures.steps.0

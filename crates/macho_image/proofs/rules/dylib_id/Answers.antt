@@ -1,19 +1,40 @@
-use Rattle.std.proofs.Common.{◌≡◌, refl, arith}
+use Rattle.std.proofs.Common.{ap, sym, ◌∙◌, arith, refl}
 use Rattle.macho_fields.specs.Bytes.{bytes_of}
-use Rattle.macho_image.proofs.OfKind.{has_id_by_search, id_broken, id_kept}
+use Rattle.macho_fields.specs.Command.{HasDylibId}
+use Rattle.macho_fields.specs.FileTypes.{file_type_of}
+use Rattle.macho_fields.specs.Image.{commands_of, file_type}
+use Rattle.macho_fields.specs.declared.file_type.FileType.{FileType}
+use Rattle.macho_fields.specs.declared.rule.Rule.TheVariants as rule
+use Rattle.macho_fields.proofs.Options.{of_some, some_has, of_none}
+use Rattle.macho_image.proofs.Opening.{has_header, commands_kept, commands_broken}
+use Rattle.macho_image.proofs.Repeated.{HasWrongId, has_id, id_broken, id_kept}
 use Rattle.macho_image.proofs.rules.dylib_id.Goals as goal
 
-pub returns-then-is_dylib-has_command : goal.returns-then-is_dylib-has_command
-returns-then-is_dylib-has_command c commands are =
-    let image = bytes_of c.args.image in
-    let has = has_id_by_search image commands c.len.result c.has_command.result c.len.ensures c.requires.walked are (c.has_command.ensures commands are) in (
-      refl,
-      (refl, id_broken image commands c.word_at-is_dylib.result c.has_command.result c.word_at-is_dylib.ensures c.requires.read has c.if-is_dylib-has_command.true),
-      λ place broken. let same : place ≡ 12 = broken.0 in omega arith,
-    )
+pub word_at-requires : goal.word_at-requires
+word_at-requires c = let header = has_header _ c.args.opening.arch 17 (omega arith) c.requires.before in omega (arith, header)
+
+pub returns-in_default : goal.returns-in_default
+returns-in_default c =
+    let image = bytes_of c.args.opening.bytes in
+    let none = ap file_type_of (sym c.word_at.ensures) ∙ (sym c.file_type_of.ensures ∙ c.in_default.is) in
+    commands_kept image c.args.opening.arch rule.DylibId (λ _ h. h) (omega arith) c.requires.before
+    (λ place broken. of_none (λ (t : FileType). HasWrongId t.names_itself (HasDylibId image (commands_of image))) (file_type_of (file_type image)) none broken.1)
+
+pub returns-then-listed-is_some : goal.returns-then-listed-is_some
+returns-then-listed-is_some c =
+    let image = bytes_of c.args.opening.bytes in
+    let H = HasDylibId image (commands_of image) in
+    let listed = ap file_type_of (sym c.word_at.ensures) ∙ (sym c.file_type_of.ensures ∙ c.in-Some.is) in
+    let has = has_id image c.of.result c.is_some.result c.is_some.ensures (c.of.ensures.unique image (commands_of image) c.requires.first refl) in
+    let wrong = of_some (λ (t : FileType). HasWrongId t.names_itself H) (file_type_of (file_type image)) c.in-Some.listed listed (id_broken H _ _ has c.if-listed-is_some.true) in
+    commands_broken image c.args.opening.arch rule.DylibId (λ _ h. h) (omega arith) c.requires.before _ c.at.ensures.rule (c.at.ensures.place, wrong)
+    (λ place broken. omega (arith, broken.0, c.at.ensures.place))
 
 pub returns : goal.returns
-returns c commands are place broken =
-    let image = bytes_of c.args.image in
-    let has = has_id_by_search image commands c.len.result c.has_command.result c.len.ensures c.requires.walked are (c.has_command.ensures commands are) in
-    id_kept image commands c.word_at-is_dylib.result c.has_command.result c.word_at-is_dylib.ensures has c.if-is_dylib-has_command.false broken.1
+returns c =
+    let image = bytes_of c.args.opening.bytes in
+    let H = HasDylibId image (commands_of image) in
+    let listed = ap file_type_of (sym c.word_at.ensures) ∙ (sym c.file_type_of.ensures ∙ c.in-Some.is) in
+    let has = has_id image c.of.result c.is_some.result c.is_some.ensures (c.of.ensures.unique image (commands_of image) c.requires.first refl) in
+    commands_kept image c.args.opening.arch rule.DylibId (λ _ h. h) (omega arith) c.requires.before
+    (λ place broken. id_kept H _ _ has c.if-listed-is_some.false (some_has (λ (t : FileType). HasWrongId t.names_itself H) (file_type_of (file_type image)) c.in-Some.listed listed broken.1))

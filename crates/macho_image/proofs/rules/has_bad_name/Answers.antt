@@ -1,37 +1,50 @@
-use Rattle.std.proofs.Common.{◌≡◌, ◌+◌, ◌≤◌, ◌<◌, ◌↔◌, IsTrue, None, Some, sym, ◌∙◌, subst, arith, inl}
-use Rattle.std.proofs.lemmas.Bool.{false≢true, lt-ltb}
+use Rattle.std.proofs.Common.{◌≡◌, ◌+◌, ◌≤◌, ◌<◌, ◌⊎◌, ◌↔◌, IsTrue, None, Some, sym, ap, ◌∙◌, subst, arith, length, inl, inr}
+use Rattle.std.proofs.lemmas.Bool.{false≢true, cases_lt}
 use Rattle.macho_fields.specs.Bytes.{bytes_of}
-use Rattle.macho_fields.specs.Command.{named_kinds, name_offset}
+use Rattle.macho_fields.specs.Command.{least_size, name_offset, IsBadName}
 use Rattle.macho_fields.specs.Field.{HasZero}
 use Rattle.macho_fields.specs.Image.{command_size}
-use Rattle.macho_image.specs.Table.{number_for}
-use Rattle.macho_image.proofs.Tables.{unnamed, named_bad, named_is_long, unended_bad}
+use Rattle.macho_fields.specs.LoadCommands.{structure_of, structure_size}
+use Rattle.macho_fields.specs.declared.load_command.Structure.{Structure}
+use Rattle.macho_fields.proofs.LoadCommands.{has_structure, has_no_structure}
 use Rattle.macho_image.proofs.rules.has_bad_name.Goals as goal
 
 pub returns-in_default : goal.returns-in_default
 returns-in_default c =
-    let image = bytes_of c.args.image in
-    let none = subst (λ kind. number_for kind named_kinds ≡ None) c.kind_at.ensures (sym c.number_for.ensures ∙ c.in_default.is) in
-    (λ h. absurd (false≢true h), λ bad. absurd (unnamed image c.args.command none bad))
+    let bytes = c.args.command.bytes.now in
+    let none = subst (λ kind. structure_of kind ≡ None) c.requires.alone.cmd (sym c.structure_of.ensures ∙ c.in_default.is) in
+    (λ h. absurd (false≢true h), λ bad. absurd (has_no_structure bytes 0 (IsBadName bytes 0) none bad))
 
-pub word_at-offset-requires : goal.word_at-offset-requires
-word_at-offset-requires c =
-    let image = bytes_of c.args.image in
-    let some = subst (λ kind. number_for kind named_kinds ≡ Some c.in-Some.least) c.kind_at.ensures (sym c.number_for.ensures ∙ c.in-Some.is) in
-    let long = named_is_long image c.args.command c.in-Some.least some c.requires.whole in
-    omega (arith, long, c.requires.good.inside, c.requires.walked.inside)
+pub is_bad_name-requires : goal.is_bad_name-requires
+is_bad_name-requires c =
+    let bytes = c.args.command.bytes.now in
+    let s = c.in-Some.structure in
+    let some = subst (λ kind. structure_of kind ≡ Some s) c.requires.alone.cmd (sym c.structure_of.ensures ∙ c.in-Some.is) in
+    let whole : least_size bytes 0 s ≤ command_size bytes 0 = elim (cases_lt (command_size bytes 0) (least_size bytes 0 s)) [
+      | inl short ↦ absurd (c.requires.whole ((has_structure bytes 0 (λ (t : Structure). command_size bytes 0 < least_size bytes 0 t) s some).1 short))
+      | inr most ↦ most
+    ] in
+    let same : length (bytes_of c.new.result) ≡ length bytes = ap length c.new.ensures in record {
+      named = sym c.has_name.ensures.name ∙ c.if-has_name.true;
+      whole = omega (arith, whole, same, c.requires.alone.size, c.requires.alone.whole);
+    }
 
-pub returns-then-offset-least : goal.returns-then-offset-least
-returns-then-offset-least c =
-    let image = bytes_of c.args.image in
-    let some = subst (λ kind. number_for kind named_kinds ≡ Some c.in-Some.least) c.kind_at.ensures (sym c.number_for.ensures ∙ c.in-Some.is) in
-    let less = subst (λ offset. offset < c.in-Some.least) c.word_at-offset.ensures c.if-offset-least.true in
-    (λ h. named_bad image c.args.command c.in-Some.least some (inl less), λ bad. lt-ltb c.word_at-offset.result c.in-Some.least c.if-offset-least.true)
+pub returns-then-has_name : goal.returns-then-has_name
+returns-then-has_name c =
+    let bytes = c.args.command.bytes.now in
+    let s = c.in-Some.structure in
+    let some = subst (λ kind. structure_of kind ≡ Some s) c.requires.alone.cmd (sym c.structure_of.ensures ∙ c.in-Some.is) in
+    let bad = has_structure bytes 0 (IsBadName bytes 0) s some in
+    let start : name_offset bytes 0 ≡ 0 + name_offset bytes 0 = omega arith in
+    let end : length bytes ≡ 0 + command_size bytes 0 = omega (arith, c.requires.alone.size, c.requires.alone.whole) in
+    let here = subst (λ e. IsTrue c.is_bad_name.result ↔ ((name_offset bytes 0 < structure_size s) ⊎ ¬ HasZero bytes (name_offset bytes 0) e)) end
+    (subst (λ bs. IsTrue c.is_bad_name.result ↔ ((name_offset bs 0 < structure_size s) ⊎ ¬ HasZero bs (name_offset bs 0) (length bs))) c.new.ensures c.is_bad_name.ensures) in
+    let there = subst (λ o. IsTrue c.is_bad_name.result ↔ ((name_offset bytes 0 < structure_size s) ⊎ ¬ HasZero bytes o (0 + command_size bytes 0))) start here in
+    (λ h. bad.1 (sym c.has_name.ensures.name ∙ c.if-has_name.true, there.0 h), λ h. there.1 (bad.0 h).1)
 
-pub returns-else-offset-least : goal.returns-else-offset-least
-returns-else-offset-least c =
-    let image = bytes_of c.args.image in
-    let some = subst (λ kind. number_for kind named_kinds ≡ Some c.in-Some.least) c.kind_at.ensures (sym c.number_for.ensures ∙ c.in-Some.is) in
-    let offset : c.from.result ≡ name_offset image c.args.command = c.from.ensures ∙ c.word_at-offset.ensures in
-    let ends = subst (λ from. IsTrue c.ends_inside.result ↔ HasZero image (c.args.command + from) (c.args.command + command_size image c.args.command)) offset c.ends_inside.ensures in
-    unended_bad image c.args.command c.in-Some.least c.ends_inside.result some (subst (λ from. c.in-Some.least ≤ from) c.word_at-offset.ensures c.if-offset-least.false) ends
+pub returns-else-has_name : goal.returns-else-has_name
+returns-else-has_name c =
+    let bytes = c.args.command.bytes.now in
+    let some = subst (λ kind. structure_of kind ≡ Some c.in-Some.structure) c.requires.alone.cmd (sym c.structure_of.ensures ∙ c.in-Some.is) in
+    let bad = has_structure bytes 0 (IsBadName bytes 0) c.in-Some.structure some in
+    (λ h. absurd (false≢true (sym c.if-has_name.false ∙ h)), λ h. c.has_name.ensures.name ∙ (bad.0 h).0)

@@ -1,26 +1,25 @@
-use Rattle.std.proofs.Common.{◌≡◌, ◌+◌, None, Some, sym, ◌∙◌, subst, arith}
+use Rattle.std.proofs.Common.{◌≡◌, ◌<◌, None, Some, sym, ◌∙◌, subst, arith}
 use Rattle.std.proofs.lemmas.Bool.{false≢true, ltb-true, lt-ltb}
-use Rattle.macho_fields.specs.Bytes.{bytes_of}
-use Rattle.macho_fields.specs.Command.{structures, records_size}
+use Rattle.macho_fields.specs.Command.{least_size}
 use Rattle.macho_fields.specs.Image.{command_size}
-use Rattle.macho_image.specs.Table.{number_for}
-use Rattle.macho_image.proofs.Tables.{unlisted, listed_short, short_listed}
+use Rattle.macho_fields.specs.LoadCommands.{structure_of}
+use Rattle.macho_fields.specs.declared.load_command.Structure.{Structure}
+use Rattle.macho_fields.proofs.LoadCommands.{has_structure, has_no_structure}
 use Rattle.macho_image.proofs.rules.is_short.Goals as goal
 
 pub returns-in_default : goal.returns-in_default
 returns-in_default c =
-    let image = bytes_of c.args.image in
-    let none = subst (λ kind. number_for kind structures ≡ None) c.kind_at.ensures (sym c.structure_size.ensures ∙ c.in_default.is) in
-    (λ h. absurd (false≢true h), λ short. absurd (unlisted image c.args.command none short))
+    let bytes = c.args.command.bytes.now in
+    let none = subst (λ kind. structure_of kind ≡ None) c.requires.cmd (sym c.structure_of.ensures ∙ c.in_default.is) in
+    (λ h. absurd (false≢true h), λ short. absurd (has_no_structure bytes 0 (λ (s : Structure). command_size bytes 0 < least_size bytes 0 s) none short))
 
 pub returns : goal.returns
 returns c =
-    let image = bytes_of c.args.image in
-    let some = subst (λ kind. number_for kind structures ≡ Some c.in-Some.size) c.kind_at.ensures (sym c.structure_size.ensures ∙ c.in-Some.is) in
-    let sum = c.from.result + c.records_size.result in
-    let size : c.size_at.result ≡ command_size image c.args.command = c.size_at.ensures.size in
-    let records : c.records_size.result ≡ records_size image c.args.command = c.records_size.ensures.size in
-    let from : c.from.result ≡ c.in-Some.size = c.from.ensures in (
-      λ h. listed_short image c.args.command c.in-Some.size some (let less = ltb-true c.size_at.result sum h in omega arith),
-      λ short. lt-ltb c.size_at.result sum (let less = short_listed image c.args.command c.in-Some.size some short in omega arith),
+    let bytes = c.args.command.bytes.now in
+    let some = subst (λ kind. structure_of kind ≡ Some c.in-Some.structure) c.requires.cmd (sym c.structure_of.ensures ∙ c.in-Some.is) in
+    let short = has_structure bytes 0 (λ (s : Structure). command_size bytes 0 < least_size bytes 0 s) c.in-Some.structure some in
+    let size : c.from.result ≡ command_size bytes 0 = c.from.ensures ∙ c.requires.size in
+    let least : c.least_size.result ≡ least_size bytes 0 c.in-Some.structure = c.least_size.ensures in (
+      λ h. short.1 (let less = ltb-true c.from.result c.least_size.result h in omega arith),
+      λ h. lt-ltb c.from.result c.least_size.result (let less = short.0 h in omega arith),
     )

@@ -1,8 +1,12 @@
+use Rattle.std.proofs.Common.{ℕ, List}
 use Rattle.macho_fields.specs.Bytes.{bytes_of}
-use Rattle.macho_fields.specs.declared.rule.Rule.TheVariants as rule
-use Rattle.macho_image.proofs.Places.{IsOver, Breaking}
+use Rattle.macho_fields.specs.Command.{HasBadName}
+use Rattle.macho_image.proofs.Passed.{Left}
 use Rattle.macho_image.proofs.rules.name.Given as goal
 
--- no command before this place breaks the rule
-abbrev pub invariant-loop-walked : goal.invariant-loop-walked
-invariant-loop-walked l = IsOver (bytes_of l.image) (Breaking (bytes_of l.image) rule.Name) l._walked l.place
+-- no command that was passed has a bad name
+abbrev pub invariant-loop-command : goal.invariant-loop-command
+invariant-loop-command l =
+    let image = bytes_of l.opening.bytes in
+    (goal.iterator-loop-command).can_next l.command-iterator × (goal.iterator-loop-command).is_finite l.command-iterator
+    × ((passed : List ℕ) × Left image (HasBadName image) passed l.command-iterator)

@@ -2,23 +2,41 @@ use Rattle.std.proofs.Common.{◌+◌, refl, subst, sym, arith}
 use Rattle.std.proofs.lemmas.Bool.{false≢true}
 use Rattle.macho_fields.specs.Bytes.{bytes_of}
 use Rattle.macho_fields.specs.Image.{IsGood}
+use Rattle.macho_fields.specs.Rules.{BreaksHeader}
+use Rattle.macho_fields.specs.declared.rule.Rule.TheVariants as rule
+use Rattle.macho_image.proofs.Opening.{has_header, commands_inside, header_kept, header_broken}
 use Rattle.macho_image.proofs.Places.{IsAt, at_next, walk_breaks_at, walk_ends}
 use Rattle.macho_image.proofs.walk.command_walk.Goals as goal
 
-pub returns-in_default-clause-decides : goal.returns-in_default-clause-decides
-returns-in_default-clause-decides c =
-    let stops = walk_breaks_at (bytes_of c.args.image) c.loop-walked._walked c.loop-walked.place c.loop-walked.invariant.1 (omega arith) (λ good. false≢true (c.in_default.ensures.good.1 good)) in
-    (refl, stops.0, stops.1)
+pub end_of_commands-end-requires : goal.end_of_commands-end-requires
+end_of_commands-end-requires c = has_header _ c.args.opening.arch 14 (omega arith) c.requires
+
+pub word_at-walked-end-requires : goal.word_at-walked-end-requires
+word_at-walked-end-requires c = let header = has_header _ c.args.opening.arch 14 (omega arith) c.requires in omega (arith, header)
+
+pub next_command-requires-clause-inside : goal.next_command-requires-clause-inside
+next_command-requires-clause-inside c =
+    let inside = commands_inside _ c.args.opening.arch 14 (omega arith) c.requires in omega (arith, inside, c.end_of_commands-end.ensures.end)
+
+pub returns-in_default : goal.returns-in_default
+returns-in_default c =
+    let image = bytes_of c.args.opening.bytes in
+    let arch = c.args.opening.arch in
+    let stops = walk_breaks_at image arch c.loop-walked._walked c.loop-walked.place c.loop-walked.invariant.1 (omega arith) (λ good. false≢true (c.in_default.ensures.good.1 good)) in
+    header_broken image arch rule.CommandWalk (λ _ _ h. h) c.requires _ c.at.ensures.rule (subst (BreaksHeader image arch rule.CommandWalk) (sym c.at.ensures.place) stops.0)
+    (λ place broken. let least = stops.1 place broken in omega (arith, c.at.ensures.place))
 
 pub loop-walked-preserved : goal.loop-walked-preserved
 loop-walked-preserved c =
-    let image = bytes_of c.args.image in
+    let image = bytes_of c.args.opening.bytes in
     let good : IsGood image c.loop-walked.place = c.in-Some.ensures.good.0 refl in (
       omega (arith, good.inside, c.in-Some.ensures.next),
       subst (IsAt image (c.loop-walked._walked + 1)) (sym c.in-Some.ensures.next)
           (at_next image c.loop-walked._walked c.loop-walked.place c.loop-walked.invariant.1 good),
     )
 
-pub returns-clause-decides : goal.returns-clause-decides
-returns-clause-decides c =
-    walk_ends (bytes_of c.args.image) c.loop-walked._walked c.loop-walked.place c.loop-walked.invariant.1 (omega arith)
+pub returns : goal.returns
+returns c =
+    let image = bytes_of c.args.opening.bytes in
+    let arch = c.args.opening.arch in
+    header_kept image arch rule.CommandWalk (λ _ _ h. h) c.requires (walk_ends image arch c.loop-walked._walked c.loop-walked.place c.loop-walked.invariant.1 (omega arith))

@@ -1,14 +1,21 @@
-use Rattle.std.proofs.Common.{sym, ◌∙◌, inl, inr}
+use Rattle.std.proofs.Common.{ap, sym, ◌∙◌, arith}
+use Rattle.std.proofs.lemmas.Option.{none-some}
+use Rattle.macho_fields.specs.Bytes.{bytes_of}
+use Rattle.macho_fields.specs.FileTypes.{file_type_of}
+use Rattle.macho_fields.specs.declared.rule.Rule.TheVariants as rule
+use Rattle.macho_image.proofs.Opening.{has_header, header_kept, header_broken}
 use Rattle.macho_image.proofs.walk.file_type.Goals as goal
 
-pub returns-in-2-clause-decides : goal.returns-in-2-clause-decides
-returns-in-2-clause-decides c place broken = elim c.in-2.is [
-  | inl run ↦ broken.1 (sym c.word_at.ensures ∙ run)
-  | inr library ↦ broken.2 (sym c.word_at.ensures ∙ library)
-]
+pub word_at-requires : goal.word_at-requires
+word_at-requires c = let header = has_header _ c.args.opening.arch 12 (omega arith) c.requires in omega (arith, header)
 
-pub returns-in-2-clause-read : goal.returns-in-2-clause-read
-returns-in-2-clause-read c = elim c.in-2.is [
-  | inl run ↦ inl (sym c.word_at.ensures ∙ run)
-  | inr library ↦ inr (sym c.word_at.ensures ∙ library)
-]
+pub returns-in-Some : goal.returns-in-Some
+returns-in-Some c =
+    let listed = ap file_type_of (sym c.word_at.ensures) ∙ (sym c.file_type_of.ensures ∙ c.in-Some.is) in
+    header_kept (bytes_of c.args.opening.bytes) c.args.opening.arch rule.FileType (λ _ _ h. h) c.requires (λ place broken. none-some _ (sym broken.1 ∙ listed))
+
+pub returns-in-None : goal.returns-in-None
+returns-in-None c =
+    let none = ap file_type_of (sym c.word_at.ensures) ∙ (sym c.file_type_of.ensures ∙ c.in-None.is) in
+    header_broken (bytes_of c.args.opening.bytes) c.args.opening.arch rule.FileType (λ _ _ h. h) c.requires _ c.at.ensures.rule (c.at.ensures.place, none)
+    (λ place broken. omega (arith, broken.0, c.at.ensures.place))

@@ -1,8 +1,8 @@
-use Rattle.std.proofs.Common.{◌↔◌, Any}
-use Rattle.macho_rules.proofs.EntryRule.{Runs}
+use Rattle.macho_fields.specs.Segment.{RunsAt}
+use Rattle.macho_rules.proofs.Searches.{Searching}
 use Rattle.macho_rules.proofs.entry.is_executable.Given as goal
 
--- where the address may be executed in a segment, it may in one that is left
+-- each segment that runs at the address is left
 abbrev pub invariant-loop-segment : goal.invariant-loop-segment
 invariant-loop-segment l =
-    Any (Runs l.address) l.initial.segment-iterator ↔ Any (Runs l.address) l.segment-iterator
+    Searching (λ s. s.place) (λ s. RunsAt s.image l.address s.place) l.initial.segment-iterator l.segment-iterator

@@ -1,8 +1,8 @@
-use Rattle.macho_rules.specs.Check.{IsOutsideMemory}
-use Rattle.macho_rules.proofs.SegmentRules.{SegmentsLeft}
-use Rattle.macho_rules.proofs.SectionRules.{HasSection}
+use Rattle.macho_fields.specs.Segment.{IsOutsideMemory}
+use Rattle.macho_rules.proofs.Searches.{Searching}
 use Rattle.macho_rules.proofs.sections.section_address.Given as goal
 
--- each segment with a section that breaks the rule is left
-abbrev pub invariant-loop-segment : goal.invariant-loop-segment
-invariant-loop-segment l = SegmentsLeft (HasSection IsOutsideMemory) l.image l.segment-iterator
+-- each section that breaks the rule is left
+abbrev pub invariant-loop-section : goal.invariant-loop-section
+invariant-loop-section l =
+    Searching (λ s. s.place) (λ s. IsOutsideMemory s.image s.segment s.place) l.initial.section-iterator l.section-iterator

@@ -1,30 +1,37 @@
-use Rattle.std.proofs.Common.{length, sym, ap, ◌∙◌}
-use Rattle.std.proofs.lemmas.Result.{err_from_is_err_and}
-use Rattle.macho_rules.specs.Check.{IsMisplaced}
-use Rattle.macho_rules.proofs.SegmentRules.{segments_first, segments_next, segments_image}
-use Rattle.macho_rules.proofs.SectionRules.{HasSection, sections_answer, all_sections_kept}
-use Rattle.macho_rules.proofs.SectionTests.{by_file}
+use Rattle.std.proofs.Common.{◌∙◌, lit≤, sym}
+use Rattle.std.proofs.lemmas.Bool.{both_ways}
+use Rattle.macho_fields.specs.Segment.{IsMisplaced}
+use Rattle.macho_fields.specs.declared.rule.Rule.TheVariants as rule
+use Rattle.macho_rules.proofs.Judged.{judged_found, judged_ended}
+use Rattle.macho_rules.proofs.Searches.{search_next}
+use Rattle.macho_rules.proofs.SectionItems.{sections_search, sections_break, section_image}
 use Rattle.macho_rules.proofs.sections.section_file.Goals as goal
 
-pub loop-segment-init : goal.loop-segment-init
-loop-segment-init c =
-    segments_first (HasSection IsMisplaced) c.args.image.now _ _ c.into_iter-segment-iterator.ensures.into_iter_gives c.segments-segment-items.ensures.segments
+pub loop-section-init : goal.loop-section-init
+loop-section-init c =
+    let are = c.into_iter-section-iterator.ensures.into_iter_gives ∙ c.sections-section-items.ensures.sections in
+    sections_search c.args.image.now _ c.sections-section-items.ensures.opened are _
 
-pub bytes_in-requires : goal.bytes_in-requires
-bytes_in-requires c =
-    let same = segments_image (HasSection IsMisplaced) c.args.image.now _ c.in-Some.segment _ c.loop-segment.invariant c.in-Some.ensures.steps in
-    c.len-image_len.ensures ∙ ap length (c.bytes.ensures.bytes ∙ sym same)
+pub is_misplaced-requires : goal.is_misplaced-requires
+is_misplaced-requires c =
+    let are = c.into_iter-section-iterator.ensures.into_iter_gives ∙ c.sections-section-items.ensures.sections in
+    c.bytes-bytes.ensures.bytes
+    ∙ sym (section_image c.args.image.now _ c.sections-section-items.ensures.opened are _ _ _ c.in-Some.section c.in-Some.ensures.steps c.loop-section.invariant)
 
-pub loop-segment-preserved : goal.loop-segment-preserved
-loop-segment-preserved c =
-    segments_next (HasSection IsMisplaced) c.args.image.now _ c.in-Some.segment _ c.loop-segment.invariant c.in-Some.ensures.steps
-    (λ commands are has. c.in_ok-bytes_in.ensures has.0 has.1)
+pub returns-then-is_misplaced : goal.returns-then-is_misplaced
+returns-then-is_misplaced c =
+    let are = c.into_iter-section-iterator.ensures.into_iter_gives ∙ c.sections-section-items.ensures.sections in
+    judged_found c.args.image.now rule.SectionFile (lit≤ tt) c.requires _ _ _
+    (sections_break c.args.image.now _ c.sections-section-items.ensures.opened are IsMisplaced) _ c.loop-section.invariant
+    c.in-Some.section _ c.in-Some.ensures.steps (c.is_misplaced.ensures.0 c.if-is_misplaced.true) c.at.result c.at.ensures.rule (c.at.ensures.place ∙ c.place.ensures)
 
-pub returns-in_err-bytes_in : goal.returns-in_err-bytes_in
-returns-in_err-bytes_in c =
-    let exit = err_from_is_err_and c.from_residual.result c.from_residual.ensures.1 in
-    sections_answer IsMisplaced by_file c.args.image.now _ c.in-Some.segment _ exit.0 c.in_err-bytes_in.field-0.0 c.from_residual.result exit.1 exit.2 c.bytes.ensures.opened
-    c.loop-segment.invariant c.in-Some.ensures.steps c.in_err-bytes_in.ensures
+pub loop-section-preserved : goal.loop-section-preserved
+loop-section-preserved c =
+    search_next _ _ _ _ _ c.in-Some.section c.in-Some.ensures.steps c.loop-section.invariant (λ here. both_ways c.is_misplaced.result c.if-is_misplaced.false (c.is_misplaced.ensures.1 here))
 
 pub returns : goal.returns
-returns c = all_sections_kept IsMisplaced by_file c.args.image.now _ c.loop-segment.invariant c.in-None.ensures.steps.0
+returns c =
+    let are = c.into_iter-section-iterator.ensures.into_iter_gives ∙ c.sections-section-items.ensures.sections in
+    judged_ended c.args.image.now rule.SectionFile (lit≤ tt) c.requires _ _ _
+    (sections_break c.args.image.now _ c.sections-section-items.ensures.opened are IsMisplaced) _ c.loop-section.invariant
+    c.in-None.ensures.steps.0

@@ -1,7 +1,8 @@
-use Rattle.macho_rules.proofs.SegmentRules.{SegmentsLeft}
-use Rattle.macho_rules.proofs.SegmentTests.{SharesBefore}
+use Rattle.macho_rules.proofs.Searches.{Searching}
+use Rattle.macho_rules.proofs.SegmentItems.{SharesBefore}
 use Rattle.macho_rules.proofs.segments.overlaps_earlier.Given as goal
 
 -- each earlier segment with an address in common is left
 abbrev pub invariant-loop-earlier : goal.invariant-loop-earlier
-invariant-loop-earlier l = SegmentsLeft (SharesBefore l.segment.place) l.image l.earlier-iterator
+invariant-loop-earlier l =
+    Searching (λ s. s.place) (λ s. SharesBefore l.segment.place s.image s.place) l.initial.earlier-iterator l.earlier-iterator

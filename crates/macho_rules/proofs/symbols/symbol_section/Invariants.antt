@@ -1,9 +1,9 @@
+use Rattle.macho_fields.specs.Symbol.{IsInNoSection}
 use Rattle.macho_rules.proofs.Searches.{Searching}
-use Rattle.macho_rules.proofs.SymbolRules.{InNoSection}
 use Rattle.macho_rules.proofs.symbols.symbol_section.Given as goal
 
--- no symbol that was passed is said to be in a section that is not there
+-- each symbol that is in no section is left
 abbrev pub invariant-loop-symbol : goal.invariant-loop-symbol
 invariant-loop-symbol l =
     (goal.iterator-loop-symbol).can_next l.symbol-iterator × (goal.iterator-loop-symbol).is_finite l.symbol-iterator
-    × Searching (λ s. s.place) (InNoSection l.count) l.initial.symbol-iterator l.symbol-iterator
+    × Searching (λ s. s.place) (λ s. IsInNoSection l.image l.count s.place) l.initial.symbol-iterator l.symbol-iterator

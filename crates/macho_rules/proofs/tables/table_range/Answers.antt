@@ -1,43 +1,54 @@
-use Rattle.std.proofs.Common.{None, sym, subst}
+use Rattle.std.proofs.Common.{◌≡◌, List, ℕ, Contains, sym, subst, ◌∙◌, lit≤}
 use Rattle.std.proofs.lemmas.Bool.{both_ways}
-use Rattle.macho_fields.specs.Rules.{BreaksImage}
+use Rattle.macho_fields.specs.Image.{command_kind, commands_of}
 use Rattle.macho_fields.specs.declared.rule.Rule.TheVariants as rule
 use Rattle.macho_image.specs.Command.{command_of}
-use Rattle.macho_rules.proofs.Searches.{search_all, search_next, search_found, search_ended}
-use Rattle.macho_rules.proofs.TableRange.{AreViews, views_rise, tables_are_breaks, tables_held, first_among}
+use Rattle.macho_image.specs.Opened.{IsOpened}
+use Rattle.macho_rules.proofs.Judged.{judged_found, judged_ended}
+use Rattle.macho_rules.proofs.Searches.{search_next}
+use Rattle.macho_rules.proofs.TableRange.{HasTableOutside, views_search, views_break, view_left}
 use Rattle.macho_rules.proofs.tables.table_range.Goals as goal
 
 pub loop-command-init : goal.loop-command-init
-loop-command-init c =
-    let are : AreViews c.args.image.now c.into_iter-command-iterator.result = subst (AreViews c.args.image.now) (sym c.into_iter-command-iterator.ensures.into_iter_gives)
-    c.commands-command-items.ensures.commands in
-    (tt, tt, search_all _ _ _ (views_rise c.args.image.now _ are))
+loop-command-init c = (
+  tt,
+  tt,
+  views_search c.args.image.now _ c.commands-command-items.ensures.opened (c.into_iter-command-iterator.ensures.into_iter_gives ∙ c.commands-command-items.ensures.commands) _,
+)
 
 pub has_table_outside-requires : goal.has_table_outside-requires
 has_table_outside-requires c =
-    let are : AreViews c.args.image.now c.into_iter-command-iterator.result = subst (AreViews c.args.image.now) (sym c.into_iter-command-iterator.ensures.into_iter_gives)
-    c.commands-command-items.ensures.commands in
-    let among = first_among c.args.image.now _ _ _ (command_of c.in-Some.command) _ c.loop-command.invariant.2 c.in-Some.ensures.steps in
-    record { inside = tables_held c.args.image.now _ c.bytes-bytes.ensures.bytes _ (command_of c.in-Some.command) c.bytes-bytes.ensures.opened are among }
+    let are = c.into_iter-command-iterator.ensures.into_iter_gives ∙ c.commands-command-items.ensures.commands in
+    let same = sym c.bytes-bytes.ensures.bytes in
+    let (listed, kind) = view_left c.args.image.now _ c.bytes-bytes.ensures.opened are _ _ _
+    (command_of c.in-Some.command) c.in-Some.ensures.steps c.loop-command.invariant.2 in
+    record {
+      opened = subst IsOpened same c.bytes-bytes.ensures.opened;
+      listed = subst (λ (bytes : List ℕ). Contains (commands_of bytes) c.in-Some.command.place) same listed;
+      kind = subst (λ (bytes : List ℕ). c.in-Some.command.cmd ≡ command_kind bytes c.in-Some.command.place) same kind;
+    }
 
-pub returns-then-has_table_outside-clause-decides : goal.returns-then-has_table_outside-clause-decides
-returns-then-has_table_outside-clause-decides c =
-    let are : AreViews c.args.image.now c.into_iter-command-iterator.result = subst (AreViews c.args.image.now) (sym c.into_iter-command-iterator.ensures.into_iter_gives)
-    c.commands-command-items.ensures.commands in
-    search_found (BreaksImage c.args.image.now None rule.TableRange) rule.TableRange _ _ _ _ _ (command_of c.in-Some.command) c.in-Some.ensures.steps
-    (tables_are_breaks c.args.image.now _ c.bytes-bytes.ensures.bytes _ are) c.loop-command.invariant.2 (c.has_table_outside.ensures.0 c.if-has_table_outside.true)
+pub returns-then-has_table_outside : goal.returns-then-has_table_outside
+returns-then-has_table_outside c =
+    let are = c.into_iter-command-iterator.ensures.into_iter_gives ∙ c.commands-command-items.ensures.commands in
+    judged_found c.args.image.now rule.TableRange (lit≤ tt) c.requires _ _ _
+    (views_break c.args.image.now _ c.bytes-bytes.ensures.opened are) _ c.loop-command.invariant.2
+    (command_of c.in-Some.command) _ c.in-Some.ensures.steps
+    (subst (λ (bytes : List ℕ). HasTableOutside bytes c.in-Some.command.place) c.bytes-bytes.ensures.bytes (c.has_table_outside.ensures.0 c.if-has_table_outside.true)) c.at.result c.at.ensures.rule
+    c.at.ensures.place
 
 pub loop-command-preserved : goal.loop-command-preserved
 loop-command-preserved c = (
   tt,
   tt,
   search_next _ _ _ _ _ (command_of c.in-Some.command) c.in-Some.ensures.steps c.loop-command.invariant.2
-      (λ named. both_ways c.has_table_outside.result c.if-has_table_outside.false (c.has_table_outside.ensures.1 named)),
+      (λ named. both_ways c.has_table_outside.result c.if-has_table_outside.false
+      (c.has_table_outside.ensures.1 (subst (λ (bytes : List ℕ). HasTableOutside bytes c.in-Some.command.place) (sym c.bytes-bytes.ensures.bytes) named))),
 )
 
-pub returns-clause-decides : goal.returns-clause-decides
-returns-clause-decides c =
-    let are : AreViews c.args.image.now c.into_iter-command-iterator.result = subst (AreViews c.args.image.now) (sym c.into_iter-command-iterator.ensures.into_iter_gives)
-    c.commands-command-items.ensures.commands in
-    search_ended (BreaksImage c.args.image.now None rule.TableRange) _ _ _ _ c.in-None.ensures.steps.0 (tables_are_breaks c.args.image.now _ c.bytes-bytes.ensures.bytes _ are)
-    c.loop-command.invariant.2
+pub returns : goal.returns
+returns c =
+    let are = c.into_iter-command-iterator.ensures.into_iter_gives ∙ c.commands-command-items.ensures.commands in
+    judged_ended c.args.image.now rule.TableRange (lit≤ tt) c.requires _ _ _
+    (views_break c.args.image.now _ c.bytes-bytes.ensures.opened are) _ c.loop-command.invariant.2
+    c.in-None.ensures.steps.0

@@ -1,12 +1,23 @@
+use Rattle.std.proofs.Common.{List, ℕ, None, OnOk, IfErr, subst}
 use Rattle.macho_fields.specs.Bytes.{bytes_of}
-use Rattle.macho_rules.proofs.Verdicts.{image_decided, opening_decided}
+use Rattle.macho_fields.specs.Layers.{NothingBreaks}
+use Rattle.macho_fields.specs.Rules.{BreaksImage}
+use Rattle.macho_rules.specs.Verdict.{IsImageRefusal}
+use Rattle.macho_rules.specs.declared.refusal.Refusal.TheVariants as refusal
+use Rattle.macho_rules.proofs.Verdicts.{passed_on, opened_unbroken, opened_refused, kept_for, refused_for}
 use Rattle.macho_rules.proofs.verdict.check_bytes.Goals as goal
 
-pub returns-in_err-image : goal.returns-in_err-image
-returns-in_err-image c =
-    opening_decided (bytes_of c.args.bytes) c.args.arch c.in_err-image.field-0.0 c.from_residual.result c.from_residual.ensures.1 c.in_err-image.ensures.decides
+pub returns-in_err-image-clause-refused : goal.returns-in_err-image-clause-refused
+returns-in_err-image-clause-refused c =
+    passed_on (IsImageRefusal (bytes_of c.args.bytes) c.args.arch) c.from_residual.result (refusal.Broken c.in_err-image.field-0.0) c.from_residual.ensures.1
+    c.in_err-image.ensures.decides
 
-pub returns : goal.returns
-returns c =
-    let image = bytes_of c.args.bytes in
-    image_decided image c.args.arch c.in_ok-image.ensures.decides c.check_rules.result (rw c.in_ok-image.ensures.image at c.check_rules.ensures)
+pub returns-clause-unbroken : goal.returns-clause-unbroken
+returns-clause-unbroken c =
+    kept_for (opened_unbroken (bytes_of c.args.bytes) c.args.arch c.in_ok-image.ensures.decides) c.check_image.result
+    (subst (λ (image : List ℕ). OnOk c.check_image.result (NothingBreaks (BreaksImage image None))) c.in_ok-image.ensures.image c.check_image.ensures.unbroken)
+
+pub returns-clause-refused : goal.returns-clause-refused
+returns-clause-refused c =
+    refused_for _ _ (opened_refused (bytes_of c.args.bytes) c.args.arch c.in_ok-image.ensures.decides) c.check_image.result
+    (subst (λ (image : List ℕ). IfErr c.check_image.result (IsImageRefusal image None)) c.in_ok-image.ensures.image c.check_image.ensures.refused)

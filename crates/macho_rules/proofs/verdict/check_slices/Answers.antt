@@ -2,11 +2,11 @@ use Rattle.std.proofs.Common.{◌≡◌, suc, length, arith}
 use Rattle.std.proofs.lemmas.Bool.{both_ways}
 use Rattle.std.proofs.lemmas.Result.{err_from_is_err_and}
 use Rattle.macho_fields.specs.Bytes.{bytes_of}
-use Rattle.macho_fields.specs.First.{IsFirstBroken}
 use Rattle.macho_fields.specs.Universal.{slices_of}
 use Rattle.macho_fields.proofs.Scopes.{KeptScopes, file_kept, image_kept, other_kept, all_kept}
 use Rattle.macho_fields.proofs.Sound.{slice_inside}
-use Rattle.macho_rules.proofs.Verdicts.{no_slice, slice_at, slice_broken, answered, slices_counted}
+use Rattle.macho_rules.specs.Verdict.{IsRefusal}
+use Rattle.macho_rules.proofs.Verdicts.{no_slice, slice_at, slice_refused, answered, slices_counted}
 use Rattle.macho_rules.proofs.verdict.check_slices.Goals as goal
 use Rattle.macho_rules.proofs.verdict.check_slices.Goals.{then-slice+in_ok-check_slice, else-slice}
 
@@ -19,14 +19,14 @@ check_slice-requires c =
     let here = slice_at file c.args.slices.now c.requires.slices c.loop-slice.slice-index no_slice c.loop-slice-test.true in
     slice_inside file c.requires.file_rules c.loop-slice.slice-index _ here
 
-pub returns-in_err-check_slice-clause-broken : goal.returns-in_err-check_slice-clause-broken
-returns-in_err-check_slice-clause-broken c =
+pub returns-in_err-check_slice-clause-refused : goal.returns-in_err-check_slice-clause-refused
+returns-in_err-check_slice-clause-refused c =
     let file = bytes_of c.args.file in
     let here = slice_at file c.args.slices.now c.requires.slices c.loop-slice.slice-index no_slice c.loop-slice-test.true in
     let image = (c.requires.slices.read c.loop-slice.slice-index no_slice c.loop-slice-test.true).0 c.if-slice.true in
     let exit = err_from_is_err_and c.from_residual.result c.from_residual.ensures.1 in
-    answered (IsFirstBroken file) c.from_residual.result exit.0 c.in_err-check_slice.field-0.0 exit.1 exit.2
-    (slice_broken file c.loop-slice.slice-index _ here c.loop-slice.invariant image c.in_err-check_slice.field-0.0 c.in_err-check_slice.ensures.broken)
+    answered (IsRefusal file) c.from_residual.result exit.0 c.in_err-check_slice.field-0.0 exit.1 exit.2
+    (slice_refused file c.loop-slice.slice-index _ here c.loop-slice.invariant image c.in_err-check_slice.field-0.0 c.in_err-check_slice.ensures.refused)
 
 pub loop-slice-preserved : goal.loop-slice-preserved
 loop-slice-preserved c =

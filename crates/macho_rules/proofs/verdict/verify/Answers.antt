@@ -3,7 +3,6 @@ use Rattle.macho_fields.specs.Bytes.{bytes_of}
 use Rattle.macho_fields.specs.First.{IsUnbroken}
 use Rattle.macho_fields.proofs.Sound.{unbroken_is_sound}
 use Rattle.macho_rules.specs.Verdict.{IsRefusal, refusal_of}
-use Rattle.macho_rules.specs.declared.refusal.Refusal.TheVariants as refusal
 use Rattle.macho_rules.proofs.Verdicts.{passed_on, fat_refused, verified}
 use Rattle.macho_rules.proofs.verdict.verify.Goals as goal
 
@@ -12,11 +11,6 @@ returns-in_err-slices-clause-refused c =
     let fault = rw c.new-file.ensures at c.in_err-slices.ensures.refused in
     passed_on (IsRefusal c.args.file.now) c.from_residual.result (refusal_of c.in_err-slices.field-0.0) c.from_residual.ensures.1
     (fat_refused c.args.file.now c.in_err-slices.field-0.0 fault)
-
-pub returns-in_err-check_slices-clause-refused : goal.returns-in_err-check_slices-clause-refused
-returns-in_err-check_slices-clause-refused c =
-    let first = rw c.new-file.ensures at c.in_err-check_slices.ensures.broken in
-    passed_on (IsRefusal c.args.file.now) c.from_residual-in_err-check_slices.result (refusal.Broken c.in_err-check_slices.field-0.0) c.from_residual-in_err-check_slices.ensures.1 first
 
 pub invariant_of-result : goal.invariant_of-result
 invariant_of-result c =

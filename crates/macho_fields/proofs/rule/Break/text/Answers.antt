@@ -8,4 +8,5 @@ pub returns : goal.returns
 returns c =
     let b = c.args.self in
     let new = c.new-text.ensures in
-    text_written c.new-text.result c.write.new.self (name_of b.rule) (codes " at 0x") (digits 16 false b.place) (digits_output c.in_radix.result) new.text new.intact c.in_radix.ensures c.in_ok-write.ensures.writes
+    text_written c.new-text.result c.write.new.self (name_of b.rule) (codes " at 0x") (digits 16 false b.place) (digits_output c.in_radix.result)
+    new.text new.intact c.in_radix.ensures c.in_ok-write.ensures.writes

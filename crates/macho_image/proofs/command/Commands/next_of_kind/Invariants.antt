@@ -1,5 +1,5 @@
 use Rattle.std.proofs.Common.{◌≡◌}
-use Rattle.macho_image.specs.Command.{left_of_kind}
+use Rattle.macho_image.specs.Scaffold.{left_of_kind}
 use Rattle.macho_image.proofs.command.Commands.next_of_kind.Given as goal
 
 -- only commands of other kinds were skipped

@@ -5,4 +5,4 @@ use Rattle.macho_image.proofs.image.Image.arch.Goals as goal
 
 pub arch_of-requires : goal.arch_of-requires
 arch_of-requires c =
-    let header : 32 ≤ length (bytes_of c.self.inside.bytes) = (opened_keeps _ c.self.invariant).header in omega arith
+    let header : 32 ≤ length (bytes_of c.self.inside.bytes) = (opened_keeps _ c.self.invariant.opened).header in omega arith

@@ -1,12 +1,17 @@
-use Rattle.macho_image.proofs.Kept.{all_long, all_seen}
-use Rattle.macho_image.proofs.Singles.{build_listed, build_seen}
-use Rattle.macho_image.specs.Build.{build_at, build_in}
+use Rattle.std.proofs.Common.{◌∙◌, refl, ap, sym, subst}
+use Rattle.macho_fields.specs.declared.header.loader.TheConstants as loader
+use Rattle.macho_fields.specs.declared.load_command.Structure.TheVariants.{BuildVersionCommand}
+use Rattle.macho_image.specs.Build.{build_at}
+use Rattle.macho_image.specs.Scaffold.{builds_left, HoldBuilds}
+use Rattle.macho_image.proofs.Kept.{all_inside, all_seen}
 use Rattle.macho_image.proofs.image.Image.builds.Goals as goal
 
 pub invariant_of-result : goal.invariant_of-result
 invariant_of-result c =
-    all_long c.args.self.now c.commands.result _ 24 build_listed c.commands.ensures.opened c.commands.ensures.commands
+    subst (λ image. HoldBuilds image c.commands.result) (sym c.bytes.ensures.bytes)
+    (all_inside c.args.self.now c.commands.result loader.LC_BUILD_VERSION BuildVersionCommand refl c.commands.ensures.opened c.commands.ensures.commands)
 
 pub returns : goal.returns
 returns c =
-    all_seen build_in (build_at c.args.self.now) c.args.self.now c.commands.result _ 24 build_listed (build_seen c.args.self.now) c.commands.ensures.opened c.commands.ensures.commands
+    ap (λ image. builds_left image c.commands.result) c.bytes.ensures.bytes
+    ∙ all_seen (build_at c.args.self.now) c.args.self.now c.commands.result loader.LC_BUILD_VERSION c.commands.ensures.commands

@@ -1,10 +1,14 @@
+use Rattle.std.proofs.Common.{◌∙◌, ap, sym, subst}
+use Rattle.macho_image.specs.Scaffold.{dylibs_left, HoldLibraries}
 use Rattle.macho_image.proofs.Libraries.{all_hold, libraries_seen}
 use Rattle.macho_image.proofs.image.Image.dylibs.Goals as goal
 
 pub invariant_of-result : goal.invariant_of-result
 invariant_of-result c =
-    all_hold c.args.self.now c.commands.result c.commands.ensures.opened c.commands.ensures.commands
+    subst (λ image. HoldLibraries image c.commands.result) (sym c.bytes.ensures.bytes)
+    (all_hold c.args.self.now c.commands.result c.commands.ensures.opened c.commands.ensures.commands)
 
 pub returns : goal.returns
 returns c =
-    libraries_seen c.args.self.now c.commands.result c.commands.ensures.opened c.commands.ensures.commands
+    ap (λ image. dylibs_left image c.commands.result) c.bytes.ensures.bytes
+    ∙ libraries_seen c.args.self.now c.commands.result c.commands.ensures.commands

@@ -1,9 +1,11 @@
 use Rattle.std.proofs.Common.{◌≡◌, ◌+◌, ◌*◌, ◌≤◌, ◌<◌, rules, sym, ap, ◌∙◌, subst, length, arith}
 use Rattle.std.specs.List.{sum_by}
 use Rattle.macho_fields.specs.Bytes.{bytes_of}
-use Rattle.macho_fields.specs.Segment.{nsects}
-use Rattle.macho_image.specs.Segment.{HoldSegments}
-use Rattle.macho_image.proofs.HeldSegments.{all_segments_hold, first_segment, rest_segments, counted, counted_more, all_counted, count_fits}
+use Rattle.macho_fields.specs.Image.{commands_of}
+use Rattle.macho_fields.specs.Segment.{nsects, section_count}
+use Rattle.macho_image.specs.Scaffold.{HoldsSegment, HoldSegments}
+use Rattle.macho_image.proofs.HeldSegments.{all_segments_hold, counted, counted_more, all_counted, count_fits}
+use Rattle.macho_image.proofs.OfOneKind.{first_has, rest_has}
 use Rattle.macho_image.proofs.image.Image.section_count.Goals as goal
 
 pub loop-command-init : goal.loop-command-init
@@ -15,7 +17,7 @@ loop-command-init c = (
 
 pub word_in-requires : goal.word_in-requires
 word_in-requires c =
-    let holds = first_segment (bytes_of c.bytes-image.result) _ _ _ c.in-Some.ensures c.loop-command.invariant.0 in omega (arith, holds)
+    let holds = first_has (λ v. HoldsSegment (bytes_of c.bytes-image.result) v.place) _ _ _ c.in-Some.ensures c.loop-command.invariant.0 in omega (arith, holds)
 
 pub overflow_add-count : goal.overflow_add-count
 overflow_add-count c =
@@ -38,14 +40,14 @@ loop-command-preserved c =
     let count : c.loop-command.count + counted image c.loop-command.commands ≡ counted image c.commands-commands.result = c.loop-command.invariant.1 in
     let more : counted image c.loop-command.commands ≡ nsects image c.in-Some.command.place + counted image c.next_of_kind.new.self = counted_more image _ _ _ c.in-Some.ensures in
     let here : c.from-count.result ≡ nsects image c.in-Some.command.place = c.from-count.ensures ∙ c.word_in.ensures in
-    (rest_segments image _ _ _ c.in-Some.ensures c.loop-command.invariant.0, omega (arith, count, more, here))
+    (rest_has (λ v. HoldsSegment image v.place) _ _ _ c.in-Some.ensures c.loop-command.invariant.0, omega (arith, count, more, here))
 
 pub returns : goal.returns
 returns c =
     let image = bytes_of c.bytes-image.result in
     let all = c.commands-commands.result in
-    let (commands, are, total) = all_counted c.args.self.now all c.commands-commands.ensures.commands in
+    let total : counted c.args.self.now all ≡ section_count c.args.self.now (commands_of c.args.self.now) = all_counted c.args.self.now all c.commands-commands.ensures.commands in
     let same : counted image all ≡ counted c.args.self.now all = ap (λ i. counted i all) c.bytes-image.ensures.bytes in
     let none : counted image c.loop-command.commands ≡ 0 = ap (sum_by (λ v. nsects image v.place)) c.in_default.ensures.0 in
     let count : c.loop-command.count + counted image c.loop-command.commands ≡ counted image all = c.loop-command.invariant.1 in
-    (commands, are, omega (arith, total, same, none, count))
+    omega (arith, total, same, none, count)

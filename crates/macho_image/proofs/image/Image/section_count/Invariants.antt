@@ -1,8 +1,7 @@
 use Rattle.std.proofs.Common.{◌≡◌, ◌+◌, length}
 use Rattle.macho_fields.specs.Bytes.{bytes_of}
 use Rattle.macho_fields.specs.declared.header.loader.TheConstants as loader
-use Rattle.macho_image.specs.Command.{left_of_kind}
-use Rattle.macho_image.specs.Segment.{HoldSegments}
+use Rattle.macho_image.specs.Scaffold.{left_of_kind, HoldSegments}
 use Rattle.macho_image.proofs.HeldSegments.{counted}
 use Rattle.macho_image.proofs.image.Image.section_count.Given as goal
 

@@ -1,5 +1,6 @@
 use Rattle.std.proofs.Common.{◌+◌, ap, ◌∙◌}
-use Rattle.macho_image.specs.Segment.{Structure, sections_from}
+use Rattle.macho_image.specs.Segment.{SegmentView}
+use Rattle.macho_image.specs.Scaffold.{sections_from}
 use Rattle.macho_image.proofs.HeldSegments.{sections_seen}
 use Rattle.macho_image.proofs.segment.Segment.sections.Goals as goal
 
@@ -7,5 +8,5 @@ pub returns : goal.returns
 returns c =
     let image = c.args.self.now.image in
     let place = c.args.self.now.place in
-    ap (λ (s : Structure). sections_from s.image (s.place + 72) c.nsects.result) c.self.view_is
-    ∙ (ap (sections_from image (place + 72)) c.nsects.ensures ∙ sections_seen image place)
+    ap (λ (s : SegmentView). sections_from s.image s.place (s.place + 72) c.nsects.result) c.self.view_is
+    ∙ (ap (sections_from image place (place + 72)) c.nsects.ensures ∙ sections_seen image place)

@@ -1,0 +1,93 @@
+-- The structures of load commands: where their fields lie, and what holds of a listed command.
+use Rattle.std.proofs.Common.{◌≡◌, ◌↔◌, ◌&&◌, ℕ, ◌+◌, ◌≤◌, List, [], map, Bool, true, false, Option, Some, None, All, get_or, refl, sym, ap, ◌∙◌, lit≤}
+use Rattle.std.specs.Prelude.{nat_le}
+use Rattle.std.specs.List.{list_all}
+use Rattle.std.specs.Option.{option_map_or}
+use Rattle.std.proofs.lemmas.Bool.{true≢false, leb-true, le-leb, and_parts}
+use Rattle.std.proofs.lemmas.List.Sums.{AllPass-from_list_all}
+use Rattle.macho_fields.specs.LoadCommands.{structure_of, structure_size, has_name, names_library, is_dylib_command, width_size, AreFieldsInside, table_fields}
+use Rattle.macho_fields.specs.Image.{word, command_kind, command_size}
+use Rattle.macho_fields.specs.Command.{HasStructure, record_count}
+use Rattle.macho_fields.specs.Symbol.{table_at, tables_of}
+use Rattle.macho_fields.specs.declared.load_command.Structure.{Structure}
+use Rattle.macho_fields.specs.declared.load_command.Structure.TheVariants as structure
+use Rattle.macho_fields.specs.declared.load_command.TableFields.{TableFields}
+use Rattle.macho_fields.proofs.Options.{some_has, of_some, of_none}
+
+abbrev are_inside : ℕ → TableFields → Bool
+are_inside size fields = nat_le (fields.place + width_size fields.width) size && nat_le (fields.count + width_size fields.width) size
+
+all_inside : (s : Structure) → list_all (are_inside (structure_size s)) (table_fields s) ≡ true
+all_inside structure.SymtabCommand = refl
+all_inside structure.DysymtabCommand = refl
+all_inside structure.DylibCommand = refl
+all_inside structure.DylinkerCommand = refl
+all_inside structure.RpathCommand = refl
+all_inside structure.SegmentCommand64 = refl
+all_inside structure.UuidCommand = refl
+all_inside structure.LinkeditDataCommand = refl
+all_inside structure.DyldInfoCommand = refl
+all_inside structure.BuildVersionCommand = refl
+all_inside structure.EntryPointCommand = refl
+
+-- the fields that bound the tables of a command lie in its structure
+pub fields_inside : (s : Structure) → All (AreFieldsInside (structure_size s)) (table_fields s)
+fields_inside s k d less =
+    let fields = get_or (table_fields s) k d in
+    let both = and_parts (nat_le (fields.place + width_size fields.width) (structure_size s)) (nat_le (fields.count + width_size fields.width) (structure_size s))
+    (AllPass-from_list_all (are_inside (structure_size s)) (table_fields s) (all_inside s) k d less) in
+    (leb-true (fields.place + width_size fields.width) (structure_size s) both.0, leb-true (fields.count + width_size fields.width) (structure_size s) both.1)
+
+-- a structure with a name has its lc_str, 4 bytes at 8
+pub name_inside : (s : Structure) → has_name s ≡ true → 12 ≤ structure_size s
+name_inside structure.SymtabCommand named = absurd (true≢false (sym named))
+name_inside structure.DysymtabCommand named = absurd (true≢false (sym named))
+name_inside structure.DylibCommand named = lit≤ tt
+name_inside structure.DylinkerCommand named = lit≤ tt
+name_inside structure.RpathCommand named = lit≤ tt
+name_inside structure.SegmentCommand64 named = absurd (true≢false (sym named))
+name_inside structure.UuidCommand named = absurd (true≢false (sym named))
+name_inside structure.LinkeditDataCommand named = absurd (true≢false (sym named))
+name_inside structure.DyldInfoCommand named = absurd (true≢false (sym named))
+name_inside structure.BuildVersionCommand named = absurd (true≢false (sym named))
+name_inside structure.EntryPointCommand named = absurd (true≢false (sym named))
+
+-- a command that names a library is a dylib_command
+pub library_structure : (kind : ℕ) → names_library kind ≡ true → structure_of kind ≡ Some structure.DylibCommand
+library_structure kind names = of_listed (structure_of kind) names
+  where
+    of_listed : (o : Option Structure) → option_map_or is_dylib_command o false ≡ true → o ≡ Some structure.DylibCommand
+    of_listed None h = absurd (true≢false (sym h))
+    of_listed (Some structure.DylibCommand) h = refl
+    of_listed (Some structure.SymtabCommand) h = absurd (true≢false (sym h))
+    of_listed (Some structure.DysymtabCommand) h = absurd (true≢false (sym h))
+    of_listed (Some structure.DylinkerCommand) h = absurd (true≢false (sym h))
+    of_listed (Some structure.RpathCommand) h = absurd (true≢false (sym h))
+    of_listed (Some structure.SegmentCommand64) h = absurd (true≢false (sym h))
+    of_listed (Some structure.UuidCommand) h = absurd (true≢false (sym h))
+    of_listed (Some structure.LinkeditDataCommand) h = absurd (true≢false (sym h))
+    of_listed (Some structure.DyldInfoCommand) h = absurd (true≢false (sym h))
+    of_listed (Some structure.BuildVersionCommand) h = absurd (true≢false (sym h))
+    of_listed (Some structure.EntryPointCommand) h = absurd (true≢false (sym h))
+
+module _ (image : List ℕ) (command : ℕ) where
+  -- a count that lies in the command
+  pub records_counted : (offset : ℕ) → offset + 4 ≤ command_size image command → record_count image command offset ≡ word image (command + offset)
+  records_counted offset inside = rw (le-leb (offset + 4) (command_size image command) inside) refl
+
+  -- the structure of a command, by its kind
+  pub structure_by_kind : (kind : ℕ) (o : Option Structure) → command_kind image command ≡ kind → structure_of kind ≡ o → structure_of (command_kind image command) ≡ o
+  structure_by_kind kind o is listed = ap structure_of is ∙ listed
+
+  pub tables_listed : (s : Structure) → structure_of (command_kind image command) ≡ Some s → tables_of image command ≡ map (table_at image command) (table_fields s)
+  tables_listed s listed = ap (λ o. option_map_or (λ t. map (table_at image command) (table_fields t)) o []) listed
+
+  pub tables_unlisted : structure_of (command_kind image command) ≡ None → tables_of image command ≡ []
+  tables_unlisted none = ap (λ o. option_map_or (λ t. map (table_at image command) (table_fields t)) o []) none
+
+  -- what holds of the structure of a listed command
+  pub has_structure : (P : Structure → Type 0) (s : Structure) → structure_of (command_kind image command) ≡ Some s → HasStructure image command P ↔ P s
+  has_structure P s listed = (some_has P (structure_of (command_kind image command)) s listed, of_some P (structure_of (command_kind image command)) s listed)
+
+  pub has_no_structure : (P : Structure → Type 0) → structure_of (command_kind image command) ≡ None → ¬ HasStructure image command P
+  has_no_structure P none = of_none P (structure_of (command_kind image command)) none

@@ -1,0 +1,174 @@
+-- The load commands that are judged: the structure of each, and what the structure has.
+-- (mach-o/loader.h; mach-o/nlist.h: nlist_64; mach-o/reloc.h: relocation_info)
+use Rattle.std.specs.Prelude.{◌≡◌, ℕ, ◌+◌, ◌≤◌, ◌==◌, List, [], ◌∷◌, find, Option, Some, None}
+use Rattle.std.specs.Prelude.{IsSomeAnd, Bool, true, false}
+use Rattle.std.specs.Option.{option_map, option_map_or}
+use Rattle.macho_fields.specs.declared.load_command.LoadCommand.{LoadCommand}
+use Rattle.macho_fields.specs.declared.load_command.Records.{Records}
+use Rattle.macho_fields.specs.declared.load_command.Structure.{Structure}
+use Rattle.macho_fields.specs.declared.load_command.Structure.TheVariants as structure
+use Rattle.macho_fields.specs.declared.load_command.TableFields.{TableFields}
+use Rattle.macho_fields.specs.declared.load_command.Width.{Width}
+use Rattle.macho_fields.specs.declared.load_command.Width.TheVariants.{Uint32, Uint64}
+use Rattle.macho_fields.specs.declared.header.loader.TheConstants as loader
+use Rattle.macho_fields.specs.declared.header.nlist.TheConstants as nlist
+use Rattle.macho_fields.specs.declared.header.reloc.TheConstants as reloc
+
+-- The listed commands, in the order of their numbers. An image has at most one of each command with
+-- `one`, and any number of those with `many`.
+
+abbrev pub one : ℕ → Structure → LoadCommand
+one cmd structure = record { cmd = cmd; structure = structure; is_unique = true }
+
+abbrev pub many : ℕ → Structure → LoadCommand
+many cmd structure = record { cmd = cmd; structure = structure; is_unique = false }
+
+abbrev pub load_commands : List LoadCommand
+load_commands =
+    one loader.LC_SYMTAB structure.SymtabCommand
+    ∷ one loader.LC_DYSYMTAB structure.DysymtabCommand
+    ∷ many loader.LC_LOAD_DYLIB structure.DylibCommand
+    ∷ one loader.LC_ID_DYLIB structure.DylibCommand
+    ∷ many loader.LC_LOAD_DYLINKER structure.DylinkerCommand
+    ∷ many loader.LC_ID_DYLINKER structure.DylinkerCommand
+    ∷ many loader.LC_SEGMENT_64 structure.SegmentCommand64
+    ∷ one loader.LC_UUID structure.UuidCommand
+    ∷ many loader.LC_CODE_SIGNATURE structure.LinkeditDataCommand
+    ∷ many loader.LC_SEGMENT_SPLIT_INFO structure.LinkeditDataCommand
+    ∷ many loader.LC_LAZY_LOAD_DYLIB structure.DylibCommand
+    ∷ many loader.LC_DYLD_INFO structure.DyldInfoCommand
+    ∷ many loader.LC_FUNCTION_STARTS structure.LinkeditDataCommand
+    ∷ many loader.LC_DYLD_ENVIRONMENT structure.DylinkerCommand
+    ∷ many loader.LC_DATA_IN_CODE structure.LinkeditDataCommand
+    ∷ many loader.LC_DYLIB_CODE_SIGN_DRS structure.LinkeditDataCommand
+    ∷ many loader.LC_LINKER_OPTIMIZATION_HINT structure.LinkeditDataCommand
+    ∷ many loader.LC_BUILD_VERSION structure.BuildVersionCommand
+    ∷ many loader.LC_LOAD_WEAK_DYLIB structure.DylibCommand
+    ∷ many loader.LC_RPATH structure.RpathCommand
+    ∷ many loader.LC_REEXPORT_DYLIB structure.DylibCommand
+    ∷ many loader.LC_DYLD_INFO_ONLY structure.DyldInfoCommand
+    ∷ many loader.LC_LOAD_UPWARD_DYLIB structure.DylibCommand
+    ∷ one loader.LC_MAIN structure.EntryPointCommand
+    ∷ many loader.LC_DYLD_EXPORTS_TRIE structure.LinkeditDataCommand
+    ∷ many loader.LC_DYLD_CHAINED_FIXUPS structure.LinkeditDataCommand
+    ∷ []
+
+-- the line of the list for a kind of command, which is its cmd
+abbrev pub load_command_of : ℕ → Option LoadCommand
+load_command_of kind = find (λ command. command.cmd == kind) load_commands
+
+-- the structure of a listed command, by its kind
+abbrev pub structure_of : ℕ → Option Structure
+structure_of kind = option_map (λ command. command.structure) (load_command_of kind)
+
+-- an image has at most one command of this kind
+abbrev pub IsUnique : ℕ → Type 0
+IsUnique kind = IsSomeAnd (load_command_of kind) (λ command. command.is_unique ≡ true)
+
+-- the size of a structure in bytes
+abbrev pub structure_size : Structure → ℕ
+structure_size structure.SymtabCommand = 24
+structure_size structure.DysymtabCommand = 80
+structure_size structure.DylibCommand = 24
+structure_size structure.DylinkerCommand = 12
+structure_size structure.RpathCommand = 12
+structure_size structure.SegmentCommand64 = loader.SEGMENT_COMMAND_64_SIZE
+structure_size structure.UuidCommand = 24
+structure_size structure.LinkeditDataCommand = 16
+structure_size structure.DyldInfoCommand = 48
+structure_size structure.BuildVersionCommand = 24
+structure_size structure.EntryPointCommand = 24
+
+-- A name, whose offset is the lc_str at 8 of the structure, follows the structure in the command:
+-- dylib_command.dylib.name, dylinker_command.name, rpath_command.path.
+abbrev pub has_name : Structure → Bool
+has_name structure.DylibCommand = true
+has_name structure.DylinkerCommand = true
+has_name structure.RpathCommand = true
+has_name other = false
+
+-- a command of this kind names a library: its structure is dylib_command
+abbrev pub is_dylib_command : Structure → Bool
+is_dylib_command structure.DylibCommand = true
+is_dylib_command other = false
+
+abbrev pub names_library : ℕ → Bool
+names_library kind = option_map_or is_dylib_command (structure_of kind) false
+
+-- The records that follow a structure, by the offset of the 32-bit field with their number, and the
+-- size of one: segment_command_64.nsects counts section_64, build_version_command.ntools counts
+-- build_tool_version.
+abbrev pub records_of : Structure → Option Records
+records_of structure.SegmentCommand64 = Some (record { count = 64; size = loader.SECTION_64_SIZE })
+records_of structure.BuildVersionCommand =
+    Some (record { count = 20; size = loader.BUILD_TOOL_VERSION_SIZE })
+records_of other = None
+
+-- the width of a field in bytes
+abbrev pub width_size : Width → ℕ
+width_size Uint32 = 4
+width_size Uint64 = 8
+
+-- the two fields that bound a table lie in the first bytes of a command, so many
+abbrev pub AreFieldsInside : ℕ → TableFields → Type 0
+AreFieldsInside size fields =
+    (fields.place + width_size fields.width ≤ size)
+    × (fields.count + width_size fields.width ≤ size)
+
+-- The tables of the image that the fields of a structure bound: the offset of the field with the
+-- place of the table, that of the field with the number of its items, and the size of an item.
+
+-- a table whose two fields are words of 32 bits
+abbrev pub word_table : ℕ → ℕ → ℕ → TableFields
+word_table place count item_size = record {
+  place = place;
+  count = count;
+  width = Uint32;
+  item_size = item_size;
+}
+
+-- symtab_command: symoff and nsyms, of nlist_64
+abbrev pub symbol_table : TableFields
+symbol_table = word_table 8 12 nlist.NLIST_64_SIZE
+
+-- stroff and strsize, in bytes
+abbrev pub string_table : TableFields
+string_table = word_table 16 20 1
+
+-- dysymtab_command: tocoff and ntoc, of dylib_table_of_contents
+abbrev pub contents_table : TableFields
+contents_table = word_table 32 36 loader.DYLIB_TABLE_OF_CONTENTS_SIZE
+
+-- modtaboff and nmodtab, of dylib_module_64
+abbrev pub module_table : TableFields
+module_table = word_table 40 44 loader.DYLIB_MODULE_64_SIZE
+
+-- extrefsymoff and nextrefsyms, of dylib_reference
+abbrev pub reference_table : TableFields
+reference_table = word_table 48 52 loader.DYLIB_REFERENCE_SIZE
+
+-- indirectsymoff and nindirectsyms, of indices of symbols
+abbrev pub indirect_table : TableFields
+indirect_table = word_table 56 60 loader.INDIRECT_ENTRY_SIZE
+
+-- extreloff and nextrel, of relocation_info
+abbrev pub external_relocations : TableFields
+external_relocations = word_table 64 68 reloc.RELOCATION_INFO_SIZE
+
+-- locreloff and nlocrel, of relocation_info
+abbrev pub local_relocations : TableFields
+local_relocations = word_table 72 76 reloc.RELOCATION_INFO_SIZE
+
+-- linkedit_data_command: dataoff and datasize. dyld_info_command: rebase_off and rebase_size,
+-- bind_off and bind_size, weak_bind_off and weak_bind_size, lazy_bind_off and lazy_bind_size,
+-- export_off and export_size. All are of bytes.
+abbrev pub table_fields : Structure → List TableFields
+table_fields structure.SymtabCommand = symbol_table ∷ string_table ∷ []
+table_fields structure.DysymtabCommand =
+    contents_table ∷ module_table ∷ reference_table ∷ indirect_table ∷ external_relocations
+    ∷ local_relocations ∷ []
+table_fields structure.LinkeditDataCommand = word_table 8 12 1 ∷ []
+table_fields structure.DyldInfoCommand =
+    word_table 8 12 1 ∷ word_table 16 20 1 ∷ word_table 24 28 1 ∷ word_table 32 36 1
+    ∷ word_table 40 44 1 ∷ []
+table_fields other = []

@@ -1,0 +1,315 @@
+//! The load commands that are judged: the structure of each, and what the structure has.
+//! (`mach-o/loader.h`)
+
+ghost use Rattle.std.specs.Prelude.{◌≡◌, ◌==◌, ◌↔◌, find, IsTrue};
+ghost use Rattle.std.specs.Option.{option_map};
+ghost use Rattle.macho_fields.specs.LoadCommands.{IsUnique, load_command_of, structure_of};
+ghost use Rattle.macho_fields.specs.LoadCommands.{names_library};
+
+use crate::header::loader::build_version_command::NTOOLS;
+use crate::header::loader::dysymtab_command::{
+    EXTREFSYMOFF, EXTRELOFF, INDIRECTSYMOFF, LOCRELOFF, MODTABOFF, NEXTREFSYMS, NEXTREL,
+    NINDIRECTSYMS, NLOCREL, NMODTAB, NTOC, TOCOFF,
+};
+use crate::header::loader::linkedit_data_command::{DATAOFF, DATASIZE};
+use crate::header::loader::segment_command_64::NSECTS;
+use crate::header::loader::symtab_command::{NSYMS, STROFF, STRSIZE, SYMOFF};
+use crate::header::loader::{
+    self, BUILD_TOOL_VERSION_SIZE, DYLIB_MODULE_64_SIZE, DYLIB_REFERENCE_SIZE,
+    DYLIB_TABLE_OF_CONTENTS_SIZE, INDIRECT_ENTRY_SIZE, LC_STR_OFFSET, SECTION_64_SIZE,
+    SEGMENT_COMMAND_64_SIZE,
+};
+use crate::header::nlist::NLIST_64_SIZE;
+use crate::header::reloc::RELOCATION_INFO_SIZE;
+
+/// The structure of a load command, named as `mach-o/loader.h` names it.
+#[derive(Clone, Copy, Debug, PartialEq, Eq)]
+pub enum Structure {
+    /// `symtab_command`
+    SymtabCommand,
+    /// `dysymtab_command`
+    DysymtabCommand,
+    /// `dylib_command`
+    DylibCommand,
+    /// `dylinker_command`
+    DylinkerCommand,
+    /// `rpath_command`
+    RpathCommand,
+    /// `segment_command_64`
+    SegmentCommand64,
+    /// `uuid_command`
+    UuidCommand,
+    /// `linkedit_data_command`
+    LinkeditDataCommand,
+    /// `dyld_info_command`
+    DyldInfoCommand,
+    /// `build_version_command`
+    BuildVersionCommand,
+    /// `entry_point_command`
+    EntryPointCommand,
+}
+
+/// The records that follow a structure.
+#[derive(Clone, Copy, Debug, PartialEq, Eq)]
+pub struct Records {
+    /// The offset in the command of the 32-bit field with their number.
+    pub count: u64,
+    /// The size in bytes of one.
+    pub size: u64,
+}
+
+/// How wide a field is.
+#[derive(Clone, Copy, Debug, PartialEq, Eq)]
+pub enum Width {
+    /// 32 bits, a `uint32_t`.
+    Uint32,
+    /// 64 bits, a `uint64_t`.
+    Uint64,
+}
+
+impl Width {
+    ghost use Rattle.std.specs.Prelude.{◌≡◌};
+    ghost use Rattle.macho_fields.specs.LoadCommands.{width_size};
+
+    /// The size in bytes of a field of this width.
+    pub const fn size(self) -> u64
+        ensures { result ≡ width_size self }
+    {
+        match self {
+            Width::Uint32 => 4,
+            Width::Uint64 => 8,
+        }
+    }
+}
+
+/// The two fields of a structure that bound a table of the image, and the size of its items.
+#[derive(Clone, Copy, Debug, PartialEq, Eq)]
+pub struct TableFields {
+    /// The offset in the command of the field with the place of the table.
+    pub place: u64,
+    /// The offset in the command of the field with the number of its items.
+    pub count: u64,
+    /// The width of both fields.
+    pub width: Width,
+    /// The size in bytes of an item.
+    pub item_size: u64,
+}
+
+/// A table, by the offsets of the two fields that bound it, the width of these, and the size of an
+/// item.
+macro_rules! table {
+    ($place:expr, $count:expr, $width:ident, $item_size:expr) => {
+        TableFields {
+            place: $place,
+            count: $count,
+            width: Width::$width,
+            item_size: $item_size,
+        }
+    };
+}
+
+/// The symbols and their strings.
+const SYMTAB_TABLES: &[TableFields] = &[
+    table!(SYMOFF, NSYMS, Uint32, NLIST_64_SIZE),
+    table!(STROFF, STRSIZE, Uint32, 1),
+];
+
+/// The table of contents, modules, referenced symbols, indirect entries, and relocations.
+const DYSYMTAB_TABLES: &[TableFields] = &[
+    table!(TOCOFF, NTOC, Uint32, DYLIB_TABLE_OF_CONTENTS_SIZE),
+    table!(MODTABOFF, NMODTAB, Uint32, DYLIB_MODULE_64_SIZE),
+    table!(EXTREFSYMOFF, NEXTREFSYMS, Uint32, DYLIB_REFERENCE_SIZE),
+    table!(INDIRECTSYMOFF, NINDIRECTSYMS, Uint32, INDIRECT_ENTRY_SIZE),
+    table!(EXTRELOFF, NEXTREL, Uint32, RELOCATION_INFO_SIZE),
+    table!(LOCRELOFF, NLOCREL, Uint32, RELOCATION_INFO_SIZE),
+];
+
+/// The data, as bytes.
+const LINKEDIT_DATA_TABLES: &[TableFields] = &[table!(DATAOFF, DATASIZE, Uint32, 1)];
+
+/// Bytes of five kinds.
+const DYLD_INFO_TABLES: &[TableFields] = &[
+    // `rebase_off` and `rebase_size`
+    table!(8, 12, Uint32, 1),
+    // `bind_off` and `bind_size`
+    table!(16, 20, Uint32, 1),
+    // `weak_bind_off` and `weak_bind_size`
+    table!(24, 28, Uint32, 1),
+    // `lazy_bind_off` and `lazy_bind_size`
+    table!(32, 36, Uint32, 1),
+    // `export_off` and `export_size`
+    table!(40, 44, Uint32, 1),
+];
+
+impl Structure {
+    ghost use Rattle.std.specs.Prelude.{◌≡◌, ◌+◌, ◌≤◌, All, IsTrue, IfSome};
+    ghost use Rattle.macho_fields.specs.LoadCommands.{structure_size, has_name, records_of};
+    ghost use Rattle.macho_fields.specs.LoadCommands.{table_fields, AreFieldsInside};
+
+    /// The size in bytes of the structure, which is the least offset of a name that follows it.
+    pub const fn size(self) -> u64
+        ensures size { result ≡ structure_size self }
+        ensures near { result ≤ 80 }
+    {
+        match self {
+            Structure::SymtabCommand => 24,
+            Structure::DysymtabCommand => 80,
+            Structure::DylibCommand => 24,
+            Structure::DylinkerCommand => 12,
+            Structure::RpathCommand => 12,
+            Structure::SegmentCommand64 => SEGMENT_COMMAND_64_SIZE,
+            Structure::UuidCommand => 24,
+            Structure::LinkeditDataCommand => 16,
+            Structure::DyldInfoCommand => 48,
+            Structure::BuildVersionCommand => 24,
+            Structure::EntryPointCommand => 24,
+        }
+    }
+
+    /// Whether a name ends the command. The `lc_str` at `LC_STR_OFFSET` is the offset of the name.
+    pub const fn has_name(self) -> bool
+        ensures name { result ≡ has_name self }
+        ensures inside { IsTrue result → LC_STR_OFFSET + 4 ≤ structure_size self }
+    {
+        match self {
+            Structure::DylibCommand | Structure::DylinkerCommand | Structure::RpathCommand => true,
+            _ => false,
+        }
+    }
+
+    /// The records that follow the structure, or `None` where it has none.
+    pub const fn records(self) -> Option<Records>
+        ensures records { result ≡ records_of self }
+        ensures inside { IfSome result (λ records. records.count + 4 ≤ structure_size self) }
+        ensures near { IfSome result (λ records. records.size ≤ 80) }
+    {
+        match self {
+            Structure::SegmentCommand64 => Some(Records {
+                count: NSECTS,
+                size: SECTION_64_SIZE,
+            }),
+            Structure::BuildVersionCommand => Some(Records {
+                count: NTOOLS,
+                size: BUILD_TOOL_VERSION_SIZE,
+            }),
+            _ => None,
+        }
+    }
+
+    /// The tables that the fields of the structure bound.
+    pub const fn tables(self) -> &'static [TableFields]
+        ensures tables { result.now ≡ table_fields self }
+        ensures inside { All (AreFieldsInside (structure_size self)) result.now }
+    {
+        match self {
+            Structure::SymtabCommand => SYMTAB_TABLES,
+            Structure::DysymtabCommand => DYSYMTAB_TABLES,
+            Structure::LinkeditDataCommand => LINKEDIT_DATA_TABLES,
+            Structure::DyldInfoCommand => DYLD_INFO_TABLES,
+            _ => &[],
+        }
+    }
+}
+
+/// A load command that is judged.
+#[derive(Clone, Copy, Debug, PartialEq, Eq)]
+pub struct LoadCommand {
+    /// Its `cmd`.
+    pub cmd: u32,
+    /// Its structure.
+    pub structure: Structure,
+    /// Whether an image has at most one.
+    pub is_unique: bool,
+}
+
+/// A load command of which an image has any number.
+macro_rules! many {
+    ($cmd:ident, $structure:ident) => {
+        LoadCommand {
+            cmd: loader::$cmd,
+            structure: Structure::$structure,
+            is_unique: false,
+        }
+    };
+}
+
+/// A load command of which an image has at most one.
+macro_rules! one {
+    ($cmd:ident, $structure:ident) => {
+        LoadCommand {
+            cmd: loader::$cmd,
+            structure: Structure::$structure,
+            is_unique: true,
+        }
+    };
+}
+
+/// The load commands that are judged, in the order of their numbers: of `one` an image has at most
+/// one, of `many` any number.
+const LOAD_COMMANDS: &[LoadCommand] = &[
+    one!(LC_SYMTAB, SymtabCommand),
+    one!(LC_DYSYMTAB, DysymtabCommand),
+    many!(LC_LOAD_DYLIB, DylibCommand),
+    one!(LC_ID_DYLIB, DylibCommand),
+    many!(LC_LOAD_DYLINKER, DylinkerCommand),
+    many!(LC_ID_DYLINKER, DylinkerCommand),
+    many!(LC_SEGMENT_64, SegmentCommand64),
+    one!(LC_UUID, UuidCommand),
+    many!(LC_CODE_SIGNATURE, LinkeditDataCommand),
+    many!(LC_SEGMENT_SPLIT_INFO, LinkeditDataCommand),
+    many!(LC_LAZY_LOAD_DYLIB, DylibCommand),
+    many!(LC_DYLD_INFO, DyldInfoCommand),
+    many!(LC_FUNCTION_STARTS, LinkeditDataCommand),
+    many!(LC_DYLD_ENVIRONMENT, DylinkerCommand),
+    many!(LC_DATA_IN_CODE, LinkeditDataCommand),
+    many!(LC_DYLIB_CODE_SIGN_DRS, LinkeditDataCommand),
+    many!(LC_LINKER_OPTIMIZATION_HINT, LinkeditDataCommand),
+    many!(LC_BUILD_VERSION, BuildVersionCommand),
+    many!(LC_LOAD_WEAK_DYLIB, DylibCommand),
+    many!(LC_RPATH, RpathCommand),
+    many!(LC_REEXPORT_DYLIB, DylibCommand),
+    many!(LC_DYLD_INFO_ONLY, DyldInfoCommand),
+    many!(LC_LOAD_UPWARD_DYLIB, DylibCommand),
+    one!(LC_MAIN, EntryPointCommand),
+    many!(LC_DYLD_EXPORTS_TRIE, LinkeditDataCommand),
+    many!(LC_DYLD_CHAINED_FIXUPS, LinkeditDataCommand),
+];
+
+/// What the list says of a command with this `cmd`, or `None` where it is not judged.
+pub fn load_command_of(cmd: u32) -> Option<LoadCommand>
+    ensures { result ≡ load_command_of cmd }
+{
+    first_of(cmd, LOAD_COMMANDS).copied()
+}
+
+/// The first of the commands with this `cmd`.
+fn first_of(cmd: u32, commands: &[LoadCommand]) -> Option<&LoadCommand>
+    ensures { option_map (λ found. found.now) result
+        ≡ find (λ command. command.cmd == cmd) commands.now }
+{
+    commands.iter().find(|command| command.cmd == cmd)
+}
+
+/// The structure of a command with this `cmd`, or `None` where it is not judged.
+pub fn structure_of(cmd: u32) -> Option<Structure>
+    ensures { result ≡ structure_of cmd }
+{
+    load_command_of(cmd).map(|command| command.structure)
+}
+
+/// Whether an image has at most one command with this `cmd`.
+pub fn is_unique(cmd: u32) -> bool
+    ensures { IsTrue result ↔ IsUnique cmd }
+{
+    load_command_of(cmd).is_some_and(|command| command.is_unique)
+}
+
+/// Whether a command with this `cmd` names a library.
+pub fn names_library(cmd: u32) -> bool
+    ensures { result ≡ names_library cmd }
+{
+    structure_of(cmd) == Some(Structure::DylibCommand)
+}
+
+#[cfg(test)]
+mod tests;

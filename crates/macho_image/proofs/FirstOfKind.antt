@@ -1,0 +1,186 @@
+-- The first command of each unique kind.
+use Rattle.std.proofs.Common.{◌≡◌, ◌==◌, ◌&&◌, ◌||◌, ℕ, suc, zero, ◌<◌, ◌⊎◌, List, [], ◌∷◌, ◌++◌, Bool, true, false, not, cond}
+use Rattle.std.proofs.Common.{map, length, set, get_or, Contains, IsSomeAnd, Option, Some, None, refl, sym, ap, ap₂, ◌∙◌, subst, arith, inl, inr}
+use Rattle.std.specs.Prelude.{find, ⊤}
+use Rattle.std.specs.List.{position, list_any, list_all, position_or_len}
+use Rattle.std.specs.Option.{option_or}
+use Rattle.std.proofs.lemmas.List.Quantifiers.{position-Some}
+use Rattle.std.proofs.lemmas.Bool.{cases_Bool, cases_lt, lt-ltb, false≢true, and_parts, not-true, eqb-true, eq-eqb, ne_eqb}
+use Rattle.std.proofs.lemmas.List.{get_or-map}
+use Rattle.std.proofs.lemmas.List.Folds.{Any-from_list_any}
+use Rattle.std.proofs.lemmas.List.Sums.{fails_before_first, AllPass-from_list_all}
+use Rattle.macho_fields.specs.Image.{command_kind}
+use Rattle.macho_fields.specs.LoadCommands.{load_commands, load_command_of, IsUnique}
+use Rattle.macho_fields.specs.declared.load_command.LoadCommand.{LoadCommand}
+use Rattle.macho_fields.proofs.Options.{some_of}
+use Rattle.macho_image.specs.Unique.{unique_kinds}
+use Rattle.macho_fields.proofs.Lists.{none_by_test, none_in_nil, contains_first}
+use Rattle.macho_image.specs.Command.{first_of_kind}
+use Rattle.macho_image.proofs.Passed.{contains_later}
+
+first_by : (image : List ℕ) (kind x : ℕ) (xs : List ℕ) → first_of_kind image kind (x ∷ xs) ≡ cond (command_kind image x == kind) (Some x) (first_of_kind image kind xs)
+first_by image kind x xs = elim (cases_Bool (command_kind image x == kind)) [ inl of_it ↦ rw of_it refl | inr other ↦ rw other refl ]
+
+-- with one command more
+pub first_more : (image : List ℕ) (kind p : ℕ) (xs : List ℕ) → first_of_kind image kind (xs ++ p ∷ []) ≡ option_or (first_of_kind image kind xs) (cond (command_kind image p == kind) (Some p) None)
+first_more image kind p [] = first_by image kind p []
+first_more image kind p (x ∷ xs) = elim (cases_Bool (command_kind image x == kind)) [
+  | inl of_it ↦ rw of_it refl
+  | inr other ↦ rw other (first_more image kind p xs)
+]
+
+-- a command of another kind changes nothing
+first_other : (image : List ℕ) (kind p : ℕ) (xs : List ℕ) → ¬ (command_kind image p ≡ kind) → first_of_kind image kind (xs ++ p ∷ []) ≡ first_of_kind image kind xs
+first_other image kind p xs other =
+    first_more image kind p xs ∙ (ap (λ b. option_or (first_of_kind image kind xs) (cond b (Some p) None)) (ne_eqb (command_kind image p) kind other) ∙ kept (first_of_kind image kind xs))
+  where
+    kept : (o : Option ℕ) → option_or o None ≡ o
+    kept None = refl
+    kept (Some x) = refl
+
+-- the first of a kind is of the kind, and one of them
+pub first_is : (image : List ℕ) (kind p : ℕ) (xs : List ℕ) → first_of_kind image kind xs ≡ Some p → Contains xs p × (command_kind image p ≡ kind)
+first_is image kind p [] is = absurd (cc)
+first_is image kind p (x ∷ xs) is = elim (cases_Bool (command_kind image x == kind)) [
+  | inl of_it ↦
+      let same : Some x ≡ Some p = rw of_it at is in
+      let e : x ≡ p = cc in
+      (subst (λ q. Contains (x ∷ xs) q) e (contains_first x xs), subst (λ q. command_kind image q ≡ kind) e (eqb-true (command_kind image x) kind of_it))
+  | inr other ↦
+      let rest = first_is image kind p xs (rw other at is) in
+      (contains_later x p xs rest.0, rest.1)
+]
+
+-- where there is no first, there is none
+pub first_none : (image : List ℕ) (kind p : ℕ) (xs : List ℕ) → first_of_kind image kind xs ≡ None → Contains xs p → ¬ (command_kind image p ≡ kind)
+first_none image kind p [] is has same = absurd (none_in_nil p has)
+first_none image kind p (x ∷ xs) is (zero, less, at) same =
+    absurd (let found = rw (eq-eqb (command_kind image x) kind (ap (command_kind image) at ∙ same)) at is in cc)
+first_none image kind p (x ∷ xs) is (suc k, less, at) same = elim (cases_Bool (command_kind image x == kind)) [
+  | inl of_it ↦ absurd (let found = rw of_it at is in cc)
+  | inr other ↦ first_none image kind p xs (rw other at is) (k, omega arith, at) same
+]
+
+-- A value for each item of a list
+
+abbrev Distinct : List ℕ → Type 0
+Distinct [] = ⊤
+Distinct (k ∷ ks) = ¬ Contains ks k × Distinct ks
+
+not_in : (k : ℕ) (ks : List ℕ) → list_any (λ j. j == k) ks ≡ false → ¬ Contains ks k
+not_in k ks none (i, less, at) = none_by_test (λ j. j ≡ k) (λ j. j == k) ks (λ j e. eq-eqb j k e) none (i, k, less, at, refl)
+
+abbrev is_distinct : List ℕ → Bool
+is_distinct [] = true
+is_distinct (k ∷ ks) = not (list_any (λ j. j == k) ks) && is_distinct ks
+
+distinct_by_test : (ks : List ℕ) → is_distinct ks ≡ true → Distinct ks
+distinct_by_test [] passes = tt
+distinct_by_test (k ∷ ks) passes =
+    let both = and_parts (not (list_any (λ j. j == k) ks)) (is_distinct ks) passes in
+    (not_in k ks (not-true _ both.0), distinct_by_test ks both.1)
+
+same_values : {X : Type 0} (f g : ℕ → X) (ks : List ℕ) → ((k : ℕ) → Contains ks k → g k ≡ f k) → map g ks ≡ map f ks
+same_values f g [] same = refl
+same_values f g (k ∷ ks) same = ap₂ (λ x xs. x ∷ xs) (same k (contains_first k ks)) (same_values f g ks (λ j has. same j (contains_later k j ks has)))
+
+-- a change of the value of one of them
+set_one : {X : Type 0} (f g : ℕ → X) (kind i : ℕ) (v : X) (ks : List ℕ) → Distinct ks → i < length ks → get_or ks i kind ≡ kind → ((k : ℕ) → ¬ (k ≡ kind) → g k ≡ f k) → g kind ≡ v
+    → set (map f ks) i v ≡ map g ks
+set_one f g kind i v [] distinct less at others is = absurd (omega arith)
+set_one f g kind zero v (k ∷ ks) distinct less at others is =
+    ap₂ (λ x xs. x ∷ xs) (sym (ap g at ∙ is)) (sym (same_values f g ks (λ j has. others j (λ same. distinct.0 (subst (Contains ks) (same ∙ sym at) has)))))
+set_one f g kind (suc i) v (k ∷ ks) distinct less at others is =
+    ap₂ (λ x xs. x ∷ xs) (sym (others k (λ same. distinct.0 (i, omega arith, subst (λ q. get_or ks i q ≡ q) (sym same) at)))) (set_one f g kind i v ks distinct.1 (omega arith) at others is)
+
+-- The places of the first commands
+
+-- the kind at a position
+kind_at : (kind i : ℕ) → position (λ unique. unique == kind) unique_kinds ≡ Some i → (i < length unique_kinds) × (get_or unique_kinds i kind ≡ kind)
+kind_at kind i is =
+    let (less, test, before) = position-Some (λ unique. unique == kind) unique_kinds i kind is in
+    (less, eqb-true (get_or unique_kinds i kind) kind test)
+
+-- the unique kinds are those of the registry
+abbrev is_unique : Option LoadCommand → Bool
+is_unique None = false
+is_unique (Some c) = c.is_unique
+
+listed_is_unique : (kind : ℕ) → Contains unique_kinds kind → IsUnique kind
+listed_is_unique kind (i, less, at) =
+    of_test (load_command_of kind) (subst (λ k. is_unique (load_command_of k) ≡ true) at (AllPass-from_list_all (λ k. is_unique (load_command_of k)) unique_kinds refl i kind less))
+  where
+    of_test : (o : Option LoadCommand) → is_unique o ≡ true → IsSomeAnd o (λ c. c.is_unique ≡ true)
+    of_test None t = absurd (false≢true t)
+    of_test (Some c) t = t
+
+pub unique_is_listed : (kind : ℕ) → IsUnique kind → Contains unique_kinds kind
+unique_is_listed kind unique =
+    let (c, found, is) = some_of (λ (c : LoadCommand). c.is_unique ≡ true) (load_command_of kind) unique in
+    among load_commands refl c found is
+  where
+    among : (lines : List LoadCommand) → list_all (λ c. not c.is_unique || list_any (λ k. k == c.cmd) unique_kinds) lines ≡ true → (c : LoadCommand)
+        → find (λ c. c.cmd == kind) lines ≡ Some c → c.is_unique ≡ true → Contains unique_kinds kind
+    among [] passes c found is = absurd (cc)
+    among (line ∷ lines) passes c found is =
+        let both = and_parts (not line.is_unique || list_any (λ k. k == line.cmd) unique_kinds)
+        (list_all (λ (c : LoadCommand). not c.is_unique || list_any (λ k. k == c.cmd) unique_kinds) lines) passes in
+        elim (cases_Bool (line.cmd == kind)) [
+          | inl here ↦
+              let same : Some line ≡ Some c = rw here at found in
+              let line_is : line ≡ c = cc in
+              let unique : line.is_unique ≡ true = ap (λ (l : LoadCommand). l.is_unique) line_is ∙ is in
+              let any : list_any (λ k. k == line.cmd) unique_kinds ≡ true = rw unique at both.0 in
+              let (k, x, less, at, e) = Any-from_list_any (λ k. k == line.cmd) unique_kinds any in
+              let x_is : x ≡ kind = eqb-true x line.cmd e ∙ eqb-true line.cmd kind here in
+              subst (Contains unique_kinds) x_is (k, less, at)
+          | inr other ↦ among lines both.1 c (rw other at found) is
+        ]
+
+pub kind_at_unique : (kind i : ℕ) → position (λ unique. unique == kind) unique_kinds ≡ Some i → IsUnique kind
+kind_at_unique kind i is = let (less, at) = kind_at kind i is in listed_is_unique kind (i, less, at)
+
+pub no_kind_at : (kind : ℕ) → position (λ unique. unique == kind) unique_kinds ≡ None → ¬ Contains unique_kinds kind
+no_kind_at kind none (i, less, at) = elim (cases_lt (position_or_len is unique_kinds) (length unique_kinds)) [
+  | inl found ↦ absurd (let some : cond true (Some (position_or_len is unique_kinds)) None ≡ None =
+      subst (λ b. cond b (Some (position_or_len is unique_kinds)) None ≡ None) (lt-ltb _ _ found) none in cc)
+  | inr past ↦ false≢true (sym (fails_before_first is unique_kinds i kind (omega arith)) ∙ eq-eqb _ kind at)
+]
+  where
+    is : ℕ → Bool
+    is unique = unique == kind
+
+pub place_at : (image commands : List ℕ) (places : List (Option ℕ)) (kind i : ℕ) → position (λ unique. unique == kind) unique_kinds ≡ Some i
+    → places ≡ map (λ unique. first_of_kind image unique commands) unique_kinds → get_or places i None ≡ first_of_kind image kind commands
+place_at image commands places kind i is first =
+    let (less, at) = kind_at kind i is in
+    ap (λ ps. get_or ps i None) first ∙ (get_or-map (λ unique. first_of_kind image unique commands) unique_kinds i kind None less ∙ ap (λ unique. first_of_kind image unique commands) at)
+
+pub note_place : (image commands : List ℕ) (places : List (Option ℕ)) (kind i p : ℕ) → position (λ unique. unique == kind) unique_kinds ≡ Some i → kind ≡ command_kind image p
+    → places ≡ map (λ unique. first_of_kind image unique commands) unique_kinds
+    → set places i (option_or (get_or places i None) (Some p)) ≡ map (λ unique. first_of_kind image unique (commands ++ p ∷ [])) unique_kinds
+note_place image commands places kind i p is kind_is first =
+    let (less, at) = kind_at kind i is in
+    let here = place_at image commands places kind i is first in
+    ap (λ ps. set ps i (option_or (get_or places i None) (Some p))) first
+    ∙ set_one (λ unique. first_of_kind image unique commands) (λ unique. first_of_kind image unique (commands ++ p ∷ [])) kind i (option_or (get_or places i None) (Some p)) unique_kinds
+    (distinct_by_test unique_kinds refl) less at others (first_more image kind p commands ∙ ap₂ (λ old new. option_or old new) (sym here) mine)
+  where
+    mine : cond (command_kind image p == kind) (Some p) None ≡ Some p
+    mine = rw (eq-eqb (command_kind image p) kind (sym kind_is)) refl
+
+    others : (k : ℕ) → ¬ (k ≡ kind) → first_of_kind image k (commands ++ p ∷ []) ≡ first_of_kind image k commands
+    others k other = first_other image k p commands (λ same. other (sym (kind_is ∙ same)))
+
+pub note_other : (image commands : List ℕ) (places : List (Option ℕ)) (kind p : ℕ) → position (λ unique. unique == kind) unique_kinds ≡ None → kind ≡ command_kind image p
+    → places ≡ map (λ unique. first_of_kind image unique commands) unique_kinds → places ≡ map (λ unique. first_of_kind image unique (commands ++ p ∷ [])) unique_kinds
+note_other image commands places kind p is kind_is first =
+    first ∙ sym (same_values (λ unique. first_of_kind image unique commands) (λ unique. first_of_kind image unique (commands ++ p ∷ [])) unique_kinds
+    (λ k has. first_other image k p commands (λ same. no_kind_at kind is (subst (Contains unique_kinds) (sym (kind_is ∙ same)) has))))
+
+pub unique_or_not : (kind : ℕ) → IsUnique kind ⊎ ¬ IsUnique kind
+unique_or_not kind = by_position (position (λ unique. unique == kind) unique_kinds) refl
+  where
+    by_position : (o : Option ℕ) → position (λ unique. unique == kind) unique_kinds ≡ o → IsUnique kind ⊎ ¬ IsUnique kind
+    by_position None is = inr (λ unique. no_kind_at kind is (unique_is_listed kind unique))
+    by_position (Some i) is = inl (kind_at_unique kind i is)

@@ -1,0 +1,124 @@
+-- What only proofs need.
+use Rattle.std.specs.Prelude.{◌≡◌, ℕ, zero, suc, ◌+◌, ◌*◌, ◌≤◌, ◌<◌, ◌==◌, List, [], ◌∷◌}
+use Rattle.std.specs.Prelude.{map, filter, flat_map}
+use Rattle.std.specs.Prelude.{length, All}
+use Rattle.macho_fields.specs.Command.{name_start}
+use Rattle.macho_fields.specs.Field.{HasZero}
+use Rattle.macho_fields.specs.Image.{command_kind, command_size, commands_end, IsGood, places_from}
+use Rattle.macho_fields.specs.LoadCommands.{structure_size, names_library}
+use Rattle.macho_fields.specs.Segment.{nsects}
+use Rattle.macho_fields.specs.declared.header.loader.TheConstants as loader
+use Rattle.macho_fields.specs.declared.header.nlist.TheConstants as nlist
+use Rattle.macho_fields.specs.declared.load_command.Structure.TheVariants.{DylibCommand}
+use Rattle.macho_fields.specs.declared.load_command.Structure.TheVariants.{BuildVersionCommand}
+use Rattle.macho_image.specs.Build.{build_at}
+use Rattle.macho_image.specs.Command.{CommandView, command_at}
+use Rattle.macho_image.specs.Library.{DylibView, dylib_at}
+use Rattle.macho_image.specs.Segment.{SegmentView, SectionView, segment_at, section_at, sections_with}
+use Rattle.macho_image.specs.Symbol.{symbol_at, indirect_at}
+use Rattle.macho_image.specs.declared.build.Build.{Build}
+use Rattle.macho_image.specs.declared.indirect.Indirect.{Indirect}
+use Rattle.macho_image.specs.declared.symbol.Symbol.{Symbol}
+
+-- The walk over the commands
+
+-- a command whose fields are those of its own bytes, which end where it ends
+pub record IsAlone (c : CommandView) : Type 0 where
+  pub cmd : c.cmd ≡ command_kind c.bytes 0
+  pub size : c.size ≡ command_size c.bytes 0
+  pub whole : c.size ≡ length c.bytes
+
+-- the commands that remain in a walk
+abbrev pub commands_left : List ℕ → ℕ → ℕ → List CommandView
+commands_left image place left = map (command_at image) (places_from image place left)
+
+-- there are `left` commands from the place on, inside the image
+pub record CanWalk (image : List ℕ) (place left : ℕ) : Type 0 where
+  pub good : All (IsGood image) (places_from image place left)
+  pub inside : commands_end image ≤ length image
+
+-- those of one kind
+abbrev pub left_of_kind : ℕ → List CommandView → List CommandView
+left_of_kind wanted commands = filter (λ c. c.cmd == wanted) commands
+
+-- Views: what remains in an iterator, and what its items need of the image
+
+-- the structure of a segment and its sections lie inside the image
+abbrev pub HoldsSegment : List ℕ → ℕ → Type 0
+HoldsSegment image segment =
+    segment + loader.SEGMENT_COMMAND_64_SIZE + loader.SECTION_64_SIZE * nsects image segment
+    ≤ length image
+
+-- the segments among the commands that remain
+abbrev pub segments_left : List ℕ → List CommandView → List SegmentView
+segments_left image commands =
+    map (λ c. segment_at image c.place) (left_of_kind loader.LC_SEGMENT_64 commands)
+
+-- they lie inside the image
+abbrev pub HoldSegments : List ℕ → List CommandView → Type 0
+HoldSegments image commands =
+    All (λ c. HoldsSegment image c.place) (left_of_kind loader.LC_SEGMENT_64 commands)
+
+-- the section and its segment lie inside the image
+pub record HoldsSection (image : List ℕ) (segment section : ℕ) : Type 0 where
+  pub held : HoldsSegment image segment
+  pub inside : section + loader.SECTION_64_SIZE ≤ length image
+
+-- `left` sections of a segment from a place on, one after another
+abbrev pub sections_from : List ℕ → ℕ → ℕ → ℕ → List SectionView
+sections_from image segment place zero = []
+sections_from image segment place (suc left) =
+    section_at image (segment, place)
+    ∷ sections_from image segment (place + loader.SECTION_64_SIZE) left
+
+-- they lie inside the image, and so does their segment, where there are any
+pub record HoldSections (image : List ℕ) (segment place left : ℕ) : Type 0 where
+  pub held : 0 < left → HoldsSegment image segment
+  pub inside : place + loader.SECTION_64_SIZE * left ≤ length image
+
+-- the sections of the segments that remain
+abbrev pub sections_among : List SegmentView → List SectionView
+sections_among segments =
+    flat_map (λ s. map (section_at s.image) (sections_with s.image s.place)) segments
+
+-- the libraries among the commands that remain
+abbrev pub libraries_left : List CommandView → List CommandView
+libraries_left commands = filter (λ c. names_library c.cmd) commands
+
+abbrev pub dylibs_left : List ℕ → List CommandView → List DylibView
+dylibs_left image commands = map (λ c. dylib_at image c.place) (libraries_left commands)
+
+-- a dylib_command lies inside the image, and so does the zero byte that ends its name
+pub record HoldsLibrary (image : List ℕ) (command : ℕ) : Type 0 where
+  pub whole : command + structure_size DylibCommand ≤ length image
+  pub ended : HasZero image (name_start image command) (length image)
+
+abbrev pub HoldLibraries : List ℕ → List CommandView → Type 0
+HoldLibraries image commands = All (λ c. HoldsLibrary image c.place) (libraries_left commands)
+
+-- the first `size` bytes of each command lie inside the image
+abbrev pub LieInside : List ℕ → ℕ → List CommandView → Type 0
+LieInside image size commands = All (λ c. c.place + size ≤ length image) commands
+
+-- the builds among the commands that remain
+abbrev pub builds_left : List ℕ → List CommandView → List Build
+builds_left image commands =
+    map (λ c. build_at image c.place) (left_of_kind loader.LC_BUILD_VERSION commands)
+
+abbrev pub HoldBuilds : List ℕ → List CommandView → Type 0
+HoldBuilds image commands =
+    LieInside image (structure_size BuildVersionCommand)
+    (left_of_kind loader.LC_BUILD_VERSION commands)
+
+-- the places of `left` items of a table, of which the first is at `place`
+abbrev pub items_from : ℕ → ℕ → ℕ → List ℕ
+items_from each place zero = []
+items_from each place (suc left) = place ∷ items_from each (place + each) left
+
+-- `left` symbols, or indirect entries, from a place on
+abbrev pub symbols_from : List ℕ → ℕ → ℕ → List Symbol
+symbols_from image place left = map (symbol_at image) (items_from nlist.NLIST_64_SIZE place left)
+
+abbrev pub indirects_from : List ℕ → ℕ → ℕ → List Indirect
+indirects_from image place left =
+    map (indirect_at image) (items_from loader.INDIRECT_ENTRY_SIZE place left)

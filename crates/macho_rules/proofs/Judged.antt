@@ -1,0 +1,65 @@
+-- A rule of an opened image that a search decides, where the rules before it are unbroken.
+use Rattle.std.proofs.Common.{◌≡◌, ℕ, ◌+◌, ◌≤◌, List, [], ◌∷◌, None, subst, sym, arith, inl, inr}
+use Rattle.macho_fields.specs.Image.{commands_of, AreCommands}
+use Rattle.macho_fields.specs.Rules.{BreaksCommands, BreaksImage}
+use Rattle.macho_fields.specs.First.{rank}
+use Rattle.macho_fields.specs.Layers.{KeptBelow, IsLeast}
+use Rattle.macho_fields.specs.declared.rule.Rule.{Rule}
+use Rattle.macho_fields.specs.declared.rule.Rule.TheVariants as rule
+use Rattle.macho_fields.specs.declared.rule.Break.{Break}
+use Rattle.macho_fields.proofs.Chains.{counted_off}
+use Rattle.macho_fields.proofs.Layers.{kept_more, least_at}
+use Rattle.macho_fields.proofs.Opened.{Keeps, keeps_rules}
+use Rattle.macho_fields.proofs.Ranks.{header_rule_rank}
+use Rattle.macho_image.specs.Opened.{IsOpened}
+use Rattle.macho_rules.specs.Check.{KeptBefore}
+use Rattle.macho_rules.proofs.Searches.{Searching, AreBreaks, search_found, search_ended}
+
+-- an opened image keeps the rules before those of segments, and only such an image does
+pub opened_keeps : (image : List ℕ) → IsOpened image → KeptBefore image rule.SegmentAddress
+unfolding IsOpened
+opened_keeps image opened = opened
+
+pub keeps_opened : (image : List ℕ) (r : Rule) → 19 ≤ rank r → KeptBefore image r → IsOpened image
+unfolding IsOpened
+keeps_opened image r late below other place early broken = below other place (omega (arith, late)) broken
+
+pub opened_facts : (image : List ℕ) → IsOpened image → Keeps image
+opened_facts image opened = keeps_rules image None (opened_keeps image opened)
+
+-- and it has its commands
+pub opened_commands : (image : List ℕ) → IsOpened image → AreCommands image (commands_of image)
+opened_commands image opened =
+    let (commands, are) = (opened_facts image opened).commands in
+    subst (AreCommands image) (counted_off image commands are) are
+
+-- a rule that is broken past the walk is broken by the commands
+pub by_commands : (image : List ℕ) (r : Rule) (place : ℕ) → 19 ≤ rank r → BreaksImage image None r place → BreaksCommands image (commands_of image) r place
+by_commands image r place late (inl header) = let early = header_rule_rank image None r place header in absurd (omega (arith, late))
+by_commands image r place late (inr (commands, are, broken)) = subst (λ cs. BreaksCommands image cs r place) (counted_off image commands are) broken
+
+module _ (image : List ℕ) (r : Rule) (late : 19 ≤ rank r) (below : KeptBefore image r) where
+  of_commands : (place : ℕ) → BreaksCommands image (commands_of image) r place → BreaksImage image None r place
+  of_commands place broken = inr (commands_of image, opened_commands image (keeps_opened image r late below), broken)
+
+  -- a least break of the commands is the first of all
+  pub judged_broken : (b : Break) (place : ℕ) → b.rule ≡ r → b.place ≡ place → BreaksCommands image (commands_of image) r place
+      → ((p : ℕ) → BreaksCommands image (commands_of image) r p → place ≤ p) → IsLeast (BreaksImage image None) b
+  judged_broken b place named at here least =
+      least_at (BreaksImage image None) r b below
+      (named, subst (BreaksImage image None r) (sym at) (of_commands place here), λ p broken. let low = least p (by_commands image r p late broken) in omega (arith, at, low))
+
+  pub judged_kept : ((p : ℕ) → ¬ BreaksCommands image (commands_of image) r p) → KeptBelow (BreaksImage image None) (rank r + 1)
+  judged_kept none = kept_more (BreaksImage image None) r below (λ p broken. none p (by_commands image r p late broken))
+
+  module _ {X : Type 0} (place : X → ℕ) (P : X → Type 0) (all : List X) (breaking : AreBreaks (BreaksCommands image (commands_of image) r) place P all) (left : List X)
+      (search : Searching place P all left) where
+    -- the first item that breaks the rule
+    pub judged_found : (x : X) (rest : List X) → left ≡ x ∷ rest → P x → (b : Break) → b.rule ≡ r → b.place ≡ place x → IsLeast (BreaksImage image None) b
+    judged_found x rest is here b named at =
+        let (broken, least) = search_found (BreaksCommands image (commands_of image) r) place P all left rest x is breaking search here in
+        judged_broken b (place x) named at broken least
+
+    -- where no item is left, the rule is kept
+    pub judged_ended : left ≡ [] → KeptBelow (BreaksImage image None) (rank r + 1)
+    judged_ended is = judged_kept (search_ended (BreaksCommands image (commands_of image) r) place P all left is breaking search)
