@@ -1,4 +1,2 @@
-pub mod Stream
-pub mod Hex
 pub mod Text
-pub mod Run
+pub mod Status

@@ -1,23 +1,10 @@
--- The lines of the program. Each ends with one line feed.
-use Rattle.std.specs.Prelude.{ℕ, List, [], ◌∷◌, codes}
-use Rattle.macho_fields.specs.RuleNames.{name_of}
-use Rattle.macho_fields.specs.declared.rule.Break.{Break}
-use Rattle.macho_check.specs.declared.run.RunFault.{RunFault}
-use Rattle.macho_check.specs.declared.run.RunFault.TheVariants as fault
+-- The lines of faults, which go to standard error. Each ends with one line feed.
+use Rattle.std.specs.Prelude.{ℕ, List, codes}
+use Rattle.macho_report.specs.declared.outcome.RunFault.{RunFault}
+use Rattle.macho_report.specs.declared.outcome.RunFault.TheVariants as fault
 use Rattle.macho_check.specs.declared.program.ProgramFault.{ProgramFault}
 use Rattle.macho_check.specs.declared.program.ProgramFault.TheVariants as program
-use Rattle.macho_check.specs.Stream.{joined}
-use Rattle.macho_check.specs.Hex.{prefixed_hex}
 
-abbrev pub accepted_text : List ℕ
-accepted_text = codes "accepted\n"
-
--- `refused: `, the rule's name, ` at ` and the place
-abbrev pub break_text : Break → List ℕ
-break_text b =
-    joined (codes "refused: " ∷ name_of b.rule ∷ codes " at " ∷ prefixed_hex b.place ∷ codes "\n" ∷ [])
-
--- the lines of faults, which go to standard error
 abbrev pub run_fault_line : RunFault → List ℕ
 run_fault_line fault.Read = codes "macho-check: read failed\n"
 run_fault_line fault.TooLong = codes "macho-check: more than 4294967296 bytes\n"

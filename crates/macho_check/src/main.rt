@@ -4,21 +4,14 @@
 
 #[cfg(test)]
 mod doubles;
-mod from_read;
-mod from_write;
 #[cfg(test)]
 mod notation;
 mod program;
-mod run;
 mod status;
-mod stream;
 #[cfg(test)]
 mod tests;
-mod text;
-mod transfer;
 
-use from_read::FromRead;
-use from_write::FromWrite;
+use macho_report::{FromRead, FromWrite};
 use program::run_program;
 use status::exit_code;
 use std::env;

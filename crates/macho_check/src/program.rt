@@ -3,19 +3,26 @@
 
 ghost use Rattle.std.specs.Prelude.{◌≡◌, ◌^◌, ◌≤◌, ◌<◌, ◌⊎◌, ◌↔◌, length, IfErr, IfOk, IfSome, OnOk, IsErrOf, IsSomeAnd, IsTrue, Err, None};
 ghost use Rattle.std.specs.Io.KnownBytes.{IsAtEnd};
-ghost use Rattle.macho_check.specs.Stream.{TookAtMost, WritesUnlessFailed};
-ghost use Rattle.macho_check.specs.Text.{fault_line};
-ghost use Rattle.macho_check.specs.Run.{WroteVerdict, WroteVerdictPrefix};
+ghost use Rattle.macho_report.specs.Stream.{TookAtMost, WritesUnlessFailed};
+ghost use Rattle.macho_check.specs.Text.{run_fault_line, fault_line};
+ghost use Rattle.macho_report.specs.Run.{WroteVerdict, WroteVerdictPrefix};
 ghost use Rattle.macho_check.specs.declared.program.ProgramFault.TheVariants as program;
-ghost use Rattle.macho_check.specs.declared.run.RunFault.TheVariants as fault;
+ghost use Rattle.macho_report.specs.declared.outcome.RunFault.TheVariants as fault;
 
-use crate::run::{Outcome, RunFault, run};
-use crate::stream::{Flush, Input, Output};
-use crate::transfer::write_all;
+use macho_report::{Flush, Input, Outcome, Output, RunFault, run, write_all};
 use std::alloc::Global;
 use thiserror::Error;
 
+// The lines of the faults, each with its line feed.
 const USAGE: &str = "usage: macho-check check FILE | where FILE SLICE ADDRESS\n";
+
+const READ_FAILED: &str = "macho-check: read failed\n";
+
+const TOO_LONG: &str = "macho-check: more than 4294967296 bytes\n";
+
+const WRITE_FAILED: &str = "macho-check: write failed\n";
+
+const OUT_OF_MEMORY: &str = "macho-check: out of memory\n";
 
 /// Why the program reports no verdict, or not all of it. The texts are its lines, without the line
 /// feed.
@@ -25,7 +32,7 @@ pub enum ProgramFault {
     #[error("{line}", line = USAGE.trim_end())]
     Usage,
     /// The run failed, or the words could not be had, which is a failed read.
-    #[error(transparent)]
+    #[error("{line}", line = run_fault_line(*.0).trim_end())]
     Run(RunFault),
 }
 
@@ -36,8 +43,20 @@ impl ProgramFault {
     {
         match self {
             ProgramFault::Usage => USAGE,
-            ProgramFault::Run(fault) => fault.line(),
+            ProgramFault::Run(fault) => run_fault_line(fault),
         }
+    }
+}
+
+// The line of a fault of the run.
+fn run_fault_line(fault: RunFault) -> &'static str
+    ensures { result.now ≡ run_fault_line fault }
+{
+    match fault {
+        RunFault::Read => READ_FAILED,
+        RunFault::TooLong => TOO_LONG,
+        RunFault::Write => WRITE_FAILED,
+        RunFault::Memory => OUT_OF_MEMORY,
     }
 }
 

@@ -2,10 +2,10 @@
 
 ghost use Rattle.std.specs.Prelude.{◌≡◌};
 ghost use Rattle.std.specs.Process.{exit_status};
-ghost use Rattle.macho_check.specs.Run.{status_of, exit_of};
+ghost use Rattle.macho_check.specs.Status.{status_of, exit_of};
 
 use crate::program::ProgramFault;
-use crate::run::{Outcome, RunFault};
+use macho_report::{Outcome, RunFault};
 use std::process::ExitCode;
 
 /// The file is accepted.

@@ -10,10 +10,9 @@ mod real;
 mod streams;
 mod views;
 
-use crate::doubles::{SlowReader, SlowWriter};
 use crate::notation::{append, written};
-use crate::run::run;
 use crate::status::check_status;
+use macho_report::{FromRead, FromWrite, run};
 use std::fmt::Debug;
 use std::process::Abort;
 use std::test::Fail;
@@ -23,12 +22,17 @@ fn same<T: PartialEq + Debug>(rt: &impl Abort, given: &T, wanted: &T) {
     assert_eq!(rt; *given, *wanted);
 }
 
-/// Runs on the file, byte by byte, and compares the line that is written, and the status.
+/// Runs on the file, and compares the line that is written, and the status.
 fn check_verdict(rt: &(impl Abort + AllocGlobal), file: &[u8], line: &str) {
-    let mut reader = SlowReader::new(file);
-    let mut writer = SlowWriter::new(Vec::new(rt.alloc()), 1000);
-    let ended = run(rt.alloc(), 1 << 32, &mut reader, &mut writer);
-    let text = str::from_utf8(writer.bytes.as_slice()).unwrap_or("");
+    let (mut input, mut written) = (file, Vec::new(rt.alloc()));
+    let mut writer = FromWrite::new(&mut written);
+    let ended = run(
+        rt.alloc(),
+        1 << 32,
+        &mut FromRead::new(&mut input),
+        &mut writer,
+    );
+    let text = str::from_utf8(written.as_slice()).unwrap_or("");
     same(rt, &text.strip_suffix('\n'), &Some(line));
     same(rt, &check_status(&ended), &u8::from(line != "accepted"));
 }

@@ -1,77 +1,16 @@
 //! Streams: how many reads, writes and flushes there are, which bytes come out, and that calls succeed.
 
 use super::same;
-use crate::doubles::{
-    CountingReader, CountingWriter, EndlessReader, Fault, SlowReader, SlowWriter,
-};
-use crate::from_read::FromRead;
-use crate::from_write::FromWrite;
+use crate::doubles::{CountingReader, CountingWriter, Fault};
 use crate::program::{ProgramFault, run_program};
-use crate::run::{Outcome, RunFault, run};
 use crate::status::{check_status, exit_code};
-use crate::stream::{Failed, Flush, Input, Output};
-use crate::text::{write_break, write_hex};
-use crate::transfer::{ReadFault, WriteFault, read_all, write_all};
-use macho_fields::{Break, Rule};
+use macho_report::{
+    Failed, Flush, FromRead, FromWrite, Input, Outcome, Output, RunFault, run, write_all,
+};
 use std::process::{Abort, ExitCode};
 use std::test::Fail;
 
 const TEXT: &[u8; 32] = b"abcdefghijklmnopqrstuvwxyz012345";
-
-#[test]
-fn reads_one_byte_at_a_time(rt: HostRuntime) {
-    let mut reader = SlowReader::new(TEXT);
-    let read = read_all(rt.alloc(), 32, &mut reader).expect(&rt, "32 bytes at limit 32");
-    same(&rt, &read.as_slice(), &TEXT.as_slice());
-    same(&rt, &reader.reads, &33);
-    same(&rt, &reader.failed(), &false);
-}
-
-#[test]
-fn stops_at_the_limit(rt: HostRuntime) {
-    for (limit, text) in [
-        (31, TEXT.as_slice()),
-        (0, b"a".as_slice()),
-        (2, b"abc".as_slice()),
-    ] {
-        let mut reader = SlowReader::new(text);
-        let fault = read_all(rt.alloc(), limit, &mut reader).err();
-        same(&rt, &(limit, fault), &(limit, Some(ReadFault::TooLong)));
-        same(&rt, &reader.reads, &(limit + 1));
-    }
-    let mut reader = EndlessReader { reads: 0 };
-    let fault = read_all(rt.alloc(), 64, &mut reader).err();
-    same(&rt, &fault, &Some(ReadFault::TooLong));
-    same(&rt, &reader.reads, &65);
-    same(&rt, &reader.failed(), &false);
-}
-
-#[test]
-fn reads_within_the_limit(rt: HostRuntime) {
-    for (limit, text) in [
-        (0, b"".as_slice()),
-        (u64::MAX, TEXT.as_slice()),
-        (33, TEXT.as_slice()),
-    ] {
-        let mut reader = SlowReader::new(text);
-        let read = read_all(rt.alloc(), limit, &mut reader).expect(&rt, "within the limit");
-        same(&rt, &read.as_slice(), &text);
-    }
-}
-
-#[test]
-fn answers_a_failed_read(rt: HostRuntime) {
-    for fails_at in [1, 2, 33] {
-        let mut reader = SlowReader::new(TEXT);
-        reader.fails_at = Some(fails_at);
-        let fault = read_all(rt.alloc(), 32, &mut reader).err();
-        same(&rt, &(fails_at, fault), &(fails_at, Some(ReadFault::Read)));
-        same(&rt, &reader.failed(), &true);
-        same(&rt, &reader.reads, &fails_at);
-        let again = read_all(rt.alloc(), 32, &mut reader).err();
-        same(&rt, &again, &Some(ReadFault::Read));
-    }
-}
 
 #[test]
 fn reads_a_reader_of_std(rt: HostRuntime) -> Result<(), Fail> {
@@ -81,9 +20,15 @@ fn reads_a_reader_of_std(rt: HostRuntime) -> Result<(), Fail> {
     }
     let mut counted = CountingReader::new(long.as_slice(), 0);
     let mut reader = FromRead::new(&mut counted);
-    let read = read_all(rt.alloc(), 1 << 32, &mut reader).expect(&rt, "within the limit");
+    let mut text = Vec::new(rt.alloc());
+    let ended = run(
+        rt.alloc(),
+        1 << 32,
+        &mut reader,
+        &mut FromWrite::new(&mut text),
+    );
+    same(&rt, &ended, &Ok(Outcome::Refused));
     same(&rt, &reader.failed(), &false);
-    same(&rt, &read.as_slice(), &long.as_slice());
     // 16 pieces of 65,536 bytes, one of a single byte, and the end.
     same(&rt, &counted.reads, &18);
     Ok(())
@@ -120,25 +65,6 @@ fn no_read_follows_an_error_of_std(rt: HostRuntime) {
         }
         same(&rt, &counted.reads, &fails_at);
     }
-}
-
-#[test]
-fn writes_the_whole_text(rt: HostRuntime) {
-    let mut writer = SlowWriter::new(Vec::new(rt.alloc()), 100);
-    same(&rt, &write_all(TEXT, &mut writer).is_ok(), &true);
-    same(&rt, &write_all(b"", &mut writer).is_ok(), &true);
-    same(&rt, &writer.failed(), &false);
-    same(&rt, &writer.bytes.as_slice(), &TEXT.as_slice());
-}
-
-#[test]
-fn stops_at_a_failed_write(rt: HostRuntime) {
-    let mut writer = SlowWriter::new(Vec::new(rt.alloc()), 4);
-    same(&rt, &write_all(b"abcdefgh", &mut writer).is_err(), &true);
-    same(&rt, &writer.failed(), &true);
-    same(&rt, &write_all(b"i", &mut writer).is_err(), &true);
-    same(&rt, &write_all(b"", &mut writer).is_ok(), &true);
-    same(&rt, &writer.bytes.as_slice(), &b"abcd".as_slice());
 }
 
 #[test]
@@ -262,7 +188,7 @@ fn faults_of_standard_error_are_ignored(rt: HostRuntime) {
     let ended = run_program(
         rt.alloc(),
         None,
-        &mut SlowReader::new(BARE_HEADER),
+        &mut FromRead::new(&mut BARE_HEADER.as_slice()),
         &mut FromWrite::new(&mut writer),
         &mut FromWrite::new(&mut errors),
     );
@@ -278,7 +204,8 @@ fn a_refusal_that_is_cut_off(rt: HostRuntime) {
     for fails_at in 0..8u64 {
         let mut writer = CountingWriter::new(Vec::new(rt.alloc()), fails_at, Fault::Error);
         let mut output = FromWrite::new(&mut writer);
-        let ended = run(rt.alloc(), 1, &mut SlowReader::new(b"a"), &mut output);
+        let mut input = b"a".as_slice();
+        let ended = run(rt.alloc(), 1, &mut FromRead::new(&mut input), &mut output);
         let calls = writer.writes.saturating_add(writer.flushes);
         if (1..7).contains(&fails_at) {
             same(&rt, &ended, &Err(RunFault::Write));
@@ -293,69 +220,6 @@ fn a_refusal_that_is_cut_off(rt: HostRuntime) {
 }
 
 #[test]
-fn writes_numbers(rt: HostRuntime) {
-    let cases = [
-        (0, b"0x0".as_slice()),
-        (9, b"0x9".as_slice()),
-        (0x1e8, b"0x1e8".as_slice()),
-        (0x10, b"0x10".as_slice()),
-        (u64::MAX, b"0xffffffffffffffff".as_slice()),
-    ];
-    for (number, text) in cases {
-        let mut writer = SlowWriter::new(Vec::new(rt.alloc()), 100);
-        same(&rt, &write_hex(number, &mut writer).is_ok(), &true);
-        same(&rt, &writer.bytes.as_slice(), &text);
-    }
-}
-
-#[test]
-fn writes_a_break(rt: HostRuntime) {
-    let mut bytes = Vec::new(rt.alloc());
-    let mut writer = FromWrite::new(&mut bytes);
-    let broken = Break {
-        rule: Rule::SegmentFile,
-        place: 0x1e8,
-    };
-    same(&rt, &write_break(&broken, &mut writer).is_ok(), &true);
-    same(
-        &rt,
-        &bytes.as_slice(),
-        &b"refused: segment-file at 0x1e8\n".as_slice(),
-    );
-}
-
-#[test]
-fn failing_streams(rt: HostRuntime) {
-    for (limit, fails_at, room, outcome, status, reads, text) in [
-        (32, None, 1000, Ok(Outcome::Accepted), 0, 33, "accepted\n"),
-        (31, None, 1000, Err(RunFault::TooLong), 3, 32, ""),
-        (32, Some(2), 1000, Err(RunFault::Read), 3, 2, ""),
-        (32, None, 4, Err(RunFault::Write), 3, 33, "acce"),
-    ] {
-        let mut reader = SlowReader::new(BARE_HEADER);
-        reader.fails_at = fails_at;
-        let mut writer = SlowWriter::new(Vec::new(rt.alloc()), room);
-        let ended = run(rt.alloc(), limit, &mut reader, &mut writer);
-        same(
-            &rt,
-            &(ended, check_status(&ended), reader.reads),
-            &(outcome, status, reads),
-        );
-        same(&rt, &writer.bytes.as_slice(), &text.as_bytes());
-    }
-}
-
-#[test]
-fn endless_input(rt: HostRuntime) {
-    let mut reader = EndlessReader { reads: 0 };
-    let mut writer = SlowWriter::new(Vec::new(rt.alloc()), 1000);
-    let ended = run(rt.alloc(), 64, &mut reader, &mut writer);
-    same(&rt, &ended, &Err(RunFault::TooLong));
-    same(&rt, &reader.reads, &65);
-    same(&rt, &writer.bytes.is_empty(), &true);
-}
-
-#[test]
 fn lines_of_faults(rt: HostRuntime) -> Result<(), Fail> {
     for (fault, line) in [
         (RunFault::Read, "macho-check: read failed"),
@@ -363,7 +227,7 @@ fn lines_of_faults(rt: HostRuntime) -> Result<(), Fail> {
         (RunFault::Write, "macho-check: write failed"),
         (RunFault::Memory, "macho-check: out of memory"),
     ] {
-        let text = fault.to_string(rt.alloc())?;
+        let text = ProgramFault::Run(fault).to_string(rt.alloc())?;
         same(&rt, &text.as_str(), &line);
     }
     same(&rt, &check_status(&Err(RunFault::Memory)), &4);

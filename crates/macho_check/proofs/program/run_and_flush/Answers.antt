@@ -1,9 +1,18 @@
-use Rattle.std.proofs.Common.{ℕ, List, Option, None, Some}
+use Rattle.std.proofs.Common.{ℕ, List, Option, None, Some, length}
+use Rattle.std.proofs.Math.Seq.{take-length}
+use Rattle.std.proofs.KnownBytes.{Appends-kept}
 use Rattle.std.specs.Io.KnownBytes.{Keeps}
-use Rattle.macho_check.specs.Run.{WroteVerdict, WroteVerdictPrefix}
-use Rattle.macho_check.specs.declared.run.Outcome.{Outcome}
-use Rattle.macho_check.proofs.StreamLemmas.{wrote_then_kept}
+use Rattle.macho_report.specs.Stream.{Wrote, WrotePrefix}
+use Rattle.macho_report.specs.Run.{WroteVerdict, WroteVerdictPrefix}
+use Rattle.macho_report.specs.declared.outcome.Outcome.{Outcome}
 use Rattle.macho_check.proofs.program.run_and_flush.Goals as goal
+
+-- a whole text, and then a fault that wrote nothing
+wrote_then_kept : (a b c : Option (List ℕ)) (text : List ℕ) → Wrote a b text → Keeps b c → WrotePrefix a c text
+wrote_then_kept a b c text wrote kept = record {
+  count = length text;
+  appended = rw (take-length text) (Appends-kept a b c text wrote.appended kept);
+}
 
 -- a whole verdict, and then a fault that wrote nothing
 verdict_then_kept : (input a b c : Option (List ℕ)) (limit : ℕ) (outcome : Outcome) → WroteVerdict input limit outcome a b → Keeps b c → WroteVerdictPrefix input limit a c

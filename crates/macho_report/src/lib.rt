@@ -1,0 +1,22 @@
+#![tactic(auto)]
+//! The report of a file as text: the layout of an accepted file, or the line of the rule that it
+//! breaks; and the streams that it is read from and written to.
+
+#[cfg(test)]
+mod doubles;
+pub mod from_read;
+pub mod from_write;
+mod line;
+mod number;
+pub mod outcome;
+pub mod stream;
+#[cfg(test)]
+mod tests;
+pub mod transfer;
+
+pub use from_read::FromRead;
+pub use from_write::FromWrite;
+pub use line::write_break;
+pub use outcome::{Outcome, RunFault, run};
+pub use stream::{Failed, Flush, Input, Output};
+pub use transfer::{WriteFault, write_all};

@@ -1,0 +1,154 @@
+//! What no clause says: how many reads there are, and that calls succeed.
+
+use crate::doubles::{EndlessReader, SlowReader, SlowWriter};
+use crate::line::write_break;
+use crate::number::write_hex;
+use crate::outcome::{Outcome, RunFault, run};
+use crate::stream::{Input, Output};
+use crate::transfer::{ReadFault, read_all, write_all};
+use macho_fields::{Break, Rule};
+use std::fmt::Debug;
+use std::process::Abort;
+
+/// Compares what is given with what is wanted. A call costs less proof than `assert_eq!`.
+fn same<T: PartialEq + Debug>(rt: &impl Abort, given: &T, wanted: &T) {
+    assert_eq!(rt; *given, *wanted);
+}
+
+const TEXT: &[u8; 32] = b"abcdefghijklmnopqrstuvwxyz012345";
+
+#[test]
+fn reads_one_byte_at_a_time(rt: HostRuntime) {
+    let mut reader = SlowReader::new(TEXT);
+    let read = read_all(rt.alloc(), 32, &mut reader).expect(&rt, "32 bytes at limit 32");
+    same(&rt, &read.as_slice(), &TEXT.as_slice());
+    same(&rt, &reader.reads, &33);
+    same(&rt, &reader.failed(), &false);
+}
+
+#[test]
+fn stops_at_the_limit(rt: HostRuntime) {
+    for (limit, text) in [
+        (31, TEXT.as_slice()),
+        (0, b"a".as_slice()),
+        (2, b"abc".as_slice()),
+    ] {
+        let mut reader = SlowReader::new(text);
+        let fault = read_all(rt.alloc(), limit, &mut reader).err();
+        same(&rt, &(limit, fault), &(limit, Some(ReadFault::TooLong)));
+        same(&rt, &reader.reads, &(limit + 1));
+    }
+    let mut reader = EndlessReader { reads: 0 };
+    let fault = read_all(rt.alloc(), 64, &mut reader).err();
+    same(&rt, &fault, &Some(ReadFault::TooLong));
+    same(&rt, &reader.reads, &65);
+    same(&rt, &reader.failed(), &false);
+}
+
+#[test]
+fn reads_within_the_limit(rt: HostRuntime) {
+    for (limit, text) in [
+        (0, b"".as_slice()),
+        (u64::MAX, TEXT.as_slice()),
+        (33, TEXT.as_slice()),
+    ] {
+        let mut reader = SlowReader::new(text);
+        let read = read_all(rt.alloc(), limit, &mut reader).expect(&rt, "within the limit");
+        same(&rt, &read.as_slice(), &text);
+    }
+}
+
+#[test]
+fn answers_a_failed_read(rt: HostRuntime) {
+    for fails_at in [1, 2, 33] {
+        let mut reader = SlowReader::new(TEXT);
+        reader.fails_at = Some(fails_at);
+        let fault = read_all(rt.alloc(), 32, &mut reader).err();
+        same(&rt, &(fails_at, fault), &(fails_at, Some(ReadFault::Read)));
+        same(&rt, &reader.failed(), &true);
+        same(&rt, &reader.reads, &fails_at);
+        let again = read_all(rt.alloc(), 32, &mut reader).err();
+        same(&rt, &again, &Some(ReadFault::Read));
+    }
+}
+
+#[test]
+fn writes_the_whole_text(rt: HostRuntime) {
+    let mut writer = SlowWriter::new(Vec::new(rt.alloc()), 100);
+    same(&rt, &write_all(TEXT, &mut writer).is_ok(), &true);
+    same(&rt, &write_all(b"", &mut writer).is_ok(), &true);
+    same(&rt, &writer.failed(), &false);
+    same(&rt, &writer.bytes.as_slice(), &TEXT.as_slice());
+}
+
+#[test]
+fn stops_at_a_failed_write(rt: HostRuntime) {
+    let mut writer = SlowWriter::new(Vec::new(rt.alloc()), 4);
+    same(&rt, &write_all(b"abcdefgh", &mut writer).is_err(), &true);
+    same(&rt, &writer.failed(), &true);
+    same(&rt, &write_all(b"i", &mut writer).is_err(), &true);
+    same(&rt, &write_all(b"", &mut writer).is_ok(), &true);
+    same(&rt, &writer.bytes.as_slice(), &b"abcd".as_slice());
+}
+
+#[test]
+fn writes_numbers(rt: HostRuntime) {
+    let cases = [
+        (0, b"0x0".as_slice()),
+        (9, b"0x9".as_slice()),
+        (0x1e8, b"0x1e8".as_slice()),
+        (0x10, b"0x10".as_slice()),
+        (u64::MAX, b"0xffffffffffffffff".as_slice()),
+    ];
+    for (number, text) in cases {
+        let mut writer = SlowWriter::new(Vec::new(rt.alloc()), 100);
+        same(&rt, &write_hex(number, &mut writer).is_ok(), &true);
+        same(&rt, &writer.bytes.as_slice(), &text);
+    }
+}
+
+/// A header alone, which keeps every rule.
+const BARE_HEADER: &[u8; 32] =
+    b"\xcf\xfa\xed\xfe\x07\0\0\x01\x03\0\0\0\x02\0\0\0\0\0\0\0\0\0\0\0\0\0\0\0\0\0\0\0";
+
+#[test]
+fn writes_a_break(rt: HostRuntime) {
+    let mut writer = SlowWriter::new(Vec::new(rt.alloc()), 100);
+    let broken = Break {
+        rule: Rule::SegmentFile,
+        place: 0x1e8,
+    };
+    same(&rt, &write_break(&broken, &mut writer).is_ok(), &true);
+    same(
+        &rt,
+        &writer.bytes.as_slice(),
+        &b"refused: segment-file at 0x1e8\n".as_slice(),
+    );
+}
+
+#[test]
+fn failing_streams(rt: HostRuntime) {
+    for (limit, fails_at, room, outcome, reads, text) in [
+        (32, None, 1000, Ok(Outcome::Accepted), 33, "accepted\n"),
+        (31, None, 1000, Err(RunFault::TooLong), 32, ""),
+        (32, Some(2), 1000, Err(RunFault::Read), 2, ""),
+        (32, None, 4, Err(RunFault::Write), 33, "acce"),
+    ] {
+        let mut reader = SlowReader::new(BARE_HEADER);
+        reader.fails_at = fails_at;
+        let mut writer = SlowWriter::new(Vec::new(rt.alloc()), room);
+        let ended = run(rt.alloc(), limit, &mut reader, &mut writer);
+        same(&rt, &(ended, reader.reads), &(outcome, reads));
+        same(&rt, &writer.bytes.as_slice(), &text.as_bytes());
+    }
+}
+
+#[test]
+fn endless_input(rt: HostRuntime) {
+    let mut reader = EndlessReader { reads: 0 };
+    let mut writer = SlowWriter::new(Vec::new(rt.alloc()), 1000);
+    let ended = run(rt.alloc(), 64, &mut reader, &mut writer);
+    same(&rt, &ended, &Err(RunFault::TooLong));
+    same(&rt, &reader.reads, &65);
+    same(&rt, &writer.bytes.is_empty(), &true);
+}
