@@ -1,9 +1,16 @@
-use Rattle.std.proofs.Common.{refl}
+use Rattle.std.proofs.Common.{Some, ◌∙◌, ap, sym, refl}
+use Rattle.std.specs.Option.{option_map}
 use Rattle.macho_fields.specs.declared.header.loader.TheConstants as loader
 use Rattle.macho_fields.specs.declared.load_command.Structure.TheVariants.{DysymtabCommand}
+use Rattle.macho_image.specs.Symbol.{dysymtab_at}
 use Rattle.macho_image.proofs.Kept.{first_inside}
 use Rattle.macho_image.proofs.image.Image.dysymtab.Goals as goal
 
 pub dysymtab_from-requires : goal.dysymtab_from-requires
 dysymtab_from-requires c =
     first_inside c.args.self.now _ loader.LC_DYSYMTAB c.in_ok-place.place DysymtabCommand c.place_of.result refl c.bytes.ensures.opened c.bytes.ensures.bytes c.place_of.ensures c.in_ok-place.was
+
+pub returns : goal.returns
+returns c =
+    ap Some (c.dysymtab_from.ensures ∙ ap (λ image. dysymtab_at image c.in_ok-place.place) c.bytes.ensures.bytes)
+    ∙ ap (option_map (dysymtab_at c.args.self.now)) (sym c.in_ok-place.was ∙ c.place_of.ensures)
