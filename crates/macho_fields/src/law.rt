@@ -30,62 +30,46 @@ pub fn commands_are_one(image: &[u8], commands: &[u64], others: &[u64])
     requires commands { AreCommands image.now commands.now }
     requires others { AreCommands image.now others.now }
     ensures { commands.now ≡ others.now }
-{
-    let _image = image;
-}
+{}
 
 /// The list of commands of an image is counted off by their sizes.
 pub fn commands_are_counted_off(image: &[u8], commands: &[u64])
     requires { AreCommands image.now commands.now }
     ensures { commands.now ≡ commands_of image.now }
-{
-    let _counted_off = commands;
-}
+{}
 
 /// An image whose walk does not break has its commands.
 pub fn unbroken_walk_has_commands(image: &[u8])
     requires { (place : ℕ) → ¬ BreaksImage image.now None Rule.CommandWalk place }
     ensures { AreCommands image.now (commands_of image.now) }
-{
-    let _walked = image;
-}
+{}
 
 /// The places of the commands of an image rise.
 pub fn command_places_rise(image: &[u8], commands: &[u64])
     requires { AreCommands image.now commands.now }
     ensures { IsStrictlyIncreasing commands.now }
-{
-    let _commands = commands;
-}
+{}
 
 /// A file has one first broken rule at most.
 pub fn first_is_one(file: &[u8], first: Break, other: Break)
     requires first { IsFirstBroken file.now first }
     requires other { IsFirstBroken file.now other }
     ensures { first ≡ other }
-{
-    let _first = first;
-}
+{}
 
 /// The place of the first broken rule is at most the length of the file.
 pub fn first_place_is_inside(file: &[u8], first: Break)
     requires { IsFirstBroken file.now first }
     ensures { first.place ≤ length file.now }
-{
-    let _first_in_file = first;
-}
+{}
 
 /// No rule is broken exactly where there is no first broken rule.
 pub fn unbroken_is_without_first(file: &[u8])
     ensures { IsUnbroken file.now ↔ ¬ ((first : Break) × IsFirstBroken file.now first) }
-{
-    let _unbroken = file;
-}
+{}
 
 /// A file that breaks no rule is sound.
 pub fn unbroken_is_sound(file: &[u8])
     requires { IsUnbroken file.now }
     ensures { IsSound file.now }
-{
-    let _file = file;
-}
+{}
