@@ -108,4 +108,6 @@ pub record AreRelocConstants : Type 0 where
 
 -- mach/vm_prot.h
 pub record AreVmProtConstants : Type 0 where
+  pub VM_PROT_READ : vm_prot.VM_PROT_READ ≡ 0x01
+  pub VM_PROT_WRITE : vm_prot.VM_PROT_WRITE ≡ 0x02
   pub VM_PROT_EXECUTE : vm_prot.VM_PROT_EXECUTE ≡ 0x04

@@ -51,7 +51,7 @@ pub all_seen : {B : Type 0} (g : ℕ → B) (image : List ℕ) (all : List Comma
     → map (λ c. g c.place) (left_of_kind kind all) ≡ map g (of_kind image kind (commands_of image))
 all_seen g image all kind is = ap (map (λ c. g c.place)) (all_kept image all kind is) ∙ map-places g image (of_kind image kind (commands_of image))
 
-got_first : (xs : List ℕ) (x : ℕ) → slice_get xs 0 ≡ Some x → Contains xs x
+pub got_first : (xs : List ℕ) (x : ℕ) → slice_get xs 0 ≡ Some x → Contains xs x
 got_first [] x is = absurd (cc)
 got_first (y ∷ ys) x is = (0, omega arith, same_Some y x is)
 

@@ -1,5 +1,5 @@
 -- The libraries of an opened image.
-use Rattle.std.proofs.Common.{◌≡◌, ℕ, ◌+◌, ◌≤◌, List, [], ◌∷◌, length, map, Bool, true, All, Contains, refl, sym, ap, ◌∙◌, subst, arith, slice_index_or}
+use Rattle.std.proofs.Common.{◌≡◌, ℕ, ◌+◌, ◌≤◌, List, [], ◌∷◌, length, map, Bool, true, All, Contains, Option, Some, refl, sym, ap, ◌∙◌, subst, arith, slice_index_or}
 use Rattle.std.proofs.lemmas.List.Elements.{All-map, All-contains_itself, filter_passes, All-filter}
 use Rattle.macho_fields.specs.Field.{HasZero}
 use Rattle.macho_fields.specs.Image.{command_kind, command_size, commands_of}
@@ -10,12 +10,14 @@ use Rattle.macho_fields.proofs.LoadCommands.{library_structure}
 use Rattle.macho_fields.proofs.Opened.{command_inside, name_ended}
 use Rattle.macho_fields.proofs.Options.{of_some}
 use Rattle.macho_image.specs.Opened.{IsOpened}
-use Rattle.macho_image.specs.Command.{CommandView, command_at}
+use Rattle.macho_image.specs.Command.{CommandView, command_at, first_of_kind}
 use Rattle.macho_image.specs.Library.{libraries, dylib_at}
 use Rattle.macho_image.specs.Scaffold.{HoldsLibrary, HoldLibraries, libraries_left, dylibs_left}
 use Rattle.macho_image.proofs.Opened.{opened_keeps}
 use Rattle.macho_image.proofs.OpenedWalk.{opened_commands}
-use Rattle.macho_image.proofs.Kept.{AreAll, structure_held}
+use Rattle.macho_fields.proofs.Parts.{of_kind_is, of_kind_among}
+use Rattle.macho_fields.specs.declared.header.loader.TheConstants as loader
+use Rattle.macho_image.proofs.Kept.{AreAll, structure_held, got_first}
 use Rattle.macho_image.proofs.OfOneKind.{keep_or_pass, map-places}
 
 ended : (image : List ℕ) (command : ℕ) → IsNamed image command → IsOpened image → Contains (commands_of image) command → HasZero image (name_start image command) (length image)
@@ -57,3 +59,13 @@ all_hold image all opened is =
 pub libraries_seen : (image : List ℕ) (all : List CommandView) → AreAll image all → dylibs_left image all ≡ map (dylib_at image) (libraries image (commands_of image))
 libraries_seen image all is =
     ap (map (λ c. dylib_at image c.place)) (libraries_kept image all is) ∙ map-places (dylib_at image) image (libraries image (commands_of image))
+
+-- the LC_ID_DYLIB of an image names a library
+pub first_library : (image bytes : List ℕ) (place : ℕ) (found : Option ℕ) → IsOpened image → bytes ≡ image
+    → found ≡ first_of_kind image loader.LC_ID_DYLIB (commands_of image) → found ≡ Some place → HoldsLibrary bytes place
+first_library image bytes place found opened same is some =
+    let commands = commands_of image in
+    let has = got_first _ place (sym is ∙ some) in
+    let kind : command_kind image place ≡ loader.LC_ID_DYLIB = of_kind_is image commands loader.LC_ID_DYLIB place has in
+    let among : Contains commands place = of_kind_among image commands loader.LC_ID_DYLIB place has in
+    subst (λ b. HoldsLibrary b place) (sym same) (held_library image place opened among (ap names_library kind))

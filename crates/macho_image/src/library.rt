@@ -11,7 +11,7 @@ ghost use Rattle.macho_image.specs.Scaffold.{HoldsLibrary, libraries_left};
 
 use crate::command::{Command, Commands, word_at, word_in};
 use crate::image::Image;
-use macho_fields::header::loader::LC_STR_OFFSET;
+use macho_fields::header::loader::{LC_ID_DYLIB, LC_STR_OFFSET};
 use macho_fields::{Bytes, Span, names_library};
 use std::marker::Model;
 
@@ -71,7 +71,9 @@ impl<'a> Iterator for Dylibs<'a> {
 impl<'a> Image<'a> {
     ghost use Rattle.std.specs.Prelude.{◌≡◌, map};
     ghost use Rattle.macho_fields.specs.Image.{commands_of};
-    ghost use Rattle.macho_image.specs.Library.{libraries, dylib_at};
+    ghost use Rattle.std.specs.Option.{option_map};
+    ghost use Rattle.macho_image.specs.Command.{first_of_kind};
+    ghost use Rattle.macho_image.specs.Library.{libraries, dylib_of, dylib_at};
 
     /// The libraries that the image names, in the order of the commands. The `LC_ID_DYLIB` of a
     /// library is one of them.
@@ -82,6 +84,15 @@ impl<'a> Image<'a> {
             image: self.bytes(),
             commands: self.commands(),
         }
+    }
+
+    /// What the image is as a library, by its `LC_ID_DYLIB`, or `None` where it has none.
+    pub fn id(&self) -> Option<Dylib<'a>>
+        ensures { option_map dylib_of result ≡ option_map (dylib_at self.now)
+            (first_of_kind self.now LC_ID_DYLIB (commands_of self.now)) }
+    {
+        let place = self.place_of(LC_ID_DYLIB)?;
+        Some(dylib_from(self.bytes(), place))
     }
 }
 

@@ -1,2 +1,5 @@
 pub mod StreamLemmas
 pub mod Digits
+pub mod Texts
+pub mod Loops
+pub mod Slices

@@ -96,3 +96,34 @@ writes_last_text a b (Err e) text h = wrote_prefix_first_text a b text [] h
 
 -- what composes functions that write one text after the other
 pub ruleset writing = (wrote_none, wrote_last_text, wrote_next_text, wrote_prefix_first_text, wrote_prefix_next_text, writes_fault, writes_last_text, writes_next_text)
+
+-- What a loop has written of a text, and the texts that are left.
+pub record Writing (old new : Option (List ℕ)) (whole : List ℕ) (left : List (List ℕ)) : Type 0 where
+  pub done : List ℕ
+  pub wrote : Wrote old new done
+  pub rest : done ++ joined left ≡ whole
+
+pub writing_begins : (a : Option (List ℕ)) (texts : List (List ℕ)) → Writing a a (joined texts) texts
+writing_begins a texts = record { done = []; wrote = wrote_nothing a; rest = refl }
+
+-- a turn of the loop
+pub writing_next : (a b c : Option (List ℕ)) (whole text : List ℕ) (left : List (List ℕ))
+    → Writing a b whole (text ∷ left) → Wrote b c text → Writing a c whole left
+unfolding joined
+writing_next a b c whole text left h wrote = record {
+  done = h.done ++ text;
+  wrote = wrote_then a b c h.done text h.wrote wrote;
+  rest = append_assoc h.done text (joined left) ∙ h.rest;
+}
+
+-- a turn that fails
+pub writing_fails : (a b c : Option (List ℕ)) (whole text : List ℕ) (left : List (List ℕ))
+    → Writing a b whole (text ∷ left) → WrotePrefix b c text → WrotePrefix a c whole
+unfolding joined
+writing_fails a b c whole text left h wrote =
+    subst (WrotePrefix a c) h.rest (wrote_prefix_then a b c h.done (text ++ joined left) h.wrote (wrote_prefix_more b c text (joined left) wrote))
+
+-- the end of the loop
+pub writing_ends : (a b : Option (List ℕ)) (whole : List ℕ) → Writing a b whole [] → Wrote a b whole
+unfolding joined
+writing_ends a b whole h = subst (Wrote a b) (sym (append-nil h.done) ∙ h.rest) h.wrote

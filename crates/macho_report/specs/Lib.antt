@@ -1,4 +1,9 @@
 pub mod Stream
 pub mod Number
+pub mod Name
+pub mod Arch
+pub mod Line
+pub mod Layout
 pub mod Text
 pub mod Run
+pub mod Scaffold

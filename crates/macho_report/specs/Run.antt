@@ -3,7 +3,8 @@ use Rattle.std.specs.Prelude.{◌≡◌, ℕ, ◌≤◌, List, length, Option, I
 use Rattle.macho_fields.specs.First.{IsUnbroken, IsFirstBroken}
 use Rattle.macho_fields.specs.declared.rule.Break.{Break}
 use Rattle.macho_report.specs.Stream.{Wrote, WrotePrefix}
-use Rattle.macho_report.specs.Text.{accepted_text, break_text}
+use Rattle.macho_report.specs.Layout.{layout_text}
+use Rattle.macho_report.specs.Text.{break_text}
 use Rattle.macho_report.specs.declared.outcome.Outcome.{Outcome}
 use Rattle.macho_report.specs.declared.outcome.Outcome.TheVariants.{Accepted, Refused}
 use Rattle.macho_report.specs.declared.transfer.ReadFault.{ReadFault}
@@ -13,7 +14,7 @@ use Rattle.macho_report.specs.declared.outcome.RunFault.TheVariants as fault
 
 -- the outcome is right for the file, and this is its text
 abbrev pub IsVerdict : List ℕ → Outcome → List ℕ → Type 0
-IsVerdict file Accepted text = IsUnbroken file × (text ≡ accepted_text)
+IsVerdict file Accepted text = IsUnbroken file × (text ≡ layout_text file)
 IsVerdict file Refused text = (b : Break) × IsFirstBroken file b × (text ≡ break_text b)
 
 -- the input is within the limit, and the text of the outcome, which is right for it, was written

@@ -1,12 +1,9 @@
--- The lines of a verdict. Each ends with one line feed.
+-- The line of a broken rule. It ends with one line feed.
 use Rattle.std.specs.Prelude.{ℕ, List, [], ◌∷◌, codes}
 use Rattle.macho_fields.specs.RuleNames.{name_of}
 use Rattle.macho_fields.specs.declared.rule.Break.{Break}
 use Rattle.macho_report.specs.Stream.{joined}
 use Rattle.macho_report.specs.Number.{prefixed_hex}
-
-abbrev pub accepted_text : List ℕ
-accepted_text = codes "accepted\n"
 
 -- `refused: `, the rule's name, ` at ` and the place
 abbrev pub break_text : Break → List ℕ

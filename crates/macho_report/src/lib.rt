@@ -2,11 +2,14 @@
 //! The report of a file as text: the layout of an accepted file, or the line of the rule that it
 //! breaks; and the streams that it is read from and written to.
 
+mod arch;
 #[cfg(test)]
 mod doubles;
 pub mod from_read;
 pub mod from_write;
+pub mod layout;
 mod line;
+mod name;
 mod number;
 pub mod outcome;
 pub mod stream;
@@ -16,6 +19,7 @@ pub mod transfer;
 
 pub use from_read::FromRead;
 pub use from_write::FromWrite;
+pub use layout::write_layout;
 pub use line::write_break;
 pub use outcome::{Outcome, RunFault, run};
 pub use stream::{Failed, Flush, Input, Output};

@@ -1,13 +1,23 @@
-//! The lines of the report.
+//! The lines of the report. Each ends with one line feed.
 
-ghost use Rattle.std.specs.Prelude.{IsErr, IsTrue};
-ghost use Rattle.macho_report.specs.Stream.{Writes, FailsAtFault};
+ghost use Rattle.std.specs.Prelude.{◌≡◌, [], ◌∷◌, IsErr, IsTrue};
+ghost use Rattle.std.specs.Option.{option_map_or};
+ghost use Rattle.macho_report.specs.Stream.{Writes, FailsAtFault, joined};
+ghost use Rattle.macho_report.specs.Arch.{arch_text};
+ghost use Rattle.macho_report.specs.Line.{extent_text, slice_line, uuid_line, build_line, letter, protection_text, segment_line, contents_text, section_line, library_word, library_line, symbols_line, entry_line};
 ghost use Rattle.macho_report.specs.Text.{break_text};
 
-use crate::number::write_hex;
+use crate::arch::write_arch;
+use crate::name::write_quoted;
+use crate::number::{write_decimal, write_hex, write_upper_bytes, write_version};
 use crate::stream::Output;
 use crate::transfer::{WriteFault, write_all};
-use macho_fields::Break;
+use macho_fields::header::loader::{
+    LC_ID_DYLIB, LC_LAZY_LOAD_DYLIB, LC_LOAD_DYLIB, LC_LOAD_WEAK_DYLIB, LC_REEXPORT_DYLIB,
+};
+use macho_fields::header::vm_prot::{VM_PROT_EXECUTE, VM_PROT_READ, VM_PROT_WRITE};
+use macho_fields::{Break, Span};
+use macho_image::{Build, Dylib, Section, Segment};
 
 /// Writes the line of a broken rule, as `refused: segment-file at 0x1e8`.
 #[tactic(auto, using(crate::proofs::StreamLemmas::writing))]
@@ -21,5 +31,222 @@ pub fn write_break<W: Output>(broken: &Break, writer: &mut W) -> Result<(), Writ
     write_all(broken.rule.name().as_bytes(), writer)?;
     write_all(b" at ", writer)?;
     write_hex(broken.place, writer)?;
+    write_all(b"\n", writer)
+}
+
+/// Writes the line of a slice: its index, its architecture, its part of the file, and its kind.
+#[tactic(auto, using(crate::proofs::StreamLemmas::writing))]
+pub(crate) fn write_slice<W: Output>(
+    index: u64,
+    arch: Option<(u32, u32)>,
+    span: Span,
+    kind: &str,
+    writer: &mut W,
+) -> Result<(), WriteFault>
+    ensures bytes { Writes (W.contents writer.old) (W.contents writer.new) result
+        (slice_line index (option_map_or arch_text arch []) span.start span.len kind.now) }
+    ensures failed { FailsAtFault (W.has_failed writer.old) (W.has_failed writer.new) result }
+{
+    write_all(b"slice ", writer)?;
+    write_decimal(index, writer)?;
+    write_all(b" ", writer)?;
+    write_slice_arch(arch, writer)?;
+    write_extent(b" at ", span.start, span.len, writer)?;
+    write_all(b" ", writer)?;
+    write_all(kind.as_bytes(), writer)?;
+    write_all(b"\n", writer)
+}
+
+// Writes the architecture of a slice, where there is one.
+fn write_slice_arch<W: Output>(arch: Option<(u32, u32)>, writer: &mut W) -> Result<(), WriteFault>
+    ensures bytes { Writes (W.contents writer.old) (W.contents writer.new) result
+        (option_map_or arch_text arch []) }
+    ensures failed { FailsAtFault (W.has_failed writer.old) (W.has_failed writer.new) result }
+{
+    match arch {
+        Some(arch) => write_arch(arch, writer),
+        None => Ok(()),
+    }
+}
+
+// Writes a part of the file or of memory: a word, its first place, and its size.
+#[tactic(auto, using(crate::proofs::StreamLemmas::writing))]
+fn write_extent<W: Output>(
+    word: &[u8],
+    start: u64,
+    size: u64,
+    writer: &mut W,
+) -> Result<(), WriteFault>
+    ensures bytes { Writes (W.contents writer.old) (W.contents writer.new) result
+        (extent_text word.now start size) }
+    ensures failed { FailsAtFault (W.has_failed writer.old) (W.has_failed writer.new) result }
+{
+    write_all(word, writer)?;
+    write_hex(start, writer)?;
+    write_all(b" size ", writer)?;
+    write_hex(size, writer)
+}
+
+/// Writes the line of a UUID, its bytes in groups of 4, 2, 2, 2 and 6.
+#[tactic(auto, using(crate::proofs::StreamLemmas::writing))]
+pub(crate) fn write_uuid<W: Output>(uuid: &[u8; 16], writer: &mut W) -> Result<(), WriteFault>
+    ensures bytes { Writes (W.contents writer.old) (W.contents writer.new) result
+        (uuid_line uuid.now) }
+    ensures failed { FailsAtFault (W.has_failed writer.old) (W.has_failed writer.new) result }
+{
+    write_all(b"  uuid ", writer)?;
+    write_upper_bytes(&uuid[..4], writer)?;
+    write_all(b"-", writer)?;
+    write_upper_bytes(&uuid[4..6], writer)?;
+    write_all(b"-", writer)?;
+    write_upper_bytes(&uuid[6..8], writer)?;
+    write_all(b"-", writer)?;
+    write_upper_bytes(&uuid[8..10], writer)?;
+    write_all(b"-", writer)?;
+    write_upper_bytes(&uuid[10..], writer)?;
+    write_all(b"\n", writer)
+}
+
+/// Writes the line of a build: its platform and two versions.
+#[tactic(auto, using(crate::proofs::StreamLemmas::writing))]
+pub(crate) fn write_build<W: Output>(build: &Build, writer: &mut W) -> Result<(), WriteFault>
+    ensures bytes { Writes (W.contents writer.old) (W.contents writer.new) result
+        (build_line build.now.platform build.now.minos build.now.sdk) }
+    ensures failed { FailsAtFault (W.has_failed writer.old) (W.has_failed writer.new) result }
+{
+    write_all(b"  build platform ", writer)?;
+    write_decimal(u64::from(build.platform), writer)?;
+    write_all(b" min ", writer)?;
+    write_version(build.minos, writer)?;
+    write_all(b" sdk ", writer)?;
+    write_version(build.sdk, writer)?;
+    write_all(b"\n", writer)
+}
+
+/// Writes the line of a segment: its name, its memory, its bytes in the image, and its protection.
+#[tactic(auto, using(crate::proofs::StreamLemmas::writing))]
+pub(crate) fn write_segment<W: Output>(segment: &Segment, writer: &mut W) -> Result<(), WriteFault>
+    ensures bytes { Writes (W.contents writer.old) (W.contents writer.new) result
+        (segment_line segment.now.image segment.now.place) }
+    ensures failed { FailsAtFault (W.has_failed writer.old) (W.has_failed writer.new) result }
+{
+    write_all(b"  segment ", writer)?;
+    write_quoted(segment.name(), writer)?;
+    write_extent(b" addr ", segment.vmaddr(), segment.vmsize(), writer)?;
+    write_extent(b" file ", segment.fileoff(), segment.filesize(), writer)?;
+    write_all(b" ", writer)?;
+    write_all(&protection(segment.initprot()), writer)?;
+    write_all(b"\n", writer)
+}
+
+// A protection in three letters, as `r-x`.
+fn protection(bits: u64) -> [u8; 3]
+    ensures { result ≡ protection_text bits }
+{
+    [
+        letter(bits, VM_PROT_READ, b'r'),
+        letter(bits, VM_PROT_WRITE, b'w'),
+        letter(bits, VM_PROT_EXECUTE, b'x'),
+    ]
+}
+
+// The letter of a bit where it is set, and otherwise a hyphen.
+fn letter(bits: u64, bit: u32, set: u8) -> u8
+    ensures { result ∷ [] ≡ letter bits bit (set ∷ []) }
+{
+    if bits & u64::from(bit) == 0 {
+        b'-'
+    } else {
+        set
+    }
+}
+
+/// Writes the line of a section: its name, its memory, and where its bytes begin in the image.
+#[tactic(auto, using(crate::proofs::StreamLemmas::writing))]
+pub(crate) fn write_section<W: Output>(section: &Section, writer: &mut W) -> Result<(), WriteFault>
+    ensures bytes { Writes (W.contents writer.old) (W.contents writer.new) result
+        (section_line section.now.image section.now.place) }
+    ensures failed { FailsAtFault (W.has_failed writer.old) (W.has_failed writer.new) result }
+{
+    write_all(b"    section ", writer)?;
+    write_quoted(section.name(), writer)?;
+    write_extent(b" addr ", section.addr(), section.size(), writer)?;
+    write_all(b" ", writer)?;
+    write_contents(section, writer)?;
+    write_all(b"\n", writer)
+}
+
+// Writes where the bytes of a section begin in the image, or that they are zeros.
+#[tactic(auto, using(crate::proofs::StreamLemmas::writing))]
+fn write_contents<W: Output>(section: &Section, writer: &mut W) -> Result<(), WriteFault>
+    ensures bytes { Writes (W.contents writer.old) (W.contents writer.new) result
+        (contents_text section.now.image section.now.place) }
+    ensures failed { FailsAtFault (W.has_failed writer.old) (W.has_failed writer.new) result }
+{
+    if section.is_zero_fill() {
+        return write_all(b"zero", writer);
+    }
+    write_all(b"file ", writer)?;
+    write_hex(section.offset(), writer)
+}
+
+/// Writes the line of a library, or of the image itself: the word of its command, its name, and two
+/// versions.
+#[tactic(auto, using(crate::proofs::StreamLemmas::writing))]
+pub(crate) fn write_library<W: Output>(library: &Dylib, writer: &mut W) -> Result<(), WriteFault>
+    ensures bytes { Writes (W.contents writer.old) (W.contents writer.new) result
+        (library_line library.now.cmd library.now.name.now library.now.current
+        library.now.compatible) }
+    ensures failed { FailsAtFault (W.has_failed writer.old) (W.has_failed writer.new) result }
+{
+    write_all(b"  ", writer)?;
+    write_all(library_word(library.cmd).as_bytes(), writer)?;
+    write_all(b" ", writer)?;
+    write_quoted(library.name, writer)?;
+    write_all(b" current ", writer)?;
+    write_version(library.current, writer)?;
+    write_all(b" compatible ", writer)?;
+    write_version(library.compatible, writer)?;
+    write_all(b"\n", writer)
+}
+
+// The word of a command that names a library.
+fn library_word(kind: u32) -> &'static str
+    ensures { result.now ≡ library_word kind }
+{
+    match kind {
+        LC_ID_DYLIB => "id",
+        LC_LOAD_DYLIB => "load",
+        LC_LOAD_WEAK_DYLIB => "weak",
+        LC_REEXPORT_DYLIB => "reexport",
+        LC_LAZY_LOAD_DYLIB => "lazy",
+        _ => "upward",
+    }
+}
+
+/// Writes the line that counts the symbols.
+#[tactic(auto, using(crate::proofs::StreamLemmas::writing))]
+pub(crate) fn write_symbols<W: Output>(nsyms: u64, writer: &mut W) -> Result<(), WriteFault>
+    ensures bytes { Writes (W.contents writer.old) (W.contents writer.new) result
+        (symbols_line nsyms) }
+    ensures failed { FailsAtFault (W.has_failed writer.old) (W.has_failed writer.new) result }
+{
+    write_all(b"  symbols ", writer)?;
+    write_decimal(nsyms, writer)?;
+    write_all(b"\n", writer)
+}
+
+/// Writes the line of the entry point: its address, or that there is none.
+#[tactic(auto, using(crate::proofs::StreamLemmas::writing))]
+pub(crate) fn write_entry<W: Output>(entry: Option<u64>, writer: &mut W) -> Result<(), WriteFault>
+    ensures bytes { Writes (W.contents writer.old) (W.contents writer.new) result
+        (entry_line entry) }
+    ensures failed { FailsAtFault (W.has_failed writer.old) (W.has_failed writer.new) result }
+{
+    let Some(address) = entry else {
+        return write_all(b"  entry none\n", writer);
+    };
+    write_all(b"  entry ", writer)?;
+    write_hex(address, writer)?;
     write_all(b"\n", writer)
 }

@@ -7,9 +7,10 @@ ghost use Rattle.macho_report.specs.Run.{IsVerdict, WroteVerdict, WroteVerdictPr
 ghost use Rattle.macho_report.specs.declared.outcome.Outcome.{Outcome};
 ghost use Rattle.macho_report.specs.declared.outcome.RunFault.TheVariants as fault;
 
+use crate::layout::write_layout;
 use crate::line::write_break;
 use crate::stream::{Input, Output};
-use crate::transfer::{ReadFault, WriteFault, read_all, write_all};
+use crate::transfer::{ReadFault, WriteFault, read_all};
 use macho_rules::{Refusal, verify};
 use std::alloc::Global;
 use thiserror::Error;
@@ -91,8 +92,6 @@ pub fn run<R: Input, W: Output>(
     write_verdict(alloc, &file, writer)
 }
 
-const ACCEPTED: &[u8; 9] = b"accepted\n";
-
 // Decides the rules of a file, and writes the text of the verdict.
 fn write_verdict<W: Output>(alloc: Global, file: &[u8], writer: &mut W) -> Result<Outcome, RunFault>
     ensures verdict { IfOk result (λ outcome. (text : List ℕ) × IsVerdict file.now outcome text
@@ -105,8 +104,8 @@ fn write_verdict<W: Output>(alloc: Global, file: &[u8], writer: &mut W) -> Resul
         ⊎ ((fault ≡ RunFault.Memory) × (writer.new ≡ writer.old))) }
 {
     match verify(alloc, file) {
-        Ok(_) => {
-            write_all(ACCEPTED, writer)?;
+        Ok(verified) => {
+            write_layout(&verified, writer)?;
             Ok(Outcome::Accepted)
         }
         Err(Refusal::Broken(broken)) => {

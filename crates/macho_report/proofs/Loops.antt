@@ -1,0 +1,78 @@
+-- Loops that write a text for each item.
+use Rattle.std.proofs.Common.{◌≡◌, ℕ, zero, suc, ◌+◌, List, [], ◌∷◌, ◌++◌, ◌≤◌, length, map, drop, Option, Some, None, IsSomeAnd, inl, inr, refl, ap, ◌∙◌, subst, arith}
+use Rattle.std.specs.Prelude.{slice_get, filter, not, Bool, if◌then◌else◌}
+use Rattle.std.specs.List.{enumerate_from}
+use Rattle.std.proofs.lemmas.Option.{same_Some}
+use Rattle.std.proofs.lemmas.Bool.{cases_Bool}
+use Rattle.macho_report.specs.Stream.{Wrote, WrotePrefix, joined}
+use Rattle.macho_report.proofs.StreamLemmas.{Writing, writing_begins, writing_next, writing_fails, writing_ends}
+
+module _ {X : Type 0} (f : X → List ℕ) (a b c : Option (List ℕ)) (whole : List ℕ) (left : List X) where
+  pub item_wrote : (rest : List X) (x : X) → left ≡ x ∷ rest → Writing a b whole (map f left) → Wrote b c (f x) → Writing a c whole (map f rest)
+  item_wrote rest x is h wrote = writing_next a b c whole (f x) (map f rest) (subst (λ xs. Writing a b whole (map f xs)) is h) wrote
+
+  pub item_failed : (rest : List X) (x : X) → left ≡ x ∷ rest → Writing a b whole (map f left) → WrotePrefix b c (f x) → WrotePrefix a c whole
+  item_failed rest x is h wrote = writing_fails a b c whole (f x) (map f rest) (subst (λ xs. Writing a b whole (map f xs)) is h) wrote
+
+pub items_end : {X : Type 0} (f : X → List ℕ) (a b : Option (List ℕ)) (whole : List ℕ) (left : List X) → left ≡ [] → Writing a b whole (map f left) → Wrote a b whole
+items_end f a b whole left is h = writing_ends a b whole (subst (λ xs. Writing a b whole (map f xs)) is h)
+
+-- items that are read at places
+texts_at : {A X : Type 0} (f : X → List ℕ) (at : A → X) (places : List A) → map f (map at places) ≡ map (λ p. f (at p)) places
+texts_at f at [] = refl
+texts_at f at (p ∷ places) = ap (λ texts. f (at p) ∷ texts) (texts_at f at places)
+
+pub items_begin : {A X : Type 0} (f : X → List ℕ) (at : A → X) (places : List A) (items : List X) (a : Option (List ℕ)) → items ≡ map at places
+    → Writing a a (joined (map (λ p. f (at p)) places)) (map f items)
+items_begin f at places items a is =
+    subst (λ texts. Writing a a (joined texts) (map f items)) (ap (map f) is ∙ texts_at f at places) (writing_begins a (map f items))
+
+-- items of which those with the mark have no text
+unmarked : {A : Type 0} (mark : A → Bool) (g : A → List ℕ) (xs : List A)
+    → joined (map (λ x. if mark x then [] else g x) xs) ≡ joined (map g (filter (λ x. not (mark x)) xs))
+unfolding joined
+unmarked mark g [] = refl
+unmarked mark g (x ∷ xs) = elim (cases_Bool (mark x)) [ inl t ↦ rw t (unmarked mark g xs) | inr f ↦ rw f (ap (λ rest. g x ++ rest) (unmarked mark g xs)) ]
+
+-- the items of a list, each with its index
+indexed_from : {X : Type 0} (a k : ℕ) (xs : List X) (x : X) → slice_get xs k ≡ Some x → drop k (enumerate_from a xs) ≡ (a + k, x) ∷ drop (suc k) (enumerate_from a xs)
+indexed_from a k [] x e = absurd (cc)
+indexed_from {X = X} a zero (y ∷ ys) x e =
+    let sum : a ≡ a + 0 = omega arith in
+    subst (λ n. (a, y) ∷ enumerate_from (a + 1) ys ≡ (n, x) ∷ enumerate_from (a + 1) ys) sum (ap (λ z. (a, z) ∷ enumerate_from (a + 1) ys) (same_Some y x e))
+indexed_from {X = X} a (suc k) (y ∷ ys) x e =
+    let sum : a + 1 + k ≡ a + suc k = omega arith in
+    subst (λ n. drop k (enumerate_from (a + 1) ys) ≡ (n, x) ∷ drop (suc k) (enumerate_from (a + 1) ys)) sum (indexed_from (a + 1) k ys x e)
+
+pub indexed : {X : Type 0} (k : ℕ) (xs : List X) (x : X) → slice_get xs k ≡ Some x → drop k (enumerate_from 0 xs) ≡ (k, x) ∷ drop (k + 1) (enumerate_from 0 xs)
+indexed {X = X} k xs x e =
+    let zero_plus : 0 + k ≡ k = omega arith in
+    let plus_one : suc k ≡ k + 1 = omega arith in
+    subst (λ n. drop k (enumerate_from 0 xs) ≡ (n, x) ∷ drop (k + 1) (enumerate_from 0 xs)) zero_plus
+    (subst (λ n. drop k (enumerate_from 0 xs) ≡ (0 + k, x) ∷ drop n (enumerate_from 0 xs)) plus_one (indexed_from 0 k xs x e))
+
+pub found : {X : Type 0} (P : X → Type 0) (o : Option X) → IsSomeAnd o P → (x : X) × (o ≡ Some x) × P x
+found P (Some x) h = (x, refl, h)
+found P None h = absurd h
+
+pub all_passed : {X : Type 0} (a k : ℕ) (xs : List X) → length xs ≤ k → drop k (enumerate_from a xs) ≡ []
+all_passed a zero [] h = refl
+all_passed a (suc k) [] h = refl
+all_passed a zero (x ∷ xs) h = absurd (omega arith)
+all_passed a (suc k) (x ∷ xs) h = all_passed (a + 1) k xs (omega arith)
+
+-- items that are read at places, which are made of others
+pub items_begin_within : {A B X : Type 0} (f : X → List ℕ) (at : B → X) (into : A → B) (places : List A) (items : List X) (a : Option (List ℕ)) → items ≡ map at (map into places)
+    → Writing a a (joined (map (λ p. f (at (into p))) places)) (map f items)
+items_begin_within f at into places items a is =
+    subst (λ texts. Writing a a (joined texts) (map f items)) (texts_at (λ q. f (at q)) into places) (items_begin f at (map into places) items a is)
+
+same_texts : {A : Type 0} (f g : A → List ℕ) → ((p : A) → f p ≡ g p) → (places : List A) → map f places ≡ map g places
+same_texts f g same [] = refl
+same_texts f g same (p ∷ places) = rw (same p) (ap (λ texts. g p ∷ texts) (same_texts f g same places))
+
+-- items that are read at places, of which those with the mark have no text
+pub items_begin_unmarked : {A X : Type 0} (f : X → List ℕ) (at : A → X) (mark : A → Bool) (g : A → List ℕ) (places : List A) (items : List X) (a : Option (List ℕ)) → items ≡ map at places
+    → ((p : A) → f (at p) ≡ (if mark p then [] else g p)) → Writing a a (joined (map g (filter (λ p. not (mark p)) places))) (map f items)
+items_begin_unmarked f at mark g places items a is same =
+    subst (λ whole. Writing a a whole (map f items)) (ap joined (same_texts (λ p. f (at p)) (λ p. if mark p then [] else g p) same places) ∙ unmarked mark g places) (items_begin f at places items a is)

@@ -1,0 +1,13 @@
+use Rattle.std.proofs.Common.{◌≡◌, map}
+use Rattle.macho_fields.specs.Image.{commands_of}
+use Rattle.macho_report.specs.Layout.{libraries_text}
+use Rattle.macho_report.specs.Scaffold.{linked_text}
+use Rattle.macho_report.proofs.StreamLemmas.{Writing}
+use Rattle.macho_report.proofs.layout.write_libraries.Given as goal
+
+-- the lines of the items that are left are still to be written
+abbrev pub invariant-loop-library : goal.invariant-loop-library
+invariant-loop-library g l = record {
+  writing : Writing (g.W.Output.contents l.initial.writer) (g.W.Output.contents l.writer) (libraries_text l.image (commands_of l.image)) (map (linked_text) l.library-iterator);
+  same : g.W.Output.has_failed l.writer ≡ g.W.Output.has_failed l.initial.writer;
+}

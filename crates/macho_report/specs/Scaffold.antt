@@ -1,0 +1,11 @@
+-- What only proofs and private functions need.
+use Rattle.std.specs.Prelude.{ℕ, ◌==◌, List, [], if◌then◌else◌}
+use Rattle.macho_fields.specs.declared.header.loader.TheConstants as loader
+use Rattle.macho_image.specs.Library.{DylibView}
+use Rattle.macho_report.specs.Line.{library_line}
+
+-- the line of a library as an image gives it, and nothing for the image itself
+abbrev pub linked_text : DylibView → List ℕ
+linked_text library =
+    if library.cmd == loader.LC_ID_DYLIB then []
+    else library_line library.cmd library.name library.current library.compatible

@@ -1,0 +1,225 @@
+//! The layout of an accepted file.
+
+ghost use Rattle.std.specs.Prelude.{◌≡◌, ◌<◌, length, map, slice_get, IsErr, IsSomeAnd, IsTrue};
+ghost use Rattle.std.specs.List.{enumerate_from};
+ghost use Rattle.macho_fat.specs.Slices.{slice_of};
+ghost use Rattle.macho_fields.specs.Image.{commands_of};
+ghost use Rattle.macho_fields.specs.Segment.{sections_in};
+ghost use Rattle.macho_fields.specs.Universal.{slices_of};
+ghost use Rattle.macho_image.specs.Library.{dylib_of};
+ghost use Rattle.macho_report.specs.Stream.{Writes, FailsAtFault, joined};
+ghost use Rattle.macho_report.specs.Scaffold.{linked_text};
+ghost use Rattle.macho_report.specs.Layout.{layout_text, slice_text, image_slice_text, kind_word, image_text, id_text, uuid_text, builds_text, segments_text, segment_text, libraries_text, symbols_text};
+ghost use Rattle.macho_report.specs.Line.{entry_line, section_line};
+
+use crate::line::{
+    write_build, write_entry, write_library, write_section, write_segment, write_slice,
+    write_symbols, write_uuid,
+};
+use crate::number::write_decimal;
+use crate::stream::Output;
+use crate::transfer::{WriteFault, write_all};
+use macho_fat::Slice;
+use macho_fields::header::loader::LC_ID_DYLIB;
+use macho_image::{Dylib, Image, Kind, Segment};
+use macho_rules::Verified;
+
+/// Writes the layout of an accepted file as text: how many slices it has, and what each 64-bit image
+/// is made of. It takes no memory, and does not flush.
+#[tactic(auto, using(crate::proofs::StreamLemmas::writing))]
+pub fn write_layout<W: Output>(verified: &Verified, writer: &mut W) -> Result<(), WriteFault>
+    ensures bytes { Writes (W.contents writer.old) (W.contents writer.new) result
+        (layout_text verified.now) }
+    ensures failed { FailsAtFault (W.has_failed writer.old) (W.has_failed writer.new) result }
+    ensures stays_failed { IsTrue (W.has_failed writer.old) → IsErr result }
+{
+    write_all(b"accepted, slices ", writer)?;
+    write_decimal(verified.slice_count(), writer)?;
+    write_all(b"\n", writer)?;
+    write_slices(verified, writer)
+}
+
+// Writes the lines of all slices.
+fn write_slices<W: Output>(verified: &Verified, writer: &mut W) -> Result<(), WriteFault>
+    ensures bytes { Writes (W.contents writer.old) (W.contents writer.new) result
+        (joined (map (slice_text verified.now) (enumerate_from 0 (slices_of verified.now)))) }
+    ensures failed { FailsAtFault (W.has_failed writer.old) (W.has_failed writer.new) result }
+{
+    for index in 0..verified.slice_count() {
+        write_indexed(verified, index, writer)?;
+    }
+    Ok(())
+}
+
+// Writes the lines of one slice.
+fn write_indexed<W: Output>(
+    verified: &Verified,
+    index: u64,
+    writer: &mut W,
+) -> Result<(), WriteFault>
+    requires { index < length (slices_of verified.now) }
+    ensures bytes { IsSomeAnd (slice_get (slices_of verified.now) index) (λ slice.
+        Writes (W.contents writer.old) (W.contents writer.new) result
+        (slice_text verified.now (index, slice))) }
+    ensures failed { FailsAtFault (W.has_failed writer.old) (W.has_failed writer.new) result }
+{
+    let slice = verified.slice(index).unwrap();
+    match verified.image(index) {
+        Some(image) => write_read(index, slice, &image, writer),
+        None => write_slice(index, slice.arch, slice.span, "not read", writer),
+    }
+}
+
+// Writes the lines of a slice that is read.
+fn write_read<W: Output>(
+    index: u64,
+    slice: &Slice,
+    image: &Image,
+    writer: &mut W,
+) -> Result<(), WriteFault>
+    ensures bytes { Writes (W.contents writer.old) (W.contents writer.new) result
+        (image_slice_text image.now index (slice_of slice.now)) }
+    ensures failed { FailsAtFault (W.has_failed writer.old) (W.has_failed writer.new) result }
+{
+    write_slice(
+        index,
+        Some(image.arch()),
+        slice.span,
+        kind_word(image.kind()),
+        writer,
+    )?;
+    write_image(image, writer)
+}
+
+// The word for what an image is.
+fn kind_word(kind: Kind) -> &'static str
+    ensures { result.now ≡ kind_word kind }
+{
+    match kind {
+        Kind::Execute => "execute",
+        Kind::Dylib => "dylib",
+    }
+}
+
+// Writes the lines of an image.
+#[tactic(auto, using(crate::proofs::StreamLemmas::writing))]
+fn write_image<W: Output>(image: &Image, writer: &mut W) -> Result<(), WriteFault>
+    ensures bytes { Writes (W.contents writer.old) (W.contents writer.new) result
+        (image_text image.now) }
+    ensures failed { FailsAtFault (W.has_failed writer.old) (W.has_failed writer.new) result }
+{
+    write_id(image, writer)?;
+    write_uuid_of(image, writer)?;
+    write_builds(image, writer)?;
+    write_segments(image, writer)?;
+    write_libraries(image, writer)?;
+    write_symbol_count(image, writer)?;
+    write_entry(image.entry(), writer)
+}
+
+// Writes what the image is as a library, where it is one.
+fn write_id<W: Output>(image: &Image, writer: &mut W) -> Result<(), WriteFault>
+    ensures bytes { Writes (W.contents writer.old) (W.contents writer.new) result
+        (id_text image.now (commands_of image.now)) }
+    ensures failed { FailsAtFault (W.has_failed writer.old) (W.has_failed writer.new) result }
+{
+    match image.id() {
+        Some(library) => write_library(&library, writer),
+        None => Ok(()),
+    }
+}
+
+// Writes the UUID, where there is one.
+fn write_uuid_of<W: Output>(image: &Image, writer: &mut W) -> Result<(), WriteFault>
+    ensures bytes { Writes (W.contents writer.old) (W.contents writer.new) result
+        (uuid_text image.now (commands_of image.now)) }
+    ensures failed { FailsAtFault (W.has_failed writer.old) (W.has_failed writer.new) result }
+{
+    match image.uuid() {
+        Some(uuid) => write_uuid(&uuid, writer),
+        None => Ok(()),
+    }
+}
+
+// Writes the builds.
+fn write_builds<W: Output>(image: &Image, writer: &mut W) -> Result<(), WriteFault>
+    ensures bytes { Writes (W.contents writer.old) (W.contents writer.new) result
+        (builds_text image.now (commands_of image.now)) }
+    ensures failed { FailsAtFault (W.has_failed writer.old) (W.has_failed writer.new) result }
+{
+    for build in image.builds() {
+        write_build(&build, writer)?;
+    }
+    Ok(())
+}
+
+// Writes the segments, each with its sections.
+fn write_segments<W: Output>(image: &Image, writer: &mut W) -> Result<(), WriteFault>
+    ensures bytes { Writes (W.contents writer.old) (W.contents writer.new) result
+        (segments_text image.now (commands_of image.now)) }
+    ensures failed { FailsAtFault (W.has_failed writer.old) (W.has_failed writer.new) result }
+{
+    for segment in image.segments() {
+        write_segment_lines(&segment, writer)?;
+    }
+    Ok(())
+}
+
+// Writes a segment, and its sections.
+#[tactic(auto, using(crate::proofs::StreamLemmas::writing))]
+fn write_segment_lines<W: Output>(segment: &Segment, writer: &mut W) -> Result<(), WriteFault>
+    ensures bytes { Writes (W.contents writer.old) (W.contents writer.new) result
+        (segment_text segment.now.image segment.now.place) }
+    ensures failed { FailsAtFault (W.has_failed writer.old) (W.has_failed writer.new) result }
+{
+    write_segment(segment, writer)?;
+    write_sections(segment, writer)
+}
+
+// Writes the sections of a segment.
+fn write_sections<W: Output>(segment: &Segment, writer: &mut W) -> Result<(), WriteFault>
+    ensures bytes { Writes (W.contents writer.old) (W.contents writer.new) result
+        (joined (map (section_line segment.now.image) (sections_in segment.now.image segment.now.place))) }
+    ensures failed { FailsAtFault (W.has_failed writer.old) (W.has_failed writer.new) result }
+{
+    for section in segment.sections() {
+        write_section(&section, writer)?;
+    }
+    Ok(())
+}
+
+// Writes the libraries that the image is linked with.
+fn write_libraries<W: Output>(image: &Image, writer: &mut W) -> Result<(), WriteFault>
+    ensures bytes { Writes (W.contents writer.old) (W.contents writer.new) result
+        (libraries_text image.now (commands_of image.now)) }
+    ensures failed { FailsAtFault (W.has_failed writer.old) (W.has_failed writer.new) result }
+{
+    for library in image.dylibs() {
+        write_linked(&library, writer)?;
+    }
+    Ok(())
+}
+
+// Writes a library that the image is linked with, and nothing of the image itself.
+fn write_linked<W: Output>(library: &Dylib, writer: &mut W) -> Result<(), WriteFault>
+    ensures bytes { Writes (W.contents writer.old) (W.contents writer.new) result
+        (linked_text (dylib_of library.now)) }
+    ensures failed { FailsAtFault (W.has_failed writer.old) (W.has_failed writer.new) result }
+{
+    if library.cmd == LC_ID_DYLIB {
+        return Ok(());
+    }
+    write_library(library, writer)
+}
+
+// Writes how many symbols there are, where there is a symbol table.
+fn write_symbol_count<W: Output>(image: &Image, writer: &mut W) -> Result<(), WriteFault>
+    ensures bytes { Writes (W.contents writer.old) (W.contents writer.new) result
+        (symbols_text image.now (commands_of image.now)) }
+    ensures failed { FailsAtFault (W.has_failed writer.old) (W.has_failed writer.new) result }
+{
+    match image.symtab() {
+        Some(symtab) => write_symbols(symtab.nsyms, writer),
+        None => Ok(()),
+    }
+}
