@@ -119,9 +119,29 @@ pub fn run_program<R: Input, W: Flush, E: Output>(
         Some(_) => run_and_flush(alloc, LIMIT, reader, writer).map_err(ProgramFault::Run),
     };
     if let Err(fault) = ended {
-        let _ = write_all(fault.line().as_bytes(), errors);
+        write_line(fault, errors);
     }
     ended
+}
+
+// Writes the line of a fault. Faults of `errors` are ignored.
+fn write_line<E: Output>(fault: ProgramFault, errors: &mut E)
+    ensures { WritesUnlessFailed (E.has_failed errors.new) (E.contents errors.old)
+        (E.contents errors.new) (fault_line fault) }
+{
+    let _ = write_all(fault.line().as_bytes(), errors);
+}
+
+/// The end of a program that has no memory for its output: the line of that fault goes to `errors`,
+/// whose own faults are ignored.
+pub fn without_memory<E: Output>(errors: &mut E) -> Result<Outcome, ProgramFault>
+    ensures memory { result ≡ Err (program.Run fault.Memory) }
+    ensures line { WritesUnlessFailed (E.has_failed errors.new) (E.contents errors.old)
+        (E.contents errors.new) (fault_line (program.Run fault.Memory)) }
+{
+    let fault = ProgramFault::Run(RunFault::Memory);
+    write_line(fault, errors);
+    Err(fault)
 }
 
 // The same as `run`, with a flush of the verdict. A failed flush is a failed write.
