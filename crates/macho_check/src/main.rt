@@ -21,7 +21,8 @@ use std::process::ExitCode;
 /// How many bytes of the report are gathered before they are written.
 const OUTPUT_BUFFER: usize = 65_536;
 
-// It hands over the process's own words and streams, and decides nothing.
+// Hands the process's own words and streams to `run_program`. The one case that it decides is want of
+// memory for the buffer.
 fn main(rt: HostRuntime) -> ExitCode {
     let mut stderr = rt.stderr();
     let mut errors = FromWrite::new(&mut stderr);

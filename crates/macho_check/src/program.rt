@@ -4,7 +4,7 @@
 ghost use Rattle.std.specs.Prelude.{◌≡◌, ◌^◌, ◌≤◌, ◌<◌, ◌⊎◌, ◌↔◌, length, IfErr, IfOk, IfSome, OnOk, IsErrOf, IsSomeAnd, IsTrue, Err, None};
 ghost use Rattle.std.specs.Io.KnownBytes.{IsAtEnd};
 ghost use Rattle.macho_report.specs.Stream.{TookAtMost, WritesUnlessFailed};
-ghost use Rattle.macho_check.specs.Text.{run_fault_line, fault_line};
+ghost use Rattle.macho_check.specs.Text.{fault_line};
 ghost use Rattle.macho_report.specs.Run.{WroteVerdict, WroteVerdictPrefix};
 ghost use Rattle.macho_check.specs.declared.program.ProgramFault.TheVariants as program;
 ghost use Rattle.macho_report.specs.declared.outcome.RunFault.TheVariants as fault;
@@ -13,26 +13,20 @@ use macho_report::{Flush, Input, Outcome, Output, RunFault, run, write_all};
 use std::alloc::Global;
 use thiserror::Error;
 
-// The lines of the faults, each with its line feed.
 const USAGE: &str = "usage: macho-check check FILE | where FILE SLICE ADDRESS\n";
 
-const READ_FAILED: &str = "macho-check: read failed\n";
+/// How many bytes the program reads at most. The line of `RunFault::TooLong` names it.
+const LIMIT: u64 = 1 << 32;
 
-const TOO_LONG: &str = "macho-check: more than 4294967296 bytes\n";
-
-const WRITE_FAILED: &str = "macho-check: write failed\n";
-
-const OUT_OF_MEMORY: &str = "macho-check: out of memory\n";
-
-/// Why the program reports no verdict, or not all of it. The texts are its lines, without the line
+/// Why the program wrote no report, or not all of it. The texts are its lines, without the line
 /// feed.
 #[derive(Clone, Copy, Debug, PartialEq, Eq, Error)]
 pub enum ProgramFault {
-    /// The words are not those of the program.
+    /// There is a word besides the program's name.
     #[error("{line}", line = USAGE.trim_end())]
     Usage,
     /// The run failed, or the words could not be had, which is a failed read.
-    #[error("{line}", line = run_fault_line(*.0).trim_end())]
+    #[error(transparent)]
     Run(RunFault),
 }
 
@@ -43,35 +37,12 @@ impl ProgramFault {
     {
         match self {
             ProgramFault::Usage => USAGE,
-            ProgramFault::Run(fault) => run_fault_line(fault),
+            ProgramFault::Run(fault) => fault.line(),
         }
     }
 }
 
-// The line of a fault of the run.
-fn run_fault_line(fault: RunFault) -> &'static str
-    ensures { result.now ≡ run_fault_line fault }
-{
-    match fault {
-        RunFault::Read => READ_FAILED,
-        RunFault::TooLong => TOO_LONG,
-        RunFault::Write => WRITE_FAILED,
-        RunFault::Memory => OUT_OF_MEMORY,
-    }
-}
-
-impl From<RunFault> for ProgramFault {
-    ghost from_gives = { λ fault gives. gives ≡ program.Run fault };
-
-    fn from(fault: RunFault) -> ProgramFault {
-        ProgramFault::Run(fault)
-    }
-}
-
-/// How many bytes the program reads at most. The line of `RunFault::TooLong` names it.
-const LIMIT: u64 = 1 << 32;
-
-/// Judges the input, unless there are words, and writes the verdict, or the line of a fault to
+/// Judges the input, unless there are words, and writes its report, or the line of a fault to
 /// `errors`, whose own faults are ignored.
 ///
 /// `words` is how many words the command line has, the program's name included, or `None` where the
@@ -144,7 +115,7 @@ pub fn without_memory<E: Output>(errors: &mut E) -> Result<Outcome, ProgramFault
     Err(fault)
 }
 
-// The same as `run`, with a flush of the verdict. A failed flush is a failed write.
+// The same as `run`, with a flush of the report. A failed flush is a failed write.
 fn run_and_flush<R: Input, W: Flush>(
     alloc: Global,
     limit: u64,

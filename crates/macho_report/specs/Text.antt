@@ -1,7 +1,9 @@
--- The line of a broken rule. It ends with one line feed.
+-- The line of a broken rule, and those of faults. Each ends with one line feed.
 use Rattle.std.specs.Prelude.{ℕ, List, [], ◌∷◌, codes}
 use Rattle.macho_fields.specs.RuleNames.{name_of}
 use Rattle.macho_fields.specs.declared.rule.Break.{Break}
+use Rattle.macho_report.specs.declared.outcome.RunFault.{RunFault}
+use Rattle.macho_report.specs.declared.outcome.RunFault.TheVariants as fault
 use Rattle.macho_report.specs.Stream.{joined}
 use Rattle.macho_report.specs.Number.{prefixed_hex}
 
@@ -9,3 +11,10 @@ use Rattle.macho_report.specs.Number.{prefixed_hex}
 abbrev pub break_text : Break → List ℕ
 break_text b =
     joined (codes "refused: " ∷ name_of b.rule ∷ codes " at " ∷ prefixed_hex b.place ∷ codes "\n" ∷ [])
+
+-- the lines of faults, which go to standard error
+abbrev pub run_fault_line : RunFault → List ℕ
+run_fault_line fault.Read = codes "macho-check: read failed\n"
+run_fault_line fault.TooLong = codes "macho-check: more than 4294967296 bytes\n"
+run_fault_line fault.Write = codes "macho-check: write failed\n"
+run_fault_line fault.Memory = codes "macho-check: out of memory\n"

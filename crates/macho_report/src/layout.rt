@@ -10,7 +10,7 @@ ghost use Rattle.macho_image.specs.Library.{dylib_of};
 ghost use Rattle.macho_report.specs.Stream.{Writes, FailsAtFault, joined};
 ghost use Rattle.macho_report.specs.Scaffold.{linked_text};
 ghost use Rattle.macho_report.specs.Layout.{layout_text, slice_text, image_slice_text, kind_word, image_text, id_text, uuid_text, builds_text, segments_text, segment_text, libraries_text, symbols_text};
-ghost use Rattle.macho_report.specs.Line.{entry_line, section_line};
+ghost use Rattle.macho_report.specs.Line.{section_line};
 
 use crate::line::{
     write_build, write_entry, write_library, write_section, write_segment, write_slice,
@@ -24,8 +24,8 @@ use macho_fields::header::loader::LC_ID_DYLIB;
 use macho_image::{Dylib, Image, Kind, Segment};
 use macho_rules::Verified;
 
-/// Writes the layout of an accepted file as text: how many slices it has, and what each 64-bit image
-/// is made of. It takes no memory, and does not flush.
+/// Writes the layout of an accepted file as text: how many slices it has, a line for each, and the
+/// parts of each slice that is read. It takes no memory, and does not flush.
 #[tactic(auto, using(crate::proofs::StreamLemmas::writing))]
 pub fn write_layout<W: Output>(verified: &Verified, writer: &mut W) -> Result<(), WriteFault>
     ensures bytes { Writes (W.contents writer.old) (W.contents writer.new) result
@@ -46,13 +46,13 @@ fn write_slices<W: Output>(verified: &Verified, writer: &mut W) -> Result<(), Wr
     ensures failed { FailsAtFault (W.has_failed writer.old) (W.has_failed writer.new) result }
 {
     for index in 0..verified.slice_count() {
-        write_indexed(verified, index, writer)?;
+        write_slice_lines(verified, index, writer)?;
     }
     Ok(())
 }
 
 // Writes the lines of one slice.
-fn write_indexed<W: Output>(
+fn write_slice_lines<W: Output>(
     verified: &Verified,
     index: u64,
     writer: &mut W,
@@ -63,15 +63,16 @@ fn write_indexed<W: Output>(
         (slice_text verified.now (index, slice))) }
     ensures failed { FailsAtFault (W.has_failed writer.old) (W.has_failed writer.new) result }
 {
+    // The index is below the number of slices.
     let slice = verified.slice(index).unwrap();
     match verified.image(index) {
-        Some(image) => write_read(index, slice, &image, writer),
+        Some(image) => write_image_slice(index, slice, &image, writer),
         None => write_slice(index, slice.arch, slice.span, "not read", writer),
     }
 }
 
 // Writes the lines of a slice that is read.
-fn write_read<W: Output>(
+fn write_image_slice<W: Output>(
     index: u64,
     slice: &Slice,
     image: &Image,
@@ -109,7 +110,7 @@ fn write_image<W: Output>(image: &Image, writer: &mut W) -> Result<(), WriteFaul
     ensures failed { FailsAtFault (W.has_failed writer.old) (W.has_failed writer.new) result }
 {
     write_id(image, writer)?;
-    write_uuid_of(image, writer)?;
+    write_image_uuid(image, writer)?;
     write_builds(image, writer)?;
     write_segments(image, writer)?;
     write_libraries(image, writer)?;
@@ -130,7 +131,7 @@ fn write_id<W: Output>(image: &Image, writer: &mut W) -> Result<(), WriteFault>
 }
 
 // Writes the UUID, where there is one.
-fn write_uuid_of<W: Output>(image: &Image, writer: &mut W) -> Result<(), WriteFault>
+fn write_image_uuid<W: Output>(image: &Image, writer: &mut W) -> Result<(), WriteFault>
     ensures bytes { Writes (W.contents writer.old) (W.contents writer.new) result
         (uuid_text image.now (commands_of image.now)) }
     ensures failed { FailsAtFault (W.has_failed writer.old) (W.has_failed writer.new) result }
@@ -195,13 +196,13 @@ fn write_libraries<W: Output>(image: &Image, writer: &mut W) -> Result<(), Write
     ensures failed { FailsAtFault (W.has_failed writer.old) (W.has_failed writer.new) result }
 {
     for library in image.dylibs() {
-        write_linked(&library, writer)?;
+        write_linked_library(&library, writer)?;
     }
     Ok(())
 }
 
-// Writes a library that the image is linked with, and nothing of the image itself.
-fn write_linked<W: Output>(library: &Dylib, writer: &mut W) -> Result<(), WriteFault>
+// Writes the line of a library, but none for `LC_ID_DYLIB`, whose line stands first.
+fn write_linked_library<W: Output>(library: &Dylib, writer: &mut W) -> Result<(), WriteFault>
     ensures bytes { Writes (W.contents writer.old) (W.contents writer.new) result
         (linked_text (dylib_of library.now)) }
     ensures failed { FailsAtFault (W.has_failed writer.old) (W.has_failed writer.new) result }

@@ -2,7 +2,7 @@
 
 ghost use Rattle.std.specs.Prelude.{◌≡◌, [], ◌∷◌, IsErr, IsTrue};
 ghost use Rattle.std.specs.Option.{option_map_or};
-ghost use Rattle.macho_report.specs.Stream.{Writes, FailsAtFault, joined};
+ghost use Rattle.macho_report.specs.Stream.{Writes, FailsAtFault};
 ghost use Rattle.macho_report.specs.Arch.{arch_text};
 ghost use Rattle.macho_report.specs.Line.{extent_text, slice_line, uuid_line, build_line, letter, protection_text, segment_line, contents_text, section_line, library_word, library_line, symbols_line, entry_line};
 ghost use Rattle.macho_report.specs.Text.{break_text};
@@ -57,7 +57,8 @@ pub(crate) fn write_slice<W: Output>(
     write_all(b"\n", writer)
 }
 
-// Writes the architecture of a slice, where there is one.
+// Writes the architecture of a slice. In an accepted file only a slice that is read can have none here,
+// and it is given that of its image.
 fn write_slice_arch<W: Output>(arch: Option<(u32, u32)>, writer: &mut W) -> Result<(), WriteFault>
     ensures bytes { Writes (W.contents writer.old) (W.contents writer.new) result
         (option_map_or arch_text arch []) }
@@ -135,12 +136,12 @@ pub(crate) fn write_segment<W: Output>(segment: &Segment, writer: &mut W) -> Res
     write_extent(b" addr ", segment.vmaddr(), segment.vmsize(), writer)?;
     write_extent(b" file ", segment.fileoff(), segment.filesize(), writer)?;
     write_all(b" ", writer)?;
-    write_all(&protection(segment.initprot()), writer)?;
+    write_all(&protection_letters(segment.initprot()), writer)?;
     write_all(b"\n", writer)
 }
 
 // A protection in three letters, as `r-x`.
-fn protection(bits: u64) -> [u8; 3]
+fn protection_letters(bits: u64) -> [u8; 3]
     ensures { result ≡ protection_text bits }
 {
     [
@@ -190,8 +191,7 @@ fn write_contents<W: Output>(section: &Section, writer: &mut W) -> Result<(), Wr
     write_hex(section.offset(), writer)
 }
 
-/// Writes the line of a library, or of the image itself: the word of its command, its name, and two
-/// versions.
+/// Writes the line of a library: the word of its command, its name, and two versions.
 #[tactic(auto, using(crate::proofs::StreamLemmas::writing))]
 pub(crate) fn write_library<W: Output>(library: &Dylib, writer: &mut W) -> Result<(), WriteFault>
     ensures bytes { Writes (W.contents writer.old) (W.contents writer.new) result

@@ -8,8 +8,8 @@ use crate::number::byte_hex;
 use crate::stream::Output;
 use crate::transfer::{WriteFault, write_all};
 
-/// Writes a name in double quotes. Each byte that is no printable character of ASCII, a double quote
-/// and a backslash are written as `\x` and two digits in base 16.
+/// Writes a name in double quotes. A double quote, a backslash and every byte that is not printable
+/// ASCII are written as `\x` and two lower-case digits in base 16.
 #[tactic(auto, using(crate::proofs::StreamLemmas::writing))]
 pub(crate) fn write_quoted<W: Output>(name: &[u8], writer: &mut W) -> Result<(), WriteFault>
     ensures bytes { Writes (W.contents writer.old) (W.contents writer.new) result (quoted name.now) }
@@ -21,7 +21,7 @@ pub(crate) fn write_quoted<W: Output>(name: &[u8], writer: &mut W) -> Result<(),
     write_all(b"\"", writer)
 }
 
-// Writes the bytes of a name, those that are next to each other and plain by one write.
+// Writes each run of plain bytes as it is, and every other byte escaped.
 fn write_escaped<W: Output>(name: &[u8], writer: &mut W) -> Result<(), WriteFault>
     ensures bytes { Writes (W.contents writer.old) (W.contents writer.new) result
         (joined (map escaped name.now)) }

@@ -8,7 +8,7 @@ ghost use Rattle.macho_report.specs.Number.{prefixed_hex, byte_hex, upper_byte_h
 use crate::stream::Output;
 use crate::transfer::{WriteFault, write_all};
 
-/// How many digits the largest `u64` has in base 10, in which it has the most.
+/// The most digits that a `u64` has in a base from 10 to 16.
 const MAX_DIGITS: usize = 20;
 
 // The digit of a value below 16.
@@ -105,10 +105,10 @@ pub(crate) fn write_version<W: Output>(version: u32, writer: &mut W) -> Result<(
     ensures failed { FailsAtFault (W.has_failed writer.old) (W.has_failed writer.new) result }
     ensures stays_failed { IsTrue (W.has_failed writer.old) → IsErr result }
 {
-    let [low, middle, _, _] = version.to_le_bytes();
+    let [patch, minor, _, _] = version.to_le_bytes();
     write_decimal(u64::from(version >> 16), writer)?;
     write_all(b".", writer)?;
-    write_decimal(u64::from(middle), writer)?;
+    write_decimal(u64::from(minor), writer)?;
     write_all(b".", writer)?;
-    write_decimal(u64::from(low), writer)
+    write_decimal(u64::from(patch), writer)
 }

@@ -1,8 +1,9 @@
-//! From an input to a verdict and its text.
+//! From an input to its report: what was found, and the text of it.
 
 ghost use Rattle.std.specs.Prelude.{◌≡◌, ◌≤◌, ◌<◌, ◌⊎◌, ◌+◌, ◌↔◌, List, ℕ, length, IfOk, IfErr, IfSome, OnOk, IsErrOf, IsTrue};
 ghost use Rattle.std.specs.Io.KnownBytes.{IsAtEnd};
 ghost use Rattle.macho_report.specs.Stream.{TookAtMost, Wrote, WrotePrefix};
+ghost use Rattle.macho_report.specs.Text.{run_fault_line};
 ghost use Rattle.macho_report.specs.Run.{IsVerdict, WroteVerdict, WroteVerdictPrefix, run_fault_of};
 ghost use Rattle.macho_report.specs.declared.outcome.Outcome.{Outcome};
 ghost use Rattle.macho_report.specs.declared.outcome.RunFault.TheVariants as fault;
@@ -18,27 +19,51 @@ use thiserror::Error;
 /// What a run found of its input.
 #[derive(Clone, Copy, Debug, PartialEq, Eq)]
 pub enum Outcome {
-    /// The file keeps every rule.
+    /// The file breaks no rule, and its layout was written.
     Accepted,
-    /// The file breaks a rule, and the first was written.
+    /// The file breaks a rule, and the line of the first was written.
     Refused,
 }
 
-/// Why a run wrote no report, or not all of it.
+// The lines of the faults, each with its line feed.
+const READ_FAILED: &str = "macho-check: read failed\n";
+
+const TOO_LONG: &str = "macho-check: more than 4294967296 bytes\n";
+
+const WRITE_FAILED: &str = "macho-check: write failed\n";
+
+const OUT_OF_MEMORY: &str = "macho-check: out of memory\n";
+
+/// Why a run wrote no report, or not all of it. The texts are the program's lines, without the line
+/// feed.
 #[derive(Clone, Copy, Debug, PartialEq, Eq, Error)]
 pub enum RunFault {
     /// A read failed.
-    #[error("reading failed")]
+    #[error("{line}", line = READ_FAILED.trim_end())]
     Read,
     /// The input has more bytes than the limit.
-    #[error("the input is too long")]
+    #[error("{line}", line = TOO_LONG.trim_end())]
     TooLong,
     /// A write failed.
-    #[error("writing failed")]
+    #[error("{line}", line = WRITE_FAILED.trim_end())]
     Write,
     /// There was no memory.
-    #[error("out of memory")]
+    #[error("{line}", line = OUT_OF_MEMORY.trim_end())]
     Memory,
+}
+
+impl RunFault {
+    /// The program's line for standard error, with its line feed.
+    pub fn line(self) -> &'static str
+        ensures { result.now ≡ run_fault_line self }
+    {
+        match self {
+            RunFault::Read => READ_FAILED,
+            RunFault::TooLong => TOO_LONG,
+            RunFault::Write => WRITE_FAILED,
+            RunFault::Memory => OUT_OF_MEMORY,
+        }
+    }
 }
 
 impl From<ReadFault> for RunFault {

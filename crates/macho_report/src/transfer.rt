@@ -51,7 +51,7 @@ impl From<Failed> for WriteFault {
 }
 
 /// How many bytes one read asks for at most.
-const PIECE_SIZE: usize = 65536;
+const PIECE_SIZE: usize = 65_536;
 
 /// Reads all of the input into memory, in at most `limit + 1` reads.
 pub fn read_all<R: Input>(alloc: Global, limit: u64, reader: &mut R) -> Result<Vec<u8>, ReadFault>

@@ -6,24 +6,24 @@ returns-in_err-write_id-clause-bytes g c =
     writes_fault _ _ _ _ c.from_residual.ensures.0
     (wrote_prefix_first_text _ _ _ _ c.in_err-write_id.ensures.bytes)
 
-pub returns-in_err-write_uuid_of-clause-bytes : goal.returns-in_err-write_uuid_of-clause-bytes
-returns-in_err-write_uuid_of-clause-bytes g c =
-    writes_fault _ _ _ _ c.from_residual-in_err-write_uuid_of.ensures.0
+pub returns-in_err-write_image_uuid-clause-bytes : goal.returns-in_err-write_image_uuid-clause-bytes
+returns-in_err-write_image_uuid-clause-bytes g c =
+    writes_fault _ _ _ _ c.from_residual-in_err-write_image_uuid.ensures.0
     (wrote_prefix_next_text _ _ _ _ _ c.in_ok-write_id.ensures.bytes
-    (wrote_prefix_first_text _ _ _ _ c.in_err-write_uuid_of.ensures.bytes))
+    (wrote_prefix_first_text _ _ _ _ c.in_err-write_image_uuid.ensures.bytes))
 
 pub returns-in_err-write_builds-clause-bytes : goal.returns-in_err-write_builds-clause-bytes
 returns-in_err-write_builds-clause-bytes g c =
     writes_fault _ _ _ _ c.from_residual-in_err-write_builds.ensures.0
     (wrote_prefix_next_text _ _ _ _ _ c.in_ok-write_id.ensures.bytes
-    (wrote_prefix_next_text _ _ _ _ _ c.in_ok-write_uuid_of.ensures.bytes
+    (wrote_prefix_next_text _ _ _ _ _ c.in_ok-write_image_uuid.ensures.bytes
     (wrote_prefix_first_text _ _ _ _ c.in_err-write_builds.ensures.bytes)))
 
 pub returns-in_err-write_segments-clause-bytes : goal.returns-in_err-write_segments-clause-bytes
 returns-in_err-write_segments-clause-bytes g c =
     writes_fault _ _ _ _ c.from_residual-in_err-write_segments.ensures.0
     (wrote_prefix_next_text _ _ _ _ _ c.in_ok-write_id.ensures.bytes
-    (wrote_prefix_next_text _ _ _ _ _ c.in_ok-write_uuid_of.ensures.bytes
+    (wrote_prefix_next_text _ _ _ _ _ c.in_ok-write_image_uuid.ensures.bytes
     (wrote_prefix_next_text _ _ _ _ _ c.in_ok-write_builds.ensures.bytes
     (wrote_prefix_first_text _ _ _ _ c.in_err-write_segments.ensures.bytes))))
 
@@ -31,7 +31,7 @@ pub returns-in_err-write_libraries-clause-bytes : goal.returns-in_err-write_libr
 returns-in_err-write_libraries-clause-bytes g c =
     writes_fault _ _ _ _ c.from_residual-in_err-write_libraries.ensures.0
     (wrote_prefix_next_text _ _ _ _ _ c.in_ok-write_id.ensures.bytes
-    (wrote_prefix_next_text _ _ _ _ _ c.in_ok-write_uuid_of.ensures.bytes
+    (wrote_prefix_next_text _ _ _ _ _ c.in_ok-write_image_uuid.ensures.bytes
     (wrote_prefix_next_text _ _ _ _ _ c.in_ok-write_builds.ensures.bytes
     (wrote_prefix_next_text _ _ _ _ _ c.in_ok-write_segments.ensures.bytes
     (wrote_prefix_first_text _ _ _ _ c.in_err-write_libraries.ensures.bytes)))))
@@ -40,7 +40,7 @@ pub returns-in_err-write_symbol_count-clause-bytes : goal.returns-in_err-write_s
 returns-in_err-write_symbol_count-clause-bytes g c =
     writes_fault _ _ _ _ c.from_residual-in_err-write_symbol_count.ensures.0
     (wrote_prefix_next_text _ _ _ _ _ c.in_ok-write_id.ensures.bytes
-    (wrote_prefix_next_text _ _ _ _ _ c.in_ok-write_uuid_of.ensures.bytes
+    (wrote_prefix_next_text _ _ _ _ _ c.in_ok-write_image_uuid.ensures.bytes
     (wrote_prefix_next_text _ _ _ _ _ c.in_ok-write_builds.ensures.bytes
     (wrote_prefix_next_text _ _ _ _ _ c.in_ok-write_segments.ensures.bytes
     (wrote_prefix_next_text _ _ _ _ _ c.in_ok-write_libraries.ensures.bytes
@@ -49,7 +49,7 @@ returns-in_err-write_symbol_count-clause-bytes g c =
 pub returns-clause-bytes : goal.returns-clause-bytes
 returns-clause-bytes g c =
     writes_next_text _ _ _ _ _ _ c.in_ok-write_id.ensures.bytes
-    (writes_next_text _ _ _ _ _ _ c.in_ok-write_uuid_of.ensures.bytes
+    (writes_next_text _ _ _ _ _ _ c.in_ok-write_image_uuid.ensures.bytes
     (writes_next_text _ _ _ _ _ _ c.in_ok-write_builds.ensures.bytes
     (writes_next_text _ _ _ _ _ _ c.in_ok-write_segments.ensures.bytes
     (writes_next_text _ _ _ _ _ _ c.in_ok-write_libraries.ensures.bytes

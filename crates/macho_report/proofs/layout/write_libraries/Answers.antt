@@ -17,14 +17,14 @@ loop-library-init g c =
 
 pub loop-library-preserved : goal.loop-library-preserved
 loop-library-preserved g c = record {
-  writing = item_wrote (linked_text) _ _ _ _ _ _ _ c.in-Some.ensures.steps c.loop-library.invariant.writing c.in_ok-write_linked.ensures.bytes;
-  same = c.in_ok-write_linked.ensures.failed ∙ c.loop-library.invariant.same;
+  writing = item_wrote (linked_text) _ _ _ _ _ _ _ c.in-Some.ensures.steps c.loop-library.invariant.writing c.in_ok-write_linked_library.ensures.bytes;
+  same = c.in_ok-write_linked_library.ensures.failed ∙ c.loop-library.invariant.same;
 }
 
-pub returns-in_err-write_linked-clause-bytes : goal.returns-in_err-write_linked-clause-bytes
-returns-in_err-write_linked-clause-bytes g c =
+pub returns-in_err-write_linked_library-clause-bytes : goal.returns-in_err-write_linked_library-clause-bytes
+returns-in_err-write_linked_library-clause-bytes g c =
     writes_fault _ _ _ _ c.from_residual.ensures.0
-    (item_failed (linked_text) _ _ _ _ _ _ _ c.in-Some.ensures.steps c.loop-library.invariant.writing c.in_err-write_linked.ensures.bytes)
+    (item_failed (linked_text) _ _ _ _ _ _ _ c.in-Some.ensures.steps c.loop-library.invariant.writing c.in_err-write_linked_library.ensures.bytes)
 
 pub returns-clause-bytes : goal.returns-clause-bytes
 returns-clause-bytes g c = items_end (linked_text) _ _ _ _ c.in-None.ensures.steps.0 c.loop-library.invariant.writing

@@ -11,15 +11,15 @@ loop-index-init g c = record { writing = writing_begins _ _; same = refl }
 pub loop-index-preserved : goal.loop-index-preserved
 loop-index-preserved g c =
     let file = c.args.verified.now in
-    let (slice, is, wrote) = found _ _ c.in_ok-write_indexed.ensures.bytes in record {
+    let (slice, is, wrote) = found _ _ c.in_ok-write_slice_lines.ensures.bytes in record {
       writing = item_wrote (slice_text file) _ _ _ _ _ _ _ (indexed c.loop-index.index (slices_of file) slice is) c.loop-index.invariant.writing wrote;
-      same = c.in_ok-write_indexed.ensures.failed ∙ c.loop-index.invariant.same;
+      same = c.in_ok-write_slice_lines.ensures.failed ∙ c.loop-index.invariant.same;
     }
 
-pub returns-in_err-write_indexed-clause-bytes : goal.returns-in_err-write_indexed-clause-bytes
-returns-in_err-write_indexed-clause-bytes g c =
+pub returns-in_err-write_slice_lines-clause-bytes : goal.returns-in_err-write_slice_lines-clause-bytes
+returns-in_err-write_slice_lines-clause-bytes g c =
     let file = c.args.verified.now in
-    let (slice, is, wrote) = found _ _ c.in_err-write_indexed.ensures.bytes in
+    let (slice, is, wrote) = found _ _ c.in_err-write_slice_lines.ensures.bytes in
     writes_fault _ _ _ _ c.from_residual.ensures.0
     (item_failed (slice_text file) _ _ _ _ _ _ _ (indexed c.loop-index.index (slices_of file) slice is) c.loop-index.invariant.writing wrote)
 

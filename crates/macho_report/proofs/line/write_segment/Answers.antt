@@ -44,7 +44,7 @@ returns-in_err-write_all-3-clause-bytes g c =
     (wrote_prefix_next_text _ _ _ _ _ (rw (c.vmaddr.ensures, c.vmsize.ensures) at c.in_ok-write_extent.ensures.bytes)
     (wrote_prefix_next_text _ _ _ _ _ (rw (c.fileoff.ensures, c.filesize.ensures) at c.in_ok-write_extent-2.ensures.bytes)
     (wrote_prefix_next_text _ _ _ _ _ c.in_ok-write_all-2.ensures.bytes
-    (wrote_prefix_first_text _ _ _ _ (rw (c.protection.ensures, c.initprot.ensures) at c.in_err-write_all-3.ensures.bytes)))))))
+    (wrote_prefix_first_text _ _ _ _ (rw (c.protection_letters.ensures, c.initprot.ensures) at c.in_err-write_all-3.ensures.bytes)))))))
 
 pub returns-clause-bytes : goal.returns-clause-bytes
 returns-clause-bytes g c =
@@ -53,5 +53,5 @@ returns-clause-bytes g c =
     (writes_next_text _ _ _ _ _ _ (rw (c.vmaddr.ensures, c.vmsize.ensures) at c.in_ok-write_extent.ensures.bytes)
     (writes_next_text _ _ _ _ _ _ (rw (c.fileoff.ensures, c.filesize.ensures) at c.in_ok-write_extent-2.ensures.bytes)
     (writes_next_text _ _ _ _ _ _ c.in_ok-write_all-2.ensures.bytes
-    (writes_next_text _ _ _ _ _ _ (rw (c.protection.ensures, c.initprot.ensures) at c.in_ok-write_all-3.ensures.bytes)
+    (writes_next_text _ _ _ _ _ _ (rw (c.protection_letters.ensures, c.initprot.ensures) at c.in_ok-write_all-3.ensures.bytes)
     (writes_last_text _ _ _ _ c.write_all-4.ensures.bytes))))))

@@ -1,6 +1,6 @@
 use Rattle.std.proofs.Common.{◌≡◌, ℕ, List, [], ◌∷◌, refl, sym}
 use Rattle.macho_report.specs.Stream.{joined}
-use Rattle.macho_report.proofs.line.protection.Goals as goal
+use Rattle.macho_report.proofs.line.protection_letters.Goals as goal
 
 three : (a b d : ℕ) (x y z : List ℕ) → a ∷ [] ≡ x → b ∷ [] ≡ y → d ∷ [] ≡ z → a ∷ b ∷ d ∷ [] ≡ joined (x ∷ y ∷ z ∷ [])
 unfolding joined

@@ -1,6 +1,6 @@
 use Rattle.macho_report.proofs.Slices.{same_arch, kind_is}
 use Rattle.macho_report.proofs.StreamLemmas.{writes_fault, writes_last_text, writes_next_text, wrote_prefix_first_text}
-use Rattle.macho_report.proofs.layout.write_read.Goals as goal
+use Rattle.macho_report.proofs.layout.write_image_slice.Goals as goal
 
 pub returns-in_err-write_slice-clause-bytes : goal.returns-in_err-write_slice-clause-bytes
 returns-in_err-write_slice-clause-bytes g c =
