@@ -7,6 +7,7 @@ mod layout;
 mod mapping;
 mod numbers;
 mod real;
+mod report;
 mod streams;
 mod views;
 
@@ -22,8 +23,8 @@ fn same<T: PartialEq + Debug>(rt: &impl Abort, given: &T, wanted: &T) {
     assert_eq!(rt; *given, *wanted);
 }
 
-/// Runs on the file, and compares the line that is written, and the status.
-fn check_verdict(rt: &(impl Abort + AllocGlobal), file: &[u8], line: &str) {
+/// Runs on the file, and returns what is written and the status.
+fn run_on(rt: &(impl Abort + AllocGlobal), file: &[u8]) -> (Vec<u8>, u8) {
     let (mut input, mut written) = (file, Vec::new(rt.alloc()));
     let mut writer = FromWrite::new(&mut written);
     let ended = run(
@@ -32,12 +33,33 @@ fn check_verdict(rt: &(impl Abort + AllocGlobal), file: &[u8], line: &str) {
         &mut FromRead::new(&mut input),
         &mut writer,
     );
-    let text = str::from_utf8(written.as_slice()).unwrap_or("");
-    same(rt, &text.strip_suffix('\n'), &Some(line));
-    same(rt, &check_status(&ended), &u8::from(line != "accepted"));
+    (written, check_status(&ended))
 }
 
-/// Compares the verdicts on files that are written out. A line is `BYTES : LINE`. Each file begins
+/// Compares the whole text that is written for an accepted file.
+fn check_text(rt: &(impl Abort + AllocGlobal), file: &[u8], expected: &str) {
+    let (written, status) = run_on(rt, file);
+    let text = str::from_utf8(written.as_slice()).unwrap_or("");
+    same(rt, &(text, status), &(expected, 0));
+}
+
+/// Compares the verdict. Of an accepted file, which is `accepted`, only the front of the text is
+/// compared; of another it is the one line that is written.
+fn check_verdict(rt: &(impl Abort + AllocGlobal), file: &[u8], verdict: &str) {
+    let (written, status) = run_on(rt, file);
+    let text = str::from_utf8(written.as_slice()).unwrap_or("");
+    if verdict == "accepted" {
+        same(
+            rt,
+            &(text.get(..17), status),
+            &(Some("accepted, slices "), 0),
+        );
+    } else {
+        same(rt, &(text.strip_suffix('\n'), status), &(Some(verdict), 1));
+    }
+}
+
+/// Compares the verdicts on files that are written out. A line is `BYTES : VERDICT`. Each file begins
 /// with the bytes of `front`.
 fn check_lines(rt: &(impl Abort + AllocGlobal), front: &str, lines: &str) -> Result<(), Fail> {
     for line in lines.trim().lines() {

@@ -123,6 +123,13 @@ fn no_call_follows_a_failed_flush(rt: HostRuntime) {
 const BARE_HEADER: &[u8; 32] =
     b"\xcf\xfa\xed\xfe\x07\0\0\x01\x03\0\0\0\x02\0\0\0\0\0\0\0\0\0\0\0\0\0\0\0\0\0\0\0";
 
+/// What is written of the header, in 17 writes: the first line in three, the second in thirteen.
+const REPORT: &str = "\
+accepted, slices 1
+slice 0 x86_64 at 0x0 size 0x20 execute
+  entry none
+";
+
 const READ_LINE: &str = "macho-check: read failed\n";
 
 const WRITE_LINE: &str = "macho-check: write failed\n";
@@ -164,21 +171,25 @@ fn check_end(
 
 #[test]
 fn ends_of_the_program(rt: HostRuntime) {
-    check_end(&rt, Some(1), 0, 0, End(0, "accepted\n", "", (2, 1, 1)));
-    check_end(&rt, Some(0), 0, 0, End(0, "accepted\n", "", (2, 1, 1)));
-    check_end(&rt, Some(1), 1, 0, End(3, "", READ_LINE, (1, 0, 0)));
-    check_end(&rt, Some(1), 2, 0, End(3, "", READ_LINE, (2, 0, 0)));
-    check_end(&rt, Some(1), 0, 1, End(3, "", WRITE_LINE, (2, 1, 0)));
-    check_end(
-        &rt,
-        Some(1),
-        0,
-        2,
-        End(3, "accepted\n", WRITE_LINE, (2, 1, 1)),
-    );
-    check_end(&rt, Some(2), 0, 0, End(2, "", USAGE_LINE, (0, 0, 0)));
-    check_end(&rt, Some(7), 1, 1, End(2, "", USAGE_LINE, (0, 0, 0)));
-    check_end(&rt, None, 0, 0, End(3, "", READ_LINE, (0, 0, 0)));
+    for (words, bad_read, bad_write, end) in [
+        (Some(1), 0, 0, End(0, REPORT, "", (2, 17, 1))),
+        (Some(0), 0, 0, End(0, REPORT, "", (2, 17, 1))),
+        (Some(1), 1, 0, End(3, "", READ_LINE, (1, 0, 0))),
+        (Some(1), 2, 0, End(3, "", READ_LINE, (2, 0, 0))),
+        (Some(1), 0, 1, End(3, "", WRITE_LINE, (2, 1, 0))),
+        (
+            Some(1),
+            0,
+            2,
+            End(3, "accepted, slices ", WRITE_LINE, (2, 2, 0)),
+        ),
+        (Some(1), 0, 18, End(3, REPORT, WRITE_LINE, (2, 17, 1))),
+        (Some(2), 0, 0, End(2, "", USAGE_LINE, (0, 0, 0))),
+        (Some(7), 1, 1, End(2, "", USAGE_LINE, (0, 0, 0))),
+        (None, 0, 0, End(3, "", READ_LINE, (0, 0, 0))),
+    ] {
+        check_end(&rt, words, bad_read, bad_write, end);
+    }
 }
 
 #[test]
@@ -198,24 +209,43 @@ fn faults_of_standard_error_are_ignored(rt: HostRuntime) {
 }
 
 #[test]
-fn a_refusal_that_is_cut_off(rt: HostRuntime) {
-    // The line goes out in six writes.
-    let line = b"refused: magic at 0x0\n".as_slice();
-    for fails_at in 0..8u64 {
-        let mut writer = CountingWriter::new(Vec::new(rt.alloc()), fails_at, Fault::Error);
-        let mut output = FromWrite::new(&mut writer);
-        let mut input = b"a".as_slice();
-        let ended = run(rt.alloc(), 1, &mut FromRead::new(&mut input), &mut output);
-        let calls = writer.writes.saturating_add(writer.flushes);
-        if (1..7).contains(&fails_at) {
-            same(&rt, &ended, &Err(RunFault::Write));
-            same(&rt, &calls, &fails_at);
-            same(&rt, &line.starts_with(writer.bytes.as_slice()), &true);
-        } else {
-            same(&rt, &ended, &Ok(Outcome::Refused));
-            same(&rt, &(writer.writes, writer.flushes), &(6, 0));
-            same(&rt, &writer.bytes.as_slice(), &line);
+fn reports_that_are_cut_off(rt: HostRuntime) {
+    for (input, outcome, text, writes) in [
+        (
+            b"a".as_slice(),
+            Outcome::Refused,
+            "refused: magic at 0x0\n",
+            6,
+        ),
+        (BARE_HEADER.as_slice(), Outcome::Accepted, REPORT, 17),
+    ] {
+        for fails_at in 0..20 {
+            check_cut_off(&rt, input, fails_at, (outcome, text, writes));
         }
+    }
+}
+
+/// Compares how a run ends whose text goes out in so many writes, of which this one fails.
+fn check_cut_off(
+    rt: &(impl Abort + AllocGlobal),
+    file: &[u8],
+    fails_at: u64,
+    expected: (Outcome, &str, u64),
+) {
+    let (outcome, text, writes) = expected;
+    let mut input = file;
+    let mut writer = CountingWriter::new(Vec::new(rt.alloc()), fails_at, Fault::Error);
+    let mut output = FromWrite::new(&mut writer);
+    let ended = run(rt.alloc(), 32, &mut FromRead::new(&mut input), &mut output);
+    if fails_at != 0 && fails_at <= writes {
+        same(rt, &ended, &Err(RunFault::Write));
+        same(rt, &(writer.writes, writer.flushes), &(fails_at, 0));
+        let front = text.as_bytes().starts_with(writer.bytes.as_slice());
+        same(rt, &(front, writer.bytes.len() < text.len()), &(true, true));
+    } else {
+        same(rt, &ended, &Ok(outcome));
+        same(rt, &(writer.writes, writer.flushes), &(writes, 0));
+        same(rt, &writer.bytes.as_slice(), &text.as_bytes());
     }
 }
 
