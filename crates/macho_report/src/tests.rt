@@ -1,12 +1,14 @@
 //! What no clause says: how many reads there are, and that calls succeed.
 
 use crate::doubles::{EndlessReader, SlowReader, SlowWriter};
+use crate::layout::write_layout;
 use crate::line::write_break;
 use crate::number::write_hex;
 use crate::outcome::{Outcome, RunFault, run};
 use crate::stream::{Input, Output};
 use crate::transfer::{ReadFault, read_all, write_all};
 use macho_fields::{Break, Rule};
+use macho_rules::verify;
 use std::fmt::Debug;
 use std::process::Abort;
 
@@ -111,6 +113,29 @@ fn writes_numbers(rt: HostRuntime) {
 const BARE_HEADER: &[u8; 32] =
     b"\xcf\xfa\xed\xfe\x07\0\0\x01\x03\0\0\0\x02\0\0\0\0\0\0\0\0\0\0\0\0\0\0\0\0\0\0\0";
 
+/// What is written of it: 19, 40 and 13 bytes.
+const LAYOUT: &str = "\
+accepted, slices 1
+slice 0 x86_64 at 0x0 size 0x20 execute
+  entry none
+";
+
+#[test]
+fn writes_a_layout_until_a_write_fails(rt: HostRuntime) {
+    let verified = verify(rt.alloc(), BARE_HEADER).expect(&rt, "a file that keeps every rule");
+    for room in 0..73 {
+        let mut writer = SlowWriter::new(Vec::new(rt.alloc()), room);
+        let ended = write_layout(&verified, &mut writer);
+        let whole = room == 72;
+        same(&rt, &(ended.is_ok(), writer.failed()), &(whole, !whole));
+        same(
+            &rt,
+            &Some(writer.bytes.as_slice()),
+            &LAYOUT.as_bytes().get(..room),
+        );
+    }
+}
+
 #[test]
 fn writes_a_break(rt: HostRuntime) {
     let mut writer = SlowWriter::new(Vec::new(rt.alloc()), 100);
@@ -129,10 +154,10 @@ fn writes_a_break(rt: HostRuntime) {
 #[test]
 fn failing_streams(rt: HostRuntime) {
     for (limit, fails_at, room, outcome, reads, text) in [
-        (32, None, 1000, Ok(Outcome::Accepted), 33, "accepted\n"),
+        (32, None, 1000, Ok(Outcome::Accepted), 33, LAYOUT),
         (31, None, 1000, Err(RunFault::TooLong), 32, ""),
         (32, Some(2), 1000, Err(RunFault::Read), 2, ""),
-        (32, None, 4, Err(RunFault::Write), 33, "acce"),
+        (32, None, 10, Err(RunFault::Write), 33, "accepted, "),
     ] {
         let mut reader = SlowReader::new(BARE_HEADER);
         reader.fails_at = fails_at;
