@@ -12,10 +12,26 @@ fn check_texts(
     front: &str,
     cases: &[(&str, &str)],
 ) -> Result<(), Fail> {
-    for &(bytes, text) in cases {
+    check_parts(rt, front, "", "", cases)
+}
+
+/// Compares the whole texts on files that are written out, each as its bytes and the part of its text
+/// between `before` and `after`. Each file begins with the bytes of `front`.
+fn check_parts(
+    rt: &(impl Abort + AllocGlobal),
+    front: &str,
+    before: &str,
+    after: &str,
+    cases: &[(&str, &str)],
+) -> Result<(), Fail> {
+    for &(bytes, part) in cases {
         let mut file = written(rt.alloc(), front)?;
         append(&mut file, bytes)?;
-        check_text(rt, &file, text);
+        let mut text = String::new(rt.alloc());
+        text.push_str(before)?;
+        text.push_str(part)?;
+        text.push_str(after)?;
+        check_text(rt, &file, text.as_str());
     }
     Ok(())
 }
@@ -39,32 +55,25 @@ slice 0 x86_64 at 0x0 size 0x20 execute
 #[test]
 fn architectures(rt: HostRuntime) -> Result<(), Fail> {
     // The upper byte of a cpusubtype is not part of the architecture.
-    for (bytes, name) in [
-        ("07000001 03000000", "x86_64"),
-        ("07000001 03000080", "x86_64"),
-        ("07000001 08000000", "x86_64h"),
-        ("0c000001 000000ff", "arm64"),
-        ("0c000001 02000080", "arm64e"),
-        ("0c000001 010000c0", "0x100000c/0x1"),
-        ("07000001 04000000", "0x1000007/0x4"),
-        ("07000000 03000000", "0x7/0x3"),
-        ("0c000002 01000000", "0x200000c/0x1"),
-        ("ffffffff ffffffff", "0xffffffff/0xffffff"),
-        ("00000000 00000000", "0x0/0x0"),
-    ] {
-        let mut file = written(rt.alloc(), "cffaedfe")?;
-        append(&mut file, bytes)?;
-        append(&mut file, "02000000 .16")?;
-        let text = format!(in rt.alloc();
-            "\
-accepted, slices 1
-slice 0 {name} at 0x0 size 0x20 execute
-  entry none
-"
-        )?;
-        check_text(&rt, &file, text.as_str());
-    }
-    Ok(())
+    check_parts(
+        &rt,
+        "cffaedfe",
+        "accepted, slices 1\nslice 0 ",
+        " at 0x0 size 0x20 execute\n  entry none\n",
+        &[
+            ("07000001 03000000 02000000 .16", "x86_64"),
+            ("07000001 03000080 02000000 .16", "x86_64"),
+            ("07000001 08000000 02000000 .16", "x86_64h"),
+            ("0c000001 000000ff 02000000 .16", "arm64"),
+            ("0c000001 02000080 02000000 .16", "arm64e"),
+            ("0c000001 010000c0 02000000 .16", "0x100000c/0x1"),
+            ("07000001 04000000 02000000 .16", "0x1000007/0x4"),
+            ("07000000 03000000 02000000 .16", "0x7/0x3"),
+            ("0c000002 01000000 02000000 .16", "0x200000c/0x1"),
+            ("ffffffff ffffffff 02000000 .16", "0xffffffff/0xffffff"),
+            ("00000000 00000000 02000000 .16", "0x0/0x0"),
+        ],
+    )
 }
 
 #[test]
@@ -112,48 +121,38 @@ slice 0 x86_64 at 0x0 size 0x202c execute
 fn unmapped_debug_segment(rt: HostRuntime) -> Result<(), Fail> {
     // Debugging data, without and with a relocation; zero-fill, of two types; an empty section, and
     // one that is zero-fill.
-    for (bytes, section) in [
-        (
-            ".16 40000000 .4 b8000000 .92",
-            "addr 0x0 size 0x40 file 0xb8",
-        ),
-        (
-            ".16 40000000 .4 b8000000 .4 f0000000 01000000 .80",
-            "addr 0x0 size 0x40 file 0xb8",
-        ),
-        (
-            ".16 41000000 .4 b8000000 .12 01000000 .76",
-            "addr 0x0 size 0x41 zero",
-        ),
-        (
-            ".16 ffffffff ffffffff .16 12010000 .76",
-            "addr 0x0 size 0xffffffffffffffff zero",
-        ),
-        (
-            ".8 ffffffff ffffffff .8 efbeadde .92",
-            "addr 0xffffffffffffffff size 0x0 file 0xdeadbeef",
-        ),
-        (".24 efbeadde .12 0c000000 .76", "addr 0x0 size 0x0 zero"),
-    ] {
-        let mut file = written(rt.alloc(), DEBUG_SEGMENT)?;
-        append(&mut file, bytes)?;
-        let text = format!(in rt.alloc();
-            r#"accepted, slices 1
+    check_parts(
+        &rt,
+        "cffaedfe 07000001 03000000 02000000 01000000 98000000 .8 19000000 98000000 5f5f4457 \
+            41524600 .24 b8000000 .4 40000000 .12 01000000 .4 5f5f6465 6275675f 696e666f .4 \
+            5f5f4457 41524600",
+        r#"accepted, slices 1
 slice 0 x86_64 at 0x0 size 0xf8 execute
   segment "__DWARF" addr 0x0 size 0x0 file 0xb8 size 0x40 ---
-    section "__debug_info" {section}
-  entry none
-"#
-        )?;
-        check_text(&rt, &file, text.as_str());
-    }
-    Ok(())
+    section "__debug_info" addr "#,
+        "\n  entry none\n",
+        &[
+            (".16 40000000 .4 b8000000 .92", "0x0 size 0x40 file 0xb8"),
+            (
+                ".16 40000000 .4 b8000000 .4 f0000000 01000000 .80",
+                "0x0 size 0x40 file 0xb8",
+            ),
+            (
+                ".16 41000000 .4 b8000000 .12 01000000 .76",
+                "0x0 size 0x41 zero",
+            ),
+            (
+                ".16 ffffffff ffffffff .16 12010000 .76",
+                "0x0 size 0xffffffffffffffff zero",
+            ),
+            (
+                ".8 ffffffff ffffffff .8 efbeadde .92",
+                "0xffffffffffffffff size 0x0 file 0xdeadbeef",
+            ),
+            (".24 efbeadde .12 0c000000 .76", "0x0 size 0x0 zero"),
+        ],
+    )
 }
-
-/// A segment with one section, up to the section's first name.
-const DEBUG_SEGMENT: &str = "\
-    cffaedfe 07000001 03000000 02000000 01000000 98000000 .8 19000000 98000000 5f5f4457 41524600 \
-    .24 b8000000 .4 40000000 .12 01000000 .4 5f5f6465 6275675f 696e666f .4 5f5f4457 41524600";
 
 #[test]
 fn protections(rt: HostRuntime) -> Result<(), Fail> {
