@@ -3,39 +3,27 @@ use Rattle.std.proofs.Common.{◌≡◌, ℕ, ◌+◌, ◌-◌, ◌<◌, ◌≤�
 use Rattle.std.proofs.lemmas.List.{drop_more, drop_all}
 use Rattle.macho_report.specs.Stream.{Wrote, WrotePrefix, joined}
 use Rattle.macho_report.specs.Name.{is_plain, escaped}
-use Rattle.macho_report.proofs.StreamLemmas.{Writing, writing_next, writing_fails, writing_ends, wrote_then, wrote_prefix_then, wrote_prefix_more, rest_is}
+use Rattle.macho_report.proofs.StreamLemmas.{Writing, writing_ends, wrote_then, wrote_prefix_then, wrote_prefix_more, rest_is}
+use Rattle.macho_report.proofs.Loops.{item_wrote, item_failed, items_end}
 
 -- a turn of a loop, which writes the text of the next element
 pub writing_next_item : (a b c : Option (List ℕ)) (f : ℕ → List ℕ) (whole items text : List ℕ) (i : ℕ) → i < length items → text ≡ f (get_or items i 0)
     → Writing a b whole (map f (drop i items)) → Wrote b c text → Writing a c whole (map f (drop (i + 1) items))
 writing_next_item a b c f whole items text i h is before wrote =
-    writing_next a b c whole (f (get_or items i 0)) (map f (drop (i + 1) items))
-    (subst (λ (left : List ℕ). Writing a b whole (map f left)) (drop_more items i 0 h) before) (subst (Wrote b c) is wrote)
+    item_wrote f a b c whole (drop i items) (drop (i + 1) items) (get_or items i 0) (drop_more items i 0 h) before (subst (Wrote b c) is wrote)
 
 -- a turn that fails
 pub writing_fails_item : (a b c : Option (List ℕ)) (f : ℕ → List ℕ) (whole items text : List ℕ) (i : ℕ) → i < length items → text ≡ f (get_or items i 0)
     → Writing a b whole (map f (drop i items)) → WrotePrefix b c text → WrotePrefix a c whole
 writing_fails_item a b c f whole items text i h is before wrote =
-    writing_fails a b c whole (f (get_or items i 0)) (map f (drop (i + 1) items))
-    (subst (λ (left : List ℕ). Writing a b whole (map f left)) (drop_more items i 0 h) before) (subst (WrotePrefix b c) is wrote)
+    item_failed f a b c whole (drop i items) (drop (i + 1) items) (get_or items i 0) (drop_more items i 0 h) before (subst (WrotePrefix b c) is wrote)
 
 -- the end of the loop
 pub writing_ends_items : (a b : Option (List ℕ)) (f : ℕ → List ℕ) (whole items : List ℕ) (i : ℕ) → length items ≤ i
     → Writing a b whole (map f (drop i items)) → Wrote a b whole
-writing_ends_items a b f whole items i h before =
-    writing_ends a b whole (subst (λ (left : List ℕ). Writing a b whole (map f left)) (drop_all i items h) before)
+writing_ends_items a b f whole items i h before = items_end f a b whole (drop i items) (drop_all i items h) before
 
 -- the same of a list that gets shorter with each turn
-pub writing_next_first : (a b c : Option (List ℕ)) (f : ℕ → List ℕ) (whole items after : List ℕ) (first : ℕ) → items ≡ first ∷ after
-    → Writing a b whole (map f items) → Wrote b c (f first) → Writing a c whole (map f after)
-writing_next_first a b c f whole items after first is before wrote =
-    writing_next a b c whole (f first) (map f after) (subst (λ (left : List ℕ). Writing a b whole (map f left)) is before) wrote
-
-pub writing_fails_first : (a b c : Option (List ℕ)) (f : ℕ → List ℕ) (whole items after : List ℕ) (first : ℕ) → items ≡ first ∷ after
-    → Writing a b whole (map f items) → WrotePrefix b c (f first) → WrotePrefix a c whole
-writing_fails_first a b c f whole items after first is before wrote =
-    writing_fails a b c whole (f first) (map f after) (subst (λ (left : List ℕ). Writing a b whole (map f left)) is before) wrote
-
 pub writing_ends_empty : (a b : Option (List ℕ)) (f : ℕ → List ℕ) (whole items : List ℕ) → length items ≡ 0
     → Writing a b whole (map f items) → Wrote a b whole
 writing_ends_empty a b f whole [] none before = writing_ends a b whole before

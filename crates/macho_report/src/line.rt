@@ -57,8 +57,7 @@ pub(crate) fn write_slice<W: Output>(
     write_all(b"\n", writer)
 }
 
-// Writes the architecture of a slice. In an accepted file only a slice that is read can have none here,
-// and it is given that of its image.
+// Writes the architecture of a slice. In an accepted file each slice has one.
 fn write_slice_arch<W: Output>(arch: Option<(u32, u32)>, writer: &mut W) -> Result<(), WriteFault>
     ensures bytes { Writes (W.contents writer.old) (W.contents writer.new) result
         (option_map_or arch_text arch []) }

@@ -1,16 +1,18 @@
 use Rattle.std.proofs.Common.{rules}
 use Rattle.macho_report.proofs.StreamLemmas.{writes_fault}
-use Rattle.macho_report.proofs.Texts.{writing_next_first, writing_fails_first, writing_ends_empty, writing_run, writing_fails_run}
+use Rattle.macho_report.specs.Name.{escaped}
+use Rattle.macho_report.proofs.Loops.{item_wrote, item_failed}
+use Rattle.macho_report.proofs.Texts.{writing_ends_empty, writing_run, writing_fails_run}
 use Rattle.macho_report.proofs.name.write_escaped.Goals as goal
 
 pub returns-in_err-write_escape-clause-bytes : goal.returns-in_err-write_escape-clause-bytes
 returns-in_err-write_escape-clause-bytes g c =
     writes_fault _ _ _ _ c.from_residual.ensures.0
-    (writing_fails_first _ _ _ _ _ _ _ _ c.in-Some.ensures.cases.0 c.loop-first.invariant.writing c.in_err-write_escape.ensures.bytes)
+    (item_failed escaped _ _ _ _ _ _ _ c.in-Some.ensures.cases.0 c.loop-first.invariant.writing c.in_err-write_escape.ensures.bytes)
 
 pub loop-first-preserved-then-plain-eq0 : goal.loop-first-preserved-then-plain-eq0
 loop-first-preserved-then-plain-eq0 g c = record {
-  writing = writing_next_first _ _ _ _ _ _ _ _ c.in-Some.ensures.cases.0 c.loop-first.invariant.writing c.in_ok-write_escape.ensures.bytes;
+  writing = item_wrote escaped _ _ _ _ _ _ _ c.in-Some.ensures.cases.0 c.loop-first.invariant.writing c.in_ok-write_escape.ensures.bytes;
   same = search rules;
 }
 
