@@ -120,6 +120,3 @@ impl<'a> Image<'a> {
         self.unique.of(kind)
     }
 }
-
-#[cfg(test)]
-mod tests;

@@ -117,3 +117,36 @@ fn opened_and_broken(rt: HostRuntime) -> Result<(), Fail> {
     );
     Ok(())
 }
+
+#[test]
+fn opened_for_an_architecture(rt: HostRuntime) -> Result<(), Fail> {
+    let file = written(rt.alloc(), "cffaedfe 0c000001 02000080 02000000 .16")?;
+    let open = |arch: Option<(u32, u32)>| Image::open(Bytes::new(&file), arch).err();
+    let mismatch = Some(Break::at(Rule::ArchMismatch, 4));
+    // The capability bits are compared on neither side.
+    for subtype in [2, 0x8000_0002, 0xff00_0002] {
+        same(&rt, &open(Some((CPU_TYPE_ARM64, subtype))), &None);
+    }
+    same(&rt, &open(Some((CPU_TYPE_ARM64, 0))), &mismatch);
+    same(&rt, &open(Some((12, 2))), &mismatch);
+    Ok(())
+}
+
+#[test]
+fn sections_of_all_segments(rt: HostRuntime) -> Result<(), Fail> {
+    // The first segment has no sections, the second has one, and the third has two.
+    let file = written(
+        rt.alloc(),
+        "cffaedfe 0c000001 00000000 02000000 03000000 c8010000 .8
+        19000000 48000000 .56 .8
+        19000000 98000000 .56 01000000 .4 .80
+        19000000 e8000000 .56 02000000 .4 .160",
+    )?;
+    let image = Image::open(Bytes::new(&file), None)?;
+    let mut places = image.sections().map(|s| (s.place(), s.segment().place()));
+    for expected in [(176, 104), (328, 256), (408, 256)] {
+        same(&rt, &places.next(), &Some(expected));
+    }
+    same(&rt, &places.next(), &None);
+    Ok(())
+}
