@@ -86,6 +86,3 @@ fn listed(alloc: Global, table: &Table) -> Result<Vec<Slice>, AllocError>
     }
     Ok(slices)
 }
-
-#[cfg(test)]
-mod tests;

@@ -2,8 +2,8 @@
 
 use super::same;
 use crate::notation::{executable, written};
-use macho_fat::{Slice, slices};
-use macho_fields::header::machine::CPU_TYPE_ARM64;
+use macho_fat::{FatFault, Slice, slices};
+use macho_fields::header::machine::{CPU_TYPE_ARM64, CPU_TYPE_X86_64};
 use macho_fields::{Break, Bytes, Rule, Span};
 use macho_image::Image;
 use macho_rules::{Mapping, Refusal, Verified, check_image, verify};
@@ -92,6 +92,72 @@ fn slices_of_twins(rt: HostRuntime) -> Result<(), Fail> {
         slice(160, 4, Some((7, 3)), false),
     ];
     check_slices(&rt, &file, &expected)
+}
+
+/// Compares the slices of a file. No image of it is looked at.
+fn check_list(
+    rt: &(impl Abort + AllocGlobal),
+    bytes: &str,
+    expected: &[Slice],
+) -> Result<(), Fail> {
+    let file = written(rt.alloc(), bytes)?;
+    let list = slices(rt.alloc(), Bytes::new(&file))?;
+    same(rt, &list.as_slice(), &expected);
+    Ok(())
+}
+
+#[test]
+fn lists_of_slices(rt: HostRuntime) -> Result<(), Fail> {
+    check_list(
+        &rt,
+        "cffaedfe 07000001 03000000",
+        &[slice(0, 12, None, true)],
+    )?;
+    check_list(
+        &rt,
+        "cafebabf 00000001 01000007 00000003 0000000000000028 0000000000000004 00000003 .4 cffaedfe",
+        &[slice(40, 4, Some((CPU_TYPE_X86_64, 3)), true)],
+    )?;
+    // The second image and the fourth are of 32 bits. The last two entries are not in the order of
+    // the file.
+    let all = [
+        slice(108, 4, Some((12, 0)), true),
+        slice(112, 4, Some((12, 1)), false),
+        slice(116, 4, Some((12, 2)), true),
+        slice(124, 4, Some((12, 3)), true),
+        slice(120, 4, Some((12, 4)), false),
+    ];
+    check_list(
+        &rt,
+        "cafebabe 00000001 0000000c 00000000 0000006c 00000004 00000002 .80
+        cffaedfe cefaedfe cffaedfe cefaedfe cffaedfe",
+        &all[..1],
+    )?;
+    check_list(
+        &rt,
+        "cafebabe 00000005 0000000c 00000000 0000006c 00000004 00000002
+        0000000c 00000001 00000070 00000004 00000002 0000000c 00000002 00000074 00000004 00000002
+        0000000c 00000003 0000007c 00000004 00000002 0000000c 00000004 00000078 00000004 00000002
+        cffaedfe cefaedfe cffaedfe cefaedfe cffaedfe",
+        &all,
+    )
+}
+
+#[test]
+fn no_list_of_slices(rt: HostRuntime) -> Result<(), Fail> {
+    // The second slice has 3 bytes, where a magic number has 4. The first is not looked at.
+    let file = written(
+        rt.alloc(),
+        "cafebabe 00000002 01000007 00000003 00000030 00000004 .4 0100000c 00000000 00000034 00000003 .4
+        cffaedfe cffaed",
+    )?;
+    let broken = Break::at(Rule::FatSliceMagic, 0x34);
+    same(
+        &rt,
+        &slices(rt.alloc(), Bytes::new(&file)).err(),
+        &Some(FatFault::Broken(broken)),
+    );
+    Ok(())
 }
 
 #[test]
