@@ -32,14 +32,13 @@ fn arch_name(arch: (u32, u32)) -> Option<&'static str>
         ≡ option_map (λ known. known.name) (named_arch arch) }
     ensures some_text { IfSome result (λ name. name.now ≢ []) }
 {
-    let name = match arch {
-        (CPU_TYPE_X86_64, CPU_SUBTYPE_X86_64_ALL) => "x86_64",
-        (CPU_TYPE_X86_64, CPU_SUBTYPE_X86_64_H) => "x86_64h",
-        (CPU_TYPE_ARM64, CPU_SUBTYPE_ARM64_ALL) => "arm64",
-        (CPU_TYPE_ARM64, CPU_SUBTYPE_ARM64E) => "arm64e",
-        _ => return None,
-    };
-    Some(name)
+    match arch {
+        (CPU_TYPE_X86_64, CPU_SUBTYPE_X86_64_ALL) => Some("x86_64"),
+        (CPU_TYPE_X86_64, CPU_SUBTYPE_X86_64_H) => Some("x86_64h"),
+        (CPU_TYPE_ARM64, CPU_SUBTYPE_ARM64_ALL) => Some("arm64"),
+        (CPU_TYPE_ARM64, CPU_SUBTYPE_ARM64E) => Some("arm64e"),
+        _ => None,
+    }
 }
 
 // Writes both numbers of an architecture.

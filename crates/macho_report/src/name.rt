@@ -4,7 +4,7 @@ ghost use Rattle.std.specs.Prelude.{◌≡◌, ℕ, ◌<◌, ◌≤◌, false, l
 ghost use Rattle.macho_report.specs.Stream.{Writes, FailsAtFault, joined};
 ghost use Rattle.macho_report.specs.Name.{is_plain, escaped, quoted};
 
-use crate::number::byte_hex;
+use crate::number::byte_digits;
 use crate::stream::Output;
 use crate::transfer::{WriteFault, write_all};
 
@@ -70,5 +70,5 @@ fn write_escape<W: Output>(byte: u8, writer: &mut W) -> Result<(), WriteFault>
     ensures failed { FailsAtFault (W.has_failed writer.old) (W.has_failed writer.new) result }
 {
     write_all(b"\\x", writer)?;
-    write_all(&byte_hex(byte), writer)
+    write_all(&byte_digits(byte, false), writer)
 }

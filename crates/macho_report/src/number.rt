@@ -1,15 +1,16 @@
 //! Numbers as text.
 
-ghost use Rattle.std.specs.Prelude.{◌≡◌, ◌<◌, ◌≤◌, false, drop, map, IsErr, IsTrue};
+ghost use Rattle.std.specs.Prelude.{◌≡◌, ◌+◌, ◌/◌, ◌%◌, ◌^◌, ◌<◌, ◌≤◌, [], ◌∷◌, ◌++◌, false, codes, drop, length, map, IsErr, IsTrue};
 ghost use Rattle.std.specs.Fmt.{decimal, digits, digit_glyph};
 ghost use Rattle.macho_report.specs.Stream.{Writes, FailsAtFault, joined};
-ghost use Rattle.macho_report.specs.Number.{prefixed_hex, byte_hex, upper_byte_hex, version_text};
+ghost use Rattle.macho_report.specs.Number.{prefixed_hex, upper_byte_hex, version_text};
 
 use crate::stream::Output;
 use crate::transfer::{WriteFault, write_all};
 
-/// The most digits that a `u64` has in a base from 10 to 16.
-const MAX_DIGITS: usize = 20;
+/// How many bytes the longest number has here as text: a `u64` in base 10. One in base 16 has at most
+/// 18, and a version 13.
+const PLACES: usize = 20;
 
 // The digit of a value below 16.
 fn digit(value: u8, upper: bool) -> u8
@@ -25,16 +26,19 @@ fn digit(value: u8, upper: bool) -> u8
     }
 }
 
-// Puts a number's digits in a base from 10 to 16 at the end of the array, and returns where they
+// Puts a number's digits in a base from 10 to 16 before a place of the array, and returns where they
 // begin.
-fn put_digits<const BASE: u64>(number: u64, places: &mut [u8; MAX_DIGITS]) -> usize
+fn put_digits<const BASE: u64>(number: u64, end: usize, places: &mut [u8; PLACES]) -> usize
     requires low { 10 ≤ BASE }
     requires high { BASE ≤ 16 }
-    ensures start { result < MAX_DIGITS }
-    ensures digits { drop result places.new ≡ digits BASE false number }
+    requires room { number < BASE ^ end }
+    requires some_place { 0 < end }
+    requires in_array { end ≤ PLACES }
+    ensures start { result + length (digits BASE false number) ≡ end }
+    ensures digits { drop result places.new ≡ digits BASE false number ++ drop end places.old }
 {
     let mut rest = number;
-    let mut start = MAX_DIGITS;
+    let mut start = end;
     loop {
         start -= 1;
         places[start] = digit((rest % BASE) as u8, false);
@@ -45,6 +49,18 @@ fn put_digits<const BASE: u64>(number: u64, places: &mut [u8; MAX_DIGITS]) -> us
     }
 }
 
+// Puts a byte before a place of the array, and returns its own place.
+fn put_byte(byte: u8, end: usize, places: &mut [u8; PLACES]) -> usize
+    requires some_place { 0 < end }
+    requires in_array { end ≤ PLACES }
+    ensures start { result + 1 ≡ end }
+    ensures byte { drop result places.new ≡ byte ∷ drop end places.old }
+{
+    let start = end - 1;
+    places[start] = byte;
+    start
+}
+
 /// Writes a number in base 10.
 #[tactic(auto, using(crate::proofs::StreamLemmas::writing))]
 pub(crate) fn write_decimal<W: Output>(number: u64, writer: &mut W) -> Result<(), WriteFault>
@@ -52,9 +68,9 @@ pub(crate) fn write_decimal<W: Output>(number: u64, writer: &mut W) -> Result<()
     ensures failed { FailsAtFault (W.has_failed writer.old) (W.has_failed writer.new) result }
     ensures stays_failed { IsTrue (W.has_failed writer.old) → IsErr result }
 {
-    let mut digits = [0u8; MAX_DIGITS];
-    let start = put_digits::<10>(number, &mut digits);
-    write_all(&digits[start..], writer)
+    let mut places = [0u8; PLACES];
+    let start = put_digits::<10>(number, PLACES, &mut places);
+    write_all(&places[start..], writer)
 }
 
 /// Writes a number in base 16, as `0x1e8`.
@@ -65,24 +81,18 @@ pub(crate) fn write_hex<W: Output>(number: u64, writer: &mut W) -> Result<(), Wr
     ensures failed { FailsAtFault (W.has_failed writer.old) (W.has_failed writer.new) result }
     ensures stays_failed { IsTrue (W.has_failed writer.old) → IsErr result }
 {
-    let mut digits = [0u8; MAX_DIGITS];
-    let start = put_digits::<16>(number, &mut digits);
-    write_all(b"0x", writer)?;
-    write_all(&digits[start..], writer)
+    let mut places = [0u8; PLACES];
+    let digits = put_digits::<16>(number, PLACES, &mut places);
+    let prefix = put_byte(b'x', digits, &mut places);
+    let start = put_byte(b'0', prefix, &mut places);
+    write_all(&places[start..], writer)
 }
 
-/// The two lower-case digits of a byte in base 16.
-pub(crate) fn byte_hex(byte: u8) -> [u8; 2]
-    ensures { result ≡ byte_hex byte }
+/// The two digits of a byte in base 16.
+pub(crate) fn byte_digits(byte: u8, upper: bool) -> [u8; 2]
+    ensures { result ≡ digit_glyph upper (byte / 16) ∷ digit_glyph upper (byte % 16) ∷ [] }
 {
-    [digit(byte >> 4, false), digit(byte & 0xf, false)]
-}
-
-// The two upper-case digits of a byte in base 16.
-fn upper_byte_hex(byte: u8) -> [u8; 2]
-    ensures { result ≡ upper_byte_hex byte }
-{
-    [digit(byte >> 4, true), digit(byte & 0xf, true)]
+    [digit(byte >> 4, upper), digit(byte & 0xf, upper)]
 }
 
 /// Writes each byte as two upper-case digits in base 16.
@@ -92,9 +102,20 @@ pub(crate) fn write_upper_bytes<W: Output>(bytes: &[u8], writer: &mut W) -> Resu
     ensures failed { FailsAtFault (W.has_failed writer.old) (W.has_failed writer.new) result }
 {
     for &byte in bytes {
-        write_all(&upper_byte_hex(byte), writer)?;
+        write_all(&byte_digits(byte, true), writer)?;
     }
     Ok(())
+}
+
+// Puts a point and a part of a version before a place of the array, and returns where they begin.
+fn put_part(part: u8, end: usize, places: &mut [u8; PLACES]) -> usize
+    requires room { 4 ≤ end }
+    requires in_array { end ≤ PLACES }
+    ensures start { end ≤ result + 4 }
+    ensures text { drop result places.new ≡ codes "." ++ decimal part ++ drop end places.old }
+{
+    let digits = put_digits::<10>(u64::from(part), end, places);
+    put_byte(b'.', digits, places)
 }
 
 /// Writes a version X.Y.Z that has the form `xxxx.yy.zz`: 16, 8 and 8 bits.
@@ -106,9 +127,9 @@ pub(crate) fn write_version<W: Output>(version: u32, writer: &mut W) -> Result<(
     ensures stays_failed { IsTrue (W.has_failed writer.old) → IsErr result }
 {
     let [patch, minor, _, _] = version.to_le_bytes();
-    write_decimal(u64::from(version >> 16), writer)?;
-    write_all(b".", writer)?;
-    write_decimal(u64::from(minor), writer)?;
-    write_all(b".", writer)?;
-    write_decimal(u64::from(patch), writer)
+    let mut places = [0u8; PLACES];
+    let patch_start = put_part(patch, PLACES, &mut places);
+    let minor_start = put_part(minor, patch_start, &mut places);
+    let start = put_digits::<10>(u64::from(version >> 16), minor_start, &mut places);
+    write_all(&places[start..], writer)
 }

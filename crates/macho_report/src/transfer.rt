@@ -105,6 +105,7 @@ fn expect_end<R: Input>(reader: &mut R) -> Result<(), ReadFault>
 }
 
 /// Writes the whole text. An empty text makes no write.
+#[inline(always)]
 pub fn write_all<W: Output>(text: &[u8], writer: &mut W) -> Result<(), WriteFault>
     ensures bytes { Writes (W.contents writer.old) (W.contents writer.new) result text.now }
     ensures failed { FailsAtFault (W.has_failed writer.old) (W.has_failed writer.new) result }

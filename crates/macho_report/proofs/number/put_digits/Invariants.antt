@@ -1,4 +1,4 @@
-use Rattle.std.proofs.Common.{◌≡◌, ◌<◌, ◌≤◌, ◌^◌, false, drop, length}
+use Rattle.std.proofs.Common.{◌≡◌, ◌-◌, ◌<◌, ◌≤◌, ◌^◌, ◌++◌, false, drop, length}
 use Rattle.std.specs.Fmt.{digits}
 use Rattle.macho_report.proofs.Digits.{digits_before}
 use Rattle.macho_report.proofs.number.put_digits.Given as goal
@@ -8,9 +8,9 @@ abbrev pub invariant-loop-rest : goal.invariant-loop-rest
 invariant-loop-rest g l = record {
   all_places : length l.places ≡ 20;
   some_place : 0 < l.start;
-  in_array : l.start ≤ 20;
+  before_end : l.start ≤ l.fn.end;
   fits : l.rest < g.row.BASE ^ l.start;
-  left : digits g.row.BASE false l.fn.number ≡ digits_before l.start g.row.BASE l.rest (drop l.start l.places);
+  left : digits g.row.BASE false l.fn.number ++ drop l.fn.end l.fn.places ≡ digits_before (64 - (l.fn.end - l.start)) g.row.BASE l.rest (drop l.start l.places);
 }
 
 abbrev pub decreases-loop-rest : goal.decreases-loop-rest
