@@ -101,10 +101,10 @@ unfolding digits digits_before
 short base n k some one fits = omega (arith, fits_digits 64 k base n [] some one fits)
 
 -- what is written of the array: the text at its end
-pub written_places : (start : ℕ) (text places : List ℕ) → length places ≡ 20 → drop start places ≡ text → take (20 - start) (drop start places) ≡ text
-written_places start text places e is = rest_is 20 start places e ∙ is
+pub written_places : (start : ℕ) (text places : List ℕ) → length places ≡ 48 → drop start places ≡ text → take (48 - start) (drop start places) ≡ text
+written_places start text places e is = rest_is 48 start places e ∙ is
 
-pub some_places : (start : ℕ) (places : List ℕ) → length places ≡ 20 → start < 20 → take (20 - start) (drop start places) ≢ []
+pub some_places : (start : ℕ) (places : List ℕ) → length places ≡ 48 → start < 48 → take (48 - start) (drop start places) ≢ []
 some_places start places e h none =
-    let rest : drop start places ≡ [] = sym (rest_is 20 start places e) ∙ none in
+    let rest : drop start places ≡ [] = sym (rest_is 48 start places e) ∙ none in
     absurd (omega (arith, simp length-drop at (ap length rest)))

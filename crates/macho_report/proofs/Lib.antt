@@ -1,5 +1,6 @@
 pub mod StreamLemmas
 pub mod Digits
+pub mod Lines
 pub mod Texts
 pub mod Loops
 pub mod Slices

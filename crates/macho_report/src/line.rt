@@ -4,12 +4,16 @@ ghost use Rattle.std.specs.Prelude.{◌≡◌, [], ◌∷◌, IsErr, IsTrue};
 ghost use Rattle.std.specs.Option.{option_map_or};
 ghost use Rattle.macho_report.specs.Stream.{Writes, FailsAtFault};
 ghost use Rattle.macho_report.specs.Arch.{arch_text};
-ghost use Rattle.macho_report.specs.Line.{extent_text, slice_line, uuid_line, build_line, letter, protection_text, segment_line, contents_text, section_line, library_word, library_line, symbols_line, entry_line};
+ghost use Rattle.macho_report.specs.Line.{extent_text, slice_line, uuid_line, build_line, letter, protection_text, segment_line, section_line, library_word, library_line, symbols_line, entry_line};
 ghost use Rattle.macho_report.specs.Text.{break_text};
+ghost use Rattle.macho_report.specs.Scaffold.{contents_end, versions_end};
 
 use crate::arch::write_arch;
 use crate::name::write_quoted;
-use crate::number::{write_decimal, write_hex, write_upper_bytes, write_version};
+use crate::number::{
+    PLACES, put_hex, put_text, put_version, write_decimal, write_hex, write_upper_bytes,
+    write_version,
+};
 use crate::stream::Output;
 use crate::transfer::{WriteFault, write_all};
 use macho_fields::header::loader::{
@@ -81,10 +85,12 @@ fn write_extent<W: Output>(
         (extent_text word.now start size) }
     ensures failed { FailsAtFault (W.has_failed writer.old) (W.has_failed writer.new) result }
 {
+    let mut places = [0u8; PLACES];
+    let size_start = put_hex(size, PLACES, &mut places);
+    let size_word = put_text(b" size ", size_start, &mut places);
+    let numbers = put_hex(start, size_word, &mut places);
     write_all(word, writer)?;
-    write_hex(start, writer)?;
-    write_all(b" size ", writer)?;
-    write_hex(size, writer)
+    write_all(&places[numbers..], writer)
 }
 
 /// Writes the line of a UUID, its bytes in groups of 4, 2, 2, 2 and 6.
@@ -171,23 +177,24 @@ pub(crate) fn write_section<W: Output>(section: &Section, writer: &mut W) -> Res
     write_all(b"    section ", writer)?;
     write_quoted(section.name(), writer)?;
     write_extent(b" addr ", section.addr(), section.size(), writer)?;
-    write_all(b" ", writer)?;
-    write_contents(section, writer)?;
-    write_all(b"\n", writer)
+    write_contents(section, writer)
 }
 
-// Writes where the bytes of a section begin in the image, or that they are zeros.
+// Writes where the bytes of a section begin in the image, or that they are zeros, and ends the line.
 #[tactic(auto, using(crate::proofs::StreamLemmas::writing))]
 fn write_contents<W: Output>(section: &Section, writer: &mut W) -> Result<(), WriteFault>
     ensures bytes { Writes (W.contents writer.old) (W.contents writer.new) result
-        (contents_text section.now.image section.now.place) }
+        (contents_end section.now.image section.now.place) }
     ensures failed { FailsAtFault (W.has_failed writer.old) (W.has_failed writer.new) result }
 {
     if section.is_zero_fill() {
-        return write_all(b"zero", writer);
+        return write_all(b" zero\n", writer);
     }
-    write_all(b"file ", writer)?;
-    write_hex(section.offset(), writer)
+    let mut places = [0u8; PLACES];
+    let line_feed = put_text(b"\n", PLACES, &mut places);
+    let offset = put_hex(section.offset(), line_feed, &mut places);
+    let start = put_text(b" file ", offset, &mut places);
+    write_all(&places[start..], writer)
 }
 
 /// Writes the line of a library: the word of its command, its name, and two versions.
@@ -202,11 +209,22 @@ pub(crate) fn write_library<W: Output>(library: &Dylib, writer: &mut W) -> Resul
     write_all(library_word(library.cmd).as_bytes(), writer)?;
     write_all(b" ", writer)?;
     write_quoted(library.name, writer)?;
-    write_all(b" current ", writer)?;
-    write_version(library.current, writer)?;
-    write_all(b" compatible ", writer)?;
-    write_version(library.compatible, writer)?;
-    write_all(b"\n", writer)
+    write_versions(library, writer)
+}
+
+// Writes the two versions of a library, and ends the line.
+fn write_versions<W: Output>(library: &Dylib, writer: &mut W) -> Result<(), WriteFault>
+    ensures bytes { Writes (W.contents writer.old) (W.contents writer.new) result
+        (versions_end library.now.current library.now.compatible) }
+    ensures failed { FailsAtFault (W.has_failed writer.old) (W.has_failed writer.new) result }
+{
+    let mut places = [0u8; PLACES];
+    let line_feed = put_text(b"\n", PLACES, &mut places);
+    let compatible = put_version(library.compatible, line_feed, &mut places);
+    let compatible_word = put_text(b" compatible ", compatible, &mut places);
+    let current = put_version(library.current, compatible_word, &mut places);
+    let start = put_text(b" current ", current, &mut places);
+    write_all(&places[start..], writer)
 }
 
 // The word of a command that names a library.

@@ -8,9 +8,9 @@ ghost use Rattle.macho_report.specs.Number.{prefixed_hex, upper_byte_hex, versio
 use crate::stream::Output;
 use crate::transfer::{WriteFault, write_all};
 
-/// How many bytes the longest number has here as text: a `u64` in base 10. One in base 16 has at most
-/// 18, and a version 13.
-const PLACES: usize = 20;
+/// How many bytes an array has in which a text is put together from its end, to be written at once. The
+/// longest is that of the two versions of a library: 9, 13, 12, 13 and 1 bytes.
+pub(crate) const PLACES: usize = 48;
 
 // The digit of a value below 16.
 fn digit(value: u8, upper: bool) -> u8
@@ -49,16 +49,55 @@ fn put_digits<const BASE: u64>(number: u64, end: usize, places: &mut [u8; PLACES
     }
 }
 
-// Puts a byte before a place of the array, and returns its own place.
-fn put_byte(byte: u8, end: usize, places: &mut [u8; PLACES]) -> usize
-    requires some_place { 0 < end }
+/// Puts a text before a place of the array, and returns where it begins.
+pub(crate) fn put_text(text: &[u8], end: usize, places: &mut [u8; PLACES]) -> usize
+    requires room { length text.now ≤ end }
     requires in_array { end ≤ PLACES }
-    ensures start { result + 1 ≡ end }
-    ensures byte { drop result places.new ≡ byte ∷ drop end places.old }
+    ensures start { result + length text.now ≡ end }
+    ensures text { drop result places.new ≡ text.now ++ drop end places.old }
 {
-    let start = end - 1;
-    places[start] = byte;
+    let start = end - text.len();
+    places[start..end].copy_from_slice(text);
     start
+}
+
+/// Puts a number in base 16, as `0x1e8`, before a place of the array, and returns where it begins.
+pub(crate) fn put_hex(number: u64, end: usize, places: &mut [u8; PLACES]) -> usize
+    requires room { 18 ≤ end }
+    requires in_array { end ≤ PLACES }
+    ensures start { result < end }
+    ensures short { end ≤ result + 18 }
+    ensures text { drop result places.new ≡ prefixed_hex number ++ drop end places.old }
+{
+    let digits = put_digits::<16>(number, end, places);
+    put_text(b"0x", digits, places)
+}
+
+/// Puts a version X.Y.Z that has the form `xxxx.yy.zz`, 16, 8 and 8 bits, before a place of the array,
+/// and returns where it begins.
+pub(crate) fn put_version(version: u32, end: usize, places: &mut [u8; PLACES]) -> usize
+    requires room { 13 ≤ end }
+    requires in_array { end ≤ PLACES }
+    ensures start { result < end }
+    ensures short { end ≤ result + 13 }
+    ensures text { drop result places.new ≡ version_text version ++ drop end places.old }
+{
+    let [patch, minor, _, _] = version.to_le_bytes();
+    let patch_start = put_part(patch, end, places);
+    let minor_start = put_part(minor, patch_start, places);
+    put_digits::<10>(u64::from(version >> 16), minor_start, places)
+}
+
+// Puts a point and a part of a version before a place of the array, and returns where they begin.
+fn put_part(part: u8, end: usize, places: &mut [u8; PLACES]) -> usize
+    requires room { 4 ≤ end }
+    requires in_array { end ≤ PLACES }
+    ensures start { result < end }
+    ensures short { end ≤ result + 4 }
+    ensures text { drop result places.new ≡ codes "." ++ decimal part ++ drop end places.old }
+{
+    let digits = put_digits::<10>(u64::from(part), end, places);
+    put_text(b".", digits, places)
 }
 
 /// Writes a number in base 10.
@@ -82,9 +121,7 @@ pub(crate) fn write_hex<W: Output>(number: u64, writer: &mut W) -> Result<(), Wr
     ensures stays_failed { IsTrue (W.has_failed writer.old) → IsErr result }
 {
     let mut places = [0u8; PLACES];
-    let digits = put_digits::<16>(number, PLACES, &mut places);
-    let prefix = put_byte(b'x', digits, &mut places);
-    let start = put_byte(b'0', prefix, &mut places);
+    let start = put_hex(number, PLACES, &mut places);
     write_all(&places[start..], writer)
 }
 
@@ -107,29 +144,14 @@ pub(crate) fn write_upper_bytes<W: Output>(bytes: &[u8], writer: &mut W) -> Resu
     Ok(())
 }
 
-// Puts a point and a part of a version before a place of the array, and returns where they begin.
-fn put_part(part: u8, end: usize, places: &mut [u8; PLACES]) -> usize
-    requires room { 4 ≤ end }
-    requires in_array { end ≤ PLACES }
-    ensures start { end ≤ result + 4 }
-    ensures text { drop result places.new ≡ codes "." ++ decimal part ++ drop end places.old }
-{
-    let digits = put_digits::<10>(u64::from(part), end, places);
-    put_byte(b'.', digits, places)
-}
-
-/// Writes a version X.Y.Z that has the form `xxxx.yy.zz`: 16, 8 and 8 bits.
-#[tactic(auto, using(crate::proofs::StreamLemmas::writing))]
+/// Writes a version.
 pub(crate) fn write_version<W: Output>(version: u32, writer: &mut W) -> Result<(), WriteFault>
     ensures bytes { Writes (W.contents writer.old) (W.contents writer.new) result
         (version_text version) }
     ensures failed { FailsAtFault (W.has_failed writer.old) (W.has_failed writer.new) result }
     ensures stays_failed { IsTrue (W.has_failed writer.old) → IsErr result }
 {
-    let [patch, minor, _, _] = version.to_le_bytes();
     let mut places = [0u8; PLACES];
-    let patch_start = put_part(patch, PLACES, &mut places);
-    let minor_start = put_part(minor, patch_start, &mut places);
-    let start = put_digits::<10>(u64::from(version >> 16), minor_start, &mut places);
+    let start = put_version(version, PLACES, &mut places);
     write_all(&places[start..], writer)
 }

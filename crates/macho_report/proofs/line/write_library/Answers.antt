@@ -1,4 +1,4 @@
-use Rattle.macho_report.proofs.StreamLemmas.{writes_fault, writes_last_text, writes_next_text, wrote_prefix_first_text, wrote_prefix_next_text}
+use Rattle.macho_report.proofs.StreamLemmas.{writes_fault, writes_next_text, wrote_prefix_first_text, wrote_prefix_next_text}
 use Rattle.macho_report.proofs.line.write_library.Goals as goal
 
 pub returns-in_err-write_all-clause-bytes : goal.returns-in_err-write_all-clause-bytes
@@ -27,56 +27,10 @@ returns-in_err-write_quoted-clause-bytes g c =
     (wrote_prefix_next_text _ _ _ _ _ c.in_ok-write_all-3.ensures.bytes
     (wrote_prefix_first_text _ _ _ _ c.in_err-write_quoted.ensures.bytes))))
 
-pub returns-in_err-write_all-4-clause-bytes : goal.returns-in_err-write_all-4-clause-bytes
-returns-in_err-write_all-4-clause-bytes g c =
-    writes_fault _ _ _ _ c.from_residual-in_err-write_all-4.ensures.0
-    (wrote_prefix_next_text _ _ _ _ _ c.in_ok-write_all.ensures.bytes
-    (wrote_prefix_next_text _ _ _ _ _ (rw (c.as_bytes.ensures.value, c.library_word.ensures) at c.in_ok-write_all-2.ensures.bytes)
-    (wrote_prefix_next_text _ _ _ _ _ c.in_ok-write_all-3.ensures.bytes
-    (wrote_prefix_next_text _ _ _ _ _ c.in_ok-write_quoted.ensures.bytes
-    (wrote_prefix_first_text _ _ _ _ c.in_err-write_all-4.ensures.bytes)))))
-
-pub returns-in_err-write_version-clause-bytes : goal.returns-in_err-write_version-clause-bytes
-returns-in_err-write_version-clause-bytes g c =
-    writes_fault _ _ _ _ c.from_residual-in_err-write_version.ensures.0
-    (wrote_prefix_next_text _ _ _ _ _ c.in_ok-write_all.ensures.bytes
-    (wrote_prefix_next_text _ _ _ _ _ (rw (c.as_bytes.ensures.value, c.library_word.ensures) at c.in_ok-write_all-2.ensures.bytes)
-    (wrote_prefix_next_text _ _ _ _ _ c.in_ok-write_all-3.ensures.bytes
-    (wrote_prefix_next_text _ _ _ _ _ c.in_ok-write_quoted.ensures.bytes
-    (wrote_prefix_next_text _ _ _ _ _ c.in_ok-write_all-4.ensures.bytes
-    (wrote_prefix_first_text _ _ _ _ c.in_err-write_version.ensures.bytes))))))
-
-pub returns-in_err-write_all-5-clause-bytes : goal.returns-in_err-write_all-5-clause-bytes
-returns-in_err-write_all-5-clause-bytes g c =
-    writes_fault _ _ _ _ c.from_residual-in_err-write_all-5.ensures.0
-    (wrote_prefix_next_text _ _ _ _ _ c.in_ok-write_all.ensures.bytes
-    (wrote_prefix_next_text _ _ _ _ _ (rw (c.as_bytes.ensures.value, c.library_word.ensures) at c.in_ok-write_all-2.ensures.bytes)
-    (wrote_prefix_next_text _ _ _ _ _ c.in_ok-write_all-3.ensures.bytes
-    (wrote_prefix_next_text _ _ _ _ _ c.in_ok-write_quoted.ensures.bytes
-    (wrote_prefix_next_text _ _ _ _ _ c.in_ok-write_all-4.ensures.bytes
-    (wrote_prefix_next_text _ _ _ _ _ c.in_ok-write_version.ensures.bytes
-    (wrote_prefix_first_text _ _ _ _ c.in_err-write_all-5.ensures.bytes)))))))
-
-pub returns-in_err-write_version-2-clause-bytes : goal.returns-in_err-write_version-2-clause-bytes
-returns-in_err-write_version-2-clause-bytes g c =
-    writes_fault _ _ _ _ c.from_residual-in_err-write_version-2.ensures.0
-    (wrote_prefix_next_text _ _ _ _ _ c.in_ok-write_all.ensures.bytes
-    (wrote_prefix_next_text _ _ _ _ _ (rw (c.as_bytes.ensures.value, c.library_word.ensures) at c.in_ok-write_all-2.ensures.bytes)
-    (wrote_prefix_next_text _ _ _ _ _ c.in_ok-write_all-3.ensures.bytes
-    (wrote_prefix_next_text _ _ _ _ _ c.in_ok-write_quoted.ensures.bytes
-    (wrote_prefix_next_text _ _ _ _ _ c.in_ok-write_all-4.ensures.bytes
-    (wrote_prefix_next_text _ _ _ _ _ c.in_ok-write_version.ensures.bytes
-    (wrote_prefix_next_text _ _ _ _ _ c.in_ok-write_all-5.ensures.bytes
-    (wrote_prefix_first_text _ _ _ _ c.in_err-write_version-2.ensures.bytes))))))))
-
 pub returns-clause-bytes : goal.returns-clause-bytes
 returns-clause-bytes g c =
     writes_next_text _ _ _ _ _ _ c.in_ok-write_all.ensures.bytes
     (writes_next_text _ _ _ _ _ _ (rw (c.as_bytes.ensures.value, c.library_word.ensures) at c.in_ok-write_all-2.ensures.bytes)
     (writes_next_text _ _ _ _ _ _ c.in_ok-write_all-3.ensures.bytes
     (writes_next_text _ _ _ _ _ _ c.in_ok-write_quoted.ensures.bytes
-    (writes_next_text _ _ _ _ _ _ c.in_ok-write_all-4.ensures.bytes
-    (writes_next_text _ _ _ _ _ _ c.in_ok-write_version.ensures.bytes
-    (writes_next_text _ _ _ _ _ _ c.in_ok-write_all-5.ensures.bytes
-    (writes_next_text _ _ _ _ _ _ c.in_ok-write_version-2.ensures.bytes
-    (writes_last_text _ _ _ _ c.write_all-6.ensures.bytes))))))))
+    c.write_versions.ensures.bytes)))

@@ -25,10 +25,10 @@ returns-then-rest-eq0-clause-digits g c = put g c
 
 pub returns-then-rest-eq0-clause-start : goal.returns-then-rest-eq0-clause-start
 returns-then-rest-eq0-clause-start g c =
-    let old_long : length c.args.places.now ≡ 20 = search rules in
-    let new_long : length (slice_set c.loop-rest.places (c.loop-rest.start - 1) c.digit.result) ≡ 20 = grind (arith, common_steps) in
+    let old_long : length c.args.places.now ≡ 48 = search rules in
+    let new_long : length (slice_set c.loop-rest.places (c.loop-rest.start - 1) c.digit.result) ≡ 48 = grind (arith, common_steps) in
     let before : c.loop-rest.start - 1 ≤ c.args.end = omega arith in
-    let in_array : c.args.end ≤ 20 = omega arith in
+    let in_array : c.args.end ≤ 48 = omega arith in
     long _ _ _ _ _ _ old_long new_long before in_array (put g c)
 
 pub loop-rest-preserved : goal.loop-rest-preserved

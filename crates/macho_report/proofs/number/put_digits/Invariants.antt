@@ -6,7 +6,7 @@ use Rattle.macho_report.proofs.number.put_digits.Given as goal
 -- the digits of what is left of the number go before those in the array
 abbrev pub invariant-loop-rest : goal.invariant-loop-rest
 invariant-loop-rest g l = record {
-  all_places : length l.places ≡ 20;
+  all_places : length l.places ≡ 48;
   some_place : 0 < l.start;
   before_end : l.start ≤ l.fn.end;
   fits : l.rest < g.row.BASE ^ l.start;

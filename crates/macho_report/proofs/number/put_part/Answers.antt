@@ -13,11 +13,11 @@ put_digits-digits-requires-clause-room c =
 short : (n : ℕ) → n < 256 → length (decimal n) ≤ 3
 short n h = length-decimal-le 3 n (lit≤ tt) (omega arith) (omega arith)
 
-pub put_byte-requires-clause-some_place : goal.put_byte-requires-clause-some_place
-put_byte-requires-clause-some_place c = omega (arith, short c.from.result (omega arith))
+pub put_text-requires-clause-room : goal.put_text-requires-clause-room
+put_text-requires-clause-room c = omega (arith, short c.from.result (omega arith))
 
-pub returns-clause-start : goal.returns-clause-start
-returns-clause-start c = omega (arith, short c.from.result (omega arith))
+pub returns-clause-short : goal.returns-clause-short
+returns-clause-short c = omega (arith, short c.from.result (omega arith))
 
 pub returns-clause-text : goal.returns-clause-text
-returns-clause-text c = c.put_byte.ensures.byte ∙ ap (λ l. 46 ∷ l) (rw c.from.ensures at c.put_digits-digits.ensures.digits)
+returns-clause-text c = c.put_text.ensures.text ∙ ap (λ l. 46 ∷ l) (rw c.from.ensures at c.put_digits-digits.ensures.digits)

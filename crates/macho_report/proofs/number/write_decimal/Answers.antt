@@ -10,5 +10,5 @@ returns-clause-bytes g c =
 pub returns-clause-stays_failed : goal.returns-clause-stays_failed
 returns-clause-stays_failed g c =
     let some = decimal_nonempty c.args.number (omega arith) in
-    let before : c.put_digits-start.result < 20 = omega (arith, some) in
+    let before : c.put_digits-start.result < 48 = omega (arith, some) in
     λ failed. c.write_all.ensures.stays_failed failed (some_places _ _ c.put_digits-start.array_long before)
