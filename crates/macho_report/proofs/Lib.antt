@@ -4,3 +4,4 @@ pub mod Lines
 pub mod Texts
 pub mod Loops
 pub mod Slices
+pub mod Where

@@ -6,4 +6,5 @@ pub mod Line
 pub mod Layout
 pub mod Text
 pub mod Run
+pub mod Where
 pub mod Scaffold

@@ -2,6 +2,7 @@
 //! The report of a file as text: the layout of an accepted file, or the line of the rule that it
 //! breaks; and the streams that it is read from and written to.
 
+pub mod address;
 mod arch;
 #[cfg(test)]
 mod doubles;
@@ -17,6 +18,7 @@ pub mod stream;
 mod tests;
 pub mod transfer;
 
+pub use address::{WhereOutcome, run_where};
 pub use from_read::FromRead;
 pub use from_write::FromWrite;
 pub use layout::write_layout;

@@ -1,11 +1,14 @@
 //! The lines of the report. Each ends with one line feed.
 
-ghost use Rattle.std.specs.Prelude.{◌≡◌, [], ◌∷◌, IsErr, IsTrue};
-ghost use Rattle.std.specs.Option.{option_map_or};
+ghost use Rattle.std.specs.Prelude.{◌≡◌, [], ◌∷◌, Some, IsErr, IsTrue};
+ghost use Rattle.std.specs.Option.{option_map, option_map_or};
+ghost use Rattle.macho_fields.specs.Segment.{File};
+ghost use Rattle.macho_rules.specs.Source.{source_of};
 ghost use Rattle.macho_report.specs.Stream.{Writes, FailsAtFault};
 ghost use Rattle.macho_report.specs.Arch.{arch_text};
 ghost use Rattle.macho_report.specs.Line.{extent_text, slice_line, uuid_line, build_line, letter, protection_text, segment_line, section_line, library_word, library_line, symbols_line, entry_line};
 ghost use Rattle.macho_report.specs.Text.{break_text};
+ghost use Rattle.macho_report.specs.Where.{where_text};
 ghost use Rattle.macho_report.specs.Scaffold.{contents_end, versions_end};
 
 use crate::arch::write_arch;
@@ -22,6 +25,7 @@ use macho_fields::header::loader::{
 use macho_fields::header::vm_prot::{VM_PROT_EXECUTE, VM_PROT_READ, VM_PROT_WRITE};
 use macho_fields::{Break, Span};
 use macho_image::{Build, Dylib, Section, Segment};
+use macho_rules::Source;
 
 /// Writes the line of a broken rule, as `refused: segment-file at 0x1e8`.
 #[tactic(auto, using(crate::proofs::StreamLemmas::writing))]
@@ -74,6 +78,7 @@ fn write_slice_arch<W: Output>(arch: Option<(u32, u32)>, writer: &mut W) -> Resu
 }
 
 // Writes a part of the file or of memory: a word, its first place, and its size.
+#[inline(always)]
 #[tactic(auto, using(crate::proofs::StreamLemmas::writing))]
 fn write_extent<W: Output>(
     word: &[u8],
@@ -265,5 +270,34 @@ pub(crate) fn write_entry<W: Output>(entry: Option<u64>, writer: &mut W) -> Resu
     };
     write_all(b"  entry ", writer)?;
     write_hex(address, writer)?;
+    write_all(b"\n", writer)
+}
+
+/// Writes the line of what is at an address: a place of the slice, a zero, or nothing.
+#[tactic(auto, using(crate::proofs::StreamLemmas::writing))]
+pub(crate) fn write_source<W: Output>(
+    source: Option<Source>,
+    writer: &mut W,
+) -> Result<(), WriteFault>
+    ensures bytes { Writes (W.contents writer.old) (W.contents writer.new) result
+        (where_text (option_map source_of source)) }
+    ensures failed { FailsAtFault (W.has_failed writer.old) (W.has_failed writer.new) result }
+{
+    match source {
+        Some(Source::File(place)) => write_file_place(place, writer),
+        Some(Source::Zero) => write_all(b"zero\n", writer),
+        None => write_all(b"unmapped\n", writer),
+    }
+}
+
+// Writes the line of a place of the slice.
+#[tactic(auto, using(crate::proofs::StreamLemmas::writing))]
+fn write_file_place<W: Output>(place: u64, writer: &mut W) -> Result<(), WriteFault>
+    ensures bytes { Writes (W.contents writer.old) (W.contents writer.new) result
+        (where_text (Some (File place))) }
+    ensures failed { FailsAtFault (W.has_failed writer.old) (W.has_failed writer.new) result }
+{
+    write_all(b"file ", writer)?;
+    write_hex(place, writer)?;
     write_all(b"\n", writer)
 }

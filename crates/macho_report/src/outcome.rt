@@ -1,9 +1,11 @@
 //! From an input to its report: what was found, and the text of it.
 
-ghost use Rattle.std.specs.Prelude.{◌≡◌, ◌≤◌, ◌<◌, ◌⊎◌, ◌+◌, ◌↔◌, List, ℕ, length, IfOk, IfErr, IfSome, OnOk, IsErrOf, IsTrue};
+ghost use Rattle.std.specs.Prelude.{◌≡◌, ◌≤◌, ◌<◌, ◌⊎◌, ◌+◌, ◌↔◌, List, ℕ, length, IfOk, IfErr, IfNone, IfSome, OnOk, IsErrOf, IsTrue};
 ghost use Rattle.std.specs.Io.KnownBytes.{IsAtEnd};
 ghost use Rattle.macho_report.specs.Stream.{TookAtMost, Wrote, WrotePrefix};
-ghost use Rattle.macho_report.specs.Text.{run_fault_line};
+ghost use Rattle.macho_fields.specs.First.{IsUnbroken, IsFirstBroken};
+ghost use Rattle.macho_fields.specs.declared.rule.Break.{Break};
+ghost use Rattle.macho_report.specs.Text.{break_text, run_fault_line};
 ghost use Rattle.macho_report.specs.Run.{IsVerdict, WroteVerdict, WroteVerdictPrefix, run_fault_of};
 ghost use Rattle.macho_report.specs.declared.outcome.Outcome.{Outcome};
 ghost use Rattle.macho_report.specs.declared.outcome.RunFault.TheVariants as fault;
@@ -12,8 +14,8 @@ use crate::layout::write_layout;
 use crate::line::write_break;
 use crate::stream::{Input, Output};
 use crate::transfer::{ReadFault, WriteFault, read_all};
-use macho_rules::{Refusal, verify};
-use std::alloc::Global;
+use macho_rules::{Refusal, Verified, verify};
+use std::alloc::{AllocError, Global};
 use thiserror::Error;
 
 /// What a run found of its input.
@@ -78,6 +80,14 @@ impl From<ReadFault> for RunFault {
     }
 }
 
+impl From<AllocError> for RunFault {
+    ghost from_gives = { λ _ run. run ≡ fault.Memory };
+
+    fn from(_: AllocError) -> RunFault {
+        RunFault::Memory
+    }
+}
+
 impl From<WriteFault> for RunFault {
     ghost from_gives = { λ _ run. run ≡ fault.Write };
 
@@ -128,14 +138,35 @@ fn write_verdict<W: Output>(alloc: Global, file: &[u8], writer: &mut W) -> Resul
     ensures faults { IfErr result (λ fault. (fault ≡ RunFault.Write)
         ⊎ ((fault ≡ RunFault.Memory) × (writer.new ≡ writer.old))) }
 {
+    let Some(verified) = accept(alloc, file, writer)? else {
+        return Ok(Outcome::Refused);
+    };
+    write_layout(&verified, writer)?;
+    Ok(Outcome::Accepted)
+}
+
+/// Decides the rules of a file. Where one is broken, it writes the line of the first, and returns
+/// `None`.
+pub(crate) fn accept<'a, W: Output>(
+    alloc: Global,
+    file: &'a [u8],
+    writer: &mut W,
+) -> Result<Option<Verified<'a>>, RunFault>
+    ensures accepted { IfOk result (λ answer. IfSome answer (λ verified.
+        (verified ≡ file.now) × IsUnbroken file.now × (writer.new ≡ writer.old))) }
+    ensures refused { IfOk result (λ answer. IfNone answer ((b : Break) × IsFirstBroken file.now b
+        × Wrote (W.contents writer.old) (W.contents writer.new) (break_text b))) }
+    ensures write { IsErrOf result RunFault.Write → IsTrue (W.has_failed writer.new) }
+    ensures prefix { IsErrOf result RunFault.Write → (b : Break) × IsFirstBroken file.now b
+        × WrotePrefix (W.contents writer.old) (W.contents writer.new) (break_text b) }
+    ensures faults { IfErr result (λ fault. (fault ≡ RunFault.Write)
+        ⊎ ((fault ≡ RunFault.Memory) × (writer.new ≡ writer.old))) }
+{
     match verify(alloc, file) {
-        Ok(verified) => {
-            write_layout(&verified, writer)?;
-            Ok(Outcome::Accepted)
-        }
+        Ok(verified) => Ok(Some(verified)),
         Err(Refusal::Broken(broken)) => {
             write_break(&broken, writer)?;
-            Ok(Outcome::Refused)
+            Ok(None)
         }
         Err(Refusal::Memory) => Err(RunFault::Memory),
     }
