@@ -1,5 +1,6 @@
 //! What no clause says: how many reads there are, and that calls succeed.
 
+use crate::address::{WhereOutcome, run_where};
 use crate::doubles::{EndlessReader, SlowReader, SlowWriter};
 use crate::layout::write_layout;
 use crate::line::write_break;
@@ -163,6 +164,23 @@ fn failing_streams(rt: HostRuntime) {
         reader.fails_at = fails_at;
         let mut writer = SlowWriter::new(Vec::new(rt.alloc()), room);
         let ended = run(rt.alloc(), limit, &mut reader, &mut writer);
+        same(&rt, &(ended, reader.reads), &(outcome, reads));
+        same(&rt, &writer.bytes.as_slice(), &text.as_bytes());
+    }
+}
+
+#[test]
+fn failing_streams_of_an_address(rt: HostRuntime) {
+    for (limit, fails_at, room, outcome, reads, text) in [
+        (32, None, 9, Ok(WhereOutcome::Told), 33, "unmapped\n"),
+        (31, None, 9, Err(RunFault::TooLong), 32, ""),
+        (32, Some(2), 9, Err(RunFault::Read), 2, ""),
+        (32, None, 8, Err(RunFault::Write), 33, "unmapped"),
+    ] {
+        let mut reader = SlowReader::new(BARE_HEADER);
+        reader.fails_at = fails_at;
+        let mut writer = SlowWriter::new(Vec::new(rt.alloc()), room);
+        let ended = run_where(rt.alloc(), limit, 0, 7, &mut reader, &mut writer);
         same(&rt, &(ended, reader.reads), &(outcome, reads));
         same(&rt, &writer.bytes.as_slice(), &text.as_bytes());
     }

@@ -1,0 +1,78 @@
+//! What a run says of addresses. The values were worked out by hand.
+
+use super::same;
+use crate::notation::{executable, written};
+use macho_report::{FromRead, FromWrite, WhereOutcome, run_where};
+use std::process::Abort;
+use std::test::Fail;
+
+/// Compares what is written of addresses of a file, each with the index of its slice.
+fn check_addresses(
+    rt: &(impl Abort + AllocGlobal),
+    file: &[u8],
+    outcome: WhereOutcome,
+    cases: &[(u64, u64, &str)],
+) {
+    for &(slice, address, text) in cases {
+        let (mut input, mut told) = (file, Vec::new(rt.alloc()));
+        let ended = run_where(
+            rt.alloc(),
+            1 << 32,
+            slice,
+            address,
+            &mut FromRead::new(&mut input),
+            &mut FromWrite::new(&mut told),
+        );
+        same(rt, &(slice, address, ended), &(slice, address, Ok(outcome)));
+        same(rt, &told.as_slice(), &text.as_bytes());
+    }
+}
+
+#[test]
+fn address_queries(rt: HostRuntime) -> Result<(), Fail> {
+    let file = executable(rt.alloc())?;
+    let told = [
+        (0, 0, "zero\n"),
+        (0, 0x1_0000_0000, "file 0x0\n"),
+        (0, 0x1_0000_2000, "zero\n"),
+        (0, 0x1_0000_302b, "file 0x202b\n"),
+        (0, 0x1_0000_4000, "unmapped\n"),
+        (0, u64::MAX, "unmapped\n"),
+    ];
+    check_addresses(&rt, &file, WhereOutcome::Told, &told);
+    let no_image = [(1, 0, ""), (1 << 32, 0, ""), (u64::MAX, 0x1_0000_0000, "")];
+    check_addresses(&rt, &file, WhereOutcome::NoImage, &no_image);
+    Ok(())
+}
+
+#[test]
+fn rules_come_before_the_image(rt: HostRuntime) {
+    for slice in [0, 1, u64::MAX] {
+        let cases = [(slice, 0, "refused: magic at 0x0\n")];
+        check_addresses(&rt, b"", WhereOutcome::Refused, &cases);
+    }
+}
+
+#[test]
+fn places_count_from_the_start_of_the_slice(rt: HostRuntime) -> Result<(), Fail> {
+    // The second slice is of 32 bits. The third, of 108 bytes at 132, has a segment of its last
+    // four bytes, which ends with the last address.
+    let file = written(
+        rt.alloc(),
+        "cafebabe 00000003 0100000c 00000000 00000060 00000020 .4
+        00000007 00000003 00000080 00000004 .4 00000007 00000009 00000084 0000006c .4 .28
+        cffaedfe 0c000001 00000000 02000000 .16 cefaedfe
+        cffaedfe 07000000 09000000 02000000 01000000 48000000 .8 19000000 48000000 .16
+        f8ffffffffffffff 0800000000000000 6800000000000000 0400000000000000 .4 01000000 .8 .4",
+    )?;
+    let told = [
+        (0, 0, "unmapped\n"),
+        (2, 0xffff_ffff_ffff_fff7, "unmapped\n"),
+        (2, 0xffff_ffff_ffff_fff8, "file 0x68\n"),
+        (2, 0xffff_ffff_ffff_fffb, "file 0x6b\n"),
+        (2, u64::MAX, "zero\n"),
+    ];
+    check_addresses(&rt, &file, WhereOutcome::Told, &told);
+    check_addresses(&rt, &file, WhereOutcome::NoImage, &[(1, 0, ""), (3, 0, "")]);
+    Ok(())
+}
