@@ -23,3 +23,6 @@ pub mod Scopes
 pub mod Texts
 pub mod InFile
 pub mod FirstExists
+pub mod SortedSpans
+pub mod Digits
+pub mod Kept

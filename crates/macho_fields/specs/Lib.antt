@@ -2,6 +2,7 @@ pub mod Header
 pub mod Field
 pub mod Bytes
 pub mod Span
+pub mod Spans
 pub mod RuleNames
 pub mod Universal
 pub mod Image

@@ -9,6 +9,7 @@ pub mod law;
 pub mod load_command;
 pub mod rule;
 pub mod span;
+pub mod spans;
 
 pub use bytes::{Bytes, Order};
 pub use file_type::{FileType, Kind, file_type_of};
@@ -17,3 +18,4 @@ pub use load_command::{
 };
 pub use rule::{Break, Rule};
 pub use span::{Span, table_end};
+pub use spans::{Insert, Spans};

@@ -1,0 +1,57 @@
+-- Spans that share no place, each with a tag, and how many probes a search among them makes.
+use Rattle.std.specs.Prelude.{◌≡◌, ℕ, ◌^◌, ◌≤◌, ◌<◌, ◌⊎◌, List, [], ◌∷◌, ◌++◌, length, All, AllPairs, Any, IsPermutation, slice_index_or}
+use Rattle.std.specs.Int.Digits.{digits_of}
+use Rattle.macho_fields.specs.Span.{end_of, Holds, Shares}
+use Rattle.macho_fields.specs.declared.span.Span.{Span}
+
+-- the pairs of a span and its tag in order, and how many probes the last call made
+pub record SpansView : Type 0 where
+  pub pairs : List (Span × ℕ)
+  pub probes : ℕ
+
+-- the span has a place, and none above the largest
+abbrev pub IsPlaced : Span → Type 0
+IsPlaced span = (0 < span.len) × (end_of span ≤ 2 ^ 64)
+
+-- The pairs are sorted by the starts of their spans, and no two spans share a place.
+pub record AreSorted (pairs : List (Span × ℕ)) : Type 0 where
+  pub placed : All (λ pair. IsPlaced pair.0) pairs
+  pub rising : AllPairs (λ pair later. pair.0.start < later.0.start) pairs
+  pub apart : AllPairs (λ pair later. ¬ Shares pair.0 later.0) pairs
+
+-- the span of some pair shares a place with the span
+abbrev pub SharesWithOne : List (Span × ℕ) → Span → Type 0
+SharesWithOne pairs span = Any (λ pair. Shares pair.0 span) pairs
+
+-- the span of some pair holds the place
+abbrev pub HoldsInOne : List (Span × ℕ) → ℕ → Type 0
+HoldsInOne pairs place = Any (λ pair. Holds pair.0 place) pairs
+
+-- Some pairs were kept before, and others come, one after the other. Each is kept where it shares no
+-- place with a pair that is kept by then. These are all that are kept in the end.
+abbrev pub Keeps : List (Span × ℕ) → List (Span × ℕ) → List (Span × ℕ) → Type 0
+Keeps before [] kept = kept ≡ before
+Keeps before (pair ∷ pairs) kept =
+    (SharesWithOne before pair.0 × Keeps before pairs kept)
+    ⊎ ((¬ SharesWithOne before pair.0) × Keeps (before ++ pair ∷ []) pairs kept)
+
+-- the pairs that are held are those that are kept of all that came, in whatever order they are held
+abbrev pub AreKept : List (Span × ℕ) → List (Span × ℕ) → Type 0
+AreKept pairs held = (kept : List (Span × ℕ)) × Keeps [] pairs kept × IsPermutation kept held
+
+-- how many binary digits a number has, and none for 0
+unfoldable pub digits : ℕ → ℕ
+digits n = length (digits_of 2 n)
+
+-- A search among n spans makes at least one probe where there is a span, and at most as many as n has
+-- binary digits.
+pub record IsProbeCount (n probes : ℕ) : Type 0 where
+  pub some : 0 < n → 0 < probes
+  pub most : probes ≤ digits n
+
+-- so many of the sorted pairs start at the place or before it
+pub record StartBy (pairs : List (Span × ℕ)) (place count : ℕ) : Type 0 where
+  pub among : count ≤ length pairs
+  pub before : (k : ℕ) (d : Span × ℕ) → k < count → (slice_index_or pairs k d).0.start ≤ place
+  pub after : (k : ℕ) (d : Span × ℕ) → count ≤ k → k < length pairs
+      → place < (slice_index_or pairs k d).0.start

@@ -1,0 +1,158 @@
+//! Spans that share no place, each with a tag: a list sorted by start, which is searched by halves.
+
+mod held;
+
+ghost use Rattle.std.specs.Prelude.{◌≡◌, length, MatchOption};
+ghost use Rattle.macho_fields.specs.Spans.{AreSorted, IsPlaced, IsProbeCount};
+ghost use Rattle.macho_fields.specs.Spans.{SharesWithOne, StartBy};
+
+use crate::span::Span;
+use held::Held;
+use std::alloc::{AllocError, Global};
+use std::marker::Model;
+
+/// What became of a span that was to be inserted.
+#[derive(Clone, Copy, Debug, PartialEq, Eq)]
+pub enum Insert {
+    /// It is held now, with its tag.
+    Added,
+    /// It shares a place with a span that is held, and nothing has changed.
+    Overlap,
+}
+
+/// Spans of which no two share a place, each with a tag. A place is an address or an offset in
+/// bytes.
+#[derive(Drop)]
+pub struct Spans {
+    held: Held,
+}
+
+impl Model for Spans {
+    ghost use Rattle.macho_fields.specs.Spans.{SpansView, AreSorted};
+
+    ghost Value = { SpansView };
+
+    ghost view = { λ spans. record {
+      pairs = spans.held.pairs.items;
+      probes = spans.held.probes;
+    } };
+
+    ghost invariant = { λ spans. AreSorted spans.held.pairs.items };
+}
+
+impl Spans {
+    ghost use Rattle.std.specs.Prelude.{◌≡◌, ◌↔◌, ℕ, [], ◌∷◌, ◌++◌, List, length};
+    ghost use Rattle.std.specs.Prelude.{Contains, IsPermutation, IfOk, OnOk, OnErr, MatchOption};
+    ghost use Rattle.macho_fields.specs.Span.{Holds};
+    ghost use Rattle.macho_fields.specs.Spans.{AreKept, AreSorted, HoldsInOne, IsPlaced};
+    ghost use Rattle.macho_fields.specs.Spans.{IsProbeCount, SharesWithOne};
+    ghost use Rattle.macho_fields.specs.declared.span.Span.{Span};
+    ghost use Rattle.macho_fields.specs.declared.spans.Insert.{Insert};
+
+    /// No spans. It takes no memory.
+    pub fn new(alloc: Global) -> Spans
+        ensures none { result.pairs ≡ [] }
+        ensures probes { result.probes ≡ 0 }
+    {
+        Spans {
+            held: Held::new(alloc),
+        }
+    }
+
+    /// How many spans are held.
+    pub fn len(&self) -> u64
+        ensures { result ≡ length self.now.pairs }
+    {
+        self.held.len() as u64
+    }
+
+    /// How many probes the last insertion or look-up made, 0 before any. A probe is one comparison
+    /// of the start of a held span.
+    pub fn probes(&self) -> u64
+        ensures { result ≡ self.now.probes }
+    {
+        self.held.probes()
+    }
+
+    /// Adds the span with its tag, unless it shares a place with a span that is held. The span is
+    /// not empty, and ends at 2^64 or before. Only a span that is added takes memory.
+    pub fn try_insert(&mut self, span: Span, tag: u64) -> Result<Insert, AllocError>
+        requires { IsPlaced span }
+
+        // What was inserted before and is kept stays, and the new pair is kept as well where it
+        // shares no place with any of it.
+        ensures kept { OnOk result ((calls : List (Span × ℕ)) → AreKept calls self.old.pairs
+            → AreKept (calls ++ (span, tag) ∷ []) self.new.pairs) }
+        ensures overlap { IfOk result (λ insert.
+            (insert ≡ Insert.Overlap) ↔ SharesWithOne self.old.pairs span) }
+        ensures added { IfOk result (λ insert. insert ≡ Insert.Added
+            → IsPermutation ((span, tag) ∷ self.old.pairs) self.new.pairs) }
+        ensures unchanged { IfOk result (λ insert. insert ≡ Insert.Overlap
+            → self.new.pairs ≡ self.old.pairs) }
+        ensures memory { OnErr result (self.new.pairs ≡ self.old.pairs) }
+        ensures memory_to_add { OnErr result (¬ SharesWithOne self.old.pairs span) }
+
+        ensures sorted { AreSorted self.new.pairs }
+        ensures probes { IsProbeCount (length self.old.pairs) self.new.probes }
+    {
+        let Some(next) = gap_for(&mut self.held, span) else {
+            return Ok(Insert::Overlap);
+        };
+        self.held.insert(next, span, tag)?;
+        Ok(Insert::Added)
+    }
+
+    /// The held span that holds the place, with its tag, or `None` where there is none.
+    pub fn find(&mut self, place: u64) -> Option<(Span, u64)>
+        ensures found { MatchOption result (¬ HoldsInOne self.old.pairs place)
+            (λ pair. Contains self.old.pairs pair × Holds pair.0 place) }
+        ensures same { self.new.pairs ≡ self.old.pairs }
+        ensures sorted { AreSorted self.new.pairs }
+        ensures probes { IsProbeCount (length self.old.pairs) self.new.probes }
+    {
+        let next = count_starts_by(&mut self.held, place);
+        let before = next.checked_sub(1)?;
+        self.held.holding(before, place)
+    }
+}
+
+/// The index at which a span goes, or `None` where it shares a place with one that is held.
+fn gap_for(held: &mut Held, span: Span) -> Option<usize>
+    requires sorted { AreSorted held.old.pairs.items }
+    requires placed { IsPlaced span }
+    ensures gap { MatchOption result (SharesWithOne held.old.pairs.items span)
+        (λ next. (¬ SharesWithOne held.old.pairs.items span)
+        × StartBy held.old.pairs.items span.start next) }
+    ensures same { held.new.pairs ≡ held.old.pairs }
+    ensures probes { IsProbeCount (length held.old.pairs.items) held.new.probes }
+{
+    let next = count_starts_by(held, span.start);
+    let before = next > 0 && held.shares(next - 1, span);
+    let after = next < held.len() && held.shares(next, span);
+    if before || after { None } else { Some(next) }
+}
+
+/// How many of the spans start at the place or before it, by halves.
+fn count_starts_by(held: &mut Held, place: u64) -> usize
+    requires { AreSorted held.old.pairs.items }
+    ensures count { StartBy held.old.pairs.items place result }
+    ensures same { held.new.pairs ≡ held.old.pairs }
+    ensures tests { held.new.tests ≡ 0 }
+    ensures probes { IsProbeCount (length held.old.pairs.items) held.new.probes }
+{
+    held.reset_counts();
+    let mut low = 0;
+    let mut high = held.len();
+    while low < high {
+        let middle = low + (high - low) / 2;
+        if held.starts_by(middle, place) {
+            low = middle + 1;
+        } else {
+            high = middle;
+        }
+    }
+    low
+}
+
+#[cfg(test)]
+mod tests;
