@@ -1,52 +1,47 @@
--- A search for a zero byte in a part of the bytes.
-use Rattle.std.proofs.Common.{◌≡◌, ℕ, ◌+◌, ◌-◌, ◌≤◌, ◌<◌, ◌⊎◌, Bor, List, length, take, drop, slice_index, slice_get, slice_range, unwrap_or, MatchOption, Option, None, Some, ⊎_elim, sym, ap, ◌∙◌, arith, length-drop, length-take}
+-- A search for a zero byte in a part of the bytes, which may be cut at their end.
+use Rattle.std.proofs.Common.{◌≡◌, ℕ, ◌+◌, ◌-◌, ◌≤◌, ◌<◌, List, length, drop, slice_index, slice_get, Some, sym, ap, ◌∙◌, arith, length-drop, length-take}
 use Rattle.std.proofs.lemmas.Bool.{eqb-true, eq-eqb}
-use Rattle.std.proofs.lemmas.List.{get_or-take, get_or-drop, take_all, take_rest}
-use Rattle.std.proofs.lemmas.Grind.{common_steps}
+use Rattle.std.proofs.lemmas.List.{get_or-take, get_or-drop}
 use Rattle.std.proofs.lemmas.Option.{slice_get-get_or}
-use Rattle.memchr.specs.Find.{is_byte, IsFirstByte, Passes}
+use Rattle.memchr.specs.Find.{is_byte, IsFirstByte, IsLastByte, Nowhere, Passes}
 use Rattle.macho_fields.specs.Field.{part, HasZero}
 
-length_part : (bytes : List ℕ) (start len k : ℕ) → k < length (part start len bytes) → (k < len) × (start + k < length bytes)
-length_part bytes start len k h = (omega (arith, length-take len (drop start bytes)), omega (arith, length-take len (drop start bytes), length-drop start bytes))
+module _ (bytes within : List ℕ) (start len : ℕ) (are : within ≡ part start len bytes) where
+  inside_part : (k : ℕ) → k < length within → (k < len) × (start + k < length bytes)
+  inside_part k h =
+      let size = ap length are in (omega (arith, size, length-take len (drop start bytes)), omega (arith, size, length-take len (drop start bytes), length-drop start bytes))
 
-read_part : (bytes : List ℕ) (start len k : ℕ) → k < length (part start len bytes) → slice_index (part start len bytes) k ≡ slice_index bytes (start + k)
-read_part bytes start len k h = get_or-take len (drop start bytes) k 0 (length_part bytes start len k h).0 ∙ get_or-drop start bytes k 0
+  in_part : (z : ℕ) → start ≤ z → z < start + len → z < length bytes → z - start < length within
+  in_part z low high inside = omega (arith, ap length are, length-take len (drop start bytes), length-drop start bytes)
 
-in_part : (bytes : List ℕ) (start len z : ℕ) → start ≤ z → z < start + len → z < length bytes → z - start < length (part start len bytes)
-in_part bytes start len z low high inside = omega (arith, length-take len (drop start bytes), length-drop start bytes)
+  read_part : (k : ℕ) → k < length within → slice_index within k ≡ slice_index bytes (start + k)
+  read_part k h = ap (λ xs. slice_index xs k) are ∙ (get_or-take len (drop start bytes) k 0 (inside_part k h).0 ∙ get_or-drop start bytes k 0)
 
-pub none_in_part : (bytes : List ℕ) (start len : ℕ) → IsFirstByte (is_byte 0) (part start len bytes) None → ¬ HasZero bytes start (start + len)
-none_in_part bytes start len none (z, low, high, inside, is) =
-    let here = in_part bytes start len z low high inside in
-    let at : start + (z - start) ≡ z = omega arith in
-    let same : slice_index (part start len bytes) (z - start) ≡ 0 = read_part bytes start len (z - start) here ∙ (ap (slice_index bytes) at ∙ is) in
-    none (z - start) (omega arith) here (eq-eqb _ 0 same)
+  -- an index of the part whose byte is zero
+  pub zero_in_part : (k : ℕ) → k < length within → Passes (is_byte 0) within k → (k < len) × (slice_get bytes (start + k) ≡ Some 0)
+  zero_in_part k inside is =
+      let (below, held) = inside_part k inside in
+      let zero : slice_index bytes (start + k) ≡ 0 = sym (read_part k inside) ∙ eqb-true _ 0 is in
+      (below, slice_get-get_or bytes (start + k) 0 held ∙ ap Some zero)
 
--- an index of the part whose byte is zero
-pub zero_in_part : (bytes : List ℕ) (start len k : ℕ) → k < length (part start len bytes) → Passes (is_byte 0) (part start len bytes) k → (k < len) × (slice_get bytes (start + k) ≡ Some 0)
-zero_in_part bytes start len k inside is =
-    let within = length_part bytes start len k inside in
-    let zero : slice_index bytes (start + k) ≡ 0 = sym (read_part bytes start len k inside) ∙ eqb-true _ 0 is in
-    (within.0, slice_get-get_or bytes (start + k) 0 within.1 ∙ ap Some zero)
+  -- a place whose byte is zero is such an index
+  zero_passes : (z : ℕ) → start ≤ z → z - start < length within → slice_index bytes z ≡ 0 → Passes (is_byte 0) within (z - start)
+  zero_passes z low here is =
+      let at : start + (z - start) ≡ z = omega arith in
+      eq-eqb _ 0 (read_part (z - start) here ∙ (ap (slice_index bytes) at ∙ is))
 
--- no zero comes before the first one of the part
-pub none_before_in_part : (bytes : List ℕ) (start len k : ℕ) → IsFirstByte (is_byte 0) (part start len bytes) (Some k) → ¬ HasZero bytes start (start + k)
-none_before_in_part bytes start len k (none, is) (z, low, high, within, at) =
-    let here : z - start < length (part start len bytes) = omega (arith, none.high) in
-    let sum : start + (z - start) ≡ z = omega arith in
-    let same : slice_index (part start len bytes) (z - start) ≡ 0 = read_part bytes start len (z - start) here ∙ (ap (slice_index bytes) sum ∙ at) in
-    none.before (z - start) (omega arith) (omega arith) (eq-eqb _ 0 same)
+  none_from : (i from : ℕ) → start + i ≤ from → Nowhere (Passes (is_byte 0) within) i (length within) → ¬ HasZero bytes from (start + len)
+  none_from i from past none (z, low, high, held, is) =
+      let here = in_part z (omega arith) high held in none (z - start) (omega arith) here (zero_passes z (omega arith) here is)
 
--- what is read of a part that may end past the bytes
-pub clipped_part : (bytes : List ℕ) (start len : ℕ) (rest within : Bor (List ℕ)) (got : Option (Bor (List ℕ))) → within ≡ unwrap_or got rest → rest.now ≡ slice_range bytes start (length bytes)
-    → MatchOption got ((len < 0) ⊎ (length rest.now < len)) (λ x. (0 ≤ len) × (len ≤ length rest.now) × (x.now ≡ slice_range rest.now 0 len) × (length x.now + 0 ≡ len))
-    → within.now ≡ part start len bytes
-clipped_part bytes start len rest within None e r h =
-    let short : length rest.now ≤ len = ⊎_elim (λ k. absurd (omega arith)) (λ k. omega arith) h in
-    ap (λ (b : Bor (List ℕ)). b.now) e ∙ (sym (take_all len rest.now short) ∙ ap (take len) (r ∙ take_rest bytes start))
-clipped_part bytes start len rest within (Some x) e r h =
-    ap (λ (b : Bor (List ℕ)). b.now) e ∙ (h.2 ∙ (take_off_none len rest.now ∙ ap (take len) (r ∙ take_rest bytes start)))
-  where
-    take_off_none : (n : ℕ) (xs : List ℕ) → slice_range xs 0 n ≡ take n xs
-    take_off_none n xs = grind (arith, common_steps)
+  -- no place has a zero byte where no index of the part has one
+  pub none_in_part : Nowhere (Passes (is_byte 0) within) 0 (length within) → ¬ HasZero bytes start (start + len)
+  none_in_part none = none_from 0 start (omega arith) none
+
+  -- none does before the first one of the part
+  pub none_before : (k : ℕ) → IsFirstByte (is_byte 0) within (Some k) → ¬ HasZero bytes start (start + k)
+  none_before k (first, at) (z, low, high, held, is) = first.before (z - start) (omega arith) (omega arith) (zero_passes z low (omega (arith, first.high)) is)
+
+  -- none does after the last one of the part
+  pub none_after : (k : ℕ) → IsLastByte (is_byte 0) within (Some k) → ¬ HasZero bytes (start + k + 1) (start + len)
+  none_after k (last, at) = none_from (k + 1) (start + k + 1) (omega arith) last.after

@@ -7,7 +7,7 @@ ghost use Rattle.macho_fields.specs.Span.{end_of, Holds};
 
 use crate::span::Span;
 use byteorder::{BigEndian, ByteOrder, LittleEndian};
-use memchr::memchr;
+use memchr::{memchr, memrchr};
 
 /// The order of the bytes of a field.
 #[derive(Clone, Copy, Debug, PartialEq, Eq)]
@@ -112,9 +112,21 @@ impl<'a> Bytes<'a> {
         ensures first { IfSome result (λ place.
             ¬ HasZero (bytes_of self.entry) span.start place) }
     {
-        let rest = self.bytes.get(span.start as usize..)?;
-        let within = rest.get(..span.len as usize).unwrap_or(rest);
+        let within = self.clipped(span)?;
         let index = memchr(0, within)?;
+        Some(span.start + index as u64)
+    }
+
+    /// The last place of `span` whose byte is zero. A span may end, or begin, past the bytes.
+    pub fn last_zero(self, span: Span) -> Option<u64>
+        ensures found { IsSome result ↔ HasZero (bytes_of self.entry) span.start (end_of span) }
+        ensures zero { IfSome result (λ place.
+            Holds span place × (slice_get (bytes_of self.entry) place ≡ Some 0)) }
+        ensures last { IfSome result (λ place.
+            ¬ HasZero (bytes_of self.entry) (place + 1) (end_of span)) }
+    {
+        let within = self.clipped(span)?;
+        let index = memrchr(0, within)?;
         Some(span.start + index as u64)
     }
 
@@ -127,6 +139,16 @@ impl<'a> Bytes<'a> {
     {
         let end = self.first_zero(span)?;
         self.bytes_at(span.start, end - span.start)
+    }
+
+    /// The bytes at those places of `span` that are inside, or `None` where it begins past the end.
+    fn clipped(self, span: Span) -> Option<&'a [u8]>
+        ensures inside { IsSome result ↔ (span.start ≤ length (bytes_of self.entry)) }
+        ensures bytes { IfSome result (λ bytes.
+            bytes.now ≡ part span.start span.len (bytes_of self.entry)) }
+    {
+        let rest = self.bytes.get(span.start as usize..)?;
+        Some(rest.get(..span.len as usize).unwrap_or(rest))
     }
 
     fn bytes_at(self, place: u64, width: u64) -> Option<&'a [u8]>
@@ -172,5 +194,31 @@ mod tests {
         assert_eq!(rt; bytes.first_zero(from(0, 2)), None);
         assert_eq!(rt; bytes.first_zero(from(3, u64::MAX)), Some(4));
         assert_eq!(rt; bytes.first_zero(from(9, 1)), None);
+    }
+
+    #[test]
+    fn the_last_zero_is_found_in_the_span_alone(rt: HostRuntime) {
+        let bytes = Bytes::new(b"ab\0c\0\0d");
+        let spans = [
+            (0, 7, Some(5)),
+            (0, 5, Some(4)),
+            (0, 4, Some(2)),
+            (0, 2, None),
+            (3, 1, None),
+            (4, 1, Some(4)),
+            (4, 0, None),
+            (2, u64::MAX, Some(5)),
+            (6, u64::MAX, None),
+            (7, 1, None),
+            (9, 1, None),
+            (u64::MAX, u64::MAX, None),
+        ];
+        for (start, len, last) in spans {
+            assert_eq!(rt;
+                bytes.last_zero(Span { start, len }),
+                last,
+                "{len} from {start} on"
+            );
+        }
     }
 }
