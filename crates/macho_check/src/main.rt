@@ -6,6 +6,7 @@
 mod doubles;
 #[cfg(test)]
 mod notation;
+mod number;
 mod program;
 mod status;
 #[cfg(test)]

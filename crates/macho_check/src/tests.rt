@@ -11,6 +11,7 @@ mod real;
 mod report;
 mod streams;
 mod views;
+mod words;
 
 use crate::notation::{append, written};
 use crate::status::check_status;
