@@ -1,3 +1,4 @@
 pub mod Text
 pub mod Number
+pub mod Words
 pub mod Status

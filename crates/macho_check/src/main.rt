@@ -11,6 +11,7 @@ mod program;
 mod status;
 #[cfg(test)]
 mod tests;
+mod words;
 
 use macho_report::{FromRead, FromWrite};
 use program::{run_program, without_memory};

@@ -1,0 +1,101 @@
+-- What the words behind the program's name ask for, by what `clap` says of a simple command.
+use Rattle.std.specs.Prelude.{ℕ, List, [], ◌∷◌, true, Option, Some, None, Result, Ok, Err, ⊤, ◌≡◌, if◌then◌else◌, codes}
+use Rattle.std.specs.Str.{bytes_eq}
+use Rattle.std.specs.String.{string_bytes}
+use Rattle.clap.specs.Words.{App, Kinds, Row, Rule, Text, fault_of, first_of, new_app, new_rule, subcommand_of, with_rule, with_subcommand}
+use Rattle.clap.specs.Simple.{on_top}
+use Rattle.clap.specs.declared.error.kind.ErrorKind.{ErrorKind}
+use Rattle.clap.specs.declared.error.kind.ErrorKind.TheVariants.{OutOfMemory}
+use Rattle.macho_check.specs.Number.{number_of}
+use Rattle.macho_check.specs.declared.words.Request.{Request}
+use Rattle.macho_check.specs.declared.words.Request.TheVariants.{Check, Where}
+use Rattle.macho_check.specs.declared.words.WordFault.{WordFault}
+use Rattle.macho_check.specs.declared.words.WordFault.TheVariants.{Usage, BadNumber, Memory}
+
+-- a positional argument that has to be there
+abbrev pub required : Text → Rule
+required id = record (new_rule id) { required = true }
+
+-- `check FILE`
+abbrev pub check_command : App
+check_command = with_rule (new_app (codes "check")) (required (codes "FILE"))
+
+-- `where FILE SLICE ADDRESS`
+abbrev pub where_command : App
+where_command = with_rule (with_rule (with_rule (new_app (codes "where")) (required (codes "FILE")))
+    (required (codes "SLICE"))) (required (codes "ADDRESS"))
+
+-- no program's name comes first, a subcommand has to be there, and none shows help
+abbrev pub bare_command : App
+bare_command = on_top (λ s. record s {
+  no_binary_name = true;
+  subcommand_required = true;
+  disable_help_flag = true;
+  disable_help_subcommand = true;
+}) (new_app (codes "macho-check"))
+
+abbrev pub program_command : App
+program_command = with_subcommand (with_subcommand bare_command check_command.top) where_command.top
+
+-- what is asked for: a file's verdict, or the place of an address of a slice in a file
+pub data Asked : Type 0 where
+  verdict : Text → Asked
+  place : Text → ℕ → ℕ → Asked
+
+abbrev pub asked_by : Request → Asked
+asked_by (Check file) = verdict (string_bytes file)
+asked_by (Where file slice address) = place (string_bytes file) slice address
+
+-- what `check` asks for, by the text of FILE
+abbrev pub verdict_asked : Option Text → Result Asked WordFault
+verdict_asked (Some file) = Ok (verdict file)
+verdict_asked None = Err Usage
+
+abbrev pub check_asked : List Row → Result Asked WordFault
+check_asked rows = verdict_asked (first_of (codes "FILE") rows)
+
+-- what `where` asks for, by the text of FILE and the numbers of SLICE and ADDRESS
+abbrev pub place_numbered : Text → Option ℕ → Option ℕ → Result Asked WordFault
+place_numbered file (Some slice) (Some address) = Ok (place file slice address)
+place_numbered file _ _ = Err BadNumber
+
+-- the same, by the three texts
+abbrev pub place_asked : Option Text → Option Text → Option Text → Result Asked WordFault
+place_asked (Some file) (Some slice) (Some address) =
+    place_numbered file (number_of slice) (number_of address)
+place_asked _ _ _ = Err Usage
+
+abbrev pub where_asked : List Row → Result Asked WordFault
+where_asked rows = place_asked (first_of (codes "FILE") rows) (first_of (codes "SLICE") rows)
+    (first_of (codes "ADDRESS") rows)
+
+-- what a subcommand asks for, by its name and the matches of its arguments
+abbrev pub asked_in : Text → List Row → Result Asked WordFault
+asked_in name rows = if bytes_eq name (codes "check") then check_asked rows
+    else (if bytes_eq name (codes "where") then where_asked rows else Err Usage)
+
+abbrev pub asked_under : Option (Text × List Row) → Result Asked WordFault
+asked_under (Some subcommand) = asked_in subcommand.0 subcommand.1
+asked_under None = Err Usage
+
+-- the same, where `clap` finds these faults in the words
+abbrev pub asked_unless : Kinds → Option (Text × List Row) → Result Asked WordFault
+asked_unless [] subcommand = asked_under subcommand
+asked_unless (fault ∷ faults) subcommand = Err Usage
+
+-- what the words ask for, or why they ask for nothing
+abbrev pub asked : List Text → Result Asked WordFault
+asked [] = Ok (verdict (codes "-"))
+asked (word ∷ words) = asked_unless (fault_of program_command (word ∷ words))
+    (subcommand_of program_command (word ∷ words))
+
+-- the answer is what is asked, or memory ran out
+abbrev pub Answers : Result Request WordFault → Result Asked WordFault → Type 0
+Answers (Ok request) answer = answer ≡ Ok (asked_by request)
+Answers (Err Memory) answer = ⊤
+Answers (Err fault) answer = answer ≡ Err fault
+
+-- the fault for an error of `clap` of this kind
+abbrev pub word_fault_of : ErrorKind → WordFault
+word_fault_of OutOfMemory = Memory
+word_fault_of _ = Usage

@@ -1,0 +1,157 @@
+//! What the words behind the program's name ask for.
+
+ghost use Rattle.std.specs.Prelude.{◌≡◌, map, option_map, IfOk, false};
+ghost use Rattle.clap.specs.Words.{app_of, first_of, found_of, kind_of, rows_of, rule_of};
+ghost use Rattle.macho_check.specs.Words.{Answers, asked, asked_in, check_asked, program_command, required, where_asked, word_fault_of};
+ghost use Rattle.macho_check.specs.declared.words.WordFault.TheVariants.{Memory};
+
+use crate::number::read_number;
+use clap::error::ErrorKind;
+use clap::{Arg, ArgMatches, Command};
+use std::alloc::{AllocError, Global};
+use thiserror::Error;
+
+/// The name of a file that stands for standard input.
+pub const STANDARD_INPUT: &str = "-";
+
+/// What the program is asked to do.
+#[derive(Debug, Drop, PartialEq, Eq)]
+pub enum Request {
+    /// Judge this file, and show its layout.
+    Check {
+        file: String,
+    },
+    /// Tell the place of this address of this slice in the file.
+    Where {
+        file: String,
+        slice: u64,
+        address: u64,
+    },
+}
+
+/// Why the words ask for nothing. The texts are the program's lines, without the line feed.
+#[derive(Clone, Copy, Debug, PartialEq, Eq, Error)]
+pub enum WordFault {
+    /// The words are not those of the program.
+    #[error("usage: macho-check check FILE | where FILE SLICE ADDRESS")]
+    Usage,
+    /// SLICE or ADDRESS is no number.
+    #[error("macho-check: bad number")]
+    BadNumber,
+    /// There was no memory.
+    #[error("macho-check: out of memory")]
+    Memory,
+}
+
+impl From<AllocError> for WordFault {
+    ghost from_gives = { λ _ fault. fault ≡ Memory };
+
+    fn from(_: AllocError) -> WordFault {
+        WordFault::Memory
+    }
+}
+
+impl From<clap::Error> for WordFault {
+    ghost from_gives = { λ error fault. fault ≡ word_fault_of (kind_of error) };
+
+    fn from(error: clap::Error) -> WordFault {
+        match error.kind() {
+            ErrorKind::OutOfMemory => WordFault::Memory,
+            _ => WordFault::Usage,
+        }
+    }
+}
+
+/// Reads the words behind the program's name. No words ask for a check of standard input. A number
+/// that is none is answered only where the words are otherwise those of the program.
+pub fn parse_words<'a>(alloc: Global, words: &'a [&'a str]) -> Result<Request, WordFault>
+    ensures { Answers result (asked (map (λ word. word.now) words.now)) }
+{
+    if words.is_empty() {
+        let file = String::from_str(alloc, STANDARD_INPUT)?;
+        return Ok(Request::Check { file });
+    }
+    let matches = command(alloc)?.try_get_matches_from(words)?;
+    let Some((name, arguments)) = matches.subcommand() else {
+        return Err(WordFault::Usage);
+    };
+    request_in(alloc, name, arguments)
+}
+
+// `check FILE` and `where FILE SLICE ADDRESS`.
+fn command<'a>(alloc: Global) -> Result<Command<'a>, AllocError>
+    ensures { IfOk result (λ command. app_of command ≡ program_command) }
+{
+    let check = Command::new(alloc, "check").arg(argument(alloc, "FILE"))?;
+    let place = Command::new(alloc, "where")
+        .arg(argument(alloc, "FILE"))?
+        .arg(argument(alloc, "SLICE"))?
+        .arg(argument(alloc, "ADDRESS"))?;
+    Command::new(alloc, "macho-check")
+        .no_binary_name(true)
+        .subcommand_required(true)
+        .disable_help_flag(true)
+        .disable_help_subcommand(true)
+        .subcommand(check)?
+        .subcommand(place)
+}
+
+// A positional argument that has to be there, taken as text.
+fn argument<'a>(alloc: Global, name: &'a str) -> Arg<'a>
+    ensures rule { rule_of result ≡ required name.entry.now }
+    ensures local { result.global ≡ false }
+{
+    Arg::new(alloc, name).required(true)
+}
+
+// The request of a subcommand of this name, with these arguments.
+fn request_in(alloc: Global, name: &str, arguments: &ArgMatches<'_>) -> Result<Request, WordFault>
+    ensures { Answers result (asked_in name.now (rows_of (found_of arguments.now))) }
+{
+    match name {
+        "check" => check_in(alloc, arguments),
+        "where" => where_in(alloc, arguments),
+        _ => Err(WordFault::Usage),
+    }
+}
+
+// The text of an argument of this name.
+fn text_of<'a>(arguments: &ArgMatches<'a>, name: &str) -> Option<&'a str>
+    ensures { option_map (λ text. text.now) result
+        ≡ first_of name.now (rows_of (found_of arguments.now)) }
+{
+    arguments.get_str(name)
+}
+
+// The request of `check`.
+fn check_in(alloc: Global, arguments: &ArgMatches<'_>) -> Result<Request, WordFault>
+    ensures { Answers result (check_asked (rows_of (found_of arguments.now))) }
+{
+    let Some(file) = text_of(arguments, "FILE") else {
+        return Err(WordFault::Usage);
+    };
+    let file = String::from_str(alloc, file)?;
+    Ok(Request::Check { file })
+}
+
+// The request of `where`.
+fn where_in(alloc: Global, arguments: &ArgMatches<'_>) -> Result<Request, WordFault>
+    ensures { Answers result (where_asked (rows_of (found_of arguments.now))) }
+{
+    let (Some(file), Some(slice), Some(address)) = (
+        text_of(arguments, "FILE"),
+        text_of(arguments, "SLICE"),
+        text_of(arguments, "ADDRESS"),
+    ) else {
+        return Err(WordFault::Usage);
+    };
+    let (Some(slice), Some(address)) = (read_number(slice), read_number(address)) else {
+        return Err(WordFault::BadNumber);
+    };
+    let file = String::from_str(alloc, file)?;
+    Ok(Request::Where {
+        file,
+        slice,
+        address,
+    })
+}
