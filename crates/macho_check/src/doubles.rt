@@ -1,5 +1,7 @@
 //! Streams of std for tests, which count their calls.
 
+pub(crate) mod slow;
+
 use std::io;
 use std::io::{ErrorKind, Read, Write};
 

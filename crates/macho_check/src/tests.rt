@@ -10,6 +10,7 @@ mod numbers;
 mod real;
 mod report;
 mod streams;
+mod transfers;
 mod views;
 mod words;
 

@@ -4,8 +4,6 @@
 
 pub mod address;
 mod arch;
-#[cfg(test)]
-mod doubles;
 pub mod from_read;
 pub mod from_write;
 pub mod layout;
@@ -14,8 +12,6 @@ mod name;
 mod number;
 pub mod outcome;
 pub mod stream;
-#[cfg(test)]
-mod tests;
 pub mod transfer;
 
 pub use address::{WhereOutcome, run_where};

@@ -1,22 +1,14 @@
-//! What no clause says: how many reads there are, and that calls succeed.
+//! Whole transfers over streams that take one byte a call, and that fail.
 
-use crate::address::{WhereOutcome, run_where};
-use crate::doubles::{EndlessReader, SlowReader, SlowWriter};
-use crate::layout::write_layout;
-use crate::line::write_break;
-use crate::number::write_hex;
-use crate::outcome::{Outcome, RunFault, run};
-use crate::stream::{Input, Output};
-use crate::transfer::{ReadFault, read_all, write_all};
+use super::same;
+use crate::doubles::slow::{EndlessReader, SlowReader, SlowWriter};
 use macho_fields::{Break, Rule};
+use macho_report::transfer::{ReadFault, read_all};
+use macho_report::{
+    Input, Outcome, Output, RunFault, WhereOutcome, run, run_where, write_all, write_break,
+    write_layout,
+};
 use macho_rules::verify;
-use std::fmt::Debug;
-use std::process::Abort;
-
-/// Compares what is given with what is wanted. A call costs less proof than `assert_eq!`.
-fn same<T: PartialEq + Debug>(rt: &impl Abort, given: &T, wanted: &T) {
-    assert_eq!(rt; *given, *wanted);
-}
 
 const TEXT: &[u8; 32] = b"abcdefghijklmnopqrstuvwxyz012345";
 
@@ -92,22 +84,6 @@ fn stops_at_a_failed_write(rt: HostRuntime) {
     same(&rt, &write_all(b"i", &mut writer).is_err(), &true);
     same(&rt, &write_all(b"", &mut writer).is_ok(), &true);
     same(&rt, &writer.bytes.as_slice(), &b"abcd".as_slice());
-}
-
-#[test]
-fn writes_numbers(rt: HostRuntime) {
-    let cases = [
-        (0, b"0x0".as_slice()),
-        (9, b"0x9".as_slice()),
-        (0x1e8, b"0x1e8".as_slice()),
-        (0x10, b"0x10".as_slice()),
-        (u64::MAX, b"0xffffffffffffffff".as_slice()),
-    ];
-    for (number, text) in cases {
-        let mut writer = SlowWriter::new(Vec::new(rt.alloc()), 100);
-        same(&rt, &write_hex(number, &mut writer).is_ok(), &true);
-        same(&rt, &writer.bytes.as_slice(), &text);
-    }
 }
 
 /// A header alone, which keeps every rule.

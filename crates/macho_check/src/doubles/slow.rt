@@ -1,8 +1,8 @@
-//! Streams for tests, which take one byte a call.
+//! Inputs and outputs for tests, which take one byte a call.
 
 ghost use Rattle.std.specs.Prelude.{Some, None, false};
 
-use crate::stream::{Failed, Input, Output};
+use macho_report::{Failed, Input, Output};
 
 /// An input over bytes in memory. It returns one byte a read, counts its reads, and may fail at one.
 #[derive(Drop)]
