@@ -1,10 +1,11 @@
 -- Texts that are put together from the end, and how lines end.
-use Rattle.std.proofs.Common.{◌≡◌, ℕ, true, false, List, [], ◌∷◌, ◌++◌, refl, ap, ◌∙◌, append-nil}
+use Rattle.std.proofs.Common.{◌≡◌, ℕ, Option, Result, true, false, List, [], ◌∷◌, ◌++◌, refl, ap, subst, ◌∙◌, append_assoc, append-nil}
 use Rattle.std.specs.Prelude.{codes}
 use Rattle.macho_fields.specs.Segment.{section_offset, is_zero_fill}
-use Rattle.macho_report.specs.Stream.{joined}
+use Rattle.macho_report.specs.Stream.{Writes, joined}
 use Rattle.macho_report.specs.Number.{prefixed_hex}
-use Rattle.macho_report.specs.Scaffold.{contents_end}
+use Rattle.macho_report.specs.Line.{library_word}
+use Rattle.macho_report.specs.Scaffold.{library_start, contents_end}
 
 pub joined_last : (text all : List ℕ) → all ≡ text ++ [] → all ≡ joined (text ∷ [])
 unfolding joined
@@ -23,3 +24,12 @@ pub file_end : (image : List ℕ) (section : ℕ) → is_zero_fill image section
     → contents_end image section ≡ joined (codes " file " ∷ prefixed_hex (section_offset image section) ∷ codes "\n" ∷ [])
 unfolding joined
 file_end image section not_zero = rw not_zero (ap (λ l. codes " file " ++ (l ++ codes "\n")) (append-nil (prefixed_hex (section_offset image section))))
+
+library_begins : (kind : ℕ) (rest : List (List ℕ)) → joined (library_start kind ∷ rest) ≡ joined (codes "  " ∷ library_word kind ∷ codes " " ∷ rest)
+unfolding joined
+library_begins kind rest = ap (λ l. codes "  " ++ l) (append_assoc (library_word kind) (codes " ") (joined rest))
+
+-- the line of a library, of which the first three texts are written at once
+pub library_writes : {T E : Type 0} (kind : ℕ) (rest : List (List ℕ)) (a b : Option (List ℕ)) (r : Result T E)
+    → Writes a b r (joined (library_start kind ∷ rest)) → Writes a b r (joined (codes "  " ∷ library_word kind ∷ codes " " ∷ rest))
+library_writes kind rest a b r wrote = subst (Writes a b r) (library_begins kind rest) wrote

@@ -6,10 +6,10 @@ ghost use Rattle.macho_fields.specs.Segment.{File};
 ghost use Rattle.macho_rules.specs.Source.{source_of};
 ghost use Rattle.macho_report.specs.Stream.{Writes, FailsAtFault};
 ghost use Rattle.macho_report.specs.Arch.{arch_text};
-ghost use Rattle.macho_report.specs.Line.{extent_text, slice_line, uuid_line, build_line, letter, protection_text, segment_line, section_line, library_word, library_line, symbols_line, entry_line};
+ghost use Rattle.macho_report.specs.Line.{extent_text, slice_line, uuid_line, build_line, letter, protection_text, segment_line, section_line, library_line, symbols_line, entry_line};
 ghost use Rattle.macho_report.specs.Text.{break_text};
 ghost use Rattle.macho_report.specs.Where.{where_text};
-ghost use Rattle.macho_report.specs.Scaffold.{contents_end, versions_end};
+ghost use Rattle.macho_report.specs.Scaffold.{library_start, versions_end, contents_end};
 
 use crate::arch::write_arch;
 use crate::name::write_quoted;
@@ -78,7 +78,6 @@ fn write_slice_arch<W: Output>(arch: Option<(u32, u32)>, writer: &mut W) -> Resu
 }
 
 // Writes a part of the file or of memory: a word, its first place, and its size.
-#[inline(always)]
 #[tactic(auto, using(crate::proofs::StreamLemmas::writing))]
 fn write_extent<W: Output>(
     word: &[u8],
@@ -210,9 +209,7 @@ pub(crate) fn write_library<W: Output>(library: &Dylib, writer: &mut W) -> Resul
         library.now.compatible) }
     ensures failed { FailsAtFault (W.has_failed writer.old) (W.has_failed writer.new) result }
 {
-    write_all(b"  ", writer)?;
-    write_all(library_word(library.cmd).as_bytes(), writer)?;
-    write_all(b" ", writer)?;
+    write_all(library_start(library.cmd).as_bytes(), writer)?;
     write_quoted(library.name, writer)?;
     write_versions(library, writer)
 }
@@ -232,17 +229,17 @@ fn write_versions<W: Output>(library: &Dylib, writer: &mut W) -> Result<(), Writ
     write_all(&places[start..], writer)
 }
 
-// The word of a command that names a library.
-fn library_word(kind: u32) -> &'static str
-    ensures { result.now ≡ library_word kind }
+// How the line of a library begins: the word of its command, with the blanks around it.
+fn library_start(kind: u32) -> &'static str
+    ensures { result.now ≡ library_start kind }
 {
     match kind {
-        LC_ID_DYLIB => "id",
-        LC_LOAD_DYLIB => "load",
-        LC_LOAD_WEAK_DYLIB => "weak",
-        LC_REEXPORT_DYLIB => "reexport",
-        LC_LAZY_LOAD_DYLIB => "lazy",
-        _ => "upward",
+        LC_ID_DYLIB => "  id ",
+        LC_LOAD_DYLIB => "  load ",
+        LC_LOAD_WEAK_DYLIB => "  weak ",
+        LC_REEXPORT_DYLIB => "  reexport ",
+        LC_LAZY_LOAD_DYLIB => "  lazy ",
+        _ => "  upward ",
     }
 }
 
