@@ -1,6 +1,8 @@
 pub mod Searches
 pub mod Judged
 pub mod SegmentItems
+pub mod Memory
+pub mod MappingItems
 pub mod SectionItems
 pub mod OneCommand
 pub mod Groups
@@ -8,4 +10,3 @@ pub mod TableItems
 pub mod SymbolItems
 pub mod TableRange
 pub mod Verdicts
-pub mod MappingItems

@@ -36,7 +36,7 @@ ordered_append {X = X} R (x ∷ xs) ys (first, up) down across =
     either y (inl among) = first y among
     either y (inr after) = across x y (has_first x xs) after
 
-unfiltered : {X : Type 0} (test : X → Bool) (xs : List X) (y : X) → Contains (filter test xs) y → Contains xs y
+pub unfiltered : {X : Type 0} (test : X → Bool) (xs : List X) (y : X) → Contains (filter test xs) y → Contains xs y
 unfiltered test xs y has = All-contains (Contains xs) (filter test xs) y (All-filter test (Contains xs) xs (All-contains_itself xs)) has
 
 pub ordered_filter : {X : Type 0} (R : X → X → Type 0) (test : X → Bool) (xs : List X) → Ordered R xs → Ordered R (filter test xs)

@@ -1,38 +1,36 @@
--- What only proofs need, and the list that a mapping keeps.
-use Rattle.std.specs.Prelude.{◌&&◌, ℕ, ◌+◌, ◌-◌, ◌^◌, ◌<◌, nat_le, nat_lt, List, find, Bool, Option, if◌then◌else◌}
+-- What only proofs need, and what a mapping keeps.
+use Rattle.std.specs.Prelude.{◌&&◌, ℕ, ◌+◌, ◌-◌, ◌^◌, ◌<◌, nat_le, nat_lt, List, find, Bool, Option, slice_index_or, if◌then◌else◌}
 use Rattle.std.specs.Option.{option_map}
-use Rattle.macho_fields.specs.Field.{Covers}
-use Rattle.macho_fields.specs.Segment.{Source, File, Zero, vmaddr, vmsize, fileoff, filesize}
-use Rattle.macho_rules.specs.declared.mapping.MappedSegment.{MappedSegment}
+use Rattle.macho_fields.specs.Segment.{Source, File, Zero, fileoff, filesize}
+use Rattle.macho_fields.specs.declared.span.Span.{Span}
+use Rattle.macho_rules.specs.declared.mapping.FilePart.{FilePart}
 
--- The list
-
--- the segment whose command is at the place
-abbrev pub mapped_at : List ℕ → ℕ → MappedSegment
-mapped_at image segment = record {
-  vmaddr = vmaddr image segment;
-  vmsize = vmsize image segment;
+-- where the bytes of the segment lie whose command is at the place
+abbrev pub file_at : List ℕ → ℕ → FilePart
+file_at image segment = record {
   fileoff = fileoff image segment;
   filesize = filesize image segment;
 }
 
--- the address is one of the segment
-abbrev pub Maps : ℕ → MappedSegment → Type 0
-Maps address s = Covers s.vmaddr s.vmsize address
+-- the addresses of a segment have the address
+abbrev pub holds : ℕ → Span × ℕ → Bool
+holds address pair = nat_le pair.0.start address && nat_lt address (pair.0.start + pair.0.len)
 
-abbrev pub maps : ℕ → MappedSegment → Bool
-maps address s = nat_le s.vmaddr address && nat_lt address (s.vmaddr + s.vmsize)
+-- what a segment has so many addresses past its first one
+abbrev pub source_past : ℕ → FilePart → Source
+source_past past file = if nat_lt past file.filesize then File (file.fileoff + past) else Zero
 
--- what the segment has at one of its addresses
-abbrev pub source_from : ℕ → MappedSegment → Source
-source_from address s =
-    let past = address - s.vmaddr in
-    if nat_lt past s.filesize then File (s.fileoff + past) else Zero
+-- what the segment gives at one of its addresses, with its index among the parts of the file
+abbrev pub source_from : List FilePart → ℕ → Span × ℕ → Source
+source_from files address pair =
+    source_past (address - pair.0.start)
+    (slice_index_or files pair.1 (record { fileoff = 0; filesize = 0 }))
 
--- what the first segment of the list that has the address gives there
-abbrev pub sources_in : List MappedSegment → ℕ → Option Source
-sources_in segments address = option_map (source_from address) (find (maps address) segments)
+-- what the first segment that has the address gives there
+abbrev pub sources_in : List (Span × ℕ) → List FilePart → ℕ → Option Source
+sources_in memory files address =
+    option_map (source_from files address) (find (holds address) memory)
 
 -- the bytes of the segment end below 2^64
-abbrev pub FitsFile : MappedSegment → Type 0
-FitsFile s = 0 < s.filesize → s.fileoff + s.filesize < 2 ^ 64
+abbrev pub FitsFile : FilePart → Type 0
+FitsFile file = 0 < file.filesize → file.fileoff + file.filesize < 2 ^ 64

@@ -1,12 +1,11 @@
 //! What is at the addresses of a loaded image. (`mach-o/loader.h`: `segment_command_64`)
 
-ghost use Rattle.std.specs.Prelude.{◌≡◌, All};
-ghost use Rattle.std.specs.Option.{option_map};
-ghost use Rattle.macho_rules.specs.Source.{source_of};
-ghost use Rattle.macho_rules.specs.Scaffold.{sources_in, FitsFile};
+ghost use Rattle.std.specs.Prelude.{◌<◌, length, All};
+ghost use Rattle.macho_rules.specs.Scaffold.{FitsFile};
 
+use crate::segments::memory;
 use crate::verdict::Verified;
-use macho_fields::{Bytes, Span};
+use macho_fields::{Bytes, Spans};
 use macho_image::{Image, Segment};
 use std::alloc::{AllocError, Global};
 
@@ -22,28 +21,34 @@ pub enum Source {
 /// The mapped segments of an image, which say what is at each address.
 #[derive(Drop)]
 pub struct Mapping {
-    segments: Vec<MappedSegment>,
+    /// The addresses of each mapped segment, with its index in `files`.
+    memory: Spans,
+    files: Vec<FilePart>,
+    probes: u64,
 
-    ghost fits: { All FitsFile segments.items },
+    ghost indexed: { All (λ pair. pair.1 < length files.items) memory.pairs },
+
+    ghost fits: { All FitsFile files.items },
 }
 
-/// A segment that has addresses.
+/// Where the bytes of a segment lie in its slice.
 #[derive(Clone, Copy)]
-struct MappedSegment {
-    vmaddr: u64,
-    vmsize: u64,
+struct FilePart {
     fileoff: u64,
     filesize: u64,
 }
 
 impl Mapping {
-    ghost use Rattle.std.specs.Prelude.{◌≡◌, ◌↔◌, None, IfOk, OnErr, IfSome, IsSome, IsSomeAnd, slice_get};
+    ghost use Rattle.std.specs.Prelude.{◌≡◌, ◌↔◌, ℕ, None, IfOk, OnErr, IfSome, IsSome, IsSomeAnd};
+    ghost use Rattle.std.specs.Prelude.{length, slice_get};
     ghost use Rattle.std.specs.Option.{option_map};
     ghost use Rattle.macho_fields.specs.Bytes.{bytes_of};
     ghost use Rattle.macho_fields.specs.Layers.{NothingBreaks};
     ghost use Rattle.macho_fields.specs.Rules.{BreaksImage};
+    ghost use Rattle.macho_fields.specs.Spans.{IsProbeCount};
     ghost use Rattle.macho_fields.specs.Universal.{slices_of, slice_bytes, IsImage};
-    ghost use Rattle.macho_rules.specs.Mapping.{sources, GivesSources};
+    ghost use Rattle.macho_rules.specs.Mapping.{sources, segment_count, probe_count};
+    ghost use Rattle.macho_rules.specs.Mapping.{mapped_segments, GivesSources};
     ghost use Rattle.macho_rules.specs.Source.{source_of};
     ghost use Rattle.macho_rules.specs.Verdict.{HasMapped};
 
@@ -57,6 +62,11 @@ impl Mapping {
         ensures sources { IfOk result (λ mapping. IfSome mapping (λ mapping.
             IsSomeAnd (slice_get (slices_of verified.now) index) (λ slice.
             GivesSources (slice_bytes verified.now slice) (sources mapping)))) }
+        ensures segments { IfOk result (λ mapping. IfSome mapping (λ mapping.
+            IsSomeAnd (slice_get (slices_of verified.now) index) (λ slice.
+            segment_count mapping ≡ length (mapped_segments (slice_bytes verified.now slice))))) }
+        ensures probes { IfOk result (λ mapping. IfSome mapping (λ mapping.
+            probe_count mapping ≡ 0)) }
         ensures memory { OnErr result (IsSomeAnd (slice_get (slices_of verified.now) index)
             (λ slice. IsImage (slice_bytes verified.now slice)
             × HasMapped (slice_bytes verified.now slice))) }
@@ -68,79 +78,74 @@ impl Mapping {
         Ok(Some(mapping))
     }
 
-    /// The mapping of an unbroken image.
+    /// The mapping of an unbroken image, of which no two segments share an address.
     fn of_image(alloc: Global, bytes: Bytes) -> Result<Mapping, AllocError>
         requires { NothingBreaks (BreaksImage (bytes_of bytes) None) }
         ensures sources { IfOk result (λ mapping.
             GivesSources (bytes_of bytes.entry) (sources mapping)) }
+        ensures segments { IfOk result (λ mapping.
+            segment_count mapping ≡ length (mapped_segments (bytes_of bytes.entry))) }
+        ensures probes { IfOk result (λ mapping. probe_count mapping ≡ 0) }
         ensures memory { OnErr result (HasMapped (bytes_of bytes.entry)) }
     {
         let image = Image::reopen(bytes);
-        let mut segments = Vec::new(alloc);
+        let mut spans = Spans::new(alloc);
+        let mut files = Vec::new(alloc);
         for segment in image.segments() {
             if segment.vmsize() > 0 {
-                segments.push(MappedSegment::new(&segment))?;
+                spans.try_insert(memory(&segment), files.len() as u64)?;
+                files.push(FilePart::new(&segment))?;
             }
         }
-        Ok(Mapping { segments })
+        Ok(Mapping {
+            memory: spans,
+            files,
+            probes: 0,
+        })
     }
 
     /// What is at the address, or `None` where no segment supplies it.
     pub fn source(&mut self, addr: u64) -> Option<Source>
         ensures source { option_map source_of result ≡ sources self.old addr }
-        ensures same { self.new ≡ self.old }
+        ensures same { (address : ℕ) → sources self.new address ≡ sources self.old address }
+        ensures segments { segment_count self.new ≡ segment_count self.old }
+        ensures probes { IsProbeCount (segment_count self.old) (probe_count self.new) }
     {
-        source_in(&self.segments, addr)
+        let found = self.memory.find(addr);
+        self.probes = self.memory.probes();
+        let (memory, index) = found?;
+        let file = self.files[index as usize];
+        Some(file.source(addr - memory.start))
+    }
+
+    /// How many probes the last call of [`Mapping::source`] made, 0 before any. A probe is one
+    /// comparison of the address with the first address of a segment.
+    pub fn probes(&self) -> u64
+        ensures { result ≡ probe_count self.now }
+    {
+        self.probes
     }
 }
 
-/// What the first of the segments that supplies the address has there.
-fn source_in(segments: &[MappedSegment], addr: u64) -> Option<Source>
-    requires { All FitsFile segments.now }
-    ensures { option_map source_of result ≡ sources_in segments.now addr }
-{
-    for segment in segments {
-        if segment.supplies(addr) {
-            return Some(segment.source(addr));
-        }
-    }
-    None
-}
-
-impl MappedSegment {
-    ghost use Rattle.std.specs.Prelude.{◌≡◌, ◌↔◌, IsTrue};
+impl FilePart {
+    ghost use Rattle.std.specs.Prelude.{◌≡◌};
     ghost use Rattle.macho_rules.specs.Source.{source_of};
-    ghost use Rattle.macho_rules.specs.Scaffold.{mapped_at, source_from, FitsFile, Maps};
+    ghost use Rattle.macho_rules.specs.Scaffold.{file_at, source_past, FitsFile};
 
-    fn new(segment: &Segment) -> MappedSegment
-        ensures { result ≡ mapped_at segment.now.image segment.now.place }
+    fn new(segment: &Segment) -> FilePart
+        ensures { result ≡ file_at segment.now.image segment.now.place }
     {
-        MappedSegment {
-            vmaddr: segment.vmaddr(),
-            vmsize: segment.vmsize(),
+        FilePart {
             fileoff: segment.fileoff(),
             filesize: segment.filesize(),
         }
     }
 
-    /// Whether the address is one of the segment.
-    fn supplies(&self, addr: u64) -> bool
-        ensures { IsTrue result ↔ Maps addr self.now }
+    /// What the segment has so many addresses past its first one.
+    fn source(self, past: u64) -> Source
+        requires { FitsFile self }
+        ensures { source_of result ≡ source_past past self }
     {
-        let memory = Span {
-            start: self.vmaddr,
-            len: self.vmsize,
-        };
-        memory.holds(addr)
-    }
-
-    /// What the segment has at one of its addresses.
-    fn source(&self, addr: u64) -> Source
-        requires supplies { Maps addr self.now }
-        requires fits { FitsFile self.now }
-        ensures { source_of result ≡ source_from addr self.now }
-    {
-        let past = addr - self.vmaddr;
         if past < self.filesize {
             Source::File(self.fileoff + past)
         } else {
