@@ -1,6 +1,6 @@
 //! The lines of the report. Each ends with one line feed.
 
-ghost use Rattle.std.specs.Prelude.{◌≡◌, [], ◌∷◌, Some, IsErr, IsTrue};
+ghost use Rattle.std.specs.Prelude.{◌≡◌, ◌≤◌, [], ◌∷◌, length, Some, IsErr, IsTrue};
 ghost use Rattle.std.specs.Option.{option_map, option_map_or};
 ghost use Rattle.macho_fields.specs.Segment.{File};
 ghost use Rattle.macho_rules.specs.Source.{source_of};
@@ -78,13 +78,13 @@ fn write_slice_arch<W: Output>(arch: Option<(u32, u32)>, writer: &mut W) -> Resu
 }
 
 // Writes a part of the file or of memory: a word, its first place, and its size.
-#[tactic(auto, using(crate::proofs::StreamLemmas::writing))]
 fn write_extent<W: Output>(
     word: &[u8],
     start: u64,
     size: u64,
     writer: &mut W,
 ) -> Result<(), WriteFault>
+    requires { length word.now ≤ 6 }
     ensures bytes { Writes (W.contents writer.old) (W.contents writer.new) result
         (extent_text word.now start size) }
     ensures failed { FailsAtFault (W.has_failed writer.old) (W.has_failed writer.new) result }
@@ -93,8 +93,8 @@ fn write_extent<W: Output>(
     let size_start = put_hex(size, PLACES, &mut places);
     let size_word = put_text(b" size ", size_start, &mut places);
     let numbers = put_hex(start, size_word, &mut places);
-    write_all(word, writer)?;
-    write_all(&places[numbers..], writer)
+    let text = put_text(word, numbers, &mut places);
+    write_all(&places[text..], writer)
 }
 
 /// Writes the line of a UUID, its bytes in groups of 4, 2, 2, 2 and 6.

@@ -9,7 +9,8 @@ use crate::stream::Output;
 use crate::transfer::{WriteFault, write_all};
 
 /// How many bytes an array has in which a text is put together from its end, to be written at once. The
-/// longest is that of the two versions of a library: 9, 13, 12, 13 and 1 bytes.
+/// longest are the two versions of a library, of 9, 13, 12, 13 and 1 bytes, and a part of memory, of 6,
+/// 18, 6 and 18.
 pub(crate) const PLACES: usize = 48;
 
 // The digit of a value below 16.

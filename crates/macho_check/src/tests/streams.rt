@@ -123,7 +123,7 @@ fn no_call_follows_a_failed_flush(rt: HostRuntime) {
 const BARE_HEADER: &[u8; 32] =
     b"\xcf\xfa\xed\xfe\x07\0\0\x01\x03\0\0\0\x02\0\0\0\0\0\0\0\0\0\0\0\0\0\0\0\0\0\0\0";
 
-/// What is written of the header, in 13 writes: the first line in three, the second in nine.
+/// What is written of the header, in 12 writes: the first line in three, the second in eight.
 const REPORT: &str = "\
 accepted, slices 1
 slice 0 x86_64 at 0x0 size 0x20 execute
@@ -172,8 +172,8 @@ fn check_end(
 #[test]
 fn ends_of_the_program(rt: HostRuntime) {
     for (words, bad_read, bad_write, end) in [
-        (Some(1), 0, 0, End(0, REPORT, "", (2, 13, 1))),
-        (Some(0), 0, 0, End(0, REPORT, "", (2, 13, 1))),
+        (Some(1), 0, 0, End(0, REPORT, "", (2, 12, 1))),
+        (Some(0), 0, 0, End(0, REPORT, "", (2, 12, 1))),
         (Some(1), 1, 0, End(3, "", READ_LINE, (1, 0, 0))),
         (Some(1), 2, 0, End(3, "", READ_LINE, (2, 0, 0))),
         (Some(1), 0, 1, End(3, "", WRITE_LINE, (2, 1, 0))),
@@ -183,7 +183,7 @@ fn ends_of_the_program(rt: HostRuntime) {
             2,
             End(3, "accepted, slices ", WRITE_LINE, (2, 2, 0)),
         ),
-        (Some(1), 0, 14, End(3, REPORT, WRITE_LINE, (2, 13, 1))),
+        (Some(1), 0, 13, End(3, REPORT, WRITE_LINE, (2, 12, 1))),
         (Some(2), 0, 0, End(2, "", USAGE_LINE, (0, 0, 0))),
         (Some(7), 1, 1, End(2, "", USAGE_LINE, (0, 0, 0))),
         (None, 0, 0, End(3, "", READ_LINE, (0, 0, 0))),
@@ -217,7 +217,7 @@ fn reports_that_are_cut_off(rt: HostRuntime) {
             "refused: magic at 0x0\n",
             5,
         ),
-        (BARE_HEADER.as_slice(), Outcome::Accepted, REPORT, 13),
+        (BARE_HEADER.as_slice(), Outcome::Accepted, REPORT, 12),
     ] {
         for fails_at in 0..20 {
             check_cut_off(&rt, input, fails_at, (outcome, text, writes));
