@@ -75,4 +75,5 @@ same_texts f g same (p ∷ places) = rw (same p) (ap (λ texts. g p ∷ texts) (
 pub items_begin_unmarked : {A X : Type 0} (f : X → List ℕ) (at : A → X) (mark : A → Bool) (g : A → List ℕ) (places : List A) (items : List X) (a : Option (List ℕ)) → items ≡ map at places
     → ((p : A) → f (at p) ≡ (if mark p then [] else g p)) → Writing a a (joined (map g (filter (λ p. not (mark p)) places))) (map f items)
 items_begin_unmarked f at mark g places items a is same =
-    subst (λ whole. Writing a a whole (map f items)) (ap joined (same_texts (λ p. f (at p)) (λ p. if mark p then [] else g p) same places) ∙ unmarked mark g places) (items_begin f at places items a is)
+    subst (λ whole. Writing a a whole (map f items)) (ap joined (same_texts (λ p. f (at p)) (λ p. if mark p then [] else g p) same places) ∙ unmarked mark g places)
+    (items_begin f at places items a is)

@@ -5,9 +5,17 @@ use Rattle.macho_report.proofs.layout.write_image_slice.Goals as goal
 pub returns-in_err-write_slice-clause-bytes : goal.returns-in_err-write_slice-clause-bytes
 returns-in_err-write_slice-clause-bytes g c =
     writes_fault _ _ _ _ c.from_residual.ensures.0
-    (wrote_prefix_first_text _ _ _ _ (rw (same_arch _ _ _ c.arch.ensures.cpu_type c.arch.ensures.cpu_subtype, c.kind_word.ensures, kind_is c.args.image.now c.kind.result c.kind.ensures) at c.in_err-write_slice.ensures.bytes))
+    (wrote_prefix_first_text _ _ _ _ (rw (
+      same_arch _ _ _ c.arch.ensures.cpu_type c.arch.ensures.cpu_subtype,
+      c.kind_word.ensures,
+      kind_is c.args.image.now c.kind.result c.kind.ensures,
+    ) at c.in_err-write_slice.ensures.bytes))
 
 pub returns-clause-bytes : goal.returns-clause-bytes
 returns-clause-bytes g c =
-    writes_next_text _ _ _ _ _ _ (rw (same_arch _ _ _ c.arch.ensures.cpu_type c.arch.ensures.cpu_subtype, c.kind_word.ensures, kind_is c.args.image.now c.kind.result c.kind.ensures) at c.in_ok-write_slice.ensures.bytes)
+    writes_next_text _ _ _ _ _ _ (rw (
+      same_arch _ _ _ c.arch.ensures.cpu_type c.arch.ensures.cpu_subtype,
+      c.kind_word.ensures,
+      kind_is c.args.image.now c.kind.result c.kind.ensures,
+    ) at c.in_ok-write_slice.ensures.bytes)
     (writes_last_text _ _ _ _ c.write_image.ensures.bytes)
