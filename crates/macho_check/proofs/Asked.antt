@@ -1,5 +1,5 @@
 -- What the words ask for, from what `clap` says of its matches.
-use Rattle.std.proofs.Common.{◌≡◌, ◌⊎◌, ◌∙◌, ◌<◌, ◌==◌, Bool, true, false, map, Bor, length, List, [], ◌∷◌, arith, refl, sym, ap, subst, inl, inr, Option, Some, None, Result, Ok, Err, option_map}
+use Rattle.std.proofs.Common.{◌≡◌, ◌⊎◌, ◌∙◌, ◌<◌, ◌==◌, Bool, true, false, map, length, List, [], ◌∷◌, arith, refl, sym, ap, subst, inl, inr, Option, Some, None, Result, Ok, Err, option_map}
 use Rattle.std.specs.Prelude.{IsErrAnd}
 use Rattle.std.proofs.lemmas.Option.{same_Some}
 use Rattle.clap.specs.Words.{IsAmong, Kinds, Row, Text, fault_of, is_simple, is_simple_and_free, subcommand_of}
@@ -16,9 +16,9 @@ command_is_simple = refl
 pub command_is_free : is_simple_and_free program_command ≡ true
 command_is_free = refl
 
-pub some_words : (words : List (Bor Text)) (empty : Bool) → empty ≡ (length words == 0) → empty ≡ false → 0 < length (map (λ word. word.now) words)
-some_words [] empty is not = let bad : true ≡ false = sym is ∙ not in cc
-some_words (word ∷ words) empty is not = omega arith
+pub some_words : {X : Type 0} (text : X → Text) (words : List X) (empty : Bool) → empty ≡ (length words == 0) → empty ≡ false → 0 < length (map text words)
+some_words text [] empty is not = let bad : true ≡ false = sym is ∙ not in cc
+some_words text (word ∷ words) empty is not = omega arith
 
 -- a subcommand, by its name and by its rows
 pub subcommand_met : {X : Type 0} (o : Option X) (f : X → Text × List Row) (name : Text) (rows : List Row)

@@ -1,4 +1,5 @@
-pub mod Text
 pub mod Number
 pub mod Words
+pub mod Program
+pub mod Text
 pub mod Status

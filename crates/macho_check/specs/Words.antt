@@ -46,6 +46,11 @@ abbrev pub asked_by : Request → Asked
 asked_by (Check file) = verdict (string_bytes file)
 asked_by (Where file slice address) = place (string_bytes file) slice address
 
+-- the name of the file that is asked about
+abbrev pub file_of : Asked → Text
+file_of (verdict file) = file
+file_of (place file slice address) = file
+
 -- what `check` asks for, by the text of FILE
 abbrev pub verdict_asked : Option Text → Result Asked WordFault
 verdict_asked (Some file) = Ok (verdict file)

@@ -1,9 +1,10 @@
 #![tactic(auto)]
-//! `macho-check`: reads a file from standard input, and prints its layout, or the rule of the layout
-//! that it breaks first.
+//! `macho-check`: reads a file, and prints its layout, the rule of the layout that it breaks first, or
+//! the place of an address.
 
 #[cfg(test)]
 mod doubles;
+mod files;
 #[cfg(test)]
 mod notation;
 mod number;
@@ -13,29 +14,42 @@ mod status;
 mod tests;
 mod words;
 
+use files::SystemFiles;
 use macho_report::{FromRead, FromWrite};
 use program::{run_program, without_memory};
 use status::exit_code;
-use std::env;
 use std::io::BufWriter;
 use std::process::ExitCode;
+use std::rt::Env;
+use std::{env, io};
 
 /// How many bytes of the report are gathered before they are written.
 const OUTPUT_BUFFER: usize = 65_536;
 
-// Hands the process's own words and streams to `run_program`. The one case that it decides is want of
-// memory for the buffer.
+// Hands the process's own words, files and streams to `run_program`. The one case that it decides is
+// want of memory for the buffer.
 fn main(rt: HostRuntime) -> ExitCode {
     let mut stderr = rt.stderr();
     let mut errors = FromWrite::new(&mut stderr);
     let Ok(mut stdout) = BufWriter::with_capacity(rt.alloc(), OUTPUT_BUFFER, rt.stdout()) else {
         return exit_code(&without_memory(&mut errors));
     };
+    let words = words_of(&rt).ok();
     exit_code(&run_program(
         rt.alloc(),
-        env::args(&rt).ok().map(|words| words.count()),
+        words.as_ref().map(|words| words.as_slice()),
+        &SystemFiles { system: &rt },
         &mut FromRead::new(&mut rt.stdin()),
         &mut FromWrite::new(&mut stdout),
         &mut errors,
     ))
+}
+
+// The words of the command line, the program's name first.
+fn words_of(rt: &(impl Env + AllocGlobal)) -> io::Result<Vec<String>> {
+    let mut words = Vec::new(rt.alloc());
+    for word in env::args(rt)? {
+        words.push(word)?;
+    }
+    Ok(words)
 }

@@ -2,13 +2,15 @@
 
 ghost use Rattle.std.specs.Prelude.{◌≡◌, map, option_map, IfOk, false};
 ghost use Rattle.clap.specs.Words.{app_of, first_of, found_of, kind_of, rows_of, rule_of};
-ghost use Rattle.macho_check.specs.Words.{Answers, asked, asked_in, check_asked, program_command, required, where_asked, word_fault_of};
+ghost use Rattle.macho_check.specs.Text.{word_fault_line};
+ghost use Rattle.macho_check.specs.Words.{Answers, asked, asked_by, asked_in, check_asked, file_of, program_command, required, where_asked, word_fault_of};
 ghost use Rattle.macho_check.specs.declared.words.WordFault.TheVariants.{Memory};
 
 use crate::number::read_number;
 use clap::error::ErrorKind;
 use clap::{Arg, ArgMatches, Command};
 use std::alloc::{AllocError, Global};
+use std::convert::AsStr;
 use thiserror::Error;
 
 /// The name of a file that stands for standard input.
@@ -29,18 +31,38 @@ pub enum Request {
     },
 }
 
+// The lines of the faults, each with its line feed.
+const USAGE: &str = "usage: macho-check check FILE | where FILE SLICE ADDRESS\n";
+
+const BAD_NUMBER: &str = "macho-check: bad number\n";
+
+const OUT_OF_MEMORY: &str = "macho-check: out of memory\n";
+
 /// Why the words ask for nothing. The texts are the program's lines, without the line feed.
 #[derive(Clone, Copy, Debug, PartialEq, Eq, Error)]
 pub enum WordFault {
     /// The words are not those of the program.
-    #[error("usage: macho-check check FILE | where FILE SLICE ADDRESS")]
+    #[error("{line}", line = USAGE.trim_end())]
     Usage,
     /// SLICE or ADDRESS is no number.
-    #[error("macho-check: bad number")]
+    #[error("{line}", line = BAD_NUMBER.trim_end())]
     BadNumber,
     /// There was no memory.
-    #[error("macho-check: out of memory")]
+    #[error("{line}", line = OUT_OF_MEMORY.trim_end())]
     Memory,
+}
+
+impl WordFault {
+    /// The line for standard error, with its line feed.
+    pub fn line(self) -> &'static str
+        ensures { result.now ≡ word_fault_line self }
+    {
+        match self {
+            WordFault::Usage => USAGE,
+            WordFault::BadNumber => BAD_NUMBER,
+            WordFault::Memory => OUT_OF_MEMORY,
+        }
+    }
 }
 
 impl From<AllocError> for WordFault {
@@ -62,10 +84,21 @@ impl From<clap::Error> for WordFault {
     }
 }
 
+impl Request {
+    /// The name of the file that is asked about.
+    pub fn file(&self) -> &str
+        ensures { result.now ≡ file_of (asked_by self.now) }
+    {
+        match self {
+            Request::Check { file } | Request::Where { file, .. } => file.as_str(),
+        }
+    }
+}
+
 /// Reads the words behind the program's name. No words ask for a check of standard input. A number
 /// that is none is answered only where the words are otherwise those of the program.
-pub fn parse_words<'a>(alloc: Global, words: &'a [&'a str]) -> Result<Request, WordFault>
-    ensures { Answers result (asked (map (λ word. word.now) words.now)) }
+pub fn parse_words<'a, S: AsStr>(alloc: Global, words: &'a [S]) -> Result<Request, WordFault>
+    ensures { Answers result (asked (map S.text words.now)) }
 {
     if words.is_empty() {
         let file = String::from_str(alloc, STANDARD_INPUT)?;

@@ -1,11 +1,16 @@
 //! Streams: how many reads, writes and flushes there are, which bytes come out, and that calls succeed.
 
+ghost use Rattle.std.specs.Prelude.{None};
+
 use super::same;
 use crate::doubles::{CountingReader, CountingWriter, Fault};
+use crate::files::Open;
 use crate::program::{ProgramFault, run_program};
-use crate::status::{check_status, exit_code};
+use crate::status::{check_status, exit_code, where_status};
+use crate::words::WordFault;
 use macho_report::{
-    Failed, Flush, FromRead, FromWrite, Input, Outcome, Output, RunFault, run, write_all,
+    Failed, Flush, FromRead, FromWrite, Input, Outcome, Output, RunFault, WhereOutcome, run,
+    write_all,
 };
 use std::process::{Abort, ExitCode};
 use std::test::Fail;
@@ -136,16 +141,37 @@ const WRITE_LINE: &str = "macho-check: write failed\n";
 
 const USAGE_LINE: &str = "usage: macho-check check FILE | where FILE SLICE ADDRESS\n";
 
-/// How the program ends: its status, what it writes to both outputs, and how many reads, writes and
-/// flushes there are.
+const BAD_NUMBER_LINE: &str = "macho-check: bad number\n";
+
+const NO_IMAGE_LINE: &str = "macho-check: no such image\n";
+
+/// Two files: `header` has a bare header, `empty` is empty. No other can be opened.
+struct TwoFiles;
+
+impl Open for TwoFiles {
+    type File = &'static [u8];
+
+    ghost bytes = { λ _ _. None };
+
+    fn open(&self, name: &str) -> Result<&'static [u8], Failed> {
+        match name {
+            "header" => Ok(BARE_HEADER.as_slice()),
+            "empty" => Ok(b"".as_slice()),
+            _ => Err(Failed),
+        }
+    }
+}
+
+/// How the program ends: its status, what it writes to both outputs, and how many reads of standard
+/// input, writes and flushes there are.
 #[derive(Clone, Copy)]
 struct End(u8, &'static str, &'static str, (u64, u64, u64));
 
-/// Compares the end of the program, on so many words, where this read and this call of the writer
-/// fail.
+/// Compares the end of the program, on these words, where this read and this call of the writer
+/// fail. Standard input has a bare header.
 fn check_end(
     rt: &(impl Abort + AllocGlobal),
-    words: Option<usize>,
+    words: Option<&[&str]>,
     bad_read: u64,
     bad_write: u64,
     expected: End,
@@ -157,6 +183,7 @@ fn check_end(
     let ended = run_program(
         rt.alloc(),
         words,
+        &TwoFiles,
         &mut FromRead::new(&mut reader),
         &mut FromWrite::new(&mut writer),
         &mut FromWrite::new(&mut errors),
@@ -171,25 +198,112 @@ fn check_end(
 
 #[test]
 fn ends_of_the_program(rt: HostRuntime) {
+    let unnamed: &[&str] = &["macho-check"];
     for (words, bad_read, bad_write, end) in [
-        (Some(1), 0, 0, End(0, REPORT, "", (2, 12, 1))),
-        (Some(0), 0, 0, End(0, REPORT, "", (2, 12, 1))),
-        (Some(1), 1, 0, End(3, "", READ_LINE, (1, 0, 0))),
-        (Some(1), 2, 0, End(3, "", READ_LINE, (2, 0, 0))),
-        (Some(1), 0, 1, End(3, "", WRITE_LINE, (2, 1, 0))),
+        (Some(unnamed), 0, 0, End(0, REPORT, "", (2, 12, 1))),
+        (Some([].as_slice()), 0, 0, End(0, REPORT, "", (2, 12, 1))),
+        (Some(unnamed), 1, 0, End(3, "", READ_LINE, (1, 0, 0))),
+        (Some(unnamed), 2, 0, End(3, "", READ_LINE, (2, 0, 0))),
+        (Some(unnamed), 0, 1, End(3, "", WRITE_LINE, (2, 1, 0))),
         (
-            Some(1),
+            Some(unnamed),
             0,
             2,
             End(3, "accepted, slices ", WRITE_LINE, (2, 2, 0)),
         ),
-        (Some(1), 0, 13, End(3, REPORT, WRITE_LINE, (2, 12, 1))),
-        (Some(2), 0, 0, End(2, "", USAGE_LINE, (0, 0, 0))),
-        (Some(7), 1, 1, End(2, "", USAGE_LINE, (0, 0, 0))),
+        (Some(unnamed), 0, 13, End(3, REPORT, WRITE_LINE, (2, 12, 1))),
         (None, 0, 0, End(3, "", READ_LINE, (0, 0, 0))),
     ] {
         check_end(&rt, words, bad_read, bad_write, end);
     }
+}
+
+#[test]
+fn ends_of_the_program_with_words(rt: HostRuntime) {
+    for (words, end) in [
+        (["check", "-"].as_slice(), End(0, REPORT, "", (2, 13, 1))),
+        (
+            ["check", "header"].as_slice(),
+            End(0, REPORT, "", (0, 13, 1)),
+        ),
+        (
+            ["check", "empty"].as_slice(),
+            End(1, "refused: magic at 0x0\n", "", (0, 5, 1)),
+        ),
+        (
+            ["check", "none"].as_slice(),
+            End(3, "", READ_LINE, (0, 0, 0)),
+        ),
+        (["check", ""].as_slice(), End(3, "", READ_LINE, (0, 0, 0))),
+        (["check"].as_slice(), End(2, "", USAGE_LINE, (0, 0, 0))),
+        (["--help"].as_slice(), End(2, "", USAGE_LINE, (0, 0, 0))),
+        (["none"].as_slice(), End(2, "", USAGE_LINE, (0, 0, 0))),
+        (
+            ["where", "none", "0", "x"].as_slice(),
+            End(2, "", BAD_NUMBER_LINE, (0, 0, 0)),
+        ),
+        (
+            ["where", "none", "0", "0"].as_slice(),
+            End(3, "", READ_LINE, (0, 0, 0)),
+        ),
+        (
+            ["where", "header", "0", "0"].as_slice(),
+            End(0, "unmapped\n", "", (0, 1, 1)),
+        ),
+        (
+            ["where", "-", "0", "0xffffffffffffffff"].as_slice(),
+            End(0, "unmapped\n", "", (2, 1, 1)),
+        ),
+        (
+            ["where", "header", "1", "0"].as_slice(),
+            End(2, "", NO_IMAGE_LINE, (0, 0, 1)),
+        ),
+        (
+            ["where", "header", "18446744073709551615", "0"].as_slice(),
+            End(2, "", NO_IMAGE_LINE, (0, 0, 1)),
+        ),
+        (
+            ["where", "empty", "1", "0"].as_slice(),
+            End(1, "refused: magic at 0x0\n", "", (0, 5, 1)),
+        ),
+    ] {
+        check_words(&rt, words, end);
+    }
+}
+
+/// Compares the end of the program, on these words behind its name.
+fn check_words(rt: &(impl Abort + AllocGlobal), words: &[&str], end: End) {
+    let mut all = Vec::new(rt.alloc());
+    let pushed = all.push("macho-check").is_ok() && all.extend_from_slice(words).is_ok();
+    same(rt, &pushed, &true);
+    check_end(rt, Some(all.as_slice()), 0, 0, end);
+}
+
+#[test]
+fn statuses(rt: HostRuntime) {
+    for (ended, status) in [
+        (Ok(Outcome::Accepted), 0),
+        (Ok(Outcome::Refused), 1),
+        (Err(RunFault::Read), 3),
+        (Err(RunFault::TooLong), 3),
+        (Err(RunFault::Write), 3),
+        (Err(RunFault::Memory), 4),
+    ] {
+        same(&rt, &check_status(&ended), &status);
+    }
+    for (ended, status) in [
+        (Ok(WhereOutcome::Told), 0),
+        (Ok(WhereOutcome::Refused), 1),
+        (Ok(WhereOutcome::NoImage), 2),
+        (Err(RunFault::Read), 3),
+        (Err(RunFault::TooLong), 3),
+        (Err(RunFault::Write), 3),
+        (Err(RunFault::Memory), 4),
+    ] {
+        same(&rt, &where_status(&ended), &status);
+    }
+    let memory = Err(ProgramFault::Words(WordFault::Memory));
+    same(&rt, &exit_code(&memory), &ExitCode::from(4));
 }
 
 #[test]
@@ -198,7 +312,8 @@ fn faults_of_standard_error_are_ignored(rt: HostRuntime) {
     let mut errors = CountingWriter::new(Vec::new(rt.alloc()), 1, Fault::Error);
     let ended = run_program(
         rt.alloc(),
-        None,
+        None::<&[&str]>,
+        &TwoFiles,
         &mut FromRead::new(&mut BARE_HEADER.as_slice()),
         &mut FromWrite::new(&mut writer),
         &mut FromWrite::new(&mut errors),
@@ -260,6 +375,5 @@ fn lines_of_faults(rt: HostRuntime) -> Result<(), Fail> {
         let text = ProgramFault::Run(fault).to_string(rt.alloc())?;
         same(&rt, &text.as_str(), &line);
     }
-    same(&rt, &check_status(&Err(RunFault::Memory)), &4);
     Ok(())
 }

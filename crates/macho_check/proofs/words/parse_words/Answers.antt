@@ -8,19 +8,19 @@ use Rattle.macho_check.proofs.words.parse_words.Goals as goal
 
 -- src/words.rt:71:19
 pub returns-in_err-matches : goal.returns-in_err-matches
-returns-in_err-matches c =
-    let words : List Text = map (λ word. word.now) c.args.words.now in
+returns-in_err-matches g c =
+    let words : List Text = map g.S.AsStr.text c.args.words.now in
     let error = c.in_err-matches.field-0.0 in
     let command_is : app_of c.in_ok-command.field-0 ≡ program_command = c.in_ok-command.ensures in
     let free : is_simple_and_free (app_of c.in_ok-command.field-0) ≡ true = ap is_simple_and_free command_is ∙ command_is_free in
     let why = subst (λ (a : App). HasKind (fault_of a words) error) command_is (c.in_err-matches.ensures.kinds free) in
-    let some : 0 < length words = some_words c.args.words.now c.is_empty.result c.is_empty.ensures c.if-is_empty.false in
+    let some : 0 < length words = some_words g.S.AsStr.text c.args.words.now c.is_empty.result c.is_empty.ensures c.if-is_empty.false in
     asked_and_refused words (kind_of error) c.from_residual-in_err-matches.result some why c.from_residual-in_err-matches.ensures.1
 
 -- src/words.rt:64:1
 pub returns : goal.returns
-returns c =
-    let words : List Text = map (λ word. word.now) c.args.words.now in
+returns g c =
+    let words : List Text = map g.S.AsStr.text c.args.words.now in
     let command_is : app_of c.in_ok-command.field-0 ≡ program_command = c.in_ok-command.ensures in
     let free : is_simple_and_free (app_of c.in_ok-command.field-0) ≡ true = ap is_simple_and_free command_is ∙ command_is_free in
     let simple : is_simple (app_of c.in_ok-command.field-0) ≡ true = ap is_simple command_is ∙ command_is_simple in
@@ -31,5 +31,5 @@ returns c =
     c.in-Some.name.now rows c.in-Some.ensures.name c.in-Some.ensures.rows in
     let under : subcommand_of program_command words ≡ Some (c.in-Some.name.now, rows) =
     subst (λ (a : App). subcommand_of a words ≡ Some (c.in-Some.name.now, rows)) command_is (sym (c.in_ok-matches.ensures.matches simple).1 ∙ met) in
-    let some : 0 < length words = some_words c.args.words.now c.is_empty.result c.is_empty.ensures c.if-is_empty.false in
+    let some : 0 < length words = some_words g.S.AsStr.text c.args.words.now c.is_empty.result c.is_empty.ensures c.if-is_empty.false in
     asked_and_taken words c.in-Some.name.now rows c.request_in.result some none under c.request_in.ensures

@@ -1,0 +1,56 @@
+-- What the program finds, and what it writes of it.
+use Rattle.std.specs.Prelude.{ℕ, List, drop, map, ⊤, Option, Some, None, Result, Ok, Err, IsOk, ◌^◌, ◌≡◌, ◌⊎◌, codes, if◌then◌else◌}
+use Rattle.std.specs.Borrow.{Bor}
+use Rattle.std.specs.Str.{bytes_eq}
+use Rattle.macho_report.specs.Run.{WroteVerdict, WroteVerdictPrefix}
+use Rattle.macho_report.specs.Where.{WroteWhere, WroteWherePrefix}
+use Rattle.macho_report.specs.declared.outcome.RunFault.TheVariants as run
+use Rattle.macho_check.specs.Words.{Asked, verdict, place, asked, asked_by, file_of}
+use Rattle.macho_check.specs.declared.words.Request.{Request}
+use Rattle.macho_check.specs.declared.words.WordFault.{WordFault}
+use Rattle.macho_check.specs.declared.words.WordFault.TheVariants as words
+use Rattle.macho_check.specs.declared.program.Found.{Found}
+use Rattle.macho_check.specs.declared.program.Found.TheVariants as found
+use Rattle.macho_check.specs.declared.program.ProgramFault.{ProgramFault}
+use Rattle.macho_check.specs.declared.program.ProgramFault.TheVariants as program
+
+-- the bytes that are asked about: those of standard input where the name is `-`, and otherwise those of the file
+abbrev pub input_of : Option (List ℕ) → (List ℕ → Option (List ℕ)) → Asked → Option (List ℕ)
+input_of standard files request =
+    if bytes_eq (file_of request) (codes "-") then standard else files (file_of request)
+
+-- what was asked for was found of the input, which has at most 2^32 bytes, and exactly its text was written
+abbrev pub WroteFound : Asked → Option (List ℕ) → Found → Option (List ℕ) → Option (List ℕ) → Type 0
+WroteFound (verdict name) input (found.Check outcome) old new =
+    WroteVerdict input (2 ^ 32) outcome old new
+WroteFound (place name slice address) input (found.Where outcome) old new =
+    WroteWhere input (2 ^ 32) slice address outcome old new
+WroteFound _ _ _ _ _ = ⊥
+
+-- the same of a prefix of the text
+abbrev pub WroteFoundPrefix : Asked → Option (List ℕ) → Option (List ℕ) → Option (List ℕ) → Type 0
+WroteFoundPrefix (verdict name) input old new = WroteVerdictPrefix input (2 ^ 32) old new
+WroteFoundPrefix (place name slice address) input old new =
+    WroteWherePrefix input (2 ^ 32) slice address old new
+
+-- what is asked for, or the fault of the words
+abbrev pub with_program_fault : Result Asked WordFault → Result Asked ProgramFault
+with_program_fault (Ok request) = Ok request
+with_program_fault (Err fault) = Err (program.Words fault)
+
+-- what the words ask for, of which the first is the program's name. Where the system does not hand them over, that is a failed read
+abbrev pub request_of : {S : Type 0} → (S → List ℕ) → Option (Bor (List S)) → Result Asked ProgramFault
+request_of text None = Err (program.Run run.Read)
+request_of text (Some words) = with_program_fault (asked (map text (drop 1 words.now)))
+
+-- the answer is what is asked, or memory ran out
+abbrev pub AnswersWords : Result Request ProgramFault → Result Asked ProgramFault → Type 0
+AnswersWords (Ok request) answer = answer ≡ Ok (asked_by request)
+AnswersWords (Err (program.Words words.Memory)) answer = ⊤
+AnswersWords (Err fault) answer = answer ≡ Err fault
+
+-- the fault is that of the request, or memory ran out, or there is a request and its run failed
+abbrev pub IsFaultOf : Result Asked ProgramFault → ProgramFault → Type 0
+IsFaultOf request (program.Words words.Memory) = ⊤
+IsFaultOf request (program.Words fault) = request ≡ Err (program.Words fault)
+IsFaultOf request (program.Run fault) = (request ≡ Err (program.Run fault)) ⊎ IsOk request
