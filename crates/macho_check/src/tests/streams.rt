@@ -221,10 +221,10 @@ fn ends_of_the_program(rt: HostRuntime) {
 #[test]
 fn ends_of_the_program_with_words(rt: HostRuntime) {
     for (words, end) in [
-        (["check", "-"].as_slice(), End(0, REPORT, "", (2, 13, 1))),
+        (["check", "-"].as_slice(), End(0, REPORT, "", (2, 12, 1))),
         (
             ["check", "header"].as_slice(),
-            End(0, REPORT, "", (0, 13, 1)),
+            End(0, REPORT, "", (0, 12, 1)),
         ),
         (
             ["check", "empty"].as_slice(),
