@@ -5,6 +5,7 @@ pub mod Memory
 pub mod MappingItems
 pub mod SectionItems
 pub mod OneCommand
+pub mod Names
 pub mod Groups
 pub mod TableItems
 pub mod SymbolItems

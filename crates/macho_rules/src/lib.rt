@@ -8,6 +8,7 @@ pub mod mapping;
 pub mod refusal;
 mod sections;
 mod segments;
+mod slow;
 mod symbols;
 mod tables;
 pub mod verdict;

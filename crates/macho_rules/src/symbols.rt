@@ -1,12 +1,14 @@
 //! The rules of the symbols of an image, and of its indirect entries. (`mach-o/nlist.h`:
 //! `nlist_64`)
 
-ghost use Rattle.std.specs.Prelude.{◌≡◌, ◌+◌, ◌≤◌, ◌<◌, ◌↔◌, ℕ, List, length, IsTrue};
+ghost use Rattle.std.specs.Prelude.{◌≡◌, ◌≢◌, ◌+◌, ◌<◌, ◌↔◌, ℕ, List, Some, slice_get};
+ghost use Rattle.std.specs.Prelude.{IsTrue, IsSome, IfSome};
 ghost use Rattle.macho_fields.specs.Bytes.{bytes_of};
+ghost use Rattle.macho_fields.specs.Field.{Covers, HasZero};
 ghost use Rattle.macho_fields.specs.Image.{commands_of};
-ghost use Rattle.macho_fields.specs.Symbol.{symbol_count, HasEndlessName, IsInNoSection, NamesNoSymbol};
+ghost use Rattle.macho_fields.specs.Symbol.{symbol_count, IsInNoSection, NamesNoSymbol};
 ghost use Rattle.macho_fields.specs.declared.rule.Rule.{Rule};
-ghost use Rattle.macho_image.specs.Symbol.{symtab_at, symbol_at};
+ghost use Rattle.macho_image.specs.Symbol.{symbol_at};
 ghost use Rattle.macho_rules.specs.Check.{KeptBefore, JudgesUpTo};
 
 use macho_fields::header::loader::{INDIRECT_SYMBOL_ABS, INDIRECT_SYMBOL_LOCAL};
@@ -14,43 +16,47 @@ use macho_fields::header::nlist::{N_SECT, N_STAB, N_TYPE};
 use macho_fields::{Break, Bytes, Rule, Span};
 use macho_image::{Image, Indirect, Symbol, Symtab};
 
-/// Each symbol that has a name has one that ends in the strings.
+/// Each symbol that has a name has one that ends in the strings: it begins at the last zero byte of
+/// them, or before it.
 pub(crate) fn symbol_name(image: &Image) -> Result<(), Break>
     requires { KeptBefore image.now Rule.SymbolName }
     ensures { JudgesUpTo image.now Rule.SymbolName result }
 {
-    let bytes = image.bytes();
     let Some(symtab) = image.symtab() else {
         return Ok(());
     };
+    let last = last_end(image.bytes(), symtab);
     for symbol in image.symbols() {
-        if has_endless_name(bytes, symtab, symbol) {
+        if has_endless_name(symbol, symtab.stroff, last) {
             return Err(Break::at(Rule::SymbolName, symbol.place));
         }
     }
     Ok(())
 }
 
-/// Whether the symbol has a name, and no zero byte ends it in the strings of `symtab`.
-fn has_endless_name(image: Bytes, symtab: Symtab, symbol: Symbol) -> bool
-    requires symtab { symtab ≡ symtab_at (bytes_of image) symtab.place }
-    requires symbol { symbol ≡ symbol_at (bytes_of image) symbol.place }
-    requires inside { 0 < symtab.strsize
-        → symtab.stroff + symtab.strsize ≤ length (bytes_of image) }
-    ensures { IsTrue result ↔ HasEndlessName (bytes_of image.entry) symtab.place symbol.place }
+/// Where the last string ends: the place of the last zero byte of the strings of `symtab`.
+fn last_end(image: Bytes, symtab: Symtab) -> Option<u64>
+    ensures found { IsSome result ↔ HasZero (bytes_of image.entry) symtab.stroff
+        (symtab.stroff + symtab.strsize) }
+    ensures zero { IfSome result (λ place. Covers symtab.stroff symtab.strsize place
+        × (slice_get (bytes_of image.entry) place ≡ Some 0)) }
+    ensures last { IfSome result (λ place. ¬ HasZero (bytes_of image.entry) (place + 1)
+        (symtab.stroff + symtab.strsize)) }
 {
-    let strx = u64::from(symbol.strx);
-    if strx == 0 {
-        return false;
-    }
-    if strx >= symtab.strsize {
-        return true;
-    }
-    let rest = Span {
-        start: symtab.stroff + strx,
-        len: symtab.strsize - strx,
-    };
-    image.first_zero(rest).is_none()
+    image.last_zero(Span {
+        start: symtab.stroff,
+        len: symtab.strsize,
+    })
+}
+
+/// Whether the symbol has a name, and it begins past `last`, where the last string ends, or no
+/// string ends. The strings begin at `stroff`.
+fn has_endless_name(symbol: Symbol, stroff: u64, last: Option<u64>) -> bool
+    ensures { IsTrue result
+        ↔ ((symbol.strx ≢ 0) × IfSome last (λ place. place < stroff + symbol.strx)) }
+{
+    let start = u128::from(stroff) + u128::from(symbol.strx);
+    symbol.strx != 0 && last.is_none_or(|end| u128::from(end) < start)
 }
 
 /// Each symbol that is defined in a section has the number of one.

@@ -1,0 +1,51 @@
+//! The rule of the names of symbols, with a search of the strings for each name.
+
+ghost use Rattle.std.specs.Prelude.{◌≡◌, ◌+◌, ◌≤◌, ◌<◌, ◌↔◌, length, IsTrue};
+ghost use Rattle.macho_fields.specs.Bytes.{bytes_of};
+ghost use Rattle.macho_fields.specs.Symbol.{HasEndlessName};
+ghost use Rattle.macho_fields.specs.declared.rule.Rule.{Rule};
+ghost use Rattle.macho_image.specs.Symbol.{symtab_at, symbol_at};
+ghost use Rattle.macho_rules.specs.Check.{KeptBefore, JudgesUpTo};
+
+use macho_fields::{Break, Bytes, Rule, Span};
+use macho_image::{Image, Symbol, Symtab};
+
+/// Each symbol that has a name has one that ends in the strings. Each name is searched for its end,
+/// which takes no memory, and the time of all symbols times the strings: it is for a second verdict.
+pub(crate) fn symbol_name(image: &Image) -> Result<(), Break>
+    requires { KeptBefore image.now Rule.SymbolName }
+    ensures { JudgesUpTo image.now Rule.SymbolName result }
+{
+    let bytes = image.bytes();
+    let Some(symtab) = image.symtab() else {
+        return Ok(());
+    };
+    for symbol in image.symbols() {
+        if has_endless_name(bytes, symtab, symbol) {
+            return Err(Break::at(Rule::SymbolName, symbol.place));
+        }
+    }
+    Ok(())
+}
+
+/// Whether the symbol has a name, and no zero byte ends it in the strings of `symtab`.
+fn has_endless_name(image: Bytes, symtab: Symtab, symbol: Symbol) -> bool
+    requires symtab { symtab ≡ symtab_at (bytes_of image) symtab.place }
+    requires symbol { symbol ≡ symbol_at (bytes_of image) symbol.place }
+    requires inside { 0 < symtab.strsize
+        → symtab.stroff + symtab.strsize ≤ length (bytes_of image) }
+    ensures { IsTrue result ↔ HasEndlessName (bytes_of image.entry) symtab.place symbol.place }
+{
+    let strx = u64::from(symbol.strx);
+    if strx == 0 {
+        return false;
+    }
+    if strx >= symtab.strsize {
+        return true;
+    }
+    let rest = Span {
+        start: symtab.stroff + strx,
+        len: symtab.strsize - strx,
+    };
+    image.first_zero(rest).is_none()
+}
