@@ -6,7 +6,8 @@ use Rattle.std.proofs.lemmas.Bool.{cases_lt}
 use Rattle.std.proofs.lemmas.List.Edits.{length-insert, get_or-insert_below, get_or-insert_at, get_or-insert_above}
 use Rattle.std.proofs.lemmas.List.Elements.{All-append, All-take, All-drop, All-cons, Contains-get_or}
 use Rattle.macho_fields.specs.Span.{end_of, Holds, Shares}
-use Rattle.macho_fields.specs.Spans.{IsPlaced, AreSorted, SharesWithOne, HoldsInOne, StartBy, digits}
+use Rattle.macho_fields.specs.Spans.{IsPlaced, AreSorted, SharesWithOne, HoldsInOne, digits}
+use Rattle.macho_fields.specs.Scaffold.{StartBy}
 use Rattle.macho_fields.specs.declared.span.Span.{Span}
 use Rattle.macho_fields.proofs.Digits.{digits_half, digits_le, digits_within}
 

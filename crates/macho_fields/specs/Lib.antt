@@ -15,3 +15,4 @@ pub mod Rules
 pub mod First
 pub mod Layers
 pub mod Loader
+pub mod Scaffold

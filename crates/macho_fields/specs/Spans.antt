@@ -1,5 +1,5 @@
 -- Spans that share no place, each with a tag, and how many probes a search among them makes.
-use Rattle.std.specs.Prelude.{◌≡◌, ℕ, ◌^◌, ◌≤◌, ◌<◌, ◌⊎◌, List, [], ◌∷◌, ◌++◌, length, All, AllPairs, Any, IsPermutation, slice_index_or}
+use Rattle.std.specs.Prelude.{◌≡◌, ℕ, ◌^◌, ◌≤◌, ◌<◌, ◌⊎◌, List, [], ◌∷◌, ◌++◌, length, All, AllPairs, Any, IsPermutation}
 use Rattle.std.specs.Int.Digits.{digits_of}
 use Rattle.macho_fields.specs.Span.{end_of, Holds, Shares}
 use Rattle.macho_fields.specs.declared.span.Span.{Span}
@@ -48,10 +48,3 @@ digits n = length (digits_of 2 n)
 pub record IsProbeCount (n probes : ℕ) : Type 0 where
   pub some : 0 < n → 0 < probes
   pub most : probes ≤ digits n
-
--- so many of the sorted pairs start at the place or before it
-pub record StartBy (pairs : List (Span × ℕ)) (place count : ℕ) : Type 0 where
-  pub among : count ≤ length pairs
-  pub before : (k : ℕ) (d : Span × ℕ) → k < count → (slice_index_or pairs k d).0.start ≤ place
-  pub after : (k : ℕ) (d : Span × ℕ) → count ≤ k → k < length pairs
-      → place < (slice_index_or pairs k d).0.start

@@ -3,8 +3,8 @@
 mod held;
 
 ghost use Rattle.std.specs.Prelude.{◌≡◌, length, MatchOption};
-ghost use Rattle.macho_fields.specs.Spans.{AreSorted, IsPlaced, IsProbeCount};
-ghost use Rattle.macho_fields.specs.Spans.{SharesWithOne, StartBy};
+ghost use Rattle.macho_fields.specs.Scaffold.{StartBy};
+ghost use Rattle.macho_fields.specs.Spans.{AreSorted, IsPlaced, IsProbeCount, SharesWithOne};
 
 use crate::span::Span;
 use held::Held;
