@@ -1,5 +1,6 @@
 -- What the words ask for, from what `clap` says of its matches.
-use Rattle.std.proofs.Common.{◌≡◌, ◌⊎◌, ◌∙◌, ◌<◌, ◌==◌, Bool, true, false, map, length, List, [], ◌∷◌, arith, refl, sym, ap, subst, inl, inr, Option, Some, None, Result, Ok, Err, option_map}
+use Rattle.std.proofs.Common.{◌≡◌, ◌⊎◌, ◌∙◌, ◌<◌, ◌==◌, Bool, true, false, map, length, List, [], ◌∷◌}
+use Rattle.std.proofs.Common.{arith, refl, sym, ap, subst, inl, inr, Option, Some, None, Result, Ok, Err, option_map}
 use Rattle.std.specs.Prelude.{IsErrAnd}
 use Rattle.std.proofs.lemmas.Option.{same_Some}
 use Rattle.clap.specs.Words.{IsAmong, Kinds, Row, Text, fault_of, is_simple, is_simple_and_free, subcommand_of}
