@@ -143,9 +143,14 @@ fn find_in_file<O: Open, R: Input, W: Flush>(
     ensures found { IfOk result (λ found. WroteFound (asked_by request.now)
         (input_of (R.remaining standard.old) (O.bytes files.now) (asked_by request.now))
         found (W.contents writer.old) (W.contents writer.new)) }
+    ensures at_end { file_of (asked_by request.now) ≡ codes "-"
+        → OnOk result (IsAtEnd (R.remaining standard.new)) }
     ensures flushed { OnOk result (IsTrue (W.is_flushed writer.new)) }
     ensures read { file_of (asked_by request.now) ≡ codes "-"
         → (IsErrOf result RunFault.Read ↔ IsTrue (R.has_failed standard.new)) }
+    ensures memory { file_of (asked_by request.now) ≡ codes "-"
+        → IsErrOf result RunFault.Memory
+        → TookAtMost (2 ^ 32) (R.remaining standard.old) (R.remaining standard.new) }
     ensures too_long { IsErrOf result RunFault.TooLong
         → IfSome (input_of (R.remaining standard.old) (O.bytes files.now) (asked_by request.now))
         (λ all. 2 ^ 32 < length all) }
@@ -186,11 +191,16 @@ fn find_asked<S: AsStr, O: Open, R: Input, W: Flush>(
     ensures found { IfOk result (λ found. IsOkAnd (request_of S.text words.entry) (λ request. WroteFound request
         (input_of (R.remaining standard.old) (O.bytes files.now) request)
         found (W.contents writer.old) (W.contents writer.new))) }
+    ensures at_end { IfOk (request_of S.text words.entry) (λ request. file_of request ≡ codes "-"
+        → OnOk result (IsAtEnd (R.remaining standard.new))) }
     ensures flushed { OnOk result (IsTrue (W.is_flushed writer.new)) }
     ensures faults { IfErr result (IsFaultOf (request_of S.text words.entry)) }
     ensures read { IfOk (request_of S.text words.entry) (λ request. file_of request ≡ codes "-"
         → result ≢ Err (program.Words word_fault.Memory)
         → (IsErrOf result (program.Run fault.Read) ↔ IsTrue (R.has_failed standard.new))) }
+    ensures memory { IfOk (request_of S.text words.entry) (λ request. file_of request ≡ codes "-"
+        → IsErrOf result (program.Run fault.Memory)
+        → TookAtMost (2 ^ 32) (R.remaining standard.old) (R.remaining standard.new)) }
     ensures too_long { IsErrOf result (program.Run fault.TooLong)
         → IsOkAnd (request_of S.text words.entry) (λ request.
         IfSome (input_of (R.remaining standard.old) (O.bytes files.now) request)
@@ -226,6 +236,8 @@ pub fn run_program<S: AsStr, O: Open, R: Input, W: Flush, E: Output>(
     ensures found { IfOk result (λ found. IsOkAnd (request_of S.text words.entry) (λ request. WroteFound request
         (input_of (R.remaining standard.old) (O.bytes files.now) request)
         found (W.contents writer.old) (W.contents writer.new))) }
+    ensures at_end { IfOk (request_of S.text words.entry) (λ request. file_of request ≡ codes "-"
+        → OnOk result (IsAtEnd (R.remaining standard.new))) }
     ensures flushed { OnOk result (IsTrue (W.is_flushed writer.new)) }
 
     // Each fault is that of the words or of the run, and nothing is written but where a write failed.
@@ -233,6 +245,9 @@ pub fn run_program<S: AsStr, O: Open, R: Input, W: Flush, E: Output>(
     ensures read { IfOk (request_of S.text words.entry) (λ request. file_of request ≡ codes "-"
         → result ≢ Err (program.Words word_fault.Memory)
         → (IsErrOf result (program.Run fault.Read) ↔ IsTrue (R.has_failed standard.new))) }
+    ensures memory { IfOk (request_of S.text words.entry) (λ request. file_of request ≡ codes "-"
+        → IsErrOf result (program.Run fault.Memory)
+        → TookAtMost (2 ^ 32) (R.remaining standard.old) (R.remaining standard.new)) }
     ensures too_long { IsErrOf result (program.Run fault.TooLong)
         → IsOkAnd (request_of S.text words.entry) (λ request.
         IfSome (input_of (R.remaining standard.old) (O.bytes files.now) request)

@@ -99,3 +99,22 @@ fn many_segments(rt: HostRuntime) -> Result<(), Fail> {
     ];
     check_sources(&rt, &verified, 0, &sources)
 }
+
+#[test]
+fn probes_of_look_ups(rt: HostRuntime) -> Result<(), Fail> {
+    // Four segments are mapped, and 4 has three binary digits.
+    let file = executable(rt.alloc())?;
+    let verified = verify(rt.alloc(), &file)?;
+    let mut mapping = Mapping::of(rt.alloc(), &verified, 0)?.ok_or("no mapping")?;
+    same(&rt, &mapping.probes(), &0);
+    for address in [0, 0x1_0000_0000, 0x1_0000_302b, 0x1_0000_4000, u64::MAX] {
+        let _ = mapping.source(address);
+        let probes = mapping.probes();
+        same(
+            &rt,
+            &(address, probes, 0 < probes && probes < 4),
+            &(address, probes, true),
+        );
+    }
+    Ok(())
+}
