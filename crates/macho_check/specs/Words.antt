@@ -25,7 +25,7 @@ abbrev pub where_command : App
 where_command = with_rule (with_rule (with_rule (new_app (codes "where")) (required (codes "FILE")))
     (required (codes "SLICE"))) (required (codes "ADDRESS"))
 
--- no program's name comes first, a subcommand has to be there, and none shows help
+-- no program's name comes first, a subcommand has to be there, and there is no help
 abbrev pub bare_command : App
 bare_command = on_top (λ s. record s {
   no_binary_name = true;
@@ -37,7 +37,7 @@ bare_command = on_top (λ s. record s {
 abbrev pub program_command : App
 program_command = with_subcommand (with_subcommand bare_command check_command.top) where_command.top
 
--- what is asked for: a file's verdict, or the place of an address of a slice in a file
+-- what is asked for: a file's verdict, or what is at an address of a slice of it
 pub data Asked : Type 0 where
   verdict : Text → Asked
   place : Text → ℕ → ℕ → Asked

@@ -1,6 +1,6 @@
 #![tactic(auto)]
 //! `macho-check`: reads a file, and prints its layout, the rule of the layout that it breaks first, or
-//! the place of an address.
+//! what is at an address.
 
 #[cfg(test)]
 mod doubles;
@@ -18,7 +18,7 @@ use files::SystemFiles;
 use macho_report::{FromRead, FromWrite};
 use program::{run_program, without_memory};
 use status::exit_code;
-use std::io::BufWriter;
+use std::io::{BufWriter, ErrorKind};
 use std::process::ExitCode;
 use std::rt::Env;
 use std::{env, io};
@@ -26,15 +26,20 @@ use std::{env, io};
 /// How many bytes of the report are gathered before they are written.
 const OUTPUT_BUFFER: usize = 65_536;
 
-// Hands the process's own words, files and streams to `run_program`. The one case that it decides is
-// want of memory for the buffer.
+// Hands the process's own words, files and streams to `run_program`. It decides want of memory alone,
+// for the buffer and for the words.
 fn main(rt: HostRuntime) -> ExitCode {
     let mut stderr = rt.stderr();
     let mut errors = FromWrite::new(&mut stderr);
     let Ok(mut stdout) = BufWriter::with_capacity(rt.alloc(), OUTPUT_BUFFER, rt.stdout()) else {
         return exit_code(&without_memory(&mut errors));
     };
-    let words = words_of(&rt).ok();
+    let words = match words_of(&rt) {
+        Err(error) if error.kind() == ErrorKind::OutOfMemory => {
+            return exit_code(&without_memory(&mut errors));
+        }
+        words => words.ok(),
+    };
     exit_code(&run_program(
         rt.alloc(),
         words.as_ref().map(|words| words.as_slice()),

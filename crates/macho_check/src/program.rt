@@ -1,13 +1,15 @@
 //! The whole program, over any streams and files: from the words and an input to what is found of it,
-//! or the line of a fault, and a status.
+//! and the line on standard error.
 
 ghost use Rattle.std.specs.Prelude.{◌≡◌, ◌≢◌, ◌^◌, ◌<◌, ◌⊎◌, ◌↔◌, length, option_map, codes, IfErr, IfNone, IfOk, IfSome, OnOk, IsErrOf, IsOkAnd, IsTrue, Err};
 ghost use Rattle.std.specs.Io.KnownBytes.{IsAtEnd};
 ghost use Rattle.macho_report.specs.Stream.{TookAtMost, WritesUnlessFailed};
+ghost use Rattle.macho_report.specs.declared.address.WhereOutcome.TheVariants as where_outcome;
 ghost use Rattle.macho_report.specs.declared.outcome.RunFault.TheVariants as fault;
 ghost use Rattle.macho_check.specs.Program.{AnswersWords, IsFaultOf, WroteFound, WroteFoundPrefix, input_of, request_of};
 ghost use Rattle.macho_check.specs.Text.{end_line, fault_line};
 ghost use Rattle.macho_check.specs.Words.{asked_by, file_of};
+ghost use Rattle.macho_check.specs.declared.program.Found.TheVariants as found_kind;
 ghost use Rattle.macho_check.specs.declared.program.ProgramFault.TheVariants as program;
 ghost use Rattle.macho_check.specs.declared.words.WordFault.TheVariants as word_fault;
 
@@ -20,7 +22,7 @@ use std::alloc::Global;
 use std::convert::AsStr;
 use thiserror::Error;
 
-/// How many bytes the program reads at most. The line of `RunFault::TooLong` names it.
+/// How many bytes an input has at most. The line of `RunFault::TooLong` names it.
 const LIMIT: u64 = 1 << 32;
 
 const NO_IMAGE: &str = "macho-check: no such image\n";
@@ -84,6 +86,7 @@ fn find_in<R: Input, W: Output>(
     ensures found { IfOk result (λ found. WroteFound (asked_by request.now) (R.remaining reader.old)
         found (W.contents writer.old) (W.contents writer.new)) }
     ensures at_end { OnOk result (IsAtEnd (R.remaining reader.new)) }
+    ensures no_image { result ≡ Ok (found_kind.Where where_outcome.NoImage) → writer.new ≡ writer.old }
     ensures read { IsErrOf result RunFault.Read ↔ IsTrue (R.has_failed reader.new) }
     ensures too_long { IsErrOf result RunFault.TooLong
         → IfSome (R.remaining reader.old) (λ all. 2 ^ 32 < length all) }
@@ -103,7 +106,7 @@ fn find_in<R: Input, W: Output>(
     }
 }
 
-// The same, with a flush of the text. A failed flush is a failed write.
+// The same, with a flush of the text, where there is one. A failed flush is a failed write.
 fn find_and_flush<R: Input, W: Flush>(
     alloc: Global,
     request: &Request,
@@ -113,7 +116,9 @@ fn find_and_flush<R: Input, W: Flush>(
     ensures found { IfOk result (λ found. WroteFound (asked_by request.now) (R.remaining reader.old)
         found (W.contents writer.old) (W.contents writer.new)) }
     ensures at_end { OnOk result (IsAtEnd (R.remaining reader.new)) }
-    ensures flushed { OnOk result (IsTrue (W.is_flushed writer.new)) }
+    ensures flushed { IfOk result (λ found.
+        found ≢ found_kind.Where where_outcome.NoImage → IsTrue (W.is_flushed writer.new)) }
+    ensures no_image { result ≡ Ok (found_kind.Where where_outcome.NoImage) → writer.new ≡ writer.old }
     ensures read { IsErrOf result RunFault.Read ↔ IsTrue (R.has_failed reader.new) }
     ensures too_long { IsErrOf result RunFault.TooLong
         → IfSome (R.remaining reader.old) (λ all. 2 ^ 32 < length all) }
@@ -126,6 +131,9 @@ fn find_and_flush<R: Input, W: Flush>(
     ensures unwritten { IfErr result (λ fault. (fault ≡ RunFault.Write) ⊎ (writer.new ≡ writer.old)) }
 {
     let found = find_in(alloc, request, reader, writer)?;
+    if found == Found::Where(WhereOutcome::NoImage) {
+        return Ok(found);
+    }
     match writer.flush() {
         Ok(()) => Ok(found),
         Err(_) => Err(RunFault::Write),
@@ -145,7 +153,9 @@ fn find_in_file<O: Open, R: Input, W: Flush>(
         found (W.contents writer.old) (W.contents writer.new)) }
     ensures at_end { file_of (asked_by request.now) ≡ codes "-"
         → OnOk result (IsAtEnd (R.remaining standard.new)) }
-    ensures flushed { OnOk result (IsTrue (W.is_flushed writer.new)) }
+    ensures flushed { IfOk result (λ found.
+        found ≢ found_kind.Where where_outcome.NoImage → IsTrue (W.is_flushed writer.new)) }
+    ensures no_image { result ≡ Ok (found_kind.Where where_outcome.NoImage) → writer.new ≡ writer.old }
     ensures read { file_of (asked_by request.now) ≡ codes "-"
         → (IsErrOf result RunFault.Read ↔ IsTrue (R.has_failed standard.new)) }
     ensures memory { file_of (asked_by request.now) ≡ codes "-"
@@ -193,7 +203,9 @@ fn find_asked<S: AsStr, O: Open, R: Input, W: Flush>(
         found (W.contents writer.old) (W.contents writer.new))) }
     ensures at_end { IfOk (request_of S.text words.entry) (λ request. file_of request ≡ codes "-"
         → OnOk result (IsAtEnd (R.remaining standard.new))) }
-    ensures flushed { OnOk result (IsTrue (W.is_flushed writer.new)) }
+    ensures flushed { IfOk result (λ found.
+        found ≢ found_kind.Where where_outcome.NoImage → IsTrue (W.is_flushed writer.new)) }
+    ensures no_image { result ≡ Ok (found_kind.Where where_outcome.NoImage) → writer.new ≡ writer.old }
     ensures faults { IfErr result (IsFaultOf (request_of S.text words.entry)) }
     ensures read { IfOk (request_of S.text words.entry) (λ request. file_of request ≡ codes "-"
         → result ≢ Err (program.Words word_fault.Memory)
@@ -223,7 +235,7 @@ fn find_asked<S: AsStr, O: Open, R: Input, W: Flush>(
 /// own faults are ignored.
 ///
 /// `words` are those of the command line, the program's name first, or `None` where the system does
-/// not hand them over. `standard` is standard input, and is read where the words name no other file.
+/// not hand them over. `standard` is standard input, and is read only where the words ask for it.
 pub fn run_program<S: AsStr, O: Open, R: Input, W: Flush, E: Output>(
     alloc: Global,
     words: Option<&[S]>,
@@ -238,7 +250,9 @@ pub fn run_program<S: AsStr, O: Open, R: Input, W: Flush, E: Output>(
         found (W.contents writer.old) (W.contents writer.new))) }
     ensures at_end { IfOk (request_of S.text words.entry) (λ request. file_of request ≡ codes "-"
         → OnOk result (IsAtEnd (R.remaining standard.new))) }
-    ensures flushed { OnOk result (IsTrue (W.is_flushed writer.new)) }
+    ensures flushed { IfOk result (λ found.
+        found ≢ found_kind.Where where_outcome.NoImage → IsTrue (W.is_flushed writer.new)) }
+    ensures no_image { result ≡ Ok (found_kind.Where where_outcome.NoImage) → writer.new ≡ writer.old }
 
     // Each fault is that of the words or of the run, and nothing is written but where a write failed.
     ensures faults { IfErr result (IsFaultOf (request_of S.text words.entry)) }

@@ -23,7 +23,7 @@ pub enum Request {
     Check {
         file: String,
     },
-    /// Tell the place of this address of this slice in the file.
+    /// Tell what is at this address of the image in this slice.
     Where {
         file: String,
         slice: u64,
@@ -95,8 +95,8 @@ impl Request {
     }
 }
 
-/// Reads the words behind the program's name. No words ask for a check of standard input. A number
-/// that is none is answered only where the words are otherwise those of the program.
+/// Reads the words after the program's name. No words ask for a check of standard input. `BadNumber`
+/// is answered only where the words are otherwise those of the program.
 pub fn parse_words<'a, S: AsStr>(alloc: Global, words: &'a [S]) -> Result<Request, WordFault>
     ensures { Answers result (asked (map S.text words.now)) }
 {

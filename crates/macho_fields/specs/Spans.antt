@@ -9,7 +9,7 @@ pub record SpansView : Type 0 where
   pub pairs : List (Span × ℕ)
   pub probes : ℕ
 
--- the span has a place, and none above the largest
+-- the span has a place, and its last one is below 2^64
 abbrev pub IsPlaced : Span → Type 0
 IsPlaced span = (0 < span.len) × (end_of span ≤ 2 ^ 64)
 

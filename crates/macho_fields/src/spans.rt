@@ -67,15 +67,16 @@ impl Spans {
     }
 
     /// How many probes the last insertion or look-up made, 0 before any. A probe is one comparison
-    /// of the start of a held span.
+    /// of a held span's start with the start or place that is searched for.
     pub fn probes(&self) -> u64
         ensures { result ≡ self.now.probes }
     {
         self.held.probes()
     }
 
-    /// Adds the span with its tag, unless it shares a place with a span that is held. The span is
-    /// not empty, and ends at 2^64 or before. Only a span that is added takes memory.
+    /// Adds the span with its tag, unless it shares a place with a span that is held. The span must
+    /// not be empty, and must end at 2^64 or before. An overlap takes no memory. Where memory runs
+    /// out, nothing has changed.
     pub fn try_insert(&mut self, span: Span, tag: u64) -> Result<Insert, AllocError>
         requires { IsPlaced span }
 

@@ -1,5 +1,5 @@
 -- What a run says of an address of an image.
-use Rattle.std.specs.Prelude.{◌≡◌, ℕ, ◌≤◌, List, [], ◌∷◌, length, codes, slice_get, Contains, Option, Some, None, IfSome, IsSomeAnd}
+use Rattle.std.specs.Prelude.{◌≡◌, ◌≢◌, ℕ, ◌≤◌, List, [], ◌∷◌, length, codes, slice_get, Contains, Option, Some, None, IfSome, IsSomeAnd}
 use Rattle.macho_fields.specs.First.{IsUnbroken, IsFirstBroken}
 use Rattle.macho_fields.specs.Image.{commands_of}
 use Rattle.macho_fields.specs.Segment.{Source, File, Zero, source, Supplies, segments_of}
@@ -50,8 +50,8 @@ WroteWhere input limit index address outcome old new =
     IfSome input (λ file. (length file ≤ limit)
     × ((text : List ℕ) × IsWhere file index address outcome text × Wrote old new text))
 
--- the same of a prefix of the text
+-- the same of a prefix of the text, where there is one
 abbrev pub WroteWherePrefix : Option (List ℕ) → ℕ → ℕ → ℕ → Option (List ℕ) → Option (List ℕ) → Type 0
 WroteWherePrefix input limit index address old new =
     IfSome input (λ file. (length file ≤ limit)
-    × ((outcome : WhereOutcome) × (text : List ℕ) × IsWhere file index address outcome text × WrotePrefix old new text))
+    × ((outcome : WhereOutcome) × (text : List ℕ) × IsWhere file index address outcome text × (outcome ≢ NoImage) × WrotePrefix old new text))

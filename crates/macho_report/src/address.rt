@@ -1,6 +1,6 @@
 //! From an input to what is at an address of it.
 
-ghost use Rattle.std.specs.Prelude.{◌≡◌, ◌≤◌, ◌<◌, ◌⊎◌, ◌+◌, ◌↔◌, List, ℕ, Ok, length, IfOk, IfErr, IfSome, OnOk, IsErrOf, IsTrue};
+ghost use Rattle.std.specs.Prelude.{◌≡◌, ◌≢◌, ◌≤◌, ◌<◌, ◌⊎◌, ◌+◌, ◌↔◌, List, ℕ, Ok, length, IfOk, IfErr, IfSome, OnOk, IsErrOf, IsTrue};
 ghost use Rattle.std.specs.Io.KnownBytes.{IsAtEnd};
 ghost use Rattle.macho_report.specs.Stream.{TookAtMost, Wrote, WrotePrefix};
 ghost use Rattle.macho_report.specs.Where.{IsWhere, WroteWhere, WroteWherePrefix};
@@ -75,7 +75,7 @@ fn write_where<W: Output>(
     ensures no_image { result ≡ Ok WhereOutcome.NoImage → writer.new ≡ writer.old }
     ensures write { IsErrOf result RunFault.Write → IsTrue (W.has_failed writer.new) }
     ensures prefix { IsErrOf result RunFault.Write → (outcome : WhereOutcome) × (text : List ℕ)
-        × IsWhere file.now slice addr outcome text
+        × IsWhere file.now slice addr outcome text × (outcome ≢ WhereOutcome.NoImage)
         × WrotePrefix (W.contents writer.old) (W.contents writer.new) text }
     ensures faults { IfErr result (λ fault. (fault ≡ RunFault.Write)
         ⊎ ((fault ≡ RunFault.Memory) × (writer.new ≡ writer.old))) }

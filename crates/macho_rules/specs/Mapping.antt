@@ -9,13 +9,17 @@ use Rattle.macho_rules.specs.declared.mapping.Mapping.{Mapping}
 abbrev pub sources : Mapping → ℕ → Option Source
 sources mapping address = sources_in mapping.memory.pairs mapping.files.items address
 
--- how many segments it has
+-- how many mapped segments it has
 abbrev pub segment_count : Mapping → ℕ
 segment_count mapping = length mapping.memory.pairs
 
 -- how many probes the last look-up made
 abbrev pub probe_count : Mapping → ℕ
 probe_count mapping = mapping.probes
+
+-- how many probes the last search of its spans made
+abbrev pub search_count : Mapping → ℕ
+search_count mapping = mapping.memory.probes
 
 -- the segments of an image that have addresses
 abbrev pub mapped_segments : List ℕ → List ℕ

@@ -47,13 +47,13 @@ impl Mapping {
     ghost use Rattle.macho_fields.specs.Rules.{BreaksImage};
     ghost use Rattle.macho_fields.specs.Spans.{IsProbeCount};
     ghost use Rattle.macho_fields.specs.Universal.{slices_of, slice_bytes, IsImage};
-    ghost use Rattle.macho_rules.specs.Mapping.{sources, segment_count, probe_count};
+    ghost use Rattle.macho_rules.specs.Mapping.{sources, segment_count, probe_count, search_count};
     ghost use Rattle.macho_rules.specs.Mapping.{mapped_segments, GivesSources};
     ghost use Rattle.macho_rules.specs.Source.{source_of};
     ghost use Rattle.macho_rules.specs.Verdict.{HasMapped};
 
-    /// The mapping of the image in the slice with this index, or `None` where the slice is of
-    /// another kind, or there is none. It takes memory for the mapped segments of the image alone,
+    /// The mapping of the image in the slice with this index, or `None` where the slice is not
+    /// read, or there is none with the index. It takes memory for the mapped segments of the image alone,
     /// and none where there are none.
     pub fn of(alloc: Global, verified: &Verified, index: u64) -> Result<Option<Mapping>, AllocError>
         ensures is_image { IfOk result (λ mapping. IsSome mapping
@@ -109,6 +109,7 @@ impl Mapping {
         ensures source { option_map source_of result ≡ sources self.old addr }
         ensures same { (address : ℕ) → sources self.new address ≡ sources self.old address }
         ensures segments { segment_count self.new ≡ segment_count self.old }
+        ensures counted { probe_count self.new ≡ search_count self.new }
         ensures probes { IsProbeCount (segment_count self.old) (probe_count self.new) }
     {
         let found = self.memory.find(addr);

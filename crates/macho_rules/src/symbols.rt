@@ -16,8 +16,8 @@ use macho_fields::header::nlist::{N_SECT, N_STAB, N_TYPE};
 use macho_fields::{Break, Bytes, Rule, Span};
 use macho_image::{Image, Indirect, Symbol, Symtab};
 
-/// Each symbol that has a name has one that ends in the strings: it begins at the last zero byte of
-/// them, or before it.
+/// Each symbol that has a name has one that ends in the strings: it begins at their last zero byte,
+/// or before it.
 pub(crate) fn symbol_name(image: &Image) -> Result<(), Break>
     requires { KeptBefore image.now Rule.SymbolName }
     ensures { JudgesUpTo image.now Rule.SymbolName result }

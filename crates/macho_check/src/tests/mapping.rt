@@ -107,7 +107,14 @@ fn probes_of_look_ups(rt: HostRuntime) -> Result<(), Fail> {
     let verified = verify(rt.alloc(), &file)?;
     let mut mapping = Mapping::of(rt.alloc(), &verified, 0)?.ok_or("no mapping")?;
     same(&rt, &mapping.probes(), &0);
-    for address in [0, 0x1_0000_0000, 0x1_0000_302b, 0x1_0000_4000, u64::MAX] {
+    for address in [
+        0,
+        0x1_0000_0000,
+        0x1_0000_2000,
+        0x1_0000_302b,
+        0x1_0000_4000,
+        u64::MAX,
+    ] {
         let _ = mapping.source(address);
         let probes = mapping.probes();
         same(

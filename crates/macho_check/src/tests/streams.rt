@@ -213,6 +213,13 @@ fn ends_of_the_program(rt: HostRuntime) {
         ),
         (Some(unnamed), 0, 13, End(3, REPORT, WRITE_LINE, (2, 12, 1))),
         (None, 0, 0, End(3, "", READ_LINE, (0, 0, 0))),
+        // Nothing is written or flushed where there is no image.
+        (
+            Some(["macho-check", "where", "-", "1", "0"].as_slice()),
+            0,
+            1,
+            End(2, "", NO_IMAGE_LINE, (2, 0, 0)),
+        ),
     ] {
         check_end(&rt, words, bad_read, bad_write, end);
     }
@@ -256,11 +263,11 @@ fn ends_of_the_program_with_words(rt: HostRuntime) {
         ),
         (
             ["where", "header", "1", "0"].as_slice(),
-            End(2, "", NO_IMAGE_LINE, (0, 0, 1)),
+            End(2, "", NO_IMAGE_LINE, (0, 0, 0)),
         ),
         (
             ["where", "header", "18446744073709551615", "0"].as_slice(),
-            End(2, "", NO_IMAGE_LINE, (0, 0, 1)),
+            End(2, "", NO_IMAGE_LINE, (0, 0, 0)),
         ),
         (
             ["where", "empty", "1", "0"].as_slice(),

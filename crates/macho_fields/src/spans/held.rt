@@ -89,6 +89,7 @@ impl Held {
             (λ found. (found ≡ pair) × Holds pair.0 place)) self.old.pairs.items index }
         ensures same { self.new.pairs ≡ self.old.pairs }
         ensures probes { self.new.probes ≡ self.old.probes }
+        ensures tests { self.new.tests ≡ self.old.tests + 1 }
     {
         self.tests += 1;
         let pair = self.pairs[index];

@@ -10,8 +10,9 @@ ghost use Rattle.macho_rules.specs.Check.{KeptBefore, JudgesUpTo};
 use macho_fields::{Break, Bytes, Rule, Span};
 use macho_image::{Image, Symbol, Symtab};
 
-/// Each symbol that has a name has one that ends in the strings. Each name is searched for its end,
-/// which takes no memory, and the time of all symbols times the strings: it is for a second verdict.
+/// Each symbol that has a name has one that ends in the strings. The end of each name is searched for
+/// on its own. This takes no memory, but time in proportion to the symbols times the strings. It is
+/// for a second verdict.
 pub(crate) fn symbol_name(image: &Image) -> Result<(), Break>
     requires { KeptBefore image.now Rule.SymbolName }
     ensures { JudgesUpTo image.now Rule.SymbolName result }

@@ -12,7 +12,7 @@ returns-in_err-write_source-clause-prefix g c =
     let unbroken : IsUnbroken file = search rules in
     let unwritten : c.accept.new.writer ≡ c.args.writer.now = search rules in
     let image : HasImage file c.args.slice = search rules in
-    λ _. (Told, _, (unbroken, image, told file _ _ _ _ _ _ same c.in-Some-2.is c.in_ok-mapping.ensures.sources c.source.ensures.source), (rw unwritten at c.in_err-write_source.ensures.bytes))
+    λ _. (Told, _, (unbroken, image, told file _ _ _ _ _ _ same c.in-Some-2.is c.in_ok-mapping.ensures.sources c.source.ensures.source), (λ e. absurd (cc)), (rw unwritten at c.in_err-write_source.ensures.bytes))
 
 pub returns-clause-verdict : goal.returns-clause-verdict
 returns-clause-verdict g c =
