@@ -273,8 +273,6 @@ pub fn run_program<S: AsStr, O: Open, R: Input, W: Flush, E: Output>(
         (W.contents writer.old) (W.contents writer.new)) }
     ensures unwritten { IfErr result (λ end.
         (end ≡ program.Run fault.Write) ⊎ (writer.new ≡ writer.old)) }
-
-    // Standard input is read where the words ask for it.
     ensures unread { ¬ IsOkAnd (request_of S.text words.entry) (λ request. file_of request ≡ codes "-")
         → standard.new ≡ standard.old }
 
