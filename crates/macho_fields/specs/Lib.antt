@@ -3,6 +3,7 @@ pub mod Field
 pub mod Bytes
 pub mod Span
 pub mod Spans
+pub mod Overlap
 pub mod RuleNames
 pub mod Universal
 pub mod Image

@@ -7,6 +7,7 @@ pub mod file_type;
 pub mod header;
 pub mod law;
 pub mod load_command;
+pub mod overlap;
 pub mod rule;
 pub mod span;
 pub mod spans;
@@ -16,6 +17,7 @@ pub use file_type::{FileType, Kind, file_type_of};
 pub use load_command::{
     LoadCommand, Records, Structure, TableFields, Width, is_unique, names_library, structure_of,
 };
+pub use overlap::SpanList;
 pub use rule::{Break, Rule};
 pub use span::{Span, table_end};
 pub use spans::{Insert, Spans};

@@ -1,0 +1,6 @@
+use Rattle.macho_fields.specs.Scaffold.{ArePassed}
+use Rattle.macho_fields.proofs.overlap.shares_below.Given as goal
+
+-- the items before this one share nothing and end at end or before
+abbrev pub invariant-loop-item : goal.invariant-loop-item
+invariant-loop-item l = ArePassed l.items l.item-index l.count l.end

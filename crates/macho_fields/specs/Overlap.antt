@@ -1,0 +1,17 @@
+-- Which of many spans shares a place with an earlier one.
+use Rattle.std.specs.Prelude.{ℕ, ◌<◌, List, length, slice_index_or}
+use Rattle.macho_fields.specs.Span.{Shares}
+use Rattle.macho_fields.specs.declared.span.Span.{Span}
+
+-- the span with the index
+abbrev pub span_at : List Span → ℕ → Span
+span_at spans k = slice_index_or spans k (record { start = 0; len = 0 })
+
+-- the span with the index j shares a place with an earlier one
+abbrev pub SharesEarlier : List Span → ℕ → Type 0
+SharesEarlier spans j =
+    (j < length spans) × ((i : ℕ) × (i < j) × Shares (span_at spans i) (span_at spans j))
+
+-- the span with the index j is the first that shares a place with an earlier one
+abbrev pub IsLeastSharing : List Span → ℕ → Type 0
+IsLeastSharing spans j = SharesEarlier spans j × ((k : ℕ) → k < j → ¬ SharesEarlier spans k)
