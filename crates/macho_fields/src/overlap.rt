@@ -92,8 +92,8 @@ fn shares_below(items: &[Numbered], count: u64) -> bool
     false
 }
 
-/// The greatest count below which no two indices have spans that share a place, by halves. The items
-/// are sorted by start.
+/// The least index with which the indices up to it have two spans that share a place, by halves. The
+/// items are sorted by start.
 fn least_sharing(items: &[Numbered]) -> u64
     requires sorted { IsNonDecreasingBy (λ item. item.span.start) items.now }
     requires some { PairBelow items.now (length items.now) (length items.now) }
@@ -110,5 +110,8 @@ fn least_sharing(items: &[Numbered]) -> u64
             low = middle;
         }
     }
-    low
+    high - 1
 }
+
+#[cfg(test)]
+mod tests;
