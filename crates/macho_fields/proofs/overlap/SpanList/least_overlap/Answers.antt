@@ -26,5 +26,7 @@ returns c =
     let items = c.sort_unstable_by_key.new.self.items in
     let all : length items ≡ c.len.result = sym (c.len.ensures ∙ search rules) in
     let none : ¬ PairBelow items (length items) (length items) =
-    λ share. both_ways c.shares_below.result c.if-shares_below.false (c.shares_below.ensures.1 (subst (λ n. PairBelow c.deref.result.now (length c.deref.result.now) n) all (rw c.deref.ensures.value share))) in
+    λ share.
+    let here = subst (λ n. PairBelow c.deref.result.now (length c.deref.result.now) n) all (rw c.deref.ensures.value share) in
+    both_ways c.shares_below.result c.if-shares_below.false (c.shares_below.ensures.1 here) in
     subst (λ spans. (j : ℕ) → ¬ SharesEarlier spans j) c.self.view_is (none_from_pairs c.self.inside.items.items items c.self.invariant c.sort_unstable_by_key.ensures.permutation none)
