@@ -111,7 +111,7 @@ impl Spans {
         ensures sorted { AreSorted self.new.pairs }
         ensures probes { IsProbeCount (length self.old.pairs) self.new.probes }
     {
-        let next = count_starts_by(&mut self.held, place);
+        let next = self.held.count_starts_by(place);
         let before = next.checked_sub(1)?;
         self.held.holding(before, place)
     }
@@ -127,32 +127,10 @@ fn gap_for(held: &mut Held, span: Span) -> Option<usize>
     ensures same { held.new.pairs ≡ held.old.pairs }
     ensures probes { IsProbeCount (length held.old.pairs.items) held.new.probes }
 {
-    let next = count_starts_by(held, span.start);
+    let next = held.count_starts_by(span.start);
     let before = next > 0 && held.shares(next - 1, span);
     let after = next < held.len() && held.shares(next, span);
     if before || after { None } else { Some(next) }
-}
-
-/// How many of the spans start at the place or before it, by halves.
-fn count_starts_by(held: &mut Held, place: u64) -> usize
-    requires { AreSorted held.old.pairs.items }
-    ensures count { StartBy held.old.pairs.items place result }
-    ensures same { held.new.pairs ≡ held.old.pairs }
-    ensures tests { held.new.tests ≡ 0 }
-    ensures probes { IsProbeCount (length held.old.pairs.items) held.new.probes }
-{
-    held.reset_counts();
-    let mut low = 0;
-    let mut high = held.len();
-    while low < high {
-        let middle = low + (high - low) / 2;
-        if held.starts_by(middle, place) {
-            low = middle + 1;
-        } else {
-            high = middle;
-        }
-    }
-    low
 }
 
 #[cfg(test)]

@@ -1,5 +1,6 @@
 //! The pairs of a span and a tag. A start is compared by one function alone, which counts how often
-//! it is called. The tests of one pair are counted as well.
+//! it is called, and only the search by halves calls it. The tests of one pair are counted as well.
+//! Both counts begin at 0 where a search begins.
 
 use crate::span::Span;
 use std::alloc::{AllocError, Global};
@@ -16,7 +17,9 @@ impl Held {
     ghost use Rattle.std.specs.Prelude.{◌≡◌, ◌↔◌, ◌+◌, ◌≤◌, ◌<◌, ◌^◌, [], length};
     ghost use Rattle.std.specs.Prelude.{IsTrue, MatchOption, OnOk, OnErr};
     ghost use Rattle.std.specs.List.{HoldsAt, insert};
+    ghost use Rattle.macho_fields.specs.Scaffold.{StartBy};
     ghost use Rattle.macho_fields.specs.Span.{Holds, Shares};
+    ghost use Rattle.macho_fields.specs.Spans.{AreSorted, IsProbeCount};
 
     pub(super) fn new(alloc: Global) -> Held
         ensures none { result.pairs.items ≡ [] }
@@ -43,8 +46,30 @@ impl Held {
         self.probes
     }
 
+    /// How many of the spans start at the place or before it, by halves. Both counts begin at 0.
+    pub(super) fn count_starts_by(&mut self, place: u64) -> usize
+        requires { AreSorted self.old.pairs.items }
+        ensures count { StartBy self.old.pairs.items place result }
+        ensures same { self.new.pairs ≡ self.old.pairs }
+        ensures tests { self.new.tests ≡ 0 }
+        ensures probes { IsProbeCount (length self.old.pairs.items) self.new.probes }
+    {
+        self.reset_counts();
+        let mut low = 0;
+        let mut high = self.len();
+        while low < high {
+            let middle = low + (high - low) / 2;
+            if self.starts_by(middle, place) {
+                low = middle + 1;
+            } else {
+                high = middle;
+            }
+        }
+        low
+    }
+
     /// Sets the number of probes and the number of tests to 0.
-    pub(super) fn reset_counts(&mut self)
+    fn reset_counts(&mut self)
         ensures same { self.new.pairs ≡ self.old.pairs }
         ensures probes { self.new.probes ≡ 0 }
         ensures tests { self.new.tests ≡ 0 }
@@ -54,7 +79,7 @@ impl Held {
     }
 
     /// Whether the span at the index starts at the place or before it. It counts as a probe.
-    pub(super) fn starts_by(&mut self, index: usize, place: u64) -> bool
+    fn starts_by(&mut self, index: usize, place: u64) -> bool
         requires index { index < length self.old.pairs.items }
         requires few { self.old.probes < 2 ^ 32 }
         ensures starts { HoldsAt (λ pair. IsTrue result ↔ (pair.0.start ≤ place))

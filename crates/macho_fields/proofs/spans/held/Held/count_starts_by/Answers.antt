@@ -1,7 +1,7 @@
 use Rattle.std.proofs.Common.{◌+◌, ◌-◌, ◌/◌, get_or, sym, ◌∙◌, inl, inr, arith}
 use Rattle.std.proofs.lemmas.Bool.{cases_lt, false≢true}
 use Rattle.macho_fields.proofs.SortedSpans.{half_up, half_down, few_probes}
-use Rattle.macho_fields.proofs.spans.count_starts_by.Goals as goal
+use Rattle.macho_fields.proofs.spans.held.Held.count_starts_by.Goals as goal
 
 pub starts_by-requires-clause-few : goal.starts_by-requires-clause-few
 starts_by-requires-clause-few c =
@@ -21,7 +21,7 @@ pub loop-low-preserved : goal.loop-low-preserved
 loop-low-preserved c =
     let same = c.loop-low.invariant.1 in (
       rw c.starts_by.ensures.probes (half_down _ c.requires _ _ _ _ c.loop-low-test.true c.loop-low.invariant.0 _ (omega arith) (omega arith) (omega arith)
-          (λ d. elim (cases_lt c.args.place (get_or c.args.held.now.pairs.items (c.loop-low.low + (c.loop-low.high - c.loop-low.low) / 2) d).0.start) [
+          (λ d. elim (cases_lt c.args.place (get_or c.args.self.now.pairs.items (c.loop-low.low + (c.loop-low.high - c.loop-low.low) / 2) d).0.start) [
             | inl after ↦ after
             | inr by ↦ absurd (false≢true (sym c.if-starts_by.false ∙ (rw same at (c.starts_by.ensures.starts d)).1 by))
           ])),
