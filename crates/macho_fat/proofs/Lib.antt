@@ -2,3 +2,4 @@ pub mod Alignment
 pub mod Entries
 pub mod Listed
 pub mod Magics
+pub mod Sharing

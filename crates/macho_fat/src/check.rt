@@ -1,22 +1,27 @@
 //! The rules of a file, in their order.
 
-ghost use Rattle.std.specs.Prelude.{◌≡◌, false, IfOk, MatchOption};
+ghost use Rattle.std.specs.Prelude.{◌≡◌, false, IfOk, OnOk, IfErr, MatchOption};
 ghost use Rattle.macho_fields.specs.Bytes.{bytes_of};
-ghost use Rattle.macho_fields.specs.Layers.{Decides};
+ghost use Rattle.macho_fields.specs.Layers.{NothingBreaks};
 ghost use Rattle.macho_fields.specs.Rules.{BreaksFile};
 ghost use Rattle.macho_fields.specs.Universal.{is_universal, IsImage};
+ghost use Rattle.macho_fat.specs.Slices.{IsFatFault};
 
+use crate::fault::FatFault;
 use crate::rules::{
     Format, fat_align, fat_duplicate, fat_empty, fat_overlap, fat_slice_in_table, fat_slice_magic,
     fat_slice_outside, fat_truncated, magic,
 };
 use crate::table::Table;
-use macho_fields::{Break, Bytes};
+use macho_fields::Bytes;
+use std::alloc::Global;
 
 /// Decides the rules of a file, from `magic` to `fat-empty`, and returns the first broken one,
-/// otherwise the table of a universal file. A file that is one image has none.
-pub(crate) fn check_file<'a>(file: Bytes<'a>) -> Result<Option<Table<'a>>, Break>
-    ensures decides { Decides (BreaksFile (bytes_of file.entry)) result }
+/// otherwise the table of a universal file. A file that is one image has none. Memory is taken for
+/// `fat-overlap` and `fat-duplicate` alone.
+pub(crate) fn check_file<'a>(alloc: Global, file: Bytes<'a>) -> Result<Option<Table<'a>>, FatFault>
+    ensures unbroken { OnOk result (NothingBreaks (BreaksFile (bytes_of file.entry))) }
+    ensures refused { IfErr result (IsFatFault (bytes_of file.entry)) }
     ensures table { IfOk result (λ table. MatchOption table
         (IsImage (bytes_of file.entry) × (is_universal (bytes_of file.entry) ≡ false))
         (λ table. table ≡ bytes_of file.entry)) }
@@ -28,8 +33,8 @@ pub(crate) fn check_file<'a>(file: Bytes<'a>) -> Result<Option<Table<'a>>, Break
     fat_slice_outside(&table)?;
     fat_slice_in_table(&table)?;
     fat_align(&table)?;
-    fat_overlap(&table)?;
-    fat_duplicate(&table)?;
+    fat_overlap(alloc, &table)?;
+    fat_duplicate(alloc, &table)?;
     fat_slice_magic(&table)?;
     fat_empty(&table)?;
     Ok(Some(table))

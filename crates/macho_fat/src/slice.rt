@@ -30,8 +30,11 @@ pub struct Slice {
 
 /// The slices of a file: the whole of a file that is one image, and otherwise one slice for each
 /// entry of the table, in order. Where one of the rules of the file, from `magic` to `fat-empty`,
-/// is broken, it returns the first broken one. The list has room for its slices and no more. No
-/// memory is asked for where one of the rules from `magic` to `fat-align` is broken.
+/// is broken, it returns the first broken one. The list has room for its slices and no more.
+///
+/// Memory is asked for only where the rules from `magic` to `fat-align` are unbroken. For a table of
+/// two entries or more, `fat-overlap` and `fat-duplicate` each take 24 bytes an entry, to sort what
+/// they compare, and free them. The list is made last.
 pub fn slices(alloc: Global, file: Bytes) -> Result<Vec<Slice>, FatFault>
     ensures slices { IfOk result (λ slices.
         map slice_of slices.items ≡ slices_of (bytes_of file.entry)) }
@@ -41,8 +44,7 @@ pub fn slices(alloc: Global, file: Bytes) -> Result<Vec<Slice>, FatFault>
     ensures unbroken { OnOk result (NothingBreaks (BreaksFile (bytes_of file.entry))) }
     ensures refused { IfErr result (IsFatFault (bytes_of file.entry)) }
 {
-    // The rules are decided without memory, before any is asked for.
-    match check_file(file)? {
+    match check_file(alloc, file)? {
         None => Ok(whole(alloc, file)?),
         Some(table) => Ok(listed(alloc, &table)?),
     }

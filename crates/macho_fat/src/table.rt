@@ -11,6 +11,9 @@ use std::marker::Model;
 /// `fat_header.nfat_arch`
 pub(crate) const NFAT_ARCH: u64 = 4;
 
+/// How many bits a `cpusubtype` has without the capability bits.
+const CPU_SUBTYPE_BITS: u32 = 24;
+
 /// Where an entry has its fields: their offsets from that of `cputype`, with which it begins.
 #[derive(Clone, Copy)]
 struct Fields {
@@ -84,7 +87,20 @@ pub(crate) struct Entry {
 }
 
 impl Entry {
-    ghost use Rattle.std.specs.Prelude.{◌≡◌};
+    ghost use Rattle.std.specs.Prelude.{◌≡◌, ◌+◌, ◌*◌, ◌^◌};
+
+    /// A span of one place, which stands for the architecture: the spans of two entries share it
+    /// exactly where their architectures are the same.
+    pub(crate) fn arch_span(self) -> Span
+        ensures start { result.start ≡ self.arch.0 * 2 ^ 24 + self.arch.1 }
+        ensures len { result.len ≡ 1 }
+    {
+        let (cputype, cpusubtype) = self.arch;
+        Span {
+            start: (u64::from(cputype) << CPU_SUBTYPE_BITS) + u64::from(cpusubtype),
+            len: 1,
+        }
+    }
 
     /// The break of a rule at this entry.
     pub(crate) fn breaks(self, rule: Rule) -> Break

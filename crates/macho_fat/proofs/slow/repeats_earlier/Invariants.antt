@@ -1,7 +1,7 @@
 use Rattle.std.proofs.Common.{◌≡◌}
 use Rattle.macho_fields.specs.Universal.{entry_slice}
 use Rattle.macho_fat.proofs.Entries.{NoneBelow}
-use Rattle.macho_fat.proofs.rules.repeats_earlier.Given as goal
+use Rattle.macho_fat.proofs.slow.repeats_earlier.Given as goal
 
 -- no entry before this one has the architecture of the later one
 abbrev pub invariant-loop-k : goal.invariant-loop-k

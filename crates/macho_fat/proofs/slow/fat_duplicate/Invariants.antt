@@ -1,5 +1,5 @@
 use Rattle.macho_fat.proofs.Entries.{NoneBelow, Repeats}
-use Rattle.macho_fat.proofs.rules.fat_duplicate.Given as goal
+use Rattle.macho_fat.proofs.slow.fat_duplicate.Given as goal
 
 -- no slice before this one has the architecture of an earlier one
 abbrev pub invariant-loop-k : goal.invariant-loop-k

@@ -1,7 +1,7 @@
 use Rattle.std.proofs.Common.{◌≡◌, rules}
 use Rattle.macho_fields.specs.Universal.{entry_slice}
 use Rattle.macho_fat.proofs.Entries.{none_more}
-use Rattle.macho_fat.proofs.rules.repeats_earlier.Goals as goal
+use Rattle.macho_fat.proofs.slow.repeats_earlier.Goals as goal
 
 pub loop-k-preserved : goal.loop-k-preserved
 loop-k-preserved c =

@@ -3,7 +3,7 @@ use Rattle.std.proofs.lemmas.Bool.{false≢true, both_ways}
 use Rattle.macho_fields.specs.Universal.{entry_slice}
 use Rattle.macho_fields.specs.Rules.{SharePlace}
 use Rattle.macho_fat.proofs.Entries.{none_more, sharing_entries}
-use Rattle.macho_fat.proofs.rules.shares_with_earlier.Goals as goal
+use Rattle.macho_fat.proofs.slow.shares_with_earlier.Goals as goal
 
 pub loop-k-preserved : goal.loop-k-preserved
 loop-k-preserved c =

@@ -1,5 +1,5 @@
 use Rattle.macho_fat.proofs.Entries.{NoneBelow, Overlaps}
-use Rattle.macho_fat.proofs.rules.fat_overlap.Given as goal
+use Rattle.macho_fat.proofs.slow.fat_overlap.Given as goal
 
 -- no slice before this one shares a place with an earlier one
 abbrev pub invariant-loop-k : goal.invariant-loop-k
