@@ -2,6 +2,8 @@ pub mod Searches
 pub mod Judged
 pub mod SegmentItems
 pub mod Memory
+pub mod Mapped
+pub mod Overlapping
 pub mod MappingItems
 pub mod SectionItems
 pub mod OneCommand

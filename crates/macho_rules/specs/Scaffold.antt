@@ -1,9 +1,13 @@
 -- What only proofs need, and what a mapping keeps.
 use Rattle.std.specs.Prelude.{◌&&◌, ℕ, ◌+◌, ◌-◌, ◌^◌, ◌<◌, nat_le, nat_lt, List, find, Bool, Option, slice_index_or, if◌then◌else◌}
 use Rattle.std.specs.Option.{option_map}
-use Rattle.macho_fields.specs.Segment.{Source, File, Zero, fileoff, filesize}
+use Rattle.macho_fields.specs.Segment.{Source, File, Zero, vmaddr, vmsize, fileoff, filesize}
 use Rattle.macho_fields.specs.declared.span.Span.{Span}
 use Rattle.macho_rules.specs.declared.mapping.FilePart.{FilePart}
+
+-- the addresses of the segment whose command is at the place
+abbrev pub memory_at : List ℕ → ℕ → Span
+memory_at image segment = record { start = vmaddr image segment; len = vmsize image segment }
 
 -- where the bytes of the segment lie whose command is at the place
 abbrev pub file_at : List ℕ → ℕ → FilePart

@@ -18,16 +18,16 @@ use std::alloc::Global;
 /// tables, its symbols and its entry. It returns the first broken one, with its place in the image.
 ///
 /// `Memory` is returned only where the rules up to `segment-file` are kept and a segment is mapped.
-/// It takes no memory yet, which is not promised.
+/// It takes memory for `segment-overlap` alone, where two or more segments are mapped: 24 bytes for
+/// each of them.
 pub fn check_image(alloc: Global, image: &Image) -> Result<(), Refusal>
     ensures unbroken { OnOk result (NothingBreaks (BreaksImage image.now None)) }
     ensures refused { IfErr result (IsImageRefusal image.now None) }
 {
-    let _ = alloc;
     segment_address(image)?;
     segment_size(image)?;
     segment_file(image)?;
-    segment_overlap(image)?;
+    segment_overlap(alloc, image)?;
     section_address(image)?;
     section_file(image)?;
     section_relocs(image)?;

@@ -2,10 +2,11 @@
 
 ghost use Rattle.std.specs.Prelude.{◌≡◌};
 ghost use Rattle.macho_rules.specs.Verdict.{refusal_of};
-ghost use Rattle.macho_rules.specs.declared.refusal.Refusal.TheVariants.{Broken};
+ghost use Rattle.macho_rules.specs.declared.refusal.Refusal.TheVariants.{Broken, Memory};
 
 use macho_fat::FatFault;
 use macho_fields::Break;
+use std::alloc::AllocError;
 use thiserror::Error;
 
 /// Why a file is not accepted.
@@ -24,6 +25,14 @@ impl From<Break> for Refusal {
 
     fn from(broken: Break) -> Refusal {
         Refusal::Broken(broken)
+    }
+}
+
+impl From<AllocError> for Refusal {
+    ghost from_gives = { λ _ refusal. refusal ≡ Memory };
+
+    fn from(_: AllocError) -> Refusal {
+        Refusal::Memory
     }
 }
 

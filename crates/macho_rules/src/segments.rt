@@ -1,15 +1,18 @@
 //! The rules of the segments of an image. (`mach-o/loader.h`: `segment_command_64`)
 
-ghost use Rattle.std.specs.Prelude.{◌≡◌, ◌↔◌, IsTrue};
+ghost use Rattle.std.specs.Prelude.{◌≡◌, ◌-◌, ◌^◌, ◌↔◌, min, length, map, slice_get, IfOk, IsTrue};
 ghost use Rattle.macho_fields.specs.Bytes.{bytes_of};
-ghost use Rattle.macho_fields.specs.Image.{commands_of};
 ghost use Rattle.macho_fields.specs.Segment.{vmaddr, vmsize, fileoff, filesize};
-ghost use Rattle.macho_fields.specs.Segment.{PassesLastAddress, IsLongerInFile, PassesImage, OverlapsEarlier};
+ghost use Rattle.macho_fields.specs.Segment.{PassesLastAddress, IsLongerInFile, PassesImage};
 ghost use Rattle.macho_fields.specs.declared.rule.Rule.{Rule};
-ghost use Rattle.macho_rules.specs.Check.{KeptBefore, JudgesUpTo};
+ghost use Rattle.macho_rules.specs.Check.{KeptBefore, JudgesUpTo, RefusesUpTo};
+ghost use Rattle.macho_rules.specs.Mapping.{mapped_segments};
+ghost use Rattle.macho_rules.specs.Scaffold.{memory_at};
 
-use macho_fields::{Break, Bytes, Rule, Span};
+use crate::refusal::Refusal;
+use macho_fields::{Break, Bytes, Rule, Span, SpanList};
 use macho_image::{Image, Segment};
+use std::alloc::{AllocError, Global};
 
 /// One past the last address.
 const ADDRESS_END: u128 = 1 << 64;
@@ -76,32 +79,69 @@ fn passes_image(image: Bytes, segment: &Segment) -> bool
 }
 
 /// No mapped segment has an address in common with an earlier one.
-pub(crate) fn segment_overlap(image: &Image) -> Result<(), Break>
+///
+/// For n mapped segments it takes time in the order of n log n, and, where there are two or more, memory
+/// of 24 bytes for each.
+pub(crate) fn segment_overlap(alloc: Global, image: &Image) -> Result<(), Refusal>
     requires { KeptBefore image.now Rule.SegmentOverlap }
-    ensures { JudgesUpTo image.now Rule.SegmentOverlap result }
+    ensures { RefusesUpTo image.now Rule.SegmentOverlap result }
 {
-    for segment in image.segments() {
-        if overlaps_earlier(image, &segment) {
-            return Err(Break::at(Rule::SegmentOverlap, segment.place()));
-        }
+    let count = mapped_count(image);
+    if count < 2 {
+        return Ok(());
     }
-    Ok(())
+    let spans = mapped_memory(alloc, image, count)?;
+    let Some(index) = spans.least_overlap() else {
+        return Ok(());
+    };
+    let place = mapped_place(image, index).unwrap();
+    Err(Refusal::Broken(Break::at(Rule::SegmentOverlap, place)))
 }
 
-/// Whether the segment has an address in common with an earlier one.
-fn overlaps_earlier(image: &Image, segment: &Segment) -> bool
-    requires { segment.now.image ≡ image.now }
-    ensures { IsTrue result ↔ OverlapsEarlier image.now (commands_of image.now) segment.now.place }
+/// How many segments are mapped, or the largest `usize` where there are more.
+fn mapped_count(image: &Image) -> usize
+    ensures { result ≡ min (length (mapped_segments image.now)) (2 ^ 64 - 1) }
 {
-    for earlier in image.segments() {
-        if earlier.place() >= segment.place() {
-            return false;
-        }
-        if memory(&earlier).shares(&memory(segment)) {
-            return true;
+    let mut count: usize = 0;
+    for segment in image.segments() {
+        if segment.vmsize() > 0 {
+            count = count.saturating_add(1);
         }
     }
-    false
+    count
+}
+
+/// The addresses of each mapped segment, in the order of the commands. The memory for `count` of them is
+/// taken at once.
+fn mapped_memory(alloc: Global, image: &Image, count: usize) -> Result<SpanList, AllocError>
+    ensures { IfOk result (λ spans.
+        spans ≡ map (memory_at image.now) (mapped_segments image.now)) }
+{
+    let mut spans = SpanList::with_capacity(alloc, count)?;
+    for segment in image.segments() {
+        if segment.vmsize() == 0 {
+            continue;
+        }
+        spans.push(memory(&segment))?;
+    }
+    Ok(spans)
+}
+
+/// The place of the mapped segment with this index among the mapped ones, counted from 0.
+fn mapped_place(image: &Image, index: u64) -> Option<u64>
+    ensures { result ≡ slice_get (mapped_segments image.now) index }
+{
+    let mut left = index;
+    for segment in image.segments() {
+        if segment.vmsize() == 0 {
+            continue;
+        }
+        if left == 0 {
+            return Some(segment.place());
+        }
+        left -= 1;
+    }
+    None
 }
 
 /// The addresses of the segment, which are none where it is not mapped.

@@ -1,39 +1,40 @@
-use Rattle.std.proofs.Common.{◌∙◌, lit≤, sym, subst}
-use Rattle.std.proofs.lemmas.Bool.{both_ways}
+use Rattle.std.proofs.Common.{◌≡◌, Some, slice_get, refl, sym, ◌∙◌, subst, arith, lit≤}
+use Rattle.std.specs.Option.{IsSome}
+use Rattle.std.proofs.lemmas.Option.{slice_get-get_or}
 use Rattle.macho_fields.specs.declared.rule.Rule.TheVariants as rule
-use Rattle.macho_rules.proofs.Judged.{judged_found, judged_ended}
-use Rattle.macho_rules.proofs.Searches.{search_next}
-use Rattle.macho_rules.proofs.SegmentItems.{segments_search, segments_break, segment_image, Overlaps}
+use Rattle.macho_rules.specs.Mapping.{mapped_segments}
+use Rattle.macho_rules.proofs.Judged.{keeps_opened, judged_broken, judged_kept}
+use Rattle.macho_rules.proofs.Mapped.{mapped_some}
+use Rattle.macho_rules.proofs.Overlapping.{few_overlapping, none_overlapping, least_overlapping, overlapping_index, without_memory}
 use Rattle.macho_rules.proofs.segments.segment_overlap.Goals as goal
 
-pub loop-segment-init : goal.loop-segment-init
-loop-segment-init c =
-    let are = c.into_iter-segment-iterator.ensures.into_iter_gives ∙ c.segments-segment-items.ensures.segments in
-    segments_search c.args.image.now _ are _ c.segments-segment-items.ensures.opened
+pub returns-then-count-lt2 : goal.returns-then-count-lt2
+returns-then-count-lt2 c =
+    let image = c.args.image.now in
+    let opened = keeps_opened image rule.SegmentOverlap (lit≤ tt) c.requires in
+    judged_kept image rule.SegmentOverlap (lit≤ tt) c.requires (few_overlapping image opened (omega (arith, c.if-count-lt2.true, c.mapped_count-count.ensures)))
 
-pub overlaps_earlier-requires : goal.overlaps_earlier-requires
-overlaps_earlier-requires c =
-    let are = c.into_iter-segment-iterator.ensures.into_iter_gives ∙ c.segments-segment-items.ensures.segments in
-    segment_image c.args.image.now _ are _ _ _ c.in-Some.segment c.in-Some.ensures.steps
-    c.loop-segment.invariant
+pub returns-in_err-spans : goal.returns-in_err-spans
+returns-in_err-spans c =
+    without_memory c.args.image.now c.requires (mapped_some c.args.image.now (omega (arith, c.if-count-lt2.false, c.mapped_count-count.ensures))) c.from_residual.result c.from_residual.ensures.1
 
-pub returns-then-overlaps_earlier : goal.returns-then-overlaps_earlier
-returns-then-overlaps_earlier c =
-    let are = c.into_iter-segment-iterator.ensures.into_iter_gives ∙ c.segments-segment-items.ensures.segments in
-    let same = segment_image c.args.image.now _ are _ _ _ c.in-Some.segment c.in-Some.ensures.steps c.loop-segment.invariant in
-    judged_found c.args.image.now rule.SegmentOverlap (lit≤ tt) c.requires _ _ _ (segments_break c.args.image.now _ are Overlaps) _ c.loop-segment.invariant c.in-Some.segment _ c.in-Some.ensures.steps
-    (subst (λ bytes. Overlaps bytes c.in-Some.segment.place) (sym same) (c.overlaps_earlier.ensures.0 c.if-overlaps_earlier.true)) c.at.result c.at.ensures.rule (c.at.ensures.place ∙ c.place.ensures)
+pub returns-in_default : goal.returns-in_default
+returns-in_default c =
+    let image = c.args.image.now in
+    let opened = keeps_opened image rule.SegmentOverlap (lit≤ tt) c.requires in
+    judged_kept image rule.SegmentOverlap (lit≤ tt) c.requires (none_overlapping image opened c.in_ok-spans.spans c.in_ok-spans.ensures c.in_default.ensures)
 
-pub loop-segment-preserved : goal.loop-segment-preserved
-loop-segment-preserved c =
-    let are = c.into_iter-segment-iterator.ensures.into_iter_gives ∙ c.segments-segment-items.ensures.segments in
-    let same = segment_image c.args.image.now _ are _ _ _ c.in-Some.segment c.in-Some.ensures.steps c.loop-segment.invariant in
-    search_next _ _ _ _ _ c.in-Some.segment c.in-Some.ensures.steps c.loop-segment.invariant
-    (λ here. both_ways c.overlaps_earlier.result c.if-overlaps_earlier.false (c.overlaps_earlier.ensures.1 (subst (λ bytes. Overlaps bytes c.in-Some.segment.place) same here)))
+pub unwrap-place-requires : goal.unwrap-place-requires
+unwrap-place-requires c =
+    let image = c.args.image.now in
+    let opened = keeps_opened image rule.SegmentOverlap (lit≤ tt) c.requires in
+    let less = overlapping_index image opened c.in-Some.index c.in_ok-spans.spans c.in_ok-spans.ensures c.in-Some.ensures in
+    subst IsSome (sym (c.mapped_place.ensures ∙ slice_get-get_or (mapped_segments image) c.in-Some.index 0 less)) refl
 
 pub returns : goal.returns
 returns c =
-    let are = c.into_iter-segment-iterator.ensures.into_iter_gives ∙ c.segments-segment-items.ensures.segments in
-    judged_ended c.args.image.now rule.SegmentOverlap (lit≤ tt) c.requires _ _ _
-    (segments_break c.args.image.now _ are Overlaps) _ c.loop-segment.invariant
-    c.in-None.ensures.steps.0
+    let image = c.args.image.now in
+    let opened = keeps_opened image rule.SegmentOverlap (lit≤ tt) c.requires in
+    let place : slice_get (mapped_segments image) c.in-Some.index ≡ Some c.unwrap-place.result = sym c.mapped_place.ensures ∙ c.unwrap-place.ensures in
+    let found = least_overlapping image opened c.in-Some.index c.unwrap-place.result place c.in_ok-spans.spans c.in_ok-spans.ensures c.in-Some.ensures in
+    judged_broken image rule.SegmentOverlap (lit≤ tt) c.requires c.at.result c.unwrap-place.result c.at.ensures.rule c.at.ensures.place found.0 found.1

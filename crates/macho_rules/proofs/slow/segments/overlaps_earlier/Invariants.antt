@@ -1,6 +1,6 @@
 use Rattle.macho_rules.proofs.Searches.{Searching}
 use Rattle.macho_rules.proofs.SegmentItems.{SharesBefore}
-use Rattle.macho_rules.proofs.segments.overlaps_earlier.Given as goal
+use Rattle.macho_rules.proofs.slow.segments.overlaps_earlier.Given as goal
 
 -- each earlier segment with an address in common is left
 abbrev pub invariant-loop-earlier : goal.invariant-loop-earlier

@@ -1,6 +1,6 @@
 use Rattle.macho_rules.proofs.Searches.{Searching}
 use Rattle.macho_rules.proofs.SegmentItems.{Overlaps}
-use Rattle.macho_rules.proofs.segments.segment_overlap.Given as goal
+use Rattle.macho_rules.proofs.slow.segments.segment_overlap.Given as goal
 
 -- each segment that breaks the rule is left
 abbrev pub invariant-loop-segment : goal.invariant-loop-segment

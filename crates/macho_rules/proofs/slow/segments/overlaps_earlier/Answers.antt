@@ -3,7 +3,7 @@ use Rattle.std.proofs.lemmas.Bool.{false≢true, both_ways}
 use Rattle.macho_fields.specs.Segment.{Supplies}
 use Rattle.macho_rules.proofs.Searches.{first_among, search_next, not_before, none_left}
 use Rattle.macho_rules.proofs.SegmentItems.{segments_search, segment_image, some_segment, of_segment, SharesBefore}
-use Rattle.macho_rules.proofs.segments.overlaps_earlier.Goals as goal
+use Rattle.macho_rules.proofs.slow.segments.overlaps_earlier.Goals as goal
 
 pub loop-earlier-init : goal.loop-earlier-init
 loop-earlier-init c =
