@@ -1,5 +1,5 @@
 -- What only proofs need, and what a mapping keeps.
-use Rattle.std.specs.Prelude.{◌&&◌, ℕ, ◌+◌, ◌-◌, ◌^◌, ◌<◌, nat_le, nat_lt, List, find, Bool, Option, slice_index_or, if◌then◌else◌}
+use Rattle.std.specs.Prelude.{◌&&◌, ℕ, ◌+◌, ◌-◌, ◌^◌, ◌<◌, nat_le, nat_lt, List, [], ◌∷◌, find, Bool, Option, slice_index_or, if◌then◌else◌}
 use Rattle.std.specs.Option.{option_map}
 use Rattle.macho_fields.specs.Segment.{Source, File, Zero, vmaddr, vmsize, fileoff, filesize}
 use Rattle.macho_fields.specs.declared.span.Span.{Span}
@@ -8,6 +8,12 @@ use Rattle.macho_rules.specs.declared.mapping.FilePart.{FilePart}
 -- the addresses of the segment whose command is at the place
 abbrev pub memory_at : List ℕ → ℕ → Span
 memory_at image segment = record { start = vmaddr image segment; len = vmsize image segment }
+
+-- the addresses of each segment, with its index, counted from k on
+abbrev pub numbered_memory : List ℕ → ℕ → List ℕ → List (Span × ℕ)
+numbered_memory image k [] = []
+numbered_memory image k (segment ∷ segments) =
+    (memory_at image segment, k) ∷ numbered_memory image (k + 1) segments
 
 -- where the bytes of the segment lie whose command is at the place
 abbrev pub file_at : List ℕ → ℕ → FilePart

@@ -1,11 +1,13 @@
 //! What is at the addresses of a loaded image. (`mach-o/loader.h`: `segment_command_64`)
 
-ghost use Rattle.std.specs.Prelude.{◌<◌, length, All};
+ghost use Rattle.std.specs.Prelude.{◌<◌, length, All, AllPairs, IsPermutation, IfOk, OnErr};
+ghost use Rattle.macho_fields.specs.Span.{Shares};
+ghost use Rattle.macho_fields.specs.Spans.{AreSorted, IsPlaced};
 ghost use Rattle.macho_rules.specs.Scaffold.{FitsFile};
 
 use crate::segments::memory;
 use crate::verdict::Verified;
-use macho_fields::{Bytes, Spans};
+use macho_fields::{Bytes, Span, Spans};
 use macho_image::{Image, Segment};
 use std::alloc::{AllocError, Global};
 
@@ -89,17 +91,12 @@ impl Mapping {
         ensures memory { OnErr result (HasMapped (bytes_of bytes.entry)) }
     {
         let image = Image::reopen(bytes);
-        let mut spans = Spans::new(alloc);
-        let mut files = Vec::new(alloc);
-        for segment in image.segments() {
-            if segment.vmsize() > 0 {
-                spans.try_insert(memory(&segment), files.len() as u64)?;
-                files.push(FilePart::new(&segment))?;
-            }
-        }
+        let mut mapped = MappedSegments::of(alloc, &image)?;
+        mapped.addresses.sort_unstable_by_key(|pair| pair.0.start);
+        let memory = spans_of(alloc, &mapped.addresses)?;
         Ok(Mapping {
-            memory: spans,
-            files,
+            memory,
+            files: mapped.files,
             probes: 0,
         })
     }
@@ -126,6 +123,56 @@ impl Mapping {
     {
         self.probes
     }
+}
+
+/// The mapped segments of an image, in the order of the commands.
+#[derive(Drop)]
+struct MappedSegments {
+    /// The addresses of each, with its index in `files`. One takes 24 bytes.
+    addresses: Vec<(Span, u64)>,
+    files: Vec<FilePart>,
+}
+
+impl MappedSegments {
+    ghost use Rattle.std.specs.Prelude.{◌≡◌, map, IfOk, OnErr};
+    ghost use Rattle.macho_rules.specs.Mapping.{mapped_segments};
+    ghost use Rattle.macho_rules.specs.Scaffold.{file_at, numbered_memory};
+    ghost use Rattle.macho_rules.specs.Verdict.{HasMapped};
+
+    /// The mapped segments of the image. It takes no memory where there are none.
+    fn of(alloc: Global, image: &Image) -> Result<MappedSegments, AllocError>
+        ensures addresses { IfOk result (λ mapped.
+            mapped.addresses.items ≡ numbered_memory image.now 0 (mapped_segments image.now)) }
+        ensures files { IfOk result (λ mapped.
+            mapped.files.items ≡ map (file_at image.now) (mapped_segments image.now)) }
+        ensures memory { OnErr result (HasMapped image.now) }
+    {
+        let mut addresses = Vec::new(alloc);
+        let mut files = Vec::new(alloc);
+        for segment in image.segments() {
+            if segment.vmsize() == 0 {
+                continue;
+            }
+            addresses.push((memory(&segment), files.len() as u64))?;
+            files.push(FilePart::new(&segment))?;
+        }
+        Ok(MappedSegments { addresses, files })
+    }
+}
+
+/// The spans with their tags. Where they come in ascending order, no insertion moves a pair.
+fn spans_of(alloc: Global, pairs: &[(Span, u64)]) -> Result<Spans, AllocError>
+    requires placed { All (λ pair. IsPlaced pair.0) pairs.now }
+    requires apart { AllPairs (λ pair later. ¬ Shares pair.0 later.0) pairs.now }
+    ensures held { IfOk result (λ spans. IsPermutation pairs.now spans.pairs) }
+    ensures sorted { IfOk result (λ spans. AreSorted spans.pairs) }
+    ensures memory { OnErr result (0 < length pairs.now) }
+{
+    let mut spans = Spans::new(alloc);
+    for &(span, tag) in pairs {
+        spans.try_insert(span, tag)?;
+    }
+    Ok(spans)
 }
 
 impl FilePart {
