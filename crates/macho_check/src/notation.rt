@@ -13,12 +13,16 @@ pub(crate) fn written(alloc: Global, text: &str) -> Result<Vec<u8>, Fail> {
 /// Appends the bytes of this text.
 pub(crate) fn append(bytes: &mut Vec<u8>, text: &str) -> Result<(), Fail> {
     for word in text.split_whitespace() {
-        match word.strip_prefix('.') {
-            Some(count) => append_zeros(bytes, count.parse()?)?,
-            None => append_pairs(bytes, word)?,
-        }
+        append_word(bytes, word)?;
     }
     Ok(())
+}
+
+fn append_word(bytes: &mut Vec<u8>, word: &str) -> Result<(), Fail> {
+    match word.strip_prefix('.') {
+        Some(count) => append_zeros(bytes, count.parse()?),
+        None => append_pairs(bytes, word),
+    }
 }
 
 fn append_zeros(bytes: &mut Vec<u8>, count: u32) -> Result<(), Fail> {

@@ -7,6 +7,7 @@ mod layers;
 mod layout;
 mod mapping;
 mod numbers;
+mod overlaps;
 mod real;
 mod report;
 mod streams;
