@@ -1,8 +1,8 @@
 //! Numbers and parts of the bytes of a file.
 
-ghost use Rattle.std.specs.Prelude.{◌≡◌, ◌+◌, ◌≤◌, ◌↔◌, [], length, slice_get, IsTrue, IsSome, IfSome};
+ghost use Rattle.std.specs.Prelude.{◌≡◌, ◌+◌, ◌≤◌, ◌<◌, ◌↔◌, [], length, slice_get, slice_index, IsTrue, IsSome, IfSome};
 ghost use Rattle.macho_fields.specs.Bytes.{bytes_of};
-ghost use Rattle.macho_fields.specs.Field.{field, part, string_from, HasZero};
+ghost use Rattle.macho_fields.specs.Field.{field, number, part, string_from, HasZero};
 ghost use Rattle.macho_fields.specs.Span.{end_of, Holds};
 
 use crate::span::Span;
@@ -58,33 +58,63 @@ impl<'a> Bytes<'a> {
     pub fn u16_at(self, order: Order, place: u64) -> Option<u16>
         ensures { result ≡ field order 2 (bytes_of self.entry) place }
     {
-        let bytes = self.bytes_at(place, 2)?;
-        Some(match order {
-            Order::Big => BigEndian::read_u16(bytes),
-            Order::Little => LittleEndian::read_u16(bytes),
-        })
+        Some(u16_from(order, self.bytes_at(place, 2)?))
     }
 
     /// The number in the 4 bytes from `place` on, or `None` where they are not all inside.
     pub fn u32_at(self, order: Order, place: u64) -> Option<u32>
         ensures { result ≡ field order 4 (bytes_of self.entry) place }
     {
-        let bytes = self.bytes_at(place, 4)?;
-        Some(match order {
-            Order::Big => BigEndian::read_u32(bytes),
-            Order::Little => LittleEndian::read_u32(bytes),
-        })
+        Some(u32_from(order, self.bytes_at(place, 4)?))
     }
 
     /// The number in the 8 bytes from `place` on, or `None` where they are not all inside.
     pub fn u64_at(self, order: Order, place: u64) -> Option<u64>
         ensures { result ≡ field order 8 (bytes_of self.entry) place }
     {
-        let bytes = self.bytes_at(place, 8)?;
-        Some(match order {
-            Order::Big => BigEndian::read_u64(bytes),
-            Order::Little => LittleEndian::read_u64(bytes),
-        })
+        Some(u64_from(order, self.bytes_at(place, 8)?))
+    }
+
+    /// The byte at `place`, which is inside. No bounds check runs, here and in the other calls
+    /// that read what is inside.
+    pub fn read_u8(self, place: u64) -> u8
+        requires { place < length (bytes_of self) }
+        ensures { result ≡ slice_index (bytes_of self.entry) place }
+    {
+        self.bytes[place as usize]
+    }
+
+    /// The number in the 2 bytes from `place` on, which are inside.
+    pub fn read_u16(self, order: Order, place: u64) -> u16
+        requires { place + 2 ≤ length (bytes_of self) }
+        ensures { result ≡ number order 2 (bytes_of self.entry) place }
+    {
+        u16_from(order, &self.bytes[place as usize..])
+    }
+
+    /// The number in the 4 bytes from `place` on, which are inside.
+    pub fn read_u32(self, order: Order, place: u64) -> u32
+        requires { place + 4 ≤ length (bytes_of self) }
+        ensures { result ≡ number order 4 (bytes_of self.entry) place }
+    {
+        u32_from(order, &self.bytes[place as usize..])
+    }
+
+    /// The number in the 8 bytes from `place` on, which are inside.
+    pub fn read_u64(self, order: Order, place: u64) -> u64
+        requires { place + 8 ≤ length (bytes_of self) }
+        ensures { result ≡ number order 8 (bytes_of self.entry) place }
+    {
+        u64_from(order, &self.bytes[place as usize..])
+    }
+
+    /// The bytes at the places of `span`, which are all inside. They are not copied.
+    pub fn read_part(self, span: Span) -> &'a [u8]
+        requires { end_of span ≤ length (bytes_of self) }
+        ensures { result.now ≡ part span.start span.len (bytes_of self.entry) }
+    {
+        let rest = &self.bytes[span.start as usize..];
+        &rest[..span.len as usize]
     }
 
     /// Whether `span` ends inside the bytes. An empty span is inside up to the very end.
@@ -158,6 +188,39 @@ impl<'a> Bytes<'a> {
     {
         let rest = self.bytes.get(place as usize..)?;
         rest.get(..width as usize)
+    }
+}
+
+/// The number in the first 2 bytes.
+fn u16_from(order: Order, bytes: &[u8]) -> u16
+    requires { 2 ≤ length bytes.now }
+    ensures { result ≡ number order 2 bytes.now 0 }
+{
+    match order {
+        Order::Big => BigEndian::read_u16(bytes),
+        Order::Little => LittleEndian::read_u16(bytes),
+    }
+}
+
+/// The number in the first 4 bytes.
+fn u32_from(order: Order, bytes: &[u8]) -> u32
+    requires { 4 ≤ length bytes.now }
+    ensures { result ≡ number order 4 bytes.now 0 }
+{
+    match order {
+        Order::Big => BigEndian::read_u32(bytes),
+        Order::Little => LittleEndian::read_u32(bytes),
+    }
+}
+
+/// The number in the first 8 bytes.
+fn u64_from(order: Order, bytes: &[u8]) -> u64
+    requires { 8 ≤ length bytes.now }
+    ensures { result ≡ number order 8 bytes.now 0 }
+{
+    match order {
+        Order::Big => BigEndian::read_u64(bytes),
+        Order::Little => LittleEndian::read_u64(bytes),
     }
 }
 

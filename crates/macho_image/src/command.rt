@@ -96,7 +96,7 @@ fn command_from(image: Bytes, place: u64) -> Command
         place,
         cmd: word_at(image, place),
         size,
-        bytes: image.part(span).unwrap(),
+        bytes: image.read_part(span),
     }
 }
 
@@ -108,7 +108,7 @@ pub(crate) fn word_at(bytes: Bytes, place: u64) -> u32
     requires { place + 4 ≤ length (bytes_of bytes) }
     ensures { result ≡ word (bytes_of bytes.entry) place }
 {
-    bytes.u32_at(Order::Little, place).unwrap()
+    bytes.read_u32(Order::Little, place)
 }
 
 /// The 64-bit field at `place`.
@@ -116,7 +116,7 @@ pub(crate) fn long_at(bytes: Bytes, place: u64) -> u64
     requires { place + 8 ≤ length (bytes_of bytes) }
     ensures { result ≡ long (bytes_of bytes.entry) place }
 {
-    bytes.u64_at(Order::Little, place).unwrap()
+    bytes.read_u64(Order::Little, place)
 }
 
 /// The 32-bit field at `offset` in the structure that begins at `structure`.

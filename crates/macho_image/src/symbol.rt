@@ -114,9 +114,9 @@ fn symbol_from(image: Bytes, place: u64) -> Symbol
     Symbol {
         place,
         strx: word_at(image, place),
-        kind: image.u8_at(place + TYPE_OFFSET).unwrap(),
-        sect: image.u8_at(place + SECT_OFFSET).unwrap(),
-        desc: image.u16_at(Order::Little, place + DESC_OFFSET).unwrap(),
+        kind: image.read_u8(place + TYPE_OFFSET),
+        sect: image.read_u8(place + SECT_OFFSET),
+        desc: image.read_u16(Order::Little, place + DESC_OFFSET),
         value: long_at(image, place + VALUE_OFFSET),
     }
 }
