@@ -12,11 +12,10 @@ use Rattle.macho_fields.proofs.Opened.{Keeps, sections_inside, command_inside}
 use Rattle.macho_fields.proofs.Parts.{of_kind_is, of_kind_among}
 use Rattle.macho_image.specs.Opened.{IsOpened}
 use Rattle.macho_image.specs.Command.{CommandView, command_at}
-use Rattle.macho_image.specs.Scaffold.{left_of_kind, HoldsSegment, HoldSegments, sections_from, sections_among}
+use Rattle.macho_image.specs.Scaffold.{left_of_kind, HaveSegments, HoldsSegment, HoldSegments, sections_from, sections_among}
 use Rattle.macho_image.specs.Segment.{SegmentView, segment_at, section_at, sections_with, sections_of}
 use Rattle.macho_image.proofs.Opened.{opened_keeps}
 use Rattle.macho_image.proofs.OpenedWalk.{opened_commands}
-use Rattle.macho_image.proofs.Kept.{AreAll, all_kept}
 
 held_segment : (image commands : List ℕ) (segment : ℕ) → Keeps image → AreCommands image commands → Contains (segments_of image commands) segment → HoldsSegment image segment
 held_segment image commands segment opened are has =
@@ -25,10 +24,10 @@ held_segment image commands segment opened are has =
     let inside : segment + command_size image segment ≤ length image = command_inside image commands opened are segment among in omega arith
 
 -- the segments of an opened image lie inside it
-pub all_segments_hold : (image : List ℕ) (all : List CommandView) → IsOpened image → AreAll image all → HoldSegments image all
-all_segments_hold image all opened is =
+pub all_segments_hold : (image : List ℕ) (all : List CommandView) → IsOpened image → HaveSegments image all → HoldSegments image all
+all_segments_hold image all opened have =
     let segments = segments_of image (commands_of image) in
-    subst (All (λ c. HoldsSegment image c.place)) (sym (all_kept image all loader.LC_SEGMENT_64 is)) (All-map (λ c. HoldsSegment image c.place) (command_at image) segments
+    subst (All (λ c. HoldsSegment image c.place)) (sym have) (All-map (λ c. HoldsSegment image c.place) (command_at image) segments
     (λ k d less. held_segment image (commands_of image) _ (opened_keeps image opened) (opened_commands image opened) (All-contains_itself segments k d less)))
 
 -- Sections
@@ -69,9 +68,9 @@ sum_of_places f image [] = refl
 sum_of_places f image (x ∷ xs) =
     sum_by-cons (λ c. f c.place) (command_at image x) (map (command_at image) xs) ∙ (ap (λ n. f x + n) (sum_of_places f image xs) ∙ sym (sum_by-cons f x xs))
 
-pub all_counted : (image : List ℕ) (all : List CommandView) → AreAll image all → counted image all ≡ section_count image (commands_of image)
-all_counted image all is =
-    ap (sum_by (λ c. nsects image c.place)) (all_kept image all loader.LC_SEGMENT_64 is) ∙ sum_of_places (nsects image) image (segments_of image (commands_of image))
+pub all_counted : (image : List ℕ) (all : List CommandView) → HaveSegments image all → counted image all ≡ section_count image (commands_of image)
+all_counted image all have =
+    ap (sum_by (λ c. nsects image c.place)) have ∙ sum_of_places (nsects image) image (segments_of image (commands_of image))
 
 -- the sections of a command, where it is a segment, lie in it
 abbrev HoldsItsSections : List ℕ → ℕ → Type 0
@@ -99,13 +98,13 @@ count_in_chain image start (x ∷ xs) next (first, good, rest) within hold =
     let here : 80 * n ≤ size = in_command (nsects image x) size is_segment (λ h. hold 0 x (omega arith) (eqb-true (command_kind image x) loader.LC_SEGMENT_64 h)) in
     let more : x + size + 80 * section_count image xs ≤ commands_end image = count_in_chain image (x + size) xs next rest end (All-tail (HoldsItsSections image) x xs hold) in omega arith
 
-pub count_fits : (image : List ℕ) (all : List CommandView) → IsOpened image → AreAll image all → 80 * counted image all ≤ length image
-count_fits image all is_opened is =
+pub count_fits : (image : List ℕ) (all : List CommandView) → IsOpened image → HaveSegments image all → 80 * counted image all ≤ length image
+count_fits image all is_opened have =
     let opened = opened_keeps image is_opened in
     let commands = commands_of image in
     let are = opened_commands image is_opened in
     let (length_is, next, chain) = are in
     let inside : commands_end image ≤ length image = opened.inside in
-    let same : counted image all ≡ section_count image commands = all_counted image all is in
+    let same : counted image all ≡ section_count image commands = all_counted image all have in
     let fits : 32 + 80 * section_count image commands ≤ commands_end image = count_in_chain image 32 commands next chain (omega arith)
     (λ k d less is_segment. let holds = sections_inside image commands opened are _ (All-contains_itself commands k d less) is_segment in omega arith) in omega arith

@@ -6,6 +6,7 @@ pub mod OpenedWalk
 pub mod OfOneKind
 pub mod Kept
 pub mod HeldSegments
+pub mod Reached
 pub mod Entries
 pub mod Names
 pub mod Libraries

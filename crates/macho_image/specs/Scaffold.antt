@@ -4,9 +4,9 @@ use Rattle.std.specs.Prelude.{map, filter, flat_map}
 use Rattle.std.specs.Prelude.{length, All}
 use Rattle.macho_fields.specs.Command.{name_start}
 use Rattle.macho_fields.specs.Field.{HasZero}
-use Rattle.macho_fields.specs.Image.{command_kind, command_size, commands_end, IsGood, places_from}
+use Rattle.macho_fields.specs.Image.{command_kind, command_size, commands_end, commands_of, IsGood, places_from}
 use Rattle.macho_fields.specs.LoadCommands.{structure_size, names_library}
-use Rattle.macho_fields.specs.Segment.{nsects}
+use Rattle.macho_fields.specs.Segment.{nsects, segments_of}
 use Rattle.macho_fields.specs.declared.header.loader.TheConstants as loader
 use Rattle.macho_fields.specs.declared.header.nlist.TheConstants as nlist
 use Rattle.macho_fields.specs.declared.load_command.Structure.TheVariants.{DylibCommand}
@@ -53,6 +53,12 @@ HoldsSegment image segment =
 abbrev pub segments_left : List ℕ → List CommandView → List SegmentView
 segments_left image commands =
     map (λ c. segment_at image c.place) (left_of_kind loader.LC_SEGMENT_64 commands)
+
+-- the commands of a walk have all segments of the image
+abbrev pub HaveSegments : List ℕ → List CommandView → Type 0
+HaveSegments image commands =
+    left_of_kind loader.LC_SEGMENT_64 commands
+    ≡ map (command_at image) (segments_of image (commands_of image))
 
 -- they lie inside the image
 abbrev pub HoldSegments : List ℕ → List CommandView → Type 0

@@ -4,10 +4,11 @@ use crate::command::{Commands, word_at};
 use crate::rules::{command_repeated, command_short, dylib_id, name, unique_places};
 use crate::unique::UniquePlaces;
 use crate::walk::{
-    FILETYPE, Opening, arch_mismatch, arch_of, command_walk, commands_outside, file_type,
-    header_truncated,
+    FILETYPE, Opening, arch_mismatch, arch_of, command_walk, commands_outside,
+    count_to_last_segment, file_type, header_truncated,
 };
 pub use macho_fields::Kind;
+use macho_fields::header::loader::MACH_HEADER_64_SIZE;
 use macho_fields::{Break, Bytes, file_type_of};
 use std::marker::Model;
 
@@ -16,6 +17,8 @@ use std::marker::Model;
 pub struct Image<'a> {
     bytes: Bytes<'a>,
     unique: UniquePlaces,
+    /// How many commands there are up to the last segment. No search for segments goes past it.
+    reach: u32,
 }
 
 impl<'a> Model for Image<'a> {
@@ -27,7 +30,7 @@ impl<'a> Model for Image<'a> {
 
     ghost view = { λ image. bytes_of image.bytes };
 
-    ghost invariant = { λ image. IsKnown (bytes_of image.bytes) image.unique };
+    ghost invariant = { λ image. IsKnown (bytes_of image.bytes) image.unique image.reach };
 }
 
 impl<'a> Image<'a> {
@@ -42,6 +45,8 @@ impl<'a> Image<'a> {
     ghost use Rattle.macho_image.specs.Command.{command_at, first_of_kind};
     ghost use Rattle.macho_image.specs.Header.{IsKind};
     ghost use Rattle.macho_image.specs.Opened.{IsOpened};
+    ghost use Rattle.macho_image.specs.Opening.{AreFirst};
+    ghost use Rattle.macho_image.specs.Scaffold.{HaveSegments};
 
     /// Opens `bytes` as a 64-bit image. `arch` is the `cputype` and the `cpusubtype` that a
     /// universal file gives for it, or `None` where the image is a file of its own. The magic
@@ -63,7 +68,7 @@ impl<'a> Image<'a> {
         let unique = command_repeated(opening)?;
         dylib_id(opening, unique)?;
         name(opening)?;
-        Ok(Image { bytes, unique })
+        Ok(Image::known(bytes, unique))
     }
 
     /// The image of bytes that break no rule of [`Image::open`], as it found before. They are not
@@ -73,7 +78,21 @@ impl<'a> Image<'a> {
         ensures { result ≡ bytes_of bytes.entry }
     {
         let unique = unique_places(Opening { bytes, arch: None });
-        Image { bytes, unique }
+        Image::known(bytes, unique)
+    }
+
+    /// The opened image in which the unique commands are at these places.
+    fn known(bytes: Bytes<'a>, unique: UniquePlaces) -> Image<'a>
+        requires opened { IsOpened (bytes_of bytes) }
+        requires first { AreFirst (bytes_of bytes) (commands_of (bytes_of bytes)) unique }
+        ensures { result ≡ bytes_of bytes.entry }
+    {
+        let reach = count_to_last_segment(bytes);
+        Image {
+            bytes,
+            unique,
+            reach,
+        }
     }
 
     /// All bytes of the image.
@@ -110,6 +129,18 @@ impl<'a> Image<'a> {
             arch: None,
         };
         opening.commands()
+    }
+
+    /// The commands up to the last segment.
+    pub(crate) fn commands_to_last_segment(&self) -> Commands<'a>
+        ensures segments { HaveSegments self.now result }
+        ensures opened { IsOpened self.now }
+    {
+        Commands {
+            image: self.bytes,
+            place: MACH_HEADER_64_SIZE,
+            left: self.reach,
+        }
     }
 
     /// The place of the command of this kind, of which an image has at most one.

@@ -159,7 +159,7 @@ impl<'a> Image<'a> {
     {
         Segments {
             image: self.bytes(),
-            commands: self.commands(),
+            commands: self.commands_to_last_segment(),
         }
     }
 
@@ -168,7 +168,7 @@ impl<'a> Image<'a> {
         ensures { result ≡ section_count self.now (commands_of self.now) }
     {
         let image = self.bytes();
-        let mut commands = self.commands();
+        let mut commands = self.commands_to_last_segment();
         let mut count = 0;
         while let Some(command) = commands.next_of_kind(LC_SEGMENT_64) {
             count += u64::from(word_in(image, command.place, NSECTS));

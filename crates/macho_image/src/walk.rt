@@ -8,10 +8,11 @@ ghost use Rattle.macho_fields.specs.Image.{cpu_type, cpu_subtype, commands_end, 
 ghost use Rattle.macho_fields.specs.Layers.{KeptBelow, Continues};
 ghost use Rattle.macho_fields.specs.Universal.{masked};
 ghost use Rattle.macho_fields.specs.declared.rule.Rule.{Rule};
-ghost use Rattle.macho_image.specs.Opening.{breaks_of};
+ghost use Rattle.macho_image.specs.Opened.{IsOpened};
+ghost use Rattle.macho_image.specs.Opening.{breaks_of, ReachesSegments};
 
 use crate::command::{CMDSIZE, Commands, word_at};
-use macho_fields::header::loader::{LOAD_COMMAND_SIZE, MACH_HEADER_64_SIZE};
+use macho_fields::header::loader::{LC_SEGMENT_64, LOAD_COMMAND_SIZE, MACH_HEADER_64_SIZE};
 use macho_fields::header::machine::CPU_SUBTYPE_MASK;
 use macho_fields::{Break, Bytes, Rule, file_type_of};
 
@@ -56,6 +57,22 @@ impl<'a> Opening<'a> {
             left: word_at(self.bytes, NCMDS),
         }
     }
+}
+
+/// How many commands there are up to the last segment, itself included.
+pub(crate) fn count_to_last_segment(image: Bytes) -> u32
+    requires { IsOpened (bytes_of image) }
+    ensures { ReachesSegments (bytes_of image.entry) result }
+{
+    let mut place = MACH_HEADER_64_SIZE;
+    let mut count = 0;
+    for walked in 0..word_at(image, NCMDS) {
+        if word_at(image, place) == LC_SEGMENT_64 {
+            count = walked + 1;
+        }
+        place += u64::from(word_at(image, place + CMDSIZE));
+    }
+    count
 }
 
 /// The rule `header-truncated`: the bytes hold a `mach_header_64`.

@@ -5,6 +5,3 @@ use Rattle.macho_image.proofs.image.Image.reopen.Goals as goal
 
 pub unique_places-unique-requires : goal.unique_places-unique-requires
 unique_places-unique-requires c = kept_less _ None 15 19 (omega arith) (opened_below _ c.requires)
-
-pub invariant_of-result : goal.invariant_of-result
-invariant_of-result c = record { opened = c.requires; first = c.unique_places-unique.ensures }

@@ -1,17 +1,19 @@
-use Rattle.std.proofs.Common.{◌∙◌, ap, sym, subst}
-use Rattle.macho_fields.specs.declared.header.loader.TheConstants as loader
+use Rattle.std.proofs.Common.{◌∙◌, ap, map, sym, subst}
+use Rattle.macho_fields.specs.Image.{commands_of}
+use Rattle.macho_fields.specs.Segment.{segments_of}
 use Rattle.macho_image.specs.Segment.{segment_at}
 use Rattle.macho_image.specs.Scaffold.{segments_left, HoldSegments}
 use Rattle.macho_image.proofs.HeldSegments.{all_segments_hold}
-use Rattle.macho_image.proofs.Kept.{all_seen}
+use Rattle.macho_image.proofs.OfOneKind.{map-places}
 use Rattle.macho_image.proofs.image.Image.segments.Goals as goal
 
 pub invariant_of-result : goal.invariant_of-result
 invariant_of-result c =
-    subst (λ image. HoldSegments image c.commands.result) (sym c.bytes.ensures.bytes)
-    (all_segments_hold c.args.self.now c.commands.result c.commands.ensures.opened c.commands.ensures.commands)
+    subst (λ image. HoldSegments image c.commands_to_last_segment.result) (sym c.bytes.ensures.bytes)
+    (all_segments_hold c.args.self.now c.commands_to_last_segment.result c.commands_to_last_segment.ensures.opened c.commands_to_last_segment.ensures.segments)
 
 pub returns-clause-segments : goal.returns-clause-segments
 returns-clause-segments c =
-    ap (λ image. segments_left image c.commands.result) c.bytes.ensures.bytes
-    ∙ all_seen (segment_at c.args.self.now) c.args.self.now c.commands.result loader.LC_SEGMENT_64 c.commands.ensures.commands
+    ap (λ image. segments_left image c.commands_to_last_segment.result) c.bytes.ensures.bytes
+    ∙ (ap (map (λ v. segment_at c.args.self.now v.place)) c.commands_to_last_segment.ensures.segments
+    ∙ map-places (segment_at c.args.self.now) c.args.self.now (segments_of c.args.self.now (commands_of c.args.self.now)))
