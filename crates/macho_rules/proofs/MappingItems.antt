@@ -95,7 +95,8 @@ module _ (image : List ℕ) where
   numbered_has : (k : ℕ) (ps : List ℕ) (p : ℕ) → Contains ps p → (i : ℕ) × (i < length ps) × (get_or ps i 0 ≡ p) × Contains (numbered_memory image k ps) (memory_at image p, k + i)
   numbered_has k [] p (j, less, at) = absurd (omega arith)
   numbered_has k (q ∷ ps) p (zero, less, at) =
-      (0, omega arith, at, subst (Contains (numbered_memory image k (q ∷ ps))) (ap (λ r. (memory_at image r, k)) at ∙ ap (λ (n : ℕ). (memory_at image p, n)) (omega arith)) (has_first (memory_at image q, k) (numbered_memory image (k + 1) ps)))
+      let same : ◌≡◌ {A = Span × ℕ} (memory_at image q, k) (memory_at image p, k + 0) = ap (λ r. (memory_at image r, k)) at ∙ ap (λ (n : ℕ). (memory_at image p, n)) (omega arith) in
+      (0, omega arith, at, subst (Contains (numbered_memory image k (q ∷ ps))) same (has_first (memory_at image q, k) (numbered_memory image (k + 1) ps)))
   numbered_has k (q ∷ ps) p (suc j, less, at) =
       let (i, within, is, has) = numbered_has (k + 1) ps p (j, omega arith, at) in
       (suc i, omega arith, is, has_later (memory_at image q, k) _ _ (subst (Contains (numbered_memory image (k + 1) ps)) (ap (λ (n : ℕ). (memory_at image p, n)) (omega arith)) has))

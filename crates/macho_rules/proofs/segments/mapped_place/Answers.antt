@@ -15,7 +15,8 @@ returns-then-left-eq0 c =
     let are = c.into_iter-segment-iterator.ensures.into_iter_gives ∙ c.segments-segment-items.ensures.segments in
     let (seen, going, index) = c.loop-segment.invariant in
     let split = mapped_split c.args.image.now _ _ _ seen c.in-Some.segment c.in-Some.ensures.steps are going (omega (arith, c.if-vmsize-eq0.false, c.vmsize.ensures)) in
-    let here : slice_get (mapped_segments c.args.image.now) c.args.index ≡ Some c.in-Some.segment.place = rw split (get_after seen c.in-Some.segment.place _ c.args.index (omega (arith, index, c.if-left-eq0.true))) in
+    let after = get_after seen c.in-Some.segment.place _ c.args.index (omega (arith, index, c.if-left-eq0.true)) in
+    let here : slice_get (mapped_segments c.args.image.now) c.args.index ≡ Some c.in-Some.segment.place = rw split after in
     sym (here ∙ ap Some (sym c.place.ensures))
 
 pub loop-segment-preserved : goal.loop-segment-preserved
