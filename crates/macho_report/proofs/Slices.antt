@@ -1,10 +1,14 @@
 -- The lines of a slice.
-use Rattle.std.proofs.Common.{◌≡◌, ℕ, List, [], Option, Some, None, IsSomeAnd, refl, sym, ap}
+use Rattle.std.proofs.Common.{◌≡◌, ◌∙◌, ℕ, List, [], true, false, Option, Some, None, IsSomeAnd, Result, arith, refl, sym, ap, ap₂, subst, inl, inr}
+use Rattle.std.proofs.lemmas.Bool.{cases_Bool}
+use Rattle.std.proofs.lemmas.Option.{same_Some}
 use Rattle.std.specs.Option.{option_map_or}
+use Rattle.macho_fields.specs.Universal.{FileSlice, IsImage, slice_bytes}
 use Rattle.macho_fields.specs.declared.file_type.FileType.{FileType}
 use Rattle.macho_fields.specs.declared.file_type.Kind.{Kind}
 use Rattle.macho_image.specs.Header.{IsKind}
-use Rattle.macho_report.specs.Layout.{kind_word, kind_text}
+use Rattle.macho_report.specs.Stream.{Writes}
+use Rattle.macho_report.specs.Layout.{kind_word, kind_text, is_image, image_slice_text, unread_slice_text, slice_text}
 
 kind_in : (o : Option FileType) (kind : Kind) → IsSomeAnd o (λ listed. listed.kind ≡ kind) → kind_word kind ≡ option_map_or (λ listed. kind_word listed.kind) o []
 kind_in (Some listed) kind is = ap kind_word (sym is)
@@ -15,3 +19,37 @@ kind_is image kind is = kind_in _ kind is
 
 pub same_arch : (arch : ℕ × ℕ) (t s : ℕ) → arch.0 ≡ t → arch.1 ≡ s → arch ≡ (t, s)
 same_arch arch t s first second = rw (sym first, sym second) refl
+
+image_is : (bytes : List ℕ) → IsImage bytes → is_image bytes ≡ true
+image_is bytes h = grind (arith, h.0, h.1)
+
+image_from : (bytes : List ℕ) → is_image bytes ≡ true → IsImage bytes
+image_from bytes h = (grind (arith, h), grind (arith, h))
+
+text_read : (file : List ℕ) (index : ℕ) (slice : FileSlice) → is_image (slice_bytes file slice) ≡ true
+    → slice_text file (index, slice) ≡ image_slice_text (slice_bytes file slice) index slice
+text_read file index slice h = rw h refl
+
+text_unread : (file : List ℕ) (index : ℕ) (slice : FileSlice) → is_image (slice_bytes file slice) ≡ false
+    → slice_text file (index, slice) ≡ unread_slice_text index slice
+text_unread file index slice h = rw h refl
+
+-- the lines of a slice that is read
+pub read_lines : {T E : Type 0} (file image : List ℕ) (index : ℕ) (o : Option FileSlice) (written : FileSlice) (a b : Option (List ℕ)) (r : Result T E) → Some written ≡ o
+    → IsSomeAnd o (λ slice. IsImage (slice_bytes file slice)) → IsSomeAnd o (λ slice. image ≡ slice_bytes file slice)
+    → Writes a b r (image_slice_text image index written) → IsSomeAnd o (λ slice. Writes a b r (slice_text file (index, slice)))
+read_lines file image index None written a b r is read same wrote = absurd read
+read_lines file image index (Some slice) written a b r is read same wrote =
+    let text : image_slice_text image index written ≡ slice_text file (index, slice) =
+    ap₂ (λ i s. image_slice_text i index s) same (same_Some written slice is) ∙ sym (text_read file index slice (image_is _ read)) in
+    subst (Writes a b r) text wrote
+
+-- the line of one that is not
+pub unread_lines : {T E : Type 0} (file : List ℕ) (index : ℕ) (o : Option FileSlice) (written : FileSlice) (a b : Option (List ℕ)) (r : Result T E) → Some written ≡ o
+    → ¬ IsSomeAnd o (λ slice. IsImage (slice_bytes file slice))
+    → Writes a b r (unread_slice_text index written) → IsSomeAnd o (λ slice. Writes a b r (slice_text file (index, slice)))
+unread_lines file index None written a b r is unread wrote = absurd (cc)
+unread_lines file index (Some slice) written a b r is unread wrote = elim (cases_Bool (is_image (slice_bytes file slice))) [
+  | inl t ↦ absurd (unread (image_from _ t))
+  | inr f ↦ subst (Writes a b r) (ap (unread_slice_text index) (same_Some written slice is) ∙ sym (text_unread file index slice f)) wrote
+]

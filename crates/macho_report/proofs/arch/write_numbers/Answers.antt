@@ -1,0 +1,19 @@
+use Rattle.macho_report.proofs.StreamLemmas.{writes_fault, writes_last_text, writes_next_text, wrote_prefix_first_text, wrote_prefix_next_text}
+use Rattle.macho_report.proofs.arch.write_numbers.Goals as goal
+
+pub returns-in_err-write_hex-clause-bytes : goal.returns-in_err-write_hex-clause-bytes
+returns-in_err-write_hex-clause-bytes g c =
+    writes_fault _ _ _ _ c.from_residual.ensures.0
+    (wrote_prefix_first_text _ _ _ _ (rw c.from.ensures at c.in_err-write_hex.ensures.bytes))
+
+pub returns-in_err-write_all-clause-bytes : goal.returns-in_err-write_all-clause-bytes
+returns-in_err-write_all-clause-bytes g c =
+    writes_fault _ _ _ _ c.from_residual-in_err-write_all.ensures.0
+    (wrote_prefix_next_text _ _ _ _ _ (rw c.from.ensures at c.in_ok-write_hex.ensures.bytes)
+    (wrote_prefix_first_text _ _ _ _ c.in_err-write_all.ensures.bytes))
+
+pub returns-clause-bytes : goal.returns-clause-bytes
+returns-clause-bytes g c =
+    writes_next_text _ _ _ _ _ _ (rw c.from.ensures at c.in_ok-write_hex.ensures.bytes)
+    (writes_next_text _ _ _ _ _ _ c.in_ok-write_all.ensures.bytes
+    (writes_last_text _ _ _ _ (rw c.from-2.ensures at c.write_hex-2.ensures.bytes)))

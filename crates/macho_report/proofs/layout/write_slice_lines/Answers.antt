@@ -1,0 +1,13 @@
+use Rattle.std.proofs.Common.{◌≡◌, true, false, refl}
+use Rattle.macho_report.proofs.Slices.{read_lines, unread_lines}
+use Rattle.macho_report.proofs.layout.write_slice_lines.Goals as goal
+
+pub returns-in-Some-clause-bytes : goal.returns-in-Some-clause-bytes
+returns-in-Some-clause-bytes g c =
+    read_lines c.args.verified.now _ c.args.index _ _ _ _ _ (rw c.unwrap-slice.ensures at c.slice.ensures.slice)
+    (c.in-Some.ensures.is_image.0 refl) c.in-Some.ensures.image c.write_image_slice.ensures.bytes
+
+pub returns-in-None-clause-bytes : goal.returns-in-None-clause-bytes
+returns-in-None-clause-bytes g c =
+    unread_lines c.args.verified.now c.args.index _ _ _ _ _ (rw c.unwrap-slice.ensures at c.slice.ensures.slice)
+    (λ image. let bad : false ≡ true = c.in-None.ensures.is_image.1 image in cc) c.write_slice.ensures.bytes

@@ -1,0 +1,8 @@
+use Rattle.macho_report.proofs.StreamLemmas.{wrote_nothing}
+use Rattle.macho_report.proofs.line.write_slice_arch.Goals as goal
+
+pub returns-in-Some-clause-bytes : goal.returns-in-Some-clause-bytes
+returns-in-Some-clause-bytes g c = rw c.in-Some.is c.write_arch.ensures.bytes
+
+pub returns-in-None-clause-bytes : goal.returns-in-None-clause-bytes
+returns-in-None-clause-bytes g c = rw c.in-None.is (wrote_nothing _)
