@@ -5,3 +5,4 @@ pub mod Texts
 pub mod Loops
 pub mod Slices
 pub mod Where
+pub mod Faults
