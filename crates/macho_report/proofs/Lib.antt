@@ -6,3 +6,4 @@ pub mod Loops
 pub mod Slices
 pub mod Where
 pub mod Faults
+pub mod Runs
