@@ -3,7 +3,7 @@ use Rattle.std.proofs.Common.{◌≡◌, ◌≢◌, ℕ, zero, suc, ◌+◌, ◌
 use Rattle.std.proofs.lemmas.Bool.{ne_eqb}
 use Rattle.std.proofs.lemmas.List.{append-nil}
 use Rattle.std.proofs.lemmas.List.Elements.{All-cons, All-tail, filter-append}
-use Rattle.macho_fields.specs.Image.{command_count, command_kind, command_size, commands_end, commands_of, IsGood, places_from}
+use Rattle.macho_fields.specs.Image.{command_count, command_kind, command_size, commands_end, IsGood, places_from}
 use Rattle.macho_fields.specs.Segment.{segments_of}
 use Rattle.macho_fields.specs.declared.header.loader.TheConstants as loader
 use Rattle.macho_image.specs.Command.{command_at}
