@@ -9,6 +9,7 @@ ghost use Rattle.macho_check.specs.declared.words.WordFault.TheVariants.{Memory}
 use crate::number::read_number;
 use clap::error::ErrorKind;
 use clap::{Arg, ArgMatches, Command};
+use macho_report::RunFault;
 use std::alloc::{AllocError, Global};
 use std::convert::AsStr;
 use thiserror::Error;
@@ -31,12 +32,10 @@ pub enum Request {
     },
 }
 
-// The lines of the faults, each with its line feed.
+// The lines of the faults, each with its line feed. That for want of memory is the run's.
 const USAGE: &str = "usage: macho-check check FILE | where FILE SLICE ADDRESS\n";
 
 const BAD_NUMBER: &str = "macho-check: bad number\n";
-
-const OUT_OF_MEMORY: &str = "macho-check: out of memory\n";
 
 /// Why the words ask for nothing. The texts are the program's lines, without the line feed.
 #[derive(Clone, Copy, Debug, PartialEq, Eq, Error)]
@@ -48,7 +47,7 @@ pub enum WordFault {
     #[error("{line}", line = BAD_NUMBER.trim_end())]
     BadNumber,
     /// There was no memory.
-    #[error("{line}", line = OUT_OF_MEMORY.trim_end())]
+    #[error("{line}", line = RunFault::Memory.line().trim_end())]
     Memory,
 }
 
@@ -60,7 +59,7 @@ impl WordFault {
         match self {
             WordFault::Usage => USAGE,
             WordFault::BadNumber => BAD_NUMBER,
-            WordFault::Memory => OUT_OF_MEMORY,
+            WordFault::Memory => RunFault::Memory.line(),
         }
     }
 }
