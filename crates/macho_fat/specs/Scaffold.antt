@@ -54,11 +54,12 @@ pub record IsSpanOf (returns : Entry → Span → Type 0) (file : List ℕ) (k :
   pub read : IsEntry file k entry
   pub returned : returns entry span
 
--- the spans that a function returns of the entries i and j share a place, or do not
+-- the spans that a function returns of the entries i and j share a place
 abbrev pub SpansShare : (Entry → Span → Type 0) → List ℕ → ℕ → ℕ → Type 0
 SpansShare returns file i j =
     (a : Span) × (b : Span) × IsSpanOf returns file i a × IsSpanOf returns file j b × Shares a b
 
+-- they share none
 abbrev pub SpansApart : (Entry → Span → Type 0) → List ℕ → ℕ → ℕ → Type 0
 SpansApart returns file i j =
     (a : Span) × (b : Span) × IsSpanOf returns file i a × IsSpanOf returns file j b × ¬ Shares a b

@@ -8,7 +8,7 @@ use crate::span::Span;
 use std::alloc::{AllocError, Global};
 use std::marker::Model;
 
-/// Spans in the order in which they were added. One of them takes 24 bytes.
+/// Spans in the order in which they were added. Each takes 24 bytes.
 #[derive(Drop)]
 pub struct SpanList {
     items: Vec<Numbered>,
@@ -75,7 +75,8 @@ impl SpanList {
     }
 }
 
-/// Whether two of the spans with an index below `count` share a place. The items are sorted by start.
+/// Whether two of the spans with an index below `count` share a place. The items are sorted by
+/// start.
 fn shares_below(items: &[Numbered], count: u64) -> bool
     requires { IsNonDecreasingBy (λ item. item.span.start) items.now }
     ensures { IsTrue result ↔ PairBelow items.now (length items.now) count }
@@ -92,8 +93,8 @@ fn shares_below(items: &[Numbered], count: u64) -> bool
     false
 }
 
-/// The least index with which the indices up to it have two spans that share a place, by halves. The
-/// items are sorted by start.
+/// The least index of a span that shares a place with one of a lower index, by halves. The items are
+/// sorted by start.
 fn least_sharing(items: &[Numbered]) -> u64
     requires sorted { IsNonDecreasingBy (λ item. item.span.start) items.now }
     requires some { PairBelow items.now (length items.now) (length items.now) }

@@ -21,7 +21,7 @@ breaks_of opening = BreaksImage (bytes_of opening.bytes) opening.arch
 pub record AreFirst (image commands : List ℕ) (unique : UniquePlaces) : Type 0 where
   pub places : unique.places ≡ map (λ kind. first_of_kind image kind commands) unique_kinds
 
--- all segments are among the first commands, so many
+-- the first commands, so many of them, have all segments
 pub record ReachesSegments (image : List ℕ) (count : ℕ) : Type 0 where
   pub most : count ≤ command_count image
   pub all : segments_of image (places_from image loader.MACH_HEADER_64_SIZE count)

@@ -59,7 +59,8 @@ impl<'a> Opening<'a> {
     }
 }
 
-/// How many commands there are up to the last segment, itself included.
+/// How many commands there are up to the last segment, itself included. Its contract says only that
+/// no segment comes after them.
 pub(crate) fn count_to_last_segment(image: Bytes) -> u32
     requires { IsOpened (bytes_of image) }
     ensures { ReachesSegments (bytes_of image.entry) result }

@@ -80,8 +80,8 @@ fn passes_image(image: Bytes, segment: &Segment) -> bool
 
 /// No mapped segment has an address in common with an earlier one.
 ///
-/// For n mapped segments it takes time in the order of n log n, and, where there are two or more, memory
-/// of 24 bytes for each.
+/// For n mapped segments it takes time in the order of n log n, and, where there are two or more, 24
+/// bytes of memory for each.
 pub(crate) fn segment_overlap(alloc: Global, image: &Image) -> Result<(), Refusal>
     requires { KeptBefore image.now Rule.SegmentOverlap }
     ensures { RefusesUpTo image.now Rule.SegmentOverlap result }
@@ -111,8 +111,8 @@ fn mapped_count(image: &Image) -> usize
     count
 }
 
-/// The addresses of each mapped segment, in the order of the commands. The memory for `count` of them is
-/// taken at once.
+/// The addresses of each mapped segment, in the order of the commands. The memory for `count` of them
+/// is taken at once.
 fn mapped_memory(alloc: Global, image: &Image, count: usize) -> Result<SpanList, AllocError>
     ensures { IfOk result (λ spans.
         spans ≡ map (memory_at image.now) (mapped_segments image.now)) }

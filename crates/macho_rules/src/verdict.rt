@@ -41,8 +41,8 @@ impl<'a> Model for Verified<'a> {
 /// its place in the file.
 ///
 /// The rules of the file itself come first; then its 64-bit slices, in the order of the table, each
-/// with all of its rules before the next. It takes memory for the list of slices, and for one image at
-/// a time as [`check_image`] does.
+/// with all of its rules before the next. It takes memory as [`slices`] does, and for one image at a
+/// time as [`check_image`] does.
 pub fn verify<'a>(alloc: Global, file: &'a [u8]) -> Result<Verified<'a>, Refusal>
     // It accepts only a file that breaks no rule, and refuses only one that breaks a rule, unless
     // there is no memory.

@@ -8,7 +8,7 @@ use std::alloc::{AllocError, Global};
 use std::process::Abort;
 use std::test::Fail;
 
-/// Numbers that look random, of which each is made of the one before.
+/// The next of a fixed sequence of numbers that look random.
 fn next(number: &mut u64) -> u64 {
     *number = number
         .wrapping_mul(6_364_136_223_846_793_005)

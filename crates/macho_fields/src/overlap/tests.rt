@@ -61,7 +61,7 @@ fn least_by_pairs(spans: &[(u64, u64)]) -> Option<u64> {
 #[test]
 fn random_spans_are_judged_as_all_pairs_are(rt: HostRuntime) -> Result<(), Fail> {
     let mut random = 1u64;
-    let mut overlaps = 0;
+    let mut overlaps = 0u64;
     for round in 0..10_000u64 {
         let mut spans = Vec::new(rt.alloc());
         for _ in 0..round % 12 {
@@ -76,7 +76,7 @@ fn random_spans_are_judged_as_all_pairs_are(rt: HostRuntime) -> Result<(), Fail>
             found,
             "{spans:?}"
         );
-        overlaps += u64::from(found.is_some());
+        overlaps = overlaps.saturating_add(u64::from(found.is_some()));
     }
     assert!(rt;
         overlaps > 1_000 && overlaps < 9_000,

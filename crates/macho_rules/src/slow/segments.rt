@@ -10,9 +10,8 @@ use crate::segments::memory;
 use macho_fields::{Break, Rule};
 use macho_image::{Image, Segment};
 
-/// No mapped segment has an address in common with an earlier one. Each segment is compared with all
-/// earlier ones. This takes no memory, but time in proportion to the square of the segments. It is for
-/// a second verdict.
+/// No mapped segment has an address in common with an earlier one. Each is compared with all earlier
+/// ones, which takes time in the order of n^2 for n segments.
 pub(crate) fn segment_overlap(image: &Image) -> Result<(), Break>
     requires { KeptBefore image.now Rule.SegmentOverlap }
     ensures { JudgesUpTo image.now Rule.SegmentOverlap result }
