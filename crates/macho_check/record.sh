@@ -4,6 +4,8 @@
 crate=$top/crates/macho_check
 program=$crate/out/macho_check
 kept=$crate/out/macho-check
+# Its time is that of the start of a build.
+started=$kept/started
 
 # Runs find over all that the program is made of. All crates count, and all of their files but the must-fail
 # edits: a build too many takes seconds, and a build too few would let an old program answer.
@@ -60,17 +62,17 @@ is_current() {
 # Takes down the sources and the kit before a build. An edit that is undone during the build shows in the time of
 # its change.
 begin_record() {
-    touch "$kept/started" && find_kit && built_by=$kit && sources=$(hash_of_sources)
+    touch "$started" && find_kit && built_by=$kit && sources=$(hash_of_sources)
 }
 
 # Whether the sources and the kit are what they were before the build.
 is_unchanged() {
-    [ "$(hash_of_sources)" = "$sources" ] && [ -z "$(find_in_sources -cnewer "$kept/started")" ] &&
+    [ "$(hash_of_sources)" = "$sources" ] && [ -z "$(find_in_sources -cnewer "$started")" ] &&
         find_kit && [ "$kit" = "$built_by" ]
 }
 
 # Records the program, once it is built.
 write_record() {
-    built=$(sha256sum <"$program") &&
+    built=$(sha256sum <"$program") && mkdir -p "$kept" &&
         printf '%s\n' "$built_by" "$sources" "$built" >"$kept/record.new" && mv -f "$kept/record.new" "$kept/record"
 }
