@@ -6,78 +6,46 @@ use crate::words::{Request, WordFault, parse_words};
 use std::process::Abort;
 use std::test::Fail;
 
+/// Words, each with its number in decimal digits.
+const NUMBERS: &str = "\
+0 0
+007 7
+00000000000000000007 7
+10 10
+18446744073709551615 18446744073709551615
+0x0 0
+0x10 16
+0x1f 31
+0x1F 31
+0xaBcDeF 11259375
+0x0000000000000007 7
+0xffffffffffffffff 18446744073709551615
+0xFFFFFFFFFFFFFFFF 18446744073709551615
+";
+
 #[test]
-fn numbers_of_words(rt: HostRuntime) {
-    for (text, number) in [
-        ("0", 0),
-        ("007", 7),
-        ("00000000000000000007", 7),
-        ("10", 10),
-        ("18446744073709551615", u64::MAX),
-        ("0x0", 0),
-        ("0x10", 16),
-        ("0x1f", 31),
-        ("0x1F", 31),
-        ("0xaBcDeF", 11_259_375),
-        ("0x0000000000000007", 7),
-        ("0xffffffffffffffff", u64::MAX),
-        ("0xFFFFFFFFFFFFFFFF", u64::MAX),
-    ] {
-        same(&rt, &(text, read_number(text)), &(text, Some(number)));
+fn numbers_of_words(rt: HostRuntime) -> Result<(), Fail> {
+    for line in NUMBERS.lines() {
+        let (word, number) = line.split_once(' ').ok_or("a line without a number")?;
+        let number = number.parse::<u64>()?;
+        same(&rt, &(word, read_number(word)), &(word, Some(number)));
     }
+    Ok(())
 }
+
+/// Words that are no numbers, with a bar between them. The first is empty; then come 2^64 and more, 21
+/// decimal digits, and 17 hexadecimal ones.
+const NO_NUMBERS: &str = "\
+    |18446744073709551616|18446744073709551620|99999999999999999999|184467440737095516150\
+    |000000000000000000007|0x00000000000000007|0x10000000000000000\
+    |0x|0X1|x1|00x1|0x0x1|0xg|1f|a|/|:|0x@|0x`|+5|-5|+|-|0x+5|0x-5|+0x5| 5|5 |0x 5|1_000|1.0|1e3\
+    |0b1|0o7|5\n|5\0|\u{665}";
 
 #[test]
 fn words_that_are_no_numbers(rt: HostRuntime) {
-    for text in [
-        "",
-        // 2^64 and more
-        "18446744073709551616",
-        "18446744073709551620",
-        "99999999999999999999",
-        "184467440737095516150",
-        // 21 decimal digits, 17 hexadecimal ones
-        "000000000000000000007",
-        "0x00000000000000007",
-        "0x10000000000000000",
-        "0x",
-        "0X1",
-        "x1",
-        "00x1",
-        "0x0x1",
-        "0xg",
-        "1f",
-        "a",
-        "/",
-        ":",
-        "0x@",
-        "0x`",
-        "+5",
-        "-5",
-        "+",
-        "-",
-        "0x+5",
-        "0x-5",
-        "+0x5",
-        " 5",
-        "5 ",
-        "0x 5",
-        "1_000",
-        "1.0",
-        "1e3",
-        "0b1",
-        "0o7",
-        "5\n",
-        "5\0",
-        "\u{665}",
-    ] {
-        same(&rt, &(text, read_number(text)), &(text, None));
+    for word in NO_NUMBERS.split('|') {
+        same(&rt, &(word, read_number(word)), &(word, None));
     }
-}
-
-/// The fault of these words, and `None` where they ask for something.
-fn fault_of(rt: &(impl Abort + AllocGlobal), words: &[&str]) -> Option<WordFault> {
-    parse_words(rt.alloc(), words).err()
 }
 
 #[test]
@@ -135,59 +103,43 @@ fn words_that_ask_for_a_place(rt: HostRuntime) -> Result<(), Fail> {
     Ok(())
 }
 
-#[test]
-fn words_that_are_refused(rt: HostRuntime) {
-    for words in [
-        ["check"].as_slice(),
-        ["where"].as_slice(),
-        ["look", "a"].as_slice(),
-        ["a"].as_slice(),
-        [""].as_slice(),
-        ["-"].as_slice(),
-        ["--"].as_slice(),
-        ["--", "check", "a"].as_slice(),
-        ["help"].as_slice(),
-        ["help", "check"].as_slice(),
-        ["--help"].as_slice(),
-        ["-h"].as_slice(),
-        ["--version"].as_slice(),
-        ["-V"].as_slice(),
-        ["Check", "a"].as_slice(),
-        ["chec", "a"].as_slice(),
-        ["check", "a", "b"].as_slice(),
-        ["check", "-a"].as_slice(),
-        ["check", "--a"].as_slice(),
-        ["check", "--help"].as_slice(),
-        ["check", "-h"].as_slice(),
-        ["where", "a"].as_slice(),
-        ["where", "a", "0"].as_slice(),
-        ["where", "a", "0", "0", "0"].as_slice(),
-        ["where", "a", "-1", "0"].as_slice(),
-        ["where", "a", "0", "-1"].as_slice(),
-        ["where", "--help"].as_slice(),
-    ] {
-        same(&rt, &fault_of(&rt, words), &Some(WordFault::Usage));
+/// Compares the fault of each line of words. A bar stands between two lines, a comma between two words.
+fn check_faults(
+    rt: &(impl Abort + AllocGlobal),
+    lines: &str,
+    expected: WordFault,
+) -> Result<(), Fail> {
+    for line in lines.split('|') {
+        let mut words = Vec::new(rt.alloc());
+        for word in line.split(',') {
+            words.push(word)?;
+        }
+        let fault = parse_words(rt.alloc(), words.as_slice()).err();
+        same(rt, &(line, fault), &(line, Some(expected)));
     }
+    Ok(())
 }
 
 #[test]
-fn words_with_bad_numbers(rt: HostRuntime) {
-    for (slice, address) in [
-        ("0", "0x"),
-        ("18446744073709551616", "0"),
-        ("0", "18446744073709551616"),
-        ("0X1", "0"),
-        ("0", "0X1"),
-        ("", "0"),
-        ("0", ""),
-        ("+5", "0"),
-        ("0", " 5"),
-        ("-", "0"),
-        ("x", "y"),
-    ] {
-        let words = ["where", "a", slice, address];
-        same(&rt, &fault_of(&rt, &words), &Some(WordFault::BadNumber));
-    }
+fn words_that_are_refused(rt: HostRuntime) -> Result<(), Fail> {
+    // The fifth is a single empty word.
+    check_faults(
+        &rt,
+        "check|where|look,a|a||-|--|--,check,a|help|help,check|--help|-h|--version|-V|Check,a|chec,a\
+            |check,a,b|check,-a|check,--a|check,--help|check,-h|where,a|where,a,0|where,a,0,0,0\
+            |where,a,-1,0|where,a,0,-1|where,--help",
+        WordFault::Usage,
+    )
+}
+
+#[test]
+fn words_with_bad_numbers(rt: HostRuntime) -> Result<(), Fail> {
+    check_faults(
+        &rt,
+        "where,a,0,0x|where,a,18446744073709551616,0|where,a,0,18446744073709551616|where,a,0X1,0\
+            |where,a,0,0X1|where,a,,0|where,a,0,|where,a,+5,0|where,a,0, 5|where,a,-,0|where,a,x,y",
+        WordFault::BadNumber,
+    )
 }
 
 #[test]
