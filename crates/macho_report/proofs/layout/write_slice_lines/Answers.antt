@@ -11,3 +11,9 @@ pub returns-in-None-clause-bytes : goal.returns-in-None-clause-bytes
 returns-in-None-clause-bytes g c =
     unread_lines c.args.verified.now c.args.index _ _ _ _ _ (rw c.unwrap-slice.ensures at c.slice.ensures.slice)
     (λ image. let bad : false ≡ true = c.in-None.ensures.is_image.1 image in cc) c.write_slice.ensures.bytes
+
+pub returns-in-Some-clause-failed : goal.returns-in-Some-clause-failed
+returns-in-Some-clause-failed g c = c.write_image_slice.ensures.failed
+
+pub returns-in-None-clause-failed : goal.returns-in-None-clause-failed
+returns-in-None-clause-failed g c = c.write_slice.ensures.failed

@@ -16,3 +16,9 @@ returns-clause-bytes g c =
     (joined_next _ _ _ _ (rw c.offset.ensures at c.put_hex-offset.ensures.text)
     (joined_last _ _ c.put_text-line_feed.ensures.text)) in
     rw (file_end _ _ not_zero) (rw (written_places _ _ _ c.put_text-start.array_long text) at c.write_all-2.ensures.bytes)
+
+pub returns-then-is_zero_fill-clause-failed : goal.returns-then-is_zero_fill-clause-failed
+returns-then-is_zero_fill-clause-failed g c = c.write_all.ensures.failed
+
+pub returns-clause-failed : goal.returns-clause-failed
+returns-clause-failed g c = c.write_all-2.ensures.failed

@@ -9,3 +9,6 @@ returns-clause-bytes g c =
     (joined_next _ _ _ _ c.put_text-size_word.ensures.text
     (joined_last _ _ c.put_hex-size_start.ensures.text))) in
     rw (written_places _ _ _ c.put_text-text.array_long text) at c.write_all.ensures.bytes
+
+pub returns-clause-failed : goal.returns-clause-failed
+returns-clause-failed g c = c.write_all.ensures.failed

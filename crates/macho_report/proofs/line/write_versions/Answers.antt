@@ -10,3 +10,6 @@ returns-clause-bytes g c =
     (joined_next _ _ _ _ c.put_version-compatible.ensures.text
     (joined_last _ _ c.put_text-line_feed.ensures.text)))) in
     rw (written_places _ _ _ c.put_text-start.array_long text) at c.write_all.ensures.bytes
+
+pub returns-clause-failed : goal.returns-clause-failed
+returns-clause-failed g c = c.write_all.ensures.failed
