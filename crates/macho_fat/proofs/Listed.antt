@@ -1,61 +1,12 @@
--- The slices of a universal file are those of its entries.
-use Rattle.std.proofs.Common.{◌≡◌, ℕ, ◌+◌, ◌<◌, List, length, [], ◌∷◌, ◌++◌, map, Option, Any, All, IsTrue, ◌↔◌, refl, sym, ap, ap₂, ◌∙◌, subst, arith}
-use Rattle.std.specs.List.{range_with_len}
+-- The slices of a universal file are listed entry by entry.
+use Rattle.std.proofs.Common.{◌≡◌, ℕ, ◌+◌, ◌<◌, List, [], ◌∷◌, ◌++◌, map, Option, All, IsTrue, ◌↔◌, refl, sym, ap, ap₂, ◌∙◌, subst, arith}
 use Rattle.std.proofs.lemmas.List.{map-append}
 use Rattle.std.proofs.lemmas.List.Elements.{All-nil, All-cons, All-append}
-use Rattle.std.proofs.lemmas.List.FromFn.{length-map-range_with_len, get_or-map-range_with_len, map-range_with_len_more}
-use Rattle.macho_fields.specs.Universal.{FileSlice, IsUniversal, entry_count, entry_slice, slices_of, slice_bytes, IsImage}
+use Rattle.std.proofs.lemmas.List.FromFn.{map-range_with_len_more}
+use Rattle.macho_fields.specs.Universal.{FileSlice, IsUniversal, entry_count, entry_slice, slice_bytes, IsImage}
+use Rattle.macho_fields.proofs.Slices.{first_slices, universal_slices}
 use Rattle.macho_fat.specs.Slices.{slice_of, MarksRead, AreSlices}
 use Rattle.macho_fat.specs.declared.slice.Slice.{Slice}
-
--- the slices of the first k entries
-abbrev pub first_slices : List ℕ → ℕ → List FileSlice
-first_slices file k = map (entry_slice file) (range_with_len 0 k)
-
-pub universal_slices : (file : List ℕ) → IsUniversal file → slices_of file ≡ first_slices file (entry_count file)
-universal_slices file universal = let e = universal.1 in rw e refl
-
-pub slice_count : (file : List ℕ) → IsUniversal file → length (slices_of file) ≡ entry_count file
-slice_count file universal =
-    ap length (universal_slices file universal) ∙ length-map-range_with_len (entry_slice file) 0 (entry_count file)
-
--- what holds of some slice holds of that of some entry
-pub some_entry : (file : List ℕ) (P : FileSlice → Type 0) → IsUniversal file → Any P (slices_of file) → (k : ℕ) × (k < entry_count file) × P (entry_slice file k)
-some_entry file P universal any = among (subst (Any P) (universal_slices file universal) any)
-  where
-    among : Any P (first_slices file (entry_count file)) → (k : ℕ) × (k < entry_count file) × P (entry_slice file k)
-    among (k, slice, less, at, here) =
-        let inside : k < entry_count file = omega (arith, less, length-map-range_with_len (entry_slice file) 0 (entry_count file)) in
-        let same = get_or-map-range_with_len (entry_slice file) 0 (entry_count file) k k slice inside (omega arith) in
-        (k, inside, subst P (sym at ∙ same) here)
-
-pub some_slice : (file : List ℕ) (P : FileSlice → Type 0) (k : ℕ) → IsUniversal file → k < entry_count file → P (entry_slice file k) → Any P (slices_of file)
-some_slice file P k universal less here = subst (Any P) (sym (universal_slices file universal)) among
-  where
-    among : Any P (first_slices file (entry_count file))
-    among = (
-      k,
-      entry_slice file k,
-      omega (arith, less, length-map-range_with_len (entry_slice file) 0 (entry_count file)),
-      get_or-map-range_with_len (entry_slice file) 0
-          (entry_count file) k k (entry_slice file k) less (omega arith),
-      here,
-    )
-
--- what holds of all slices holds of those of the entries
-pub each_entry : (file : List ℕ) (P : FileSlice → Type 0) → IsUniversal file → All P (slices_of file) → (k : ℕ) → k < entry_count file → P (entry_slice file k)
-each_entry file P universal all k less =
-    let among = subst (All P) (universal_slices file universal) all in
-    let here = among k (entry_slice file k) (omega (arith, less, length-map-range_with_len (entry_slice file) 0 (entry_count file))) in
-    subst P (get_or-map-range_with_len (entry_slice file) 0 (entry_count file) k k (entry_slice file k) less (omega arith)) here
-
-pub each_slice : (file : List ℕ) (P : FileSlice → Type 0) → IsUniversal file → ((k : ℕ) → k < entry_count file → P (entry_slice file k)) → All P (slices_of file)
-each_slice file P universal each = subst (All P) (sym (universal_slices file universal)) among
-  where
-    among : All P (first_slices file (entry_count file))
-    among k other less =
-        let inside : k < entry_count file = omega (arith, less, length-map-range_with_len (entry_slice file) 0 (entry_count file)) in
-        subst P (sym (get_or-map-range_with_len (entry_slice file) 0 (entry_count file) k k other inside (omega arith))) (each k inside)
 
 -- these are the slices of the first k entries
 pub record AreFirst (file : List ℕ) (k : ℕ) (slices : List Slice) : Type 0 where

@@ -15,7 +15,7 @@ use Rattle.macho_fields.specs.declared.rule.Break.{Break}
 use Rattle.macho_fields.specs.declared.span.Span.{Span}
 use Rattle.macho_fat.specs.Scaffold.{IsEntry, IsSpanOf, SpansShare, AreApart, IsFirstSharing, FindsFirstSharing}
 use Rattle.macho_fat.specs.declared.table.Entry.{Entry}
-use Rattle.macho_fat.proofs.Entries.{Breaks, NoneBelow, entry_broken, entries_kept, sharing_entries}
+use Rattle.macho_fields.proofs.Entries.{Breaks, NoneBelow, entry_broken, entries_kept, sharing_entries}
 
 -- the spans are those that a function returns of the first k entries, in order
 pub record AreSpans (returns : Entry → Span → Type 0) (file : List ℕ) (k : ℕ) (spans : List Span) : Type 0 where

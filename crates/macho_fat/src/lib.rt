@@ -5,7 +5,6 @@ mod check;
 pub mod fault;
 mod rules;
 pub mod slice;
-mod slow;
 mod table;
 
 pub use fault::FatFault;

@@ -27,3 +27,7 @@ pub mod Overlaps
 pub mod SortedSpans
 pub mod Digits
 pub mod Kept
+pub mod Alignment
+pub mod Entries
+pub mod Slices
+pub mod Magics

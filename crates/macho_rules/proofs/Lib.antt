@@ -13,3 +13,4 @@ pub mod TableItems
 pub mod SymbolItems
 pub mod TableRange
 pub mod Verdicts
+pub mod Second

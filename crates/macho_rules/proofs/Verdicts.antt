@@ -24,8 +24,8 @@ use Rattle.macho_rules.specs.Verdict.{IsVerified, IsRefusal, IsImageRefusal, IsS
 use Rattle.macho_rules.specs.declared.refusal.Refusal.{Refusal}
 use Rattle.macho_rules.specs.declared.refusal.Refusal.TheVariants as refusal
 
--- a broken rule that is passed on as a refusal
-pub passed_on : {T : Type 0} (P : Refusal → Type 0) (answer : Result T Refusal) (r : Refusal) → IsErrAnd answer (λ given. given ≡ r) → P r → IfErr answer P
+-- a broken rule that is passed on
+pub passed_on : {T E : Type 0} (P : E → Type 0) (answer : Result T E) (r : E) → IsErrAnd answer (λ given. given ≡ r) → P r → IfErr answer P
 passed_on P (Ok x) r is p = absurd is
 passed_on P (Err given) r is p = subst P (sym is) p
 

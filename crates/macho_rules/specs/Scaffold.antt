@@ -2,8 +2,12 @@
 use Rattle.std.specs.Prelude.{◌&&◌, ℕ, ◌+◌, ◌-◌, ◌^◌, ◌<◌, nat_le, nat_lt, List, [], ◌∷◌, find, Bool, Option, slice_index_or, if◌then◌else◌}
 use Rattle.std.specs.Option.{option_map}
 use Rattle.macho_fields.specs.Segment.{Source, File, Zero, vmaddr, vmsize, fileoff, filesize}
+use Rattle.macho_fields.specs.Universal.{FileSlice}
+use Rattle.macho_fields.specs.declared.rule.Break.{Break}
 use Rattle.macho_fields.specs.declared.span.Span.{Span}
+use Rattle.macho_rules.specs.Verdict.{IsSliceRefusal}
 use Rattle.macho_rules.specs.declared.mapping.FilePart.{FilePart}
+use Rattle.macho_rules.specs.declared.refusal.Refusal.TheVariants as refusal
 
 -- the addresses of the segment whose command is at the place
 abbrev pub memory_at : List ℕ → ℕ → Span
@@ -44,3 +48,7 @@ sources_in memory files address =
 -- the bytes of the segment end below 2^64
 abbrev pub FitsFile : FilePart → Type 0
 FitsFile file = 0 < file.filesize → file.fileoff + file.filesize < 2 ^ 64
+
+-- b is the first break of the image in a slice, with its place in the file
+abbrev pub IsSliceBreak : List ℕ → FileSlice → Break → Type 0
+IsSliceBreak file slice b = IsSliceRefusal file slice (refusal.Broken b)

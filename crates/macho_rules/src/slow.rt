@@ -1,5 +1,145 @@
-//! Rules decided a second way: straight from what they say, and without memory. They are for a
-//! second verdict; the first one does not use them.
+//! A second verdict, which shares as little as it can with the first: each rule is decided straight
+//! from what it says, without memory.
 
-pub(crate) mod segments;
-pub(crate) mod symbols;
+mod entries;
+mod file;
+mod segments;
+mod symbols;
+
+ghost use Rattle.std.specs.Prelude.{◌≡◌, ◌<◌, ◌↔◌, ℕ, None, IfOk, OnOk, IfErr, IfSome};
+ghost use Rattle.macho_fields.specs.Bytes.{bytes_of};
+ghost use Rattle.macho_fields.specs.First.{rank, IsFirstBroken, IsUnbroken};
+ghost use Rattle.macho_fields.specs.Layers.{Decides, KeptBelow, NothingBreaks};
+ghost use Rattle.macho_fields.specs.Rules.{BreaksFile, BreaksImage};
+ghost use Rattle.macho_fields.specs.Universal.{entry_count, entry_slice, slice_bytes, IsUniversal};
+ghost use Rattle.macho_fields.specs.declared.rule.Rule.{Rule};
+ghost use Rattle.macho_rules.specs.Scaffold.{IsSliceBreak};
+
+use crate::entry::entry;
+use crate::sections::{section_address, section_file, section_relocs};
+use crate::segments::{segment_address, segment_file, segment_size};
+use crate::symbols::{indirect_index, symbol_section};
+use crate::tables::{symbol_group, table_range};
+use entries::Entries;
+use file::{
+    fat_align, fat_duplicate, fat_empty, fat_overlap, fat_slice_in_table, fat_slice_magic,
+    fat_slice_outside, fat_truncated, is_image, is_universal, magic,
+};
+use macho_fields::{Break, Bytes};
+use macho_image::Image;
+use segments::segment_overlap;
+use symbols::symbol_name;
+
+/// The first broken rule of a file, with its place in the file, or `None` where no rule is broken.
+///
+/// It takes no memory, and compares all pairs: for n slices or segments it takes time in the order of
+/// n^2, and for each symbol with a name it searches the strings. It is there to be compared with
+/// [`verify`](crate::verify), of which it uses neither the slices nor anything that is sorted.
+pub fn slow_first(file: &[u8]) -> Option<Break>
+    ensures unbroken { (result ≡ None) ↔ IsUnbroken file.now }
+    ensures first { IfSome result (IsFirstBroken file.now) }
+{
+    judge_file(Bytes::new(file)).err()
+}
+
+/// Decides all rules of a file, in their order.
+fn judge_file(file: Bytes) -> Result<(), Break>
+    ensures unbroken { OnOk result (IsUnbroken (bytes_of file.entry)) }
+    ensures first { IfErr result (IsFirstBroken (bytes_of file.entry)) }
+{
+    magic(file)?;
+    if is_universal(file) {
+        judge_universal(file)
+    } else {
+        judge_image(file, None)
+    }
+}
+
+/// Decides the rules of a universal file, and then those of its images.
+fn judge_universal(file: Bytes) -> Result<(), Break>
+    requires universal { IsUniversal (bytes_of file) }
+    requires kept { KeptBelow (BreaksFile (bytes_of file)) (rank Rule.FatTruncated) }
+    ensures unbroken { OnOk result (IsUnbroken (bytes_of file.entry)) }
+    ensures first { IfErr result (IsFirstBroken (bytes_of file.entry)) }
+{
+    let entries = judge_entries(file)?;
+    judge_images(entries)
+}
+
+/// Decides the rules of a universal file after `magic`, and returns its entries.
+fn judge_entries(file: Bytes) -> Result<Entries, Break>
+    requires universal { IsUniversal (bytes_of file) }
+    requires kept { KeptBelow (BreaksFile (bytes_of file)) (rank Rule.FatTruncated) }
+    ensures decides { Decides (BreaksFile (bytes_of file.entry)) result }
+    ensures file { IfOk result (λ entries. entries.file ≡ file.entry) }
+{
+    let entries = fat_truncated(file)?;
+    fat_slice_outside(entries)?;
+    fat_slice_in_table(entries)?;
+    fat_align(entries)?;
+    fat_overlap(entries)?;
+    fat_duplicate(entries)?;
+    fat_slice_magic(entries)?;
+    fat_empty(entries)?;
+    Ok(entries)
+}
+
+/// Decides the rules of each 64-bit slice, in the order of the table.
+fn judge_images(entries: Entries) -> Result<(), Break>
+    requires { NothingBreaks (BreaksFile (bytes_of entries.file)) }
+    ensures unbroken { OnOk result (IsUnbroken (bytes_of entries.entry.file)) }
+    ensures first { IfErr result (IsFirstBroken (bytes_of entries.entry.file)) }
+{
+    for k in 0..entries.count {
+        if is_image(entries.bytes(k)) {
+            judge_slice(entries, k)?;
+        }
+    }
+    Ok(())
+}
+
+/// Decides the rules of the image in the slice of entry `k`. The place of a break is its offset in
+/// the file.
+fn judge_slice(entries: Entries, k: u32) -> Result<(), Break>
+    requires entry { k < entry_count (bytes_of entries.file) }
+    requires inside { (place : ℕ) → ¬ BreaksFile (bytes_of entries.file) Rule.FatSliceOutside place }
+    ensures unbroken { let slice = entry_slice (bytes_of entries.entry.file) k in OnOk result
+        (NothingBreaks (BreaksImage (slice_bytes (bytes_of entries.entry.file) slice) slice.arch)) }
+    ensures first { let file = bytes_of entries.entry.file in
+        IfErr result (IsSliceBreak file (entry_slice file k)) }
+{
+    match judge_image(entries.bytes(k), Some(entries.arch(k))) {
+        Ok(()) => Ok(()),
+        Err(broken) => {
+            let place = entries.span(k).start + broken.place;
+            Err(Break::at(broken.rule, place))
+        }
+    }
+}
+
+/// Decides the rules of an image, which a universal file may name for an architecture.
+fn judge_image(bytes: Bytes, arch: Option<(u32, u32)>) -> Result<(), Break>
+    ensures { Decides (BreaksImage (bytes_of bytes.entry) arch) result }
+{
+    let image = Image::open(bytes, arch)?;
+    judge_opened(&image)
+}
+
+/// Decides the rules of an opened image.
+fn judge_opened(image: &Image) -> Result<(), Break>
+    ensures { Decides (BreaksImage image.now None) result }
+{
+    segment_address(image)?;
+    segment_size(image)?;
+    segment_file(image)?;
+    segment_overlap(image)?;
+    section_address(image)?;
+    section_file(image)?;
+    section_relocs(image)?;
+    table_range(image)?;
+    symbol_group(image)?;
+    symbol_name(image)?;
+    symbol_section(image)?;
+    indirect_index(image)?;
+    entry(image)
+}

@@ -4,7 +4,7 @@ use Rattle.macho_fields.specs.Universal.{entry_count}
 use Rattle.macho_fields.specs.Rules.{BreaksFile}
 use Rattle.macho_fields.specs.declared.rule.Rule.TheVariants as rule
 use Rattle.macho_fields.proofs.Layers.{kept_more, least_at}
-use Rattle.macho_fat.proofs.Entries.{IsMisaligned, none_more, entry_broken, entries_kept, begins_late, aligned_entry, misaligned_entry}
+use Rattle.macho_fields.proofs.Entries.{IsMisaligned, none_more, entry_broken, entries_kept, begins_late, aligned_entry, misaligned_entry}
 use Rattle.macho_fat.proofs.rules.fat_align.Goals as goal
 
 pub is_aligned-requires : goal.is_aligned-requires

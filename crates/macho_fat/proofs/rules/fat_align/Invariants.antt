@@ -1,4 +1,4 @@
-use Rattle.macho_fat.proofs.Entries.{NoneBelow, IsMisaligned}
+use Rattle.macho_fields.proofs.Entries.{NoneBelow, IsMisaligned}
 use Rattle.macho_fat.proofs.rules.fat_align.Given as goal
 
 -- each offset before this one is a multiple of its alignment

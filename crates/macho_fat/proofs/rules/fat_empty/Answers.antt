@@ -4,9 +4,9 @@ use Rattle.macho_fields.specs.Universal.{IsImage, entry_count, slice_bytes}
 use Rattle.macho_fields.specs.Rules.{BreaksFile}
 use Rattle.macho_fields.specs.declared.rule.Rule.TheVariants as rule
 use Rattle.macho_fields.proofs.Layers.{kept_more, least_at}
-use Rattle.macho_fat.proofs.Entries.{none_more}
-use Rattle.macho_fat.proofs.Listed.{each_entry}
-use Rattle.macho_fat.proofs.Magics.{IsRead, empty_broken}
+use Rattle.macho_fields.proofs.Entries.{none_more}
+use Rattle.macho_fields.proofs.Slices.{each_entry}
+use Rattle.macho_fields.proofs.Magics.{IsRead, empty_broken}
 use Rattle.macho_fat.proofs.rules.fat_empty.Goals as goal
 
 pub returns-then-is_image : goal.returns-then-is_image

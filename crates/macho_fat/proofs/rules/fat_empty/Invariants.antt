@@ -1,5 +1,5 @@
-use Rattle.macho_fat.proofs.Entries.{NoneBelow}
-use Rattle.macho_fat.proofs.Magics.{IsRead}
+use Rattle.macho_fields.proofs.Entries.{NoneBelow}
+use Rattle.macho_fields.proofs.Magics.{IsRead}
 use Rattle.macho_fat.proofs.rules.fat_empty.Given as goal
 
 -- no slice before this one is read

@@ -1,4 +1,4 @@
-use Rattle.macho_fat.proofs.Entries.{NoneBelow, IsInTable}
+use Rattle.macho_fields.proofs.Entries.{NoneBelow, IsInTable}
 use Rattle.macho_fat.proofs.rules.fat_slice_in_table.Given as goal
 
 -- no slice before this one begins in the table

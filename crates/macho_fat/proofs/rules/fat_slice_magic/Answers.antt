@@ -2,7 +2,8 @@ use Rattle.std.proofs.Common.{sym, subst, arith}
 use Rattle.macho_fields.specs.Rules.{BreaksFile}
 use Rattle.macho_fields.specs.declared.rule.Rule.TheVariants as rule
 use Rattle.macho_fields.proofs.Layers.{kept_more, least_at}
-use Rattle.macho_fat.proofs.Magics.{IsLeastForeign, DecidesForeign, foreign_more, foreign_broken, foreign_kept}
+use Rattle.macho_fields.proofs.Magics.{IsLeastForeign, DecidesForeign, foreign_broken, foreign_kept}
+use Rattle.macho_fat.proofs.Magics.{foreign_more}
 use Rattle.macho_fat.proofs.rules.fat_slice_magic.Goals as goal
 
 pub loop-k-preserved : goal.loop-k-preserved

@@ -1,4 +1,4 @@
-use Rattle.macho_fat.proofs.Magics.{DecidesForeign}
+use Rattle.macho_fields.proofs.Magics.{DecidesForeign}
 use Rattle.macho_fat.proofs.rules.fat_slice_magic.Given as goal
 
 -- the least place of those slices gone over that are no images

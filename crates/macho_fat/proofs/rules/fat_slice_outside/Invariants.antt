@@ -1,4 +1,4 @@
-use Rattle.macho_fat.proofs.Entries.{NoneBelow, IsOutside}
+use Rattle.macho_fields.proofs.Entries.{NoneBelow, IsOutside}
 use Rattle.macho_fat.proofs.rules.fat_slice_outside.Given as goal
 
 -- no slice before this one passes the end of the file

@@ -1,6 +1,6 @@
 use Rattle.std.proofs.Common.{◌≤◌, arith}
 use Rattle.std.proofs.lemmas.Bool.{false≢true}
-use Rattle.macho_fat.proofs.Alignment.{divides_by_rest, great_power}
+use Rattle.macho_fields.proofs.Alignment.{divides_by_rest, great_power}
 use Rattle.macho_fat.proofs.rules.is_aligned.Goals as goal
 
 pub returns-in-Some : goal.returns-in-Some

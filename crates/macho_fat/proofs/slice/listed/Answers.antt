@@ -1,6 +1,7 @@
 use Rattle.std.proofs.Common.{◌↔◌, IsTrue, Some, ◌∙◌, subst, arith}
 use Rattle.macho_fields.specs.Universal.{IsImage}
-use Rattle.macho_fat.proofs.Listed.{slice_count, none_listed, listed_more, all_listed}
+use Rattle.macho_fields.proofs.Slices.{slice_count}
+use Rattle.macho_fat.proofs.Listed.{none_listed, listed_more, all_listed}
 use Rattle.macho_fat.proofs.slice.listed.Goals as goal
 
 pub loop-k-init : goal.loop-k-init

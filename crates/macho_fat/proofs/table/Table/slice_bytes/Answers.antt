@@ -1,6 +1,6 @@
 use Rattle.std.proofs.Common.{ap, subst, arith, length}
 use Rattle.macho_fields.specs.Universal.{IsUniversal}
-use Rattle.macho_fat.proofs.Entries.{ends_inside}
+use Rattle.macho_fields.proofs.Entries.{ends_inside}
 use Rattle.macho_fat.proofs.table.Table.slice_bytes.Goals as goal
 
 pub unwrap-requires : goal.unwrap-requires

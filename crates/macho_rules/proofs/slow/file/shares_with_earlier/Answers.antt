@@ -1,17 +1,18 @@
 use Rattle.std.proofs.Common.{arith}
 use Rattle.std.proofs.lemmas.Bool.{false≢true, both_ways}
+use Rattle.macho_fields.specs.Bytes.{bytes_of}
 use Rattle.macho_fields.specs.Universal.{entry_slice}
 use Rattle.macho_fields.specs.Rules.{SharePlace}
-use Rattle.macho_fat.proofs.Entries.{none_more, sharing_entries}
-use Rattle.macho_fat.proofs.slow.shares_with_earlier.Goals as goal
+use Rattle.macho_fields.proofs.Entries.{none_more, sharing_entries}
+use Rattle.macho_rules.proofs.slow.file.shares_with_earlier.Goals as goal
 
 pub loop-k-preserved : goal.loop-k-preserved
 loop-k-preserved c =
-    let file = c.args.table.now in
+    let file = bytes_of c.args.entries.file in
     none_more (λ i. SharePlace (entry_slice file i) (entry_slice file c.args.later)) c.loop-k.k c.loop-k.invariant
     (λ h. both_ways c.shares.result c.if-shares.false (c.shares.ensures.1
-    (sharing_entries file c.loop-k.k c.args.later c.entry-in-loop-k.result.span c.entry.result.span c.entry-in-loop-k.ensures.start c.entry-in-loop-k.ensures.size
-    c.entry.ensures.start c.entry.ensures.size h)))
+    (sharing_entries file c.loop-k.k c.args.later c.span.result c.span-span.result c.span.ensures.start c.span.ensures.len
+    c.span-span.ensures.start c.span-span.ensures.len h)))
 
 pub returns : goal.returns
 returns c = (λ h. absurd (false≢true h), λ (i, less, h). absurd (c.loop-k.invariant i (omega arith) h))

@@ -7,7 +7,7 @@ use Rattle.macho_fields.specs.Span.{Shares}
 use Rattle.macho_fields.specs.declared.rule.Rule.{Rule}
 use Rattle.macho_fields.specs.declared.rule.Break.{Break}
 use Rattle.macho_fields.specs.declared.span.Span.{Span}
-use Rattle.macho_fat.proofs.Alignment.{IsMultiple}
+use Rattle.macho_fields.proofs.Alignment.{IsMultiple}
 
 -- the entries before this one do not have P
 abbrev pub NoneBelow : (ℕ → Type 0) → ℕ → Type 0

@@ -1,0 +1,51 @@
+-- The second verdict: what it decides of an image, of the one image of a plain file, and of slices.
+use Rattle.std.proofs.Common.{◌≡◌, ℕ, ◌+◌, ◌⊎◌, min, List, Option, Some, None, MatchOption, Result, Ok, Err, IfErr, OnOk, false, inl, inr, ◌∙◌, arith}
+use Rattle.std.proofs.lemmas.Bool.{cases_lt, cases_Bool}
+use Rattle.macho_fields.specs.Universal.{is_universal, IsImage, IsUniversal, entry_slice}
+use Rattle.macho_fields.specs.First.{IsFirstBroken, IsUnbroken}
+use Rattle.macho_fields.specs.Rules.{BreaksImage}
+use Rattle.macho_fields.specs.Layers.{KeptBelow, Continues, Decides}
+use Rattle.macho_fields.specs.declared.rule.Rule.{Rule}
+use Rattle.macho_fields.specs.declared.rule.Rule.TheVariants as rule
+use Rattle.macho_fields.specs.declared.rule.Break.{Break}
+use Rattle.macho_fields.proofs.Magics.{IsForeignEntry, DecidesForeign, first_foreign, more_foreign}
+use Rattle.macho_fields.proofs.Plain.{first_in_image, unbroken_image}
+use Rattle.macho_fields.proofs.Ranks.{rank_most}
+use Rattle.macho_rules.proofs.Verdicts.{opened_unbroken, opened_refused}
+use Rattle.macho_rules.specs.declared.refusal.Refusal.TheVariants as refusal
+
+-- the last rule is decided where all rules are
+pub decided_last : {T : Type 0} (breaks : Rule → ℕ → Type 0) (answer : Result T Break) → Continues breaks rule.Entry answer → Decides breaks answer
+decided_last breaks (Ok x) kept = λ r place broken. kept r place (rank_most r) broken
+decided_last breaks (Err b) least = least
+
+-- what is decided of an opened image is decided of its bytes
+pub decided_opened : {T : Type 0} (image : List ℕ) (arch : Option (ℕ × ℕ)) → KeptBelow (BreaksImage image arch) 19 → (answer : Result T Break)
+    → Decides (BreaksImage image None) answer → Decides (BreaksImage image arch) answer
+decided_opened image arch opening (Ok x) none = opened_unbroken image arch opening none
+decided_opened image arch opening (Err b) least = opened_refused image arch opening (refusal.Broken b) least
+
+-- a file with no table is one image
+module _ (file : List ℕ) (known : IsUniversal file ⊎ IsImage file) (plain : ¬ IsUniversal file) where
+  image : IsImage file
+  image = elim known [ inl universal ↦ absurd (plain universal) | inr is ↦ is ]
+
+  no_table : is_universal file ≡ false
+  no_table = elim (cases_Bool (is_universal file)) [ inl has ↦ absurd (plain (image.0, has)) | inr none ↦ none ]
+
+  pub plain_unbroken : {T : Type 0} (answer : Result T Break) → Decides (BreaksImage file None) answer → OnOk answer (IsUnbroken file)
+  plain_unbroken (Ok x) none = unbroken_image file no_table image none
+  plain_unbroken (Err b) least = tt
+
+  pub plain_first : {T : Type 0} (answer : Result T Break) → Decides (BreaksImage file None) answer → IfErr answer (IsFirstBroken file)
+  plain_first (Ok x) none = tt
+  plain_first (Err b) least = first_in_image file no_table image b.rule b.place least
+
+-- one more foreign slice
+pub foreign_added : (file : List ℕ) (k start next : ℕ) (least : Option ℕ) → DecidesForeign file k least → start ≡ (entry_slice file k).start → IsForeignEntry file k
+    → MatchOption least (next ≡ start) (λ place. next ≡ min place start) → DecidesForeign file (k + 1) (Some next)
+foreign_added file k start next None none at here is = first_foreign file k next (is ∙ at) none here
+foreign_added file k start next (Some place) least at here is = more_foreign file k start place next at least here (omega (arith, is)) (omega (arith, is)) one
+  where
+    one : (next ≡ place) ⊎ (next ≡ start)
+    one = elim (cases_lt place start) [ inl less ↦ inl (omega (arith, is)) | inr most ↦ inr (omega (arith, is)) ]
