@@ -1,5 +1,6 @@
 -- The second verdict: what it decides of an image, of the one image of a plain file, and of slices.
-use Rattle.std.proofs.Common.{◌≡◌, ℕ, ◌+◌, ◌⊎◌, min, List, Option, Some, None, MatchOption, Result, Ok, Err, IfErr, OnOk, false, inl, inr, ◌∙◌, arith}
+use Rattle.std.proofs.Common.{◌≡◌, ℕ, ◌+◌, ◌⊎◌, min, List, Option, Some, None, MatchOption, IfSome, ◌↔◌, Result, Ok, Err, IfErr, OnOk, false, inl, inr, refl, ◌∙◌, arith}
+use Rattle.std.specs.Result.{result_err}
 use Rattle.std.proofs.lemmas.Bool.{cases_lt, cases_Bool}
 use Rattle.macho_fields.specs.Universal.{is_universal, IsImage, IsUniversal, entry_slice}
 use Rattle.macho_fields.specs.First.{IsFirstBroken, IsUnbroken}
@@ -49,3 +50,13 @@ foreign_added file k start next (Some place) least at here is = more_foreign fil
   where
     one : (next ≡ place) ⊎ (next ≡ start)
     one = elim (cases_lt place start) [ inl less ↦ inl (omega (arith, is)) | inr most ↦ inr (omega (arith, is)) ]
+
+-- the answer of the verdict is the break of the judgment
+pub none_exactly : {T : Type 0} (file : List ℕ) (answer : Result T Break) → OnOk answer (IsUnbroken file) → IfErr answer (IsFirstBroken file)
+    → (result_err answer ≡ None) ↔ IsUnbroken file
+none_exactly file (Ok x) unbroken first = (λ none. unbroken, λ is. refl)
+none_exactly file (Err b) unbroken (fault, broken, first, same, at) = (λ none. cc, λ is. absurd (is fault broken))
+
+pub some_first : {T : Type 0} (file : List ℕ) (answer : Result T Break) → IfErr answer (IsFirstBroken file) → IfSome (result_err answer) (IsFirstBroken file)
+some_first file (Ok x) first = tt
+some_first file (Err b) first = first
