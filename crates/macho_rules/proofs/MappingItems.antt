@@ -21,8 +21,8 @@ use Rattle.macho_fields.specs.declared.span.Span.{Span}
 use Rattle.macho_fields.specs.declared.spans.Insert.{Insert}
 use Rattle.macho_fields.specs.declared.spans.Insert.TheVariants.{Added, Overlap}
 use Rattle.macho_image.specs.Opened.{IsOpened}
-use Rattle.macho_rules.specs.Mapping.{mapped_segments, GivesSources}
-use Rattle.macho_rules.specs.Scaffold.{memory_at, numbered_memory, file_at, source_past, source_from, sources_in, FitsFile}
+use Rattle.macho_rules.specs.Mapping.{mapped_segments, source_past, source_from, sources_in, GivesSources}
+use Rattle.macho_rules.specs.Scaffold.{memory_at, numbered_memory, file_at, FitsFile}
 use Rattle.macho_rules.specs.declared.mapping.FilePart.{FilePart}
 use Rattle.macho_rules.proofs.Judged.{opened_commands}
 use Rattle.macho_rules.proofs.Mapped.{mapped_rise, mapped_among, among_mapped, mapped_positive, ordered_at}

@@ -5,7 +5,7 @@ use Rattle.std.proofs.lemmas.Bool.{le-leb, leb-true, lt-ltb, ltb-true, and_from,
 use Rattle.macho_fields.specs.Span.{Holds, Shares}
 use Rattle.macho_fields.specs.Spans.{HoldsInOne}
 use Rattle.macho_fields.specs.declared.span.Span.{Span}
-use Rattle.macho_rules.specs.Scaffold.{holds}
+use Rattle.macho_rules.specs.Mapping.{holds}
 
 module _ (address : ℕ) where
   holds_true : (pair : Span × ℕ) → Holds pair.0 address → holds address pair ≡ true

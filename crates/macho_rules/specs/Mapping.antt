@@ -1,9 +1,30 @@
 -- What is at the addresses of a loaded image.
-use Rattle.std.specs.Prelude.{◌≡◌, ℕ, List, length, filter, nat_lt, Contains, Option, Some, None}
+use Rattle.std.specs.Prelude.{◌&&◌, ◌≡◌, ℕ, ◌+◌, ◌-◌, List, length, filter, find, nat_le, nat_lt, Contains, Bool, Option, Some, None, slice_index_or, if◌then◌else◌}
+use Rattle.std.specs.Option.{option_map}
 use Rattle.macho_fields.specs.Image.{commands_of}
-use Rattle.macho_fields.specs.Segment.{Source, source, Supplies, segments_of, vmsize}
-use Rattle.macho_rules.specs.Scaffold.{sources_in}
+use Rattle.macho_fields.specs.Segment.{Source, File, Zero, source, Supplies, segments_of, vmsize}
+use Rattle.macho_fields.specs.declared.span.Span.{Span}
+use Rattle.macho_rules.specs.declared.mapping.FilePart.{FilePart}
 use Rattle.macho_rules.specs.declared.mapping.Mapping.{Mapping}
+
+-- the addresses of a segment have the address
+abbrev pub holds : ℕ → Span × ℕ → Bool
+holds address pair = nat_le pair.0.start address && nat_lt address (pair.0.start + pair.0.len)
+
+-- what a segment has so many addresses past its first one
+abbrev pub source_past : ℕ → FilePart → Source
+source_past past file = if nat_lt past file.filesize then File (file.fileoff + past) else Zero
+
+-- what the segment gives at one of its addresses, with its index among the parts of the file
+abbrev pub source_from : List FilePart → ℕ → Span × ℕ → Source
+source_from files address pair =
+    source_past (address - pair.0.start)
+    (slice_index_or files pair.1 (record { fileoff = 0; filesize = 0 }))
+
+-- what the first segment that has the address gives there
+abbrev pub sources_in : List (Span × ℕ) → List FilePart → ℕ → Option Source
+sources_in memory files address =
+    option_map (source_from files address) (find (holds address) memory)
 
 -- what a mapping gives at an address, or none
 abbrev pub sources : Mapping → ℕ → Option Source

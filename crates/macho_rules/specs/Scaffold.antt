@@ -1,7 +1,7 @@
--- What only proofs need, and what a mapping keeps.
-use Rattle.std.specs.Prelude.{◌&&◌, ℕ, ◌+◌, ◌-◌, ◌^◌, ◌<◌, nat_le, nat_lt, List, [], ◌∷◌, find, Bool, Option, slice_index_or, if◌then◌else◌}
-use Rattle.std.specs.Option.{option_map}
-use Rattle.macho_fields.specs.Segment.{Source, File, Zero, vmaddr, vmsize, fileoff, filesize}
+-- What only proofs need: what is known of values between the functions of this crate. No public
+-- contract cites any of it.
+use Rattle.std.specs.Prelude.{ℕ, ◌+◌, ◌^◌, ◌<◌, List, [], ◌∷◌}
+use Rattle.macho_fields.specs.Segment.{vmaddr, vmsize, fileoff, filesize}
 use Rattle.macho_fields.specs.Universal.{FileSlice}
 use Rattle.macho_fields.specs.declared.rule.Break.{Break}
 use Rattle.macho_fields.specs.declared.span.Span.{Span}
@@ -25,25 +25,6 @@ file_at image segment = record {
   fileoff = fileoff image segment;
   filesize = filesize image segment;
 }
-
--- the addresses of a segment have the address
-abbrev pub holds : ℕ → Span × ℕ → Bool
-holds address pair = nat_le pair.0.start address && nat_lt address (pair.0.start + pair.0.len)
-
--- what a segment has so many addresses past its first one
-abbrev pub source_past : ℕ → FilePart → Source
-source_past past file = if nat_lt past file.filesize then File (file.fileoff + past) else Zero
-
--- what the segment gives at one of its addresses, with its index among the parts of the file
-abbrev pub source_from : List FilePart → ℕ → Span × ℕ → Source
-source_from files address pair =
-    source_past (address - pair.0.start)
-    (slice_index_or files pair.1 (record { fileoff = 0; filesize = 0 }))
-
--- what the first segment that has the address gives there
-abbrev pub sources_in : List (Span × ℕ) → List FilePart → ℕ → Option Source
-sources_in memory files address =
-    option_map (source_from files address) (find (holds address) memory)
 
 -- the bytes of the segment end below 2^64
 abbrev pub FitsFile : FilePart → Type 0

@@ -178,7 +178,8 @@ fn spans_of(alloc: Global, pairs: &[(Span, u64)]) -> Result<Spans, AllocError>
 impl FilePart {
     ghost use Rattle.std.specs.Prelude.{◌≡◌};
     ghost use Rattle.macho_rules.specs.Source.{source_of};
-    ghost use Rattle.macho_rules.specs.Scaffold.{file_at, source_past, FitsFile};
+    ghost use Rattle.macho_rules.specs.Mapping.{source_past};
+    ghost use Rattle.macho_rules.specs.Scaffold.{file_at, FitsFile};
 
     fn new(segment: &Segment) -> FilePart
         ensures { result ≡ file_at segment.now.image segment.now.place }
