@@ -180,6 +180,40 @@ plain_image_keeps_file_rules file plain is rule.SymbolSection place n = n
 plain_image_keeps_file_rules file plain is rule.IndirectIndex place n = n
 plain_image_keeps_file_rules file plain is rule.Entry place n = n
 
+-- a rule that a file breaks comes no later than the last of the file
+pub file_rule_rank : (file : List ℕ) (r : Rule) (place : ℕ) → BreaksFile file r place → rank r ≤ rank rule.FatEmpty
+file_rule_rank file rule.Magic place n = lit≤ tt
+file_rule_rank file rule.FatTruncated place n = lit≤ tt
+file_rule_rank file rule.FatSliceOutside place n = lit≤ tt
+file_rule_rank file rule.FatSliceInTable place n = lit≤ tt
+file_rule_rank file rule.FatAlign place n = lit≤ tt
+file_rule_rank file rule.FatOverlap place n = lit≤ tt
+file_rule_rank file rule.FatDuplicate place n = lit≤ tt
+file_rule_rank file rule.FatSliceMagic place n = lit≤ tt
+file_rule_rank file rule.FatEmpty place n = lit≤ tt
+file_rule_rank file rule.HeaderTruncated place n = absurd n
+file_rule_rank file rule.ArchMismatch place n = absurd n
+file_rule_rank file rule.FileType place n = absurd n
+file_rule_rank file rule.CommandsOutside place n = absurd n
+file_rule_rank file rule.CommandWalk place n = absurd n
+file_rule_rank file rule.CommandShort place n = absurd n
+file_rule_rank file rule.CommandRepeated place n = absurd n
+file_rule_rank file rule.DylibId place n = absurd n
+file_rule_rank file rule.Name place n = absurd n
+file_rule_rank file rule.SegmentAddress place n = absurd n
+file_rule_rank file rule.SegmentSize place n = absurd n
+file_rule_rank file rule.SegmentFile place n = absurd n
+file_rule_rank file rule.SegmentOverlap place n = absurd n
+file_rule_rank file rule.SectionAddress place n = absurd n
+file_rule_rank file rule.SectionFile place n = absurd n
+file_rule_rank file rule.SectionRelocs place n = absurd n
+file_rule_rank file rule.TableRange place n = absurd n
+file_rule_rank file rule.SymbolGroup place n = absurd n
+file_rule_rank file rule.SymbolName place n = absurd n
+file_rule_rank file rule.SymbolSection place n = absurd n
+file_rule_rank file rule.IndirectIndex place n = absurd n
+file_rule_rank file rule.Entry place n = absurd n
+
 -- a rule that an image breaks comes after the rules of the file
 pub image_rule_rank : (image : List ℕ) (arch : Option (ℕ × ℕ)) (r : Rule) (place : ℕ) → BreaksImage image arch r place → 10 ≤ rank r
 image_rule_rank image arch rule.Magic place h = ⊎_elim (λ k. absurd k) (λ k. absurd k.2) h
