@@ -40,14 +40,17 @@ fn main(rt: HostRuntime) -> ExitCode {
         }
         words => words.ok(),
     };
-    exit_code(&run_program(
+    let ended = run_program(
         rt.alloc(),
         words.as_ref().map(|words| words.as_slice()),
         &SystemFiles { system: &rt },
         &mut FromRead::new(&mut rt.stdin()),
         &mut FromWrite::new(&mut stdout),
         &mut errors,
-    ))
+    );
+    // What a failed write has left in the buffer is dropped here. The buffer's own drop would write it.
+    let _ = stdout.into_parts();
+    exit_code(&ended)
 }
 
 // The words of the command line, the program's name first.

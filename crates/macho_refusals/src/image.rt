@@ -1,0 +1,74 @@
+//! The calls that are made on a file.
+
+use crate::announce;
+use crate::fault::Fault;
+use macho_fat::slices;
+use macho_fields::Bytes;
+use macho_image::Image;
+use macho_report::{Output, write_layout};
+use macho_rules::{Mapping, check_image, verify};
+
+/// The addresses that a mapping is asked for: in each segment of an executable, and past the last.
+const ADDRESSES: [u64; 5] = [
+    0,
+    0x1_0000_0000,
+    0x1_0000_2000,
+    0x1_0000_302b,
+    0x1_0000_4000,
+];
+
+/// Calls `slices`, and prints a line for each.
+pub(crate) fn call_slices(
+    rt: &(impl AllocGlobal + Print + Eprint),
+    file: &[u8],
+) -> Result<(), Fault> {
+    announce(rt)?;
+    for slice in &slices(rt.alloc(), Bytes::new(file))? {
+        println!(rt; "{slice:?}")?;
+    }
+    Ok(())
+}
+
+/// Calls `verify`, and writes the layout.
+pub(crate) fn call_verify<W: Output>(
+    rt: &(impl AllocGlobal + Eprint),
+    file: &[u8],
+    writer: &mut W,
+) -> Result<(), Fault> {
+    announce(rt)?;
+    let verified = verify(rt.alloc(), file)?;
+    write_layout(&verified, writer)?;
+    Ok(())
+}
+
+/// Calls `check_image` for a file that is one image.
+pub(crate) fn call_check_image(
+    rt: &(impl AllocGlobal + Print + Eprint),
+    file: &[u8],
+) -> Result<(), Fault> {
+    let Ok(image) = Image::open(Bytes::new(file), None) else {
+        return Err(Fault::NoCall);
+    };
+    announce(rt)?;
+    check_image(rt.alloc(), &image)?;
+    println!(rt; "unbroken")?;
+    Ok(())
+}
+
+/// Calls `Mapping::of` for the first slice, and prints what is at some addresses.
+pub(crate) fn call_mapping(
+    rt: &(impl AllocGlobal + Print + Eprint),
+    file: &[u8],
+) -> Result<(), Fault> {
+    let verified = verify(rt.alloc(), file)?;
+    announce(rt)?;
+    let Some(mut mapping) = Mapping::of(rt.alloc(), &verified, 0)? else {
+        println!(rt; "no image")?;
+        return Ok(());
+    };
+    for address in ADDRESSES {
+        let source = mapping.source(address);
+        println!(rt; "{address:#x} {source:?}")?;
+    }
+    Ok(())
+}
