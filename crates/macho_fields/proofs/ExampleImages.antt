@@ -4,10 +4,9 @@ use Rattle.std.specs.List.{list_any}
 use Rattle.std.proofs.lemmas.Bool.{lt-ltb, and_from}
 use Rattle.macho_fields.specs.Image.{command_size, command_kind, file_type, AreCommands}
 use Rattle.macho_fields.specs.LoadCommands.{structure_of}
-use Rattle.macho_fields.specs.FileTypes.{file_type_of}
+use Rattle.macho_fields.specs.FileTypes.{FileTypeView, file_type_of}
 use Rattle.macho_fields.specs.Command.{IsShort, IsBadName, HasBadName, HasDylibId, least_size}
 use Rattle.macho_fields.specs.declared.load_command.Structure.{Structure}
-use Rattle.macho_fields.specs.declared.file_type.FileType.{FileType}
 use Rattle.macho_fields.specs.Symbol.{IsOutside, tables_of}
 use Rattle.macho_fields.specs.Rules.{BreaksImage, BreaksCommands}
 use Rattle.macho_fields.specs.First.{IsUnbroken}
@@ -19,7 +18,7 @@ use Rattle.macho_fields.proofs.Options.{of_none}
 use Rattle.macho_fields.proofs.Lists.{none_in_nil, any_nil, only_one, any_one, none_by_test}
 use Rattle.macho_fields.proofs.ExampleHeaders.{header, four}
 
-abbrev BadId : List ℕ → List ℕ → FileType → Type 0
+abbrev BadId : List ℕ → List ℕ → FileTypeView → Type 0
 BadId image commands listed = ((listed.names_itself ≡ true) × ¬ HasDylibId image commands) ⊎ ((listed.names_itself ≡ false) × HasDylibId image commands)
 
 -- an executable breaks the rule only where it names itself

@@ -2,7 +2,7 @@
 
 ghost use Rattle.std.specs.Prelude.{◌≡◌, ◌==◌, find};
 ghost use Rattle.std.specs.Option.{option_map};
-ghost use Rattle.macho_fields.specs.FileTypes.{file_type_of};
+ghost use Rattle.macho_fields.specs.FileTypes.{file_type_of, file_type_view};
 
 use crate::header::loader;
 
@@ -13,6 +13,8 @@ pub enum Kind {
     Execute,
     /// A library, `MH_DYLIB`.
     Dylib,
+    /// A bundle, `MH_BUNDLE`, which a running program loads.
+    Bundle,
 }
 
 /// A filetype that is judged.
@@ -22,16 +24,19 @@ pub struct FileType {
     pub number: u32,
     /// What an image of this type is.
     pub kind: Kind,
+    /// The word for it in the report.
+    pub word: &'static str,
     /// Whether the image names itself by an `LC_ID_DYLIB`; otherwise it has none.
     pub names_itself: bool,
 }
 
-/// A line of the list: the number, the kind, and whether the image names itself.
+/// A line of the list: the number, the kind, the word, and whether the image names itself.
 macro_rules! file_type {
-    ($number:ident, $kind:ident, $names_itself:expr) => {
+    ($number:ident, $kind:ident, $word:expr, $names_itself:expr) => {
         FileType {
             number: loader::$number,
             kind: Kind::$kind,
+            word: $word,
             names_itself: $names_itself,
         }
     };
@@ -39,13 +44,14 @@ macro_rules! file_type {
 
 /// The filetypes that are judged.
 const FILE_TYPES: &[FileType] = &[
-    file_type!(MH_EXECUTE, Execute, false),
-    file_type!(MH_DYLIB, Dylib, true),
+    file_type!(MH_EXECUTE, Execute, "execute", false),
+    file_type!(MH_DYLIB, Dylib, "dylib", true),
+    file_type!(MH_BUNDLE, Bundle, "bundle", false),
 ];
 
 /// The filetype with this number, or `None` where images of it are not judged.
 pub fn file_type_of(number: u32) -> Option<FileType>
-    ensures { result ≡ file_type_of number }
+    ensures { option_map file_type_view result ≡ file_type_of number }
 {
     first_of(number, FILE_TYPES).copied()
 }

@@ -7,9 +7,9 @@ use crate::walk::{
     FILETYPE, Opening, arch_mismatch, arch_of, command_walk, commands_outside,
     count_to_last_segment, file_type, header_truncated,
 };
-pub use macho_fields::Kind;
 use macho_fields::header::loader::MACH_HEADER_64_SIZE;
 use macho_fields::{Break, Bytes, file_type_of};
+pub use macho_fields::{FileType, Kind};
 use std::marker::Model;
 
 /// The bytes of a 64-bit image that breaks no rule of `Image::open`.
@@ -34,12 +34,13 @@ impl<'a> Model for Image<'a> {
 }
 
 impl<'a> Image<'a> {
-    ghost use Rattle.std.specs.Prelude.{◌≡◌, IfOk, map};
+    ghost use Rattle.std.specs.Prelude.{◌≡◌, IfOk, Some, map};
     ghost use Rattle.macho_fields.specs.Bytes.{bytes_of};
+    ghost use Rattle.macho_fields.specs.FileTypes.{file_type_of, file_type_view};
     ghost use Rattle.macho_fields.specs.LoadCommands.{IsUnique};
     ghost use Rattle.macho_fields.specs.Rules.{BreaksImage};
     ghost use Rattle.macho_fields.specs.Layers.{Continues};
-    ghost use Rattle.macho_fields.specs.Image.{cpu_type, cpu_subtype, commands_of};
+    ghost use Rattle.macho_fields.specs.Image.{cpu_type, cpu_subtype, file_type, commands_of};
     ghost use Rattle.macho_fields.specs.Universal.{masked};
     ghost use Rattle.macho_fields.specs.declared.rule.Rule.{Rule};
     ghost use Rattle.macho_image.specs.Command.{command_at, first_of_kind};
@@ -103,11 +104,18 @@ impl<'a> Image<'a> {
         self.bytes
     }
 
-    /// The type of the image. (`mach_header_64.filetype`)
+    /// The type of the image, as the list of filetypes has it. (`mach_header_64.filetype`)
+    pub fn file_type(&self) -> FileType
+        ensures { file_type_of (file_type self.now) ≡ Some (file_type_view result) }
+    {
+        file_type_of(word_at(self.bytes, FILETYPE)).unwrap()
+    }
+
+    /// What the image is.
     pub fn kind(&self) -> Kind
         ensures { IsKind self.now result }
     {
-        file_type_of(word_at(self.bytes, FILETYPE)).unwrap().kind
+        self.file_type().kind
     }
 
     /// The `cputype` of the image, and its `cpusubtype` without the capability bits.

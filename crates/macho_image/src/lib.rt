@@ -24,7 +24,7 @@ mod walk;
 pub use build::{Build, Builds};
 pub use command::{Command, Commands};
 pub use dysymtab::Dysymtab;
-pub use image::{Image, Kind};
+pub use image::{FileType, Image, Kind};
 pub use indirect::{Indirect, Indirects};
 pub use library::{Dylib, Dylibs};
 pub use main_command::MainCommand;

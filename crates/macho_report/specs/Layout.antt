@@ -11,8 +11,6 @@ use Rattle.macho_fields.specs.Segment.{segments_of, sections_in}
 use Rattle.macho_fields.specs.Symbol.{nsyms}
 use Rattle.macho_fields.specs.Universal.{FileSlice, slices_of, slice_bytes, masked}
 use Rattle.macho_fields.specs.declared.bytes.Order.TheVariants.{Little}
-use Rattle.macho_fields.specs.declared.file_type.Kind.{Kind}
-use Rattle.macho_fields.specs.declared.file_type.Kind.TheVariants.{Execute, Dylib}
 use Rattle.macho_fields.specs.declared.header.loader.TheConstants as loader
 use Rattle.macho_image.specs.Command.{first_of_kind}
 use Rattle.macho_image.specs.Entry.{entry_of}
@@ -86,14 +84,9 @@ image_text image =
 abbrev pub is_image : List ℕ → Bool
 is_image bytes = nat_le 4 (length bytes) && (number Little 4 bytes 0 == loader.MH_MAGIC_64)
 
--- mach_header_64.filetype: what an image is
-abbrev pub kind_word : Kind → List ℕ
-kind_word Execute = codes "execute"
-kind_word Dylib = codes "dylib"
-
+-- mach_header_64.filetype: the word for what an image is
 abbrev pub kind_text : List ℕ → List ℕ
-kind_text image =
-    option_map_or (λ listed. kind_word listed.kind) (file_type_of (file_type image)) []
+kind_text image = option_map_or (λ listed. listed.word) (file_type_of (file_type image)) []
 
 -- An image has its own architecture in the text. A slice that is not read has that of its entry: in
 -- an accepted file each such slice has one.

@@ -9,7 +9,7 @@ ghost use Rattle.macho_fields.specs.Universal.{slices_of};
 ghost use Rattle.macho_image.specs.Library.{dylib_of};
 ghost use Rattle.macho_report.specs.Stream.{Writes, FailsAtFault, joined};
 ghost use Rattle.macho_report.specs.Scaffold.{linked_text};
-ghost use Rattle.macho_report.specs.Layout.{layout_text, slice_text, image_slice_text, kind_word, image_text, id_text, uuid_text, builds_text, segments_text, segment_text, libraries_text, symbols_text};
+ghost use Rattle.macho_report.specs.Layout.{layout_text, slice_text, image_slice_text, image_text, id_text, uuid_text, builds_text, segments_text, segment_text, libraries_text, symbols_text};
 ghost use Rattle.macho_report.specs.Line.{section_line};
 
 use crate::line::{
@@ -21,7 +21,7 @@ use crate::stream::Output;
 use crate::transfer::{WriteFault, write_all};
 use macho_fat::Slice;
 use macho_fields::header::loader::LC_ID_DYLIB;
-use macho_image::{Dylib, Image, Kind, Segment};
+use macho_image::{Dylib, Image, Segment};
 use macho_rules::Verified;
 
 /// Writes the layout of an accepted file as text: how many slices it has, a line for each, and the
@@ -86,20 +86,10 @@ fn write_image_slice<W: Output>(
         index,
         Some(image.arch()),
         slice.span,
-        kind_word(image.kind()),
+        image.file_type().word,
         writer,
     )?;
     write_image(image, writer)
-}
-
-// The word for what an image is.
-fn kind_word(kind: Kind) -> &'static str
-    ensures { result.now ≡ kind_word kind }
-{
-    match kind {
-        Kind::Execute => "execute",
-        Kind::Dylib => "dylib",
-    }
 }
 
 // Writes the lines of an image.

@@ -36,7 +36,16 @@ fn bundle(rt: HostRuntime) -> Result<(), Fail> {
     check_lines(
         &rt,
         "cffaedfe 07000001 03000000",
-        "08000000 .16 : refused: file-type at 0xc",
+        "
+        08000000 .16 : accepted
+        08000000 02000000 60000000 .8 19000000 48000000 5f5f5445 58540000 .8 00100000 .4 \
+            00100000 .12 80000000 .4 05000000 05000000 .8 28000080 18000000 7f000000 .12 : accepted
+        08000000 01000000 20000000 .8 0d000000 20000000 18000000 02000000 00000100 00000100 \
+            2f612e64796c0000 : refused: dylib-id at 0xc
+        01000000 .16 : refused: file-type at 0xc
+        09000000 .16 : refused: file-type at 0xc
+        00000000 .16 : refused: file-type at 0xc
+        ",
     )
 }
 

@@ -47,6 +47,7 @@ fn header(text: &mut String, alloc: Global, image: &Image) -> Result<(), AllocEr
     let kind = match image.kind() {
         Kind::Execute => "executable",
         Kind::Dylib => "dylib",
+        Kind::Bundle => "bundle",
     };
     let (cputype, cpusubtype) = image.arch();
     let numbers = [

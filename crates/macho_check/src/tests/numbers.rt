@@ -1,6 +1,6 @@
 //! Numbers of the headers that no file shows, as the program does not use them.
 
-use macho_fields::header::loader::{LC_ENCRYPTION_INFO_64, LC_NOTE, MH_BUNDLE};
+use macho_fields::header::loader::{LC_ENCRYPTION_INFO_64, LC_NOTE};
 use macho_fields::header::machine::{
     CPU_SUBTYPE_ARM64_ALL, CPU_SUBTYPE_ARM64E, CPU_SUBTYPE_X86_64_ALL, CPU_SUBTYPE_X86_64_H,
     CPU_TYPE_ARM64, CPU_TYPE_X86_64,
@@ -9,7 +9,6 @@ use macho_fields::header::machine::{
 #[test]
 fn other_numbers(rt: HostRuntime) {
     for (named, number) in [
-        (MH_BUNDLE, 8),
         (LC_ENCRYPTION_INFO_64, 0x2c),
         (LC_NOTE, 0x31),
         (CPU_TYPE_X86_64, 0x0100_0007),

@@ -40,15 +40,25 @@ fn check_parts(
 fn bare_header(rt: HostRuntime) -> Result<(), Fail> {
     check_texts(
         &rt,
-        "cffaedfe 07000001 03000000 02000000 .16",
-        &[(
-            "",
-            "\
+        "cffaedfe 07000001 03000000",
+        &[
+            (
+                "02000000 .16",
+                "\
 accepted, slices 1
 slice 0 x86_64 at 0x0 size 0x20 execute
   entry none
 ",
-        )],
+            ),
+            (
+                "08000000 .16",
+                "\
+accepted, slices 1
+slice 0 x86_64 at 0x0 size 0x20 bundle
+  entry none
+",
+            ),
+        ],
     )
 }
 
@@ -231,12 +241,11 @@ fn entry_places(rt: HostRuntime) -> Result<(), Fail> {
     // The last byte of the file part.
     check_texts(
         &rt,
-        "cffaedfe 07000001 03000000 02000000 02000000 60000000 .8 19000000 48000000 5f5f5445 \
-            58540000 .8",
+        "cffaedfe 07000001 03000000",
         &[
             (
-                "00100000 .4 00100000 .12 80000000 .4 05000000 05000000 .8 28000080 18000000 \
-                    7f000000 .12",
+                "02000000 02000000 60000000 .8 19000000 48000000 5f5f5445 58540000 .8 00100000 .4 \
+                    00100000 .12 80000000 .4 05000000 05000000 .8 28000080 18000000 7f000000 .12",
                 r#"accepted, slices 1
 slice 0 x86_64 at 0x0 size 0x80 execute
   segment "__TEXT" addr 0x1000 size 0x1000 file 0x0 size 0x80 r-x
@@ -244,12 +253,22 @@ slice 0 x86_64 at 0x0 size 0x80 execute
 "#,
             ),
             (
-                "00f0ffff ffffffff 00100000 .12 80000000 .4 05000000 04000000 .8 28000080 \
-                    18000000 7f000000 .12",
+                "02000000 02000000 60000000 .8 19000000 48000000 5f5f5445 58540000 .8 00f0ffff \
+                    ffffffff 00100000 .12 80000000 .4 05000000 04000000 .8 28000080 18000000 \
+                    7f000000 .12",
                 r#"accepted, slices 1
 slice 0 x86_64 at 0x0 size 0x80 execute
   segment "__TEXT" addr 0xfffffffffffff000 size 0x1000 file 0x0 size 0x80 --x
   entry 0xfffffffffffff07f
+"#,
+            ),
+            (
+                "08000000 02000000 60000000 .8 19000000 48000000 5f5f5445 58540000 .8 00100000 .4 \
+                    00100000 .12 80000000 .4 05000000 05000000 .8 28000080 18000000 7f000000 .12",
+                r#"accepted, slices 1
+slice 0 x86_64 at 0x0 size 0x80 bundle
+  segment "__TEXT" addr 0x1000 size 0x1000 file 0x0 size 0x80 r-x
+  entry 0x107f
 "#,
             ),
         ],

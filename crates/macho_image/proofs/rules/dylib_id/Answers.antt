@@ -1,9 +1,9 @@
 use Rattle.std.proofs.Common.{ap, sym, ◌∙◌, arith, refl}
+use Rattle.std.specs.Option.{option_map}
 use Rattle.macho_fields.specs.Bytes.{bytes_of}
 use Rattle.macho_fields.specs.Command.{HasDylibId}
-use Rattle.macho_fields.specs.FileTypes.{file_type_of}
+use Rattle.macho_fields.specs.FileTypes.{FileTypeView, file_type_of, file_type_view}
 use Rattle.macho_fields.specs.Image.{commands_of, file_type}
-use Rattle.macho_fields.specs.declared.file_type.FileType.{FileType}
 use Rattle.macho_fields.specs.declared.rule.Rule.TheVariants as rule
 use Rattle.macho_fields.proofs.Options.{of_some, some_has, of_none}
 use Rattle.macho_image.proofs.Opening.{has_header, commands_kept, commands_broken}
@@ -16,17 +16,17 @@ word_at-requires c = let header = has_header _ c.args.opening.arch 17 (omega ari
 pub returns-in_default : goal.returns-in_default
 returns-in_default c =
     let image = bytes_of c.args.opening.bytes in
-    let none = ap file_type_of (sym c.word_at.ensures) ∙ (sym c.file_type_of.ensures ∙ c.in_default.is) in
+    let none = ap file_type_of (sym c.word_at.ensures) ∙ (sym c.file_type_of.ensures ∙ ap (option_map file_type_view) c.in_default.is) in
     commands_kept image c.args.opening.arch rule.DylibId (λ _ h. h) (omega arith) c.requires.before
-    (λ place broken. of_none (λ (t : FileType). HasWrongId t.names_itself (HasDylibId image (commands_of image))) (file_type_of (file_type image)) none broken.1)
+    (λ place broken. of_none (λ (t : FileTypeView). HasWrongId t.names_itself (HasDylibId image (commands_of image))) (file_type_of (file_type image)) none broken.1)
 
 pub returns-then-listed-is_some : goal.returns-then-listed-is_some
 returns-then-listed-is_some c =
     let image = bytes_of c.args.opening.bytes in
     let H = HasDylibId image (commands_of image) in
-    let listed = ap file_type_of (sym c.word_at.ensures) ∙ (sym c.file_type_of.ensures ∙ c.in-Some.is) in
+    let listed = ap file_type_of (sym c.word_at.ensures) ∙ (sym c.file_type_of.ensures ∙ ap (option_map file_type_view) c.in-Some.is) in
     let has = has_id image c.of.result c.is_some.result c.is_some.ensures (c.of.ensures.unique image (commands_of image) c.requires.first refl) in
-    let wrong = of_some (λ (t : FileType). HasWrongId t.names_itself H) (file_type_of (file_type image)) c.in-Some.listed listed (id_broken H _ _ has c.if-listed-is_some.true) in
+    let wrong = of_some (λ (t : FileTypeView). HasWrongId t.names_itself H) (file_type_of (file_type image)) (file_type_view c.in-Some.listed) listed (id_broken H _ _ has c.if-listed-is_some.true) in
     commands_broken image c.args.opening.arch rule.DylibId (λ _ h. h) (omega arith) c.requires.before _ c.at.ensures.rule (c.at.ensures.place, wrong)
     (λ place broken. omega (arith, broken.0, c.at.ensures.place))
 
@@ -34,7 +34,7 @@ pub returns : goal.returns
 returns c =
     let image = bytes_of c.args.opening.bytes in
     let H = HasDylibId image (commands_of image) in
-    let listed = ap file_type_of (sym c.word_at.ensures) ∙ (sym c.file_type_of.ensures ∙ c.in-Some.is) in
+    let listed = ap file_type_of (sym c.word_at.ensures) ∙ (sym c.file_type_of.ensures ∙ ap (option_map file_type_view) c.in-Some.is) in
     let has = has_id image c.of.result c.is_some.result c.is_some.ensures (c.of.ensures.unique image (commands_of image) c.requires.first refl) in
     commands_kept image c.args.opening.arch rule.DylibId (λ _ h. h) (omega arith) c.requires.before
-    (λ place broken. id_kept H _ _ has c.if-listed-is_some.false (some_has (λ (t : FileType). HasWrongId t.names_itself H) (file_type_of (file_type image)) c.in-Some.listed listed broken.1))
+    (λ place broken. id_kept H _ _ has c.if-listed-is_some.false (some_has (λ (t : FileTypeView). HasWrongId t.names_itself H) (file_type_of (file_type image)) (file_type_view c.in-Some.listed) listed broken.1))
