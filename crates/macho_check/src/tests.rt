@@ -6,7 +6,6 @@ mod examples;
 mod layers;
 mod layout;
 mod mapping;
-mod numbers;
 mod overlaps;
 mod real;
 mod report;

@@ -19,16 +19,7 @@ are_inside size fields = nat_le (fields.place + width_size fields.width) size &&
 
 all_inside : (s : Structure) → list_all (are_inside (structure_size s)) (table_fields s) ≡ true
 all_inside structure.SymtabCommand = refl
-all_inside structure.DysymtabCommand = refl
-all_inside structure.DylibCommand = refl
-all_inside structure.DylinkerCommand = refl
-all_inside structure.RpathCommand = refl
-all_inside structure.SegmentCommand64 = refl
-all_inside structure.UuidCommand = refl
-all_inside structure.LinkeditDataCommand = refl
-all_inside structure.DyldInfoCommand = refl
-all_inside structure.BuildVersionCommand = refl
-all_inside structure.EntryPointCommand = refl
+all_inside other = refl
 
 -- the fields that bound the tables of a command lie in its structure
 pub fields_inside : (s : Structure) → All (AreFieldsInside (structure_size s)) (table_fields s)
@@ -40,17 +31,10 @@ fields_inside s k d less =
 
 -- a structure with a name has its lc_str, 4 bytes at 8
 pub name_inside : (s : Structure) → has_name s ≡ true → 12 ≤ structure_size s
-name_inside structure.SymtabCommand named = absurd (true≢false (sym named))
-name_inside structure.DysymtabCommand named = absurd (true≢false (sym named))
 name_inside structure.DylibCommand named = lit≤ tt
 name_inside structure.DylinkerCommand named = lit≤ tt
 name_inside structure.RpathCommand named = lit≤ tt
-name_inside structure.SegmentCommand64 named = absurd (true≢false (sym named))
-name_inside structure.UuidCommand named = absurd (true≢false (sym named))
-name_inside structure.LinkeditDataCommand named = absurd (true≢false (sym named))
-name_inside structure.DyldInfoCommand named = absurd (true≢false (sym named))
-name_inside structure.BuildVersionCommand named = absurd (true≢false (sym named))
-name_inside structure.EntryPointCommand named = absurd (true≢false (sym named))
+name_inside other named = absurd (true≢false (sym named))
 
 -- a command that names a library is a dylib_command
 pub library_structure : (kind : ℕ) → names_library kind ≡ true → structure_of kind ≡ Some structure.DylibCommand
@@ -59,16 +43,7 @@ library_structure kind names = of_listed (structure_of kind) names
     of_listed : (o : Option Structure) → option_map_or is_dylib_command o false ≡ true → o ≡ Some structure.DylibCommand
     of_listed None h = absurd (true≢false (sym h))
     of_listed (Some structure.DylibCommand) h = refl
-    of_listed (Some structure.SymtabCommand) h = absurd (true≢false (sym h))
-    of_listed (Some structure.DysymtabCommand) h = absurd (true≢false (sym h))
-    of_listed (Some structure.DylinkerCommand) h = absurd (true≢false (sym h))
-    of_listed (Some structure.RpathCommand) h = absurd (true≢false (sym h))
-    of_listed (Some structure.SegmentCommand64) h = absurd (true≢false (sym h))
-    of_listed (Some structure.UuidCommand) h = absurd (true≢false (sym h))
-    of_listed (Some structure.LinkeditDataCommand) h = absurd (true≢false (sym h))
-    of_listed (Some structure.DyldInfoCommand) h = absurd (true≢false (sym h))
-    of_listed (Some structure.BuildVersionCommand) h = absurd (true≢false (sym h))
-    of_listed (Some structure.EntryPointCommand) h = absurd (true≢false (sym h))
+    of_listed (Some other) h = absurd (true≢false (sym h))
 
 module _ (image : List ℕ) (command : ℕ) where
   -- a count that lies in the command

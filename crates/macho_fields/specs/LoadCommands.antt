@@ -41,7 +41,9 @@ load_commands =
     ∷ many loader.LC_DYLD_ENVIRONMENT structure.DylinkerCommand
     ∷ many loader.LC_DATA_IN_CODE structure.LinkeditDataCommand
     ∷ many loader.LC_DYLIB_CODE_SIGN_DRS structure.LinkeditDataCommand
+    ∷ many loader.LC_ENCRYPTION_INFO_64 structure.EncryptionInfoCommand64
     ∷ many loader.LC_LINKER_OPTIMIZATION_HINT structure.LinkeditDataCommand
+    ∷ many loader.LC_NOTE structure.NoteCommand
     ∷ many loader.LC_BUILD_VERSION structure.BuildVersionCommand
     ∷ many loader.LC_LOAD_WEAK_DYLIB structure.DylibCommand
     ∷ many loader.LC_RPATH structure.RpathCommand
@@ -76,6 +78,8 @@ structure_size structure.SegmentCommand64 = loader.SEGMENT_COMMAND_64_SIZE
 structure_size structure.UuidCommand = 24
 structure_size structure.LinkeditDataCommand = 16
 structure_size structure.DyldInfoCommand = 48
+structure_size structure.EncryptionInfoCommand64 = 24
+structure_size structure.NoteCommand = 40
 structure_size structure.BuildVersionCommand = 24
 structure_size structure.EntryPointCommand = 24
 
@@ -116,7 +120,8 @@ AreFieldsInside size fields =
     × (fields.count + width_size fields.width ≤ size)
 
 -- The tables of the image that the fields of a structure bound: the offset of the field with the
--- place of the table, that of the field with the number of its items, and the size of an item.
+-- place of the table, that of the field with the number of its items, and the size of an item. Both
+-- fields have one width.
 
 -- a table whose two fields are words of 32 bits
 abbrev pub word_table : ℕ → ℕ → ℕ → TableFields
@@ -124,6 +129,15 @@ word_table place count item_size = record {
   place = place;
   count = count;
   width = Uint32;
+  item_size = item_size;
+}
+
+-- a table whose two fields are of 64 bits
+abbrev pub long_table : ℕ → ℕ → ℕ → TableFields
+long_table place count item_size = record {
+  place = place;
+  count = count;
+  width = Uint64;
   item_size = item_size;
 }
 
@@ -161,7 +175,8 @@ local_relocations = word_table 72 76 reloc.RELOCATION_INFO_SIZE
 
 -- linkedit_data_command: dataoff and datasize. dyld_info_command: rebase_off and rebase_size,
 -- bind_off and bind_size, weak_bind_off and weak_bind_size, lazy_bind_off and lazy_bind_size,
--- export_off and export_size. All are of bytes.
+-- export_off and export_size. encryption_info_command_64: cryptoff and cryptsize. note_command:
+-- offset and size. All are of bytes.
 abbrev pub table_fields : Structure → List TableFields
 table_fields structure.SymtabCommand = symbol_table ∷ string_table ∷ []
 table_fields structure.DysymtabCommand =
@@ -171,4 +186,6 @@ table_fields structure.LinkeditDataCommand = word_table 8 12 1 ∷ []
 table_fields structure.DyldInfoCommand =
     word_table 8 12 1 ∷ word_table 16 20 1 ∷ word_table 24 28 1 ∷ word_table 32 36 1
     ∷ word_table 40 44 1 ∷ []
+table_fields structure.EncryptionInfoCommand64 = word_table 8 12 1 ∷ []
+table_fields structure.NoteCommand = long_table 24 32 1 ∷ []
 table_fields other = []

@@ -7,11 +7,17 @@ ghost use Rattle.macho_fields.specs.LoadCommands.{IsUnique, load_command_of, str
 ghost use Rattle.macho_fields.specs.LoadCommands.{names_library};
 
 use crate::header::loader::build_version_command::NTOOLS;
+use crate::header::loader::dyld_info_command::{
+    BIND_OFF, BIND_SIZE, EXPORT_OFF, EXPORT_SIZE, LAZY_BIND_OFF, LAZY_BIND_SIZE, REBASE_OFF,
+    REBASE_SIZE, WEAK_BIND_OFF, WEAK_BIND_SIZE,
+};
 use crate::header::loader::dysymtab_command::{
     EXTREFSYMOFF, EXTRELOFF, INDIRECTSYMOFF, LOCRELOFF, MODTABOFF, NEXTREFSYMS, NEXTREL,
     NINDIRECTSYMS, NLOCREL, NMODTAB, NTOC, TOCOFF,
 };
+use crate::header::loader::encryption_info_command_64::{CRYPTOFF, CRYPTSIZE};
 use crate::header::loader::linkedit_data_command::{DATAOFF, DATASIZE};
+use crate::header::loader::note_command::{OFFSET, SIZE};
 use crate::header::loader::segment_command_64::NSECTS;
 use crate::header::loader::symtab_command::{NSYMS, STROFF, STRSIZE, SYMOFF};
 use crate::header::loader::{
@@ -43,6 +49,10 @@ pub enum Structure {
     LinkeditDataCommand,
     /// `dyld_info_command`
     DyldInfoCommand,
+    /// `encryption_info_command_64`
+    EncryptionInfoCommand64,
+    /// `note_command`
+    NoteCommand,
     /// `build_version_command`
     BuildVersionCommand,
     /// `entry_point_command`
@@ -129,17 +139,18 @@ const LINKEDIT_DATA_TABLES: &[TableFields] = &[table!(DATAOFF, DATASIZE, Uint32,
 
 /// Bytes of five kinds.
 const DYLD_INFO_TABLES: &[TableFields] = &[
-    // `rebase_off` and `rebase_size`
-    table!(8, 12, Uint32, 1),
-    // `bind_off` and `bind_size`
-    table!(16, 20, Uint32, 1),
-    // `weak_bind_off` and `weak_bind_size`
-    table!(24, 28, Uint32, 1),
-    // `lazy_bind_off` and `lazy_bind_size`
-    table!(32, 36, Uint32, 1),
-    // `export_off` and `export_size`
-    table!(40, 44, Uint32, 1),
+    table!(REBASE_OFF, REBASE_SIZE, Uint32, 1),
+    table!(BIND_OFF, BIND_SIZE, Uint32, 1),
+    table!(WEAK_BIND_OFF, WEAK_BIND_SIZE, Uint32, 1),
+    table!(LAZY_BIND_OFF, LAZY_BIND_SIZE, Uint32, 1),
+    table!(EXPORT_OFF, EXPORT_SIZE, Uint32, 1),
 ];
+
+/// The encrypted bytes.
+const ENCRYPTION_INFO_TABLES: &[TableFields] = &[table!(CRYPTOFF, CRYPTSIZE, Uint32, 1)];
+
+/// The data, as bytes.
+const NOTE_TABLES: &[TableFields] = &[table!(OFFSET, SIZE, Uint64, 1)];
 
 impl Structure {
     ghost use Rattle.std.specs.Prelude.{◌≡◌, ◌+◌, ◌≤◌, All, IsTrue, IfSome};
@@ -161,6 +172,8 @@ impl Structure {
             Structure::UuidCommand => 24,
             Structure::LinkeditDataCommand => 16,
             Structure::DyldInfoCommand => 48,
+            Structure::EncryptionInfoCommand64 => 24,
+            Structure::NoteCommand => 40,
             Structure::BuildVersionCommand => 24,
             Structure::EntryPointCommand => 24,
         }
@@ -206,6 +219,8 @@ impl Structure {
             Structure::DysymtabCommand => DYSYMTAB_TABLES,
             Structure::LinkeditDataCommand => LINKEDIT_DATA_TABLES,
             Structure::DyldInfoCommand => DYLD_INFO_TABLES,
+            Structure::EncryptionInfoCommand64 => ENCRYPTION_INFO_TABLES,
+            Structure::NoteCommand => NOTE_TABLES,
             _ => &[],
         }
     }
@@ -263,7 +278,9 @@ const LOAD_COMMANDS: &[LoadCommand] = &[
     many!(LC_DYLD_ENVIRONMENT, DylinkerCommand),
     many!(LC_DATA_IN_CODE, LinkeditDataCommand),
     many!(LC_DYLIB_CODE_SIGN_DRS, LinkeditDataCommand),
+    many!(LC_ENCRYPTION_INFO_64, EncryptionInfoCommand64),
     many!(LC_LINKER_OPTIMIZATION_HINT, LinkeditDataCommand),
+    many!(LC_NOTE, NoteCommand),
     many!(LC_BUILD_VERSION, BuildVersionCommand),
     many!(LC_LOAD_WEAK_DYLIB, DylibCommand),
     many!(LC_RPATH, RpathCommand),

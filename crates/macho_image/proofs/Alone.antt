@@ -1,15 +1,15 @@
 -- A command by its own bytes, and as the image has it.
-use Rattle.std.proofs.Common.{◌≡◌, ℕ, ◌+◌, ◌-◌, ◌*◌, ◌≤◌, ◌<◌, ◌↔◌, List, length, cond, true, Option, Some, None, IsSomeAnd, slice_index, refl, sym, ap, ◌∙◌, subst, arith, lit≤, inl, inr, ⊎_elim}
+use Rattle.std.proofs.Common.{◌≡◌, ℕ, ◌+◌, ◌-◌, ◌*◌, ◌≤◌, ◌<◌, ◌↔◌, List, length, cond, true, Option, Some, None, IsSomeAnd, slice_index, refl, sym, ap, ◌∙◌, subst, arith, inl, inr, ⊎_elim}
 use Rattle.std.specs.Prelude.{nat_le}
 use Rattle.std.specs.Option.{option_map_or}
-use Rattle.std.proofs.lemmas.Bool.{cases_lt, lt-leb, false≢true}
+use Rattle.std.proofs.lemmas.Bool.{cases_lt, lt-leb}
 use Rattle.macho_fields.specs.Field.{part, HasZero}
 use Rattle.macho_fields.specs.Image.{word, command_kind, command_size, commands_end, commands_of, IsGood}
 use Rattle.macho_fields.specs.Command.{record_count, least_size, name_offset, name_start, IsShort, IsBadName, HasBadName}
 use Rattle.macho_fields.specs.LoadCommands.{structure_of, structure_size, records_of, has_name}
 use Rattle.macho_fields.specs.declared.load_command.Records.{Records}
 use Rattle.macho_fields.specs.declared.load_command.Structure.{Structure}
-use Rattle.macho_fields.specs.declared.load_command.Structure.TheVariants as structure
+use Rattle.macho_fields.proofs.LoadCommands.{name_inside}
 use Rattle.macho_fields.proofs.Options.{some_of, of_some}
 use Rattle.macho_fields.proofs.Parts.{command_good}
 use Rattle.macho_image.specs.Command.{CommandView, command_at}
@@ -18,20 +18,6 @@ use Rattle.macho_image.proofs.Names.{part_at}
 use Rattle.macho_image.proofs.ReadParts.{word_in_part, length-part}
 use Rattle.macho_image.proofs.Opening.{Kept, commands_inside, has_commands, none_short}
 use Rattle.macho_image.proofs.Passed.{IsNext, next_among}
-
--- a structure with a name has its lc_str, 4 bytes at 8
-name_inside : (s : Structure) → has_name s ≡ true → 12 ≤ structure_size s
-name_inside structure.SymtabCommand named = absurd (false≢true named)
-name_inside structure.DysymtabCommand named = absurd (false≢true named)
-name_inside structure.DylibCommand named = lit≤ tt
-name_inside structure.DylinkerCommand named = lit≤ tt
-name_inside structure.RpathCommand named = lit≤ tt
-name_inside structure.SegmentCommand64 named = absurd (false≢true named)
-name_inside structure.UuidCommand named = absurd (false≢true named)
-name_inside structure.LinkeditDataCommand named = absurd (false≢true named)
-name_inside structure.DyldInfoCommand named = absurd (false≢true named)
-name_inside structure.BuildVersionCommand named = absurd (false≢true named)
-name_inside structure.EntryPointCommand named = absurd (false≢true named)
 
 module _ (image : List ℕ) (p : ℕ) (good : IsGood image p) (inside : commands_end image ≤ length image) where
   abbrev size : ℕ

@@ -2,7 +2,7 @@ use super::*;
 use std::test::Fail;
 
 /// The listed commands by their numbers, each with the size of its structure.
-const SIZES: [(u32, u64); 26] = [
+const SIZES: [(u32, u64); 28] = [
     (0x2, 24),
     (0xb, 80),
     (0xc, 24),
@@ -19,7 +19,9 @@ const SIZES: [(u32, u64); 26] = [
     (0x27, 12),
     (0x29, 16),
     (0x2b, 16),
+    (0x2c, 24),
     (0x2e, 16),
+    (0x31, 40),
     (0x32, 24),
     (0x8000_0018, 24),
     (0x8000_001c, 12),
@@ -47,8 +49,8 @@ fn each_listed_command_has_a_structure(rt: HostRuntime) -> Result<(), Fail> {
         0x10,
         0x18,
         0x1a,
-        0x2c,
-        0x31,
+        0x21,
+        0x30,
         0x33,
         0x8000_0002,
         u32::MAX,
@@ -96,6 +98,13 @@ fn tables_of_the_structures(rt: HostRuntime) -> Result<(), Fail> {
         Structure::LinkeditDataCommand.tables(),
         linkedit_data.as_slice()
     );
+    let encryption_info = [table!(8, 12, Uint32, 1)];
+    assert_eq!(rt;
+        Structure::EncryptionInfoCommand64.tables(),
+        encryption_info.as_slice()
+    );
+    let note = [table!(24, 32, Uint64, 1)];
+    assert_eq!(rt; Structure::NoteCommand.tables(), note.as_slice());
     assert_eq!(rt; Structure::DysymtabCommand.tables().len(), 6);
     assert_eq!(rt; Structure::DyldInfoCommand.tables().len(), 5);
     assert!(rt; Structure::UuidCommand.tables().is_empty());
