@@ -12,6 +12,11 @@ use Rattle.macho_fields.specs.First.{rank, IsUnbroken}
 use Rattle.macho_fields.specs.Rules.{BreaksImage}
 use Rattle.macho_fields.specs.Layers.{KeptBelow, NothingBreaks}
 use Rattle.macho_fields.specs.declared.rule.Rule.{Rule}
+use Rattle.macho_fields.specs.declared.rule.Rule.TheVariants as rule
+use Rattle.macho_fields.specs.Image.{commands_of}
+use Rattle.macho_fields.specs.Loader.{IsSoundImage}
+use Rattle.macho_fields.proofs.Parts.{commands_of_walk}
+use Rattle.macho_fields.proofs.SoundImage.{sound_image}
 use Rattle.macho_fields.proofs.Ranks.{image_alone, commands_alone}
 use Rattle.macho_fields.proofs.Scopes.{KeptScopes, of_slice, file_first, slice_first}
 use Rattle.macho_fields.proofs.Sound.{slice_inside}
@@ -99,17 +104,14 @@ pub verified_slices : (file : List ℕ) (slices : List Slice) → IsVerified fil
 unfolding IsVerified
 verified_slices file slices keeps = keeps.all
 
--- a slice of a verified file lies in it
-pub verified_inside : (file : List ℕ) (slices : List Slice) → IsVerified file slices → (k : ℕ) (slice : FileSlice) → Some slice ≡ slice_get (slices_of file) k → slice.start + slice.size ≤ length file
-verified_inside file slices keeps k slice is =
-    slice_inside file (λ r place broken. verified_unbroken file slices keeps (record { scope = 0; rule = r; place = place }) broken) k slice (sym is)
+-- a slice of an unbroken file lies in it
+pub file_inside : (file : List ℕ) → IsUnbroken file → (k : ℕ) (slice : FileSlice) → Some slice ≡ slice_get (slices_of file) k → slice.start + slice.size ≤ length file
+file_inside file unbroken k slice is = slice_inside file (λ r place broken. unbroken (record { scope = 0; rule = r; place = place }) broken) k slice (sym is)
 
--- an image of a verified file breaks nothing
-pub verified_keeps : (file : List ℕ) (slices : List Slice) → IsVerified file slices → (k : ℕ) (slice : FileSlice) → Some slice ≡ slice_get (slices_of file) k
-    → IsImage (slice_bytes file slice) → NothingBreaks (BreaksImage (slice_bytes file slice) None)
-verified_keeps file slices keeps k slice is image r place broken =
-    verified_unbroken file slices keeps (record { scope = suc k; rule = r; place = place })
-    (of_slice file k slice r place (sym is) image (image_alone (slice_bytes file slice) slice.arch r place broken))
+-- an image of an unbroken file breaks nothing
+pub file_keeps : (file : List ℕ) → IsUnbroken file → (k : ℕ) (slice : FileSlice) → Some slice ≡ slice_get (slices_of file) k → IsImage (slice_bytes file slice) → NothingBreaks (BreaksImage (slice_bytes file slice) None)
+file_keeps file unbroken k slice is image r place broken =
+    unbroken (record { scope = suc k; rule = r; place = place }) (of_slice file k slice r place (sym is) image (image_alone (slice_bytes file slice) slice.arch r place broken))
 
 -- what a list gives at an index is the slice of the file
 pub slice_given : (file : List ℕ) (slices : List Slice) → AreSlices file slices → (k : ℕ) (got : Option (Bor Slice)) → is_some got ≡ nat_lt k (length slices)
@@ -133,3 +135,8 @@ read_given file slices are k (Some s) test found =
 pub unbroken_opened : (image : List ℕ) → NothingBreaks (BreaksImage image None) → IsOpened image
 unfolding IsOpened
 unbroken_opened image none r place early broken = none r place broken
+
+-- and sound
+pub unbroken_image_sound : (image : List ℕ) → NothingBreaks (BreaksImage image None) → IsSoundImage image (commands_of image)
+unbroken_image_sound image none =
+    sound_image image None none (commands_of image) (commands_of_walk image None (λ place broken. none rule.CommandWalk place (inl broken)))

@@ -106,9 +106,21 @@ impl<'a> Verified<'a> {
     ghost use Rattle.std.specs.Option.{option_map};
     ghost use Rattle.macho_fields.specs.Layers.{NothingBreaks};
     ghost use Rattle.macho_fields.specs.Bytes.{bytes_of};
+    ghost use Rattle.macho_fields.specs.First.{IsUnbroken};
+    ghost use Rattle.macho_fields.specs.Image.{commands_of};
+    ghost use Rattle.macho_fields.specs.Loader.{IsSound, IsSoundImage};
     ghost use Rattle.macho_fields.specs.Rules.{BreaksImage};
     ghost use Rattle.macho_fields.specs.Universal.{slices_of, slice_bytes, IsImage};
     ghost use Rattle.macho_fat.specs.Slices.{slice_of};
+
+    /// All bytes of the file. Its clauses `unbroken` and `sound` are the verdict.
+    pub fn bytes(&self) -> Bytes<'a>
+        ensures bytes { bytes_of result ≡ self.now }
+        ensures unbroken { IsUnbroken self.now }
+        ensures sound { IsSound self.now }
+    {
+        self.file
+    }
 
     /// How many slices the file has. A file that is not universal has one, which is all of it.
     pub fn slice_count(&self) -> u64
@@ -136,6 +148,7 @@ impl<'a> Verified<'a> {
         ensures image { IfSome result (λ image. IsSomeAnd (slice_get (slices_of self.now) index)
             (λ slice. image ≡ slice_bytes self.now slice)) }
         ensures unbroken { IfSome result (λ image. NothingBreaks (BreaksImage image None)) }
+        ensures sound { IfSome result (λ image. IsSoundImage image (commands_of image)) }
     {
         let bytes = self.image_bytes(index)?;
         Some(Image::reopen(bytes))
@@ -155,6 +168,6 @@ impl<'a> Verified<'a> {
         if !slice.read {
             return None;
         }
-        Some(Bytes::new(self.file.part(slice.span).unwrap()))
+        Some(Bytes::new(self.bytes().part(slice.span).unwrap()))
     }
 }

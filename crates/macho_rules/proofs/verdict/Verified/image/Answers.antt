@@ -1,8 +1,10 @@
 use Rattle.std.proofs.Common.{List, ℕ, None, sym, subst}
 use Rattle.macho_fields.specs.Bytes.{bytes_of}
+use Rattle.macho_fields.specs.Image.{commands_of}
 use Rattle.macho_fields.specs.Layers.{NothingBreaks}
+use Rattle.macho_fields.specs.Loader.{IsSoundImage}
 use Rattle.macho_fields.specs.Rules.{BreaksImage}
-use Rattle.macho_rules.proofs.Verdicts.{unbroken_opened}
+use Rattle.macho_rules.proofs.Verdicts.{unbroken_opened, unbroken_image_sound}
 use Rattle.macho_rules.proofs.verdict.Verified.image.Goals as goal
 
 pub reopen-requires : goal.reopen-requires
@@ -10,3 +12,7 @@ reopen-requires c = unbroken_opened (bytes_of c.in_ok-bytes.bytes) c.in_ok-bytes
 
 pub returns-clause-unbroken : goal.returns-clause-unbroken
 returns-clause-unbroken c = subst (λ (image : List ℕ). NothingBreaks (BreaksImage image None)) (sym c.reopen.ensures) c.in_ok-bytes.ensures.unbroken
+
+pub returns-clause-sound : goal.returns-clause-sound
+returns-clause-sound c =
+    subst (λ (image : List ℕ). IsSoundImage image (commands_of image)) (sym c.reopen.ensures) (unbroken_image_sound (bytes_of c.in_ok-bytes.bytes) c.in_ok-bytes.ensures.unbroken)
