@@ -109,7 +109,8 @@ pub file_inside : (file : List ℕ) → IsUnbroken file → (k : ℕ) (slice : F
 file_inside file unbroken k slice is = slice_inside file (λ r place broken. unbroken (record { scope = 0; rule = r; place = place }) broken) k slice (sym is)
 
 -- an image of an unbroken file breaks nothing
-pub file_keeps : (file : List ℕ) → IsUnbroken file → (k : ℕ) (slice : FileSlice) → Some slice ≡ slice_get (slices_of file) k → IsImage (slice_bytes file slice) → NothingBreaks (BreaksImage (slice_bytes file slice) None)
+pub file_keeps : (file : List ℕ) → IsUnbroken file → (k : ℕ) (slice : FileSlice) → Some slice ≡ slice_get (slices_of file) k → IsImage (slice_bytes file slice)
+    → NothingBreaks (BreaksImage (slice_bytes file slice) None)
 file_keeps file unbroken k slice is image r place broken =
     unbroken (record { scope = suc k; rule = r; place = place }) (of_slice file k slice r place (sym is) image (image_alone (slice_bytes file slice) slice.arch r place broken))
 

@@ -1,0 +1,203 @@
+-- What the parts of an accepted image keep.
+use Rattle.std.proofs.Common.{◌≡◌, ◌≢◌, ℕ, zero, suc, ◌+◌, ◌-◌, ◌*◌, ◌≤◌, ◌<◌, List, [], ◌∷◌, map, length, All, Contains, Option, Some, None, IfSome, IsSomeAnd, Bool, true, false, nat_le, slice_get, slice_index_or, if◌then◌else◌, refl, sym, ap, ◌∙◌, subst, arith, inr}
+use Rattle.std.proofs.lemmas.List.Elements.{All-map, All-tail, All-contains_itself}
+use Rattle.std.proofs.lemmas.Option.{none-some, same_Some}
+use Rattle.std.specs.List.{range_with_len}
+use Rattle.std.specs.Option.{option_map_or}
+use Rattle.macho_fields.specs.Field.{Covers, HasZero, part, string_from}
+use Rattle.macho_fields.specs.Image.{commands_of, of_kind}
+use Rattle.macho_fields.specs.Layers.{NothingBreaks}
+use Rattle.macho_fields.specs.Loader.{IsSoundImage}
+use Rattle.macho_fields.specs.Loader.Reads.{in_segment, in_section}
+use Rattle.macho_fields.specs.Rules.{BreaksImage}
+use Rattle.macho_fields.specs.Segment.{segments_of, sections_in, fileoff, filesize, section_offset, section_size, is_zero_fill}
+use Rattle.macho_fields.specs.Symbol.{symoff, nsyms, stroff, strsize, n_strx}
+use Rattle.macho_fields.specs.declared.header.loader.TheConstants as loader
+use Rattle.macho_fields.specs.declared.span.Span.{Span}
+use Rattle.macho_image.specs.Command.{first_of_kind}
+use Rattle.macho_image.specs.Symbol.{symbols_of, symbol_at, items_inside, IsNameAt}
+use Rattle.macho_image.specs.declared.symbol.Symbol.{Symbol}
+use Rattle.macho_image.specs.Segment.{SegmentView, segment_at, SectionView, section_at, sections_with}
+use Rattle.macho_verified.specs.Accepted.{IsUnbrokenImage, IsAccepted, HoldsSegment, HoldsSection, HoldsSymbol, strings, symbol_view}
+
+pub accepted : (image : List ℕ) → NothingBreaks (BreaksImage image None) → IsSoundImage image (commands_of image) → IsAccepted image
+unfolding IsAccepted
+accepted image unbroken sound = record { unbroken = unbroken; sound = sound }
+
+pub accepted_unbroken : (image : List ℕ) → IsAccepted image → NothingBreaks (BreaksImage image None)
+unfolding IsAccepted
+accepted_unbroken image keeps = keeps.unbroken
+
+pub accepted_sound : (image : List ℕ) → IsAccepted image → IsSoundImage image (commands_of image)
+unfolding IsAccepted
+accepted_sound image keeps = keeps.sound
+
+-- what holds of all that remain holds of all but the first
+pub rest_has : {X : Type 0} (P : X → Type 0) (old rest : List X) (x : X) → old ≡ x ∷ rest → All P old → All P rest
+rest_has P old rest x is all = All-tail P x rest (subst (All P) is all)
+
+-- a range, by its fields
+covers_as : (start len a b place : ℕ) → start ≡ a → len ≡ b → Covers start len place → Covers a b place
+covers_as start len a b place starts is (low, high) = (omega (arith, starts, low), omega (arith, starts, is, high))
+
+-- a range of places that are all inside ends inside, where it has a place
+pub range_inside : (n start len : ℕ) → 0 < len → ((place : ℕ) → Covers start len place → place < n) → start + len ≤ n
+range_inside n start len some inside = let last = inside (start + (len - 1)) (omega (arith, some), omega (arith, some)) in omega (arith, some, last)
+
+pub segments_hold : (image : List ℕ) → IsAccepted image → All (HoldsSegment image) (map (segment_at image) (segments_of image (commands_of image)))
+unfolding IsAccepted HoldsSegment
+segments_hold image keeps =
+    All-map (HoldsSegment image) (segment_at image) (segments_of image (commands_of image))
+    (λ k d less. (refl, keeps, All-contains_itself (segments_of image (commands_of image)) k d less))
+
+-- the bytes of a segment that has any lie in the image
+pub segment_fits : (image : List ℕ) (view : SegmentView) → HoldsSegment image view → (start len : ℕ) → start ≡ fileoff view.image view.place → len ≡ filesize view.image view.place → ¬ (len ≡ 0)
+    → start + len ≤ length image
+unfolding HoldsSegment
+segment_fits image view (same, keeps, (k, less, at)) start len starts is some =
+    range_inside (length image) start len (omega (arith, some))
+    (λ place covers. keeps.sound.reads place (in_segment (
+      k,
+      view.place,
+      less,
+      at,
+      subst (λ bytes. Covers (fileoff bytes view.place) (filesize bytes view.place) place) (sym same)
+          (covers_as start len (fileoff view.image view.place) (filesize view.image view.place) place starts is covers),
+    )))
+
+pub segment_image : (image : List ℕ) (view : SegmentView) → HoldsSegment image view → image ≡ view.image
+unfolding HoldsSegment
+segment_image image view keeps = keeps.0
+
+-- what holds of an answer holds as another thing
+pub some_for : {T : Type 0} (P Q : T → Type 0) (answer : Option T) → ((x : T) → P x → Q x) → IfSome answer P → IfSome answer Q
+some_for P Q None to holds = tt
+some_for P Q (Some x) to holds = to x holds
+
+-- what is read at a place is the part there
+pub part_is : (bytes image other : List ℕ) (start len a b : ℕ) → image ≡ other → start ≡ a → len ≡ b → bytes ≡ part start len image → bytes ≡ part a b other
+part_is bytes image other start len a b same starts is found =
+    found ∙ (ap (λ start. part start len image) starts ∙ (ap (λ len. part a len image) is ∙ ap (part a b) same))
+
+-- the sections of a segment
+pub sections_hold : (image : List ℕ) (view : SegmentView) → HoldsSegment image view → All (HoldsSection image) (map (section_at view.image) (sections_with view.image view.place))
+unfolding HoldsSegment HoldsSection
+sections_hold image view (same, keeps, has) =
+    All-map (HoldsSection image) (section_at view.image) (sections_with view.image view.place)
+    (All-map (λ places. HoldsSection image (section_at view.image places)) (λ section. (view.place, section)) (sections_in view.image view.place)
+    (λ k d less. (
+      same,
+      keeps,
+      has,
+      subst (λ bytes. Contains (sections_in bytes view.place) (slice_index_or (sections_in view.image view.place) k d)) (sym same)
+          (All-contains_itself (sections_in view.image view.place) k d less),
+    )))
+
+pub section_image : (image : List ℕ) (view : SectionView) → HoldsSection image view → image ≡ view.image
+unfolding HoldsSection
+section_image image view keeps = keeps.0
+
+-- the bytes of a section that has any lie in the image, where it is not zero-fill
+pub section_fits : (image : List ℕ) (view : SectionView) → HoldsSection image view → (start len : ℕ) → start ≡ section_offset view.image view.place → len ≡ section_size view.image view.place
+    → is_zero_fill view.image view.place ≡ false → ¬ (len ≡ 0)
+    → start + len ≤ length image
+unfolding HoldsSection
+section_fits image view (same, keeps, (k, less, at), (j, fewer, there)) start len starts is plain some =
+    range_inside (length image) start len (omega (arith, some))
+    (λ place covers. keeps.sound.reads place (in_section (
+      k,
+      view.segment,
+      less,
+      at,
+      (
+        j,
+        view.place,
+        fewer,
+        there,
+        (
+          subst (λ bytes. is_zero_fill bytes view.place ≡ false) (sym same) plain,
+          subst (λ bytes. Covers (section_offset bytes view.place) (section_size bytes view.place) place) (sym same)
+              (covers_as start len (section_offset view.image view.place) (section_size view.image view.place) place starts is covers),
+        ),
+      ),
+    )))
+
+-- Symbols
+
+got_first : {X : Type 0} (xs : List X) (x : X) → slice_get xs 0 ≡ Some x → Contains xs x
+got_first [] x is = absurd (none-some x is)
+got_first (y ∷ ys) x is = (0, omega arith, same_Some y x is)
+
+numbers_all : (P : ℕ → Type 0) (a n : ℕ) → ((k : ℕ) → k < a + n → P k) → All P (range_with_len a n)
+numbers_all P a zero holds k d less = absurd (omega arith)
+numbers_all P a (suc n) holds zero d less = holds a (omega arith)
+numbers_all P a (suc n) holds (suc k) d less = numbers_all P (a + 1) n (λ j few. holds j (omega arith)) k d (omega arith)
+
+all_if : {X : Type 0} (P : X → Type 0) (b : Bool) (xs : List X) → All P xs → All P (if b then xs else [])
+all_if P true xs all = all
+all_if P false xs all = λ k d less. absurd (omega arith)
+
+-- the strings of a symtab_command, where there is one
+abbrev strings_from : List ℕ → Option ℕ → Span
+strings_from image first =
+    option_map_or (λ symtab. record { start = stroff image symtab; len = strsize image symtab }) first (record { start = 0; len = 0 })
+
+-- the strings of the one LC_SYMTAB
+strings_are : (image : List ℕ) (t : ℕ) → first_of_kind image loader.LC_SYMTAB (commands_of image) ≡ Some t → strings image ≡ record { start = stroff image t; len = strsize image t }
+strings_are image t is = ap (strings_from image) is
+
+module _ (image : List ℕ) (keeps : IsUnbrokenImage image) where
+  item_holds : (t k : ℕ) → first_of_kind image loader.LC_SYMTAB (commands_of image) ≡ Some t → k < nsyms image t → HoldsSymbol image (strings image) (symbol_at image (symoff image t + 16 * k))
+  unfolding HoldsSymbol
+  item_holds t k is few = (refl, refl, ended)
+    where
+      ended : n_strx image (symoff image t + 16 * k) ≢ 0 → HasZero image ((strings image).start + n_strx image (symoff image t + 16 * k)) ((strings image).start + (strings image).len)
+      ended some =
+          let (j, less, at) = got_first (of_kind image loader.LC_SYMTAB (commands_of image)) t is in
+          subst (λ (among : Span). HasZero image (among.start + n_strx image (symoff image t + 16 * k)) (among.start + among.len)) (sym (strings_are image t is))
+          (keeps.sound.names (stroff image t + n_strx image (symoff image t + 16 * k)) (stroff image t + strsize image t) (inr (j, t, less, at, (k, few, (some, refl, refl)))))
+
+  items_hold : (first : Option ℕ) → first_of_kind image loader.LC_SYMTAB (commands_of image) ≡ first
+      → All (λ p. HoldsSymbol image (strings image) (symbol_at image p)) (option_map_or (λ t. items_inside image (symoff image t) 16 (nsyms image t)) first [])
+  items_hold None is = λ k d less. absurd (omega arith)
+  items_hold (Some t) is =
+      all_if (λ p. HoldsSymbol image (strings image) (symbol_at image p)) (nat_le (symoff image t + 16 * nsyms image t) (length image))
+      (map (λ k. symoff image t + 16 * k) (range_with_len 0 (nsyms image t)))
+      (All-map (λ p. HoldsSymbol image (strings image) (symbol_at image p)) (λ k. symoff image t + 16 * k) (range_with_len 0 (nsyms image t))
+      (numbers_all (λ k. HoldsSymbol image (strings image) (symbol_at image (symoff image t + 16 * k))) 0 (nsyms image t) (λ k few. item_holds t k is (omega (arith, few)))))
+
+pub symbols_hold : (image : List ℕ) → IsAccepted image → All (HoldsSymbol image (strings image)) (map (symbol_at image) (symbols_of image (commands_of image)))
+unfolding IsAccepted
+symbols_hold image keeps =
+    All-map (HoldsSymbol image (strings image)) (symbol_at image) (symbols_of image (commands_of image)) (items_hold image keeps (first_of_kind image loader.LC_SYMTAB (commands_of image)) refl)
+
+-- the views of symbols that were read at places
+pub views_of : (image : List ℕ) (places : List ℕ) → map (λ (symbol : Symbol). symbol_view image symbol.place) (map (symbol_at image) places) ≡ map (symbol_view image) places
+views_of image [] = refl
+views_of image (p ∷ places) = ap (λ vs. symbol_view image p ∷ vs) (views_of image places)
+
+-- of a symbol: what was read of it
+pub symbol_read : (image : List ℕ) (among : Span) (symbol : Symbol) → HoldsSymbol image among symbol → symbol ≡ symbol_at image symbol.place
+unfolding HoldsSymbol
+symbol_read image among symbol keeps = keeps.0
+
+pub strx_read : (image : List ℕ) (among : Span) (symbol : Symbol) → HoldsSymbol image among symbol → symbol.strx ≡ n_strx image symbol.place
+strx_read image among symbol keeps = ap (λ (s : Symbol). s.strx) (symbol_read image among symbol keeps)
+
+-- and that its name ends
+pub name_ends : (image : List ℕ) (among : Span) (symbol : Symbol) → HoldsSymbol image among symbol → symbol.strx ≢ 0 → HasZero image (among.start + symbol.strx) (among.start + among.len)
+unfolding HoldsSymbol
+name_ends image among symbol keeps = keeps.2
+
+-- among the strings of LC_SYMTAB
+pub name_is : (image : List ℕ) (among : Span) (symbol : Symbol) (name : List ℕ) → HoldsSymbol image among symbol → symbol.strx ≢ 0 → name ≡ string_from (among.start + symbol.strx) image
+    → IsNameAt image (commands_of image) symbol.strx name
+unfolding HoldsSymbol
+name_is image among symbol name (read, same, ends) some found = of_first (first_of_kind image loader.LC_SYMTAB (commands_of image)) refl
+  where
+    of_first : (first : Option ℕ) → first_of_kind image loader.LC_SYMTAB (commands_of image) ≡ first → IsSomeAnd first (λ t. name ≡ string_from (stroff image t + symbol.strx) image)
+    of_first None is =
+        let none : among ≡ record { start = 0; len = 0 } = same ∙ ap (strings_from image) is in
+        let (z, low, high, inside, is_zero) = subst (λ (a : Span). HasZero image (a.start + symbol.strx) (a.start + a.len)) none (ends some) in
+        absurd (omega (arith, high))
+    of_first (Some t) is = subst (λ (a : Span). name ≡ string_from (a.start + symbol.strx) image) (same ∙ strings_are image t is) found

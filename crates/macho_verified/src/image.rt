@@ -1,0 +1,83 @@
+//! An image of an accepted file.
+
+use crate::segment::VerifiedSegments;
+use crate::symbol::{VerifiedSymbols, strings_of};
+use macho_image::Image;
+use macho_rules::Verified;
+use std::marker::Model;
+
+/// An image that breaks no rule. Only a verdict gives one.
+#[derive(Drop)]
+pub struct VerifiedImage<'a> {
+    image: Image<'a>,
+}
+
+impl<'a> Model for VerifiedImage<'a> {
+    ghost use Rattle.std.specs.Prelude.{List, ℕ};
+    ghost use Rattle.macho_verified.specs.Accepted.{IsAccepted};
+
+    ghost Value = { List ℕ };
+
+    ghost view = { λ verified. verified.image };
+
+    ghost invariant = { λ verified. IsAccepted verified.image };
+}
+
+impl<'a> VerifiedImage<'a> {
+    ghost use Rattle.std.specs.Prelude.{◌≡◌, ◌↔◌, None, map, slice_get, IsSome, IfSome, IsSomeAnd};
+    ghost use Rattle.macho_fields.specs.Image.{commands_of};
+    ghost use Rattle.macho_fields.specs.Layers.{NothingBreaks};
+    ghost use Rattle.macho_fields.specs.Loader.{IsSoundImage};
+    ghost use Rattle.macho_fields.specs.Rules.{BreaksImage};
+    ghost use Rattle.macho_fields.specs.Segment.{segments_of};
+    ghost use Rattle.macho_fields.specs.Universal.{slices_of, slice_bytes, IsImage};
+    ghost use Rattle.macho_image.specs.Segment.{segment_at};
+    ghost use Rattle.macho_image.specs.Symbol.{symbols_of};
+    ghost use Rattle.macho_verified.specs.Accepted.{symbol_view};
+
+    /// The image in the slice with this index, or `None` where the slice is of another kind, or
+    /// there is none. It goes over the commands of the image once more, and judges nothing.
+    pub fn of(verified: &Verified<'a>, index: u64) -> Option<VerifiedImage<'a>>
+        ensures is_image { IsSome result ↔ IsSomeAnd (slice_get (slices_of verified.now) index)
+            (λ slice. IsImage (slice_bytes verified.now slice)) }
+        ensures image { IfSome result (λ image.
+            IsSomeAnd (slice_get (slices_of verified.now) index)
+            (λ slice. image ≡ slice_bytes verified.now slice)) }
+    {
+        let image = verified.image(index)?;
+        Some(VerifiedImage { image })
+    }
+
+    /// The image, with all its views. Its clauses `unbroken` and `sound` are the verdict.
+    pub fn image(&self) -> &Image<'a>
+        ensures image { result.now ≡ self.now }
+        ensures unbroken { NothingBreaks (BreaksImage self.now None) }
+        ensures sound { IsSoundImage self.now (commands_of self.now) }
+    {
+        &self.image
+    }
+
+    /// The segments, one for each `LC_SEGMENT_64`, in the order of the commands.
+    pub fn segments(&self) -> VerifiedSegments<'a>
+        ensures { result ≡ map (segment_at self.now)
+            (segments_of self.now (commands_of self.now)) }
+    {
+        VerifiedSegments {
+            image: self.image.bytes(),
+            segments: self.image.segments(),
+        }
+    }
+
+    /// The symbols of `LC_SYMTAB`, in the order of the table. None where the image has no
+    /// `LC_SYMTAB`.
+    pub fn symbols(&self) -> VerifiedSymbols<'a>
+        ensures { result ≡ map (symbol_view self.now)
+            (symbols_of self.now (commands_of self.now)) }
+    {
+        VerifiedSymbols {
+            image: self.image.bytes(),
+            strings: strings_of(&self.image),
+            symbols: self.image.symbols(),
+        }
+    }
+}

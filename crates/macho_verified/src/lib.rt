@@ -1,0 +1,13 @@
+#![tactic(auto)]
+//! The images of an accepted file, and reads of them that cannot fail: what an accepted image names
+//! is there, so no caller tests it again.
+
+pub mod image;
+pub mod section;
+pub mod segment;
+pub mod symbol;
+
+pub use image::VerifiedImage;
+pub use section::{VerifiedSection, VerifiedSections};
+pub use segment::{VerifiedSegment, VerifiedSegments};
+pub use symbol::{VerifiedSymbol, VerifiedSymbols};

@@ -1,0 +1,97 @@
+//! The sections of an accepted image, with their bytes. (`mach-o/loader.h`: `section_64`)
+
+use macho_fields::{Bytes, Span};
+use macho_image::{Section, Sections};
+use std::marker::Model;
+
+/// A section of an accepted image.
+#[derive(Drop)]
+pub struct VerifiedSection<'a> {
+    image: Bytes<'a>,
+    section: Section<'a>,
+}
+
+impl<'a> Model for VerifiedSection<'a> {
+    ghost use Rattle.macho_fields.specs.Bytes.{bytes_of};
+    ghost use Rattle.macho_image.specs.Segment.{SectionView};
+    ghost use Rattle.macho_verified.specs.Accepted.{HoldsSection};
+
+    ghost Value = { SectionView };
+
+    ghost view = { λ verified. verified.section };
+
+    ghost invariant = { λ verified. HoldsSection (bytes_of verified.image) verified.section };
+}
+
+impl<'a> VerifiedSection<'a> {
+    ghost use Rattle.std.specs.Prelude.{◌≡◌, ◌↔◌, false, IsSome, IfSome};
+    ghost use Rattle.macho_fields.specs.Field.{part};
+    ghost use Rattle.macho_fields.specs.Segment.{section_offset, section_size, is_zero_fill};
+
+    /// The section, with the fields of its `section_64`.
+    pub fn section(&self) -> &Section<'a>
+        ensures { result.now ≡ self.now }
+    {
+        &self.section
+    }
+
+    /// Its bytes, borrowed from the image: the `size` bytes from `offset` on. `None` where it is
+    /// zero-fill, and only there.
+    pub fn bytes(&self) -> Option<&'a [u8]>
+        ensures in_file { IsSome result ↔ (is_zero_fill self.now.image self.now.place ≡ false) }
+        ensures bytes { IfSome result (λ bytes.
+            bytes.now ≡ part (section_offset self.now.image self.now.place)
+            (section_size self.now.image self.now.place) self.now.image) }
+    {
+        if self.section.is_zero_fill() {
+            return None;
+        }
+        let span = Span {
+            start: self.section.offset(),
+            len: self.section.size(),
+        };
+        if span.len == 0 {
+            return Some(&[]);
+        }
+        self.image.part(span)
+    }
+}
+
+/// The sections of a segment of an accepted image that remain, in the order of the file.
+#[derive(Drop)]
+pub struct VerifiedSections<'a> {
+    pub(crate) image: Bytes<'a>,
+    pub(crate) sections: Sections<'a>,
+}
+
+impl<'a> Model for VerifiedSections<'a> {
+    ghost use Rattle.std.specs.Prelude.{List, All};
+    ghost use Rattle.macho_fields.specs.Bytes.{bytes_of};
+    ghost use Rattle.macho_image.specs.Segment.{SectionView};
+    ghost use Rattle.macho_verified.specs.Accepted.{HoldsSection};
+
+    ghost Value = { List SectionView };
+
+    ghost view = { λ verified. verified.sections };
+
+    ghost invariant = { λ verified.
+        All (HoldsSection (bytes_of verified.image)) verified.sections };
+}
+
+impl<'a> Iterator for VerifiedSections<'a> {
+    ghost use Rattle.std.specs.Iterator.{YieldsFirst, item_count};
+
+    type Item = VerifiedSection<'a>;
+
+    ghost next_gives = { YieldsFirst (λ left. left) };
+
+    ghost remaining = { item_count (λ left. left) };
+
+    fn next(&mut self) -> Option<VerifiedSection<'a>> {
+        let section = self.sections.next()?;
+        Some(VerifiedSection {
+            image: self.image,
+            section,
+        })
+    }
+}

@@ -1,0 +1,104 @@
+//! The segments of an accepted image, with their bytes. (`mach-o/loader.h`: `segment_command_64`)
+
+use crate::section::VerifiedSections;
+use macho_fields::{Bytes, Span};
+use macho_image::{Segment, Segments};
+use std::marker::Model;
+
+/// A segment of an accepted image.
+#[derive(Drop)]
+pub struct VerifiedSegment<'a> {
+    image: Bytes<'a>,
+    segment: Segment<'a>,
+}
+
+impl<'a> Model for VerifiedSegment<'a> {
+    ghost use Rattle.macho_fields.specs.Bytes.{bytes_of};
+    ghost use Rattle.macho_image.specs.Segment.{SegmentView};
+    ghost use Rattle.macho_verified.specs.Accepted.{HoldsSegment};
+
+    ghost Value = { SegmentView };
+
+    ghost view = { λ verified. verified.segment };
+
+    ghost invariant = { λ verified. HoldsSegment (bytes_of verified.image) verified.segment };
+}
+
+impl<'a> VerifiedSegment<'a> {
+    ghost use Rattle.std.specs.Prelude.{◌≡◌, map};
+    ghost use Rattle.macho_fields.specs.Field.{part};
+    ghost use Rattle.macho_fields.specs.Segment.{fileoff, filesize};
+    ghost use Rattle.macho_image.specs.Segment.{section_at, sections_with};
+
+    /// The segment, with the fields of its command.
+    pub fn segment(&self) -> &Segment<'a>
+        ensures { result.now ≡ self.now }
+    {
+        &self.segment
+    }
+
+    /// Its bytes, borrowed from the image: the `filesize` bytes from `fileoff` on.
+    pub fn bytes(&self) -> &'a [u8]
+        ensures { result.now ≡ part (fileoff self.now.image self.now.place)
+            (filesize self.now.image self.now.place) self.now.image }
+    {
+        let span = Span {
+            start: self.segment.fileoff(),
+            len: self.segment.filesize(),
+        };
+        if span.len == 0 {
+            return &[];
+        }
+        self.image.part(span).unwrap()
+    }
+
+    /// Its sections, in the order of the file.
+    pub fn sections(&self) -> VerifiedSections<'a>
+        ensures { result ≡ map (section_at self.now.image)
+            (sections_with self.now.image self.now.place) }
+    {
+        VerifiedSections {
+            image: self.image,
+            sections: self.segment.sections(),
+        }
+    }
+}
+
+/// The segments of an accepted image that remain, in the order of the commands.
+#[derive(Drop)]
+pub struct VerifiedSegments<'a> {
+    pub(crate) image: Bytes<'a>,
+    pub(crate) segments: Segments<'a>,
+}
+
+impl<'a> Model for VerifiedSegments<'a> {
+    ghost use Rattle.std.specs.Prelude.{List, All};
+    ghost use Rattle.macho_fields.specs.Bytes.{bytes_of};
+    ghost use Rattle.macho_image.specs.Segment.{SegmentView};
+    ghost use Rattle.macho_verified.specs.Accepted.{HoldsSegment};
+
+    ghost Value = { List SegmentView };
+
+    ghost view = { λ verified. verified.segments };
+
+    ghost invariant = { λ verified.
+        All (HoldsSegment (bytes_of verified.image)) verified.segments };
+}
+
+impl<'a> Iterator for VerifiedSegments<'a> {
+    ghost use Rattle.std.specs.Iterator.{YieldsFirst, item_count};
+
+    type Item = VerifiedSegment<'a>;
+
+    ghost next_gives = { YieldsFirst (λ left. left) };
+
+    ghost remaining = { item_count (λ left. left) };
+
+    fn next(&mut self) -> Option<VerifiedSegment<'a>> {
+        let segment = self.segments.next()?;
+        Some(VerifiedSegment {
+            image: self.image,
+            segment,
+        })
+    }
+}
