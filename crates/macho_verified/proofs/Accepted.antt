@@ -1,6 +1,7 @@
 -- What the parts of an accepted image keep.
-use Rattle.std.proofs.Common.{◌≡◌, ◌≢◌, ℕ, zero, suc, ◌+◌, ◌-◌, ◌*◌, ◌≤◌, ◌<◌, List, [], ◌∷◌, map, length, All, Contains, Option, Some, None, IfSome, IsSomeAnd, Bool, true, false, nat_le, slice_get, slice_index_or, if◌then◌else◌, refl, sym, ap, ◌∙◌, subst, arith, inr}
+use Rattle.std.proofs.Common.{◌≡◌, ◌≢◌, ℕ, zero, suc, ◌+◌, ◌-◌, ◌*◌, ◌≤◌, ◌<◌, List, [], ◌∷◌, map, length, All, Contains, Option, Some, None, IsSome, IfSome, IsSomeAnd, Bool, true, false, nat_le, slice_get, slice_index_or, take, drop, length-drop, if◌then◌else◌, ◌↔◌, refl, sym, ap, ◌∙◌, subst, arith, inr, le_refl}
 use Rattle.std.proofs.lemmas.List.Elements.{All-map, All-tail, All-contains_itself}
+use Rattle.std.proofs.lemmas.List.{drop-take, drop-drop, length-take-le}
 use Rattle.std.proofs.lemmas.Option.{none-some, same_Some}
 use Rattle.std.specs.List.{range_with_len}
 use Rattle.std.specs.Option.{option_map_or}
@@ -18,6 +19,7 @@ use Rattle.macho_image.specs.Command.{first_of_kind}
 use Rattle.macho_image.specs.Symbol.{symbols_of, symbol_at, items_inside, IsNameAt}
 use Rattle.macho_image.specs.declared.symbol.Symbol.{Symbol}
 use Rattle.macho_image.specs.Segment.{SegmentView, segment_at, SectionView, section_at, sections_with}
+use Rattle.macho_rules.proofs.Searches.{Rising}
 use Rattle.macho_verified.specs.Accepted.{IsUnbrokenImage, IsAccepted, HoldsSegment, HoldsSection, HoldsSymbol, strings, symbol_view}
 
 pub accepted : (image : List ℕ) → NothingBreaks (BreaksImage image None) → IsSoundImage image (commands_of image) → IsAccepted image
@@ -73,6 +75,11 @@ segment_image image view keeps = keeps.0
 pub some_for : {T : Type 0} (P Q : T → Type 0) (answer : Option T) → ((x : T) → P x → Q x) → IfSome answer P → IfSome answer Q
 some_for P Q None to holds = tt
 some_for P Q (Some x) to holds = to x holds
+
+-- where an answer is given, with what that says
+pub some_given : {T : Type 0} (P Q : T → Type 0) (R : Type 0) (answer : Option T) → (IsSome answer → R) → (R → (x : T) → P x → Q x) → IfSome answer P → IfSome answer Q
+some_given P Q R None given to holds = tt
+some_given P Q R (Some x) given to holds = to (given refl) x holds
 
 -- what is read at a place is the part there
 pub part_is : (bytes image other : List ℕ) (start len a b : ℕ) → image ≡ other → start ≡ a → len ≡ b → bytes ≡ part start len image → bytes ≡ part a b other
@@ -201,3 +208,35 @@ name_is image among symbol name (read, same, ends) some found = of_first (first_
         let (z, low, high, inside, is_zero) = subst (λ (a : Span). HasZero image (a.start + symbol.strx) (a.start + a.len)) none (ends some) in
         absurd (omega (arith, high))
     of_first (Some t) is = subst (λ (a : Span). name ≡ string_from (a.start + symbol.strx) image) (same ∙ strings_are image t is) found
+
+-- Parts of parts
+
+take_take : (l n : ℕ) (xs : List ℕ) → l ≤ n → take l (take n xs) ≡ take l xs
+take_take zero n xs few = refl
+take_take (suc l) zero xs few = absurd (omega arith)
+take_take (suc l) (suc n) [] few = refl
+take_take (suc l) (suc n) (x ∷ xs) few = ap (λ ys. x ∷ ys) (take_take l n xs (omega arith))
+
+-- a part of a part is a part of the whole
+pub part_part : (start len past few : ℕ) (xs : List ℕ) → past + few ≤ len → part past few (part start len xs) ≡ part (start + past) few xs
+part_part start len past few xs fits =
+    let whole : len ≡ past + (len - past) = omega arith in
+    ap (λ n. take few (drop past (take n (drop start xs)))) whole
+    ∙ (ap (take few) (drop-take past (len - past) (drop start xs) ∙ ap (take (len - past)) (drop-drop past start xs)) ∙ take_take few (len - past) (drop (start + past) xs) (omega arith))
+
+pub length_part : (start len : ℕ) (xs : List ℕ) → start + len ≤ length xs → length (part start len xs) ≡ len
+length_part start len xs within = length-take-le len (drop start xs) (let rest : length (drop start xs) ≡ length xs - start = length-drop start xs in omega arith)
+
+-- so many bytes from an offset on are those at so many addresses
+pub fits_in : (size vmsize low vmaddr long filesize start address len : ℕ) → size ≡ vmsize → ¬ (size ≡ 0) → low ≡ vmaddr → low ≤ address → start ≡ address - low → long ≡ filesize
+    → (start + len ≤ long) ↔ ((0 < vmsize) × (vmaddr ≤ address) × (address + len ≤ vmaddr + filesize))
+fits_in size vmsize low vmaddr long filesize start address len is some at below from whole = (
+  λ fits. (omega (arith, is, some), omega (arith, at, below), omega (arith, at, below, from, whole, fits)),
+  λ (mapped, least, most). omega (arith, at, below, from, whole, most),
+)
+
+-- A search whose order does not matter
+
+pub all_level : {X : Type 0} (xs : List X) → Rising (λ (x : X). 0) xs
+all_level [] = tt
+all_level (x ∷ xs) = (λ y has. le_refl 0, all_level xs)

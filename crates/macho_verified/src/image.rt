@@ -24,7 +24,7 @@ impl<'a> Model for VerifiedImage<'a> {
 }
 
 impl<'a> VerifiedImage<'a> {
-    ghost use Rattle.std.specs.Prelude.{◌≡◌, ◌↔◌, None, map, slice_get, IsSome, IfSome, IsSomeAnd};
+    ghost use Rattle.std.specs.Prelude.{◌≡◌, ◌↔◌, None, map, slice_get, Any, IsSome, IfSome, IsSomeAnd};
     ghost use Rattle.macho_fields.specs.Image.{commands_of};
     ghost use Rattle.macho_fields.specs.Layers.{NothingBreaks};
     ghost use Rattle.macho_fields.specs.Loader.{IsSoundImage};
@@ -33,7 +33,7 @@ impl<'a> VerifiedImage<'a> {
     ghost use Rattle.macho_fields.specs.Universal.{slices_of, slice_bytes, IsImage};
     ghost use Rattle.macho_image.specs.Segment.{segment_at};
     ghost use Rattle.macho_image.specs.Symbol.{symbols_of};
-    ghost use Rattle.macho_verified.specs.Accepted.{symbol_view};
+    ghost use Rattle.macho_verified.specs.Accepted.{symbol_view, HasBytesAt, bytes_from};
 
     /// The image in the slice with this index, or `None` where the slice is of another kind, or
     /// there is none. It goes over the commands of the image once more, and judges nothing.
@@ -66,6 +66,24 @@ impl<'a> VerifiedImage<'a> {
             image: self.image.bytes(),
             segments: self.image.segments(),
         }
+    }
+
+    /// The bytes at `len` addresses from `address` on, borrowed from the image. `None` where no one
+    /// mapped segment has bytes of the file for all of them.
+    pub fn bytes_at(&self, address: u64, len: u64) -> Option<&'a [u8]>
+        ensures held { IsSome result ↔ Any (HasBytesAt self.now address len)
+            (segments_of self.now (commands_of self.now)) }
+        ensures bytes { IfSome result (λ bytes. Any
+            (λ segment. HasBytesAt self.now address len segment
+            × (bytes.now ≡ bytes_from self.now address len segment))
+            (segments_of self.now (commands_of self.now))) }
+    {
+        for segment in self.segments() {
+            if let Some(bytes) = segment.bytes_at(address, len) {
+                return Some(bytes);
+            }
+        }
+        None
     }
 
     /// The symbols of `LC_SYMTAB`, in the order of the table. None where the image has no

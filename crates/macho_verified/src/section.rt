@@ -24,7 +24,7 @@ impl<'a> Model for VerifiedSection<'a> {
 }
 
 impl<'a> VerifiedSection<'a> {
-    ghost use Rattle.std.specs.Prelude.{◌≡◌, ◌↔◌, false, IsSome, IfSome};
+    ghost use Rattle.std.specs.Prelude.{◌≡◌, ◌↔◌, false, length, IsSome, IfSome};
     ghost use Rattle.macho_fields.specs.Field.{part};
     ghost use Rattle.macho_fields.specs.Segment.{section_offset, section_size, is_zero_fill};
 
@@ -42,6 +42,8 @@ impl<'a> VerifiedSection<'a> {
         ensures bytes { IfSome result (λ bytes.
             bytes.now ≡ part (section_offset self.now.image self.now.place)
             (section_size self.now.image self.now.place) self.now.image) }
+        ensures whole { IfSome result (λ bytes.
+            length bytes.now ≡ section_size self.now.image self.now.place) }
     {
         if self.section.is_zero_fill() {
             return None;

@@ -25,10 +25,11 @@ impl<'a> Model for VerifiedSegment<'a> {
 }
 
 impl<'a> VerifiedSegment<'a> {
-    ghost use Rattle.std.specs.Prelude.{◌≡◌, map};
+    ghost use Rattle.std.specs.Prelude.{◌≡◌, ◌↔◌, map, length, IsSome, IfSome};
     ghost use Rattle.macho_fields.specs.Field.{part};
     ghost use Rattle.macho_fields.specs.Segment.{fileoff, filesize};
     ghost use Rattle.macho_image.specs.Segment.{section_at, sections_with};
+    ghost use Rattle.macho_verified.specs.Accepted.{HasBytesAt, bytes_from};
 
     /// The segment, with the fields of its command.
     pub fn segment(&self) -> &Segment<'a>
@@ -39,8 +40,9 @@ impl<'a> VerifiedSegment<'a> {
 
     /// Its bytes, borrowed from the image: the `filesize` bytes from `fileoff` on.
     pub fn bytes(&self) -> &'a [u8]
-        ensures { result.now ≡ part (fileoff self.now.image self.now.place)
+        ensures bytes { result.now ≡ part (fileoff self.now.image self.now.place)
             (filesize self.now.image self.now.place) self.now.image }
+        ensures whole { length result.now ≡ filesize self.now.image self.now.place }
     {
         let span = Span {
             start: self.segment.fileoff(),
@@ -50,6 +52,20 @@ impl<'a> VerifiedSegment<'a> {
             return &[];
         }
         self.image.part(span).unwrap()
+    }
+
+    /// Its bytes at `len` addresses from `address` on, borrowed from the image. `None` where the
+    /// segment is not mapped, and where it has no byte of the file for one of the addresses.
+    pub fn bytes_at(&self, address: u64, len: u64) -> Option<&'a [u8]>
+        ensures held { IsSome result ↔ HasBytesAt self.now.image address len self.now.place }
+        ensures bytes { IfSome result (λ bytes.
+            bytes.now ≡ bytes_from self.now.image address len self.now.place) }
+    {
+        if self.segment.vmsize() == 0 {
+            return None;
+        }
+        let start = address.checked_sub(self.segment.vmaddr())?;
+        Bytes::new(self.bytes()).part(Span { start, len })
     }
 
     /// Its sections, in the order of the file.
