@@ -20,7 +20,8 @@ use Rattle.macho_image.specs.Symbol.{symbols_of, symbol_at, items_inside, IsName
 use Rattle.macho_image.specs.declared.symbol.Symbol.{Symbol}
 use Rattle.macho_image.specs.Segment.{SegmentView, segment_at, SectionView, section_at, sections_with}
 use Rattle.macho_rules.proofs.Searches.{Rising}
-use Rattle.macho_verified.specs.Accepted.{IsUnbrokenImage, IsAccepted, HoldsSegment, HoldsSection, HoldsSymbol, strings, symbol_view}
+use Rattle.macho_verified.specs.Image.{symbol_view}
+use Rattle.macho_verified.specs.Scaffold.{IsUnbrokenImage, IsAccepted, HoldsSegment, HoldsSection, HoldsSymbol, strings}
 
 pub accepted : (image : List ℕ) → NothingBreaks (BreaksImage image None) → IsSoundImage image (commands_of image) → IsAccepted image
 unfolding IsAccepted

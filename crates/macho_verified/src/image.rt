@@ -14,7 +14,7 @@ pub struct VerifiedImage<'a> {
 
 impl<'a> Model for VerifiedImage<'a> {
     ghost use Rattle.std.specs.Prelude.{List, ℕ};
-    ghost use Rattle.macho_verified.specs.Accepted.{IsAccepted};
+    ghost use Rattle.macho_verified.specs.Scaffold.{IsAccepted};
 
     ghost Value = { List ℕ };
 
@@ -33,7 +33,7 @@ impl<'a> VerifiedImage<'a> {
     ghost use Rattle.macho_fields.specs.Universal.{slices_of, slice_bytes, IsImage};
     ghost use Rattle.macho_image.specs.Segment.{segment_at};
     ghost use Rattle.macho_image.specs.Symbol.{symbols_of};
-    ghost use Rattle.macho_verified.specs.Accepted.{symbol_view, HasBytesAt, bytes_from};
+    ghost use Rattle.macho_verified.specs.Image.{symbol_view, HasBytesAt, bytes_from};
 
     /// The image in the slice with this index, or `None` where the slice is of another kind, or
     /// there is none. It goes over the commands of the image once more, and judges nothing.

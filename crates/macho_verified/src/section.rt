@@ -14,7 +14,7 @@ pub struct VerifiedSection<'a> {
 impl<'a> Model for VerifiedSection<'a> {
     ghost use Rattle.macho_fields.specs.Bytes.{bytes_of};
     ghost use Rattle.macho_image.specs.Segment.{SectionView};
-    ghost use Rattle.macho_verified.specs.Accepted.{HoldsSection};
+    ghost use Rattle.macho_verified.specs.Scaffold.{HoldsSection};
 
     ghost Value = { SectionView };
 
@@ -70,7 +70,7 @@ impl<'a> Model for VerifiedSections<'a> {
     ghost use Rattle.std.specs.Prelude.{List, All};
     ghost use Rattle.macho_fields.specs.Bytes.{bytes_of};
     ghost use Rattle.macho_image.specs.Segment.{SectionView};
-    ghost use Rattle.macho_verified.specs.Accepted.{HoldsSection};
+    ghost use Rattle.macho_verified.specs.Scaffold.{HoldsSection};
 
     ghost Value = { List SectionView };
 

@@ -15,7 +15,7 @@ pub struct VerifiedSegment<'a> {
 impl<'a> Model for VerifiedSegment<'a> {
     ghost use Rattle.macho_fields.specs.Bytes.{bytes_of};
     ghost use Rattle.macho_image.specs.Segment.{SegmentView};
-    ghost use Rattle.macho_verified.specs.Accepted.{HoldsSegment};
+    ghost use Rattle.macho_verified.specs.Scaffold.{HoldsSegment};
 
     ghost Value = { SegmentView };
 
@@ -29,7 +29,7 @@ impl<'a> VerifiedSegment<'a> {
     ghost use Rattle.macho_fields.specs.Field.{part};
     ghost use Rattle.macho_fields.specs.Segment.{fileoff, filesize};
     ghost use Rattle.macho_image.specs.Segment.{section_at, sections_with};
-    ghost use Rattle.macho_verified.specs.Accepted.{HasBytesAt, bytes_from};
+    ghost use Rattle.macho_verified.specs.Image.{HasBytesAt, bytes_from};
 
     /// The segment, with the fields of its command.
     pub fn segment(&self) -> &Segment<'a>
@@ -91,7 +91,7 @@ impl<'a> Model for VerifiedSegments<'a> {
     ghost use Rattle.std.specs.Prelude.{List, All};
     ghost use Rattle.macho_fields.specs.Bytes.{bytes_of};
     ghost use Rattle.macho_image.specs.Segment.{SegmentView};
-    ghost use Rattle.macho_verified.specs.Accepted.{HoldsSegment};
+    ghost use Rattle.macho_verified.specs.Scaffold.{HoldsSegment};
 
     ghost Value = { List SegmentView };
 

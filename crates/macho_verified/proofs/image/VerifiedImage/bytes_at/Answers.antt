@@ -2,7 +2,7 @@ use Rattle.std.proofs.Common.{◌≡◌, ◌∙◌, refl}
 use Rattle.std.proofs.lemmas.Bool.{false≢true}
 use Rattle.macho_rules.proofs.Searches.{search_all, first_among, search_next, none_left}
 use Rattle.macho_rules.proofs.SegmentItems.{some_segment, of_segment}
-use Rattle.macho_verified.specs.Accepted.{HasBytesAt, bytes_from}
+use Rattle.macho_verified.specs.Image.{HasBytesAt, bytes_from}
 use Rattle.macho_verified.proofs.Accepted.{all_level}
 use Rattle.macho_verified.proofs.image.VerifiedImage.bytes_at.Goals as goal
 

@@ -1,5 +1,5 @@
 use Rattle.macho_rules.proofs.Searches.{Searching}
-use Rattle.macho_verified.specs.Accepted.{HasBytesAt}
+use Rattle.macho_verified.specs.Image.{HasBytesAt}
 use Rattle.macho_verified.proofs.image.VerifiedImage.bytes_at.Given as goal
 
 -- each segment that has the bytes is left

@@ -1,6 +1,6 @@
 use Rattle.std.proofs.Common.{All, sym, subst}
 use Rattle.macho_fields.specs.Bytes.{bytes_of}
-use Rattle.macho_verified.specs.Accepted.{HoldsSection}
+use Rattle.macho_verified.specs.Scaffold.{HoldsSection}
 use Rattle.macho_verified.proofs.Accepted.{sections_hold}
 use Rattle.macho_verified.proofs.segment.VerifiedSegment.sections.Goals as goal
 

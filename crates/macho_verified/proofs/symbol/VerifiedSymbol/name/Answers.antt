@@ -6,7 +6,7 @@ use Rattle.macho_fields.specs.Image.{commands_of}
 use Rattle.macho_fields.specs.Span.{end_of}
 use Rattle.macho_fields.specs.Symbol.{n_strx}
 use Rattle.macho_image.specs.Symbol.{IsNameAt}
-use Rattle.macho_verified.specs.Accepted.{SymbolView}
+use Rattle.macho_verified.specs.Image.{SymbolView}
 use Rattle.macho_verified.proofs.Accepted.{strx_read, name_ends, name_is}
 use Rattle.macho_verified.proofs.symbol.VerifiedSymbol.name.Goals as goal
 

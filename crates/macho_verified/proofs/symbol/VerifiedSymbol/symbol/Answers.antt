@@ -1,7 +1,7 @@
 use Rattle.std.proofs.Common.{◌≡◌, subst}
 use Rattle.macho_fields.specs.Bytes.{bytes_of}
 use Rattle.macho_image.specs.Symbol.{symbol_at}
-use Rattle.macho_verified.specs.Accepted.{SymbolView}
+use Rattle.macho_verified.specs.Image.{SymbolView}
 use Rattle.macho_verified.proofs.Accepted.{symbol_read}
 use Rattle.macho_verified.proofs.symbol.VerifiedSymbol.symbol.Goals as goal
 

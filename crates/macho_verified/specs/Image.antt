@@ -1,0 +1,24 @@
+-- What an image of an accepted file gives. (mach-o/loader.h: segment_command_64; mach-o/nlist.h:
+-- nlist_64)
+use Rattle.std.specs.Prelude.{ℕ, ◌+◌, ◌-◌, ◌≤◌, ◌<◌, List}
+use Rattle.macho_fields.specs.Field.{part}
+use Rattle.macho_fields.specs.Segment.{vmaddr, vmsize, fileoff, filesize}
+
+-- a symbol of an image, by its place
+pub record SymbolView : Type 0 where
+  pub image : List ℕ
+  pub place : ℕ
+
+abbrev pub symbol_view : List ℕ → ℕ → SymbolView
+symbol_view image place = record { image = image; place = place }
+
+-- a mapped segment has bytes of the file at so many addresses from this one on
+abbrev pub HasBytesAt : List ℕ → ℕ → ℕ → ℕ → Type 0
+HasBytesAt image address len segment =
+    (0 < vmsize image segment) × (vmaddr image segment ≤ address)
+    × (address + len ≤ vmaddr image segment + filesize image segment)
+
+-- the bytes that the segment has at so many addresses from this one on
+abbrev pub bytes_from : List ℕ → ℕ → ℕ → ℕ → List ℕ
+bytes_from image address len segment =
+    part (fileoff image segment + (address - vmaddr image segment)) len image
