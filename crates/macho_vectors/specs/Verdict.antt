@@ -1,11 +1,33 @@
--- The line of the verdict on a file.
-use Rattle.std.specs.Prelude.{◌≡◌, ◌⊎◌, ◌++◌, ℕ, List, codes}
+-- What a verdict on a file reports, its line, and two verdicts beside each other.
+use Rattle.std.specs.Prelude.{◌≡◌, ◌≢◌, ◌++◌, ℕ, List, Option, None, Some, codes}
 use Rattle.macho_fields.specs.First.{IsUnbroken, IsFirstBroken}
 use Rattle.macho_fields.specs.RuleNames.{text_of}
 use Rattle.macho_fields.specs.declared.rule.Break.{Break}
+use Rattle.macho_vectors.specs.declared.compare.Comparison.{Comparison}
+use Rattle.macho_vectors.specs.declared.compare.Comparison.TheVariants.{Same, Different}
 
--- `accepted` where the file breaks no rule; otherwise `refused: `, and the first broken rule with its place
+-- the file breaks no rule, or this is the first broken one with its place
+abbrev pub IsFirst : List ℕ → Option Break → Type 0
+IsFirst file None = IsUnbroken file
+IsFirst file (Some b) = IsFirstBroken file b
+
+-- `accepted` where no rule is broken; otherwise `refused: `, and the first broken rule with its place
+abbrev pub verdict_line : Option Break → List ℕ
+verdict_line None = codes "accepted"
+verdict_line (Some b) = codes "refused: " ++ text_of b
+
+-- the line that is right for the file
 abbrev pub IsVerdict : List ℕ → List ℕ → Type 0
-IsVerdict file line =
-    (IsUnbroken file × (line ≡ codes "accepted"))
-    ⊎ ((b : Break) × IsFirstBroken file b × (line ≡ codes "refused: " ++ text_of b))
+IsVerdict file line = (first : Option Break) × IsFirst file first × (line ≡ verdict_line first)
+
+-- the comparison of two reports: that they are the same one, or that they are not, and which they are
+abbrev pub Compares : Option Break → Option Break → Comparison → Type 0
+Compares verify slow_first (Same first) = (first ≡ verify) × (first ≡ slow_first)
+Compares verify slow_first (Different first second) =
+    (first ≡ verify) × (second ≡ slow_first) × (first ≢ second)
+
+-- a comparison of two reports, both of which are right for the file
+abbrev pub IsComparisonOf : List ℕ → Comparison → Type 0
+IsComparisonOf file comparison =
+    (first : Option Break) × (second : Option Break)
+    × IsFirst file first × IsFirst file second × Compares first second comparison

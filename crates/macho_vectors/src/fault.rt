@@ -10,6 +10,15 @@ pub(crate) enum Fault {
     /// A line is neither a piece nor a vector.
     #[error("not `let NAME = WORDS` or `NAME : WORDS : VERDICT`")]
     Line,
+    /// A line of a field is not written as one.
+    #[error("not `field NAME : KIND at OFFSET of STARTS`")]
+    Field,
+    /// A field does not lie in the file of its vector.
+    #[error("the field is not in the file")]
+    Outside,
+    /// A line is of the vector before it, and there is none.
+    #[error("no vector before this line")]
+    Vector,
     /// A choice is not closed.
     #[error("no closing parenthesis")]
     Choice,
@@ -19,7 +28,7 @@ pub(crate) enum Fault {
     /// A text in quotation marks has no end.
     #[error("no closing quotation mark")]
     Text,
-    /// The number before `*` or after `.` is none.
+    /// What should be a number is none.
     #[error("not a number below 2^32")]
     Number,
     /// A word is not made of pairs of hexadecimal digits.

@@ -1,34 +1,38 @@
 #![tactic(auto)]
-//! Judges vectors: files, each with the verdict that it must have. The words of the call name the
-//! files that the vectors are written in. `data/README.md` has the notation.
+//! Judges vectors: files, each with the verdict that it must have. On each of them, and on mutants of
+//! those that have lines for it, it compares the verdict with a second one. The words of the call name
+//! the files that the vectors are written in. `data/README.md` has the notation.
 
+mod compare;
 mod fault;
+mod fields;
+mod judge;
 mod lines;
+mod mutants;
 mod notation;
+mod tally;
 mod vectors;
 
 use fault::Fault;
+use judge::Named;
 use lines::join_lines;
 use std::process::ExitCode;
 use std::rt::{Env, Files};
 use std::{env, fs};
-use vectors::{Counts, judge_line, name_piece};
+use tally::Tally;
 
-/// Judges the vectors of the text of a file.
+/// Does what the lines of the text of a file ask for.
 fn judge_text(
     rt: &(impl AllocGlobal + Print + Eprint),
     path: &str,
     text: &str,
-    counts: &mut Counts,
+    tally: &mut Tally,
 ) -> Result<(), Fault> {
-    let mut pieces = Vec::new(rt.alloc());
-    for line in &join_lines(rt.alloc(), text)? {
+    let lines = join_lines(rt.alloc(), text)?;
+    let mut named = Named::new(rt.alloc());
+    for line in &lines {
         let place = format!(in rt.alloc(); "{path}:{}", line.number)?;
-        let judged = match line.text.strip_prefix("let ") {
-            Some(piece) => name_piece(rt.alloc(), &mut pieces, piece),
-            None if line.text.is_empty() => Ok(()),
-            None => judge_line(rt, &pieces, counts, place.as_str(), line.text.as_str()),
-        };
+        let judged = named.judge_line(rt, tally, place.as_str(), line.text.as_str());
         if let Err(fault) = judged {
             eprintln!(rt; "{place}: {fault}")?;
             return Err(fault);
@@ -37,32 +41,29 @@ fn judge_text(
     Ok(())
 }
 
-/// Judges the vectors of each file that the words name. It prints those that do not agree, and how
-/// many do.
+/// Does so for each file that the words name. It prints what does not agree, and how many do.
 fn judge_files(
     rt: &(impl AllocGlobal + Env + Eprint + Files + Print),
-    counts: &mut Counts,
+    tally: &mut Tally,
 ) -> Result<(), Fault> {
     for path in env::args(rt)?.skip(1) {
         let text = fs::read_to_string(rt, path.as_str())?;
-        let before = counts.agreed;
-        judge_text(rt, path.as_str(), text.as_str(), counts)?;
-        println!(rt; "{path}: {} agree", counts.agreed.saturating_sub(before))?;
+        let (agreed, same) = (tally.agreed, tally.same);
+        judge_text(rt, path.as_str(), text.as_str(), tally)?;
+        let agreed = tally.agreed.saturating_sub(agreed);
+        let same = tally.same.saturating_sub(same);
+        println!(rt; "{path}: {agreed} vectors agree, and both verdicts on {same} files")?;
     }
-    let all = counts.agreed.saturating_add(counts.disagreed);
-    println!(rt; "{} of {all} vectors agree", counts.agreed)?;
+    tally.print(rt)?;
     Ok(())
 }
 
-/// The status is 0 where all vectors agree, 1 where one does not, and 2 where a file is no file of
-/// vectors or cannot be read.
+/// The status is 0 where all vectors and verdicts agree, and each rule is the first broken one of some
+/// file; 1 where that is not so; and 2 where a file is no file of vectors or cannot be read.
 fn main(rt: HostRuntime) -> ExitCode {
-    let mut counts = Counts {
-        agreed: 0,
-        disagreed: 0,
-    };
-    match judge_files(&rt, &mut counts) {
-        Ok(()) => ExitCode::from(u8::from(counts.disagreed > 0)),
+    let mut tally = Tally::new();
+    match judge_files(&rt, &mut tally) {
+        Ok(()) => ExitCode::from(u8::from(!tally.is_good())),
         Err(fault) => {
             let _ = eprintln!(rt; "macho_vectors: {fault}");
             ExitCode::from(2)

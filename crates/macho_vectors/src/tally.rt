@@ -1,0 +1,127 @@
+//! What the comparisons gave: of how many files, and how often each rule was the first broken one.
+
+use macho_fields::{Break, Rule};
+use std::io;
+
+/// All rules, in the order in which they are judged.
+const RULES: [Rule; 31] = [
+    Rule::Magic,
+    Rule::FatTruncated,
+    Rule::FatSliceOutside,
+    Rule::FatSliceInTable,
+    Rule::FatAlign,
+    Rule::FatOverlap,
+    Rule::FatDuplicate,
+    Rule::FatSliceMagic,
+    Rule::FatEmpty,
+    Rule::HeaderTruncated,
+    Rule::ArchMismatch,
+    Rule::FileType,
+    Rule::CommandsOutside,
+    Rule::CommandWalk,
+    Rule::CommandShort,
+    Rule::CommandRepeated,
+    Rule::DylibId,
+    Rule::Name,
+    Rule::SegmentAddress,
+    Rule::SegmentSize,
+    Rule::SegmentFile,
+    Rule::SegmentOverlap,
+    Rule::SectionAddress,
+    Rule::SectionFile,
+    Rule::SectionRelocs,
+    Rule::TableRange,
+    Rule::SymbolGroup,
+    Rule::SymbolName,
+    Rule::SymbolSection,
+    Rule::IndirectIndex,
+    Rule::Entry,
+];
+
+/// How many vectors have the verdict that is wanted, on how many files both verdicts are the same, and
+/// which rule these break first.
+#[derive(Drop)]
+pub(crate) struct Tally {
+    /// The vectors whose verdict is the one that is wanted.
+    pub(crate) agreed: u64,
+    /// The other vectors.
+    disagreed: u64,
+    /// The files on which both verdicts are the same.
+    pub(crate) same: u64,
+    /// The files on which they are not.
+    different: u64,
+    /// Of the former, those that break no rule.
+    unbroken: u64,
+    /// Of the former, those that break each rule of `RULES` first.
+    first: [u64; 31],
+}
+
+impl Tally {
+    /// Nothing is counted yet.
+    pub(crate) const fn new() -> Tally {
+        Tally {
+            agreed: 0,
+            disagreed: 0,
+            same: 0,
+            different: 0,
+            unbroken: 0,
+            first: [0; 31],
+        }
+    }
+
+    /// Counts a vector.
+    pub(crate) const fn count_vector(&mut self, agrees: bool) {
+        if agrees {
+            self.agreed = self.agreed.saturating_add(1);
+        } else {
+            self.disagreed = self.disagreed.saturating_add(1);
+        }
+    }
+
+    /// Counts a file of which both verdicts report this.
+    pub(crate) fn count_same(&mut self, first: Option<Break>) {
+        self.same = self.same.saturating_add(1);
+        match first {
+            None => self.unbroken = self.unbroken.saturating_add(1),
+            Some(broken) => self.count_first(broken.rule),
+        }
+    }
+
+    /// Counts a rule that is the first broken one.
+    fn count_first(&mut self, first: Rule) {
+        for (rule, count) in RULES.iter().zip(self.first.iter_mut()) {
+            if *rule == first {
+                *count = count.saturating_add(1);
+            }
+        }
+    }
+
+    /// Counts a file on which the verdicts are not the same.
+    pub(crate) const fn count_different(&mut self) {
+        self.different = self.different.saturating_add(1);
+    }
+
+    /// Whether all vectors agree and both verdicts do, and each rule is the first broken one of a file.
+    pub(crate) fn is_good(&self) -> bool {
+        self.disagreed == 0 && self.different == 0 && !self.first.contains(&0)
+    }
+
+    /// Prints how many agree, and of each rule how many files break it first.
+    pub(crate) fn print(&self, rt: &(impl AllocGlobal + Print)) -> io::Result<()> {
+        let vectors = self.agreed.saturating_add(self.disagreed);
+        println!(rt; "{} of {vectors} vectors agree", self.agreed)?;
+        let files = self.same.saturating_add(self.different);
+        println!(rt;
+            "both verdicts are the same on {} of {files} files",
+            self.same
+        )?;
+        println!(rt; "{} files break no rule", self.unbroken)?;
+        for (rule, count) in RULES.iter().zip(&self.first) {
+            match count {
+                0 => println!(rt; "no file breaks {rule} first, and each rule needs one")?,
+                count => println!(rt; "{count} files break {rule} first")?,
+            }
+        }
+        Ok(())
+    }
+}
