@@ -104,9 +104,10 @@ fn mapped_count(image: &Image) -> usize
 {
     let mut count: usize = 0;
     for segment in image.segments() {
-        if segment.vmsize() > 0 {
-            count = count.saturating_add(1);
+        if segment.vmsize() == 0 {
+            continue;
         }
+        count = count.saturating_add(1);
     }
     count
 }

@@ -12,7 +12,7 @@ use macho_image::{Image, Segment};
 
 /// No mapped segment has an address in common with an earlier one. Each is compared with all earlier
 /// ones, which takes time in the order of n^2 for n segments.
-pub(crate) fn segment_overlap(image: &Image) -> Result<(), Break>
+pub(super) fn segment_overlap(image: &Image) -> Result<(), Break>
     requires { KeptBefore image.now Rule.SegmentOverlap }
     ensures { JudgesUpTo image.now Rule.SegmentOverlap result }
 {

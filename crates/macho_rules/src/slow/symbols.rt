@@ -11,9 +11,8 @@ use macho_fields::{Break, Bytes, Rule, Span};
 use macho_image::{Image, Symbol, Symtab};
 
 /// Each symbol that has a name has one that ends in the strings. The end of each name is searched for
-/// on its own. This takes no memory, but time in proportion to the symbols times the strings. It is
-/// for a second verdict.
-pub(crate) fn symbol_name(image: &Image) -> Result<(), Break>
+/// on its own, which takes time in proportion to the symbols times the strings.
+pub(super) fn symbol_name(image: &Image) -> Result<(), Break>
     requires { KeptBefore image.now Rule.SymbolName }
     ensures { JudgesUpTo image.now Rule.SymbolName result }
 {
