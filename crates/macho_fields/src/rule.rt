@@ -44,7 +44,7 @@ pub enum Rule {
     CommandShort,
     /// A kind of load command that an image may have only once is repeated.
     CommandRepeated,
-    /// A library has no name of its own, or an executable has one.
+    /// A library has no name of its own, or an executable or a bundle has one.
     DylibId,
     /// A name begins within the fields of its command, or does not end in the command.
     Name,

@@ -1,5 +1,5 @@
-//! A second verdict, which shares as little as it can with the first: each rule is decided straight
-//! from what it says, without memory.
+//! A second verdict, without memory. It decides the rules of the file, `segment-overlap` and
+//! `symbol-name` by functions of its own; the others are decided as in the first verdict.
 
 mod entries;
 mod file;

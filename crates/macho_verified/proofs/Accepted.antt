@@ -1,10 +1,10 @@
 -- What the parts of an accepted image keep.
-use Rattle.std.proofs.Common.{◌≡◌, ◌≢◌, ℕ, zero, suc, ◌+◌, ◌-◌, ◌*◌, ◌≤◌, ◌<◌, List, [], ◌∷◌, map, length, All, Contains, Option, Some, None, IsSome, IfSome, IsSomeAnd, Bool, true, false, nat_le, slice_get, slice_index_or, take, drop, length-drop, if◌then◌else◌, ◌↔◌, refl, sym, ap, ◌∙◌, subst, arith, inr, le_refl}
+use Rattle.std.proofs.Common.{◌≡◌, ◌≢◌, ℕ, zero, suc, ◌+◌, ◌-◌, ◌*◌, ◌≤◌, ◌<◌, List, [], ◌∷◌, ◌++◌, map, flat_map, length, All, Contains, Option, Some, None, IsSome, IfSome, IsSomeAnd, Bool, true, false, nat_le, slice_get, slice_index_or, take, drop, length-drop, if◌then◌else◌, ◌↔◌, refl, sym, ap, ◌∙◌, subst, arith, inr, le_refl}
 use Rattle.std.proofs.lemmas.List.Elements.{All-map, All-tail, All-contains_itself}
 use Rattle.std.proofs.lemmas.List.{drop-take, drop-drop, length-take-le}
 use Rattle.std.proofs.lemmas.Option.{none-some, same_Some}
 use Rattle.std.specs.List.{range_with_len}
-use Rattle.std.specs.Option.{option_map_or}
+use Rattle.std.specs.Option.{option_map, option_map_or}
 use Rattle.macho_fields.specs.Field.{Covers, HasZero, part, string_from}
 use Rattle.macho_fields.specs.Image.{commands_of, of_kind}
 use Rattle.macho_fields.specs.Layers.{NothingBreaks}
@@ -18,7 +18,7 @@ use Rattle.macho_fields.specs.declared.span.Span.{Span}
 use Rattle.macho_image.specs.Command.{first_of_kind}
 use Rattle.macho_image.specs.Symbol.{symbols_of, symbol_at, items_inside, IsNameAt}
 use Rattle.macho_image.specs.declared.symbol.Symbol.{Symbol}
-use Rattle.macho_image.specs.Segment.{SegmentView, segment_at, SectionView, section_at, sections_with}
+use Rattle.macho_image.specs.Segment.{SegmentView, segment_at, SectionView, section_at, sections_with, sections_of}
 use Rattle.macho_rules.proofs.Searches.{Rising}
 use Rattle.macho_verified.specs.Image.{symbol_view}
 use Rattle.macho_verified.specs.Scaffold.{IsUnbrokenImage, IsAccepted, HoldsSegment, HoldsSection, HoldsSymbol, strings}
@@ -129,6 +129,39 @@ section_fits image view (same, keeps, (k, less, at), (j, fewer, there)) start le
         ),
       ),
     )))
+
+all_append : {X : Type 0} (P : X → Type 0) (xs ys : List X) → All P xs → All P ys → All P (xs ++ ys)
+all_append P [] ys some more = more
+all_append P (x ∷ xs) ys some more = cons (some 0 x (omega arith)) (all_append P xs ys (All-tail P x xs some) more)
+  where
+    cons : P x → All P (xs ++ ys) → All P (x ∷ (xs ++ ys))
+    cons first rest zero d less = first
+    cons first rest (suc k) d less = rest k d (omega arith)
+
+all_flat : {X Y : Type 0} (P : Y → Type 0) (g : X → List Y) (xs : List X) → All (λ x. All P (g x)) xs → All P (flat_map g xs)
+all_flat P g [] all = λ k d less. absurd (omega arith)
+all_flat P g (x ∷ xs) all = all_append P (g x) (flat_map g xs) (all 0 x (omega arith)) (all_flat P g xs (All-tail (λ x. All P (g x)) x xs all))
+
+-- the sections of all segments
+pub all_sections_hold : (image : List ℕ) → IsAccepted image → All (HoldsSection image) (map (section_at image) (sections_of image (commands_of image)))
+unfolding IsAccepted HoldsSection
+all_sections_hold image keeps =
+    All-map (HoldsSection image) (section_at image) (sections_of image (commands_of image))
+    (all_flat (λ places. HoldsSection image (section_at image places)) (sections_with image) (segments_of image (commands_of image))
+    (λ k d less. All-map (λ places. HoldsSection image (section_at image places)) (λ section. (slice_index_or (segments_of image (commands_of image)) k d, section))
+    (sections_in image (slice_index_or (segments_of image (commands_of image)) k d))
+    (λ j e few. (refl, keeps, All-contains_itself (segments_of image (commands_of image)) k d less, All-contains_itself (sections_in image (slice_index_or (segments_of image (commands_of image)) k d)) j e few))))
+
+-- the item at an index of a list of which P holds
+pub got_has : {X : Type 0} (P : X → Type 0) (xs : List X) (n : ℕ) (x : X) → slice_get xs n ≡ Some x → All P xs → P x
+got_has P [] n x is all = absurd (none-some x is)
+got_has P (y ∷ ys) zero x is all = subst P (same_Some y x is) (all 0 y (omega arith))
+got_has P (y ∷ ys) (suc n) x is all = got_has P ys n x is (All-tail P y ys all)
+
+-- what an iterator over a list gives at an index
+pub nth_is : {X : Type 0} (r got : Option X) → option_map (λ x. x) r ≡ got → r ≡ got
+nth_is None got is = is
+nth_is (Some x) got is = is
 
 -- Symbols
 

@@ -1,5 +1,6 @@
 //! An image of an accepted file.
 
+use crate::section::VerifiedSection;
 use crate::segment::VerifiedSegments;
 use crate::symbol::{VerifiedSymbols, strings_of};
 use macho_image::Image;
@@ -24,14 +25,14 @@ impl<'a> Model for VerifiedImage<'a> {
 }
 
 impl<'a> VerifiedImage<'a> {
-    ghost use Rattle.std.specs.Prelude.{◌≡◌, ◌↔◌, None, map, slice_get, Any, IsSome, IfSome, IsSomeAnd};
+    ghost use Rattle.std.specs.Prelude.{◌≡◌, ◌↔◌, ◌-◌, ◌<◌, None, map, length, slice_get, Any, IsSome, IfSome, IsSomeAnd};
     ghost use Rattle.macho_fields.specs.Image.{commands_of};
     ghost use Rattle.macho_fields.specs.Layers.{NothingBreaks};
     ghost use Rattle.macho_fields.specs.Loader.{IsSoundImage};
     ghost use Rattle.macho_fields.specs.Rules.{BreaksImage};
     ghost use Rattle.macho_fields.specs.Segment.{segments_of};
     ghost use Rattle.macho_fields.specs.Universal.{slices_of, slice_bytes, IsImage};
-    ghost use Rattle.macho_image.specs.Segment.{segment_at};
+    ghost use Rattle.macho_image.specs.Segment.{segment_at, section_at, sections_of};
     ghost use Rattle.macho_image.specs.Symbol.{symbols_of};
     ghost use Rattle.macho_verified.specs.Image.{symbol_view, HasBytesAt, bytes_from};
 
@@ -68,8 +69,24 @@ impl<'a> VerifiedImage<'a> {
         }
     }
 
+    /// The section with this number, or `None` where there is none. Sections are numbered from 1 on over
+    /// all segments, as `n_sect` of a symbol numbers them. (`mach-o/nlist.h`: `nlist_64`)
+    pub fn section(&self, number: u8) -> Option<VerifiedSection<'a>>
+        ensures none { number ≡ 0 → result ≡ None }
+        ensures section { 0 < number → result ≡ slice_get (map (section_at self.now)
+            (sections_of self.now (commands_of self.now))) (number - 1) }
+    {
+        let index = usize::from(number).checked_sub(1)?;
+        let section = self.image.sections().nth(index)?;
+        Some(VerifiedSection {
+            image: self.image.bytes(),
+            section,
+        })
+    }
+
     /// The bytes at `len` addresses from `address` on, borrowed from the image. `None` where no one
-    /// mapped segment has bytes of the file for all of them.
+    /// mapped segment has bytes of the file for all of them. With `len` 0 the address has to be in the
+    /// file part of a mapped segment, or at its end.
     pub fn bytes_at(&self, address: u64, len: u64) -> Option<&'a [u8]>
         ensures held { IsSome result ↔ Any (HasBytesAt self.now address len)
             (segments_of self.now (commands_of self.now)) }
@@ -77,6 +94,7 @@ impl<'a> VerifiedImage<'a> {
             (λ segment. HasBytesAt self.now address len segment
             × (bytes.now ≡ bytes_from self.now address len segment))
             (segments_of self.now (commands_of self.now))) }
+        ensures whole { IfSome result (λ bytes. length bytes.now ≡ len) }
     {
         for segment in self.segments() {
             if let Some(bytes) = segment.bytes_at(address, len) {

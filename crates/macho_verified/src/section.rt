@@ -7,8 +7,8 @@ use std::marker::Model;
 /// A section of an accepted image.
 #[derive(Drop)]
 pub struct VerifiedSection<'a> {
-    image: Bytes<'a>,
-    section: Section<'a>,
+    pub(crate) image: Bytes<'a>,
+    pub(crate) section: Section<'a>,
 }
 
 impl<'a> Model for VerifiedSection<'a> {

@@ -55,11 +55,13 @@ impl<'a> VerifiedSegment<'a> {
     }
 
     /// Its bytes at `len` addresses from `address` on, borrowed from the image. `None` where the
-    /// segment is not mapped, and where it has no byte of the file for one of the addresses.
+    /// segment is not mapped, and where it has no byte of the file for one of the addresses. With `len`
+    /// 0 the address has to be in the file part of the segment, or at its end.
     pub fn bytes_at(&self, address: u64, len: u64) -> Option<&'a [u8]>
         ensures held { IsSome result ↔ HasBytesAt self.now.image address len self.now.place }
         ensures bytes { IfSome result (λ bytes.
             bytes.now ≡ bytes_from self.now.image address len self.now.place) }
+        ensures whole { IfSome result (λ bytes. length bytes.now ≡ len) }
     {
         if self.segment.vmsize() == 0 {
             return None;

@@ -37,4 +37,5 @@ returns c =
     let listed = ap file_type_of (sym c.word_at.ensures) ∙ (sym c.file_type_of.ensures ∙ ap (option_map file_type_view) c.in-Some.is) in
     let has = has_id image c.of.result c.is_some.result c.is_some.ensures (c.of.ensures.unique image (commands_of image) c.requires.first refl) in
     commands_kept image c.args.opening.arch rule.DylibId (λ _ h. h) (omega arith) c.requires.before
-    (λ place broken. id_kept H _ _ has c.if-listed-is_some.false (some_has (λ (t : FileTypeView). HasWrongId t.names_itself H) (file_type_of (file_type image)) (file_type_view c.in-Some.listed) listed broken.1))
+    (λ place broken. id_kept H _ _ has c.if-listed-is_some.false
+    (some_has (λ (t : FileTypeView). HasWrongId t.names_itself H) (file_type_of (file_type image)) (file_type_view c.in-Some.listed) listed broken.1))
