@@ -110,10 +110,11 @@ impl<'a> VerifiedImage<'a> {
         ensures { result ≡ map (symbol_view self.now)
             (symbols_of self.now (commands_of self.now)) }
     {
+        let symbols = self.image.symbols();
         VerifiedSymbols {
             image: self.image.bytes(),
             strings: strings_of(&self.image),
-            symbols: self.image.symbols(),
+            symbols,
         }
     }
 }

@@ -11,13 +11,13 @@ use Rattle.macho_verified.proofs.image.VerifiedImage.symbols.Goals as goal
 
 pub invariant_of-result : goal.invariant_of-result
 invariant_of-result c =
-    subst (λ (bytes : List ℕ). All (HoldsSymbol bytes c.strings_of.result) c.symbols.result) (sym c.bytes.ensures.bytes)
-    (subst (λ (among : Span). All (HoldsSymbol c.self.inside.image among) c.symbols.result) (sym c.strings_of.ensures)
-    (subst (All (HoldsSymbol c.self.inside.image _)) (sym c.symbols.ensures) (symbols_hold c.self.inside.image c.self.invariant)))
+    subst (λ (bytes : List ℕ). All (HoldsSymbol bytes c.strings_of.result) c.symbols-symbols.result) (sym c.bytes.ensures.bytes)
+    (subst (λ (among : Span). All (HoldsSymbol c.self.inside.image among) c.symbols-symbols.result) (sym c.strings_of.ensures)
+    (subst (All (HoldsSymbol c.self.inside.image _)) (sym c.symbols-symbols.ensures) (symbols_hold c.self.inside.image c.self.invariant)))
 
 pub returns : goal.returns
 returns c =
     let image = c.self.inside.image in
-    subst (λ (i : List ℕ). map (λ (symbol : Symbol). symbol_view (bytes_of c.bytes.result) symbol.place) c.symbols.result ≡ map (symbol_view i) (symbols_of i (commands_of i))) c.self.view_is
-    (subst (λ (bytes : List ℕ). map (λ (symbol : Symbol). symbol_view bytes symbol.place) c.symbols.result ≡ map (symbol_view image) (symbols_of image (commands_of image))) (sym c.bytes.ensures.bytes)
-    (ap (map (λ (symbol : Symbol). symbol_view image symbol.place)) c.symbols.ensures ∙ views_of image (symbols_of image (commands_of image))))
+    subst (λ (i : List ℕ). map (λ (symbol : Symbol). symbol_view (bytes_of c.bytes.result) symbol.place) c.symbols-symbols.result ≡ map (symbol_view i) (symbols_of i (commands_of i))) c.self.view_is
+    (subst (λ (bytes : List ℕ). map (λ (symbol : Symbol). symbol_view bytes symbol.place) c.symbols-symbols.result ≡ map (symbol_view image) (symbols_of image (commands_of image))) (sym c.bytes.ensures.bytes)
+    (ap (map (λ (symbol : Symbol). symbol_view image symbol.place)) c.symbols-symbols.ensures ∙ views_of image (symbols_of image (commands_of image))))
