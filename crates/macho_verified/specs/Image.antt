@@ -1,7 +1,8 @@
--- What an image of an accepted file gives. (mach-o/loader.h: segment_command_64; mach-o/nlist.h:
--- nlist_64)
+-- What an image of an accepted file gives. (mach-o/loader.h: segment_command_64,
+-- linkedit_data_command; mach-o/nlist.h: nlist_64)
 use Rattle.std.specs.Prelude.{ℕ, ◌+◌, ◌-◌, ◌≤◌, ◌<◌, List}
 use Rattle.macho_fields.specs.Field.{part}
+use Rattle.macho_fields.specs.Image.{word}
 use Rattle.macho_fields.specs.Segment.{vmaddr, vmsize, fileoff, filesize}
 
 -- a symbol of an image, by its place
@@ -22,3 +23,10 @@ HasBytesAt image address len segment =
 abbrev pub bytes_from : List ℕ → ℕ → ℕ → ℕ → List ℕ
 bytes_from image address len segment =
     part (fileoff image segment + (address - vmaddr image segment)) len image
+
+-- linkedit_data_command: dataoff at 8, datasize at 12
+abbrev pub dataoff : List ℕ → ℕ → ℕ
+dataoff image command = word image (command + 8)
+
+abbrev pub datasize : List ℕ → ℕ → ℕ
+datasize image command = word image (command + 12)

@@ -1,5 +1,5 @@
 -- What the types of this crate keep, which only proofs need.
-use Rattle.std.specs.Prelude.{◌≡◌, ◌≢◌, ℕ, ◌+◌, List, None, Contains}
+use Rattle.std.specs.Prelude.{◌≡◌, ◌≢◌, ℕ, ◌+◌, ◌≤◌, List, None, Contains, length}
 use Rattle.std.specs.Option.{option_map_or}
 use Rattle.macho_fields.specs.Field.{HasZero}
 use Rattle.macho_fields.specs.Image.{commands_of}
@@ -14,6 +14,7 @@ use Rattle.macho_image.specs.Command.{first_of_kind}
 use Rattle.macho_image.specs.Segment.{SegmentView, SectionView}
 use Rattle.macho_image.specs.Symbol.{symbol_at}
 use Rattle.macho_image.specs.declared.symbol.Symbol.{Symbol}
+use Rattle.macho_verified.specs.Image.{dataoff, datasize}
 
 -- the image breaks no rule, and is sound
 pub record IsUnbrokenImage (image : List ℕ) : Type 0 where
@@ -48,3 +49,8 @@ unfoldable pub HoldsSymbol : List ℕ → Span → Symbol → Type 0
 HoldsSymbol image among symbol =
     (symbol ≡ symbol_at image symbol.place) × (among ≡ strings image)
     × (symbol.strx ≢ 0 → HasZero image (among.start + symbol.strx) (among.start + among.len))
+
+-- the data of a linkedit_data_command that has any lies inside the image
+abbrev pub HasData : List ℕ → ℕ → Type 0
+HasData image command =
+    datasize image command ≢ 0 → dataoff image command + datasize image command ≤ length image

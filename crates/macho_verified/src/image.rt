@@ -10,7 +10,7 @@ use std::marker::Model;
 /// An image that breaks no rule. Only a verdict gives one.
 #[derive(Drop)]
 pub struct VerifiedImage<'a> {
-    image: Image<'a>,
+    pub(crate) image: Image<'a>,
 }
 
 impl<'a> Model for VerifiedImage<'a> {

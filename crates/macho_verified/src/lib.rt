@@ -3,6 +3,7 @@
 //! is there, so no caller tests it again.
 
 pub mod image;
+pub mod linkedit;
 pub mod section;
 pub mod segment;
 pub mod symbol;

@@ -1,0 +1,85 @@
+-- The first command of a kind, and the data that a linkedit_data_command of an accepted image names.
+use Rattle.std.proofs.Common.{◌≡◌, ℕ, ◌+◌, ◌*◌, ◌≤◌, ◌<◌, List, [], ◌∷◌, map, length, Any, Contains, Option, Some, slice_get, refl, sym, ap, ◌∙◌, subst, arith, lit<, inl}
+use Rattle.std.specs.Option.{option_map}
+use Rattle.std.proofs.lemmas.Bool.{eq-eqb, ne_eqb}
+use Rattle.macho_fields.specs.Field.{Covers, part}
+use Rattle.macho_fields.specs.Image.{command_kind, commands_of, of_kind}
+use Rattle.macho_fields.specs.Command.{HasStructure, least_size}
+use Rattle.macho_fields.specs.LoadCommands.{structure_of}
+use Rattle.macho_fields.specs.Loader.{IsSoundImage}
+use Rattle.macho_fields.specs.Loader.Reads.{in_structure, in_table}
+use Rattle.macho_fields.specs.Symbol.{tables_of}
+use Rattle.macho_fields.specs.declared.load_command.Structure.TheVariants.{LinkeditDataCommand}
+use Rattle.macho_fields.proofs.LoadCommands.{has_structure, tables_listed}
+use Rattle.macho_fields.proofs.Parts.{of_kind_is, of_kind_among}
+use Rattle.macho_image.specs.Command.{CommandView, command_at, first_of_kind}
+use Rattle.macho_image.specs.Scaffold.{left_of_kind}
+use Rattle.macho_image.proofs.OfOneKind.{left_of_kind-map}
+use Rattle.macho_rules.proofs.OneCommand.{is_of_kind}
+use Rattle.macho_rules.proofs.Searches.{any_of}
+use Rattle.macho_verified.specs.Image.{dataoff, datasize}
+use Rattle.macho_verified.specs.Scaffold.{IsAccepted, HasData}
+use Rattle.macho_verified.proofs.Accepted.{accepted_sound, range_inside}
+
+-- The first command of a kind
+
+-- that of those that remain
+abbrev pub first_left : ℕ → List CommandView → Option CommandView
+first_left wanted left = slice_get (left_of_kind wanted left) 0
+
+module _ (wanted : ℕ) (left rest : List CommandView) (c : CommandView) (is : left ≡ c ∷ rest) where
+  pub first_found : c.cmd ≡ wanted → first_left wanted left ≡ Some c
+  first_found same = ap (first_left wanted) is ∙ rw (eq-eqb c.cmd wanted same) refl
+
+  pub first_later : ¬ (c.cmd ≡ wanted) → first_left wanted left ≡ first_left wanted rest
+  first_later other = ap (first_left wanted) is ∙ rw (ne_eqb c.cmd wanted other) refl
+
+-- that of all is at the place of the first of the kind
+pub first_place : (image : List ℕ) (wanted : ℕ) (all : List CommandView) → all ≡ map (command_at image) (commands_of image) → (first : Option CommandView) → first ≡ first_left wanted all
+    → option_map (λ c. c.place) first ≡ first_of_kind image wanted (commands_of image)
+first_place image wanted all are first is =
+    ap (option_map place) (is ∙ (ap (first_left wanted) are ∙ ap (λ views. slice_get views 0) (left_of_kind-map image wanted (commands_of image)))) ∙ at_head (of_kind image wanted (commands_of image))
+  where
+    place : CommandView → ℕ
+    place c = c.place
+
+    at_head : (places : List ℕ) → option_map place (slice_get (map (command_at image) places) 0) ≡ slice_get places 0
+    at_head [] = refl
+    at_head (p ∷ places) = refl
+
+-- The first command of a kind whose structure is linkedit_data_command
+module _ (image : List ℕ) (keeps : IsAccepted image) (cmd : ℕ) (listed : structure_of cmd ≡ Some LinkeditDataCommand) (command : ℕ) (first : first_of_kind image cmd (commands_of image) ≡ Some command) where
+  among : Contains (commands_of image) command
+  among = of_kind_among image (commands_of image) cmd command (is_of_kind image cmd command first)
+
+  structure : structure_of (command_kind image command) ≡ Some LinkeditDataCommand
+  structure = ap structure_of (of_kind_is image (commands_of image) cmd command (is_of_kind image cmd command first)) ∙ listed
+
+  sound : IsSoundImage image (commands_of image)
+  sound = accepted_sound image keeps
+
+  -- its fields lie in the image
+  pub fields_inside : command + 16 ≤ length image
+  fields_inside =
+      range_inside (length image) command 16 (lit< tt)
+      (λ place covers. sound.reads place (in_structure
+      (any_of (λ c. HasStructure image c (λ s. Covers c (least_size image c s) place)) (commands_of image) command among
+      ((has_structure image command (λ s. Covers command (least_size image command s) place) LinkeditDataCommand structure).1 covers))))
+
+  -- so does its data, where it has any
+  pub data_inside : HasData image command
+  data_inside some =
+      range_inside (length image) (dataoff image command) (datasize image command) (omega (arith, some))
+      (λ place covers. sound.reads place (in_table (dataoff image command) (datasize image command)
+      (inl (any_of (λ c. Any (λ table. (0 < table.1) × (dataoff image command ≡ table.0) × (datasize image command ≡ table.1 * table.2)) (tables_of image c)) (commands_of image) command among
+      (subst (Any (λ table. (0 < table.1) × (dataoff image command ≡ table.0) × (datasize image command ≡ table.1 * table.2))) (sym (tables_listed image command LinkeditDataCommand structure))
+      (0, _, lit< tt, refl, (omega (arith, some), refl, omega arith))))) covers))
+
+-- The data, where its fields were read
+module _ (image : List ℕ) (command start len : ℕ) (starts : start ≡ dataoff image command) (is : len ≡ datasize image command) where
+  pub read_inside : HasData image command → ¬ (len ≡ 0) → start + len ≤ length image
+  read_inside inside some =
+      subst (λ n. n + len ≤ length image) (sym starts) (subst (λ n. dataoff image command + n ≤ length image) (sym is) (inside (λ none. some (is ∙ none))))
+
+  pub read_empty : len ≡ 0 → [] ≡ part (dataoff image command) (datasize image command) image
+  read_empty none = ap (λ n. part (dataoff image command) n image) (sym none ∙ is)

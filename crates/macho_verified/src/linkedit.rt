@@ -1,0 +1,83 @@
+//! The data that commands of an accepted image name. (`mach-o/loader.h`: `linkedit_data_command`)
+
+ghost use Rattle.std.specs.Prelude.{◌≡◌, ◌↔◌, ◌+◌, ◌≤◌, Some, IsTrue, length};
+ghost use Rattle.macho_fields.specs.Bytes.{bytes_of};
+ghost use Rattle.macho_fields.specs.Field.{part};
+ghost use Rattle.macho_fields.specs.Image.{commands_of};
+ghost use Rattle.macho_fields.specs.LoadCommands.{structure_of, structure_size};
+ghost use Rattle.macho_fields.specs.declared.load_command.Structure.TheVariants.{LinkeditDataCommand};
+ghost use Rattle.macho_image.specs.Command.{first_of_kind};
+ghost use Rattle.macho_verified.specs.Image.{dataoff, datasize};
+ghost use Rattle.macho_verified.specs.Scaffold.{HasData};
+
+use crate::image::VerifiedImage;
+use macho_fields::header::loader::linkedit_data_command::{DATAOFF, DATASIZE};
+use macho_fields::{Bytes, Order, Span, Structure, structure_of};
+use macho_image::Image;
+
+impl<'a> VerifiedImage<'a> {
+    ghost use Rattle.std.specs.Prelude.{◌≡◌, ◌↔◌, length, Some, IsSome, IfSome, IsSomeAnd};
+    ghost use Rattle.macho_fields.specs.Field.{part};
+    ghost use Rattle.macho_fields.specs.Image.{commands_of};
+    ghost use Rattle.macho_fields.specs.LoadCommands.{structure_of};
+    ghost use Rattle.macho_image.specs.Command.{first_of_kind};
+    ghost use Rattle.macho_verified.specs.Image.{dataoff, datasize};
+
+    /// The data that the first command with this `cmd` names, such as `LC_FUNCTION_STARTS`, borrowed
+    /// from the image: the `datasize` bytes from `dataoff` on. `None` where the structure of such a
+    /// command is not `linkedit_data_command`, and where the image has none, and only there.
+    pub fn linkedit_data(&self, cmd: u32) -> Option<&'a [u8]>
+        ensures held { IsSome result ↔ ((structure_of cmd ≡ Some Structure.LinkeditDataCommand)
+            × IsSome (first_of_kind self.now cmd (commands_of self.now))) }
+        ensures bytes { IfSome result (λ bytes.
+            IsSomeAnd (first_of_kind self.now cmd (commands_of self.now)) (λ command.
+            bytes.now ≡ part (dataoff self.now command) (datasize self.now command) self.now)) }
+        ensures whole { IfSome result (λ bytes.
+            IsSomeAnd (first_of_kind self.now cmd (commands_of self.now)) (λ command.
+            length bytes.now ≡ datasize self.now command)) }
+    {
+        if !names_linkedit_data(cmd) {
+            return None;
+        }
+        let command = first_place(&self.image, cmd)?;
+        Some(data_at(self.image.bytes(), command))
+    }
+}
+
+/// Whether the structure of a command with this `cmd` is `linkedit_data_command`.
+fn names_linkedit_data(cmd: u32) -> bool
+    ensures { IsTrue result ↔ (structure_of cmd ≡ Some LinkeditDataCommand) }
+{
+    structure_of(cmd) == Some(Structure::LinkeditDataCommand)
+}
+
+/// The place of the first command with this `cmd`, or `None` where the image has none.
+fn first_place(image: &Image, cmd: u32) -> Option<u64>
+    ensures { result ≡ first_of_kind image.now cmd (commands_of image.now) }
+{
+    for command in image.commands() {
+        if command.cmd == cmd {
+            return Some(command.place);
+        }
+    }
+    None
+}
+
+/// The data that the `linkedit_data_command` at the place `command` names. With `datasize` 0 it is
+/// empty, wherever `dataoff` is.
+fn data_at(image: Bytes, command: u64) -> &[u8]
+    requires fields { command + structure_size LinkeditDataCommand ≤ length (bytes_of image) }
+    requires data { HasData (bytes_of image) command }
+    ensures bytes { result.now ≡ part (dataoff (bytes_of image.entry) command)
+        (datasize (bytes_of image.entry) command) (bytes_of image.entry) }
+    ensures whole { length result.now ≡ datasize (bytes_of image.entry) command }
+{
+    let data = Span {
+        start: u64::from(image.read_u32(Order::Little, command + DATAOFF)),
+        len: u64::from(image.read_u32(Order::Little, command + DATASIZE)),
+    };
+    if data.len == 0 {
+        return &[];
+    }
+    image.read_part(data)
+}
