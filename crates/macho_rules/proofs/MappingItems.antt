@@ -102,9 +102,9 @@ module _ (image : List ℕ) where
       (suc i, omega arith, is, has_later (memory_at image q, k) _ _ (subst (Contains (numbered_memory image (k + 1) ps)) (ap (λ (n : ℕ). (memory_at image p, n)) (omega arith)) has))
 
   -- the pairs that were collected are those of the segments, in whatever order they stand
-  pub pairs_moved : (opened : List ℕ) → opened ≡ image → (items pairs : List (Span × ℕ)) → items ≡ numbered_memory opened 0 (mapped_segments opened) → IsPermutation items pairs
+  pub pairs_moved : (items pairs : List (Span × ℕ)) → items ≡ numbered_memory image 0 (mapped_segments image) → IsPermutation items pairs
       → IsPermutation (numbered_memory image 0 (mapped_segments image)) pairs
-  pairs_moved opened same items pairs are moved = subst (λ bytes. IsPermutation (numbered_memory bytes 0 (mapped_segments bytes)) pairs) same (subst (λ xs. IsPermutation xs pairs) are moved)
+  pairs_moved items pairs are moved = subst (λ xs. IsPermutation xs pairs) are moved
 
   pub moved_count : (pairs : List (Span × ℕ)) → IsPermutation (numbered_memory image 0 (mapped_segments image)) pairs → length pairs ≡ length (mapped_segments image)
   moved_count pairs moved = length_permutation (numbered_memory image 0 (mapped_segments image)) pairs moved ∙ length_numbered 0 (mapped_segments image)

@@ -7,7 +7,7 @@ ghost use Rattle.macho_rules.specs.Scaffold.{FitsFile};
 
 use crate::segments::memory;
 use crate::verdict::Verified;
-use macho_fields::{Bytes, Span, Spans};
+use macho_fields::{Span, Spans};
 use macho_image::{Image, Segment};
 use std::alloc::{AllocError, Global};
 
@@ -44,7 +44,6 @@ impl Mapping {
     ghost use Rattle.std.specs.Prelude.{◌≡◌, ◌↔◌, ℕ, None, IfOk, OnErr, IfSome, IsSome, IsSomeAnd};
     ghost use Rattle.std.specs.Prelude.{length, slice_get};
     ghost use Rattle.std.specs.Option.{option_map};
-    ghost use Rattle.macho_fields.specs.Bytes.{bytes_of};
     ghost use Rattle.macho_fields.specs.Layers.{NothingBreaks};
     ghost use Rattle.macho_fields.specs.Rules.{BreaksImage};
     ghost use Rattle.macho_fields.specs.Spans.{IsProbeCount};
@@ -73,25 +72,26 @@ impl Mapping {
             (λ slice. IsImage (slice_bytes verified.now slice)
             × HasMapped (slice_bytes verified.now slice))) }
     {
-        let Some(bytes) = verified.image_bytes(index) else {
+        let Some(image) = verified.image(index) else {
             return Ok(None);
         };
-        let mapping = Mapping::of_image(alloc, bytes)?;
+        let mapping = Mapping::of_image(alloc, &image)?;
         Ok(Some(mapping))
     }
 
-    /// The mapping of an unbroken image, of which no two segments share an address.
-    fn of_image(alloc: Global, bytes: Bytes) -> Result<Mapping, AllocError>
-        requires { NothingBreaks (BreaksImage (bytes_of bytes) None) }
-        ensures sources { IfOk result (λ mapping.
-            GivesSources (bytes_of bytes.entry) (sources mapping)) }
+    /// The mapping of an image that breaks no rule, so that no two of its segments share an address.
+    /// It takes memory for the mapped segments alone, and none where there are none.
+    pub fn of_image(alloc: Global, image: &Image) -> Result<Mapping, AllocError>
+        requires { NothingBreaks (BreaksImage image.now None) }
+        ensures sources { IfOk result (λ mapping. GivesSources image.now (sources mapping)) }
         ensures segments { IfOk result (λ mapping.
-            segment_count mapping ≡ length (mapped_segments (bytes_of bytes.entry))) }
+            segment_count mapping ≡ length (mapped_segments image.now)) }
         ensures probes { IfOk result (λ mapping. probe_count mapping ≡ 0) }
-        ensures memory { OnErr result (HasMapped (bytes_of bytes.entry)) }
+        ensures memory { OnErr result (HasMapped image.now) }
     {
-        let image = Image::reopen(bytes);
-        let mut mapped = MappedSegments::of(alloc, &image)?;
+        // The size is a number of 64 bits, and so is the end of each part of the file.
+        let _size = image.bytes().len();
+        let mut mapped = MappedSegments::of(alloc, image)?;
         mapped.addresses.sort_unstable_by_key(|pair| pair.0.start);
         let memory = spans_of(alloc, &mapped.addresses)?;
         Ok(Mapping {

@@ -156,7 +156,7 @@ impl<'a> Verified<'a> {
 
     /// The bytes of the image in the slice with this index, or `None` where the slice is of another
     /// kind, or there is none.
-    pub(crate) fn image_bytes(&self, index: u64) -> Option<Bytes<'a>>
+    fn image_bytes(&self, index: u64) -> Option<Bytes<'a>>
         ensures is_image { IsSome result ↔ IsSomeAnd (slice_get (slices_of self.now) index)
             (λ slice. IsImage (slice_bytes self.now slice)) }
         ensures bytes { IfSome result (λ bytes. IsSomeAnd (slice_get (slices_of self.now) index)

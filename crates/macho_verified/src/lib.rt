@@ -4,6 +4,7 @@
 
 pub mod image;
 pub mod linkedit;
+pub mod mapping;
 pub mod section;
 pub mod segment;
 pub mod symbol;

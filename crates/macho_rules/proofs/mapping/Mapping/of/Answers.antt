@@ -1,5 +1,4 @@
 use Rattle.std.proofs.Common.{◌≡◌, List, ℕ, slice_get, subst}
-use Rattle.macho_fields.specs.Bytes.{bytes_of}
 use Rattle.macho_fields.specs.Universal.{slices_of, slice_bytes}
 use Rattle.macho_rules.specs.Mapping.{sources, GivesSources}
 use Rattle.macho_rules.proofs.MappingItems.{some_and}
@@ -8,6 +7,6 @@ use Rattle.macho_rules.proofs.mapping.Mapping.of.Goals as goal
 pub returns-clause-sources : goal.returns-clause-sources
 returns-clause-sources c =
     let file = c.args.verified.now in
-    some_and (slice_get (slices_of file) c.args.index) (λ slice. bytes_of c.in-Some.bytes ≡ slice_bytes file slice)
+    some_and (slice_get (slices_of file) c.args.index) (λ slice. c.in-Some.image ≡ slice_bytes file slice)
     (λ slice. GivesSources (slice_bytes file slice) (sources c.in_ok-mapping.mapping))
-    (λ slice is. subst (λ (bytes : List ℕ). GivesSources bytes (sources c.in_ok-mapping.mapping)) is c.in_ok-mapping.ensures.sources) c.in-Some.ensures.bytes
+    (λ slice is. subst (λ (bytes : List ℕ). GivesSources bytes (sources c.in_ok-mapping.mapping)) is c.in_ok-mapping.ensures.sources) c.in-Some.ensures.image
