@@ -14,7 +14,7 @@ use Rattle.macho_image.specs.declared.dysymtab.Dysymtab.{Dysymtab}
 use Rattle.macho_image.specs.declared.symbol.Symbol.{Symbol}
 
 -- where some remain, the first is the one at the place
-items-step : (each place left : ℕ) → 0 < left → items_from each place left ≡ place ∷ items_from each (place + each) (left - 1)
+pub items-step : (each place left : ℕ) → 0 < left → items_from each place left ≡ place ∷ items_from each (place + each) (left - 1)
 items-step each place zero some = absurd (omega arith)
 items-step each place (suc left) some = ap (λ n. place ∷ items_from each (place + each) n) (let e : left ≡ suc left - 1 = omega arith in e)
 

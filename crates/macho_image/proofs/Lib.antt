@@ -17,4 +17,5 @@ pub mod Alone
 pub mod FirstOfKind
 pub mod Repeated
 pub mod Items
+pub mod Ranges
 pub mod DysymtabWords

@@ -71,8 +71,24 @@ impl<'a> Iterator for Symbols<'a> {
     }
 }
 
+impl<'a> Symbols<'a> {
+    ghost use Rattle.std.specs.Prelude.{◌≡◌, take, drop};
+
+    /// Those whose indices are from `first` on, `count` of them, those that there are.
+    fn range(&self, first: u64, count: u64) -> Symbols<'a>
+        ensures { result ≡ take count (drop first self.now) }
+    {
+        let first = first.min(self.left);
+        Symbols {
+            image: self.image,
+            place: self.place + NLIST_64_SIZE * first,
+            left: count.min(self.left - first),
+        }
+    }
+}
+
 impl<'a> Image<'a> {
-    ghost use Rattle.std.specs.Prelude.{◌≡◌, map};
+    ghost use Rattle.std.specs.Prelude.{◌≡◌, map, take, drop, slice_get};
     ghost use Rattle.macho_fields.specs.Image.{commands_of};
     ghost use Rattle.macho_image.specs.Symbol.{symbols_of, symbol_at};
 
@@ -94,6 +110,24 @@ impl<'a> Image<'a> {
                 left: 0,
             },
         }
+    }
+
+    /// The symbols whose indices in the table are from `first` on, `count` of them, those that there
+    /// are. The symbols before them are not gone over.
+    pub fn symbol_range(&self, first: u64, count: u64) -> Symbols<'a>
+        ensures { result ≡ map (symbol_at self.now)
+            (take count (drop first (symbols_of self.now (commands_of self.now)))) }
+    {
+        self.symbols().range(first, count)
+    }
+
+    /// The symbol with this index in the table, or `None` where there is none. The symbols before it
+    /// are not gone over.
+    pub fn symbol(&self, index: u64) -> Option<Symbol>
+        ensures { result ≡ slice_get (map (symbol_at self.now)
+            (symbols_of self.now (commands_of self.now))) index }
+    {
+        self.symbols().range(index, 1).next()
     }
 }
 
