@@ -1,2 +1,3 @@
 pub mod Accepted
+pub mod Counted
 pub mod LinkeditData

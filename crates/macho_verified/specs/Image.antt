@@ -1,4 +1,4 @@
--- What an image of an accepted file gives. (mach-o/loader.h: segment_command_64,
+-- What an image of an accepted file gives. (mach-o/loader.h: segment_command_64, dysymtab_command,
 -- linkedit_data_command; mach-o/nlist.h: nlist_64)
 use Rattle.std.specs.Prelude.{ℕ, ◌+◌, ◌-◌, ◌≤◌, ◌<◌, List}
 use Rattle.macho_fields.specs.Field.{part}
@@ -12,6 +12,14 @@ pub record SymbolView : Type 0 where
 
 abbrev pub symbol_view : List ℕ → ℕ → SymbolView
 symbol_view image place = record { image = image; place = place }
+
+-- an indirect entry of an image, by its place
+pub record IndirectView : Type 0 where
+  pub image : List ℕ
+  pub place : ℕ
+
+abbrev pub indirect_view : List ℕ → ℕ → IndirectView
+indirect_view image place = record { image = image; place = place }
 
 -- a mapped segment has bytes of the file at so many addresses from this one on
 abbrev pub HasBytesAt : List ℕ → ℕ → ℕ → ℕ → Type 0

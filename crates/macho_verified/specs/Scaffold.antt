@@ -1,5 +1,5 @@
 -- What the types of this crate keep, which only proofs need.
-use Rattle.std.specs.Prelude.{◌≡◌, ◌≢◌, ℕ, ◌+◌, ◌≤◌, List, None, Contains, length}
+use Rattle.std.specs.Prelude.{◌≡◌, ◌≢◌, ℕ, ◌+◌, ◌≤◌, ◌<◌, List, None, Contains, length}
 use Rattle.std.specs.Option.{option_map_or}
 use Rattle.macho_fields.specs.Field.{HasZero}
 use Rattle.macho_fields.specs.Image.{commands_of}
@@ -7,12 +7,13 @@ use Rattle.macho_fields.specs.Layers.{NothingBreaks}
 use Rattle.macho_fields.specs.Loader.{IsSoundImage}
 use Rattle.macho_fields.specs.Rules.{BreaksImage}
 use Rattle.macho_fields.specs.Segment.{segments_of, sections_in}
-use Rattle.macho_fields.specs.Symbol.{stroff, strsize}
+use Rattle.macho_fields.specs.Symbol.{stroff, strsize, IsSymbolIndex}
 use Rattle.macho_fields.specs.declared.header.loader.TheConstants as loader
 use Rattle.macho_fields.specs.declared.span.Span.{Span}
 use Rattle.macho_image.specs.Command.{first_of_kind}
 use Rattle.macho_image.specs.Segment.{SegmentView, SectionView}
-use Rattle.macho_image.specs.Symbol.{symbol_at}
+use Rattle.macho_image.specs.Symbol.{symbol_at, symbols_of, indirect_at}
+use Rattle.macho_image.specs.declared.indirect.Indirect.{Indirect}
 use Rattle.macho_image.specs.declared.symbol.Symbol.{Symbol}
 use Rattle.macho_verified.specs.Image.{dataoff, datasize}
 
@@ -49,6 +50,12 @@ unfoldable pub HoldsSymbol : List ℕ → Span → Symbol → Type 0
 HoldsSymbol image among symbol =
     (symbol ≡ symbol_at image symbol.place) × (among ≡ strings image)
     × (symbol.strx ≢ 0 → HasZero image (among.start + symbol.strx) (among.start + among.len))
+
+-- an indirect entry of such an image, which has the symbol that the entry names
+unfoldable pub HoldsIndirect : List ℕ → Indirect → Type 0
+HoldsIndirect image entry =
+    (entry ≡ indirect_at image entry.place)
+    × (IsSymbolIndex entry.value → entry.value < length (symbols_of image (commands_of image)))
 
 -- the data of a linkedit_data_command that has any lies inside the image
 abbrev pub HasData : List ℕ → ℕ → Type 0

@@ -2,7 +2,7 @@
 
 use crate::section::VerifiedSection;
 use crate::segment::VerifiedSegments;
-use crate::symbol::{VerifiedSymbols, strings_of};
+use crate::symbol::{VerifiedSymbol, VerifiedSymbols, strings_of};
 use macho_image::Image;
 use macho_rules::Verified;
 use std::marker::Model;
@@ -116,5 +116,19 @@ impl<'a> VerifiedImage<'a> {
             strings: strings_of(&self.image),
             symbols,
         }
+    }
+
+    /// The symbol with this index in the table of `LC_SYMTAB`, or `None` where there is none. The symbols
+    /// before it are not gone over.
+    pub fn symbol(&self, index: u64) -> Option<VerifiedSymbol<'a>>
+        ensures { result ≡ slice_get (map (symbol_view self.now)
+            (symbols_of self.now (commands_of self.now))) index }
+    {
+        let symbol = self.image.symbol(index)?;
+        Some(VerifiedSymbol {
+            image: self.image.bytes(),
+            strings: strings_of(&self.image),
+            symbol,
+        })
     }
 }

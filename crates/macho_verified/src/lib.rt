@@ -3,6 +3,7 @@
 //! is there, so no caller tests it again.
 
 pub mod image;
+pub mod indirect;
 pub mod linkedit;
 pub mod mapping;
 pub mod section;
@@ -10,6 +11,7 @@ pub mod segment;
 pub mod symbol;
 
 pub use image::VerifiedImage;
+pub use indirect::{VerifiedIndirect, VerifiedIndirects};
 pub use section::{VerifiedSection, VerifiedSections};
 pub use segment::{VerifiedSegment, VerifiedSegments};
 pub use symbol::{VerifiedSymbol, VerifiedSymbols};

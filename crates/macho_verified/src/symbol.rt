@@ -13,9 +13,9 @@ use std::marker::Model;
 /// A symbol of an accepted image.
 #[derive(Drop)]
 pub struct VerifiedSymbol<'a> {
-    image: Bytes<'a>,
-    strings: Span,
-    symbol: Symbol,
+    pub(crate) image: Bytes<'a>,
+    pub(crate) strings: Span,
+    pub(crate) symbol: Symbol,
 }
 
 impl<'a> Model for VerifiedSymbol<'a> {
