@@ -1,6 +1,6 @@
 -- What the parts of an accepted image keep.
 use Rattle.std.proofs.Common.{◌≡◌, ◌≢◌, ℕ, zero, suc, ◌+◌, ◌-◌, ◌*◌, ◌≤◌, ◌<◌, List, [], ◌∷◌, ◌++◌, map, flat_map, length, All, Contains, Option, Some, None, IsSome, IfSome, IsSomeAnd, Bool, true, false, nat_le, slice_get, slice_index_or, take, drop, length-drop, if◌then◌else◌, ◌↔◌, refl, sym, ap, ◌∙◌, subst, arith, inr, le_refl}
-use Rattle.std.proofs.lemmas.List.Elements.{All-map, All-tail, All-contains_itself}
+use Rattle.std.proofs.lemmas.List.Elements.{All-map, All-tail, All-take, All-drop, All-contains_itself}
 use Rattle.std.proofs.lemmas.List.{drop-take, drop-drop, length-take-le}
 use Rattle.std.proofs.lemmas.Option.{none-some, same_Some}
 use Rattle.std.specs.List.{range_with_len}
@@ -211,6 +211,15 @@ pub symbols_hold : (image : List ℕ) → IsAccepted image → All (HoldsSymbol 
 unfolding IsAccepted
 symbols_hold image keeps =
     All-map (HoldsSymbol image (strings image)) (symbol_at image) (symbols_of image (commands_of image)) (items_hold image keeps (first_of_kind image loader.LC_SYMTAB (commands_of image)) refl)
+
+-- some of them
+pub range_holds : (image : List ℕ) → IsAccepted image → (first count : ℕ) → All (HoldsSymbol image (strings image)) (map (symbol_at image) (take count (drop first (symbols_of image (commands_of image)))))
+unfolding IsAccepted
+range_holds image keeps first count =
+    All-map (HoldsSymbol image (strings image)) (symbol_at image) (take count (drop first (symbols_of image (commands_of image))))
+    (All-take (λ p. HoldsSymbol image (strings image) (symbol_at image p)) count (drop first (symbols_of image (commands_of image)))
+    (All-drop (λ p. HoldsSymbol image (strings image) (symbol_at image p)) first (symbols_of image (commands_of image))
+    (items_hold image keeps (first_of_kind image loader.LC_SYMTAB (commands_of image)) refl)))
 
 -- the views of symbols that were read at places
 pub views_of : (image : List ℕ) (places : List ℕ) → map (λ (symbol : Symbol). symbol_view image symbol.place) (map (symbol_at image) places) ≡ map (symbol_view image) places

@@ -1,9 +1,13 @@
 -- What an image of an accepted file gives. (mach-o/loader.h: segment_command_64, dysymtab_command,
 -- linkedit_data_command; mach-o/nlist.h: nlist_64)
-use Rattle.std.specs.Prelude.{ℕ, ◌+◌, ◌-◌, ◌≤◌, ◌<◌, List}
+use Rattle.std.specs.Prelude.{ℕ, ◌+◌, ◌-◌, ◌≤◌, ◌<◌, List, [], take, drop}
+use Rattle.std.specs.Option.{option_map_or}
 use Rattle.macho_fields.specs.Field.{part}
-use Rattle.macho_fields.specs.Image.{word}
+use Rattle.macho_fields.specs.Image.{word, commands_of}
 use Rattle.macho_fields.specs.Segment.{vmaddr, vmsize, fileoff, filesize}
+use Rattle.macho_fields.specs.declared.header.loader.TheConstants as loader
+use Rattle.macho_image.specs.Command.{first_of_kind}
+use Rattle.macho_image.specs.Symbol.{symbols_of}
 
 -- a symbol of an image, by its place
 pub record SymbolView : Type 0 where
@@ -12,6 +16,15 @@ pub record SymbolView : Type 0 where
 
 abbrev pub symbol_view : List ℕ → ℕ → SymbolView
 symbol_view image place = record { image = image; place = place }
+
+-- a group of the symbols of an image: those from a first index on, so many, by two fields of its
+-- LC_DYSYMTAB (dysymtab_command: ilocalsym and nlocalsym, iextdefsym and nextdefsym, iundefsym and
+-- nundefsym); none where it has no LC_DYSYMTAB
+abbrev pub symbol_group : (List ℕ → ℕ → ℕ) → (List ℕ → ℕ → ℕ) → List ℕ → List ℕ
+symbol_group first count image =
+    option_map_or (λ dysymtab.
+    take (count image dysymtab) (drop (first image dysymtab) (symbols_of image (commands_of image))))
+    (first_of_kind image loader.LC_DYSYMTAB (commands_of image)) []
 
 -- an indirect entry of an image, by its place
 pub record IndirectView : Type 0 where

@@ -1,0 +1,69 @@
+//! The groups of symbols of an accepted image. (`mach-o/loader.h`: `dysymtab_command`)
+
+use crate::image::VerifiedImage;
+use crate::symbol::{VerifiedSymbols, strings_of};
+use macho_fields::header::loader::LC_DYSYMTAB;
+
+impl<'a> VerifiedImage<'a> {
+    ghost use Rattle.std.specs.Prelude.{◌≡◌, map, take, drop, length, IfSome};
+    ghost use Rattle.macho_fields.specs.Image.{commands_of};
+    ghost use Rattle.macho_fields.specs.Symbol.{ilocalsym, nlocalsym, iextdefsym, nextdefsym};
+    ghost use Rattle.macho_fields.specs.Symbol.{iundefsym, nundefsym};
+    ghost use Rattle.macho_image.specs.Command.{first_of_kind};
+    ghost use Rattle.macho_image.specs.Symbol.{symbols_of};
+    ghost use Rattle.macho_verified.specs.Image.{symbol_view, symbol_group};
+
+    /// The local symbols: the `nlocalsym` symbols from the index `ilocalsym` on. None where the image
+    /// has no `LC_DYSYMTAB`.
+    pub fn local_symbols(&self) -> VerifiedSymbols<'a>
+        ensures symbols { result
+            ≡ map (symbol_view self.now) (symbol_group ilocalsym nlocalsym self.now) }
+        ensures whole { IfSome (first_of_kind self.now LC_DYSYMTAB (commands_of self.now))
+            (λ dysymtab. length result ≡ nlocalsym self.now dysymtab) }
+    {
+        match self.image.dysymtab() {
+            Some(dysymtab) => self.symbol_range(dysymtab.ilocalsym, dysymtab.nlocalsym),
+            None => self.symbol_range(0, 0),
+        }
+    }
+
+    /// The defined external symbols: the `nextdefsym` symbols from the index `iextdefsym` on. None
+    /// where the image has no `LC_DYSYMTAB`.
+    pub fn defined_symbols(&self) -> VerifiedSymbols<'a>
+        ensures symbols { result
+            ≡ map (symbol_view self.now) (symbol_group iextdefsym nextdefsym self.now) }
+        ensures whole { IfSome (first_of_kind self.now LC_DYSYMTAB (commands_of self.now))
+            (λ dysymtab. length result ≡ nextdefsym self.now dysymtab) }
+    {
+        match self.image.dysymtab() {
+            Some(dysymtab) => self.symbol_range(dysymtab.iextdefsym, dysymtab.nextdefsym),
+            None => self.symbol_range(0, 0),
+        }
+    }
+
+    /// The undefined symbols: the `nundefsym` symbols from the index `iundefsym` on. None where the
+    /// image has no `LC_DYSYMTAB`.
+    pub fn undefined_symbols(&self) -> VerifiedSymbols<'a>
+        ensures symbols { result
+            ≡ map (symbol_view self.now) (symbol_group iundefsym nundefsym self.now) }
+        ensures whole { IfSome (first_of_kind self.now LC_DYSYMTAB (commands_of self.now))
+            (λ dysymtab. length result ≡ nundefsym self.now dysymtab) }
+    {
+        match self.image.dysymtab() {
+            Some(dysymtab) => self.symbol_range(dysymtab.iundefsym, dysymtab.nundefsym),
+            None => self.symbol_range(0, 0),
+        }
+    }
+
+    /// The symbols from the index `first` on, `count` of them, as far as there are any.
+    fn symbol_range(&self, first: u64, count: u64) -> VerifiedSymbols<'a>
+        ensures { result ≡ map (symbol_view self.now)
+            (take count (drop first (symbols_of self.now (commands_of self.now)))) }
+    {
+        VerifiedSymbols {
+            image: self.image.bytes(),
+            strings: strings_of(&self.image),
+            symbols: self.image.symbol_range(first, count),
+        }
+    }
+}
