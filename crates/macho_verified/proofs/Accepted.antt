@@ -213,7 +213,8 @@ symbols_hold image keeps =
     All-map (HoldsSymbol image (strings image)) (symbol_at image) (symbols_of image (commands_of image)) (items_hold image keeps (first_of_kind image loader.LC_SYMTAB (commands_of image)) refl)
 
 -- some of them
-pub range_holds : (image : List ℕ) → IsAccepted image → (first count : ℕ) → All (HoldsSymbol image (strings image)) (map (symbol_at image) (take count (drop first (symbols_of image (commands_of image)))))
+pub range_holds : (image : List ℕ) → IsAccepted image → (first count : ℕ)
+    → All (HoldsSymbol image (strings image)) (map (symbol_at image) (take count (drop first (symbols_of image (commands_of image)))))
 unfolding IsAccepted
 range_holds image keeps first count =
     All-map (HoldsSymbol image (strings image)) (symbol_at image) (take count (drop first (symbols_of image (commands_of image))))

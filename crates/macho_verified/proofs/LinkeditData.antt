@@ -48,7 +48,8 @@ first_place image wanted all are first is =
     at_head (p ∷ places) = refl
 
 -- The first command of a kind whose structure is linkedit_data_command
-module _ (image : List ℕ) (keeps : IsAccepted image) (cmd : ℕ) (listed : structure_of cmd ≡ Some LinkeditDataCommand) (command : ℕ) (first : first_of_kind image cmd (commands_of image) ≡ Some command) where
+module _ (image : List ℕ) (keeps : IsAccepted image) (cmd : ℕ) (listed : structure_of cmd ≡ Some LinkeditDataCommand) (command : ℕ)
+    (first : first_of_kind image cmd (commands_of image) ≡ Some command) where
   among : Contains (commands_of image) command
   among = of_kind_among image (commands_of image) cmd command (is_of_kind image cmd command first)
 

@@ -13,8 +13,8 @@ impl<'a> VerifiedImage<'a> {
     ghost use Rattle.macho_image.specs.Symbol.{symbols_of};
     ghost use Rattle.macho_verified.specs.Image.{symbol_view, symbol_group};
 
-    /// The local symbols: the `nlocalsym` symbols from the index `ilocalsym` on. None where the image
-    /// has no `LC_DYSYMTAB`.
+    /// The local symbols: the `nlocalsym` symbols from the index `ilocalsym` on. None where the
+    /// image has no `LC_DYSYMTAB`.
     pub fn local_symbols(&self) -> VerifiedSymbols<'a>
         ensures symbols { result
             ≡ map (symbol_view self.now) (symbol_group ilocalsym nlocalsym self.now) }

@@ -23,9 +23,9 @@ impl<'a> VerifiedImage<'a> {
     ghost use Rattle.macho_image.specs.Command.{first_of_kind};
     ghost use Rattle.macho_verified.specs.Image.{dataoff, datasize};
 
-    /// The data that the first command with this `cmd` names, such as `LC_FUNCTION_STARTS`, borrowed
-    /// from the image: the `datasize` bytes from `dataoff` on. `None` where the structure of such a
-    /// command is not `linkedit_data_command`, and where the image has none, and only there.
+    /// The data that the first command with this `cmd`, such as `LC_FUNCTION_STARTS`, names: the
+    /// `datasize` bytes from `dataoff` on, borrowed from the image. `None` where the structure of such
+    /// a command is not `linkedit_data_command`, and where the image has none, and only there.
     pub fn linkedit_data(&self, cmd: u32) -> Option<&'a [u8]>
         ensures held { IsSome result ↔ ((structure_of cmd ≡ Some Structure.LinkeditDataCommand)
             × IsSome (first_of_kind self.now cmd (commands_of self.now))) }

@@ -6,13 +6,13 @@ use Rattle.macho_verified.proofs.image.VerifiedImage.local_symbols.Goals as goal
 
 pub returns-in-Some-clause-symbols : goal.returns-in-Some-clause-symbols
 returns-in-Some-clause-symbols c =
-    group_read c.self.inside.image c.args.self.now c.self.view_is ilocalsym nlocalsym c.symbol_range.result c.in-Some.dysymtab c.in-Some.ensures (λ (d : Dysymtab). d.ilocalsym) (λ (d : Dysymtab). d.nlocalsym)
-    (λ p. refl) (λ p. refl) c.symbol_range.ensures
+    group_read c.self.inside.image c.args.self.now c.self.view_is ilocalsym nlocalsym c.symbol_range.result c.in-Some.dysymtab c.in-Some.ensures
+    (λ (d : Dysymtab). d.ilocalsym) (λ (d : Dysymtab). d.nlocalsym) (λ p. refl) (λ p. refl) c.symbol_range.ensures
 
 pub returns-in-Some-clause-whole : goal.returns-in-Some-clause-whole
 returns-in-Some-clause-whole c =
-    group_whole c.self.inside.image c.args.self.now c.self.view_is ilocalsym nlocalsym c.symbol_range.result c.in-Some.dysymtab c.in-Some.ensures (λ (d : Dysymtab). d.ilocalsym) (λ (d : Dysymtab). d.nlocalsym)
-    (λ p. refl) (λ p. refl) c.symbol_range.ensures c.self.invariant (λ p. (0, lit< tt, refl))
+    group_whole c.self.inside.image c.args.self.now c.self.view_is ilocalsym nlocalsym c.symbol_range.result c.in-Some.dysymtab c.in-Some.ensures
+    (λ (d : Dysymtab). d.ilocalsym) (λ (d : Dysymtab). d.nlocalsym) (λ p. refl) (λ p. refl) c.symbol_range.ensures c.self.invariant (λ p. (0, lit< tt, refl))
 
 pub returns-in-None-clause-symbols : goal.returns-in-None-clause-symbols
 returns-in-None-clause-symbols c = no_group c.self.inside.image c.args.self.now c.self.view_is ilocalsym nlocalsym c.symbol_range-in-None.result c.in-None.ensures c.symbol_range-in-None.ensures
