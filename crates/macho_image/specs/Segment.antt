@@ -3,6 +3,7 @@
 use Rattle.std.specs.Prelude.{ℕ, ◌+◌, ◌==◌, List, map, flat_map}
 use Rattle.std.specs.List.{before_first}
 use Rattle.macho_fields.specs.Field.{part}
+use Rattle.macho_fields.specs.Image.{word}
 use Rattle.macho_fields.specs.Segment.{segments_of, sections_in}
 
 -- a segment of an image, by its place
@@ -41,3 +42,17 @@ segment_name image segment = short_name image (segment + 8)
 
 abbrev pub section_name : List ℕ → ℕ → List ℕ
 section_name image section = short_name image section
+
+-- segment_command_64: maxprot at 56
+abbrev pub maxprot : List ℕ → ℕ → ℕ
+maxprot image segment = word image (segment + 56)
+
+-- section_64: align at 52, an exponent of 2; reserved1 68, reserved2 72
+abbrev pub section_align : List ℕ → ℕ → ℕ
+section_align image section = word image (section + 52)
+
+abbrev pub reserved1 : List ℕ → ℕ → ℕ
+reserved1 image section = word image (section + 68)
+
+abbrev pub reserved2 : List ℕ → ℕ → ℕ
+reserved2 image section = word image (section + 72)

@@ -35,7 +35,8 @@ impl<'a> Section<'a> {
     ghost use Rattle.std.specs.Prelude.{◌≡◌, ◌%◌};
     ghost use Rattle.macho_fields.specs.Segment.{section_address, section_size, section_offset};
     ghost use Rattle.macho_fields.specs.Segment.{reloff, nreloc, section_flags, is_zero_fill};
-    ghost use Rattle.macho_image.specs.Segment.{segment_at, section_name};
+    ghost use Rattle.macho_image.specs.Segment.{segment_at, section_name, section_align};
+    ghost use Rattle.macho_image.specs.Segment.{reserved1, reserved2};
 
     /// The segment that it belongs to.
     pub fn segment(&self) -> Segment<'a>
@@ -82,6 +83,13 @@ impl<'a> Section<'a> {
         u64::from(word_in(self.image, self.place, OFFSET))
     }
 
+    /// Its alignment: its address is to be a multiple of 2 to this power. No rule checks that it is.
+    pub fn align(&self) -> u64
+        ensures { result ≡ section_align self.now.image self.now.place }
+    {
+        u64::from(word_in(self.image, self.place, ALIGN))
+    }
+
     /// Where its relocations begin in the image.
     pub fn reloff(&self) -> u64
         ensures { result ≡ reloff self.now.image self.now.place }
@@ -101,6 +109,21 @@ impl<'a> Section<'a> {
         ensures { result ≡ section_flags self.now.image self.now.place }
     {
         u64::from(word_in(self.image, self.place, FLAGS))
+    }
+
+    /// Its `reserved1`: of symbol pointers and of symbol stubs, the index of the first of their
+    /// indirect entries.
+    pub fn reserved1(&self) -> u64
+        ensures { result ≡ reserved1 self.now.image self.now.place }
+    {
+        u64::from(word_in(self.image, self.place, RESERVED1))
+    }
+
+    /// Its `reserved2`: of symbol stubs, the size of one in bytes.
+    pub fn reserved2(&self) -> u64
+        ensures { result ≡ reserved2 self.now.image self.now.place }
+    {
+        u64::from(word_in(self.image, self.place, RESERVED2))
     }
 
     /// Whether its type is `S_ZEROFILL`, `S_GB_ZEROFILL` or `S_THREAD_LOCAL_ZEROFILL`: zeros in
@@ -242,8 +265,14 @@ const SIZE: u64 = 40;
 
 const OFFSET: u64 = 48;
 
+const ALIGN: u64 = 52;
+
 const RELOFF: u64 = 56;
 
 const NRELOC: u64 = 60;
 
 const FLAGS: u64 = 64;
+
+const RESERVED1: u64 = 68;
+
+const RESERVED2: u64 = 72;

@@ -34,7 +34,7 @@ impl<'a> Model for Segment<'a> {
 impl<'a> Segment<'a> {
     ghost use Rattle.std.specs.Prelude.{◌≡◌, map};
     ghost use Rattle.macho_fields.specs.Segment.{vmaddr, vmsize, fileoff, filesize, initprot, nsects};
-    ghost use Rattle.macho_image.specs.Segment.{section_at, sections_with, segment_name};
+    ghost use Rattle.macho_image.specs.Segment.{maxprot, section_at, sections_with, segment_name};
 
     /// Where its command begins in the image.
     pub fn place(&self) -> u64
@@ -76,6 +76,13 @@ impl<'a> Segment<'a> {
         ensures { result ≡ filesize self.now.image self.now.place }
     {
         long_in(self.image, self.place, FILESIZE)
+    }
+
+    /// Its maximum protection: the `VM_PROT_` bits 1 (read), 2 (write) and 4 (execute).
+    pub fn maxprot(&self) -> u64
+        ensures { result ≡ maxprot self.now.image self.now.place }
+    {
+        u64::from(word_in(self.image, self.place, MAXPROT))
     }
 
     /// Its initial protection: the `VM_PROT_` bits 1 (read), 2 (write) and 4 (execute).
@@ -206,5 +213,7 @@ const VMSIZE: u64 = 32;
 const FILEOFF: u64 = 40;
 
 const FILESIZE: u64 = 48;
+
+const MAXPROT: u64 = 56;
 
 const INITPROT: u64 = 60;
