@@ -9,6 +9,7 @@ pub mod HeldSegments
 pub mod Reached
 pub mod Entries
 pub mod Names
+pub mod Named
 pub mod Libraries
 pub mod Places
 pub mod Passed

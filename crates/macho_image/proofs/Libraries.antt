@@ -1,32 +1,20 @@
 -- The libraries of an opened image.
-use Rattle.std.proofs.Common.{◌≡◌, ℕ, ◌+◌, ◌≤◌, List, [], ◌∷◌, length, map, Bool, true, All, Contains, Option, Some, refl, sym, ap, ◌∙◌, subst, arith, slice_index_or}
+use Rattle.std.proofs.Common.{◌≡◌, ℕ, List, [], ◌∷◌, map, Bool, true, All, Contains, Option, Some, refl, sym, ap, ◌∙◌, subst, slice_index_or}
 use Rattle.std.proofs.lemmas.List.Elements.{All-map, All-contains_itself, filter_passes, All-filter}
-use Rattle.macho_fields.specs.Field.{HasZero}
-use Rattle.macho_fields.specs.Image.{command_kind, command_size, commands_of}
-use Rattle.macho_fields.specs.Command.{IsNamed, name_start}
+use Rattle.macho_fields.specs.Image.{command_kind, commands_of}
 use Rattle.macho_fields.specs.LoadCommands.{structure_of, has_name, names_library}
 use Rattle.macho_fields.specs.declared.load_command.Structure.TheVariants.{DylibCommand}
 use Rattle.macho_fields.proofs.LoadCommands.{library_structure}
-use Rattle.macho_fields.proofs.Opened.{command_inside, name_ended}
 use Rattle.macho_fields.proofs.Options.{of_some}
 use Rattle.macho_image.specs.Opened.{IsOpened}
 use Rattle.macho_image.specs.Command.{CommandView, command_at, first_of_kind}
 use Rattle.macho_image.specs.Library.{libraries, dylib_at}
 use Rattle.macho_image.specs.Scaffold.{HoldsLibrary, HoldLibraries, libraries_left, dylibs_left}
-use Rattle.macho_image.proofs.Opened.{opened_keeps}
-use Rattle.macho_image.proofs.OpenedWalk.{opened_commands}
 use Rattle.macho_fields.proofs.Parts.{of_kind_is, of_kind_among}
 use Rattle.macho_fields.specs.declared.header.loader.TheConstants as loader
 use Rattle.macho_image.proofs.Kept.{AreAll, structure_held, got_first}
+use Rattle.macho_image.proofs.Named.{ended}
 use Rattle.macho_image.proofs.OfOneKind.{keep_or_pass, map-places}
-
-ended : (image : List ℕ) (command : ℕ) → IsNamed image command → IsOpened image → Contains (commands_of image) command → HasZero image (name_start image command) (length image)
-ended image command named opened has =
-    let keeps = opened_keeps image opened in
-    let are = opened_commands image opened in
-    let inside : command + command_size image command ≤ length image = command_inside image (commands_of image) keeps are command has in
-    let (z, low, high, within, zero_here) = name_ended image (commands_of image) keeps are command has named in
-    (z, low, omega arith, within, zero_here)
 
 held_library : (image : List ℕ) (command : ℕ) → IsOpened image → Contains (commands_of image) command → names_library (command_kind image command) ≡ true → HoldsLibrary image command
 held_library image command opened has is =

@@ -1,6 +1,7 @@
 -- The load commands of an opened image, as its iterators return them.
 use Rattle.std.specs.Prelude.{ℕ, List, Option, slice_get}
-use Rattle.macho_fields.specs.Field.{part}
+use Rattle.macho_fields.specs.Command.{name_start}
+use Rattle.macho_fields.specs.Field.{part, string_from}
 use Rattle.macho_fields.specs.Image.{command_kind, command_size, of_kind}
 use Rattle.macho_image.specs.declared.command.Command.{Command}
 
@@ -26,3 +27,8 @@ command_at image place = record {
   size = command_size image place;
   bytes = part place (command_size image place) image;
 }
+
+-- the name of a command, which the lc_str at 8 of its structure places: the bytes up to the first
+-- zero byte
+abbrev pub command_name : List ℕ → ℕ → List ℕ
+command_name image command = string_from (name_start image command) image

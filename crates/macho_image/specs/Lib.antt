@@ -3,6 +3,7 @@ pub mod Header
 pub mod Build
 pub mod Single
 pub mod Library
+pub mod Rpath
 pub mod Opened
 pub mod Unique
 pub mod Opening

@@ -1,9 +1,8 @@
 -- The libraries that an image names. (mach-o/loader.h: dylib_command)
 use Rattle.std.specs.Prelude.{ℕ, ◌+◌, List, filter}
-use Rattle.macho_fields.specs.Field.{string_from}
 use Rattle.macho_fields.specs.Image.{word, command_kind}
-use Rattle.macho_fields.specs.Command.{name_start}
 use Rattle.macho_fields.specs.LoadCommands.{names_library}
+use Rattle.macho_image.specs.Command.{command_name}
 use Rattle.macho_image.specs.declared.library.Dylib.{Dylib}
 
 -- the commands that name a library, in order
@@ -32,7 +31,7 @@ abbrev pub dylib_at : List ℕ → ℕ → DylibView
 dylib_at image command = record {
   place = command;
   cmd = command_kind image command;
-  name = string_from (name_start image command) image;
+  name = command_name image command;
   current = word image (command + 16);
   compatible = word image (command + 20);
 }

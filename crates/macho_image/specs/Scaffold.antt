@@ -12,7 +12,7 @@ use Rattle.macho_fields.specs.declared.header.nlist.TheConstants as nlist
 use Rattle.macho_fields.specs.declared.load_command.Structure.TheVariants.{DylibCommand}
 use Rattle.macho_fields.specs.declared.load_command.Structure.TheVariants.{BuildVersionCommand}
 use Rattle.macho_image.specs.Build.{build_at}
-use Rattle.macho_image.specs.Command.{CommandView, command_at}
+use Rattle.macho_image.specs.Command.{CommandView, command_at, command_name}
 use Rattle.macho_image.specs.Library.{DylibView, dylib_at}
 use Rattle.macho_image.specs.Segment.{SegmentView, SectionView, segment_at, section_at, sections_with}
 use Rattle.macho_image.specs.Symbol.{symbol_at, indirect_at}
@@ -86,6 +86,19 @@ pub record HoldSections (image : List ℕ) (segment place left : ℕ) : Type 0 w
 abbrev pub sections_among : List SegmentView → List SectionView
 sections_among segments =
     flat_map (λ s. map (section_at s.image) (sections_with s.image s.place)) segments
+
+-- the lc_str of a command lies inside the image, and so does the zero byte that ends its name
+pub record HoldsName (image : List ℕ) (command : ℕ) : Type 0 where
+  pub whole : command + loader.LC_STR_OFFSET + 4 ≤ length image
+  pub ended : HasZero image (name_start image command) (length image)
+
+-- the paths among the commands that remain
+abbrev pub rpaths_left : List ℕ → List CommandView → List (List ℕ)
+rpaths_left image commands =
+    map (λ c. command_name image c.place) (left_of_kind loader.LC_RPATH commands)
+
+abbrev pub HoldNames : List ℕ → ℕ → List CommandView → Type 0
+HoldNames image kind commands = All (λ c. HoldsName image c.place) (left_of_kind kind commands)
 
 -- the libraries among the commands that remain
 abbrev pub libraries_left : List CommandView → List CommandView

@@ -3,8 +3,10 @@
 ghost use Rattle.std.specs.Prelude.{◌≡◌, ◌+◌, ◌≤◌, length};
 ghost use Rattle.macho_fields.specs.Bytes.{bytes_of};
 ghost use Rattle.macho_fields.specs.Image.{word, long, commands_end, IsGood};
-ghost use Rattle.macho_image.specs.Command.{command_of, command_at};
+ghost use Rattle.macho_image.specs.Command.{command_of, command_at, command_name};
+ghost use Rattle.macho_image.specs.Scaffold.{HoldsName};
 
+use macho_fields::header::loader::LC_STR_OFFSET;
 use macho_fields::{Bytes, Order, Span};
 use std::marker::Model;
 
@@ -133,4 +135,17 @@ pub(crate) fn long_in(image: Bytes, structure: u64, offset: u64) -> u64
     ensures { result ≡ long (bytes_of image.entry) (structure + offset) }
 {
     long_at(image, structure + offset)
+}
+
+/// The name of the command at `place`, without the zero byte that ends it.
+pub(crate) fn name_of(image: Bytes, place: u64) -> &[u8]
+    requires { HoldsName (bytes_of image) place }
+    ensures { result.now ≡ command_name (bytes_of image.entry) place }
+{
+    let start = place + u64::from(word_in(image, place, LC_STR_OFFSET));
+    let rest = Span {
+        start,
+        len: image.len() - start,
+    };
+    image.string_in(rest).unwrap()
 }

@@ -5,12 +5,14 @@
 
 pub mod build;
 pub mod command;
+pub mod dylinker;
 pub mod dysymtab;
 pub mod entry;
 pub mod image;
 pub mod indirect;
 pub mod library;
 pub mod main_command;
+pub mod rpath;
 mod rules;
 pub mod section;
 pub mod segment;
@@ -28,6 +30,7 @@ pub use image::{FileType, Image, Kind};
 pub use indirect::{Indirect, Indirects};
 pub use library::{Dylib, Dylibs};
 pub use main_command::MainCommand;
+pub use rpath::Rpaths;
 pub use section::{AllSections, Section, Sections};
 pub use segment::{Segment, Segments};
 pub use symbol::{Symbol, Symbols};

@@ -3,16 +3,14 @@
 ghost use Rattle.std.specs.Prelude.{◌≡◌};
 ghost use Rattle.std.specs.Iterator.{YieldsFirstBy};
 ghost use Rattle.macho_fields.specs.Bytes.{bytes_of};
-ghost use Rattle.macho_fields.specs.Command.{name_start};
-ghost use Rattle.macho_fields.specs.Field.{string_from};
 ghost use Rattle.macho_image.specs.Command.{command_of};
 ghost use Rattle.macho_image.specs.Library.{dylib_of, dylib_at};
 ghost use Rattle.macho_image.specs.Scaffold.{HoldsLibrary, libraries_left};
 
-use crate::command::{Command, Commands, word_at, word_in};
+use crate::command::{Command, Commands, name_of, word_at, word_in};
 use crate::image::Image;
-use macho_fields::header::loader::{LC_ID_DYLIB, LC_STR_OFFSET};
-use macho_fields::{Bytes, Span, names_library};
+use macho_fields::header::loader::LC_ID_DYLIB;
+use macho_fields::{Bytes, names_library};
 use std::marker::Model;
 
 /// A library that an image is linked with, or the image itself. (`dylib_command`)
@@ -125,18 +123,4 @@ fn dylib_from(image: Bytes, place: u64) -> Dylib
         current: word_in(image, place, CURRENT_VERSION),
         compatible: word_in(image, place, COMPATIBILITY_VERSION),
     }
-}
-
-/// The name of the `dylib_command` at `place`.
-fn name_of(image: Bytes, place: u64) -> &[u8]
-    requires { HoldsLibrary (bytes_of image) place }
-    ensures { result.now ≡ string_from (name_start (bytes_of image.entry) place)
-        (bytes_of image.entry) }
-{
-    let start = place + u64::from(word_in(image, place, LC_STR_OFFSET));
-    let rest = Span {
-        start,
-        len: image.len() - start,
-    };
-    image.string_in(rest).unwrap()
 }

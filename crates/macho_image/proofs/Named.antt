@@ -1,0 +1,55 @@
+-- The names of the commands of an opened image.
+use Rattle.std.proofs.Common.{◌≡◌, ℕ, ◌+◌, ◌≤◌, List, length, map, true, All, Contains, Some, sym, ap, ◌∙◌, subst, arith}
+use Rattle.std.specs.Prelude.{slice_get}
+use Rattle.std.specs.Option.{option_map}
+use Rattle.std.proofs.lemmas.Option.{slice_get-map}
+use Rattle.std.proofs.lemmas.List.Elements.{All-map, All-contains_itself}
+use Rattle.macho_fields.specs.Command.{IsNamed, name_start}
+use Rattle.macho_fields.specs.Field.{HasZero}
+use Rattle.macho_fields.specs.Image.{command_kind, command_size, commands_of, of_kind}
+use Rattle.macho_fields.specs.LoadCommands.{structure_of, structure_size, has_name}
+use Rattle.macho_fields.specs.declared.load_command.Structure.{Structure}
+use Rattle.macho_fields.proofs.LoadCommands.{name_inside}
+use Rattle.macho_fields.proofs.Opened.{command_inside, name_ended}
+use Rattle.macho_fields.proofs.Options.{of_some}
+use Rattle.macho_fields.proofs.Parts.{of_kind_is, of_kind_among}
+use Rattle.macho_image.specs.Command.{CommandView, command_at, first_of_kind}
+use Rattle.macho_image.specs.Opened.{IsOpened}
+use Rattle.macho_image.specs.Scaffold.{left_of_kind, HoldsName, HoldNames}
+use Rattle.macho_image.proofs.Kept.{AreAll, held, all_kept, all_seen}
+use Rattle.macho_image.proofs.Opened.{opened_keeps}
+use Rattle.macho_image.proofs.OpenedWalk.{opened_commands}
+
+pub ended : (image : List ℕ) (command : ℕ) → IsNamed image command → IsOpened image → Contains (commands_of image) command → HasZero image (name_start image command) (length image)
+ended image command named opened has =
+    let keeps = opened_keeps image opened in
+    let are = opened_commands image opened in
+    let inside : command + command_size image command ≤ length image = command_inside image (commands_of image) keeps are command has in
+    let (z, low, high, within, zero_here) = name_ended image (commands_of image) keeps are command has named in
+    (z, low, omega arith, within, zero_here)
+
+-- where the structure of their kind has a name, that of each is held
+held_name : (image : List ℕ) (kind command : ℕ) (s : Structure) → structure_of kind ≡ Some s → has_name s ≡ true → IsOpened image → Contains (of_kind image kind (commands_of image)) command
+    → HoldsName image command
+held_name image kind command s listed named opened has =
+    let is : command_kind image command ≡ kind = of_kind_is image (commands_of image) kind command has in
+    let whole : command + structure_size s ≤ length image = held image kind command s listed opened has in
+    let room : 12 ≤ structure_size s = name_inside s named in record {
+      whole = omega arith;
+      ended = ended image command (of_some (λ t. has_name t ≡ true) (structure_of (command_kind image command)) s (ap structure_of is ∙ listed) named) opened
+          (of_kind_among image (commands_of image) kind command has);
+    }
+
+pub all_names_held : (image : List ℕ) (all : List CommandView) (kind : ℕ) (s : Structure) → structure_of kind ≡ Some s → has_name s ≡ true → IsOpened image → AreAll image all
+    → HoldNames image kind all
+all_names_held image all kind s listed named opened is =
+    let places = of_kind image kind (commands_of image) in
+    subst (All (λ c. HoldsName image c.place)) (sym (all_kept image all kind is)) (All-map (λ c. HoldsName image c.place) (command_at image) places
+    (λ k d less. held_name image kind _ s listed named opened (All-contains_itself places k d less)))
+
+-- what g reads of the first of them
+pub first_seen : {B : Type 0} (g : ℕ → B) (image : List ℕ) (all left : List CommandView) (kind : ℕ) → AreAll image all → left_of_kind kind all ≡ left
+    → slice_get (map (λ c. g c.place) left) 0 ≡ option_map g (first_of_kind image kind (commands_of image))
+first_seen g image all left kind is left_is =
+    let places = of_kind image kind (commands_of image) in
+    ap (λ ys. slice_get ys 0) (ap (map (λ c. g c.place)) (sym left_is) ∙ all_seen g image all kind is) ∙ slice_get-map g places 0
