@@ -3,8 +3,8 @@ use Rattle.std.proofs.Common.{◌≡◌, ℕ, zero, suc, ◌+◌, ◌-◌, ◌*�
 use Rattle.std.specs.Prelude.{slice_get}
 use Rattle.std.specs.Option.{MatchOption}
 use Rattle.std.proofs.lemmas.List.{drop-map, take-map}
-use Rattle.macho_image.specs.Scaffold.{items_from, symbols_from}
-use Rattle.macho_image.specs.Symbol.{symbol_at}
+use Rattle.macho_image.specs.Scaffold.{items_from, symbols_from, indirects_from}
+use Rattle.macho_image.specs.Symbol.{symbol_at, indirect_at}
 use Rattle.macho_image.proofs.Items.{items-step}
 
 -- The items of a table
@@ -55,9 +55,17 @@ pub item_at : {X : Type 0} (xs : List X) (i : ℕ) (old new : List X) (r : Optio
     → r ≡ slice_get xs i
 item_at xs i old new r is steps = head_is old new r steps ∙ (ap (λ ys. slice_get ys 0) is ∙ head_of_range xs i)
 
--- Symbols
+-- Those of an image
 
-pub symbols_range : (image : List ℕ) (place left first count f m : ℕ) → f ≡ min first left → m ≡ min count (left - f)
-    → symbols_from image (place + 16 * f) m ≡ take count (drop first (symbols_from image place left))
-symbols_range image place left first count f m first_is count_is =
-    ap (map (symbol_at image)) (items-range 16 place left first count f m first_is count_is) ∙ sym (range-map (symbol_at image) (items_from 16 place left) first count)
+range_seen : {X : Type 0} (f : ℕ → X) (each place left first count n m : ℕ) → n ≡ min first left → m ≡ min count (left - n)
+    → map f (items_from each (place + each * n) m) ≡ take count (drop first (map f (items_from each place left)))
+range_seen f each place left first count n m first_is count_is =
+    ap (map f) (items-range each place left first count n m first_is count_is) ∙ sym (range-map f (items_from each place left) first count)
+
+pub symbols_range : (image : List ℕ) (place left first count n m : ℕ) → n ≡ min first left → m ≡ min count (left - n)
+    → symbols_from image (place + 16 * n) m ≡ take count (drop first (symbols_from image place left))
+symbols_range image = range_seen (symbol_at image) 16
+
+pub indirects_range : (image : List ℕ) (place left first count n m : ℕ) → n ≡ min first left → m ≡ min count (left - n)
+    → indirects_from image (place + 4 * n) m ≡ take count (drop first (indirects_from image place left))
+indirects_range image = range_seen (indirect_at image) 4

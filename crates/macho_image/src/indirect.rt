@@ -63,8 +63,24 @@ impl<'a> Iterator for Indirects<'a> {
     }
 }
 
+impl<'a> Indirects<'a> {
+    ghost use Rattle.std.specs.Prelude.{◌≡◌, take, drop};
+
+    /// Those whose indices are from `first` on, `count` of them, those that there are.
+    fn range(&self, first: u64, count: u64) -> Indirects<'a>
+        ensures { result ≡ take count (drop first self.now) }
+    {
+        let first = first.min(self.left);
+        Indirects {
+            image: self.image,
+            place: self.place + INDIRECT_ENTRY_SIZE * first,
+            left: count.min(self.left - first),
+        }
+    }
+}
+
 impl<'a> Image<'a> {
-    ghost use Rattle.std.specs.Prelude.{◌≡◌, map};
+    ghost use Rattle.std.specs.Prelude.{◌≡◌, map, slice_get};
     ghost use Rattle.macho_fields.specs.Image.{commands_of};
     ghost use Rattle.macho_image.specs.Symbol.{indirects_of, indirect_at};
 
@@ -93,5 +109,13 @@ impl<'a> Image<'a> {
                 left: 0,
             },
         }
+    }
+    /// The indirect entry with this index in the table, or `None` where there is none. The entries
+    /// before it are not gone over.
+    pub fn indirect(&self, index: u64) -> Option<Indirect>
+        ensures { result ≡ slice_get (map (indirect_at self.now)
+            (indirects_of self.now (commands_of self.now))) index }
+    {
+        self.indirects().range(index, 1).next()
     }
 }
