@@ -1,20 +1,29 @@
 //! What is nearest to an address, and what has it.
 
+ghost use Rattle.std.specs.Prelude.{◌↔◌, All, IsTrue, MatchOption};
+ghost use Rattle.symbolize.specs.Find.{symbols, IsAtOrBefore, IsNearest};
+ghost use Rattle.symbolize.specs.Find.{sections, HasAddress, IsFirstAt};
+
 use macho_fields::Span;
 use macho_fields::header::nlist::{N_SECT, N_STAB, N_TYPE};
-use macho_image::Symbol;
-use macho_verified::{VerifiedImage, VerifiedSection, VerifiedSymbol};
+use macho_image::{Section, Symbol};
+use macho_verified::{VerifiedImage, VerifiedSymbol};
 
-/// The symbol of a section that begins nearest before the address, or at it.
+/// The symbol of a section that begins nearest before the address, or at it. Of several that begin
+/// there it is the last.
 pub(crate) fn nearest_symbol<'a>(
     image: &VerifiedImage<'a>,
     address: u64,
-) -> Option<VerifiedSymbol<'a>> {
+) -> Option<VerifiedSymbol<'a>>
+    ensures { MatchOption result
+        (All (λ symbol. ¬ IsAtOrBefore address symbol) (symbols image.now))
+        (IsNearest address (symbols image.now)) }
+{
     let mut nearest = None;
     let mut start = 0;
     for symbol in image.symbols() {
         let value = symbol.symbol().value;
-        if is_in_section(symbol.symbol()) && start <= value && value <= address {
+        if start <= value && is_at_or_before(&symbol, address) {
             start = value;
             nearest = Some(symbol);
         }
@@ -22,26 +31,33 @@ pub(crate) fn nearest_symbol<'a>(
     nearest
 }
 
-/// Whether the symbol names an address of a section, and is no debugging entry.
-fn is_in_section(symbol: Symbol) -> bool {
-    symbol.kind & N_STAB == 0 && symbol.kind & N_TYPE == N_SECT
+/// Whether the symbol names an address of a section, no later than this one. Debugging entries do not.
+fn is_at_or_before(symbol: &VerifiedSymbol, address: u64) -> bool
+    ensures { IsTrue result ↔ IsAtOrBefore address symbol.now }
+{
+    let Symbol { kind, value, .. } = symbol.symbol();
+    kind & N_STAB == 0 && kind & N_TYPE == N_SECT && value <= address
 }
 
-/// The section that has the address.
-pub(crate) fn section_at<'a>(
-    image: &VerifiedImage<'a>,
-    address: u64,
-) -> Option<VerifiedSection<'a>> {
-    for segment in image.segments() {
-        for section in segment.sections() {
-            let memory = Span {
-                start: section.section().addr(),
-                len: section.section().size(),
-            };
-            if memory.holds(address) {
-                return Some(section);
-            }
-        }
-    }
-    None
+/// The first section that has the address.
+pub(crate) fn section_at<'a>(image: &VerifiedImage<'a>, address: u64) -> Option<Section<'a>>
+    ensures { MatchOption result
+        (All (λ section. ¬ HasAddress address section) (sections image.now))
+        (IsFirstAt address (sections image.now)) }
+{
+    image
+        .image()
+        .sections()
+        .find(|section| has_address(section, address))
+}
+
+/// Whether the address is one of the section's.
+fn has_address(section: &Section, address: u64) -> bool
+    ensures { IsTrue result ↔ HasAddress address section.now }
+{
+    let memory = Span {
+        start: section.addr(),
+        len: section.size(),
+    };
+    memory.holds(address)
 }

@@ -28,7 +28,7 @@ fn write_symbol(rt: &impl Print, image: &VerifiedImage, address: u64) -> Result<
         return Ok(());
     };
     let name = symbol.name().unwrap_or(b"(no name)");
-    let past = address.saturating_sub(symbol.symbol().value);
+    let past = address - symbol.symbol().value;
     let name = str::from_utf8(name).unwrap_or("(not UTF-8)");
     print!(rt; " {name} + {past:#x}")?;
     Ok(())
@@ -39,10 +39,10 @@ fn write_section(rt: &impl Print, image: &VerifiedImage, address: u64) -> Result
     let Some(section) = section_at(image, address) else {
         return Ok(());
     };
-    let name = str::from_utf8(section.section().name()).unwrap_or("(not UTF-8)");
+    let name = str::from_utf8(section.name()).unwrap_or("(not UTF-8)");
     print!(rt; " in {name}:")?;
-    let start = address.saturating_sub(section.section().addr());
-    let rest = section.section().size().saturating_sub(start).min(SHOWN);
+    let start = address - section.addr();
+    let rest = (section.size() - start).min(SHOWN);
     match image.bytes_at(address, rest) {
         Some(bytes) => write_bytes(rt, bytes),
         None => Ok(print!(rt; " no bytes in the file")?),
