@@ -3,7 +3,7 @@
 use Rattle.std.specs.Prelude.{◌≡◌, ℕ, ◌≤◌, ◌<◌, List, ◌∷◌, ◌++◌, All, map}
 use Rattle.macho_fields.specs.Field.{Covers}
 use Rattle.macho_fields.specs.Image.{commands_of}
-use Rattle.macho_fields.specs.Segment.{section_address, section_size}
+use Rattle.macho_fields.specs.Segment.{vmsize, section_address, section_size}
 use Rattle.macho_fields.specs.Symbol.{NamesSection, n_value}
 use Rattle.macho_image.specs.Segment.{SectionView, section_at, sections_of}
 use Rattle.macho_image.specs.Symbol.{symbols_of}
@@ -36,10 +36,12 @@ pub record IsNearest (address : ℕ) (symbols : List SymbolView) (nearest : Symb
   pub none_nearer : All (λ s. IsAtOrBefore address s → value_of s ≤ value_of nearest) before
   pub none_later : All (λ s. IsAtOrBefore address s → value_of s < value_of nearest) after
 
--- section_64: the address is one of the size addresses from addr on
+-- section_64: the segment of the section is mapped, and the address is one of the size addresses from
+-- addr on
 abbrev pub HasAddress : ℕ → SectionView → Type 0
 HasAddress address section =
-    Covers (section_address section.image section.place)
+    (0 < vmsize section.image section.segment)
+    × Covers (section_address section.image section.place)
     (section_size section.image section.place) address
 
 -- of these sections, it is the first that has the address

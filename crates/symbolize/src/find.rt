@@ -39,7 +39,7 @@ fn is_at_or_before(symbol: &VerifiedSymbol, address: u64) -> bool
     kind & N_STAB == 0 && kind & N_TYPE == N_SECT && value <= address
 }
 
-/// The first section that has the address.
+/// The first section of a mapped segment that has the address.
 pub(crate) fn section_at<'a>(image: &VerifiedImage<'a>, address: u64) -> Option<Section<'a>>
     ensures { MatchOption result
         (All (λ section. ¬ HasAddress address section) (sections image.now))
@@ -51,7 +51,7 @@ pub(crate) fn section_at<'a>(image: &VerifiedImage<'a>, address: u64) -> Option<
         .find(|section| has_address(section, address))
 }
 
-/// Whether the address is one of the section's.
+/// Whether the section is of a mapped segment, and the address is one of its own.
 fn has_address(section: &Section, address: u64) -> bool
     ensures { IsTrue result ↔ HasAddress address section.now }
 {
@@ -59,5 +59,5 @@ fn has_address(section: &Section, address: u64) -> bool
         start: section.addr(),
         len: section.size(),
     };
-    memory.holds(address)
+    section.segment().vmsize() != 0 && memory.holds(address)
 }
