@@ -114,9 +114,10 @@ impl<'a> VerifiedImage<'a> {
         ensures { result ≡ map (indirect_view self.now)
             (indirects_of self.now (commands_of self.now)) }
     {
+        let entries = self.image.indirects();
         VerifiedIndirects {
             image: self,
-            entries: self.image.indirects(),
+            entries,
         }
     }
 }

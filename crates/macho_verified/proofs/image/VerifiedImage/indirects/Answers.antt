@@ -9,11 +9,11 @@ use Rattle.macho_verified.proofs.image.VerifiedImage.indirects.Goals as goal
 
 pub invariant_of-result : goal.invariant_of-result
 invariant_of-result c =
-    subst (λ (i : List ℕ). All (HoldsIndirect i) c.indirects.result) c.self.view_is
-    (subst (All (HoldsIndirect c.self.inside.image)) (sym c.indirects.ensures) (indirects_hold c.self.inside.image c.self.invariant))
+    subst (λ (i : List ℕ). All (HoldsIndirect i) c.indirects-entries.result) c.self.view_is
+    (subst (All (HoldsIndirect c.self.inside.image)) (sym c.indirects-entries.ensures) (indirects_hold c.self.inside.image c.self.invariant))
 
 pub returns : goal.returns
 returns c =
     let image = c.self.inside.image in
-    subst (λ (i : List ℕ). map (λ (entry : Indirect). indirect_view i entry.place) c.indirects.result ≡ map (indirect_view i) (indirects_of i (commands_of i))) c.self.view_is
-    (ap (map (λ (entry : Indirect). indirect_view image entry.place)) c.indirects.ensures ∙ indirect_views_of image (indirects_of image (commands_of image)))
+    subst (λ (i : List ℕ). map (λ (entry : Indirect). indirect_view i entry.place) c.indirects-entries.result ≡ map (indirect_view i) (indirects_of i (commands_of i))) c.self.view_is
+    (ap (map (λ (entry : Indirect). indirect_view image entry.place)) c.indirects-entries.ensures ∙ indirect_views_of image (indirects_of image (commands_of image)))
