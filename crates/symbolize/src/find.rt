@@ -31,7 +31,8 @@ pub(crate) fn nearest_symbol<'a>(
     nearest
 }
 
-/// Whether the symbol names an address of a section, no later than this one. Debugging entries do not.
+/// Whether the symbol names an address of a section, which is this one or a lower one. A debugging
+/// entry names none.
 fn is_at_or_before(symbol: &VerifiedSymbol, address: u64) -> bool
     ensures { IsTrue result ↔ IsAtOrBefore address symbol.now }
 {
