@@ -28,7 +28,7 @@ command_at image place = record {
   bytes = part place (command_size image place) image;
 }
 
--- the name of a command, which the lc_str at 8 of its structure places: the bytes up to the first
--- zero byte
+-- the name of a command, whose offset is the lc_str at 8 of its structure: the bytes up to the
+-- first zero byte
 abbrev pub command_name : List ℕ → ℕ → List ℕ
 command_name image command = string_from (name_start image command) image

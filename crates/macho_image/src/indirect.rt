@@ -110,6 +110,7 @@ impl<'a> Image<'a> {
             },
         }
     }
+
     /// The indirect entry with this index in the table, or `None` where there is none. The entries
     /// before it are not gone over.
     pub fn indirect(&self, index: u64) -> Option<Indirect>

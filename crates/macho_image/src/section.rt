@@ -112,14 +112,14 @@ impl<'a> Section<'a> {
     }
 
     /// Its `reserved1`: of symbol pointers and of symbol stubs, the index of the first of their
-    /// indirect entries.
+    /// indirect entries. No rule checks that there are such entries.
     pub fn reserved1(&self) -> u64
         ensures { result ≡ reserved1 self.now.image self.now.place }
     {
         u64::from(word_in(self.image, self.place, RESERVED1))
     }
 
-    /// Its `reserved2`: of symbol stubs, the size of one in bytes.
+    /// Its `reserved2`: of symbol stubs, the size of one in bytes. No rule checks that it is not 0.
     pub fn reserved2(&self) -> u64
         ensures { result ≡ reserved2 self.now.image self.now.place }
     {

@@ -89,7 +89,7 @@ impl Mapping {
         ensures probes { IfOk result (λ mapping. probe_count mapping ≡ 0) }
         ensures memory { OnErr result (HasMapped image.now) }
     {
-        // The size is a number of 64 bits, and so is the end of each part of the file.
+        // For the proof alone: the size of an image is below 2^64, and so is the end of each file part.
         let _size = image.bytes().len();
         let mut mapped = MappedSegments::of(alloc, image)?;
         mapped.addresses.sort_unstable_by_key(|pair| pair.0.start);

@@ -24,8 +24,10 @@ impl<'a> VerifiedImage<'a> {
     ghost use Rattle.macho_verified.specs.Image.{dataoff, datasize};
 
     /// The data that the first command with this `cmd`, such as `LC_FUNCTION_STARTS`, names: the
-    /// `datasize` bytes from `dataoff` on, borrowed from the image. `None` where the structure of such
-    /// a command is not `linkedit_data_command`, and where the image has none, and only there.
+    /// `datasize` bytes from `dataoff` on, borrowed from the image. `None` where the list of load
+    /// commands (`macho_fields::structure_of`) has no `linkedit_data_command` with this `cmd`, and
+    /// where the image has none, and only there. The image may have several, since no rule forbids
+    /// that, and a loader may take another than the first.
     pub fn linkedit_data(&self, cmd: u32) -> Option<&'a [u8]>
         ensures held { IsSome result ↔ ((structure_of cmd ≡ Some Structure.LinkeditDataCommand)
             × IsSome (first_of_kind self.now cmd (commands_of self.now))) }
@@ -44,7 +46,7 @@ impl<'a> VerifiedImage<'a> {
     }
 }
 
-/// Whether the structure of a command with this `cmd` is `linkedit_data_command`.
+/// Whether the list of load commands has a `linkedit_data_command` with this `cmd`.
 fn names_linkedit_data(cmd: u32) -> bool
     ensures { IsTrue result ↔ (structure_of cmd ≡ Some LinkeditDataCommand) }
 {

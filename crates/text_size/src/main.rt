@@ -1,9 +1,10 @@
 #![tactic(auto)]
-//! Prints how many bytes of an accepted file its segment __TEXT has.
+//! Prints how many bytes the segment __TEXT has in the first slice of an accepted file.
 
 use macho_rules::verify;
 use macho_verified::VerifiedImage;
 use std::io::Read;
+use std::process::ExitCode;
 
 fn text_size(rt: &HostRuntime) -> Option<usize> {
     let mut file = Vec::new(rt.alloc());
@@ -18,9 +19,13 @@ fn text_size(rt: &HostRuntime) -> Option<usize> {
     None
 }
 
-fn main(rt: HostRuntime) {
-    let _ = match text_size(&rt) {
-        Some(size) => println!(rt; "{size}"),
-        None => eprintln!(rt; "no accepted image with such a segment"),
+fn main(rt: HostRuntime) -> ExitCode {
+    let Some(size) = text_size(&rt) else {
+        let _ = eprintln!(rt; "no accepted image with such a segment");
+        return ExitCode::FAILURE;
     };
+    match println!(rt; "{size}") {
+        Ok(()) => ExitCode::SUCCESS,
+        Err(_) => ExitCode::FAILURE,
+    }
 }
