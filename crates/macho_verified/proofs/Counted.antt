@@ -1,18 +1,19 @@
--- How many symbols an accepted image has, and that its indirect entries name them.
+-- How many symbols and indirect entries an accepted image has, and that the entries name its symbols.
 use Rattle.std.proofs.Common.{◌≡◌, ℕ, zero, suc, ◌+◌, ◌*◌, ◌≤◌, ◌<◌, List, [], ◌∷◌, map, length, All, Contains, Option, Some, None, IsSome, IfSome, slice_get, refl, sym, ap, ◌∙◌, subst, arith, lit<, inl, inr}
 use Rattle.std.specs.Prelude.{nat_le}
 use Rattle.std.specs.Option.{option_map_or}
 use Rattle.std.proofs.Math.Nat.{mul_comm}
 use Rattle.std.proofs.lemmas.Bool.{cases_Bool, cases_lt, le-leb}
 use Rattle.std.proofs.lemmas.Option.{none-some, same_Some}
+use Rattle.std.proofs.lemmas.List.{length-map}
 use Rattle.std.proofs.lemmas.List.Elements.{All-map, All-contains_itself}
 use Rattle.std.proofs.lemmas.List.FromFn.{length-map-range_with_len}
 use Rattle.macho_fields.specs.Image.{word, commands_of}
-use Rattle.macho_fields.specs.LoadCommands.{symbol_table}
+use Rattle.macho_fields.specs.LoadCommands.{symbol_table, indirect_table}
 use Rattle.macho_fields.specs.Rules.{BreaksCommands}
 use Rattle.macho_fields.specs.Symbol.{symbol_count, symoff, nsyms, indirectsymoff, nindirectsyms, IsOutside, IsSymbolIndex}
 use Rattle.macho_fields.specs.declared.header.loader.TheConstants as loader
-use Rattle.macho_fields.specs.declared.load_command.Structure.TheVariants.{SymtabCommand}
+use Rattle.macho_fields.specs.declared.load_command.Structure.TheVariants.{SymtabCommand, DysymtabCommand}
 use Rattle.macho_fields.specs.declared.rule.Rule.TheVariants as rule
 use Rattle.macho_image.specs.Command.{first_of_kind}
 use Rattle.macho_image.specs.Symbol.{symbols_of, symbol_at, indirects_of, indirect_at, items_inside}
@@ -22,7 +23,7 @@ use Rattle.macho_rules.specs.Check.{KeptBefore}
 use Rattle.macho_rules.proofs.Judged.{keeps_opened, opened_commands}
 use Rattle.macho_rules.proofs.OneCommand.{is_of_kind, symbols_counted}
 use Rattle.macho_rules.proofs.TableItems.{table_inside, in_items}
-use Rattle.macho_verified.specs.Image.{symbol_view, indirect_view}
+use Rattle.macho_verified.specs.Image.{SymbolView, symbol_view, IndirectView, indirect_view}
 use Rattle.macho_verified.specs.Scaffold.{IsUnbrokenImage, IsAccepted, HoldsIndirect}
 
 -- a table that is not outside has all its items
@@ -37,16 +38,31 @@ items_counted image start each (suc n) inside =
           (length-map-range_with_len (λ k. start + each * k) 0 (suc n))
     ]
 
+-- where the table of a first command has all its items, what is read of each comes
+views_counted : {X : Type 0} (items : ℕ → List ℕ) (count : ℕ → ℕ) (view : ℕ → X) (result : List X) (first : Option ℕ) → result ≡ map view (option_map_or items first [])
+    → ((c : ℕ) → first ≡ Some c → length (items c) ≡ count c) → IfSome first (λ c. length result ≡ count c)
+views_counted items count view result None are all = tt
+views_counted items count view result (Some c) are all = ap length are ∙ (length-map (items c) view ∙ all c refl)
+
 module _ (image : List ℕ) (keeps : IsUnbrokenImage image) where
   below : KeptBefore image rule.IndirectIndex
   below other place late = keeps.unbroken other place
 
+  table_counted : (t : ℕ) → first_of_kind image loader.LC_SYMTAB (commands_of image) ≡ Some t → length (items_inside image (symoff image t) 16 (nsyms image t)) ≡ nsyms image t
+  table_counted t is =
+      items_counted image (symoff image t) 16 (nsyms image t)
+      (table_inside image loader.LC_SYMTAB SymtabCommand t symbol_table rule.IndirectIndex (lit< tt) below refl (is_of_kind image loader.LC_SYMTAB t is) (0, lit< tt, refl))
+
+  entries_counted : (d : ℕ) → first_of_kind image loader.LC_DYSYMTAB (commands_of image) ≡ Some d
+      → length (items_inside image (indirectsymoff image d) 4 (nindirectsyms image d)) ≡ nindirectsyms image d
+  entries_counted d is =
+      items_counted image (indirectsymoff image d) 4 (nindirectsyms image d)
+      (table_inside image loader.LC_DYSYMTAB DysymtabCommand d indirect_table rule.IndirectIndex (lit< tt) below refl (is_of_kind image loader.LC_DYSYMTAB d is) (3, lit< tt, refl))
+
   counted : (first : Option ℕ) → first_of_kind image loader.LC_SYMTAB (commands_of image) ≡ first
       → length (option_map_or (λ t. items_inside image (symoff image t) 16 (nsyms image t)) first []) ≡ option_map_or (nsyms image) first 0
   counted None is = refl
-  counted (Some t) is =
-      items_counted image (symoff image t) 16 (nsyms image t)
-      (table_inside image loader.LC_SYMTAB SymtabCommand t symbol_table rule.IndirectIndex (lit< tt) below refl (is_of_kind image loader.LC_SYMTAB t is) (0, lit< tt, refl))
+  counted (Some t) is = table_counted t is
 
   -- as many symbols as LC_SYMTAB says
   all_symbols : length (symbols_of image (commands_of image)) ≡ symbol_count image (commands_of image)
@@ -77,6 +93,22 @@ module _ (image : List ℕ) (keeps : IsUnbrokenImage image) where
 pub symbols_are_counted : (image : List ℕ) → IsAccepted image → length (symbols_of image (commands_of image)) ≡ symbol_count image (commands_of image)
 unfolding IsAccepted
 symbols_are_counted image keeps = all_symbols image keeps
+
+-- so all symbols come
+pub symbols_whole : (image : List ℕ) → IsAccepted image → (result : List SymbolView) → result ≡ map (symbol_view image) (symbols_of image (commands_of image))
+    → IfSome (first_of_kind image loader.LC_SYMTAB (commands_of image)) (λ t. length result ≡ nsyms image t)
+unfolding IsAccepted
+symbols_whole image keeps result are =
+    views_counted (λ t. items_inside image (symoff image t) 16 (nsyms image t)) (nsyms image) (symbol_view image) result (first_of_kind image loader.LC_SYMTAB (commands_of image)) are
+    (table_counted image keeps)
+
+-- and all indirect entries
+pub indirects_whole : (image : List ℕ) → IsAccepted image → (result : List IndirectView) → result ≡ map (indirect_view image) (indirects_of image (commands_of image))
+    → IfSome (first_of_kind image loader.LC_DYSYMTAB (commands_of image)) (λ d. length result ≡ nindirectsyms image d)
+unfolding IsAccepted
+indirects_whole image keeps result are =
+    views_counted (λ d. items_inside image (indirectsymoff image d) 4 (nindirectsyms image d)) (nindirectsyms image) (indirect_view image) result
+    (first_of_kind image loader.LC_DYSYMTAB (commands_of image)) are (entries_counted image keeps)
 
 pub indirects_hold : (image : List ℕ) → IsAccepted image → All (HoldsIndirect image) (map (indirect_at image) (indirects_of image (commands_of image)))
 unfolding IsAccepted HoldsIndirect

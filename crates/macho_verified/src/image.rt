@@ -3,6 +3,7 @@
 use crate::section::VerifiedSection;
 use crate::segment::VerifiedSegments;
 use crate::symbol::{VerifiedSymbol, VerifiedSymbols, strings_of};
+use macho_fields::header::loader::LC_SYMTAB;
 use macho_image::Image;
 use macho_rules::Verified;
 use std::marker::Model;
@@ -31,7 +32,9 @@ impl<'a> VerifiedImage<'a> {
     ghost use Rattle.macho_fields.specs.Loader.{IsSoundImage};
     ghost use Rattle.macho_fields.specs.Rules.{BreaksImage};
     ghost use Rattle.macho_fields.specs.Segment.{segments_of};
+    ghost use Rattle.macho_fields.specs.Symbol.{nsyms};
     ghost use Rattle.macho_fields.specs.Universal.{slices_of, slice_bytes, IsImage};
+    ghost use Rattle.macho_image.specs.Command.{first_of_kind};
     ghost use Rattle.macho_image.specs.Segment.{segment_at, section_at, sections_of};
     ghost use Rattle.macho_image.specs.Symbol.{symbols_of};
     ghost use Rattle.macho_verified.specs.Image.{symbol_view, HasBytesAt, bytes_from};
@@ -104,11 +107,13 @@ impl<'a> VerifiedImage<'a> {
         None
     }
 
-    /// The symbols of `LC_SYMTAB`, in the order of the table. None where the image has no
+    /// All symbols of `LC_SYMTAB`, in the order of the table. None where the image has no
     /// `LC_SYMTAB`.
     pub fn symbols(&self) -> VerifiedSymbols<'a>
-        ensures { result ≡ map (symbol_view self.now)
+        ensures symbols { result ≡ map (symbol_view self.now)
             (symbols_of self.now (commands_of self.now)) }
+        ensures whole { IfSome (first_of_kind self.now LC_SYMTAB (commands_of self.now))
+            (λ symtab. length result ≡ nsyms self.now symtab) }
     {
         let symbols = self.image.symbols();
         VerifiedSymbols {

@@ -6,7 +6,7 @@ ghost use Rattle.macho_fields.specs.Symbol.{IsSymbolIndex};
 
 use crate::image::VerifiedImage;
 use crate::symbol::VerifiedSymbol;
-use macho_fields::header::loader::{INDIRECT_SYMBOL_ABS, INDIRECT_SYMBOL_LOCAL};
+use macho_fields::header::loader::{INDIRECT_SYMBOL_ABS, INDIRECT_SYMBOL_LOCAL, LC_DYSYMTAB};
 use macho_image::{Indirect, Indirects};
 use std::marker::Model;
 
@@ -103,16 +103,20 @@ impl<'i, 'a> Iterator for VerifiedIndirects<'i, 'a> {
 }
 
 impl<'a> VerifiedImage<'a> {
-    ghost use Rattle.std.specs.Prelude.{◌≡◌, map};
+    ghost use Rattle.std.specs.Prelude.{◌≡◌, map, length, IfSome};
     ghost use Rattle.macho_fields.specs.Image.{commands_of};
+    ghost use Rattle.macho_fields.specs.Symbol.{nindirectsyms};
+    ghost use Rattle.macho_image.specs.Command.{first_of_kind};
     ghost use Rattle.macho_image.specs.Symbol.{indirects_of};
     ghost use Rattle.macho_verified.specs.Image.{indirect_view};
 
-    /// The entries of the indirect symbol table, in its order. None where the image has no
+    /// All entries of the indirect symbol table, in its order. None where the image has no
     /// `LC_DYSYMTAB`. (`indirectsymoff` and `nindirectsyms` of `dysymtab_command`)
     pub fn indirects<'i>(&'i self) -> VerifiedIndirects<'i, 'a>
-        ensures { result ≡ map (indirect_view self.now)
+        ensures indirects { result ≡ map (indirect_view self.now)
             (indirects_of self.now (commands_of self.now)) }
+        ensures whole { IfSome (first_of_kind self.now LC_DYSYMTAB (commands_of self.now))
+            (λ dysymtab. length result ≡ nindirectsyms self.now dysymtab) }
     {
         let entries = self.image.indirects();
         VerifiedIndirects {

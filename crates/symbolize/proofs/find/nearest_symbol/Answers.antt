@@ -29,7 +29,7 @@ loop-symbol-preserved c =
 pub returns : goal.returns
 returns c =
     let all = symbols c.args.image.now in
-    let given = c.into_iter-symbol-iterator.ensures.into_iter_gives ∙ c.symbols-symbol-items.ensures in
+    let given = c.into_iter-symbol-iterator.ensures.into_iter_gives ∙ c.symbols-symbol-items.ensures.symbols in
     let end = YieldsList-end (YieldsList-from_first (λ (x : SymbolView). x) (λ (left : List SymbolView). left) all given)
     c.loop-symbol.yielded _ c.loop-symbol.yielded_by _ _ c.in-None.is c.next.ensures.steps in
     nearest_of_all c.args.address all c.loop-symbol.yielded c.loop-symbol.nearest c.loop-symbol.start (sym (map-id c.loop-symbol.yielded) ∙ end.0) c.loop-symbol.invariant
