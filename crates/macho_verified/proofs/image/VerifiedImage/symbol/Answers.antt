@@ -20,6 +20,8 @@ invariant_of-result c =
 pub returns : goal.returns
 returns c =
     let image = c.self.inside.image in
-    subst (λ (i : List ℕ). Some (symbol_view (bytes_of c.bytes.result) c.in_ok-symbol.symbol.place) ≡ slice_get (map (symbol_view i) (symbols_of i (commands_of i))) c.args.index) c.self.view_is
-    (subst (λ (bytes : List ℕ). Some (symbol_view bytes c.in_ok-symbol.symbol.place) ≡ slice_get (map (symbol_view image) (symbols_of image (commands_of image))) c.args.index) (sym c.bytes.ensures.bytes)
+    subst (λ (i : List ℕ). Some (symbol_view (bytes_of c.bytes.result) c.in_ok-symbol.symbol.place) ≡ slice_get (map (symbol_view i) (symbols_of i (commands_of i))) c.args.index)
+    c.self.view_is
+    (subst (λ (bytes : List ℕ). Some (symbol_view bytes c.in_ok-symbol.symbol.place) ≡ slice_get (map (symbol_view image) (symbols_of image (commands_of image))) c.args.index)
+    (sym c.bytes.ensures.bytes)
     (sym (viewed_at image (symbols_of image (commands_of image)) c.args.index c.in_ok-symbol.symbol (sym c.symbol.ensures ∙ c.in_ok-symbol.was))))
