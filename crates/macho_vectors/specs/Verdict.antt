@@ -1,5 +1,5 @@
 -- What a verdict on a file reports, its line, and two verdicts beside each other.
-use Rattle.std.specs.Prelude.{◌≡◌, ◌≢◌, ◌++◌, ℕ, List, Option, None, Some, codes}
+use Rattle.std.specs.Prelude.{◌≡◌, ◌≢◌, ◌↔◌, ◌++◌, ℕ, Bool, IsTrue, List, Option, None, Some, codes}
 use Rattle.macho_fields.specs.First.{IsUnbroken, IsFirstBroken}
 use Rattle.macho_fields.specs.RuleNames.{text_of}
 use Rattle.macho_fields.specs.declared.rule.Break.{Break}
@@ -19,6 +19,11 @@ verdict_line (Some b) = codes "refused: " ++ text_of b
 -- the line that is right for the file
 abbrev pub IsVerdict : List ℕ → List ℕ → Type 0
 IsVerdict file line = (first : Option Break) × IsFirst file first × (line ≡ verdict_line first)
+
+-- whether a line agrees with the file: whether it is that of the first broken rule, or of none
+abbrev pub Agrees : List ℕ → List ℕ → Bool → Type 0
+Agrees file line agrees =
+    (first : Option Break) × IsFirst file first × (IsTrue agrees ↔ (line ≡ verdict_line first))
 
 -- the comparison of two reports: that they are the same one, or that they are not, and which they are
 abbrev pub Compares : Option Break → Option Break → Comparison → Type 0

@@ -1,6 +1,9 @@
 //! Bytes that are written as words.
 
-ghost use Rattle.std.specs.Prelude.{◌<◌, IfOk};
+ghost use Rattle.std.specs.Prelude.{◌≡◌, ◌<◌, IfOk, IfErr};
+ghost use Rattle.std.specs.Char.{digit_value};
+ghost use Rattle.macho_vectors.specs.Digit.{IsNoDigit};
+ghost use Rattle.macho_vectors.specs.declared.fault.Fault.TheVariants.{Digits};
 
 use crate::fault::Fault;
 use std::alloc::Global;
@@ -82,7 +85,8 @@ fn pairs(alloc: Global, digits: &str) -> Result<Vec<u8>, Fault> {
 
 /// The value of a hexadecimal digit, in lower case.
 fn value(digit: u8) -> Result<u8, Fault>
-    ensures { IfOk result (λ number. number < 16) }
+    ensures value { IfOk result (λ number. (number ≡ digit_value digit) × (number < 16)) }
+    ensures fault { IfErr result (λ fault. (fault ≡ Digits) × IsNoDigit digit) }
 {
     match digit {
         b'0'..=b'9' => Ok(digit - b'0'),

@@ -1,7 +1,7 @@
 //! Vectors: files, each with the verdict that it must have.
 
-ghost use Rattle.std.specs.Prelude.{◌≡◌, IfOk, IsTrue, string_bytes};
-ghost use Rattle.macho_vectors.specs.Verdict.{IsVerdict, verdict_line};
+ghost use Rattle.std.specs.Prelude.{◌≡◌, IfOk, string_bytes};
+ghost use Rattle.macho_vectors.specs.Verdict.{Agrees, IsVerdict, verdict_line};
 
 use crate::compare::first_broken;
 use crate::fault::Fault;
@@ -78,7 +78,7 @@ impl Vector<'_> {
 
 /// Whether the verdict on the file is this line.
 pub(crate) fn agrees(alloc: Global, file: &[u8], wanted: &str) -> Result<bool, AllocError>
-    ensures { IfOk result (λ agrees. IsTrue agrees → IsVerdict file.now wanted.now) }
+    ensures { IfOk result (Agrees file.now wanted.now) }
 {
     let given = verdict(alloc, file)?;
     Ok(given.as_str() == wanted)
