@@ -1,7 +1,9 @@
 -- The commands of one kind of an opened image: their structures lie inside it.
-use Rattle.std.proofs.Common.{◌≡◌, ℕ, ◌+◌, ◌≤◌, List, [], ◌∷◌, length, map, Contains, Option, Some, sym, ap, ◌∙◌, subst, arith}
+use Rattle.std.proofs.Common.{◌≡◌, ℕ, ◌+◌, ◌≤◌, List, [], ◌∷◌, length, map, Contains, Option, None, Some, refl, sym, ap, ◌∙◌, subst, arith}
+use Rattle.std.specs.Iterator.{YieldsFirstBy}
 use Rattle.std.specs.Prelude.{slice_get}
-use Rattle.std.proofs.lemmas.Option.{same_Some}
+use Rattle.std.specs.Option.{option_map}
+use Rattle.std.proofs.lemmas.Option.{same_Some, slice_get-map}
 use Rattle.std.proofs.lemmas.List.Elements.{All-contains_itself, All-map}
 use Rattle.macho_fields.specs.Image.{command_kind, command_size, commands_of, of_kind}
 use Rattle.macho_fields.specs.Command.{records_size}
@@ -10,8 +12,9 @@ use Rattle.macho_fields.specs.declared.load_command.Structure.{Structure}
 use Rattle.macho_fields.proofs.Opened.{structure_inside, command_inside}
 use Rattle.macho_fields.proofs.Parts.{of_kind_is, of_kind_among}
 use Rattle.macho_image.specs.Opened.{IsOpened}
-use Rattle.macho_image.specs.Command.{CommandView, command_at, first_of_kind}
+use Rattle.macho_image.specs.Command.{CommandView, command_of, command_at, first_of_kind}
 use Rattle.macho_image.specs.Scaffold.{left_of_kind, LieInside}
+use Rattle.macho_image.specs.declared.command.Command.{Command}
 use Rattle.macho_image.proofs.Opened.{opened_keeps}
 use Rattle.macho_image.proofs.OpenedWalk.{opened_commands}
 use Rattle.macho_image.proofs.OfOneKind.{left_of_kind-map, map-places}
@@ -54,6 +57,23 @@ all_seen g image all kind is = ap (map (λ c. g c.place)) (all_kept image all ki
 pub got_first : (xs : List ℕ) (x : ℕ) → slice_get xs 0 ≡ Some x → Contains xs x
 got_first [] x is = absurd (cc)
 got_first (y ∷ ys) x is = (0, omega arith, same_Some y x is)
+
+-- what is yielded first of those that a view begins with is the first of the image
+pub first_yielded : (image : List ℕ) (all rest : List CommandView) (kind : ℕ) (got : Option Command) → AreAll image all → YieldsFirstBy command_of (left_of_kind kind) all got rest
+    → option_map command_of got ≡ option_map (command_at image) (first_of_kind image kind (commands_of image))
+first_yielded image all rest kind None is yields =
+    ap (λ (ys : List CommandView). slice_get ys 0) (sym yields.0 ∙ all_kept image all kind is) ∙ slice_get-map (command_at image) (of_kind image kind (commands_of image)) 0
+first_yielded image all rest kind (Some c) is yields =
+    ap (λ (ys : List CommandView). slice_get ys 0) (sym yields ∙ all_kept image all kind is) ∙ slice_get-map (command_at image) (of_kind image kind (commands_of image)) 0
+
+-- its place, where there is one
+pub first_place : (image : List ℕ) (first : Option ℕ) (c : CommandView) → Some c ≡ option_map (command_at image) first → first ≡ Some c.place
+first_place image None c is = absurd (cc)
+first_place image (Some p) c is = ap (λ (d : CommandView). Some d.place) (sym (same_Some c (command_at image p) is))
+
+pub no_first : (image : List ℕ) (first : Option ℕ) → None ≡ option_map (command_at image) first → first ≡ None
+no_first image None is = refl
+no_first image (Some p) is = absurd (cc)
 
 -- where the structure of their kind is listed, that of the first lies inside the image
 pub first_inside : (image bytes : List ℕ) (kind place : ℕ) (s : Structure) (found : Option ℕ) → structure_of kind ≡ Some s → IsOpened image → bytes ≡ image

@@ -1,8 +1,5 @@
 -- The names of the commands of an opened image.
-use Rattle.std.proofs.Common.{◌≡◌, ℕ, ◌+◌, ◌≤◌, List, length, map, true, All, Contains, Some, sym, ap, ◌∙◌, subst, arith}
-use Rattle.std.specs.Prelude.{slice_get}
-use Rattle.std.specs.Option.{option_map}
-use Rattle.std.proofs.lemmas.Option.{slice_get-map}
+use Rattle.std.proofs.Common.{◌≡◌, ℕ, ◌+◌, ◌≤◌, List, length, true, All, Contains, Some, sym, ap, ◌∙◌, subst, arith}
 use Rattle.std.proofs.lemmas.List.Elements.{All-map, All-contains_itself}
 use Rattle.macho_fields.specs.Command.{IsNamed, name_start}
 use Rattle.macho_fields.specs.Field.{HasZero}
@@ -15,8 +12,8 @@ use Rattle.macho_fields.proofs.Options.{of_some}
 use Rattle.macho_fields.proofs.Parts.{of_kind_is, of_kind_among}
 use Rattle.macho_image.specs.Command.{CommandView, command_at, first_of_kind}
 use Rattle.macho_image.specs.Opened.{IsOpened}
-use Rattle.macho_image.specs.Scaffold.{left_of_kind, HoldsName, HoldNames}
-use Rattle.macho_image.proofs.Kept.{AreAll, held, all_kept, all_seen}
+use Rattle.macho_image.specs.Scaffold.{HoldsName, HoldNames}
+use Rattle.macho_image.proofs.Kept.{AreAll, held, all_kept, got_first}
 use Rattle.macho_image.proofs.Opened.{opened_keeps}
 use Rattle.macho_image.proofs.OpenedWalk.{opened_commands}
 
@@ -47,9 +44,7 @@ all_names_held image all kind s listed named opened is =
     subst (All (λ c. HoldsName image c.place)) (sym (all_kept image all kind is)) (All-map (λ c. HoldsName image c.place) (command_at image) places
     (λ k d less. held_name image kind _ s listed named opened (All-contains_itself places k d less)))
 
--- what g reads of the first of them
-pub first_seen : {B : Type 0} (g : ℕ → B) (image : List ℕ) (all left : List CommandView) (kind : ℕ) → AreAll image all → left_of_kind kind all ≡ left
-    → slice_get (map (λ c. g c.place) left) 0 ≡ option_map g (first_of_kind image kind (commands_of image))
-first_seen g image all left kind is left_is =
-    let places = of_kind image kind (commands_of image) in
-    ap (λ ys. slice_get ys 0) (ap (map (λ c. g c.place)) (sym left_is) ∙ all_seen g image all kind is) ∙ slice_get-map g places 0
+-- that of the first of them
+pub first_name_held : (image : List ℕ) (kind place : ℕ) (s : Structure) → structure_of kind ≡ Some s → has_name s ≡ true → IsOpened image
+    → first_of_kind image kind (commands_of image) ≡ Some place → HoldsName image place
+first_name_held image kind place s listed named opened is = held_name image kind place s listed named opened (got_first (of_kind image kind (commands_of image)) place is)

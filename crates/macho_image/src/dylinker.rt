@@ -17,7 +17,7 @@ impl<'a> Image<'a> {
         ensures { option_map (λ path. path.now) result ≡ option_map (command_name self.now)
             (first_of_kind self.now LC_LOAD_DYLINKER (commands_of self.now)) }
     {
-        let command = self.commands().next_of_kind(LC_LOAD_DYLINKER)?;
+        let command = self.first_command(LC_LOAD_DYLINKER)?;
         Some(name_of(self.bytes(), command.place))
     }
 }

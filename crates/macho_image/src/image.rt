@@ -1,6 +1,6 @@
 //! An opened image. (`mach-o/loader.h`: `mach_header_64`)
 
-use crate::command::{Commands, word_at};
+use crate::command::{Command, Commands, word_at};
 use crate::rules::{command_repeated, command_short, dylib_id, name, unique_places};
 use crate::unique::UniquePlaces;
 use crate::walk::{
@@ -35,6 +35,7 @@ impl<'a> Model for Image<'a> {
 
 impl<'a> Image<'a> {
     ghost use Rattle.std.specs.Prelude.{◌≡◌, IfOk, Some, map};
+    ghost use Rattle.std.specs.Option.{option_map};
     ghost use Rattle.macho_fields.specs.Bytes.{bytes_of};
     ghost use Rattle.macho_fields.specs.FileTypes.{file_type_of, file_type_view};
     ghost use Rattle.macho_fields.specs.LoadCommands.{IsUnique};
@@ -43,7 +44,7 @@ impl<'a> Image<'a> {
     ghost use Rattle.macho_fields.specs.Image.{cpu_type, cpu_subtype, file_type, commands_of};
     ghost use Rattle.macho_fields.specs.Universal.{masked};
     ghost use Rattle.macho_fields.specs.declared.rule.Rule.{Rule};
-    ghost use Rattle.macho_image.specs.Command.{command_at, first_of_kind};
+    ghost use Rattle.macho_image.specs.Command.{command_of, command_at, first_of_kind};
     ghost use Rattle.macho_image.specs.Header.{IsKind};
     ghost use Rattle.macho_image.specs.Opened.{IsOpened};
     ghost use Rattle.macho_image.specs.Opening.{AreFirst};
@@ -137,6 +138,15 @@ impl<'a> Image<'a> {
             arch: None,
         };
         opening.commands()
+    }
+
+    /// The first command with this `cmd`, or `None` where the image has none. It may have several:
+    /// the rules forbid that of some only.
+    pub fn first_command(&self, cmd: u32) -> Option<Command<'a>>
+        ensures { option_map command_of result ≡ option_map (command_at self.now)
+            (first_of_kind self.now cmd (commands_of self.now)) }
+    {
+        self.commands().next_of_kind(cmd)
     }
 
     /// The commands up to the last segment.

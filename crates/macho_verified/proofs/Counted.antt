@@ -4,7 +4,6 @@ use Rattle.std.specs.Prelude.{nat_le}
 use Rattle.std.specs.Option.{option_map_or}
 use Rattle.std.proofs.Math.Nat.{mul_comm}
 use Rattle.std.proofs.lemmas.Bool.{cases_Bool, cases_lt, le-leb}
-use Rattle.std.proofs.lemmas.Option.{none-some, same_Some}
 use Rattle.std.proofs.lemmas.List.{length-map}
 use Rattle.std.proofs.lemmas.List.Elements.{All-map, All-contains_itself}
 use Rattle.std.proofs.lemmas.List.FromFn.{length-map-range_with_len}
@@ -16,9 +15,8 @@ use Rattle.macho_fields.specs.declared.header.loader.TheConstants as loader
 use Rattle.macho_fields.specs.declared.load_command.Structure.TheVariants.{SymtabCommand, DysymtabCommand}
 use Rattle.macho_fields.specs.declared.rule.Rule.TheVariants as rule
 use Rattle.macho_image.specs.Command.{first_of_kind}
-use Rattle.macho_image.specs.Symbol.{symbols_of, symbol_at, indirects_of, indirect_at, items_inside}
+use Rattle.macho_image.specs.Symbol.{symbols_of, indirects_of, indirect_at, items_inside}
 use Rattle.macho_image.specs.declared.indirect.Indirect.{Indirect}
-use Rattle.macho_image.specs.declared.symbol.Symbol.{Symbol}
 use Rattle.macho_rules.specs.Check.{KeptBefore}
 use Rattle.macho_rules.proofs.Judged.{keeps_opened, opened_commands}
 use Rattle.macho_rules.proofs.OneCommand.{is_of_kind, symbols_counted}
@@ -135,11 +133,6 @@ indirect_views_of image [] = refl
 indirect_views_of image (p ∷ places) = ap (λ vs. indirect_view image p ∷ vs) (indirect_views_of image places)
 
 -- at an index
-pub viewed_at : (image places : List ℕ) (n : ℕ) (s : Symbol) → slice_get (map (symbol_at image) places) n ≡ Some s → slice_get (map (symbol_view image) places) n ≡ Some (symbol_view image s.place)
-viewed_at image [] n s is = absurd (none-some s is)
-viewed_at image (p ∷ places) zero s is = ap (λ (t : Symbol). Some (symbol_view image t.place)) (same_Some (symbol_at image p) s is)
-viewed_at image (p ∷ places) (suc n) s is = viewed_at image places n s is
-
 pub some_view : (image places : List ℕ) (n : ℕ) → n < length places → IsSome (slice_get (map (symbol_view image) places) n)
 some_view image [] n less = absurd (omega arith)
 some_view image (p ∷ places) zero less = refl

@@ -1,9 +1,7 @@
--- The first command of a kind, and the data that a linkedit_data_command of an accepted image names.
-use Rattle.std.proofs.Common.{◌≡◌, ℕ, ◌+◌, ◌*◌, ◌≤◌, ◌<◌, List, [], ◌∷◌, map, length, Any, Contains, Option, Some, slice_get, refl, sym, ap, ◌∙◌, subst, arith, lit<, inl}
-use Rattle.std.specs.Option.{option_map}
-use Rattle.std.proofs.lemmas.Bool.{eq-eqb, ne_eqb}
+-- The data that a linkedit_data_command of an accepted image names.
+use Rattle.std.proofs.Common.{◌≡◌, ℕ, ◌+◌, ◌*◌, ◌≤◌, ◌<◌, List, [], length, Any, Contains, Some, refl, sym, ap, ◌∙◌, subst, arith, lit<, inl}
 use Rattle.macho_fields.specs.Field.{Covers, part}
-use Rattle.macho_fields.specs.Image.{command_kind, commands_of, of_kind}
+use Rattle.macho_fields.specs.Image.{command_kind, commands_of}
 use Rattle.macho_fields.specs.Command.{HasStructure, least_size}
 use Rattle.macho_fields.specs.LoadCommands.{structure_of}
 use Rattle.macho_fields.specs.Loader.{IsSoundImage}
@@ -12,40 +10,12 @@ use Rattle.macho_fields.specs.Symbol.{tables_of}
 use Rattle.macho_fields.specs.declared.load_command.Structure.TheVariants.{LinkeditDataCommand}
 use Rattle.macho_fields.proofs.LoadCommands.{has_structure, tables_listed}
 use Rattle.macho_fields.proofs.Parts.{of_kind_is, of_kind_among}
-use Rattle.macho_image.specs.Command.{CommandView, command_at, first_of_kind}
-use Rattle.macho_image.specs.Scaffold.{left_of_kind}
-use Rattle.macho_image.proofs.OfOneKind.{left_of_kind-map}
+use Rattle.macho_image.specs.Command.{first_of_kind}
 use Rattle.macho_rules.proofs.OneCommand.{is_of_kind}
 use Rattle.macho_rules.proofs.Searches.{any_of}
 use Rattle.macho_verified.specs.Image.{dataoff, datasize}
 use Rattle.macho_verified.specs.Scaffold.{IsAccepted, HasData}
 use Rattle.macho_verified.proofs.Accepted.{accepted_sound, range_inside}
-
--- The first command of a kind
-
--- that of those that remain
-abbrev pub first_left : ℕ → List CommandView → Option CommandView
-first_left wanted left = slice_get (left_of_kind wanted left) 0
-
-module _ (wanted : ℕ) (left rest : List CommandView) (c : CommandView) (is : left ≡ c ∷ rest) where
-  pub first_found : c.cmd ≡ wanted → first_left wanted left ≡ Some c
-  first_found same = ap (first_left wanted) is ∙ rw (eq-eqb c.cmd wanted same) refl
-
-  pub first_later : ¬ (c.cmd ≡ wanted) → first_left wanted left ≡ first_left wanted rest
-  first_later other = ap (first_left wanted) is ∙ rw (ne_eqb c.cmd wanted other) refl
-
--- that of all is at the place of the first of the kind
-pub first_place : (image : List ℕ) (wanted : ℕ) (all : List CommandView) → all ≡ map (command_at image) (commands_of image) → (first : Option CommandView) → first ≡ first_left wanted all
-    → option_map (λ c. c.place) first ≡ first_of_kind image wanted (commands_of image)
-first_place image wanted all are first is =
-    ap (option_map place) (is ∙ (ap (first_left wanted) are ∙ ap (λ views. slice_get views 0) (left_of_kind-map image wanted (commands_of image)))) ∙ at_head (of_kind image wanted (commands_of image))
-  where
-    place : CommandView → ℕ
-    place c = c.place
-
-    at_head : (places : List ℕ) → option_map place (slice_get (map (command_at image) places) 0) ≡ slice_get places 0
-    at_head [] = refl
-    at_head (p ∷ places) = refl
 
 -- The first command of a kind whose structure is linkedit_data_command
 module _ (image : List ℕ) (keeps : IsAccepted image) (cmd : ℕ) (listed : structure_of cmd ≡ Some LinkeditDataCommand) (command : ℕ)

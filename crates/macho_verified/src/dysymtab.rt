@@ -56,7 +56,7 @@ impl<'a> VerifiedImage<'a> {
     }
 
     /// The symbols from the index `first` on, `count` of them, as far as there are any.
-    fn symbol_range(&self, first: u64, count: u64) -> VerifiedSymbols<'a>
+    pub(crate) fn symbol_range(&self, first: u64, count: u64) -> VerifiedSymbols<'a>
         ensures { result ≡ map (symbol_view self.now)
             (take count (drop first (symbols_of self.now (commands_of self.now)))) }
     {

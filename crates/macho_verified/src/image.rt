@@ -129,11 +129,6 @@ impl<'a> VerifiedImage<'a> {
         ensures { result ≡ slice_get (map (symbol_view self.now)
             (symbols_of self.now (commands_of self.now))) index }
     {
-        let symbol = self.image.symbol(index)?;
-        Some(VerifiedSymbol {
-            image: self.image.bytes(),
-            strings: strings_of(&self.image),
-            symbol,
-        })
+        self.symbol_range(index, 1).next()
     }
 }

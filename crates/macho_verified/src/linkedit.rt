@@ -13,7 +13,6 @@ ghost use Rattle.macho_verified.specs.Scaffold.{HasData};
 use crate::image::VerifiedImage;
 use macho_fields::header::loader::linkedit_data_command::{DATAOFF, DATASIZE};
 use macho_fields::{Bytes, Order, Span, Structure, structure_of};
-use macho_image::Image;
 
 impl<'a> VerifiedImage<'a> {
     ghost use Rattle.std.specs.Prelude.{◌≡◌, ◌↔◌, length, Some, IsSome, IfSome, IsSomeAnd};
@@ -41,8 +40,8 @@ impl<'a> VerifiedImage<'a> {
         if !names_linkedit_data(cmd) {
             return None;
         }
-        let command = first_place(&self.image, cmd)?;
-        Some(data_at(self.image.bytes(), command))
+        let command = self.image.first_command(cmd)?;
+        Some(data_at(self.image.bytes(), command.place))
     }
 }
 
@@ -51,18 +50,6 @@ fn names_linkedit_data(cmd: u32) -> bool
     ensures { IsTrue result ↔ (structure_of cmd ≡ Some LinkeditDataCommand) }
 {
     structure_of(cmd) == Some(Structure::LinkeditDataCommand)
-}
-
-/// The place of the first command with this `cmd`, or `None` where the image has none.
-fn first_place(image: &Image, cmd: u32) -> Option<u64>
-    ensures { result ≡ first_of_kind image.now cmd (commands_of image.now) }
-{
-    for command in image.commands() {
-        if command.cmd == cmd {
-            return Some(command.place);
-        }
-    }
-    None
 }
 
 /// The data that the `linkedit_data_command` at the place `command` names. With `datasize` 0 it is
