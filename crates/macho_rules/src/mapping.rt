@@ -89,8 +89,8 @@ impl Mapping {
         ensures probes { IfOk result (λ mapping. probe_count mapping ≡ 0) }
         ensures memory { OnErr result (HasMapped image.now) }
     {
-        // For the proof alone: the size of an image is below 2^64, and so is the end of each file part.
-        let _size = image.bytes().len();
+        // No file part passes the image, so the end of each is below 2^64.
+        prove!(image.bytes().len() <= u64::MAX);
         let mut mapped = MappedSegments::of(alloc, image)?;
         mapped.addresses.sort_unstable_by_key(|pair| pair.0.start);
         let memory = spans_of(alloc, &mapped.addresses)?;

@@ -40,8 +40,8 @@ invariant_of-result c =
     let held : IsPermutation (numbered_memory image 0 (mapped_segments image)) c.in_ok-memory.memory.pairs =
     IsPermutation-trans _ _ _ moved (subst (λ pairs. IsPermutation pairs c.in_ok-memory.memory.pairs) c.deref.ensures.value c.in_ok-memory.ensures.held) in
     let parts = c.in_ok-mapped.ensures.files in
-    let size : c.len-size.result ≡ length image = c.len-size.ensures ∙ ap length c.bytes.ensures.bytes in
-    let short : length image < 2 ^ 64 = omega (arith, size, c.len-size.type_inv) in
+    let size : c.len.result ≡ length image = c.len.ensures ∙ ap length c.bytes.ensures.bytes in
+    let short : length image < 2 ^ 64 = omega (arith, size, c.len.type_inv) in
     record { indexed = all_indexed image _ _ held parts; fits = all_fit image _ _ held parts short (unbroken_opened image c.requires) c.requires }
 
 pub returns-clause-sources : goal.returns-clause-sources
