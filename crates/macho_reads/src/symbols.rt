@@ -40,9 +40,16 @@ fn write_group(rt: &impl Print, word: &str, symbols: VerifiedSymbols) -> io::Res
     println!(rt; "")
 }
 
-/// Prints each indirect entry with the name of its symbol.
+/// Prints each indirect entry that is also found by its index, with the name of its symbol.
 fn write_indirects(rt: &impl Print, image: &VerifiedImage) -> io::Result<()> {
-    for entry in image.indirects() {
+    let mut entries = image.indirects();
+    for index in 0..=u64::MAX {
+        let Some(entry) = entries.next() else {
+            break;
+        };
+        if image.image().indirect(index) != Some(entry.indirect()) {
+            break;
+        }
         let value = entry.indirect().value;
         match entry.symbol() {
             Some(symbol) => println!(rt; "indirect {value:#x} {}", name_of(&symbol))?,

@@ -1,7 +1,7 @@
 //! How a call ends, if not with what it answers where no rule is broken.
 
-ghost use Rattle.std.specs.Prelude.{◌≡◌, ◌↔◌, Err};
-ghost use Rattle.macho_refusals.specs.declared.fault.Fault.TheVariants as fault;
+ghost use Rattle.std.specs.Prelude.{◌≡◌};
+ghost use Rattle.macho_refusals.specs.Status.{status_of};
 
 use macho_fat::FatFault;
 use macho_fields::Break;
@@ -78,9 +78,7 @@ impl From<io::Error> for Fault {
 
 /// The status of the program. The line of a broken rule is an answer.
 pub(crate) fn status(ended: Result<(), Fault>) -> u8
-    ensures changed { (result ≡ 1) ↔ (ended ≡ Err fault.Changed) }
-    ensures no_call { (result ≡ 2) ↔ (ended ≡ Err fault.NoCall) }
-    ensures memory { (result ≡ 4) ↔ (ended ≡ Err fault.Memory) }
+    ensures { result ≡ status_of ended }
 {
     match ended {
         Ok(()) | Err(Fault::Broken(_)) => 0,
