@@ -1,7 +1,7 @@
 //! Worked examples: verdicts that were worked out by hand from the rules.
 
 use super::{check_lines, check_verdict, same};
-use crate::notation::executable;
+use crate::notation::{executable, written};
 use std::test::Fail;
 
 #[test]
@@ -119,6 +119,30 @@ fn whole_executable(rt: HostRuntime) -> Result<(), Fail> {
 }
 
 #[test]
+fn fields_of_an_executable(rt: HostRuntime) -> Result<(), Fail> {
+    // ncmds; nsyms; filesize of __DATA; vmsize and nsects of __TEXT; nsects of __DATA.
+    for (place, field, line) in [
+        (0x10, "00000000", "accepted"),
+        (0x10, "01000000", "accepted"),
+        (0x23c, "ffffffff", "refused: table-range at 0x230"),
+        (0x130, "ffffffff ffffffff", "refused: segment-size at 0x100"),
+        (0x88, ".8", "refused: entry at 0x298"),
+        (0xa8, "00000000", "accepted"),
+        (0xa8, "ffffffff", "refused: command-short at 0x68"),
+        (0x140, "00000000", "refused: symbol-section at 0x2010"),
+    ] {
+        let whole = executable(rt.alloc())?;
+        let field = written(rt.alloc(), field)?;
+        let mut file = Vec::new(rt.alloc());
+        file.extend_from_slice(whole.get(..place).ok_or("a short file")?)?;
+        file.extend_from_slice(&field)?;
+        file.extend_from_slice(whole.get(file.len()..).ok_or("a short file")?)?;
+        check_verdict(&rt, &file, line);
+    }
+    Ok(())
+}
+
+#[test]
 fn high_segment(rt: HostRuntime) -> Result<(), Fail> {
     check_lines(
         &rt,
@@ -212,6 +236,26 @@ fn table_ranges(rt: HostRuntime) -> Result<(), Fail> {
             01000000 .80 : refused: symbol-group at 0x38
         02000000 68000000 .8 02000000 18000000 88000000 01000000 .8 0b000000 50000000 .4 \
             01000000 .8 05000000 .68 : accepted
+        ",
+    )
+}
+
+#[test]
+fn encryption_and_notes(rt: HostRuntime) -> Result<(), Fail> {
+    check_lines(
+        &rt,
+        "cffaedfe 07000001 03000000 02000000 01000000",
+        "
+        18000000 .8 2c000000 18000000 38000000 01000000 .8 : refused: table-range at 0x20
+        18000000 .8 2c000000 18000000 37000000 01000000 .8 : accepted
+        18000000 .8 2c000000 18000000 ffffffff .12 : accepted
+        10000000 .8 2c000000 10000000 .8 : refused: command-short at 0x20
+        28000000 .8 31000000 28000000 .16 ffffffff ffffffff 01000000 .4 \
+            : refused: table-range at 0x20
+        28000000 .8 31000000 28000000 .16 ffffffff ffffffff .8 : accepted
+        28000000 .8 31000000 28000000 .24 48000000 .4 : accepted
+        28000000 .8 31000000 28000000 .24 49000000 .4 : refused: table-range at 0x20
+        20000000 .8 31000000 20000000 .24 : refused: command-short at 0x20
         ",
     )
 }
