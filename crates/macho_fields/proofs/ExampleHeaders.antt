@@ -6,13 +6,13 @@ use Rattle.macho_fields.specs.Rules.{BreaksImage, BreaksHeader}
 use Rattle.macho_fields.specs.First.{rank, Fault, IsBefore, IsFirstBroken}
 use Rattle.macho_fields.specs.declared.rule.Rule.{Rule}
 use Rattle.macho_fields.specs.declared.rule.Rule.TheVariants as rule
-use Rattle.macho_fields.proofs.Ranks.{rank_positive, rank_determines_rule, image_rule_rank}
+use Rattle.macho_fields.proofs.Ranks.{rank_least, rank_determines_rule, image_rule_rank}
 use Rattle.macho_fields.proofs.Plain.{IsLeast, first_in_image}
 use Rattle.macho_fields.proofs.Walks.{IsHeader, before_walk, walk_breaks_once}
 
 pub nothing_before : (f : Fault) → ¬ IsBefore f (record { scope = 0; rule = rule.Magic; place = 0 })
 nothing_before f (inl h) = absurd (omega arith)
-nothing_before f (inr h) = let p : 1 ≤ rank f.rule = rank_positive f.rule in ⊎_elim (λ k. absurd (omega arith)) (λ k. absurd (omega arith)) h.1
+nothing_before f (inr h) = let p : rank rule.Magic ≤ rank f.rule = rank_least f.rule in ⊎_elim (λ k. absurd (omega arith)) (λ k. absurd (omega arith)) h.1
 
 pub empty_file : IsFirstBroken [] (record { rule = rule.Magic; place = 0 })
 empty_file = (
@@ -38,8 +38,8 @@ cut = take 31 (header 2 0 0)
 pub cut_header : IsFirstBroken cut (record { rule = rule.HeaderTruncated; place = 0 })
 cut_header = first_in_image cut refl (lit≤ tt, refl) rule.HeaderTruncated 0 (inl (refl, lit< tt), later)
   where
-    later : (other : Rule) (at : ℕ) → BreaksImage cut None other at → ¬ ((rank other < 10) ⊎ ((rank other ≡ 10) × (at < 0)))
-    later other at b (inl h) = let p : 10 ≤ rank other = image_rule_rank cut None other at b in absurd (omega arith)
+    later : (other : Rule) (at : ℕ) → BreaksImage cut None other at → ¬ ((rank other < rank rule.HeaderTruncated) ⊎ ((rank other ≡ rank rule.HeaderTruncated) × (at < 0)))
+    later other at b (inl h) = let p : rank rule.HeaderTruncated ≤ rank other = image_rule_rank cut None other at b in absurd (omega arith)
     later other at b (inr h) = absurd (omega arith)
 
 -- after a good header the one bad place of the walk is the first fault
@@ -50,7 +50,7 @@ walk_is_least image good place bad = (inl bad, least)
     same at (inl h) = walk_breaks_once image None None at place h bad
     same at (inr h) = absurd h.2
 
-    least : (other : Rule) (at : ℕ) → BreaksImage image None other at → ¬ ((rank other < 14) ⊎ ((rank other ≡ 14) × (at < place)))
+    least : (other : Rule) (at : ℕ) → BreaksImage image None other at → ¬ ((rank other < rank rule.CommandWalk) ⊎ ((rank other ≡ rank rule.CommandWalk) × (at < place)))
     least other at b (inl less) = before_walk image good other at less b
     least other at b (inr (e, less)) =
         let is = rank_determines_rule other rule.CommandWalk e in

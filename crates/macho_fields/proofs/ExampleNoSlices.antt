@@ -32,7 +32,7 @@ no_slices = 0xca ∷ 0xfe ∷ 0xba ∷ 0xbe ∷ 0 ∷ 0 ∷ 0 ∷ 0 ∷ []
 universal : IsUniversal no_slices
 universal = (lit≤ tt, refl)
 
-no_slices_keeps : (r : Rule) (at : ℕ) → rank r < 9 → ¬ BreaksFile no_slices r at
+no_slices_keeps : (r : Rule) (at : ℕ) → rank r < rank rule.FatEmpty → ¬ BreaksFile no_slices r at
 no_slices_keeps rule.Magic at less h = h.1 (inl universal)
 no_slices_keeps rule.FatTruncated at less h = ⊎_elim (λ k. let p : 8 < 8 = k in absurd (omega arith)) (λ k. let p : 8 < 8 = k in absurd (omega arith)) h.2
 no_slices_keeps rule.FatSliceOutside at less (u, (k, low, e, h)) = let p : k < 0 = low in absurd (omega arith)
@@ -68,6 +68,6 @@ no_slices_keeps rule.Entry at less h = absurd (omega arith)
 pub table_of_no_slices : IsFirstBroken no_slices (record { rule = rule.FatEmpty; place = 4 })
 table_of_no_slices = first_in_file no_slices rule.FatEmpty 4 ((refl, universal, λ k d h. absurd (let p : k < 0 = h in omega arith)), least)
   where
-    least : (other : Rule) (at : ℕ) → BreaksFile no_slices other at → ¬ ((rank other < 9) ⊎ ((rank other ≡ 9) × (at < 4)))
+    least : (other : Rule) (at : ℕ) → BreaksFile no_slices other at → ¬ ((rank other < rank rule.FatEmpty) ⊎ ((rank other ≡ rank rule.FatEmpty) × (at < 4)))
     least other at h (inl less) = no_slices_keeps other at less h
     least other at h (inr (e, less)) = let b = subst (λ r. BreaksFile no_slices r at) (rank_determines_rule other rule.FatEmpty e) h in let p : at ≡ 4 = b.0 in absurd (omega arith)

@@ -144,11 +144,11 @@ first_keeps : (r : Rule) (at : ℕ) → ¬ BreaksImage first (Some (0x0100000c, 
 first_keeps r at (inl h) = first_keeps_header r at h
 first_keeps r at (inr (commands, are, h)) = nothing_commanded first refl r at (subst (λ xs. BreaksCommands first xs r at) (commands_unique first commands [] are (refl, 32, refl)) h)
 
-second_least : (r : Rule) (at : ℕ) → BreaksImage first (Some (0x0100000c, 2)) r at → ¬ ((rank r < 11) ⊎ ((rank r ≡ 11) × (at < 4)))
-second_least r at b (inl less) = ten (rank_determines_rule r rule.HeaderTruncated (let p : 10 ≤ rank r = image_rule_rank first (Some (0x0100000c, 2)) r at b in omega arith))
+second_least : (r : Rule) (at : ℕ) → BreaksImage first (Some (0x0100000c, 2)) r at → ¬ ((rank r < rank rule.ArchMismatch) ⊎ ((rank r ≡ rank rule.ArchMismatch) × (at < 4)))
+second_least r at b (inl less) = whole (rank_determines_rule r rule.HeaderTruncated (let p : rank rule.HeaderTruncated ≤ rank r = image_rule_rank first (Some (0x0100000c, 2)) r at b in omega arith))
   where
-    ten : r ≡ rule.HeaderTruncated → ⊥
-    ten e = ⊎_elim (λ k. let p : 32 < 32 = k.1 in absurd (omega arith)) (λ k. k.2) (subst (λ q. BreaksImage first (Some (0x0100000c, 2)) q at) e b)
+    whole : r ≡ rule.HeaderTruncated → ⊥
+    whole e = ⊎_elim (λ k. let p : 32 < 32 = k.1 in absurd (omega arith)) (λ k. k.2) (subst (λ q. BreaksImage first (Some (0x0100000c, 2)) q at) e b)
 second_least r at b (inr (e, less)) =
     ⊎_elim (λ k. let p : at ≡ 4 = k.0 in absurd (omega arith)) (λ k. k.2)
     (subst (λ q. BreaksImage first (Some (0x0100000c, 2)) q at) (rank_determines_rule r rule.ArchMismatch e) b)

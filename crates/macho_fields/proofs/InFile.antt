@@ -1,5 +1,5 @@
 -- The place of the first break of a file lies in the file, or just after its last byte.
-use Rattle.std.proofs.Common.{◌≡◌, ℕ, suc, zero, ◌+◌, ◌*◌, ◌≤◌, ◌<◌, List, length, drop, Contains, Option, Some, None, IsSomeAnd, slice_get, refl, ap, ◌∙◌, arith, lit≤, inl, inr, length-take}
+use Rattle.std.proofs.Common.{◌≡◌, ℕ, suc, zero, ◌+◌, ◌*◌, ◌≤◌, ◌<◌, List, length, drop, Contains, Option, Some, None, IsSomeAnd, slice_get, refl, ap, ◌∙◌, arith, lit<, inl, inr, length-take}
 use Rattle.std.specs.Option.{option_map_or}
 use Rattle.std.proofs.lemmas.Bool.{cases_lt}
 use Rattle.std.proofs.Math.Nat.{mul-le-mul_right}
@@ -19,19 +19,19 @@ module _ (file : List ℕ) where
   abbrev Below : ℕ → Type 0
   Below n = KeptBelow (BreaksFile file) n
 
-  table_inside : (n : ℕ) → 3 ≤ n → Below n → IsUniversal file → table_end file ≤ length file
+  table_inside : (n : ℕ) → rank rule.FatTruncated < n → Below n → IsUniversal file → table_end file ≤ length file
   table_inside n late below u = elim (cases_lt (length file) (table_end file)) [
     | inl short ↦ absurd (below rule.FatTruncated 4 (omega arith) (refl, u, inr short))
     | inr most ↦ most
   ]
 
-  at_entry : (n : ℕ) → 3 ≤ n → Below n → IsUniversal file → (P : ℕ → Type 0) (place : ℕ) → AtEntry file P place → place ≤ length file
+  at_entry : (n : ℕ) → rank rule.FatTruncated < n → Below n → IsUniversal file → (P : ℕ → Type 0) (place : ℕ) → AtEntry file P place → place ≤ length file
   at_entry n late below u P place (k, less, is, p) =
       let most = table_inside n late below u in
       let before : k * entry_size file ≤ entry_count file * entry_size file = mul-le-mul_right (entry_size file) (omega arith) in
       omega (arith, is, before, most)
 
-  slice_starts : (n : ℕ) → 4 ≤ n → Below n → IsUniversal file → (slice : FileSlice) → Contains (slices_of file) slice → slice.start ≤ length file
+  slice_starts : (n : ℕ) → rank rule.FatSliceOutside < n → Below n → IsUniversal file → (slice : FileSlice) → Contains (slices_of file) slice → slice.start ≤ length file
   slice_starts n late below u slice has =
       let (k, less, is) = item_of_range (entry_slice file) 0 (entry_count file) slice (rw u.1 at has) in
       entry k less (is ∙ ap (entry_slice file) (let p : 0 + k ≡ k = omega arith in p))
@@ -46,12 +46,14 @@ module _ (file : List ℕ) where
   file_place_inside : (r : Rule) (place : ℕ) → Below (rank r) → BreaksFile file r place → place ≤ length file
   file_place_inside rule.Magic place below h = let at = h.0 in omega arith
   file_place_inside rule.FatTruncated place below h = let at = h.0 in let long = h.1.0 in omega arith
-  file_place_inside rule.FatSliceOutside place below h = at_entry 3 (lit≤ tt) below h.0 (λ _. place ≡ place) place (let (k, less, is, p) = h.1 in (k, less, is, refl))
-  file_place_inside rule.FatSliceInTable place below h = at_entry 4 (lit≤ tt) below h.0 (λ _. place ≡ place) place (let (k, less, is, p) = h.1 in (k, less, is, refl))
-  file_place_inside rule.FatAlign place below h = at_entry 5 (lit≤ tt) below h.0 (λ _. place ≡ place) place (let (k, less, is, p) = h.1 in (k, less, is, refl))
-  file_place_inside rule.FatOverlap place below h = at_entry 6 (lit≤ tt) below h.0 (λ _. place ≡ place) place (let (k, less, is, p) = h.1 in (k, less, is, refl))
-  file_place_inside rule.FatDuplicate place below h = at_entry 7 (lit≤ tt) below h.0 (λ _. place ≡ place) place (let (k, less, is, p) = h.1 in (k, less, is, refl))
-  file_place_inside rule.FatSliceMagic place below h = let (j, slice, less, at, (is, p)) = h.1 in let most = slice_starts 8 (lit≤ tt) below h.0 slice (j, less, at) in omega (arith, is)
+  file_place_inside rule.FatSliceOutside place below h = at_entry (rank rule.FatSliceOutside) (lit< tt) below h.0 (λ _. place ≡ place) place (let (k, less, is, p) = h.1 in (k, less, is, refl))
+  file_place_inside rule.FatSliceInTable place below h = at_entry (rank rule.FatSliceInTable) (lit< tt) below h.0 (λ _. place ≡ place) place (let (k, less, is, p) = h.1 in (k, less, is, refl))
+  file_place_inside rule.FatAlign place below h = at_entry (rank rule.FatAlign) (lit< tt) below h.0 (λ _. place ≡ place) place (let (k, less, is, p) = h.1 in (k, less, is, refl))
+  file_place_inside rule.FatOverlap place below h = at_entry (rank rule.FatOverlap) (lit< tt) below h.0 (λ _. place ≡ place) place (let (k, less, is, p) = h.1 in (k, less, is, refl))
+  file_place_inside rule.FatDuplicate place below h = at_entry (rank rule.FatDuplicate) (lit< tt) below h.0 (λ _. place ≡ place) place (let (k, less, is, p) = h.1 in (k, less, is, refl))
+  file_place_inside rule.FatSliceMagic place below h =
+      let (j, slice, less, at, (is, p)) = h.1 in
+      let most = slice_starts (rank rule.FatSliceMagic) (lit< tt) below h.0 slice (j, less, at) in omega (arith, is)
   file_place_inside rule.FatEmpty place below h = let at = h.0 in let long = h.1.0 in omega arith
   file_place_inside rule.HeaderTruncated place below h = absurd h
   file_place_inside rule.ArchMismatch place below h = absurd h

@@ -45,13 +45,13 @@ module _ (image : List ℕ) (arch : Option (ℕ × ℕ)) where
   abbrev Below : ℕ → Type 0
   Below n = KeptBelow (BreaksImage image arch) n
 
-  header_inside : (n : ℕ) → 11 ≤ n → Below n → 32 ≤ length image
+  header_inside : (n : ℕ) → rank rule.HeaderTruncated < n → Below n → 32 ≤ length image
   header_inside n late below = elim (cases_lt (length image) 32) [ inl short ↦ absurd (below rule.HeaderTruncated 0 (omega arith) (inl (refl, short))) | inr most ↦ most ]
 
-  all_inside : (n : ℕ) → 14 ≤ n → Below n → commands_end image ≤ length image
+  all_inside : (n : ℕ) → rank rule.CommandsOutside < n → Below n → commands_end image ≤ length image
   all_inside n late below = elim (cases_lt (length image) (commands_end image)) [ inl short ↦ absurd (below rule.CommandsOutside 20 (omega arith) (inl (refl, short))) | inr most ↦ most ]
 
-  at_walk : (n : ℕ) → 14 ≤ n → Below n → (place : ℕ) → BreaksHeader image arch rule.CommandWalk place → place ≤ length image
+  at_walk : (n : ℕ) → rank rule.CommandsOutside < n → Below n → (place : ℕ) → BreaksHeader image arch rule.CommandWalk place → place ≤ length image
   at_walk n late below place (xs, short, chain, bad) =
       let header = header_inside n (omega arith) below in
       let ends = all_inside n late below in
@@ -61,32 +61,35 @@ module _ (image : List ℕ) (arch : Option (ℕ × ℕ)) where
       at_end header ends (inl first) = omega arith
       at_end header ends (inr most) = omega arith
 
-  at_command : (n : ℕ) → 14 ≤ n → Below n → (commands : List ℕ) → AreCommands image commands → (place : ℕ) → Contains commands place → place ≤ length image
+  at_command : (n : ℕ) → rank rule.CommandsOutside < n → Below n → (commands : List ℕ) → AreCommands image commands → (place : ℕ) → Contains commands place → place ≤ length image
   at_command n late below commands are place has =
       let good : place + command_size image place ≤ commands_end image = (command_good image commands place are has).inside in
       let most = all_inside n late below in omega arith
 
-  at_kind : (n : ℕ) → 14 ≤ n → Below n → (commands : List ℕ) → AreCommands image commands → (kind place : ℕ) → Contains (of_kind image kind commands) place → place ≤ length image
+  at_kind : (n : ℕ) → rank rule.CommandsOutside < n → Below n → (commands : List ℕ) → AreCommands image commands → (kind place : ℕ)
+      → Contains (of_kind image kind commands) place → place ≤ length image
   at_kind n late below commands are kind place has = at_command n late below commands are place (of_kind_among image commands kind place has)
 
-  opens : (n : ℕ) → 19 ≤ n → Below n → Keeps image
+  opens : (n : ℕ) → rank rule.SegmentAddress ≤ n → Below n → Keeps image
   opens n late below = keeps_rules image arch (λ r place less h. below r place (omega arith) h)
 
-  at_section : (n : ℕ) → 19 ≤ n → Below n → (commands : List ℕ) → AreCommands image commands → (P : ℕ → ℕ → Type 0) (place : ℕ) → AtSection image commands P place → place ≤ length image
+  at_section : (n : ℕ) → rank rule.SegmentAddress ≤ n → Below n → (commands : List ℕ) → AreCommands image commands → (P : ℕ → ℕ → Type 0) (place : ℕ)
+      → AtSection image commands P place → place ≤ length image
   at_section n late below commands are P place (j, segment, less, at, (has, p)) =
       let most = segment_holds image commands (opens n late below) are segment (j, less, at) in
       let (k, lower, is) = item_of_range (λ i. segment + loader.SEGMENT_COMMAND_64_SIZE + loader.SECTION_64_SIZE * i) 0 (nsects image segment) place has in
       omega (arith, is)
 
   -- a table of a command whose rule is unbroken ends inside
-  table_inside : (n : ℕ) → 27 ≤ n → Below n → (commands : List ℕ) → AreCommands image commands → (command : ℕ) → Contains commands command
+  table_inside : (n : ℕ) → rank rule.TableRange < n → Below n → (commands : List ℕ) → AreCommands image commands → (command : ℕ) → Contains commands command
       → (table : ℕ × ℕ × ℕ) → Contains (tables_of image command) table → 0 < table.1 → table.0 + table.1 * table.2 ≤ length image
   table_inside n late below commands are command has table (k, less, at) some = elim (cases_lt (length image) (table.0 + table.1 * table.2)) [
     | inl out ↦ absurd (below rule.TableRange command (omega arith) (inr (commands, are, (has, (k, table, less, at, (some, out))))))
     | inr most ↦ most
   ]
 
-  at_symbol : (n : ℕ) → 27 ≤ n → Below n → (commands : List ℕ) → AreCommands image commands → (P : ℕ → ℕ → Type 0) (place : ℕ) → AtSymbol image commands P place → place ≤ length image
+  at_symbol : (n : ℕ) → rank rule.TableRange < n → Below n → (commands : List ℕ) → AreCommands image commands → (P : ℕ → ℕ → Type 0) (place : ℕ)
+      → AtSymbol image commands P place → place ≤ length image
   at_symbol n late below commands are P place (j, symtab, less, at, (k, lower, is, p)) =
       let among = of_kind_among image commands loader.LC_SYMTAB symtab (j, less, at) in
       let kind : command_kind image symtab ≡ loader.LC_SYMTAB = of_kind_is image commands loader.LC_SYMTAB symtab (j, less, at) in
@@ -96,7 +99,7 @@ module _ (image : List ℕ) (arch : Option (ℕ × ℕ)) where
       let most : symoff image symtab + nsyms image symtab * 16 ≤ length image = table_inside n late below commands are symtab among (symoff image symtab, nsyms image symtab, 16) has (omega arith) in
       omega (arith, is)
 
-  at_indirect : (n : ℕ) → 27 ≤ n → Below n → (commands : List ℕ) → AreCommands image commands → (dysymtab k place : ℕ)
+  at_indirect : (n : ℕ) → rank rule.TableRange < n → Below n → (commands : List ℕ) → AreCommands image commands → (dysymtab k place : ℕ)
       → Contains (of_kind image loader.LC_DYSYMTAB commands) dysymtab → k < nindirectsyms image dysymtab
       → place ≡ indirectsymoff image dysymtab + 4 * k → place ≤ length image
   at_indirect n late below commands are dysymtab k place found lower is =
@@ -119,45 +122,45 @@ module _ (image : List ℕ) (arch : Option (ℕ × ℕ)) where
   place_inside rule.FatSliceMagic place below h = ⊎_elim (λ k. absurd k) (λ k. absurd k.2) h
   place_inside rule.FatEmpty place below h = ⊎_elim (λ k. absurd k) (λ k. absurd k.2) h
   place_inside rule.HeaderTruncated place below h = ⊎_elim (λ k. let first = k.0 in omega arith) (λ k. absurd k.2) h
-  place_inside rule.ArchMismatch place below h = ⊎_elim (λ k. let at = k.0 in let most = header_inside 11 (lit≤ tt) below in omega arith) (λ k. absurd k.2) h
-  place_inside rule.FileType place below h = ⊎_elim (λ k. let at = k.0 in let most = header_inside 12 (lit≤ tt) below in omega arith) (λ k. absurd k.2) h
-  place_inside rule.CommandsOutside place below h = ⊎_elim (λ k. let at = k.0 in let most = header_inside 13 (lit≤ tt) below in omega arith) (λ k. absurd k.2) h
-  place_inside rule.CommandWalk place below h = ⊎_elim (λ k. at_walk 14 (lit≤ tt) below place k) (λ k. absurd k.2) h
-  place_inside rule.CommandShort place below h = ⊎_elim (λ k. absurd k) (λ k. at_command 15 (lit≤ tt) below k.0 k.1 place k.2.0) h
-  place_inside rule.CommandRepeated place below h = ⊎_elim (λ k. absurd k) (λ k. at_command 16 (lit≤ tt) below k.0 k.1 place k.2.0) h
-  place_inside rule.DylibId place below h = ⊎_elim (λ k. absurd k) (λ k. let at = k.2.0 in let most = header_inside 17 (lit≤ tt) below in omega arith) h
-  place_inside rule.Name place below h = ⊎_elim (λ k. absurd k) (λ k. at_command 18 (lit≤ tt) below k.0 k.1 place k.2.0) h
-  place_inside rule.SegmentAddress place below h = ⊎_elim (λ k. absurd k) (λ k. at_kind 19 (lit≤ tt) below k.0 k.1 loader.LC_SEGMENT_64 place k.2.0) h
-  place_inside rule.SegmentSize place below h = ⊎_elim (λ k. absurd k) (λ k. at_kind 20 (lit≤ tt) below k.0 k.1 loader.LC_SEGMENT_64 place k.2.0) h
-  place_inside rule.SegmentFile place below h = ⊎_elim (λ k. absurd k) (λ k. at_kind 21 (lit≤ tt) below k.0 k.1 loader.LC_SEGMENT_64 place k.2.0) h
-  place_inside rule.SegmentOverlap place below h = ⊎_elim (λ k. absurd k) (λ k. at_kind 22 (lit≤ tt) below k.0 k.1 loader.LC_SEGMENT_64 place k.2.0) h
+  place_inside rule.ArchMismatch place below h = ⊎_elim (λ k. let at = k.0 in let most = header_inside (rank rule.ArchMismatch) (lit< tt) below in omega arith) (λ k. absurd k.2) h
+  place_inside rule.FileType place below h = ⊎_elim (λ k. let at = k.0 in let most = header_inside (rank rule.FileType) (lit< tt) below in omega arith) (λ k. absurd k.2) h
+  place_inside rule.CommandsOutside place below h = ⊎_elim (λ k. let at = k.0 in let most = header_inside (rank rule.CommandsOutside) (lit< tt) below in omega arith) (λ k. absurd k.2) h
+  place_inside rule.CommandWalk place below h = ⊎_elim (λ k. at_walk (rank rule.CommandWalk) (lit< tt) below place k) (λ k. absurd k.2) h
+  place_inside rule.CommandShort place below h = ⊎_elim (λ k. absurd k) (λ k. at_command (rank rule.CommandShort) (lit< tt) below k.0 k.1 place k.2.0) h
+  place_inside rule.CommandRepeated place below h = ⊎_elim (λ k. absurd k) (λ k. at_command (rank rule.CommandRepeated) (lit< tt) below k.0 k.1 place k.2.0) h
+  place_inside rule.DylibId place below h = ⊎_elim (λ k. absurd k) (λ k. let at = k.2.0 in let most = header_inside (rank rule.DylibId) (lit< tt) below in omega arith) h
+  place_inside rule.Name place below h = ⊎_elim (λ k. absurd k) (λ k. at_command (rank rule.Name) (lit< tt) below k.0 k.1 place k.2.0) h
+  place_inside rule.SegmentAddress place below h = ⊎_elim (λ k. absurd k) (λ k. at_kind (rank rule.SegmentAddress) (lit< tt) below k.0 k.1 loader.LC_SEGMENT_64 place k.2.0) h
+  place_inside rule.SegmentSize place below h = ⊎_elim (λ k. absurd k) (λ k. at_kind (rank rule.SegmentSize) (lit< tt) below k.0 k.1 loader.LC_SEGMENT_64 place k.2.0) h
+  place_inside rule.SegmentFile place below h = ⊎_elim (λ k. absurd k) (λ k. at_kind (rank rule.SegmentFile) (lit< tt) below k.0 k.1 loader.LC_SEGMENT_64 place k.2.0) h
+  place_inside rule.SegmentOverlap place below h = ⊎_elim (λ k. absurd k) (λ k. at_kind (rank rule.SegmentOverlap) (lit< tt) below k.0 k.1 loader.LC_SEGMENT_64 place k.2.0) h
   place_inside rule.SectionAddress place below h =
       ⊎_elim (λ k. absurd k) (λ k.
       let (j, segment, less, at, (has, p)) = k.2 in
-      at_section 23 (lit≤ tt) below k.0 k.1 (λ _ _. place ≡ place) place (j, segment, less, at, (has, refl))) h
+      at_section (rank rule.SectionAddress) (lit≤ tt) below k.0 k.1 (λ _ _. place ≡ place) place (j, segment, less, at, (has, refl))) h
   place_inside rule.SectionFile place below h =
       ⊎_elim (λ k. absurd k) (λ k.
       let (j, segment, less, at, (has, p)) = k.2 in
-      at_section 24 (lit≤ tt) below k.0 k.1 (λ _ _. place ≡ place) place (j, segment, less, at, (has, refl))) h
+      at_section (rank rule.SectionFile) (lit≤ tt) below k.0 k.1 (λ _ _. place ≡ place) place (j, segment, less, at, (has, refl))) h
   place_inside rule.SectionRelocs place below h =
       ⊎_elim (λ k. absurd k) (λ k.
       let (j, segment, less, at, (has, p)) = k.2 in
-      at_section 25 (lit≤ tt) below k.0 k.1 (λ _ _. place ≡ place) place (j, segment, less, at, (has, refl))) h
-  place_inside rule.TableRange place below h = ⊎_elim (λ k. absurd k) (λ k. at_command 26 (lit≤ tt) below k.0 k.1 place k.2.0) h
-  place_inside rule.SymbolGroup place below h = ⊎_elim (λ k. absurd k) (λ k. at_kind 27 (lit≤ tt) below k.0 k.1 loader.LC_DYSYMTAB place k.2.0) h
+      at_section (rank rule.SectionRelocs) (lit≤ tt) below k.0 k.1 (λ _ _. place ≡ place) place (j, segment, less, at, (has, refl))) h
+  place_inside rule.TableRange place below h = ⊎_elim (λ k. absurd k) (λ k. at_command (rank rule.TableRange) (lit< tt) below k.0 k.1 place k.2.0) h
+  place_inside rule.SymbolGroup place below h = ⊎_elim (λ k. absurd k) (λ k. at_kind (rank rule.SymbolGroup) (lit< tt) below k.0 k.1 loader.LC_DYSYMTAB place k.2.0) h
   place_inside rule.SymbolName place below h =
       ⊎_elim (λ k. absurd k) (λ k.
       let (j, symtab, less, at, (i, lower, is, p)) = k.2 in
-      at_symbol 28 (lit≤ tt) below k.0 k.1 (λ _ _. place ≡ place) place (j, symtab, less, at, (i, lower, is, refl))) h
+      at_symbol (rank rule.SymbolName) (lit< tt) below k.0 k.1 (λ _ _. place ≡ place) place (j, symtab, less, at, (i, lower, is, refl))) h
   place_inside rule.SymbolSection place below h =
       ⊎_elim (λ k. absurd k) (λ k.
       let (j, symtab, less, at, (i, lower, is, p)) = k.2 in
-      at_symbol 29 (lit≤ tt) below k.0 k.1 (λ _ _. place ≡ place) place (j, symtab, less, at, (i, lower, is, refl))) h
+      at_symbol (rank rule.SymbolSection) (lit< tt) below k.0 k.1 (λ _ _. place ≡ place) place (j, symtab, less, at, (i, lower, is, refl))) h
   place_inside rule.IndirectIndex place below h =
       ⊎_elim (λ k. absurd k) (λ k.
       let (j, dysymtab, less, at, (i, lower, is, p)) = k.2 in
-      at_indirect 30 (lit≤ tt) below k.0 k.1 dysymtab i place (j, less, at) lower is) h
-  place_inside rule.Entry place below h = ⊎_elim (λ k. absurd k) (λ k. at_kind 31 (lit≤ tt) below k.0 k.1 loader.LC_MAIN place k.2.0) h
+      at_indirect (rank rule.IndirectIndex) (lit< tt) below k.0 k.1 dysymtab i place (j, less, at) lower is) h
+  place_inside rule.Entry place below h = ⊎_elim (λ k. absurd k) (λ k. at_kind (rank rule.Entry) (lit< tt) below k.0 k.1 loader.LC_MAIN place k.2.0) h
 
 -- the first break of an image
 pub first_inside : (image : List ℕ) (arch : Option (ℕ × ℕ)) (b : Break) → IsLeast (BreaksImage image arch) b → b.place ≤ length image

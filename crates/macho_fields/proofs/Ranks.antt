@@ -80,71 +80,71 @@ rule_of_its_rank rule.Entry = refl
 pub rank_determines_rule : (a b : Rule) → rank a ≡ rank b → a ≡ b
 rank_determines_rule a b e = sym (rule_of_its_rank a) ∙ (ap rule_of_rank e ∙ rule_of_its_rank b)
 
-pub rank_positive : (r : Rule) → 1 ≤ rank r
-rank_positive rule.Magic = lit≤ tt
-rank_positive rule.FatTruncated = lit≤ tt
-rank_positive rule.FatSliceOutside = lit≤ tt
-rank_positive rule.FatSliceInTable = lit≤ tt
-rank_positive rule.FatAlign = lit≤ tt
-rank_positive rule.FatOverlap = lit≤ tt
-rank_positive rule.FatDuplicate = lit≤ tt
-rank_positive rule.FatSliceMagic = lit≤ tt
-rank_positive rule.FatEmpty = lit≤ tt
-rank_positive rule.HeaderTruncated = lit≤ tt
-rank_positive rule.ArchMismatch = lit≤ tt
-rank_positive rule.FileType = lit≤ tt
-rank_positive rule.CommandsOutside = lit≤ tt
-rank_positive rule.CommandWalk = lit≤ tt
-rank_positive rule.CommandShort = lit≤ tt
-rank_positive rule.CommandRepeated = lit≤ tt
-rank_positive rule.DylibId = lit≤ tt
-rank_positive rule.Name = lit≤ tt
-rank_positive rule.SegmentAddress = lit≤ tt
-rank_positive rule.SegmentSize = lit≤ tt
-rank_positive rule.SegmentFile = lit≤ tt
-rank_positive rule.SegmentOverlap = lit≤ tt
-rank_positive rule.SectionAddress = lit≤ tt
-rank_positive rule.SectionFile = lit≤ tt
-rank_positive rule.SectionRelocs = lit≤ tt
-rank_positive rule.TableRange = lit≤ tt
-rank_positive rule.SymbolGroup = lit≤ tt
-rank_positive rule.SymbolName = lit≤ tt
-rank_positive rule.SymbolSection = lit≤ tt
-rank_positive rule.IndirectIndex = lit≤ tt
-rank_positive rule.Entry = lit≤ tt
+pub rank_least : (r : Rule) → rank rule.Magic ≤ rank r
+rank_least rule.Magic = lit≤ tt
+rank_least rule.FatTruncated = lit≤ tt
+rank_least rule.FatSliceOutside = lit≤ tt
+rank_least rule.FatSliceInTable = lit≤ tt
+rank_least rule.FatAlign = lit≤ tt
+rank_least rule.FatOverlap = lit≤ tt
+rank_least rule.FatDuplicate = lit≤ tt
+rank_least rule.FatSliceMagic = lit≤ tt
+rank_least rule.FatEmpty = lit≤ tt
+rank_least rule.HeaderTruncated = lit≤ tt
+rank_least rule.ArchMismatch = lit≤ tt
+rank_least rule.FileType = lit≤ tt
+rank_least rule.CommandsOutside = lit≤ tt
+rank_least rule.CommandWalk = lit≤ tt
+rank_least rule.CommandShort = lit≤ tt
+rank_least rule.CommandRepeated = lit≤ tt
+rank_least rule.DylibId = lit≤ tt
+rank_least rule.Name = lit≤ tt
+rank_least rule.SegmentAddress = lit≤ tt
+rank_least rule.SegmentSize = lit≤ tt
+rank_least rule.SegmentFile = lit≤ tt
+rank_least rule.SegmentOverlap = lit≤ tt
+rank_least rule.SectionAddress = lit≤ tt
+rank_least rule.SectionFile = lit≤ tt
+rank_least rule.SectionRelocs = lit≤ tt
+rank_least rule.TableRange = lit≤ tt
+rank_least rule.SymbolGroup = lit≤ tt
+rank_least rule.SymbolName = lit≤ tt
+rank_least rule.SymbolSection = lit≤ tt
+rank_least rule.IndirectIndex = lit≤ tt
+rank_least rule.Entry = lit≤ tt
 
-pub rank_most : (r : Rule) → rank r < 32
-rank_most rule.Magic = lit< tt
-rank_most rule.FatTruncated = lit< tt
-rank_most rule.FatSliceOutside = lit< tt
-rank_most rule.FatSliceInTable = lit< tt
-rank_most rule.FatAlign = lit< tt
-rank_most rule.FatOverlap = lit< tt
-rank_most rule.FatDuplicate = lit< tt
-rank_most rule.FatSliceMagic = lit< tt
-rank_most rule.FatEmpty = lit< tt
-rank_most rule.HeaderTruncated = lit< tt
-rank_most rule.ArchMismatch = lit< tt
-rank_most rule.FileType = lit< tt
-rank_most rule.CommandsOutside = lit< tt
-rank_most rule.CommandWalk = lit< tt
-rank_most rule.CommandShort = lit< tt
-rank_most rule.CommandRepeated = lit< tt
-rank_most rule.DylibId = lit< tt
-rank_most rule.Name = lit< tt
-rank_most rule.SegmentAddress = lit< tt
-rank_most rule.SegmentSize = lit< tt
-rank_most rule.SegmentFile = lit< tt
-rank_most rule.SegmentOverlap = lit< tt
-rank_most rule.SectionAddress = lit< tt
-rank_most rule.SectionFile = lit< tt
-rank_most rule.SectionRelocs = lit< tt
-rank_most rule.TableRange = lit< tt
-rank_most rule.SymbolGroup = lit< tt
-rank_most rule.SymbolName = lit< tt
-rank_most rule.SymbolSection = lit< tt
-rank_most rule.IndirectIndex = lit< tt
-rank_most rule.Entry = lit< tt
+pub rank_most : (r : Rule) → rank r ≤ rank rule.Entry
+rank_most rule.Magic = lit≤ tt
+rank_most rule.FatTruncated = lit≤ tt
+rank_most rule.FatSliceOutside = lit≤ tt
+rank_most rule.FatSliceInTable = lit≤ tt
+rank_most rule.FatAlign = lit≤ tt
+rank_most rule.FatOverlap = lit≤ tt
+rank_most rule.FatDuplicate = lit≤ tt
+rank_most rule.FatSliceMagic = lit≤ tt
+rank_most rule.FatEmpty = lit≤ tt
+rank_most rule.HeaderTruncated = lit≤ tt
+rank_most rule.ArchMismatch = lit≤ tt
+rank_most rule.FileType = lit≤ tt
+rank_most rule.CommandsOutside = lit≤ tt
+rank_most rule.CommandWalk = lit≤ tt
+rank_most rule.CommandShort = lit≤ tt
+rank_most rule.CommandRepeated = lit≤ tt
+rank_most rule.DylibId = lit≤ tt
+rank_most rule.Name = lit≤ tt
+rank_most rule.SegmentAddress = lit≤ tt
+rank_most rule.SegmentSize = lit≤ tt
+rank_most rule.SegmentFile = lit≤ tt
+rank_most rule.SegmentOverlap = lit≤ tt
+rank_most rule.SectionAddress = lit≤ tt
+rank_most rule.SectionFile = lit≤ tt
+rank_most rule.SectionRelocs = lit≤ tt
+rank_most rule.TableRange = lit≤ tt
+rank_most rule.SymbolGroup = lit≤ tt
+rank_most rule.SymbolName = lit≤ tt
+rank_most rule.SymbolSection = lit≤ tt
+rank_most rule.IndirectIndex = lit≤ tt
+rank_most rule.Entry = lit≤ tt
 
 -- a file that is an image, and not universal, breaks no rule of the file
 pub plain_image_keeps_file_rules : (file : List ℕ) → ¬ IsUniversal file → IsImage file → (r : Rule) (place : ℕ) → ¬ BreaksFile file r place
@@ -215,7 +215,7 @@ file_rule_rank file rule.IndirectIndex place n = absurd n
 file_rule_rank file rule.Entry place n = absurd n
 
 -- a rule that an image breaks comes after the rules of the file
-pub image_rule_rank : (image : List ℕ) (arch : Option (ℕ × ℕ)) (r : Rule) (place : ℕ) → BreaksImage image arch r place → 10 ≤ rank r
+pub image_rule_rank : (image : List ℕ) (arch : Option (ℕ × ℕ)) (r : Rule) (place : ℕ) → BreaksImage image arch r place → rank rule.HeaderTruncated ≤ rank r
 image_rule_rank image arch rule.Magic place h = ⊎_elim (λ k. absurd k) (λ k. absurd k.2) h
 image_rule_rank image arch rule.FatTruncated place h = ⊎_elim (λ k. absurd k) (λ k. absurd k.2) h
 image_rule_rank image arch rule.FatSliceOutside place h = ⊎_elim (λ k. absurd k) (λ k. absurd k.2) h

@@ -17,7 +17,7 @@ use Rattle.macho_rules.specs.declared.refusal.Refusal.TheVariants as refusal
 
 -- the last rule is decided where all rules are
 pub decided_last : {T : Type 0} (breaks : Rule → ℕ → Type 0) (answer : Result T Break) → Continues breaks rule.Entry answer → Decides breaks answer
-decided_last breaks (Ok x) kept = λ r place broken. kept r place (rank_most r) broken
+decided_last breaks (Ok x) kept = λ r place broken. kept r place (omega (arith, rank_most r)) broken
 decided_last breaks (Err b) least = least
 
 -- what is decided of an opened image is decided of its bytes
