@@ -7,8 +7,10 @@ use Rattle.macho_fields.specs.Field.{part, HasZero}
 use Rattle.macho_fields.specs.Image.{word, command_kind, command_size, commands_end, commands_of, IsGood}
 use Rattle.macho_fields.specs.Command.{record_count, least_size, name_offset, name_start, IsShort, IsBadName, HasBadName}
 use Rattle.macho_fields.specs.LoadCommands.{structure_of, structure_size, records_of, has_name}
+use Rattle.macho_fields.specs.First.{rank}
 use Rattle.macho_fields.specs.declared.load_command.Records.{Records}
 use Rattle.macho_fields.specs.declared.load_command.Structure.{Structure}
+use Rattle.macho_fields.specs.declared.rule.Rule.TheVariants as rule
 use Rattle.macho_fields.proofs.LoadCommands.{name_inside}
 use Rattle.macho_fields.proofs.Options.{some_of, of_some}
 use Rattle.macho_fields.proofs.Parts.{command_good}
@@ -120,7 +122,7 @@ module _ (image : List ℕ) (p : ℕ) (good : IsGood image p) (inside : commands
   )
 
 -- The same, of the first of those that are left
-module _ (image : List ℕ) (arch : Option (ℕ × ℕ)) (n : ℕ) (late : 15 ≤ n) (below : Kept image arch n) (passed : List ℕ) (v : CommandView) (rest : List CommandView)
+module _ (image : List ℕ) (arch : Option (ℕ × ℕ)) (n : ℕ) (late : rank rule.CommandWalk < n) (below : Kept image arch n) (passed : List ℕ) (v : CommandView) (rest : List CommandView)
     (nx : IsNext image passed v rest) where
   inside : commands_end image ≤ length image
   inside = commands_inside image arch n (omega arith) below
@@ -134,7 +136,7 @@ module _ (image : List ℕ) (arch : Option (ℕ × ℕ)) (n : ℕ) (late : 15 �
   pub next_short : IsShort v.bytes 0 ↔ IsShort image v.place
   next_short = subst (λ bs. IsShort bs 0 ↔ IsShort image v.place) (sym (ap (λ (w : CommandView). w.bytes) nx.is)) (short_alone image v.place good inside)
 
-  module _ (later : 16 ≤ n) where
+  module _ (later : rank rule.CommandShort < n) where
     whole : ¬ IsShort image v.place
     whole = none_short image arch n later below v.place (next_among image passed v rest nx)
 

@@ -4,6 +4,8 @@ use Rattle.std.proofs.lemmas.List.Elements.{All-contains_itself}
 use Rattle.macho_fields.specs.Image.{command_count, commands_of, AreCommands}
 use Rattle.macho_fields.specs.Layers.{KeptBelow}
 use Rattle.macho_fields.specs.Rules.{BreaksImage}
+use Rattle.macho_fields.specs.First.{rank}
+use Rattle.macho_fields.specs.declared.rule.Rule.TheVariants as rule
 use Rattle.macho_fields.proofs.Parts.{command_good}
 use Rattle.macho_image.specs.Opened.{IsOpened}
 use Rattle.macho_image.specs.Scaffold.{CanWalk}
@@ -12,12 +14,12 @@ use Rattle.macho_image.proofs.Opening.{commands_inside, has_commands}
 
 -- an opened image has its commands
 pub opened_commands : (image : List ℕ) → IsOpened image → AreCommands image (commands_of image)
-opened_commands image opened = has_commands image None 19 (omega arith) (opened_below image opened)
+opened_commands image opened = has_commands image None (rank rule.SegmentAddress) (omega arith) (opened_below image opened)
 
 -- where the walk does not break, all commands can be gone over
-pub can_walk : (image : List ℕ) (arch : Option (ℕ × ℕ)) (left : ℕ) → left ≡ command_count image → KeptBelow (BreaksImage image arch) 15 → CanWalk image 32 left
+pub can_walk : (image : List ℕ) (arch : Option (ℕ × ℕ)) (left : ℕ) → left ≡ command_count image → KeptBelow (BreaksImage image arch) (rank rule.CommandShort) → CanWalk image 32 left
 can_walk image arch left count below =
     subst (CanWalk image 32) (sym count) (record {
-      good = λ k d less. command_good image (commands_of image) _ (has_commands image arch 15 (omega arith) below) (All-contains_itself (commands_of image) k d less);
-      inside = commands_inside image arch 15 (omega arith) below;
+      good = λ k d less. command_good image (commands_of image) _ (has_commands image arch (rank rule.CommandShort) (omega arith) below) (All-contains_itself (commands_of image) k d less);
+      inside = commands_inside image arch (rank rule.CommandShort) (omega arith) below;
     })

@@ -1,5 +1,5 @@
 -- What holds of an image where the rules up to some rank are unbroken, and how a rule goes on.
-use Rattle.std.proofs.Common.{◌≡◌, ℕ, ◌+◌, ◌≤◌, List, length, Contains, None, Option, refl, arith, subst, inl, inr, ⊎_elim}
+use Rattle.std.proofs.Common.{◌≡◌, ℕ, ◌+◌, ◌≤◌, ◌<◌, List, length, Contains, None, Option, refl, arith, subst, inl, inr, ⊎_elim}
 use Rattle.std.proofs.lemmas.Bool.{cases_lt}
 use Rattle.macho_fields.specs.Image.{commands_end, commands_of, AreCommands}
 use Rattle.macho_fields.specs.Command.{IsShort}
@@ -20,25 +20,25 @@ module _ (image : List ℕ) (arch : Option (ℕ × ℕ)) where
   Kept n = KeptBelow (BreaksImage image arch) n
 
   -- no image breaks a rule of the file
-  pub kept_none : Kept 10
+  pub kept_none : Kept (rank rule.HeaderTruncated)
   kept_none r place less broken = let late = image_rule_rank image arch r place broken in absurd (omega arith)
 
   -- an earlier rank
   pub kept_less : (m n : ℕ) → m ≤ n → Kept n → Kept m
   kept_less m n most below r place before = below r place (omega arith)
 
-  pub has_header : (n : ℕ) → 11 ≤ n → Kept n → 32 ≤ length image
+  pub has_header : (n : ℕ) → rank rule.HeaderTruncated < n → Kept n → 32 ≤ length image
   has_header n late below = elim (cases_lt (length image) 32) [ inl short ↦ absurd (below rule.HeaderTruncated 0 (omega arith) (inl (refl, short))) | inr most ↦ most ]
 
-  pub commands_inside : (n : ℕ) → 14 ≤ n → Kept n → commands_end image ≤ length image
+  pub commands_inside : (n : ℕ) → rank rule.CommandsOutside < n → Kept n → commands_end image ≤ length image
   commands_inside n late below = elim (cases_lt (length image) (commands_end image)) [ inl short ↦ absurd (below rule.CommandsOutside 20 (omega arith) (inl (refl, short))) | inr most ↦ most ]
 
-  pub has_commands : (n : ℕ) → 15 ≤ n → Kept n → AreCommands image (commands_of image)
+  pub has_commands : (n : ℕ) → rank rule.CommandWalk < n → Kept n → AreCommands image (commands_of image)
   has_commands n late below =
       let (commands, are) = commands_exist image arch (λ place broken. below rule.CommandWalk place (omega arith) (inl broken)) in
       subst (AreCommands image) (counted_off image commands are) are
 
-  pub none_short : (n : ℕ) → 16 ≤ n → Kept n → (command : ℕ) → Contains (commands_of image) command → ¬ IsShort image command
+  pub none_short : (n : ℕ) → rank rule.CommandShort < n → Kept n → (command : ℕ) → Contains (commands_of image) command → ¬ IsShort image command
   none_short n late below command has short = below rule.CommandShort command (omega arith) (inr (commands_of image, has_commands n (omega arith) below, (has, short)))
 
   -- what is unbroken for an architecture is unbroken where none is compared
@@ -54,7 +54,7 @@ module _ (image : List ℕ) (arch : Option (ℕ × ℕ)) where
     header_broken b is here least = least_at (BreaksImage image arch) r b below (is, inl here, λ place broken. ⊎_elim (least place) (λ h. absurd (never h.0 place h.2)) broken)
 
   -- a rule that no header breaks is broken where the commands break it
-  module _ (r : Rule) (never : (place : ℕ) → ¬ BreaksHeader image arch r place) (late : 15 ≤ rank r) (below : Kept (rank r)) where
+  module _ (r : Rule) (never : (place : ℕ) → ¬ BreaksHeader image arch r place) (late : rank rule.CommandWalk < rank r) (below : Kept (rank r)) where
     of_commands : (place : ℕ) → BreaksImage image arch r place → BreaksCommands image (commands_of image) r place
     of_commands place (inl h) = absurd (never place h)
     of_commands place (inr h) = subst (λ others. BreaksCommands image others r place) (commands_unique image h.0 (commands_of image) h.1 (has_commands (rank r) late below)) h.2

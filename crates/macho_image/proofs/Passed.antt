@@ -10,6 +10,7 @@ use Rattle.macho_fields.specs.Rules.{BreaksHeader, BreaksCommands, BreaksImage}
 use Rattle.macho_fields.specs.First.{rank}
 use Rattle.macho_fields.specs.Layers.{IsLeast}
 use Rattle.macho_fields.specs.declared.rule.Rule.{Rule}
+use Rattle.macho_fields.specs.declared.rule.Rule.TheVariants as rule
 use Rattle.macho_fields.specs.declared.rule.Break.{Break}
 use Rattle.macho_image.specs.Command.{CommandView, command_at}
 use Rattle.macho_image.proofs.Opening.{Kept, has_commands, commands_kept, commands_broken}
@@ -126,7 +127,7 @@ pub none_has : (image : List ℕ) (P : ℕ → Type 0) (passed : List ℕ) (left
 none_has image P passed left none l p has = l.none p (subst (λ all. Contains all p) (sym (all_passed image P passed left none l)) has)
 
 -- A rule that is broken at the commands with P
-module _ (image : List ℕ) (arch : Option (ℕ × ℕ)) (r : Rule) (P : ℕ → Type 0) (never : (place : ℕ) → ¬ BreaksHeader image arch r place) (late : 15 ≤ rank r)
+module _ (image : List ℕ) (arch : Option (ℕ × ℕ)) (r : Rule) (P : ℕ → Type 0) (never : (place : ℕ) → ¬ BreaksHeader image arch r place) (late : rank rule.CommandWalk < rank r)
     (to : (p : ℕ) → Contains (commands_of image) p × P p → BreaksCommands image (commands_of image) r p)
     (from : (p : ℕ) → BreaksCommands image (commands_of image) r p → Contains (commands_of image) p × P p)
     (kept : Kept image arch (rank r)) (passed : List ℕ) (left : List CommandView) (l : Left image P passed left) where

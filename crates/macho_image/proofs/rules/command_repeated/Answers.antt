@@ -1,5 +1,6 @@
 use Rattle.std.proofs.Common.{[], ◌++◌, ◌∷◌, arith, subst, ◌∙◌}
 use Rattle.macho_fields.specs.Bytes.{bytes_of}
+use Rattle.macho_fields.specs.First.{rank}
 use Rattle.macho_fields.specs.declared.rule.Rule.TheVariants as rule
 use Rattle.macho_image.specs.Command.{command_of}
 use Rattle.macho_image.specs.Opening.{AreFirst}
@@ -9,7 +10,7 @@ use Rattle.macho_image.proofs.Repeated.{Repeats, IsFirstFound, kind_is, found_re
 use Rattle.macho_image.proofs.rules.command_repeated.Goals as goal
 
 pub commands-command-items-requires : goal.commands-command-items-requires
-commands-command-items-requires c = kept_less _ c.args.opening.arch 15 16 (omega arith) c.requires
+commands-command-items-requires c = kept_less _ c.args.opening.arch (rank rule.CommandShort) (rank rule.CommandRepeated) (omega arith) c.requires
 
 pub loop-command-init : goal.loop-command-init
 loop-command-init c =
@@ -22,9 +23,10 @@ returns-then-is_some-clause-decides c =
     let (passed, left, first) = c.loop-command.invariant.2 in
     let v = command_of c.in-Some.command in
     let nx = next image (Repeats image) passed _ _ v c.in-Some.ensures.steps left in
+    let are = has_commands image arch (rank rule.CommandRepeated) (omega arith) c.requires in
     let found : IsFirstFound image passed c.in-Some.command.cmd c.of.result = record { unique = c.of.ensures.unique image passed first; other = c.of.ensures.other } in
     left_broken image arch rule.CommandRepeated (Repeats image) (λ _ h. h) (omega arith) (λ _ h. h) (λ _ h. h) c.requires passed _ left _ _ v c.in-Some.ensures.steps c.at.ensures.rule
-    c.at.ensures.place (found_repeats image passed v _ (has_commands image arch 16 (omega arith) c.requires) nx c.of.result c.is_some.result c.is_some.ensures c.if-is_some.true found)
+    c.at.ensures.place (found_repeats image passed v _ are nx c.of.result c.is_some.result c.is_some.ensures c.if-is_some.true found)
 
 pub loop-command-preserved : goal.loop-command-preserved
 loop-command-preserved c =
@@ -33,7 +35,7 @@ loop-command-preserved c =
     let (passed, left, first) = c.loop-command.invariant.2 in
     let v = command_of c.in-Some.command in
     let nx = next image (Repeats image) passed _ _ v c.in-Some.ensures.steps left in
-    let are = has_commands image arch 16 (omega arith) c.requires in
+    let are = has_commands image arch (rank rule.CommandRepeated) (omega arith) c.requires in
     let found : IsFirstFound image passed c.in-Some.command.cmd c.of.result = record { unique = c.of.ensures.unique image passed first; other = c.of.ensures.other } in (
       tt,
       tt,

@@ -2,6 +2,7 @@ use Rattle.std.proofs.Common.{[], ◌++◌, ◌∷◌, arith, ◌∙◌}
 use Rattle.std.proofs.lemmas.Bool.{both_ways}
 use Rattle.macho_fields.specs.Bytes.{bytes_of}
 use Rattle.macho_fields.specs.Command.{HasBadName}
+use Rattle.macho_fields.specs.First.{rank}
 use Rattle.macho_fields.specs.declared.rule.Rule.TheVariants as rule
 use Rattle.macho_image.specs.Command.{command_of}
 use Rattle.macho_image.proofs.Opening.{kept_less}
@@ -10,7 +11,7 @@ use Rattle.macho_image.proofs.Alone.{next_alone, next_whole, next_bad}
 use Rattle.macho_image.proofs.rules.name.Goals as goal
 
 pub commands-command-items-requires : goal.commands-command-items-requires
-commands-command-items-requires c = kept_less _ c.args.opening.arch 15 18 (omega arith) c.requires
+commands-command-items-requires c = kept_less _ c.args.opening.arch (rank rule.CommandShort) (rank rule.Name) (omega arith) c.requires
 
 pub loop-command-init : goal.loop-command-init
 loop-command-init c = (tt, tt, ([], all_left _ _ _ (c.into_iter-command-iterator.ensures.into_iter_gives ∙ c.commands-command-items.ensures)))
@@ -20,8 +21,8 @@ has_bad_name-requires c =
     let image = bytes_of c.args.opening.bytes in
     let (passed, left) = c.loop-command.invariant.2 in
     let first = next image (HasBadName image) passed _ _ _ c.in-Some.ensures.steps left in record {
-      alone = next_alone image c.args.opening.arch 18 (omega arith) c.requires passed (command_of c.in-Some.command) _ first;
-      whole = next_whole image c.args.opening.arch 18 (omega arith) c.requires passed (command_of c.in-Some.command) _ first (omega arith);
+      alone = next_alone image c.args.opening.arch (rank rule.Name) (omega arith) c.requires passed (command_of c.in-Some.command) _ first;
+      whole = next_whole image c.args.opening.arch (rank rule.Name) (omega arith) c.requires passed (command_of c.in-Some.command) _ first (omega arith);
     }
 
 pub returns-then-has_bad_name : goal.returns-then-has_bad_name
@@ -29,7 +30,8 @@ returns-then-has_bad_name c =
     let image = bytes_of c.args.opening.bytes in
     let arch = c.args.opening.arch in
     let (passed, left) = c.loop-command.invariant.2 in
-    let bad = next_bad image arch 18 (omega arith) c.requires passed (command_of c.in-Some.command) _ (next image (HasBadName image) passed _ _ _ c.in-Some.ensures.steps left) (omega arith) in
+    let first = next image (HasBadName image) passed _ _ _ c.in-Some.ensures.steps left in
+    let bad = next_bad image arch (rank rule.Name) (omega arith) c.requires passed (command_of c.in-Some.command) _ first (omega arith) in
     left_broken image arch rule.Name (HasBadName image) (λ _ h. h) (omega arith) (λ _ h. h) (λ _ h. h) c.requires passed _ left _ _ (command_of c.in-Some.command) c.in-Some.ensures.steps
     c.at.ensures.rule c.at.ensures.place (bad.0 (c.has_bad_name.ensures.0 c.if-has_bad_name.true))
 
@@ -38,7 +40,7 @@ loop-command-preserved c =
     let image = bytes_of c.args.opening.bytes in
     let (passed, left) = c.loop-command.invariant.2 in
     let first = next image (HasBadName image) passed _ _ _ c.in-Some.ensures.steps left in
-    let bad = next_bad image c.args.opening.arch 18 (omega arith) c.requires passed (command_of c.in-Some.command) _ first (omega arith) in (
+    let bad = next_bad image c.args.opening.arch (rank rule.Name) (omega arith) c.requires passed (command_of c.in-Some.command) _ first (omega arith) in (
       tt,
       tt,
       (

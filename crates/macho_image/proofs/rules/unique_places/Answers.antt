@@ -1,5 +1,7 @@
 use Rattle.std.proofs.Common.{[], ◌++◌, ◌∷◌, arith, subst, ◌∙◌}
 use Rattle.macho_fields.specs.Bytes.{bytes_of}
+use Rattle.macho_fields.specs.First.{rank}
+use Rattle.macho_fields.specs.declared.rule.Rule.TheVariants as rule
 use Rattle.macho_image.specs.Command.{command_of}
 use Rattle.macho_image.specs.Opening.{AreFirst}
 use Rattle.macho_image.proofs.Opening.{has_commands}
@@ -17,7 +19,7 @@ loop-command-preserved c =
     let (passed, left, first) = c.loop-command.invariant.2 in
     let v = command_of c.in-Some.command in
     let nx = next image (λ _. ⊥) passed _ _ v c.in-Some.ensures.steps left in
-    let are = has_commands image c.args.opening.arch 15 (omega arith) c.requires in
+    let are = has_commands image c.args.opening.arch (rank rule.CommandShort) (omega arith) c.requires in
     (tt, tt, (passed ++ c.in-Some.command.place ∷ [], pass image (λ _. ⊥) passed _ _ v c.in-Some.ensures.steps left (λ h. h), c.note.ensures image passed (kind_is image passed v _ are nx) first))
 
 pub returns : goal.returns

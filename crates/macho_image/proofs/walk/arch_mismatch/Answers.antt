@@ -3,6 +3,7 @@ use Rattle.std.proofs.lemmas.Bool.{cases_eq, both_ways}
 use Rattle.macho_fields.specs.Bytes.{bytes_of}
 use Rattle.macho_fields.specs.Image.{cpu_type, cpu_subtype}
 use Rattle.macho_fields.specs.Universal.{masked}
+use Rattle.macho_fields.specs.First.{rank}
 use Rattle.macho_fields.specs.declared.rule.Rule.TheVariants as rule
 use Rattle.macho_image.proofs.Opening.{has_header, header_kept, header_broken}
 use Rattle.macho_image.proofs.walk.arch_mismatch.Goals as goal
@@ -15,7 +16,7 @@ differs : (image : List ℕ) (pair : ℕ × ℕ) → ¬ ((pair.0 ≡ cpu_type im
 differs image pair other = elim (cases_eq pair.0 (cpu_type image)) [ inl same ↦ inr (λ e. other (same, e)) | inr not ↦ inl not ]
 
 pub has_arch-requires : goal.has_arch-requires
-has_arch-requires c = has_header _ c.args.opening.arch 11 (omega arith) c.requires
+has_arch-requires c = has_header _ c.args.opening.arch (rank rule.ArchMismatch) (omega arith) c.requires
 
 pub returns-in_default : goal.returns-in_default
 returns-in_default c =

@@ -1,11 +1,12 @@
 use Rattle.std.proofs.Common.{arith, rules}
 use Rattle.macho_fields.specs.Bytes.{bytes_of}
+use Rattle.macho_fields.specs.First.{rank}
 use Rattle.macho_fields.specs.declared.rule.Rule.TheVariants as rule
 use Rattle.macho_image.proofs.Opening.{has_header, header_kept, header_broken}
 use Rattle.macho_image.proofs.walk.commands_outside.Goals as goal
 
 pub end_of_commands-requires : goal.end_of_commands-requires
-end_of_commands-requires c = has_header _ c.args.opening.arch 13 (omega arith) c.requires
+end_of_commands-requires c = has_header _ c.args.opening.arch (rank rule.CommandsOutside) (omega arith) c.requires
 
 pub returns-then-end_of_commands-len : goal.returns-then-end_of_commands-len
 returns-then-end_of_commands-len c =

@@ -3,12 +3,13 @@ use Rattle.std.specs.Option.{option_map}
 use Rattle.std.proofs.lemmas.Option.{none-some}
 use Rattle.macho_fields.specs.Bytes.{bytes_of}
 use Rattle.macho_fields.specs.FileTypes.{file_type_of, file_type_view}
+use Rattle.macho_fields.specs.First.{rank}
 use Rattle.macho_fields.specs.declared.rule.Rule.TheVariants as rule
 use Rattle.macho_image.proofs.Opening.{has_header, header_kept, header_broken}
 use Rattle.macho_image.proofs.walk.file_type.Goals as goal
 
 pub word_at-requires : goal.word_at-requires
-word_at-requires c = let header = has_header _ c.args.opening.arch 12 (omega arith) c.requires in omega (arith, header)
+word_at-requires c = let header = has_header _ c.args.opening.arch (rank rule.FileType) (omega arith) c.requires in omega (arith, header)
 
 pub returns-in-Some : goal.returns-in-Some
 returns-in-Some c =

@@ -1,5 +1,7 @@
 use Rattle.std.proofs.Common.{None, arith, subst, map, ap, ◌∙◌}
 use Rattle.macho_fields.specs.Image.{commands_of}
+use Rattle.macho_fields.specs.First.{rank}
+use Rattle.macho_fields.specs.declared.rule.Rule.TheVariants as rule
 use Rattle.macho_image.specs.Command.{command_at}
 use Rattle.macho_image.specs.Opened.{IsOpened}
 use Rattle.macho_image.proofs.Opened.{opened_below}
@@ -7,7 +9,7 @@ use Rattle.macho_image.proofs.Opening.{kept_less}
 use Rattle.macho_image.proofs.image.Image.commands.Goals as goal
 
 pub commands-requires : goal.commands-requires
-commands-requires c = kept_less _ None 15 19 (omega arith) (opened_below _ c.self.invariant.opened)
+commands-requires c = kept_less _ None (rank rule.CommandShort) (rank rule.SegmentAddress) (omega arith) (opened_below _ c.self.invariant.opened)
 
 pub returns-clause-commands : goal.returns-clause-commands
 returns-clause-commands c = c.commands.ensures ∙ ap (λ image. map (command_at image) (commands_of image)) c.self.view_is

@@ -1,7 +1,9 @@
 use Rattle.std.proofs.Common.{None, arith}
+use Rattle.macho_fields.specs.First.{rank}
+use Rattle.macho_fields.specs.declared.rule.Rule.TheVariants as rule
 use Rattle.macho_image.proofs.Opened.{opened_below}
 use Rattle.macho_image.proofs.Opening.{kept_less}
 use Rattle.macho_image.proofs.image.Image.reopen.Goals as goal
 
 pub unique_places-unique-requires : goal.unique_places-unique-requires
-unique_places-unique-requires c = kept_less _ None 15 19 (omega arith) (opened_below _ c.requires)
+unique_places-unique-requires c = kept_less _ None (rank rule.CommandShort) (rank rule.SegmentAddress) (omega arith) (opened_below _ c.requires)
