@@ -20,7 +20,7 @@ pub opened_keeps : (image : List ℕ) → IsOpened image → KeptBefore image ru
 unfolding IsOpened
 opened_keeps image opened = opened
 
-pub keeps_opened : (image : List ℕ) (r : Rule) → 19 ≤ rank r → KeptBefore image r → IsOpened image
+pub keeps_opened : (image : List ℕ) (r : Rule) → rank rule.SegmentAddress ≤ rank r → KeptBefore image r → IsOpened image
 unfolding IsOpened
 keeps_opened image r late below other place early broken = below other place (omega (arith, late)) broken
 
@@ -34,11 +34,11 @@ opened_commands image opened =
     subst (AreCommands image) (counted_off image commands are) are
 
 -- a rule that is broken past the walk is broken by the commands
-pub by_commands : (image : List ℕ) (r : Rule) (place : ℕ) → 19 ≤ rank r → BreaksImage image None r place → BreaksCommands image (commands_of image) r place
+pub by_commands : (image : List ℕ) (r : Rule) (place : ℕ) → rank rule.SegmentAddress ≤ rank r → BreaksImage image None r place → BreaksCommands image (commands_of image) r place
 by_commands image r place late (inl header) = let early = header_rule_rank image None r place header in absurd (omega (arith, late))
 by_commands image r place late (inr (commands, are, broken)) = subst (λ cs. BreaksCommands image cs r place) (counted_off image commands are) broken
 
-module _ (image : List ℕ) (r : Rule) (late : 19 ≤ rank r) (below : KeptBefore image r) where
+module _ (image : List ℕ) (r : Rule) (late : rank rule.SegmentAddress ≤ rank r) (below : KeptBefore image r) where
   of_commands : (place : ℕ) → BreaksCommands image (commands_of image) r place → BreaksImage image None r place
   of_commands place broken = inr (commands_of image, opened_commands image (keeps_opened image r late below), broken)
 

@@ -77,7 +77,7 @@ module _ (image : List ℕ) (kind : ℕ) where
         at_first (x ∷ xs) one has_c = ap Some (one x (0, omega arith, refl))
 
 -- A rule that is broken at such a command or nowhere
-module _ (image : List ℕ) (r : Rule) (late : 19 ≤ rank r) (below : KeptBefore image r) (kind : ℕ) (P : ℕ → Type 0)
+module _ (image : List ℕ) (r : Rule) (late : rank rule.SegmentAddress ≤ rank r) (below : KeptBefore image r) (kind : ℕ) (P : ℕ → Type 0)
     (from : (p : ℕ) → BreaksCommands image (commands_of image) r p → Has image kind p × P p) where
   pub one_broken : IsUnique kind → ((p : ℕ) → Has image kind p × P p → BreaksCommands image (commands_of image) r p) → (d : ℕ)
       → first_of_kind image kind (commands_of image) ≡ Some d → P d → (b : Break) → b.rule ≡ r → b.place ≡ d → IsLeast (BreaksImage image None) b

@@ -3,7 +3,7 @@ use Rattle.std.proofs.Common.{◌≡◌, ℕ, ◌+◌, ◌⊎◌, min, List, Opt
 use Rattle.std.specs.Result.{result_err}
 use Rattle.std.proofs.lemmas.Bool.{cases_lt, cases_Bool}
 use Rattle.macho_fields.specs.Universal.{is_universal, IsImage, IsUniversal, entry_slice}
-use Rattle.macho_fields.specs.First.{IsFirstBroken, IsUnbroken}
+use Rattle.macho_fields.specs.First.{rank, IsFirstBroken, IsUnbroken}
 use Rattle.macho_fields.specs.Rules.{BreaksImage}
 use Rattle.macho_fields.specs.Layers.{KeptBelow, Continues, Decides}
 use Rattle.macho_fields.specs.declared.rule.Rule.{Rule}
@@ -21,7 +21,7 @@ decided_last breaks (Ok x) kept = λ r place broken. kept r place (omega (arith,
 decided_last breaks (Err b) least = least
 
 -- what is decided of an opened image is decided of its bytes
-pub decided_opened : {T : Type 0} (image : List ℕ) (arch : Option (ℕ × ℕ)) → KeptBelow (BreaksImage image arch) 19 → (answer : Result T Break)
+pub decided_opened : {T : Type 0} (image : List ℕ) (arch : Option (ℕ × ℕ)) → KeptBelow (BreaksImage image arch) (rank rule.SegmentAddress) → (answer : Result T Break)
     → Decides (BreaksImage image None) answer → Decides (BreaksImage image arch) answer
 decided_opened image arch opening (Ok x) none = opened_unbroken image arch opening none
 decided_opened image arch opening (Err b) least = opened_refused image arch opening (refusal.Broken b) least

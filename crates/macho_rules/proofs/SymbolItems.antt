@@ -55,7 +55,7 @@ module _ (image : List ℕ) (all : List Symbol) (are : AreSymbols image all) whe
   symbol_left Q left rest s is search =
       item_at image loader.LC_SYMTAB 16 (symoff image) (nsyms image) (symbol_at image) (λ t. t.place) (λ p. refl) all are s (first_among (λ t. t.place) Q all left rest s is search)
 
-  module _ (r : Rule) (late : 26 < rank r) (below : KeptBefore image r) where
+  module _ (r : Rule) (late : rank rule.TableRange < rank r) (below : KeptBefore image r) where
     symbols_break : (P : ℕ → ℕ → Type 0) (Q : Symbol → Type 0) → ((c p : ℕ) → first_of_kind image loader.LC_SYMTAB (commands_of image) ≡ Some c → Q (symbol_at image p) ↔ P c p)
         → AreBreaks (AtSymbol image (commands_of image) P) (λ s. s.place) Q all
     symbols_break P Q seen =
@@ -85,7 +85,7 @@ module _ (image : List ℕ) (symtab : Symtab) (is : Some symtab ≡ option_map (
   symtab_read = let (c, first, same) = first_at (symtab_at image) _ symtab is in same ∙ ap (symtab_at image) (sym (ap (λ (t : Symtab). t.place) same))
 
   -- its strings lie inside the image, or there are none
-  pub strings_inside : (r : Rule) → 26 < rank r → KeptBefore image r → 0 < symtab.strsize → symtab.stroff + symtab.strsize ≤ length image
+  pub strings_inside : (r : Rule) → rank rule.TableRange < rank r → KeptBefore image r → 0 < symtab.strsize → symtab.stroff + symtab.strsize ≤ length image
   strings_inside r late below some =
       let (c, first, same) = first_at (symtab_at image) _ symtab is in
       let size : symtab.strsize ≡ strsize image c = ap (λ (t : Symtab). t.strsize) same in

@@ -24,8 +24,9 @@ use Rattle.macho_rules.proofs.OneCommand.{Has, first_is, is_of_kind}
 use Rattle.macho_rules.proofs.Searches.{any_of, has_mapped, has_nothing, has_number, number_has, mapped_has, numbers_rise, Rising, ordered_map, Searching, search_all, AreBreaks, are_breaks_at}
 
 -- a table of a command of a kind lies inside the image, or has no items
-pub table_inside : (image : List ℕ) (kind : ℕ) (s : Structure) (command : ℕ) (fields : TableFields) (r : Rule) → 26 < rank r → KeptBefore image r → structure_of kind ≡ Some s → Has image kind command
-    → Contains (table_fields s) fields → ¬ IsOutside image (table_at image command fields)
+pub table_inside : (image : List ℕ) (kind : ℕ) (s : Structure) (command : ℕ) (fields : TableFields) (r : Rule)
+    → rank rule.TableRange < rank r → KeptBefore image r → structure_of kind ≡ Some s → Has image kind command → Contains (table_fields s) fields
+    → ¬ IsOutside image (table_at image command fields)
 table_inside image kind s command fields r late below listed has bounded outside =
     let tables = tables_listed image command s (ap structure_of (of_kind_is image (commands_of image) kind command has) ∙ listed) in
     below rule.TableRange command late
@@ -91,7 +92,7 @@ module _ {X : Type 0} (image : List ℕ) (kind each : ℕ) (start count : ℕ �
   item_at all is x has =
       let (p, _, same) = mapped_has at _ x (subst (λ xs. Contains xs x) is has) in subst (λ y. y ≡ at (place y)) same (subst (λ q. at p ≡ at q) (sym (same_place p)) refl)
 
-  module _ (r : Rule) (late : 26 < rank r) (below : KeptBefore image r) (unique : IsUnique kind) (inside : (c : ℕ) → Has image kind c → ¬ IsOutside image (start c, count c, each))
+  module _ (r : Rule) (late : rank rule.TableRange < rank r) (below : KeptBefore image r) (unique : IsUnique kind) (inside : (c : ℕ) → Has image kind c → ¬ IsOutside image (start c, count c, each))
       (P : ℕ → ℕ → Type 0) (Q : X → Type 0) (seen : (c p : ℕ) → first_of_kind image kind (commands_of image) ≡ Some c → Q (at p) ↔ P c p) where
     opened : IsOpened image
     opened = keeps_opened image r (omega (arith, late)) below

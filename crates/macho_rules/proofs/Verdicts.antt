@@ -35,9 +35,9 @@ passed_on P (Ok x) r is p = absurd is
 passed_on P (Err given) r is p = subst P (sym is) p
 
 -- A break of an image is one of its opening, or one that needs no architecture.
-module _ (image : List ℕ) (arch : Option (ℕ × ℕ)) (opening : KeptBelow (BreaksImage image arch) 19) where
+module _ (image : List ℕ) (arch : Option (ℕ × ℕ)) (opening : KeptBelow (BreaksImage image arch) (rank rule.SegmentAddress)) where
   alone : (r : Rule) (place : ℕ) → BreaksImage image arch r place → BreaksImage image None r place
-  alone r place broken = elim (cases_lt (rank r) 19) [
+  alone r place broken = elim (cases_lt (rank r) (rank rule.SegmentAddress)) [
     | inl early ↦ absurd (opening r place early broken)
     | inr late ↦ commands_alone image arch r place (omega (arith, late)) broken
   ]
