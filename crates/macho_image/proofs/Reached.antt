@@ -1,9 +1,9 @@
 -- The commands of an image up to its last segment.
-use Rattle.std.proofs.Common.{◌≡◌, ◌≢◌, ℕ, zero, suc, ◌+◌, ◌-◌, ◌≤◌, ◌<◌, List, [], ◌∷◌, ◌++◌, map, All, None, length, refl, sym, ap, ◌∙◌, subst, arith, append_assoc}
+use Rattle.std.proofs.Common.{◌≡◌, ◌≢◌, ℕ, zero, suc, ◌+◌, ◌-◌, ◌≤◌, List, [], ◌∷◌, ◌++◌, map, All, None, length, refl, sym, ap, ◌∙◌, arith, append_assoc, length-append}
 use Rattle.std.proofs.lemmas.Bool.{ne_eqb}
 use Rattle.std.proofs.lemmas.List.{append-nil}
 use Rattle.std.proofs.lemmas.List.Elements.{All-cons, All-tail, filter-append}
-use Rattle.macho_fields.specs.Image.{command_count, command_kind, command_size, commands_end, IsGood, places_from}
+use Rattle.macho_fields.specs.Image.{command_count, command_kind, command_size, commands_of, AreCommands, IsGood, places_from}
 use Rattle.macho_fields.specs.Segment.{segments_of}
 use Rattle.macho_fields.specs.declared.header.loader.TheConstants as loader
 use Rattle.macho_image.specs.Command.{command_at}
@@ -14,71 +14,48 @@ use Rattle.macho_image.proofs.OfOneKind.{left_of_kind-map}
 use Rattle.macho_image.proofs.Opened.{opened_below}
 use Rattle.macho_image.proofs.Opening.{kept_less}
 use Rattle.macho_image.proofs.OpenedWalk.{can_walk}
-use Rattle.macho_image.proofs.Walked.{first_good, walk_left}
 
--- so many commands are passed, the next one is at the place, and the segments among those that are
--- passed are among the first `count`
-pub record IsReached (image : List ℕ) (passed place count : ℕ) : Type 0 where
-  pub can : CanWalk image place (command_count image - passed)
-  pub split : (left : ℕ) → places_from image 32 (passed + left) ≡ places_from image 32 passed ++ places_from image place left
-  pub most : count ≤ passed
-  pub same : segments_of image (places_from image 32 count) ≡ segments_of image (places_from image 32 passed)
+-- the last of these commands, so many of them, are no segments
+pub record AreAfter (image passed : List ℕ) (after : ℕ) : Type 0 where
+  pub first : List ℕ
+  pub rest : List ℕ
+  pub all : first ++ rest ≡ passed
+  pub count : length rest ≡ after
+  pub none : segments_of image rest ≡ []
 
-pub none_reached : (image : List ℕ) → IsOpened image → IsReached image 0 32 0
-none_reached image opened = record {
-  can = can_walk image None (command_count image - 0) (omega arith) (kept_less image None 15 19 (omega arith) (opened_below image opened));
-  split = λ left. ap (places_from image 32) (let e : 0 + left ≡ left = omega arith in e);
+pub none_after : (image passed : List ℕ) → AreAfter image passed 0
+none_after image passed = record { first = passed; rest = []; all = append-nil passed; count = refl; none = refl }
+
+pub one_after : (image passed : List ℕ) (after p : ℕ) → command_kind image p ≢ loader.LC_SEGMENT_64 → AreAfter image passed after → AreAfter image (passed ++ p ∷ []) (after + 1)
+one_after image passed after p other a = record {
+  first = a.first;
+  rest = a.rest ++ p ∷ [];
+  all = sym (append_assoc a.first a.rest (p ∷ [])) ∙ ap (λ ps. ps ++ p ∷ []) a.all;
+  count = omega (arith, a.count, length-append a.rest (p ∷ []));
+  none = filter-append _ a.rest (p ∷ []) ∙ (ap (λ ps. ps ++ segments_of image (p ∷ [])) a.none ∙ rw (ne_eqb (command_kind image p) loader.LC_SEGMENT_64 other) refl);
+}
+
+-- the first places are the places of so many commands
+first_places : (image : List ℕ) (start count : ℕ) (xs ys : List ℕ) → xs ++ ys ≡ places_from image start count → places_from image start (length xs) ≡ xs
+first_places image start count [] ys is = refl
+first_places image start zero (x ∷ xs) ys is = absurd (cc)
+first_places image start (suc count) (x ∷ xs) ys is =
+    let first : x ≡ start = cc in
+    let rest : xs ++ ys ≡ places_from image (start + command_size image start) count = cc in
+    let more = first_places image (start + command_size image start) count xs ys rest in cc
+
+pub all_but_after : (image : List ℕ) (after : ℕ) → AreCommands image (commands_of image) → AreAfter image (commands_of image) after → ReachesSegments image (command_count image - after)
+all_but_after image after are a = record {
   most = omega arith;
-  same = refl;
+  all = ap (segments_of image) (ap (places_from image 32) count ∙ first_places image 32 (command_count image) a.first a.rest a.all)
+      ∙ sym (ap (segments_of image) (sym a.all) ∙ (filter-append _ a.first a.rest ∙ (ap (λ ps. segments_of image a.first ++ ps) a.none ∙ append-nil (segments_of image a.first))));
 }
+  where
+    count : command_count image - after ≡ length a.first
+    count = omega (arith, are.0, a.count, ap length a.all, length-append a.first a.rest)
 
-module _ (image : List ℕ) (passed place count : ℕ) (less : passed < command_count image) (r : IsReached image passed place count) where
-  next_good : IsGood image place
-  next_good = first_good image place (command_count image - passed) (omega arith) r.can
-
-  pub next_inside : (place + 8 ≤ length image) × (place + command_size image place ≤ length image)
-  next_inside =
-      let head : place + 8 ≤ commands_end image = next_good.head in
-      let end : place + command_size image place ≤ commands_end image = next_good.inside in
-      let inside : commands_end image ≤ length image = r.can.inside in
-      (omega arith, omega arith)
-
-  one_more : places_from image 32 (passed + 1) ≡ places_from image 32 passed ++ place ∷ []
-  one_more = r.split 1
-
-  next_can : (size : ℕ) → size ≡ command_size image place → CanWalk image (place + size) (command_count image - (passed + 1))
-  next_can size is =
-      let fewer : command_count image - passed - 1 ≡ command_count image - (passed + 1) = omega arith in
-      subst (CanWalk image (place + size)) fewer (walk_left image place (command_count image - passed) size (omega arith) is r.can)
-
-  next_split : (size : ℕ) → size ≡ command_size image place → (left : ℕ) → places_from image 32 (passed + 1 + left) ≡ places_from image 32 (passed + 1) ++ places_from image (place + size) left
-  next_split size is left =
-      let more : passed + 1 + left ≡ passed + suc left = omega arith in
-      ap (places_from image 32) more ∙ (r.split (suc left)
-      ∙ (ap (λ s. places_from image 32 passed ++ place ∷ places_from image (place + s) left) (sym is)
-      ∙ (sym (append_assoc (places_from image 32 passed) (place ∷ []) (places_from image (place + size) left))
-      ∙ ap (λ ps. ps ++ places_from image (place + size) left) (sym one_more))))
-
-  pub segment_reached : (size : ℕ) → size ≡ command_size image place → IsReached image (passed + 1) (place + size) (passed + 1)
-  segment_reached size is = record { can = next_can size is; split = next_split size is; most = omega arith; same = refl }
-
-  pub other_passed : (size : ℕ) → size ≡ command_size image place → command_kind image place ≢ loader.LC_SEGMENT_64 → IsReached image (passed + 1) (place + size) count
-  other_passed size is other = record {
-    can = next_can size is;
-    split = next_split size is;
-    most = omega (arith, r.most);
-    same = r.same ∙ sym (ap (segments_of image) one_more ∙ (filter-append _ (places_from image 32 passed) (place ∷ [])
-        ∙ (ap (λ rest. segments_of image (places_from image 32 passed) ++ rest) none ∙ append-nil (segments_of image (places_from image 32 passed)))));
-  }
-    where
-      none : segments_of image (place ∷ []) ≡ []
-      none = rw (ne_eqb (command_kind image place) loader.LC_SEGMENT_64 other) refl
-
-pub all_reached : (image : List ℕ) (passed place count : ℕ) → passed ≡ command_count image → IsReached image passed place count → ReachesSegments image count
-all_reached image passed place count all r = record {
-  most = omega (arith, r.most);
-  all = r.same ∙ ap (λ n. segments_of image (places_from image 32 n)) all;
-}
+pub after_most : (image passed : List ℕ) (after : ℕ) → AreAfter image passed after → after ≤ length passed
+after_most image passed after a = omega (arith, a.count, ap length a.all, length-append a.first a.rest)
 
 -- the first of good commands are good
 good_among : (image : List ℕ) (start count all : ℕ) → count ≤ all → All (IsGood image) (places_from image start all) → All (IsGood image) (places_from image start count)

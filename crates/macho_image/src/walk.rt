@@ -59,21 +59,26 @@ impl<'a> Opening<'a> {
     }
 }
 
-/// How many commands there are up to the last segment, itself included. Its contract says only that
-/// no segment comes after them.
+/// How many commands there are up to the last segment, itself included: all but those after it. The
+/// contract says only that no segment comes after them.
 pub(crate) fn count_to_last_segment(image: Bytes) -> u32
     requires { IsOpened (bytes_of image) }
     ensures { ReachesSegments (bytes_of image.entry) result }
 {
-    let mut place = MACH_HEADER_64_SIZE;
-    let mut count = 0;
-    for walked in 0..word_at(image, NCMDS) {
-        if word_at(image, place) == LC_SEGMENT_64 {
-            count = walked + 1;
+    let opening = Opening {
+        bytes: image,
+        arch: None,
+    };
+    let all = word_at(image, NCMDS);
+    let mut after = 0;
+    for command in opening.commands() {
+        if command.cmd == LC_SEGMENT_64 {
+            after = 0;
+        } else {
+            after += 1;
         }
-        place += u64::from(word_at(image, place + CMDSIZE));
     }
-    count
+    all - after
 }
 
 /// The rule `header-truncated`: the bytes hold a `mach_header_64`.
