@@ -150,7 +150,12 @@ all_sections_hold image keeps =
     (all_flat (λ places. HoldsSection image (section_at image places)) (sections_with image) (segments_of image (commands_of image))
     (λ k d less. All-map (λ places. HoldsSection image (section_at image places)) (λ section. (slice_index_or (segments_of image (commands_of image)) k d, section))
     (sections_in image (slice_index_or (segments_of image (commands_of image)) k d))
-    (λ j e few. (refl, keeps, All-contains_itself (segments_of image (commands_of image)) k d less, All-contains_itself (sections_in image (slice_index_or (segments_of image (commands_of image)) k d)) j e few))))
+    (λ j e few. (
+      refl,
+      keeps,
+      All-contains_itself (segments_of image (commands_of image)) k d less,
+      All-contains_itself (sections_in image (slice_index_or (segments_of image (commands_of image)) k d)) j e few,
+    ))))
 
 -- the item at an index of a list of which P holds
 pub got_has : {X : Type 0} (P : X → Type 0) (xs : List X) (n : ℕ) (x : X) → slice_get xs n ≡ Some x → All P xs → P x

@@ -10,7 +10,8 @@ pub returns-in_err-section-clause-section : goal.returns-in_err-section-clause-s
 returns-in_err-section-clause-section c some =
     let all = map (section_at c.self.inside.image) (sections_of c.self.inside.image (commands_of c.self.inside.image)) in
     let got : c.nth.result ≡ slice_get all c.in_ok-index.index = nth_is c.nth.result _
-    (nth_from_yields_List c.nth.result c.nth.new.self c.in_ok-index.index c.nth.ensures.ran (YieldsList-from_first (λ (x : SectionView). x) (λ (left : List SectionView). left) all c.sections.ensures.sections)) in
+    (nth_from_yields_List c.nth.result c.nth.new.self c.in_ok-index.index c.nth.ensures.ran
+    (YieldsList-from_first (λ (x : SectionView). x) (λ (left : List SectionView). left) all c.sections.ensures.sections)) in
     subst (λ (i : List ℕ). c.from_residual-in_err-section.result ≡ slice_get (map (section_at i) (sections_of i (commands_of i))) (c.args.number - 1)) c.self.view_is
     (c.from_residual-in_err-section.ensures ∙ (sym c.in_err-section.was ∙ (got ∙ ap (slice_get all) (c.in_ok-index.ensures.1 ∙ ap (λ n. n - 1) c.from.ensures))))
 
@@ -19,7 +20,8 @@ invariant_of-result c =
     let image = c.self.inside.image in
     let all = map (section_at image) (sections_of image (commands_of image)) in
     let got : c.nth.result ≡ slice_get all c.in_ok-index.index = nth_is c.nth.result _
-    (nth_from_yields_List c.nth.result c.nth.new.self c.in_ok-index.index c.nth.ensures.ran (YieldsList-from_first (λ (x : SectionView). x) (λ (left : List SectionView). left) all c.sections.ensures.sections)) in
+    (nth_from_yields_List c.nth.result c.nth.new.self c.in_ok-index.index c.nth.ensures.ran
+    (YieldsList-from_first (λ (x : SectionView). x) (λ (left : List SectionView). left) all c.sections.ensures.sections)) in
     subst (λ (bytes : List ℕ). HoldsSection bytes c.in_ok-section.section) (sym c.bytes.ensures.bytes)
     (got_has (HoldsSection image) all c.in_ok-index.index c.in_ok-section.section (sym got ∙ c.in_ok-section.was) (all_sections_hold image c.self.invariant))
 
@@ -27,6 +29,7 @@ pub returns-clause-section : goal.returns-clause-section
 returns-clause-section c some =
     let all = map (section_at c.self.inside.image) (sections_of c.self.inside.image (commands_of c.self.inside.image)) in
     let got : c.nth.result ≡ slice_get all c.in_ok-index.index = nth_is c.nth.result _
-    (nth_from_yields_List c.nth.result c.nth.new.self c.in_ok-index.index c.nth.ensures.ran (YieldsList-from_first (λ (x : SectionView). x) (λ (left : List SectionView). left) all c.sections.ensures.sections)) in
+    (nth_from_yields_List c.nth.result c.nth.new.self c.in_ok-index.index c.nth.ensures.ran
+    (YieldsList-from_first (λ (x : SectionView). x) (λ (left : List SectionView). left) all c.sections.ensures.sections)) in
     subst (λ (i : List ℕ). Some c.in_ok-section.section ≡ slice_get (map (section_at i) (sections_of i (commands_of i))) (c.args.number - 1)) c.self.view_is
     (sym c.in_ok-section.was ∙ (got ∙ ap (slice_get all) (c.in_ok-index.ensures.1 ∙ ap (λ n. n - 1) c.from.ensures)))

@@ -20,7 +20,8 @@ pub returns-clause-symbols : goal.returns-clause-symbols
 returns-clause-symbols c =
     let image = c.self.inside.image in
     subst (λ (i : List ℕ). map (λ (symbol : Symbol). symbol_view (bytes_of c.bytes.result) symbol.place) c.symbols-symbols.result ≡ map (symbol_view i) (symbols_of i (commands_of i))) c.self.view_is
-    (subst (λ (bytes : List ℕ). map (λ (symbol : Symbol). symbol_view bytes symbol.place) c.symbols-symbols.result ≡ map (symbol_view image) (symbols_of image (commands_of image))) (sym c.bytes.ensures.bytes)
+    (subst (λ (bytes : List ℕ). map (λ (symbol : Symbol). symbol_view bytes symbol.place) c.symbols-symbols.result ≡ map (symbol_view image) (symbols_of image (commands_of image)))
+    (sym c.bytes.ensures.bytes)
     (ap (map (λ (symbol : Symbol). symbol_view image symbol.place)) c.symbols-symbols.ensures ∙ views_of image (symbols_of image (commands_of image))))
 
 pub returns-clause-whole : goal.returns-clause-whole

@@ -23,14 +23,16 @@ returns-clause-named c =
     subst (λ (v : IndirectView). (IsSome c.symbol.result → IsSymbolIndex (word v.image v.place)) × (IsSymbolIndex (word v.image v.place) → IsSome c.symbol.result)) c.self.view_is (
       λ some. subst IsSymbolIndex (value_read image entry c.self.invariant) index,
       λ at. subst IsSome (sym c.symbol.ensures)
-          (some_view image (symbols_of image (commands_of image)) c.from.result (subst (λ n. n < length (symbols_of image (commands_of image))) (sym c.from.ensures) (symbol_named image entry c.self.invariant index))),
+          (some_view image (symbols_of image (commands_of image)) c.from.result
+          (subst (λ n. n < length (symbols_of image (commands_of image))) (sym c.from.ensures) (symbol_named image entry c.self.invariant index))),
     )
 
 pub returns-clause-symbol : goal.returns-clause-symbol
 returns-clause-symbol c =
     let image = c.self.inside.image.now in
     let entry = c.self.inside.entry in
-    subst (λ (v : IndirectView). IfSome c.symbol.result (λ (symbol : SymbolView). slice_get (map (symbol_view v.image) (symbols_of v.image (commands_of v.image))) (word v.image v.place) ≡ Some symbol))
+    subst (λ (v : IndirectView). IfSome c.symbol.result (λ (symbol : SymbolView).
+    slice_get (map (symbol_view v.image) (symbols_of v.image (commands_of v.image))) (word v.image v.place) ≡ Some symbol))
     c.self.view_is
     (if_some_same c.symbol.result _
     (c.symbol.ensures ∙ ap (slice_get (map (symbol_view image) (symbols_of image (commands_of image)))) (c.from.ensures ∙ value_read image entry c.self.invariant)))
