@@ -42,7 +42,7 @@ rules_in_order =
     ∷ rule.Entry ∷ []
 
 abbrev pub rule_of_rank : ℕ → Rule
-rule_of_rank n = get_or rules_in_order (n - 1) rule.Magic
+rule_of_rank n = get_or rules_in_order (n - rank rule.Magic) rule.Magic
 
 rule_of_its_rank : (r : Rule) → rule_of_rank (rank r) ≡ r
 rule_of_its_rank rule.Magic = refl
