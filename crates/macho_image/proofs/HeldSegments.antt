@@ -12,7 +12,7 @@ use Rattle.macho_fields.proofs.Opened.{Keeps, sections_inside, command_inside}
 use Rattle.macho_fields.proofs.Parts.{of_kind_is, of_kind_among}
 use Rattle.macho_image.specs.Opened.{IsOpened}
 use Rattle.macho_image.specs.Command.{CommandView, command_at}
-use Rattle.macho_image.specs.Scaffold.{left_of_kind, HaveSegments, HoldsSegment, HoldSegments, sections_from, sections_among}
+use Rattle.macho_image.specs.Scaffold.{HaveSegments, HoldsSegment, HoldSegments, sections_from, sections_among}
 use Rattle.macho_image.specs.Segment.{SegmentView, segment_at, section_at, sections_with, sections_of}
 use Rattle.macho_image.proofs.Opened.{opened_keeps}
 use Rattle.macho_image.proofs.OpenedWalk.{opened_commands}
@@ -53,24 +53,22 @@ all_sections_seen image commands all is = ap sections_among is ∙ sections_by_s
 
 -- The number of sections
 
--- the sections of the segments among the commands
-abbrev pub counted : List ℕ → List CommandView → ℕ
-counted image commands =
-    sum_by (λ c. nsects image c.place) (left_of_kind loader.LC_SEGMENT_64 commands)
+-- the sections of the segments
+abbrev pub counted : List SegmentView → ℕ
+counted segments = sum_by (λ s. nsects s.image s.place) segments
 
-pub counted_more : (image : List ℕ) (old rest : List CommandView) (c : CommandView) → old ≡ c ∷ rest
-    → sum_by (λ c. nsects image c.place) old ≡ nsects image c.place + sum_by (λ c. nsects image c.place) rest
-counted_more image old rest c is =
-    ap (sum_by (λ v. nsects image v.place)) is ∙ sum_by-cons (λ v. nsects image v.place) c rest
+pub counted_more : (old rest : List SegmentView) (s : SegmentView) → old ≡ s ∷ rest → counted old ≡ nsects s.image s.place + counted rest
+counted_more old rest s is = ap counted is ∙ sum_by-cons (λ t. nsects t.image t.place) s rest
 
-sum_of_places : (f : ℕ → ℕ) (image xs : List ℕ) → sum_by (λ c. f c.place) (map (command_at image) xs) ≡ sum_by f xs
-sum_of_places f image [] = refl
-sum_of_places f image (x ∷ xs) =
-    sum_by-cons (λ c. f c.place) (command_at image x) (map (command_at image) xs) ∙ (ap (λ n. f x + n) (sum_of_places f image xs) ∙ sym (sum_by-cons f x xs))
+counted_places : (image xs : List ℕ) → counted (map (segment_at image) xs) ≡ sum_by (nsects image) xs
+counted_places image [] = refl
+counted_places image (x ∷ xs) =
+    counted_more (map (segment_at image) (x ∷ xs)) (map (segment_at image) xs) (segment_at image x) refl
+    ∙ (ap (λ n. nsects image x + n) (counted_places image xs) ∙ sym (sum_by-cons (nsects image) x xs))
 
-pub all_counted : (image : List ℕ) (all : List CommandView) → HaveSegments image all → counted image all ≡ section_count image (commands_of image)
-all_counted image all have =
-    ap (sum_by (λ c. nsects image c.place)) have ∙ sum_of_places (nsects image) image (segments_of image (commands_of image))
+pub all_counted : (image : List ℕ) (all : List SegmentView) → all ≡ map (segment_at image) (segments_of image (commands_of image))
+    → counted all ≡ section_count image (commands_of image)
+all_counted image all is = ap counted is ∙ counted_places image (segments_of image (commands_of image))
 
 -- the sections of a command, where it is a segment, lie in it
 abbrev HoldsItsSections : List ℕ → ℕ → Type 0
@@ -98,13 +96,12 @@ count_in_chain image start (x ∷ xs) next (first, good, rest) within hold =
     let here : 80 * n ≤ size = in_command (nsects image x) size is_segment (λ h. hold 0 x (omega arith) (eqb-true (command_kind image x) loader.LC_SEGMENT_64 h)) in
     let more : x + size + 80 * section_count image xs ≤ commands_end image = count_in_chain image (x + size) xs next rest end (All-tail (HoldsItsSections image) x xs hold) in omega arith
 
-pub count_fits : (image : List ℕ) (all : List CommandView) → IsOpened image → HaveSegments image all → 80 * counted image all ≤ length image
-count_fits image all is_opened have =
+pub count_fits : (image : List ℕ) → IsOpened image → 80 * section_count image (commands_of image) ≤ length image
+count_fits image is_opened =
     let opened = opened_keeps image is_opened in
     let commands = commands_of image in
     let are = opened_commands image is_opened in
     let (length_is, next, chain) = are in
     let inside : commands_end image ≤ length image = opened.inside in
-    let same : counted image all ≡ section_count image commands = all_counted image all have in
     let fits : 32 + 80 * section_count image commands ≤ commands_end image = count_in_chain image 32 commands next chain (omega arith)
     (λ k d less is_segment. let holds = sections_inside image commands opened are _ (All-contains_itself commands k d less) is_segment in omega arith) in omega arith

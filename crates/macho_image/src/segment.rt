@@ -174,11 +174,11 @@ impl<'a> Image<'a> {
     pub fn section_count(&self) -> u64
         ensures { result ≡ section_count self.now (commands_of self.now) }
     {
-        let image = self.bytes();
-        let mut commands = self.commands_to_last_segment();
+        // The sections lie inside the image, so their number is below 2^64.
+        prove!(self.bytes().len() <= u64::MAX);
         let mut count = 0;
-        while let Some(command) = commands.next_of_kind(LC_SEGMENT_64) {
-            count += u64::from(word_in(image, command.place, NSECTS));
+        for segment in self.segments() {
+            count += segment.nsects();
         }
         count
     }
