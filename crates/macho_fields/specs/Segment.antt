@@ -1,10 +1,10 @@
 -- Segments, their sections, and what is at an address. A segment and a section are named by the
 -- place of their structure. (mach-o/loader.h: segment_command_64, section_64, entry_point_command)
-use Rattle.std.specs.Prelude.{◌&&◌, ◌||◌, ◌≡◌, ◌≢◌, ℕ, ◌+◌, ◌-◌, ◌*◌, ◌%◌, ◌^◌, ◌≤◌, ◌<◌, ◌==◌, ◌⊎◌, nat_lt, List, length, map, find, sum_by, Any, Contains, Option, IsSomeAnd, Bool, false, bit_and, if◌then◌else◌}
+use Rattle.std.specs.Prelude.{◌&&◌, ◌||◌, ◌≡◌, ◌≢◌, ℕ, ◌+◌, ◌-◌, ◌*◌, ◌%◌, ◌^◌, ◌≤◌, ◌<◌, ◌==◌, ◌⊎◌, nat_lt, List, length, map, find, sum_by, Any, Contains, Option, Some, None, IsSomeAnd, Bool, false, bit_and, if◌then◌else◌}
 use Rattle.std.specs.List.{range_with_len}
 use Rattle.std.specs.Option.{option_map}
 use Rattle.macho_fields.specs.Field.{Covers}
-use Rattle.macho_fields.specs.Image.{word, long, of_kind}
+use Rattle.macho_fields.specs.Image.{word, long, commands_of, of_kind}
 use Rattle.macho_fields.specs.declared.header.loader.TheConstants as loader
 use Rattle.macho_fields.specs.declared.header.vm_prot.TheConstants as vm_prot
 
@@ -89,6 +89,15 @@ abbrev pub source : List ℕ → ℕ → ℕ → Source
 source image segment address =
     let past = address - vmaddr image segment in
     if nat_lt past (filesize image segment) then File (fileoff image segment + past) else Zero
+
+-- what is at an address of an image: what the segment that supplies it has there, or none where no
+-- segment supplies it
+abbrev pub IsAtAddress : List ℕ → ℕ → Option Source → Type 0
+IsAtAddress image address given =
+    ((segment : ℕ) → Contains (segments_of image (commands_of image)) segment
+    → Supplies image segment address → given ≡ Some (source image segment address))
+    × (((segment : ℕ) → Contains (segments_of image (commands_of image)) segment
+    → ¬ Supplies image segment address) → given ≡ None)
 
 -- The bytes of a section of a mapped segment are where its addresses say, among those that the
 -- segment has in the file.

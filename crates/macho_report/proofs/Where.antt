@@ -1,11 +1,11 @@
 -- What is at an address of an image in a slice.
 use Rattle.std.proofs.Common.{◌≡◌, ℕ, List, Option, Some, None, IfSome, IsSomeAnd, ap, subst}
-use Rattle.macho_fields.specs.Segment.{Source}
+use Rattle.macho_fields.specs.Segment.{Source, IsAtAddress}
 use Rattle.macho_fields.specs.Universal.{FileSlice, slices_of, slice_bytes}
 use Rattle.std.specs.Prelude.{slice_get}
 use Rattle.macho_rules.specs.Mapping.{GivesSources, sources}
 use Rattle.macho_rules.specs.declared.mapping.Mapping.{Mapping}
-use Rattle.macho_report.specs.Where.{IsAtAddress, TellsWhere, where_text}
+use Rattle.macho_report.specs.Where.{TellsWhere, where_text}
 
 told_in : (file : List ℕ) (o : Option FileSlice) (address : ℕ) (given : ℕ → Option Source) (answer : Option Source)
     → IsSomeAnd o (λ slice. GivesSources (slice_bytes file slice) given) → answer ≡ given address

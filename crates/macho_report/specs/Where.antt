@@ -1,8 +1,7 @@
 -- What a run says of an address of an image.
-use Rattle.std.specs.Prelude.{◌≡◌, ◌≢◌, ℕ, ◌≤◌, List, [], ◌∷◌, length, codes, slice_get, Contains, Option, Some, None, IfSome, IsSomeAnd}
+use Rattle.std.specs.Prelude.{◌≡◌, ◌≢◌, ℕ, ◌≤◌, List, [], ◌∷◌, length, codes, slice_get, Option, Some, None, IfSome, IsSomeAnd}
 use Rattle.macho_fields.specs.First.{IsUnbroken, IsFirstBroken}
-use Rattle.macho_fields.specs.Image.{commands_of}
-use Rattle.macho_fields.specs.Segment.{Source, File, Zero, source, Supplies, segments_of}
+use Rattle.macho_fields.specs.Segment.{Source, File, Zero, IsAtAddress}
 use Rattle.macho_fields.specs.Universal.{slices_of, slice_bytes, IsImage}
 use Rattle.macho_fields.specs.declared.rule.Break.{Break}
 use Rattle.macho_report.specs.Stream.{Wrote, WrotePrefix, joined}
@@ -16,15 +15,6 @@ abbrev pub where_text : Option Source → List ℕ
 where_text (Some (File place)) = joined (codes "file " ∷ prefixed_hex place ∷ codes "\n" ∷ [])
 where_text (Some Zero) = codes "zero\n"
 where_text None = codes "unmapped\n"
-
--- what is at an address of an image: what the segment that supplies it has there, or none where no
--- segment supplies it
-abbrev pub IsAtAddress : List ℕ → ℕ → Option Source → Type 0
-IsAtAddress image address given =
-    ((segment : ℕ) → Contains (segments_of image (commands_of image)) segment
-    → Supplies image segment address → given ≡ Some (source image segment address))
-    × (((segment : ℕ) → Contains (segments_of image (commands_of image)) segment
-    → ¬ Supplies image segment address) → given ≡ None)
 
 -- the file has an image in the slice with this index
 abbrev pub HasImage : List ℕ → ℕ → Type 0

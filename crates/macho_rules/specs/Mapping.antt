@@ -1,8 +1,8 @@
 -- What is at the addresses of a loaded image.
-use Rattle.std.specs.Prelude.{◌&&◌, ◌≡◌, ℕ, ◌+◌, ◌-◌, List, length, filter, find, nat_le, nat_lt, Contains, Bool, Option, Some, None, slice_index_or, if◌then◌else◌}
+use Rattle.std.specs.Prelude.{◌&&◌, ℕ, ◌+◌, ◌-◌, List, length, filter, find, nat_le, nat_lt, Bool, Option, slice_index_or, if◌then◌else◌}
 use Rattle.std.specs.Option.{option_map}
 use Rattle.macho_fields.specs.Image.{commands_of}
-use Rattle.macho_fields.specs.Segment.{Source, File, Zero, source, Supplies, segments_of, vmsize}
+use Rattle.macho_fields.specs.Segment.{Source, File, Zero, IsAtAddress, segments_of, vmsize}
 use Rattle.macho_fields.specs.declared.span.Span.{Span}
 use Rattle.macho_rules.specs.declared.mapping.FilePart.{FilePart}
 use Rattle.macho_rules.specs.declared.mapping.Mapping.{Mapping}
@@ -47,12 +47,6 @@ abbrev pub mapped_segments : List ℕ → List ℕ
 mapped_segments image =
     filter (λ segment. nat_lt 0 (vmsize image segment)) (segments_of image (commands_of image))
 
--- Each address of an image is given what the segment that supplies it has there, and none where no
--- segment supplies it.
+-- each address of an image is given what is there
 abbrev pub GivesSources : List ℕ → (ℕ → Option Source) → Type 0
-GivesSources image given =
-    (address : ℕ) →
-    ((segment : ℕ) → Contains (segments_of image (commands_of image)) segment
-    → Supplies image segment address → given address ≡ Some (source image segment address))
-    × (((segment : ℕ) → Contains (segments_of image (commands_of image)) segment
-    → ¬ Supplies image segment address) → given address ≡ None)
+GivesSources image given = (address : ℕ) → IsAtAddress image address (given address)
