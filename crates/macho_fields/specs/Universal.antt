@@ -1,6 +1,6 @@
 -- A universal file, and the slices of any file. The fields of a universal header are big-endian.
 -- (mach-o/fat.h: fat_header, fat_arch, fat_arch_64)
-use Rattle.std.specs.Prelude.{◌≡◌, ℕ, ◌+◌, ◌*◌, ◌%◌, ◌^◌, ◌≤◌, ◌⊎◌, ◌==◌, ◌||◌, List, [], ◌∷◌, map, length, Option, Some, None, Bool, IsTrue, if◌then◌else◌}
+use Rattle.std.specs.Prelude.{◌≡◌, ℕ, ◌+◌, ◌*◌, ◌%◌, ◌^◌, ◌≤◌, ◌⊎◌, ◌==◌, ◌||◌, List, [], ◌∷◌, map, length, slice_get, Option, Some, None, IsSomeAnd, Bool, IsTrue, if◌then◌else◌}
 use Rattle.std.specs.List.{range_with_len}
 use Rattle.macho_fields.specs.Field.{number, part, Covers}
 use Rattle.macho_fields.specs.declared.bytes.Order.TheVariants.{Big, Little}
@@ -92,3 +92,8 @@ IsUnreadImage bytes =
 -- They begin with that of neither.
 abbrev pub IsForeign : List ℕ → Type 0
 IsForeign bytes = ¬ (IsImage bytes ⊎ IsUnreadImage bytes)
+
+-- the file has an image in the slice with this index
+abbrev pub HasImage : List ℕ → ℕ → Type 0
+HasImage file index =
+    IsSomeAnd (slice_get (slices_of file) index) (λ slice. IsImage (slice_bytes file slice))

@@ -2,7 +2,7 @@
 use Rattle.std.specs.Prelude.{◌≡◌, ◌≢◌, ℕ, ◌≤◌, List, [], ◌∷◌, length, codes, slice_get, Option, Some, None, IfSome, IsSomeAnd}
 use Rattle.macho_fields.specs.First.{IsUnbroken, IsFirstBroken}
 use Rattle.macho_fields.specs.Segment.{Source, File, Zero, IsAtAddress}
-use Rattle.macho_fields.specs.Universal.{slices_of, slice_bytes, IsImage}
+use Rattle.macho_fields.specs.Universal.{slices_of, slice_bytes, HasImage}
 use Rattle.macho_fields.specs.declared.rule.Break.{Break}
 use Rattle.macho_report.specs.Stream.{Wrote, WrotePrefix, joined}
 use Rattle.macho_report.specs.Number.{prefixed_hex}
@@ -15,11 +15,6 @@ abbrev pub where_text : Option Source → List ℕ
 where_text (Some (File place)) = joined (codes "file " ∷ prefixed_hex place ∷ codes "\n" ∷ [])
 where_text (Some Zero) = codes "zero\n"
 where_text None = codes "unmapped\n"
-
--- the file has an image in the slice with this index
-abbrev pub HasImage : List ℕ → ℕ → Type 0
-HasImage file index =
-    IsSomeAnd (slice_get (slices_of file) index) (λ slice. IsImage (slice_bytes file slice))
 
 -- the text is the line of what is at an address of the image in the slice with this index
 abbrev pub TellsWhere : List ℕ → ℕ → ℕ → List ℕ → Type 0

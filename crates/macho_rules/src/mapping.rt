@@ -47,7 +47,7 @@ impl Mapping {
     ghost use Rattle.macho_fields.specs.Layers.{NothingBreaks};
     ghost use Rattle.macho_fields.specs.Rules.{BreaksImage};
     ghost use Rattle.macho_fields.specs.Spans.{IsProbeCount};
-    ghost use Rattle.macho_fields.specs.Universal.{slices_of, slice_bytes, IsImage};
+    ghost use Rattle.macho_fields.specs.Universal.{slices_of, slice_bytes, IsImage, HasImage};
     ghost use Rattle.macho_rules.specs.Mapping.{sources, segment_count, probe_count, search_count};
     ghost use Rattle.macho_rules.specs.Mapping.{mapped_segments, GivesSources};
     ghost use Rattle.macho_rules.specs.Source.{source_of};
@@ -57,9 +57,8 @@ impl Mapping {
     /// read, or there is none with the index. It takes memory for the mapped segments of the image alone,
     /// and none where there are none.
     pub fn of(alloc: Global, verified: &Verified, index: u64) -> Result<Option<Mapping>, AllocError>
-        ensures is_image { IfOk result (λ mapping. IsSome mapping
-            ↔ IsSomeAnd (slice_get (slices_of verified.now) index)
-            (λ slice. IsImage (slice_bytes verified.now slice))) }
+        ensures is_image { IfOk result (λ mapping.
+            IsSome mapping ↔ HasImage verified.now index) }
         ensures sources { IfOk result (λ mapping. IfSome mapping (λ mapping.
             IsSomeAnd (slice_get (slices_of verified.now) index) (λ slice.
             GivesSources (slice_bytes verified.now slice) (sources mapping)))) }

@@ -110,7 +110,7 @@ impl<'a> Verified<'a> {
     ghost use Rattle.macho_fields.specs.Image.{commands_of};
     ghost use Rattle.macho_fields.specs.Loader.{IsSound, IsSoundImage};
     ghost use Rattle.macho_fields.specs.Rules.{BreaksImage};
-    ghost use Rattle.macho_fields.specs.Universal.{slices_of, slice_bytes, IsImage};
+    ghost use Rattle.macho_fields.specs.Universal.{slices_of, slice_bytes, IsImage, HasImage};
     ghost use Rattle.macho_fat.specs.Slices.{slice_of};
 
     /// All bytes of the file. Its clauses `unbroken` and `sound` are the verdict.
@@ -143,8 +143,7 @@ impl<'a> Verified<'a> {
     /// The image in the slice with this index, or `None` where the slice is of another kind, or
     /// there is none. It goes over the commands of the image once more, and judges nothing.
     pub fn image(&self, index: u64) -> Option<Image<'a>>
-        ensures is_image { IsSome result ↔ IsSomeAnd (slice_get (slices_of self.now) index)
-            (λ slice. IsImage (slice_bytes self.now slice)) }
+        ensures is_image { IsSome result ↔ HasImage self.now index }
         ensures image { IfSome result (λ image. IsSomeAnd (slice_get (slices_of self.now) index)
             (λ slice. image ≡ slice_bytes self.now slice)) }
         ensures unbroken { IfSome result (λ image. NothingBreaks (BreaksImage image None)) }
@@ -157,8 +156,7 @@ impl<'a> Verified<'a> {
     /// The bytes of the image in the slice with this index, or `None` where the slice is of another
     /// kind, or there is none.
     fn image_bytes(&self, index: u64) -> Option<Bytes<'a>>
-        ensures is_image { IsSome result ↔ IsSomeAnd (slice_get (slices_of self.now) index)
-            (λ slice. IsImage (slice_bytes self.now slice)) }
+        ensures is_image { IsSome result ↔ HasImage self.now index }
         ensures bytes { IfSome result (λ bytes. IsSomeAnd (slice_get (slices_of self.now) index)
             (λ slice. bytes_of bytes ≡ slice_bytes self.now slice)) }
         ensures unbroken { IfSome result (λ bytes.

@@ -33,7 +33,7 @@ impl<'a> VerifiedImage<'a> {
     ghost use Rattle.macho_fields.specs.Rules.{BreaksImage};
     ghost use Rattle.macho_fields.specs.Segment.{segments_of};
     ghost use Rattle.macho_fields.specs.Symbol.{nsyms};
-    ghost use Rattle.macho_fields.specs.Universal.{slices_of, slice_bytes, IsImage};
+    ghost use Rattle.macho_fields.specs.Universal.{slices_of, slice_bytes, HasImage};
     ghost use Rattle.macho_image.specs.Command.{first_of_kind};
     ghost use Rattle.macho_image.specs.Segment.{segment_at, section_at, sections_of};
     ghost use Rattle.macho_image.specs.Symbol.{symbols_of};
@@ -42,8 +42,7 @@ impl<'a> VerifiedImage<'a> {
     /// The image in the slice with this index, or `None` where the slice is of another kind, or
     /// there is none. It goes over the commands of the image once more, and judges nothing.
     pub fn of(verified: &Verified<'a>, index: u64) -> Option<VerifiedImage<'a>>
-        ensures is_image { IsSome result ↔ IsSomeAnd (slice_get (slices_of verified.now) index)
-            (λ slice. IsImage (slice_bytes verified.now slice)) }
+        ensures is_image { IsSome result ↔ HasImage verified.now index }
         ensures image { IfSome result (λ image.
             IsSomeAnd (slice_get (slices_of verified.now) index)
             (λ slice. image ≡ slice_bytes verified.now slice)) }
