@@ -1,10 +1,9 @@
 -- What the slices of a file are, and what is returned where a rule is broken or memory runs out.
-use Rattle.std.specs.Prelude.{◌≡◌, ◌↔◌, ℕ, ◌≤◌, List, map, All, IsTrue}
+use Rattle.std.specs.Prelude.{◌≡◌, ◌↔◌, ℕ, List, map, All, IsTrue}
 use Rattle.macho_fields.specs.Universal.{FileSlice, slices_of, slice_bytes, IsImage}
 use Rattle.macho_fields.specs.Rules.{BreaksFile}
 use Rattle.macho_fields.specs.First.{rank}
-use Rattle.macho_fields.specs.Layers.{IsLeast}
-use Rattle.macho_fields.specs.declared.rule.Rule.{Rule}
+use Rattle.macho_fields.specs.Layers.{IsLeast, KeptBelow}
 use Rattle.macho_fields.specs.declared.rule.Rule.TheVariants as rule
 use Rattle.macho_fat.specs.declared.slice.Slice.{Slice}
 use Rattle.macho_fat.specs.declared.fault.FatFault.{FatFault}
@@ -24,8 +23,7 @@ pub record AreSlices (file : List ℕ) (slices : List Slice) : Type 0 where
   pub read : All (MarksRead file) slices
 
 -- A fault is the first broken rule of the file, or that there was no memory, which is answered only
--- where no rule up to fat-align is broken.
+-- where the rules before fat-overlap are unbroken.
 abbrev pub IsFatFault : List ℕ → FatFault → Type 0
 IsFatFault file (fault.Broken b) = IsLeast (BreaksFile file) b
-IsFatFault file fault.Memory =
-    (r : Rule) (place : ℕ) → rank r ≤ rank rule.FatAlign → ¬ BreaksFile file r place
+IsFatFault file fault.Memory = KeptBelow (BreaksFile file) (rank rule.FatOverlap)

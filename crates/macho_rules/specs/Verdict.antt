@@ -1,12 +1,11 @@
 -- The verdict on a file, on a slice of it and on an image.
-use Rattle.std.specs.Prelude.{◌≡◌, ℕ, ◌+◌, ◌≤◌, ◌<◌, List, Any, Option}
+use Rattle.std.specs.Prelude.{◌≡◌, ℕ, ◌+◌, ◌<◌, List, Any, Option}
 use Rattle.macho_fields.specs.Universal.{FileSlice, slice_bytes}
 use Rattle.macho_fields.specs.Rules.{BreaksFile, BreaksImage}
 use Rattle.macho_fields.specs.First.{rank, IsFirstBroken, IsUnbroken}
 use Rattle.macho_fields.specs.Image.{commands_of}
 use Rattle.macho_fields.specs.Layers.{IsLeast, KeptBelow}
 use Rattle.macho_fields.specs.Segment.{segments_of, vmsize}
-use Rattle.macho_fields.specs.declared.rule.Rule.{Rule}
 use Rattle.macho_fields.specs.declared.rule.Rule.TheVariants as rule
 use Rattle.macho_fields.specs.declared.rule.Break.{Break}
 use Rattle.macho_fat.specs.Slices.{AreSlices}
@@ -37,12 +36,11 @@ IsSliceRefusal file slice refusal.Memory =
     IsImageRefusal (slice_bytes file slice) slice.arch refusal.Memory
 
 -- A refusal of a file is its first broken rule, or that there was no memory. That is answered only
--- where the header and the table of the file are whole, and the slice of each entry begins after
--- the table, lies in the file and is aligned.
+-- where the rules before fat-overlap are unbroken: the header and the table of the file are whole,
+-- and the slice of each entry begins after the table, lies in the file and is aligned.
 abbrev pub IsRefusal : List ℕ → Refusal → Type 0
 IsRefusal file (refusal.Broken b) = IsFirstBroken file b
-IsRefusal file refusal.Memory =
-    (r : Rule) (place : ℕ) → rank r ≤ rank rule.FatAlign → ¬ BreaksFile file r place
+IsRefusal file refusal.Memory = KeptBelow (BreaksFile file) (rank rule.FatOverlap)
 
 -- a fault of the slices, as a refusal
 abbrev pub refusal_of : FatFault → Refusal
