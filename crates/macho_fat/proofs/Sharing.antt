@@ -6,9 +6,9 @@ use Rattle.std.proofs.lemmas.Bool.{cases_lt}
 use Rattle.std.proofs.lemmas.List.{get_or_append_left}
 use Rattle.std.proofs.Math.Seq.{get_or-append_seam}
 use Rattle.macho_fields.specs.Overlap.{span_at, SharesEarlier, IsLeastSharing}
-use Rattle.macho_fields.specs.Rules.{BreaksFile, WithEarlier, SharePlace}
+use Rattle.macho_fields.specs.Rules.{BreaksFile}
 use Rattle.macho_fields.specs.Span.{Shares}
-use Rattle.macho_fields.specs.Universal.{IsUniversal, entry_count, entry_slice}
+use Rattle.macho_fields.specs.Universal.{IsUniversal, entry_count, entry_slice, WithEarlier, SharePlace}
 use Rattle.macho_fields.specs.declared.rule.Rule.{Rule}
 use Rattle.macho_fields.specs.declared.rule.Rule.TheVariants as rule
 use Rattle.macho_fields.specs.declared.rule.Break.{Break}

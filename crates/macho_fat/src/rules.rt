@@ -1,12 +1,12 @@
 //! The rules of a file, one a function: each takes over where the rules before it are unbroken.
 //! (`mach-o/fat.h`)
 
-ghost use Rattle.std.specs.Prelude.{◌≡◌, ◌*◌, ◌^◌, ◌≤◌, ◌<◌, ◌↔◌, ℕ, IsTrue, IfOk, OnErr, MatchOption};
+ghost use Rattle.std.specs.Prelude.{◌≡◌, ◌≤◌, ◌<◌, ◌↔◌, ℕ, IsTrue, IfOk, OnErr, MatchOption};
 ghost use Rattle.macho_fields.specs.Bytes.{bytes_of};
 ghost use Rattle.macho_fields.specs.First.{rank};
 ghost use Rattle.macho_fields.specs.Layers.{KeptBelow, Continues};
 ghost use Rattle.macho_fields.specs.Rules.{BreaksFile};
-ghost use Rattle.macho_fields.specs.Universal.{IsUniversal, IsImage, IsUnreadImage, IsForeign, entry_count, entry_slice, slice_bytes};
+ghost use Rattle.macho_fields.specs.Universal.{IsUniversal, IsImage, IsUnreadImage, IsForeign, IsMultiple, entry_count, entry_slice, slice_bytes};
 ghost use Rattle.macho_fields.specs.declared.rule.Rule.{Rule};
 ghost use Rattle.macho_fat.specs.Scaffold.{ContinuesWithMemory, HasTable, IsFormat, FindsFirstSharing, lesser_of};
 
@@ -105,7 +105,7 @@ pub(crate) fn fat_align(table: &Table) -> Result<(), Break>
 /// Whether 2 to the power of `align` divides an offset, which no power past the 63rd does.
 fn is_aligned(offset: u64, align: u32) -> bool
     requires { 0 < offset }
-    ensures { IsTrue result ↔ ((m : ℕ) × (m * 2 ^ align ≡ offset)) }
+    ensures { IsTrue result ↔ IsMultiple align offset }
 {
     match 1u64.checked_shl(align) {
         Some(alignment) => offset % alignment == 0,

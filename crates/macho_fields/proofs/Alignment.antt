@@ -2,9 +2,7 @@
 use Rattle.std.proofs.Common.{◌≡◌, ◌↔◌, ℕ, suc, zero, ◌*◌, ◌/◌, ◌%◌, ◌^◌, ◌≤◌, ◌<◌, ◌==◌, IsTrue, sym, ap, ◌∙◌, subst, arith, eqb-true, eq-eqb, mod-eq_of_lt}
 use Rattle.std.proofs.lemmas.Nat.{pow_below}
 use Rattle.std.proofs.Math.Nat.{mod-add-div', mul-mod_left, pow-le-pow_right}
-
-abbrev pub IsMultiple : ℕ → ℕ → Type 0
-IsMultiple align offset = (m : ℕ) × (m * 2 ^ align ≡ offset)
+use Rattle.macho_fields.specs.Universal.{IsMultiple}
 
 multiple : (offset p : ℕ) → offset % p ≡ 0 → (m : ℕ) × (m * p ≡ offset)
 multiple offset p none = (offset / p, (let whole = mod-add-div' offset p in omega (arith, whole, none)))

@@ -1,13 +1,12 @@
 -- Rules that are decided entry by entry: the first entry that breaks one is its least place.
-use Rattle.std.proofs.Common.{◌≡◌, ◌≢◌, ℕ, ◌+◌, ◌*◌, ◌^◌, ◌≤◌, ◌<◌, List, length, refl, sym, ap, ◌∙◌, subst, arith, inl, inr, mul-le-mul_right}
+use Rattle.std.proofs.Common.{◌≡◌, ℕ, ◌+◌, ◌*◌, ◌^◌, ◌≤◌, ◌<◌, List, length, refl, sym, ap, ◌∙◌, subst, arith, inl, inr, mul-le-mul_right}
 use Rattle.std.proofs.lemmas.Bool.{cases_lt}
-use Rattle.macho_fields.specs.Universal.{IsUniversal, entry_count, entry_size, entry_place, entry_align, entry_slice, table_end}
-use Rattle.macho_fields.specs.Rules.{AtEntry, WithEarlier, SharePlace}
+use Rattle.macho_fields.specs.Universal.{IsUniversal, IsMultiple, IsSliceOutside, IsSliceInTable, IsSliceMisaligned, SharePlace, entry_count, entry_size, entry_place, entry_align, entry_slice, table_end}
+use Rattle.macho_fields.specs.Rules.{AtEntry}
 use Rattle.macho_fields.specs.Span.{Shares}
 use Rattle.macho_fields.specs.declared.rule.Rule.{Rule}
 use Rattle.macho_fields.specs.declared.rule.Break.{Break}
 use Rattle.macho_fields.specs.declared.span.Span.{Span}
-use Rattle.macho_fields.proofs.Alignment.{IsMultiple}
 
 -- the entries before this one do not have P
 abbrev pub NoneBelow : (ℕ → Type 0) → ℕ → Type 0
@@ -38,25 +37,8 @@ entry_broken file P r k b universal less none here rule at = (rule, (universal, 
 pub entries_kept : (file : List ℕ) (P : ℕ → Type 0) (k : ℕ) → k ≡ entry_count file → NoneBelow P k → (place : ℕ) → ¬ Breaks file P place
 entries_kept file P k all none place (u, (i, within, there, broken)) = none i (omega (arith, all)) broken
 
--- What breaks the rules at an entry
-
-abbrev pub IsOutside : List ℕ → ℕ → Type 0
-IsOutside file k = length file < (entry_slice file k).start + (entry_slice file k).size
-
-abbrev pub IsInTable : List ℕ → ℕ → Type 0
-IsInTable file k = (entry_slice file k).start < table_end file
-
-abbrev pub IsMisaligned : List ℕ → ℕ → Type 0
-IsMisaligned file k = (m : ℕ) → m * 2 ^ entry_align file k ≢ (entry_slice file k).start
-
-abbrev pub Overlaps : List ℕ → ℕ → Type 0
-Overlaps file = WithEarlier (λ i j. SharePlace (entry_slice file i) (entry_slice file j))
-
-abbrev pub Repeats : List ℕ → ℕ → Type 0
-Repeats file = WithEarlier (λ i j. (entry_slice file i).arch ≡ (entry_slice file j).arch)
-
 -- a slice that begins after the table does not begin at offset 0
-pub begins_late : (file : List ℕ) (k : ℕ) → IsUniversal file → k < entry_count file → ((place : ℕ) → ¬ Breaks file (IsInTable file) place) → 0 < (entry_slice file k).start
+pub begins_late : (file : List ℕ) (k : ℕ) → IsUniversal file → k < entry_count file → ((place : ℕ) → ¬ Breaks file (IsSliceInTable file) place) → 0 < (entry_slice file k).start
 begins_late file k universal less none =
     elim (cases_lt (entry_slice file k).start (table_end file)) [
       | inl lower ↦ absurd (none (entry_place file k) (universal, (k, less, refl, lower)))
@@ -64,7 +46,7 @@ begins_late file k universal less none =
     ]
 
 -- a slice that is not outside lies inside the file
-pub ends_inside : (file : List ℕ) (k : ℕ) → IsUniversal file → k < entry_count file → ((place : ℕ) → ¬ Breaks file (IsOutside file) place)
+pub ends_inside : (file : List ℕ) (k : ℕ) → IsUniversal file → k < entry_count file → ((place : ℕ) → ¬ Breaks file (IsSliceOutside file) place)
     → (entry_slice file k).start + (entry_slice file k).size ≤ length file
 ends_inside file k universal less none =
     elim (cases_lt (length file) ((entry_slice file k).start + (entry_slice file k).size)) [
@@ -73,11 +55,11 @@ ends_inside file k universal less none =
     ]
 
 -- what was read of an entry says whether it is aligned
-pub aligned_entry : (file : List ℕ) (k offset align : ℕ) → offset ≡ (entry_slice file k).start → align ≡ entry_align file k → IsMultiple align offset → ¬ IsMisaligned file k
-aligned_entry file k offset align start exponent (m, is) misaligned = misaligned m (ap (λ n. m * 2 ^ n) (sym exponent) ∙ (is ∙ start))
+pub aligned_entry : (file : List ℕ) (k offset align : ℕ) → offset ≡ (entry_slice file k).start → align ≡ entry_align file k → IsMultiple align offset → ¬ IsSliceMisaligned file k
+aligned_entry file k offset align start exponent (m, is) misaligned = misaligned (m, ap (λ n. m * 2 ^ n) (sym exponent) ∙ (is ∙ start))
 
-pub misaligned_entry : (file : List ℕ) (k offset align : ℕ) → offset ≡ (entry_slice file k).start → align ≡ entry_align file k → ¬ IsMultiple align offset → IsMisaligned file k
-misaligned_entry file k offset align start exponent none m is = none (m, ap (λ n. m * 2 ^ n) exponent ∙ (is ∙ sym start))
+pub misaligned_entry : (file : List ℕ) (k offset align : ℕ) → offset ≡ (entry_slice file k).start → align ≡ entry_align file k → ¬ IsMultiple align offset → IsSliceMisaligned file k
+misaligned_entry file k offset align start exponent none (m, is) = none (m, ap (λ n. m * 2 ^ n) exponent ∙ (is ∙ sym start))
 
 -- what was read of two entries says whether they share a place
 pub sharing_entries : (file : List ℕ) (i j : ℕ) (a b : Span) → a.start ≡ (entry_slice file i).start → a.len ≡ (entry_slice file i).size → b.start ≡ (entry_slice file j).start

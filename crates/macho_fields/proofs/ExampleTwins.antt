@@ -1,6 +1,6 @@
 -- Two slices, of which the second has another architecture than the table says.
-use Rattle.std.proofs.Common.{◌≡◌, ◌≢◌, ℕ, suc, zero, ◌+◌, ◌*◌, ◌^◌, ◌≤◌, ◌<◌, ◌⊎◌, List, [], ◌∷◌, ◌++◌, replicate, Any, Option, Some, None, refl, sym, ap, subst, arith, lit≤, lit<, inl, inr, ⊎_elim}
-use Rattle.macho_fields.specs.Universal.{IsUniversal, IsImage, slice_bytes, entry_slice, entry_align, IsUnreadImage}
+use Rattle.std.proofs.Common.{◌≡◌, ℕ, suc, zero, ◌+◌, ◌≤◌, ◌<◌, ◌⊎◌, List, [], ◌∷◌, ◌++◌, replicate, Any, Option, Some, None, refl, sym, ap, subst, arith, lit≤, lit<, inl, inr, ⊎_elim}
+use Rattle.macho_fields.specs.Universal.{IsUniversal, IsImage, slice_bytes, entry_slice, IsSliceMisaligned, IsUnreadImage}
 use Rattle.macho_fields.specs.Rules.{BreaksFile, BreaksHeader, BreaksImage, BreaksCommands}
 use Rattle.macho_fields.specs.First.{rank, IsBrokenIn, IsBefore, IsFirstBroken}
 use Rattle.macho_fields.specs.declared.rule.Rule.{Rule}
@@ -68,7 +68,7 @@ file_keeps rule.FatSliceOutside at (u, (k, low, e, h)) =
 file_keeps rule.FatSliceInTable at (u, (k, low, e, h)) =
     below_two (λ n. ¬ ((entry_slice twins n).start < 48))
     (λ g. let p : 64 < 48 = g in absurd (omega arith)) (λ g. let p : 96 < 48 = g in absurd (omega arith)) k low h
-file_keeps rule.FatAlign at (u, (k, low, e, h)) = below_two (λ n. ¬ ((m : ℕ) → m * 2 ^ entry_align twins n ≢ (entry_slice twins n).start)) (λ g. g 64 refl) (λ g. g 96 refl) k low h
+file_keeps rule.FatAlign at (u, (k, low, e, h)) = below_two (λ n. ¬ IsSliceMisaligned twins n) (λ g. g (64, refl)) (λ g. g (96, refl)) k low h
 file_keeps rule.FatOverlap at (u, (k, low, e, (i, less, (place, (a, b), (c, d))))) = no_overlap k low (i, less, (place, a, b, c, d))
 file_keeps rule.FatDuplicate at (u, (k, low, e, h)) = no_duplicate k low h
 file_keeps rule.FatSliceMagic at (u, h) =

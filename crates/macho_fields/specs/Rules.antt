@@ -1,7 +1,7 @@
 -- Where each rule is broken: the rule, and the place that is reported. docs/RULES.md says the same
 -- in words, and names the structures. A rule is judged where the rules before it are unbroken.
-use Rattle.std.specs.Prelude.{◌≡◌, ◌≢◌, ℕ, ◌+◌, ◌*◌, ◌^◌, ◌<◌, ◌⊎◌, List, length, Option, None, IsSomeAnd, Any, All, Contains}
-use Rattle.macho_fields.specs.Universal.{FileSlice, IsUniversal, entry_count, entry_place, entry_align, entry_slice, slices_of, table_end, slice_bytes, masked, HasPlace, IsImage, IsForeign}
+use Rattle.std.specs.Prelude.{◌≡◌, ◌≢◌, ℕ, ◌+◌, ◌*◌, ◌<◌, ◌⊎◌, List, length, Option, None, IsSomeAnd, Any, All, Contains}
+use Rattle.macho_fields.specs.Universal.{IsUniversal, entry_count, entry_place, slices_of, table_end, slice_bytes, masked, IsImage, IsForeign, IsSliceOutside, IsSliceInTable, IsSliceMisaligned, OverlapsEarlierSlice, RepeatsEarlierArch}
 use Rattle.macho_fields.specs.Image.{word, cpu_type, cpu_subtype, file_type, command_count, commands_end, IsGood, IsChain, AreCommands, of_kind}
 use Rattle.macho_fields.specs.FileTypes.{file_type_of}
 use Rattle.macho_fields.specs.Command.{IsShort, RepeatsEarlier, IsMisnamed, HasBadName}
@@ -17,34 +17,21 @@ use Rattle.macho_fields.specs.declared.rule.Rule.TheVariants as rule
 abbrev pub AtEntry : List ℕ → (ℕ → Type 0) → ℕ → Type 0
 AtEntry file P place = (k : ℕ) × (k < entry_count file) × (place ≡ entry_place file k) × P k
 
--- entry j of the table and an earlier one have R
-abbrev pub WithEarlier : (ℕ → ℕ → Type 0) → ℕ → Type 0
-WithEarlier R j = (i : ℕ) × (i < j) × R i j
-
--- a place of the file lies in both slices
-abbrev pub SharePlace : FileSlice → FileSlice → Type 0
-SharePlace a b = (place : ℕ) × HasPlace a place × HasPlace b place
-
 -- the file breaks the rule at the place
 abbrev pub BreaksFile : List ℕ → Rule → ℕ → Type 0
 BreaksFile file rule.Magic place = (place ≡ 0) × ¬ (IsUniversal file ⊎ IsImage file)
 BreaksFile file rule.FatTruncated place =
     (place ≡ 4) × IsUniversal file × ((length file < 8) ⊎ (length file < table_end file))
 BreaksFile file rule.FatSliceOutside place =
-    IsUniversal file
-    × AtEntry file (λ k. length file < (entry_slice file k).start + (entry_slice file k).size) place
+    IsUniversal file × AtEntry file (IsSliceOutside file) place
 BreaksFile file rule.FatSliceInTable place =
-    IsUniversal file × AtEntry file (λ k. (entry_slice file k).start < table_end file) place
+    IsUniversal file × AtEntry file (IsSliceInTable file) place
 BreaksFile file rule.FatAlign place =
-    IsUniversal file
-    × AtEntry file (λ k. (m : ℕ) → m * 2 ^ entry_align file k ≢ (entry_slice file k).start) place
+    IsUniversal file × AtEntry file (IsSliceMisaligned file) place
 BreaksFile file rule.FatOverlap place =
-    IsUniversal file
-    × AtEntry file (WithEarlier (λ i j. SharePlace (entry_slice file i) (entry_slice file j))) place
+    IsUniversal file × AtEntry file (OverlapsEarlierSlice file) place
 BreaksFile file rule.FatDuplicate place =
-    IsUniversal file
-    × AtEntry file (WithEarlier (λ i j. (entry_slice file i).arch ≡ (entry_slice file j).arch))
-    place
+    IsUniversal file × AtEntry file (RepeatsEarlierArch file) place
 BreaksFile file rule.FatSliceMagic place =
     IsUniversal file
     × Any (λ slice. (place ≡ slice.start) × IsForeign (slice_bytes file slice))

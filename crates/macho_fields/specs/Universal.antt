@@ -1,6 +1,6 @@
 -- A universal file, and the slices of any file. The fields of a universal header are big-endian.
 -- (mach-o/fat.h: fat_header, fat_arch, fat_arch_64)
-use Rattle.std.specs.Prelude.{◌≡◌, ℕ, ◌+◌, ◌*◌, ◌%◌, ◌^◌, ◌≤◌, ◌⊎◌, ◌==◌, ◌||◌, List, [], ◌∷◌, map, length, slice_get, Option, Some, None, IsSomeAnd, Bool, IsTrue, if◌then◌else◌}
+use Rattle.std.specs.Prelude.{◌≡◌, ℕ, ◌+◌, ◌*◌, ◌%◌, ◌^◌, ◌≤◌, ◌<◌, ◌⊎◌, ◌==◌, ◌||◌, List, [], ◌∷◌, map, length, slice_get, Option, Some, None, IsSomeAnd, Bool, IsTrue, if◌then◌else◌}
 use Rattle.std.specs.List.{range_with_len}
 use Rattle.macho_fields.specs.Field.{number, part, Covers}
 use Rattle.macho_fields.specs.declared.bytes.Order.TheVariants.{Big, Little}
@@ -97,3 +97,37 @@ IsForeign bytes = ¬ (IsImage bytes ⊎ IsUnreadImage bytes)
 abbrev pub HasImage : List ℕ → ℕ → Type 0
 HasImage file index =
     IsSomeAnd (slice_get (slices_of file) index) (λ slice. IsImage (slice_bytes file slice))
+
+-- What the rules of a file say of an entry of its table
+
+-- the slice of entry k ends past the file
+abbrev pub IsSliceOutside : List ℕ → ℕ → Type 0
+IsSliceOutside file k = length file < (entry_slice file k).start + (entry_slice file k).size
+
+-- the slice of entry k begins before the table ends
+abbrev pub IsSliceInTable : List ℕ → ℕ → Type 0
+IsSliceInTable file k = (entry_slice file k).start < table_end file
+
+-- 2 to the power of align divides the offset
+abbrev pub IsMultiple : ℕ → ℕ → Type 0
+IsMultiple align offset = (m : ℕ) × (m * 2 ^ align ≡ offset)
+
+-- the slice of entry k does not begin at a multiple of its alignment
+abbrev pub IsSliceMisaligned : List ℕ → ℕ → Type 0
+IsSliceMisaligned file k = ¬ IsMultiple (entry_align file k) (entry_slice file k).start
+
+-- entry j of the table and an earlier one have R
+abbrev pub WithEarlier : (ℕ → ℕ → Type 0) → ℕ → Type 0
+WithEarlier R j = (i : ℕ) × (i < j) × R i j
+
+-- a place of the file lies in both slices
+abbrev pub SharePlace : FileSlice → FileSlice → Type 0
+SharePlace a b = (place : ℕ) × HasPlace a place × HasPlace b place
+
+-- the slice of the entry shares a place with that of an earlier one
+abbrev pub OverlapsEarlierSlice : List ℕ → ℕ → Type 0
+OverlapsEarlierSlice file = WithEarlier (λ i j. SharePlace (entry_slice file i) (entry_slice file j))
+
+-- the entry has the architecture of an earlier one
+abbrev pub RepeatsEarlierArch : List ℕ → ℕ → Type 0
+RepeatsEarlierArch file = WithEarlier (λ i j. (entry_slice file i).arch ≡ (entry_slice file j).arch)

@@ -2,12 +2,13 @@
 //! entry is compared with all earlier ones, which takes time in the order of n^2 for n entries.
 //! (`mach-o/fat.h`)
 
-ghost use Rattle.std.specs.Prelude.{◌≡◌, ◌+◌, ◌*◌, ◌^◌, ◌≤◌, ◌<◌, ◌⊎◌, ◌↔◌, ℕ, min, IsTrue, IfOk, OnOk, MatchOption};
+ghost use Rattle.std.specs.Prelude.{◌≡◌, ◌≤◌, ◌<◌, ◌⊎◌, ◌↔◌, min, IsTrue, IfOk, OnOk, MatchOption};
 ghost use Rattle.macho_fields.specs.Bytes.{bytes_of};
 ghost use Rattle.macho_fields.specs.First.{rank};
 ghost use Rattle.macho_fields.specs.Layers.{KeptBelow, Continues};
-ghost use Rattle.macho_fields.specs.Rules.{BreaksFile, WithEarlier, SharePlace};
-ghost use Rattle.macho_fields.specs.Universal.{entry_count, entry_slice};
+ghost use Rattle.macho_fields.specs.Rules.{BreaksFile};
+ghost use Rattle.macho_fields.specs.Universal.{entry_count, IsMultiple};
+ghost use Rattle.macho_fields.specs.Universal.{OverlapsEarlierSlice, RepeatsEarlierArch};
 ghost use Rattle.macho_fields.specs.Universal.{IsUniversal, IsImage, IsUnreadImage, IsForeign};
 ghost use Rattle.macho_fields.specs.declared.rule.Rule.{Rule};
 
@@ -93,7 +94,7 @@ pub(super) fn fat_align(entries: Entries) -> Result<(), Break>
 /// Whether 2 to the power of `align` divides an offset, which no power past the 63rd does.
 fn is_aligned(offset: u64, align: u32) -> bool
     requires { 0 < offset }
-    ensures { IsTrue result ↔ ((m : ℕ) × (m * 2 ^ align ≡ offset)) }
+    ensures { IsTrue result ↔ IsMultiple align offset }
 {
     align < u64::BITS && offset % (1 << align) == 0
 }
@@ -114,9 +115,7 @@ pub(super) fn fat_overlap(entries: Entries) -> Result<(), Break>
 /// Whether the slice of entry `later` has a byte in common with that of an earlier entry.
 fn shares_with_earlier(entries: Entries, later: u32) -> bool
     requires { later < entry_count (bytes_of entries.file) }
-    ensures { IsTrue result ↔ WithEarlier (λ i j.
-        SharePlace (entry_slice (bytes_of entries.entry.file) i)
-        (entry_slice (bytes_of entries.entry.file) j)) later }
+    ensures { IsTrue result ↔ OverlapsEarlierSlice (bytes_of entries.entry.file) later }
 {
     let span = entries.span(later);
     for k in 0..later {
@@ -143,9 +142,7 @@ pub(super) fn fat_duplicate(entries: Entries) -> Result<(), Break>
 /// Whether entry `later` names the architecture of an earlier entry.
 fn repeats_earlier(entries: Entries, later: u32) -> bool
     requires { later < entry_count (bytes_of entries.file) }
-    ensures { IsTrue result ↔ WithEarlier (λ i j.
-        (entry_slice (bytes_of entries.entry.file) i).arch
-        ≡ (entry_slice (bytes_of entries.entry.file) j).arch) later }
+    ensures { IsTrue result ↔ RepeatsEarlierArch (bytes_of entries.entry.file) later }
 {
     let arch = entries.arch(later);
     for k in 0..later {

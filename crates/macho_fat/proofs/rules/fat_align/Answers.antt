@@ -1,10 +1,10 @@
 use Rattle.std.proofs.Common.{◌<◌, ◌∙◌, arith, lit<}
 use Rattle.std.proofs.lemmas.Bool.{both_ways}
-use Rattle.macho_fields.specs.Universal.{entry_count}
+use Rattle.macho_fields.specs.Universal.{entry_count, IsSliceMisaligned}
 use Rattle.macho_fields.specs.Rules.{BreaksFile}
 use Rattle.macho_fields.specs.declared.rule.Rule.TheVariants as rule
 use Rattle.macho_fields.proofs.Layers.{kept_more, least_at}
-use Rattle.macho_fields.proofs.Entries.{IsMisaligned, none_more, entry_broken, entries_kept, begins_late, aligned_entry, misaligned_entry}
+use Rattle.macho_fields.proofs.Entries.{none_more, entry_broken, entries_kept, begins_late, aligned_entry, misaligned_entry}
 use Rattle.macho_fat.proofs.rules.fat_align.Goals as goal
 
 pub is_aligned-requires : goal.is_aligned-requires
@@ -18,7 +18,7 @@ returns-then-not-is_aligned c =
     let file = c.args.table.now in
     let less : c.loop-k.k < entry_count file = omega (arith, c.count-k-end.ensures.count) in
     least_at (BreaksFile file) rule.FatAlign c.breaks.result c.requires
-    (entry_broken file (IsMisaligned file) rule.FatAlign c.loop-k.k c.breaks.result c.count-k-end.ensures.table.universal less c.loop-k.invariant
+    (entry_broken file (IsSliceMisaligned file) rule.FatAlign c.loop-k.k c.breaks.result c.count-k-end.ensures.table.universal less c.loop-k.invariant
     (misaligned_entry file c.loop-k.k c.entry-entry.result.span.start c.entry-entry.result.align c.entry-entry.ensures.start c.entry-entry.ensures.align
     (λ m. both_ways c.is_aligned.result c.if-not-is_aligned.true (c.is_aligned.ensures.1 m)))
     c.breaks.ensures.rule (c.breaks.ensures.place ∙ c.entry-entry.ensures.place))
@@ -26,11 +26,11 @@ returns-then-not-is_aligned c =
 pub loop-k-preserved : goal.loop-k-preserved
 loop-k-preserved c =
     let file = c.args.table.now in
-    none_more (IsMisaligned file) c.loop-k.k c.loop-k.invariant
+    none_more (IsSliceMisaligned file) c.loop-k.k c.loop-k.invariant
     (aligned_entry file c.loop-k.k c.entry-entry.result.span.start c.entry-entry.result.align c.entry-entry.ensures.start c.entry-entry.ensures.align
     (c.is_aligned.ensures.0 c.if-not-is_aligned.false))
 
 pub returns : goal.returns
 returns c =
     let file = c.args.table.now in
-    kept_more (BreaksFile file) rule.FatAlign c.requires (entries_kept file (IsMisaligned file) c.loop-k.k (omega (arith, c.count-k-end.ensures.count)) c.loop-k.invariant)
+    kept_more (BreaksFile file) rule.FatAlign c.requires (entries_kept file (IsSliceMisaligned file) c.loop-k.k (omega (arith, c.count-k-end.ensures.count)) c.loop-k.invariant)

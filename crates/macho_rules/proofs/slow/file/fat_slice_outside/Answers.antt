@@ -1,10 +1,10 @@
 use Rattle.std.proofs.Common.{◌<◌, arith}
 use Rattle.macho_fields.specs.Bytes.{bytes_of}
-use Rattle.macho_fields.specs.Universal.{entry_count}
+use Rattle.macho_fields.specs.Universal.{entry_count, IsSliceOutside}
 use Rattle.macho_fields.specs.Rules.{BreaksFile}
 use Rattle.macho_fields.specs.declared.rule.Rule.TheVariants as rule
 use Rattle.macho_fields.proofs.Layers.{kept_more, least_at}
-use Rattle.macho_fields.proofs.Entries.{IsOutside, entry_broken, entries_kept}
+use Rattle.macho_fields.proofs.Entries.{entry_broken, entries_kept}
 use Rattle.macho_rules.proofs.slow.file.fat_slice_outside.Goals as goal
 
 pub returns-then-end-from : goal.returns-then-end-from
@@ -12,7 +12,7 @@ returns-then-end-from c =
     let file = bytes_of c.args.entries.file in
     let less : c.loop-k.k < entry_count file = omega (arith, c.args.entries.number) in
     least_at (BreaksFile file) rule.FatSliceOutside c.breaks.result c.requires
-    (entry_broken file (IsOutside file) rule.FatSliceOutside c.loop-k.k c.breaks.result c.args.entries.universal less c.loop-k.invariant
+    (entry_broken file (IsSliceOutside file) rule.FatSliceOutside c.loop-k.k c.breaks.result c.args.entries.universal less c.loop-k.invariant
     (omega (arith, c.span.ensures.start, c.span.ensures.len, c.end.ensures, c.len.ensures, c.from.ensures))
     c.breaks.ensures.rule c.breaks.ensures.place)
 
@@ -20,4 +20,4 @@ pub returns : goal.returns
 returns c =
     let file = bytes_of c.args.entries.file in
     kept_more (BreaksFile file) rule.FatSliceOutside c.requires
-    (entries_kept file (IsOutside file) c.loop-k.k (omega (arith, c.args.entries.number)) c.loop-k.invariant)
+    (entries_kept file (IsSliceOutside file) c.loop-k.k (omega (arith, c.args.entries.number)) c.loop-k.invariant)

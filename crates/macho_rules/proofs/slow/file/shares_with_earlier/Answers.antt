@@ -1,8 +1,7 @@
 use Rattle.std.proofs.Common.{arith}
 use Rattle.std.proofs.lemmas.Bool.{false≢true, both_ways}
 use Rattle.macho_fields.specs.Bytes.{bytes_of}
-use Rattle.macho_fields.specs.Universal.{entry_slice}
-use Rattle.macho_fields.specs.Rules.{SharePlace}
+use Rattle.macho_fields.specs.Universal.{SharePlace, entry_slice}
 use Rattle.macho_fields.proofs.Entries.{none_more, sharing_entries}
 use Rattle.macho_rules.proofs.slow.file.shares_with_earlier.Goals as goal
 

@@ -1,6 +1,5 @@
 use Rattle.macho_fields.specs.Bytes.{bytes_of}
-use Rattle.macho_fields.specs.Universal.{entry_slice}
-use Rattle.macho_fields.specs.Rules.{SharePlace}
+use Rattle.macho_fields.specs.Universal.{SharePlace, entry_slice}
 use Rattle.macho_fields.proofs.Entries.{NoneBelow}
 use Rattle.macho_rules.proofs.slow.file.shares_with_earlier.Given as goal
 
