@@ -1,20 +1,20 @@
 -- The layout of an accepted file as text.
-use Rattle.std.specs.Prelude.{◌&&◌, ℕ, ◌+◌, ◌==◌, not, nat_le, List, [], ◌∷◌, length, map, filter, codes, Bool, if◌then◌else◌}
+use Rattle.std.specs.Prelude.{◌&&◌, ℕ, ◌==◌, not, nat_le, List, [], ◌∷◌, length, map, filter, codes, Bool, if◌then◌else◌}
 use Rattle.std.specs.List.{enumerate_from}
 use Rattle.std.specs.Option.{option_map_or}
 use Rattle.std.specs.Fmt.{decimal}
-use Rattle.macho_fields.specs.Field.{number, string_from}
+use Rattle.macho_fields.specs.Field.{number}
 use Rattle.macho_fields.specs.FileTypes.{file_type_of}
-use Rattle.macho_fields.specs.Command.{name_start}
-use Rattle.macho_fields.specs.Image.{word, cpu_type, cpu_subtype, file_type, command_kind, commands_of, of_kind}
+use Rattle.macho_fields.specs.Image.{cpu_type, cpu_subtype, file_type, command_kind, commands_of, of_kind}
 use Rattle.macho_fields.specs.Segment.{segments_of, sections_in}
 use Rattle.macho_fields.specs.Symbol.{nsyms}
 use Rattle.macho_fields.specs.Universal.{FileSlice, slices_of, slice_bytes, masked}
 use Rattle.macho_fields.specs.declared.bytes.Order.TheVariants.{Little}
 use Rattle.macho_fields.specs.declared.header.loader.TheConstants as loader
+use Rattle.macho_image.specs.Build.{build_at}
 use Rattle.macho_image.specs.Command.{first_of_kind}
 use Rattle.macho_image.specs.Entry.{entry_of}
-use Rattle.macho_image.specs.Library.{libraries}
+use Rattle.macho_image.specs.Library.{libraries, dylib_at}
 use Rattle.macho_image.specs.Single.{uuid_at}
 use Rattle.macho_report.specs.Stream.{joined}
 use Rattle.macho_report.specs.Arch.{arch_text}
@@ -22,12 +22,11 @@ use Rattle.macho_report.specs.Line.{slice_line, uuid_line, build_line, segment_l
 
 -- The lines of an image, which stand in this order; those of one kind in the order of the commands
 
--- the line of a command that names a library: current_version is at 16 of dylib_command,
--- compatibility_version at 20
+-- the line of a command that names a library
 abbrev pub library_text : List ℕ → ℕ → List ℕ
 library_text image command =
-    library_line (command_kind image command) (string_from (name_start image command) image)
-    (word image (command + 16)) (word image (command + 20))
+    let library = dylib_at image command in
+    library_line library.cmd library.name library.current library.compatible
 
 -- the line of LC_ID_DYLIB
 abbrev pub id_text : List ℕ → List ℕ → List ℕ
@@ -40,10 +39,10 @@ uuid_text image commands =
     option_map_or (λ command. uuid_line (uuid_at image command))
     (first_of_kind image loader.LC_UUID commands) []
 
--- the lines of LC_BUILD_VERSION: platform is at 8 of build_version_command, minos at 12, sdk at 16
+-- the lines of LC_BUILD_VERSION
 abbrev pub build_text : List ℕ → ℕ → List ℕ
 build_text image command =
-    build_line (word image (command + 8)) (word image (command + 12)) (word image (command + 16))
+    let build = build_at image command in build_line build.platform build.minos build.sdk
 
 abbrev pub builds_text : List ℕ → List ℕ → List ℕ
 builds_text image commands =
