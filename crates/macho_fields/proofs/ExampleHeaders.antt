@@ -3,11 +3,12 @@ use Rattle.std.proofs.Common.{◌≡◌, ℕ, ◌≤◌, ◌<◌, ◌⊎◌, Lis
 use Rattle.macho_fields.specs.Universal.{IsUniversal, IsImage}
 use Rattle.macho_fields.specs.Image.{IsGood}
 use Rattle.macho_fields.specs.Rules.{BreaksImage, BreaksHeader}
+use Rattle.macho_fields.specs.Layers.{IsLeast}
 use Rattle.macho_fields.specs.First.{rank, Fault, IsBefore, IsFirstBroken}
 use Rattle.macho_fields.specs.declared.rule.Rule.{Rule}
 use Rattle.macho_fields.specs.declared.rule.Rule.TheVariants as rule
 use Rattle.macho_fields.proofs.Ranks.{rank_least, rank_determines_rule, image_rule_rank}
-use Rattle.macho_fields.proofs.Plain.{IsLeast, first_in_image}
+use Rattle.macho_fields.proofs.Plain.{first_in_image}
 use Rattle.macho_fields.proofs.Walks.{IsHeader, before_walk, walk_breaks_once}
 
 pub nothing_before : (f : Fault) → ¬ IsBefore f (record { scope = 0; rule = rule.Magic; place = 0 })
@@ -43,7 +44,7 @@ cut_header = first_in_image cut refl (lit≤ tt, refl) rule.HeaderTruncated 0 (i
     later other at b (inr h) = absurd (omega arith)
 
 -- after a good header the one bad place of the walk is the first fault
-walk_is_least : (image : List ℕ) → IsHeader image → (place : ℕ) → BreaksHeader image None rule.CommandWalk place → IsLeast image rule.CommandWalk place
+walk_is_least : (image : List ℕ) → IsHeader image → (place : ℕ) → BreaksHeader image None rule.CommandWalk place → IsLeast (BreaksImage image None) (record { rule = rule.CommandWalk; place = place })
 walk_is_least image good place bad = (inl bad, least)
   where
     same : (at : ℕ) → BreaksImage image None rule.CommandWalk at → at ≡ place

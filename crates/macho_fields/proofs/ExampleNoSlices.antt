@@ -2,16 +2,14 @@
 use Rattle.std.proofs.Common.{◌≡◌, ℕ, suc, zero, ◌+◌, ◌<◌, ◌⊎◌, List, [], ◌∷◌, refl, subst, arith, lit≤, inl, inr, ⊎_elim}
 use Rattle.macho_fields.specs.Universal.{IsUniversal}
 use Rattle.macho_fields.specs.Rules.{BreaksFile}
+use Rattle.macho_fields.specs.Layers.{IsLeast}
 use Rattle.macho_fields.specs.First.{rank, IsBrokenIn, IsBefore, IsFirstBroken}
 use Rattle.macho_fields.specs.declared.rule.Rule.{Rule}
 use Rattle.macho_fields.specs.declared.rule.Rule.TheVariants as rule
 use Rattle.macho_fields.proofs.Ranks.{rank_determines_rule}
 use Rattle.macho_fields.proofs.Lists.{any_nil}
 
-abbrev IsLeastFileRule : List ℕ → Rule → ℕ → Type 0
-IsLeastFileRule file r place = BreaksFile file r place × ((other : Rule) (at : ℕ) → BreaksFile file other at → ¬ ((rank other < rank r) ⊎ ((rank other ≡ rank r) × (at < place))))
-
-first_in_file : (file : List ℕ) (r : Rule) (place : ℕ) → IsLeastFileRule file r place → IsFirstBroken file (record { rule = r; place = place })
+first_in_file : (file : List ℕ) (r : Rule) (place : ℕ) → IsLeast (BreaksFile file) (record { rule = r; place = place }) → IsFirstBroken file (record { rule = r; place = place })
 first_in_file file r place least = (record { scope = 0; rule = r; place = place }, least.0, (λ other. none_before other.scope other.rule other.place), refl, zeroth)
   where
     zeroth : place ≡ 0 + place

@@ -1,9 +1,10 @@
 -- A file that is one image: its first broken rule is that of the image.
-use Rattle.std.proofs.Common.{◌≡◌, ℕ, suc, zero, ◌+◌, ◌<◌, ◌⊎◌, List, [], ◌∷◌, length, false, None, IsSomeAnd, slice_get, refl, sym, ◌∙◌, subst, arith, inl, inr, le_refl, take_all}
+use Rattle.std.proofs.Common.{◌≡◌, ℕ, suc, zero, ◌+◌, List, [], ◌∷◌, length, false, None, IsSomeAnd, slice_get, refl, sym, ◌∙◌, subst, arith, inl, inr, le_refl, take_all}
 use Rattle.std.proofs.lemmas.Bool.{true≢false}
 use Rattle.macho_fields.specs.Universal.{FileSlice, is_universal, slices_of, slice_bytes, IsUniversal, IsImage}
 use Rattle.macho_fields.specs.Rules.{BreaksImage}
-use Rattle.macho_fields.specs.First.{rank, IsBrokenIn, IsBefore, IsFirstBroken, IsUnbroken, scope_start}
+use Rattle.macho_fields.specs.Layers.{IsLeast}
+use Rattle.macho_fields.specs.First.{IsBrokenIn, IsBefore, IsFirstBroken, IsUnbroken, scope_start}
 use Rattle.macho_fields.specs.declared.rule.Rule.{Rule}
 use Rattle.macho_fields.proofs.Ranks.{plain_image_keeps_file_rules}
 
@@ -34,20 +35,14 @@ image_happens file e is r place b =
     let here : At file r place (whole file) = (subst IsImage (sym (whole_bytes file)) is, subst (λ bytes. BreaksImage bytes None r place) (sym (whole_bytes file)) b) in
     subst (λ slices. IsSomeAnd (slice_get slices 0) (At file r place)) (sym (plain_slices file e)) here
 
--- rule r at the place is the first that an image breaks
-abbrev pub IsLeast : List ℕ → Rule → ℕ → Type 0
-IsLeast image r place =
-    BreaksImage image None r place
-    × ((other : Rule) (at : ℕ) → BreaksImage image None other at → ¬ ((rank other < rank r) ⊎ ((rank other ≡ rank r) × (at < place))))
-
-none_before : (file : List ℕ) → is_universal file ≡ false → IsImage file → (r : Rule) (place : ℕ) → IsLeast file r place
+none_before : (file : List ℕ) → is_universal file ≡ false → IsImage file → (r : Rule) (place : ℕ) → IsLeast (BreaksImage file None) (record { rule = r; place = place })
     → (scope : ℕ) (other : Rule) (at : ℕ) → IsBrokenIn file scope other at → ¬ IsBefore (record { scope = scope; rule = other; place = at }) (record { scope = 1; rule = r; place = place })
 none_before file e is r place least zero other at h before = plain_image_keeps_file_rules file (not_universal file e) is other at h
 none_before file e is r place least (suc k) other at h before =
     let (none, b) = image_breaks file e k other at h in
     elim before [ inl less ↦ absurd (omega arith) | inr (same, later) ↦ least.1 other at b later ]
 
-pub first_in_image : (file : List ℕ) → is_universal file ≡ false → IsImage file → (r : Rule) (place : ℕ) → IsLeast file r place → IsFirstBroken file (record { rule = r; place = place })
+pub first_in_image : (file : List ℕ) → is_universal file ≡ false → IsImage file → (r : Rule) (place : ℕ) → IsLeast (BreaksImage file None) (record { rule = r; place = place }) → IsFirstBroken file (record { rule = r; place = place })
 first_in_image file e is r place least = (
   record { scope = 1; rule = r; place = place },
   image_happens file e is r place least.0,
