@@ -58,7 +58,7 @@ pub(super) fn fat_slice_outside(entries: Entries) -> Result<(), Break>
     ensures { Continues (BreaksFile (bytes_of entries.entry.file)) Rule.FatSliceOutside result }
 {
     for k in 0..entries.count {
-        if entries.span(k).end() > u128::from(entries.file.len()) {
+        if !entries.file.contains(entries.span(k)) {
             return Err(entries.breaks(Rule::FatSliceOutside, k));
         }
     }
