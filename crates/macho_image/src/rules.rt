@@ -103,9 +103,7 @@ pub(crate) fn dylib_id(opening: Opening, unique: UniquePlaces) -> Result<(), Bre
         unique }
     ensures { Continues (breaks_of opening.entry) Rule.DylibId result }
 {
-    let Some(listed) = file_type_of(word_at(opening.bytes, FILETYPE)) else {
-        return Ok(());
-    };
+    let listed = file_type_of(word_at(opening.bytes, FILETYPE)).unwrap();
     if listed.names_itself != unique.of(LC_ID_DYLIB).is_some() {
         return Err(Break::at(Rule::DylibId, FILETYPE));
     }
