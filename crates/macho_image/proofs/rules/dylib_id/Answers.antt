@@ -26,7 +26,8 @@ returns-then-listed-is_some c =
     let H = HasDylibId image (commands_of image) in
     let listed = ap file_type_of (sym c.word_at.ensures) ∙ (sym c.file_type_of.ensures ∙ ap (option_map file_type_view) c.unwrap-listed.ensures) in
     let has = has_id image c.of.result c.is_some.result c.is_some.ensures (c.of.ensures.unique image (commands_of image) c.requires.first refl) in
-    let wrong = of_some (λ (t : FileTypeView). HasWrongId t.names_itself H) (file_type_of (file_type image)) (file_type_view c.unwrap-listed.result) listed (id_broken H _ _ has c.if-listed-is_some.true) in
+    let wrong = of_some (λ (t : FileTypeView). HasWrongId t.names_itself H) (file_type_of (file_type image)) (file_type_view c.unwrap-listed.result) listed
+    (id_broken H _ _ has c.if-listed-is_some.true) in
     commands_broken image c.args.opening.arch rule.DylibId (λ _ h. h) (omega arith) c.requires.before _ c.at.ensures.rule (c.at.ensures.place, wrong)
     (λ place broken. omega (arith, broken.0, c.at.ensures.place))
 
