@@ -166,11 +166,13 @@ pub(crate) fn command_walk(opening: Opening) -> Result<(), Break>
     let image = opening.bytes;
     let end = end_of_commands(image);
     let mut place = MACH_HEADER_64_SIZE;
-    for _walked in 0..word_at(image, NCMDS) {
+    let mut left = word_at(image, NCMDS);
+    while left > 0 {
         let Some(next) = next_command(image, place, end) else {
             return Err(Break::at(Rule::CommandWalk, place));
         };
         place = next;
+        left -= 1;
     }
     Ok(())
 }

@@ -1,8 +1,14 @@
-use Rattle.std.proofs.Common.{◌≤◌}
+use Rattle.std.proofs.Common.{◌≡◌, ℕ, ◌+◌, ◌≤◌}
 use Rattle.macho_fields.specs.Bytes.{bytes_of}
+use Rattle.macho_fields.specs.Image.{command_count}
 use Rattle.macho_image.proofs.Places.{IsAt}
 use Rattle.macho_image.proofs.walk.command_walk.Given as goal
 
--- the walk has passed `_walked` commands, and reached this place
-abbrev pub invariant-loop-walked : goal.invariant-loop-walked
-invariant-loop-walked l = (l.place ≤ l.end) × IsAt (bytes_of l.image) l._walked l.place
+-- the walk has passed all commands but those that are left, and reached this place
+abbrev pub invariant-loop-left : goal.invariant-loop-left
+invariant-loop-left l =
+    let image = bytes_of l.image in
+    (l.place ≤ l.end) × ((walked : ℕ) × (walked + l.left ≡ command_count image) × IsAt image walked l.place)
+
+abbrev pub decreases-loop-left : goal.decreases-loop-left
+decreases-loop-left l = l.left
