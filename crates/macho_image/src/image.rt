@@ -161,11 +161,11 @@ impl<'a> Image<'a> {
         }
     }
 
-    /// The place of the command of this kind, of which an image has at most one.
-    pub(crate) fn place_of(&self, kind: u32) -> Option<u64>
-        requires { IsUnique kind }
-        ensures { result ≡ first_of_kind self.now kind (commands_of self.now) }
+    /// The place of the command with this `cmd`, of which an image has at most one.
+    pub(crate) fn place_of(&self, cmd: u32) -> Option<u64>
+        requires { IsUnique cmd }
+        ensures { result ≡ first_of_kind self.now cmd (commands_of self.now) }
     {
-        self.unique.of(kind)
+        self.unique.of(cmd)
     }
 }

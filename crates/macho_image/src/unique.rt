@@ -32,13 +32,13 @@ impl UniquePlaces {
         UniquePlaces { places: [None; 5] }
     }
 
-    /// The place of the first command of this kind that was noted.
-    pub(crate) fn of(&self, kind: u32) -> Option<u64>
+    /// The place of the first command with this `cmd` that was noted.
+    pub(crate) fn of(&self, cmd: u32) -> Option<u64>
         ensures unique { (image commands : List ℕ) → AreFirst image commands self.now
-            → IsUnique kind → result ≡ first_of_kind image kind commands }
-        ensures other { ¬ IsUnique kind → result ≡ None }
+            → IsUnique cmd → result ≡ first_of_kind image cmd commands }
+        ensures other { ¬ IsUnique cmd → result ≡ None }
     {
-        let index = index_of(kind)?;
+        let index = index_of(cmd)?;
         self.places[index]
     }
 
@@ -54,9 +54,9 @@ impl UniquePlaces {
     }
 }
 
-/// Where the kind is among the unique kinds.
-fn index_of(kind: u32) -> Option<usize>
-    ensures { result ≡ position (λ unique. unique == kind) unique_kinds }
+/// Where `cmd` is among those of the unique kinds.
+fn index_of(cmd: u32) -> Option<usize>
+    ensures { result ≡ position (λ unique. unique == cmd) unique_kinds }
 {
-    UNIQUE_KINDS.iter().position(|unique| *unique == kind)
+    UNIQUE_KINDS.iter().position(|unique| *unique == cmd)
 }
