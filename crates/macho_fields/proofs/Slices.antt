@@ -1,9 +1,9 @@
 -- The slices of a file: those of its entries, or the whole of a file with no table.
-use Rattle.std.proofs.Common.{◌≡◌, ℕ, ◌<◌, List, length, [], ◌∷◌, map, Any, All, Some, None, slice_get, false, refl, sym, ap, ◌∙◌, subst, arith}
+use Rattle.std.proofs.Common.{◌≡◌, ℕ, ◌<◌, List, length, map, Any, All, Some, slice_get, refl, sym, ap, ◌∙◌, subst, arith}
 use Rattle.std.specs.List.{range_with_len}
 use Rattle.std.proofs.lemmas.List.FromFn.{length-map-range_with_len, get_or-map-range_with_len}
 use Rattle.std.proofs.lemmas.Option.{slice_get-get_or}
-use Rattle.macho_fields.specs.Universal.{FileSlice, is_universal, IsUniversal, entry_count, entry_slice, slices_of}
+use Rattle.macho_fields.specs.Universal.{FileSlice, IsUniversal, entry_count, entry_slice, slices_of}
 
 -- the slices of the first k entries
 abbrev pub first_slices : List ℕ → ℕ → List FileSlice
@@ -61,7 +61,3 @@ slice_of_entry file k universal less =
     slice_get-get_or (first_slices file (entry_count file)) k (entry_slice file k) (omega (arith, less, length-map-range_with_len (entry_slice file) 0 (entry_count file)))
     ∙ ap Some (get_or-map-range_with_len (entry_slice file) 0 (entry_count file) k k (entry_slice file k) less (omega arith)) in
     ap (λ slices. slice_get slices k) (universal_slices file universal) ∙ among
-
--- the one slice of a file with no table
-pub whole_slice : (file : List ℕ) → is_universal file ≡ false → slices_of file ≡ record { start = 0; size = length file; arch = None } ∷ []
-whole_slice file plain = rw plain refl

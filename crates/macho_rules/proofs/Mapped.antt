@@ -14,7 +14,7 @@ use Rattle.macho_rules.specs.Scaffold.{memory_at}
 use Rattle.macho_rules.specs.Verdict.{HasMapped}
 use Rattle.macho_rules.proofs.Judged.{opened_commands}
 use Rattle.macho_rules.proofs.Searches.{Ordered, ordered_filter, has_first, has_later, unfiltered, any_of}
-use Rattle.macho_rules.proofs.SegmentItems.{AreSegments, segment_of, segment_among, some_segment}
+use Rattle.macho_rules.proofs.SegmentItems.{AreSegments, segment_of, some_segment}
 
 ordered_from_pairs : {X : Type 0} (R : X → X → Type 0) (xs : List X) → AllPairs R xs → Ordered R xs
 ordered_from_pairs R [] all = tt
@@ -96,18 +96,12 @@ module _ (image : List ℕ) where
     pub kept : mapped_left all ≡ seen ++ mapped_left left
     pub among : (s : SegmentView) → Contains left s → Contains all s
 
-  pub none_passed : (all : List SegmentView) → ArePassed all all []
-  none_passed all = record { kept = refl; among = λ s has. has }
-
   module _ (all left rest : List SegmentView) (seen : List ℕ) (s : SegmentView) (next : left ≡ s ∷ rest) (are : AreSegments image all) (going : ArePassed all left seen) where
     left_among : (t : SegmentView) → Contains (s ∷ rest) t → Contains all t
     left_among t has = going.among t (subst (λ ts. Contains ts t) (sym next) has)
 
     pub passing_image : s.image ≡ image
     passing_image = ap (λ (t : SegmentView). t.image) (segment_of image all are s (left_among s (has_first s rest)))
-
-    pub passing_among : Contains (segments_of image (commands_of image)) s.place
-    passing_among = segment_among image all are s (left_among s (has_first s rest))
 
     pub passing_memory : (span : Span) → span.start ≡ vmaddr s.image s.place → span.len ≡ vmsize s.image s.place → span ≡ memory_at image s.place
     passing_memory span first count = span_is span _ _ (first ∙ ap (λ bytes. vmaddr bytes s.place) passing_image) (count ∙ ap (λ bytes. vmsize bytes s.place) passing_image)

@@ -49,14 +49,6 @@ next_apart pairs held i less apart moved (k, pair, within, at, shares) =
     let same = get_or_default pairs j no_pair pair (omega (arith, below, count)) ∙ here in
     apart j i no_pair (omega (arith, below, count)) less (subst (λ (one : Span × ℕ). Shares one.0 (get_or pairs i no_pair).0) (sym same) shares)
 
--- no pair is sorted
-pub none_sorted : AreSorted []
-none_sorted = record {
-  placed = λ k d less. absurd (omega arith);
-  rising = λ i j d below less. absurd (omega arith);
-  apart = λ i j d below less. absurd (omega arith);
-}
-
 flips : (x y : ℕ) → eqb x y ≡ eqb y x
 flips x y = grind (arith, nat_tests)
 
