@@ -173,16 +173,20 @@ external_relocations = word_table 64 68 reloc.RELOCATION_INFO_SIZE
 abbrev pub local_relocations : TableFields
 local_relocations = word_table 72 76 reloc.RELOCATION_INFO_SIZE
 
--- linkedit_data_command: dataoff and datasize. dyld_info_command: rebase_off and rebase_size,
--- bind_off and bind_size, weak_bind_off and weak_bind_size, lazy_bind_off and lazy_bind_size,
--- export_off and export_size. encryption_info_command_64: cryptoff and cryptsize. note_command:
--- offset and size. All are of bytes.
+-- linkedit_data_command: dataoff and datasize, in bytes
+abbrev pub linkedit_data_table : TableFields
+linkedit_data_table = word_table 8 12 1
+
+-- dyld_info_command: rebase_off and rebase_size, bind_off and bind_size, weak_bind_off and
+-- weak_bind_size, lazy_bind_off and lazy_bind_size, export_off and export_size.
+-- encryption_info_command_64: cryptoff and cryptsize. note_command: offset and size. All are of
+-- bytes.
 abbrev pub table_fields : Structure → List TableFields
 table_fields structure.SymtabCommand = symbol_table ∷ string_table ∷ []
 table_fields structure.DysymtabCommand =
     contents_table ∷ module_table ∷ reference_table ∷ indirect_table ∷ external_relocations
     ∷ local_relocations ∷ []
-table_fields structure.LinkeditDataCommand = word_table 8 12 1 ∷ []
+table_fields structure.LinkeditDataCommand = linkedit_data_table ∷ []
 table_fields structure.DyldInfoCommand =
     word_table 8 12 1 ∷ word_table 16 20 1 ∷ word_table 24 28 1 ∷ word_table 32 36 1
     ∷ word_table 40 44 1 ∷ []

@@ -3,8 +3,10 @@
 use Rattle.std.specs.Prelude.{ℕ, ◌+◌, ◌-◌, ◌≤◌, ◌<◌, List, [], take, drop}
 use Rattle.std.specs.Option.{option_map_or}
 use Rattle.macho_fields.specs.Field.{part}
-use Rattle.macho_fields.specs.Image.{word, commands_of}
+use Rattle.macho_fields.specs.Image.{commands_of}
+use Rattle.macho_fields.specs.LoadCommands.{linkedit_data_table}
 use Rattle.macho_fields.specs.Segment.{vmaddr, vmsize, fileoff, filesize}
+use Rattle.macho_fields.specs.Symbol.{table_place, item_count}
 use Rattle.macho_fields.specs.declared.header.loader.TheConstants as loader
 use Rattle.macho_image.specs.Command.{first_of_kind}
 use Rattle.macho_image.specs.Symbol.{symbols_of}
@@ -45,9 +47,9 @@ abbrev pub bytes_from : List ℕ → ℕ → ℕ → ℕ → List ℕ
 bytes_from image address len segment =
     part (fileoff image segment + (address - vmaddr image segment)) len image
 
--- linkedit_data_command: dataoff at 8, datasize at 12
+-- linkedit_data_command
 abbrev pub dataoff : List ℕ → ℕ → ℕ
-dataoff image command = word image (command + 8)
+dataoff image command = table_place image command linkedit_data_table
 
 abbrev pub datasize : List ℕ → ℕ → ℕ
-datasize image command = word image (command + 12)
+datasize image command = item_count image command linkedit_data_table
