@@ -1,19 +1,22 @@
 -- The place of the first break of an image lies in the image, or just after its last byte.
-use Rattle.std.proofs.Common.{◌≡◌, ℕ, suc, zero, ◌+◌, ◌*◌, ◌≤◌, ◌<◌, ◌⊎◌, List, [], ◌∷◌, length, map, Contains, Option, refl, sym, ap, ◌∙◌, arith, lit≤, lit<, inl, inr, ⊎_elim}
+use Rattle.std.proofs.Common.{◌≡◌, ℕ, suc, zero, ◌+◌, ◌*◌, ◌≤◌, ◌<◌, ◌⊎◌, List, [], ◌∷◌, length, map, Contains, Option, refl, sym, ap, ◌∙◌, arith, lit≤, inl, inr, ⊎_elim}
 use Rattle.std.proofs.lemmas.Bool.{cases_lt}
 use Rattle.std.specs.List.{range_with_len}
 use Rattle.macho_fields.specs.Image.{commands_end, command_kind, command_size, Follow, AreCommands, of_kind}
+use Rattle.macho_fields.specs.LoadCommands.{structure_of, indirect_table}
 use Rattle.macho_fields.specs.Segment.{segments_of, AtSection, nsects}
 use Rattle.macho_fields.specs.Symbol.{symoff, nsyms, stroff, strsize, indirectsymoff, nindirectsyms, tables_of, AtSymbol}
 use Rattle.macho_fields.specs.Rules.{BreaksHeader, BreaksImage}
 use Rattle.macho_fields.specs.First.{rank}
 use Rattle.macho_fields.specs.Layers.{KeptBelow, IsLeast}
+use Rattle.macho_fields.specs.declared.load_command.Structure.TheVariants.{DysymtabCommand}
 use Rattle.macho_fields.specs.declared.rule.Rule.{Rule}
 use Rattle.macho_fields.specs.declared.rule.Rule.TheVariants as rule
 use Rattle.macho_fields.specs.declared.rule.Break.{Break}
 use Rattle.macho_fields.specs.declared.header.loader.TheConstants as loader
 use Rattle.macho_fields.proofs.Parts.{command_good, of_kind_is, of_kind_among}
 use Rattle.macho_fields.proofs.Lists.{contains_first}
+use Rattle.macho_fields.proofs.LoadCommands.{table_listed, indirects_listed}
 use Rattle.macho_fields.proofs.Opened.{Keeps, keeps_rules, command_inside, sections_inside}
 
 -- an item of a list that is made of a range
@@ -105,7 +108,8 @@ module _ (image : List ℕ) (arch : Option (ℕ × ℕ)) where
   at_indirect n late below commands are dysymtab k place found lower is =
       let among = of_kind_among image commands loader.LC_DYSYMTAB dysymtab found in
       let kind : command_kind image dysymtab ≡ loader.LC_DYSYMTAB = of_kind_is image commands loader.LC_DYSYMTAB dysymtab found in
-      let has : Contains (tables_of image dysymtab) (indirectsymoff image dysymtab, nindirectsyms image dysymtab, 4) = rw kind (3, lit< tt, refl) in
+      let has : Contains (tables_of image dysymtab) (indirectsymoff image dysymtab, nindirectsyms image dysymtab, 4) =
+      table_listed image dysymtab DysymtabCommand indirect_table (ap structure_of kind) indirects_listed in
       let most : indirectsymoff image dysymtab + nindirectsyms image dysymtab * 4 ≤ length image =
       table_inside n late below commands are dysymtab among (indirectsymoff image dysymtab, nindirectsyms image dysymtab, 4) has (omega arith) in
       omega (arith, is)

@@ -1,11 +1,11 @@
 -- The structures of load commands: where their fields lie, and what holds of a listed command.
-use Rattle.std.proofs.Common.{◌≡◌, ◌↔◌, ◌&&◌, ℕ, ◌+◌, ◌≤◌, List, [], map, Bool, true, false, Option, Some, None, All, get_or, refl, sym, ap, ◌∙◌, lit≤}
+use Rattle.std.proofs.Common.{◌≡◌, ◌↔◌, ◌&&◌, ℕ, zero, suc, ◌+◌, ◌≤◌, List, [], ◌∷◌, map, Bool, true, false, Option, Some, None, All, Contains, get_or, refl, sym, ap, ◌∙◌, subst, arith, lit≤, lit<}
 use Rattle.std.specs.Prelude.{nat_le}
 use Rattle.std.specs.List.{list_all}
 use Rattle.std.specs.Option.{option_map_or}
 use Rattle.std.proofs.lemmas.Bool.{true≢false, leb-true, le-leb, and_parts}
 use Rattle.std.proofs.lemmas.List.Sums.{AllPass-from_list_all}
-use Rattle.macho_fields.specs.LoadCommands.{structure_of, structure_size, has_name, names_library, is_dylib_command, width_size, AreFieldsInside, table_fields}
+use Rattle.macho_fields.specs.LoadCommands.{structure_of, structure_size, has_name, names_library, is_dylib_command, width_size, AreFieldsInside, table_fields, symbol_table, string_table, indirect_table, linkedit_data_table}
 use Rattle.macho_fields.specs.Image.{word, command_kind, command_size}
 use Rattle.macho_fields.specs.Command.{HasStructure, record_count}
 use Rattle.macho_fields.specs.Symbol.{table_at, tables_of}
@@ -28,6 +28,24 @@ fields_inside s k d less =
     let both = and_parts (nat_le (fields.place + width_size fields.width) (structure_size s)) (nat_le (fields.count + width_size fields.width) (structure_size s))
     (AllPass-from_list_all (are_inside (structure_size s)) (table_fields s) (all_inside s) k d less) in
     (leb-true (fields.place + width_size fields.width) (structure_size s) both.0, leb-true (fields.count + width_size fields.width) (structure_size s) both.1)
+
+-- the tables of a structure that are spoken of by name
+pub symbols_listed : Contains (table_fields structure.SymtabCommand) symbol_table
+symbols_listed = (0, lit< tt, refl)
+
+pub strings_listed : Contains (table_fields structure.SymtabCommand) string_table
+strings_listed = (1, lit< tt, refl)
+
+pub indirects_listed : Contains (table_fields structure.DysymtabCommand) indirect_table
+indirects_listed = (3, lit< tt, refl)
+
+pub linkedit_data_listed : Contains (table_fields structure.LinkeditDataCommand) linkedit_data_table
+linkedit_data_listed = (0, lit< tt, refl)
+
+contains_mapped : {A X : Type 0} (at : A → X) (xs : List A) (x : A) → Contains xs x → Contains (map at xs) (at x)
+contains_mapped at [] x (k, less, is) = absurd (omega arith)
+contains_mapped at (y ∷ ys) x (zero, less, is) = (0, omega arith, ap at is)
+contains_mapped at (y ∷ ys) x (suc k, less, is) = let (j, within, same) = contains_mapped at ys x (k, omega arith, is) in (suc j, omega arith, same)
 
 -- a structure with a name has its lc_str, 4 bytes at 8
 pub name_inside : (s : Structure) → has_name s ≡ true → 12 ≤ structure_size s
@@ -56,6 +74,11 @@ module _ (image : List ℕ) (command : ℕ) where
 
   pub tables_listed : (s : Structure) → structure_of (command_kind image command) ≡ Some s → tables_of image command ≡ map (table_at image command) (table_fields s)
   tables_listed s listed = ap (λ o. option_map_or (λ t. map (table_at image command) (table_fields t)) o []) listed
+
+  pub table_listed : (s : Structure) (fields : TableFields) → structure_of (command_kind image command) ≡ Some s → Contains (table_fields s) fields
+      → Contains (tables_of image command) (table_at image command fields)
+  table_listed s fields listed has =
+      subst (λ tables. Contains tables (table_at image command fields)) (sym (tables_listed s listed)) (contains_mapped (table_at image command) (table_fields s) fields has)
 
   pub tables_unlisted : structure_of (command_kind image command) ≡ None → tables_of image command ≡ []
   tables_unlisted none = ap (λ o. option_map_or (λ t. map (table_at image command) (table_fields t)) o []) none

@@ -12,6 +12,7 @@ use Rattle.macho_fields.specs.declared.load_command.Structure.TheVariants.{Symta
 use Rattle.macho_fields.specs.declared.header.loader.TheConstants as loader
 use Rattle.macho_fields.specs.declared.rule.Rule.{Rule}
 use Rattle.macho_fields.specs.declared.rule.Rule.TheVariants as rule
+use Rattle.macho_fields.proofs.LoadCommands.{symbols_listed, strings_listed, indirects_listed}
 use Rattle.macho_image.specs.Command.{first_of_kind}
 use Rattle.macho_image.specs.Symbol.{symtab_at, symbols_of, symbol_at, indirects_of, indirect_at}
 use Rattle.macho_image.specs.declared.indirect.Indirect.{Indirect}
@@ -37,7 +38,7 @@ module _ (image : List ℕ) (all : List Indirect) (are : AreIndirects image all)
       (λ e. e.place) (λ e. NamesNoSymbol count e.value) all
   indirects_break count below number =
       items_break image loader.LC_DYSYMTAB 4 (indirectsymoff image) (nindirectsyms image) (indirect_at image) (λ e. e.place) (λ p. refl) rule.IndirectIndex (lit< tt) below refl
-      (λ d has. table_inside image loader.LC_DYSYMTAB DysymtabCommand d indirect_table rule.IndirectIndex (lit< tt) below refl has (3, lit< tt, refl))
+      (λ d has. table_inside image loader.LC_DYSYMTAB DysymtabCommand d indirect_table rule.IndirectIndex (lit< tt) below refl has indirects_listed)
       (λ d p. NamesNoSymbol (symbol_count image (commands_of image)) (word image p)) (λ e. NamesNoSymbol count e.value)
       (λ d p first. (λ here. subst (λ n. NamesNoSymbol n (word image p)) number here, λ here. subst (λ n. NamesNoSymbol n (word image p)) (sym number) here)) all are
 
@@ -60,7 +61,7 @@ module _ (image : List ℕ) (all : List Symbol) (are : AreSymbols image all) whe
         → AreBreaks (AtSymbol image (commands_of image) P) (λ s. s.place) Q all
     symbols_break P Q seen =
         items_break image loader.LC_SYMTAB 16 (symoff image) (nsyms image) (symbol_at image) (λ s. s.place) (λ p. refl) r late below refl
-        (λ c has. table_inside image loader.LC_SYMTAB SymtabCommand c symbol_table r late below refl has (0, lit< tt, refl)) P Q seen all are
+        (λ c has. table_inside image loader.LC_SYMTAB SymtabCommand c symbol_table r late below refl has symbols_listed) P Q seen all are
 
     pub numbers_break : (count : ℕ) → count ≡ section_count image (commands_of image)
         → AreBreaks (AtSymbol image (commands_of image) (λ symtab. IsInNoSection image (section_count image (commands_of image)))) (λ s. s.place) (λ s. IsInNoSection image count s.place) all
@@ -91,5 +92,5 @@ module _ (image : List ℕ) (symtab : Symtab) (is : Some symtab ≡ option_map (
       let size : symtab.strsize ≡ strsize image c = ap (λ (t : Symtab). t.strsize) same in
       let start : symtab.stroff ≡ stroff image c = ap (λ (t : Symtab). t.stroff) same in
       let fits : ¬ IsOutside image (stroff image c, strsize image c, 1) =
-      table_inside image loader.LC_SYMTAB SymtabCommand c string_table r late below refl (is_of_kind image loader.LC_SYMTAB c first) (1, lit< tt, refl) in
+      table_inside image loader.LC_SYMTAB SymtabCommand c string_table r late below refl (is_of_kind image loader.LC_SYMTAB c first) strings_listed in
       elim (cases_lt (length image) (stroff image c + strsize image c)) [ inl past ↦ absurd (fits (omega arith, omega arith)) | inr most ↦ omega arith ]

@@ -14,6 +14,7 @@ use Rattle.macho_fields.specs.Symbol.{symbol_count, symoff, nsyms, indirectsymof
 use Rattle.macho_fields.specs.declared.header.loader.TheConstants as loader
 use Rattle.macho_fields.specs.declared.load_command.Structure.TheVariants.{SymtabCommand, DysymtabCommand}
 use Rattle.macho_fields.specs.declared.rule.Rule.TheVariants as rule
+use Rattle.macho_fields.proofs.LoadCommands.{symbols_listed, indirects_listed}
 use Rattle.macho_image.specs.Command.{first_of_kind}
 use Rattle.macho_image.specs.Symbol.{symbols_of, indirects_of, indirect_at, items_inside}
 use Rattle.macho_image.specs.declared.indirect.Indirect.{Indirect}
@@ -49,13 +50,13 @@ module _ (image : List ℕ) (keeps : IsUnbrokenImage image) where
   table_counted : (t : ℕ) → first_of_kind image loader.LC_SYMTAB (commands_of image) ≡ Some t → length (items_inside image (symoff image t) 16 (nsyms image t)) ≡ nsyms image t
   table_counted t is =
       items_counted image (symoff image t) 16 (nsyms image t)
-      (table_inside image loader.LC_SYMTAB SymtabCommand t symbol_table rule.IndirectIndex (lit< tt) below refl (is_of_kind image loader.LC_SYMTAB t is) (0, lit< tt, refl))
+      (table_inside image loader.LC_SYMTAB SymtabCommand t symbol_table rule.IndirectIndex (lit< tt) below refl (is_of_kind image loader.LC_SYMTAB t is) symbols_listed)
 
   entries_counted : (d : ℕ) → first_of_kind image loader.LC_DYSYMTAB (commands_of image) ≡ Some d
       → length (items_inside image (indirectsymoff image d) 4 (nindirectsyms image d)) ≡ nindirectsyms image d
   entries_counted d is =
       items_counted image (indirectsymoff image d) 4 (nindirectsyms image d)
-      (table_inside image loader.LC_DYSYMTAB DysymtabCommand d indirect_table rule.IndirectIndex (lit< tt) below refl (is_of_kind image loader.LC_DYSYMTAB d is) (3, lit< tt, refl))
+      (table_inside image loader.LC_DYSYMTAB DysymtabCommand d indirect_table rule.IndirectIndex (lit< tt) below refl (is_of_kind image loader.LC_DYSYMTAB d is) indirects_listed)
 
   counted : (first : Option ℕ) → first_of_kind image loader.LC_SYMTAB (commands_of image) ≡ first
       → length (option_map_or (λ t. items_inside image (symoff image t) 16 (nsyms image t)) first []) ≡ option_map_or (nsyms image) first 0

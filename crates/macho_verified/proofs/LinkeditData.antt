@@ -3,12 +3,12 @@ use Rattle.std.proofs.Common.{◌≡◌, ℕ, ◌+◌, ◌*◌, ◌≤◌, ◌<�
 use Rattle.macho_fields.specs.Field.{Covers, part}
 use Rattle.macho_fields.specs.Image.{command_kind, commands_of}
 use Rattle.macho_fields.specs.Command.{HasStructure, least_size}
-use Rattle.macho_fields.specs.LoadCommands.{structure_of}
+use Rattle.macho_fields.specs.LoadCommands.{structure_of, linkedit_data_table}
 use Rattle.macho_fields.specs.Loader.{IsSoundImage}
 use Rattle.macho_fields.specs.Loader.Reads.{in_structure, in_table}
-use Rattle.macho_fields.specs.Symbol.{tables_of}
+use Rattle.macho_fields.specs.Symbol.{table_at, tables_of}
 use Rattle.macho_fields.specs.declared.load_command.Structure.TheVariants.{LinkeditDataCommand}
-use Rattle.macho_fields.proofs.LoadCommands.{has_structure, tables_listed}
+use Rattle.macho_fields.proofs.LoadCommands.{has_structure, table_listed, linkedit_data_listed}
 use Rattle.macho_fields.proofs.Parts.{of_kind_is, of_kind_among}
 use Rattle.macho_image.specs.Command.{first_of_kind}
 use Rattle.macho_rules.proofs.OneCommand.{is_of_kind}
@@ -43,8 +43,8 @@ module _ (image : List ℕ) (keeps : IsAccepted image) (cmd : ℕ) (listed : str
       range_inside (length image) (dataoff image command) (datasize image command) (omega (arith, some))
       (λ place covers. sound.reads place (in_table (dataoff image command) (datasize image command)
       (inl (any_of (λ c. Any (λ table. (0 < table.1) × (dataoff image command ≡ table.0) × (datasize image command ≡ table.1 * table.2)) (tables_of image c)) (commands_of image) command among
-      (subst (Any (λ table. (0 < table.1) × (dataoff image command ≡ table.0) × (datasize image command ≡ table.1 * table.2))) (sym (tables_listed image command LinkeditDataCommand structure))
-      (0, _, lit< tt, refl, (omega (arith, some), refl, omega arith))))) covers))
+      (any_of (λ table. (0 < table.1) × (dataoff image command ≡ table.0) × (datasize image command ≡ table.1 * table.2)) (tables_of image command) (table_at image command linkedit_data_table)
+      (table_listed image command LinkeditDataCommand linkedit_data_table structure linkedit_data_listed) (omega (arith, some), refl, omega arith)))) covers))
 
 -- The data, where its fields were read
 module _ (image : List ℕ) (command start len : ℕ) (starts : start ≡ dataoff image command) (is : len ≡ datasize image command) where

@@ -1,6 +1,7 @@
-use Rattle.std.proofs.Common.{refl, lit<}
+use Rattle.std.proofs.Common.{refl}
 use Rattle.macho_fields.specs.Symbol.{iundefsym, nundefsym}
 use Rattle.macho_image.specs.declared.dysymtab.Dysymtab.{Dysymtab}
+use Rattle.macho_rules.proofs.Groups.{undefined_listed}
 use Rattle.macho_verified.proofs.SymbolGroups.{no_group, none_whole, group_read, group_whole}
 use Rattle.macho_verified.proofs.image.VerifiedImage.undefined_symbols.Goals as goal
 
@@ -12,7 +13,7 @@ returns-in-Some-clause-symbols c =
 pub returns-in-Some-clause-whole : goal.returns-in-Some-clause-whole
 returns-in-Some-clause-whole c =
     group_whole c.self.inside.image c.args.self.now c.self.view_is iundefsym nundefsym c.symbol_range.result c.in-Some.dysymtab c.in-Some.ensures
-    (λ (d : Dysymtab). d.iundefsym) (λ (d : Dysymtab). d.nundefsym) (λ p. refl) (λ p. refl) c.symbol_range.ensures c.self.invariant (λ p. (2, lit< tt, refl))
+    (λ (d : Dysymtab). d.iundefsym) (λ (d : Dysymtab). d.nundefsym) (λ p. refl) (λ p. refl) c.symbol_range.ensures c.self.invariant (undefined_listed c.args.self.now)
 
 pub returns-in-None-clause-symbols : goal.returns-in-None-clause-symbols
 returns-in-None-clause-symbols c = no_group c.self.inside.image c.args.self.now c.self.view_is iundefsym nundefsym c.symbol_range-in-None.result c.in-None.ensures c.symbol_range-in-None.ensures
