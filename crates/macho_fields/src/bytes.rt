@@ -1,11 +1,11 @@
 //! Numbers and parts of the bytes of a file.
 
-ghost use Rattle.std.specs.Prelude.{◌≡◌, ◌+◌, ◌≤◌, ◌<◌, ◌↔◌, [], length, slice_get, slice_index, IsTrue, IsSome, IfSome};
+ghost use Rattle.std.specs.Prelude.{◌≡◌, ◌+◌, ◌*◌, ◌≤◌, ◌<◌, ◌↔◌, [], length, slice_get, slice_index, IsTrue, IsSome, IfSome};
 ghost use Rattle.macho_fields.specs.Bytes.{bytes_of};
 ghost use Rattle.macho_fields.specs.Field.{field, number, part, string_from, HasZero};
 ghost use Rattle.macho_fields.specs.Span.{end_of, Holds};
 
-use crate::span::Span;
+use crate::span::{Span, table_end};
 use byteorder::{BigEndian, ByteOrder, LittleEndian};
 use memchr::{memchr, memrchr};
 
@@ -122,6 +122,15 @@ impl<'a> Bytes<'a> {
         ensures { IsTrue result ↔ (end_of span ≤ length (bytes_of self.entry)) }
     {
         span.end() <= u128::from(self.len())
+    }
+
+    /// Whether a table of `count` items of `item_size` bytes that begins at `place` ends inside the
+    /// bytes. A table without items is inside up to the very end.
+    pub fn contains_table(self, place: u64, count: u64, item_size: u64) -> bool
+        ensures { IsTrue result
+            ↔ (place + count * item_size ≤ length (bytes_of self.entry)) }
+    {
+        table_end(place, count, item_size) <= u128::from(self.len())
     }
 
     /// The bytes at the places of `span`, which are not copied, or `None` where `span` ends past

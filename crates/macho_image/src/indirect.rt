@@ -2,7 +2,6 @@
 
 use crate::command::word_at;
 use crate::image::Image;
-use crate::table::is_inside;
 use macho_fields::Bytes;
 use macho_fields::header::loader::INDIRECT_ENTRY_SIZE;
 use std::marker::Model;
@@ -93,8 +92,7 @@ impl<'a> Image<'a> {
         let image = self.bytes();
         match self.dysymtab() {
             Some(table)
-                if is_inside(
-                    image,
+                if image.contains_table(
                     table.indirectsymoff,
                     table.nindirectsyms,
                     INDIRECT_ENTRY_SIZE,

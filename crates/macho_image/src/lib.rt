@@ -18,7 +18,6 @@ pub mod section;
 pub mod segment;
 pub mod symbol;
 pub mod symtab;
-mod table;
 mod unique;
 pub mod uuid;
 mod walk;

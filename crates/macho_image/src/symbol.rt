@@ -6,7 +6,6 @@ ghost use Rattle.macho_image.specs.Symbol.{symbol_at};
 
 use crate::command::{long_at, word_at};
 use crate::image::Image;
-use crate::table::is_inside;
 use macho_fields::header::nlist::NLIST_64_SIZE;
 use macho_fields::{Bytes, Order};
 use std::marker::Model;
@@ -99,11 +98,12 @@ impl<'a> Image<'a> {
     {
         let image = self.bytes();
         match self.symtab() {
-            Some(table) if is_inside(image, table.symoff, table.nsyms, NLIST_64_SIZE) => Symbols {
-                image,
-                place: table.symoff,
-                left: table.nsyms,
-            },
+            Some(table) if image.contains_table(table.symoff, table.nsyms, NLIST_64_SIZE) =>
+                Symbols {
+                    image,
+                    place: table.symoff,
+                    left: table.nsyms,
+                },
             _ => Symbols {
                 image,
                 place: 0,

@@ -9,7 +9,7 @@ ghost use Rattle.macho_rules.specs.Check.{KeptBefore, JudgesUpTo};
 
 use crate::segments::memory;
 use macho_fields::header::reloc::RELOCATION_INFO_SIZE;
-use macho_fields::{Break, Bytes, Rule, Span, table_end};
+use macho_fields::{Break, Bytes, Rule, Span};
 use macho_image::{Image, Section};
 
 /// Each section of a mapped segment lies within the addresses of the segment.
@@ -113,6 +113,6 @@ fn has_relocs_outside(image: Bytes, section: &Section) -> bool
     requires { bytes_of image ≡ section.now.image }
     ensures { IsTrue result ↔ HasRelocsOutside section.now.image section.now.place }
 {
-    let end = table_end(section.reloff(), section.nreloc(), RELOCATION_INFO_SIZE);
-    section.nreloc() > 0 && end > u128::from(image.len())
+    section.nreloc() > 0
+        && !image.contains_table(section.reloff(), section.nreloc(), RELOCATION_INFO_SIZE)
 }

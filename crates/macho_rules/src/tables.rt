@@ -13,7 +13,7 @@ ghost use Rattle.macho_image.specs.Symbol.{dysymtab_at};
 ghost use Rattle.macho_rules.specs.Check.{KeptBefore, JudgesUpTo};
 
 use crate::symbols::symbol_count;
-use macho_fields::{Break, Bytes, Order, Rule, TableFields, Width, structure_of, table_end};
+use macho_fields::{Break, Bytes, Order, Rule, TableFields, Width, structure_of};
 use macho_image::{Dysymtab, Image};
 
 /// Each table that a command names and that has items lies inside the image.
@@ -59,7 +59,7 @@ fn is_outside(image: Bytes, command: u64, fields: TableFields) -> bool
 {
     let start = number_at(image, fields.width, command + fields.place);
     let count = number_at(image, fields.width, command + fields.count);
-    count > 0 && table_end(start, count, fields.item_size) > u128::from(image.len())
+    count > 0 && !image.contains_table(start, count, fields.item_size)
 }
 
 /// The field of this width at `place`.

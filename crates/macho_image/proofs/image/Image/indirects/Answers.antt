@@ -1,4 +1,5 @@
-use Rattle.std.proofs.Common.{sym, ◌∙◌}
+use Rattle.std.proofs.Common.{arith}
+use Rattle.std.proofs.lemmas.Bool.{le-leb}
 use Rattle.macho_fields.specs.Bytes.{bytes_of}
 use Rattle.macho_image.proofs.Items.{indirects_seen}
 use Rattle.macho_image.proofs.image.Image.indirects.Goals as goal
@@ -6,4 +7,4 @@ use Rattle.macho_image.proofs.image.Image.indirects.Goals as goal
 pub returns-in-Some : goal.returns-in-Some
 returns-in-Some c =
     indirects_seen c.args.self.now (bytes_of c.bytes-image.result) c.dysymtab.result c.in-Some.table c.bytes-image.ensures.bytes c.dysymtab.ensures c.in-Some.is
-    (sym c.is_inside.ensures ∙ c.if-is_inside.true)
+    (le-leb _ _ (omega (arith, c.contains_table.ensures.0 c.if-contains_table.true)))
