@@ -3,7 +3,9 @@
 use crate::command::word_at;
 use crate::image::Image;
 use macho_fields::Bytes;
-use macho_fields::header::loader::INDIRECT_ENTRY_SIZE;
+use macho_fields::header::loader::{
+    INDIRECT_ENTRY_SIZE, INDIRECT_SYMBOL_ABS, INDIRECT_SYMBOL_LOCAL,
+};
 use std::marker::Model;
 
 /// An entry of the indirect symbol table: 32 bits. (`indirectsymoff` of `dysymtab_command`)
@@ -14,6 +16,18 @@ pub struct Indirect {
     /// The index of a symbol, or a value with the bit `INDIRECT_SYMBOL_LOCAL` or
     /// `INDIRECT_SYMBOL_ABS`.
     pub value: u32,
+}
+
+impl Indirect {
+    ghost use Rattle.std.specs.Prelude.{◌↔◌, IsTrue};
+    ghost use Rattle.macho_fields.specs.Symbol.{IsSymbolIndex};
+
+    /// Whether the entry is the index of a symbol: it is marked neither local nor absolute.
+    pub fn is_symbol_index(self) -> bool
+        ensures { IsTrue result ↔ IsSymbolIndex self.value }
+    {
+        self.value & INDIRECT_SYMBOL_LOCAL == 0 && self.value & INDIRECT_SYMBOL_ABS == 0
+    }
 }
 
 /// The indirect entries of an image that remain, in the order of the table.

@@ -11,7 +11,6 @@ ghost use Rattle.macho_fields.specs.declared.rule.Rule.{Rule};
 ghost use Rattle.macho_image.specs.Symbol.{symbol_at};
 ghost use Rattle.macho_rules.specs.Check.{KeptBefore, JudgesUpTo};
 
-use macho_fields::header::loader::{INDIRECT_SYMBOL_ABS, INDIRECT_SYMBOL_LOCAL};
 use macho_fields::header::nlist::{N_SECT, N_STAB, N_TYPE};
 use macho_fields::{Break, Bytes, Rule, Span};
 use macho_image::{Image, Indirect, Symbol, Symtab};
@@ -100,9 +99,7 @@ pub(crate) fn indirect_index(image: &Image) -> Result<(), Break>
 fn names_no_symbol(entry: Indirect, count: u64) -> bool
     ensures { IsTrue result ↔ NamesNoSymbol count entry.value }
 {
-    entry.value & INDIRECT_SYMBOL_LOCAL == 0
-        && entry.value & INDIRECT_SYMBOL_ABS == 0
-        && u64::from(entry.value) >= count
+    entry.is_symbol_index() && u64::from(entry.value) >= count
 }
 
 /// How many symbols the image has: none where it has no symbol table.

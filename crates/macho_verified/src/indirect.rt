@@ -1,12 +1,9 @@
 //! The indirect entries of an accepted image, with their symbols. (`mach-o/loader.h`:
 //! `dysymtab_command`)
 
-ghost use Rattle.std.specs.Prelude.{◌↔◌, IsTrue};
-ghost use Rattle.macho_fields.specs.Symbol.{IsSymbolIndex};
-
 use crate::image::VerifiedImage;
 use crate::symbol::VerifiedSymbol;
-use macho_fields::header::loader::{INDIRECT_SYMBOL_ABS, INDIRECT_SYMBOL_LOCAL, LC_DYSYMTAB};
+use macho_fields::header::loader::LC_DYSYMTAB;
 use macho_image::{Indirect, Indirects};
 use std::marker::Model;
 
@@ -50,18 +47,11 @@ impl<'i, 'a> VerifiedIndirect<'i, 'a> {
             (symbols_of self.now.image (commands_of self.now.image)))
             (word self.now.image self.now.place) ≡ Some symbol) }
     {
-        if !is_symbol_index(self.entry.value) {
+        if !self.entry.is_symbol_index() {
             return None;
         }
         self.image.symbol(u64::from(self.entry.value))
     }
-}
-
-/// Whether an entry with this value is the index of a symbol.
-fn is_symbol_index(value: u32) -> bool
-    ensures { IsTrue result ↔ IsSymbolIndex value }
-{
-    value & INDIRECT_SYMBOL_LOCAL == 0 && value & INDIRECT_SYMBOL_ABS == 0
 }
 
 /// The indirect entries of an accepted image that remain, in the order of the table.
