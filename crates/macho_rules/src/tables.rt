@@ -30,16 +30,16 @@ pub(crate) fn table_range(image: &Image) -> Result<(), Break>
     Ok(())
 }
 
-/// Whether one of the tables that the command at the place `command` names, which is of the kind
-/// `kind`, has items and ends past the image.
-fn has_table_outside(image: Bytes, kind: u32, command: u64) -> bool
+/// Whether one of the tables that the command at the place `command` names, whose number is `cmd`,
+/// has items and ends past the image.
+fn has_table_outside(image: Bytes, cmd: u32, command: u64) -> bool
     requires opened { IsOpened (bytes_of image) }
     requires listed { Contains (commands_of (bytes_of image)) command }
-    requires kind { kind ≡ command_kind (bytes_of image) command }
+    requires cmd { cmd ≡ command_kind (bytes_of image) command }
     ensures { IsTrue result
         ↔ Any (IsOutside (bytes_of image.entry)) (tables_of (bytes_of image.entry) command) }
 {
-    let Some(structure) = structure_of(kind) else {
+    let Some(structure) = structure_of(cmd) else {
         return false;
     };
     for fields in structure.tables() {

@@ -20,12 +20,12 @@ pub has_table_outside-requires : goal.has_table_outside-requires
 has_table_outside-requires c =
     let are = c.into_iter-command-iterator.ensures.into_iter_gives ∙ c.commands-command-items.ensures.commands in
     let same = sym c.bytes-bytes.ensures.bytes in
-    let (listed, kind) = view_left c.args.image.now _ c.bytes-bytes.ensures.opened are _ _ _
+    let (listed, cmd) = view_left c.args.image.now _ c.bytes-bytes.ensures.opened are _ _ _
     (command_of c.in-Some.command) c.in-Some.ensures.steps c.loop-command.invariant.2 in
     record {
       opened = subst IsOpened same c.bytes-bytes.ensures.opened;
       listed = subst (λ (bytes : List ℕ). Contains (commands_of bytes) c.in-Some.command.place) same listed;
-      kind = subst (λ (bytes : List ℕ). c.in-Some.command.cmd ≡ command_kind bytes c.in-Some.command.place) same kind;
+      cmd = subst (λ (bytes : List ℕ). c.in-Some.command.cmd ≡ command_kind bytes c.in-Some.command.place) same cmd;
     }
 
 pub returns-then-has_table_outside : goal.returns-then-has_table_outside
