@@ -42,7 +42,8 @@ none_before file e is r place least (suc k) other at h before =
     let (none, b) = image_breaks file e k other at h in
     elim before [ inl less ↦ absurd (omega arith) | inr (same, later) ↦ least.1 other at b later ]
 
-pub first_in_image : (file : List ℕ) → is_universal file ≡ false → IsImage file → (r : Rule) (place : ℕ) → IsLeast (BreaksImage file None) (record { rule = r; place = place }) → IsFirstBroken file (record { rule = r; place = place })
+pub first_in_image : (file : List ℕ) → is_universal file ≡ false → IsImage file → (r : Rule) (place : ℕ)
+    → IsLeast (BreaksImage file None) (record { rule = r; place = place }) → IsFirstBroken file (record { rule = r; place = place })
 first_in_image file e is r place least = (
   record { scope = 1; rule = r; place = place },
   image_happens file e is r place least.0,

@@ -19,5 +19,5 @@ pub use load_command::{
 };
 pub use overlap::SpanList;
 pub use rule::{Break, Rule};
-pub use span::{Span, table_end};
+pub use span::Span;
 pub use spans::{Insert, Spans};

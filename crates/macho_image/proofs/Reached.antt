@@ -3,9 +3,11 @@ use Rattle.std.proofs.Common.{◌≡◌, ◌≢◌, ℕ, zero, suc, ◌+◌, ◌
 use Rattle.std.proofs.lemmas.Bool.{ne_eqb}
 use Rattle.std.proofs.lemmas.List.{append-nil}
 use Rattle.std.proofs.lemmas.List.Elements.{All-cons, All-tail, filter-append}
+use Rattle.macho_fields.specs.First.{rank}
 use Rattle.macho_fields.specs.Image.{command_count, command_kind, command_size, commands_of, AreCommands, IsGood, places_from}
 use Rattle.macho_fields.specs.Segment.{segments_of}
 use Rattle.macho_fields.specs.declared.header.loader.TheConstants as loader
+use Rattle.macho_fields.specs.declared.rule.Rule.TheVariants as rule
 use Rattle.macho_image.specs.Command.{command_at}
 use Rattle.macho_image.specs.Opened.{IsOpened}
 use Rattle.macho_image.specs.Opening.{ReachesSegments}
@@ -68,7 +70,8 @@ good_among image start (suc count) (suc all) most good =
 -- the walk over the commands up to the last segment
 pub can_reach : (image : List ℕ) (count : ℕ) → IsOpened image → ReachesSegments image count → CanWalk image 32 count
 can_reach image count opened r =
-    let all : CanWalk image 32 (command_count image) = can_walk image None (command_count image) refl (kept_less image None 15 19 (omega arith) (opened_below image opened)) in
+    let all : CanWalk image 32 (command_count image) =
+    can_walk image None (command_count image) refl (kept_less image None (rank rule.CommandShort) (rank rule.SegmentAddress) (omega arith) (opened_below image opened)) in
     record { good = good_among image 32 count (command_count image) r.most all.good; inside = all.inside }
 
 pub have_segments : (image : List ℕ) (count : ℕ) → ReachesSegments image count → HaveSegments image (commands_left image 32 count)

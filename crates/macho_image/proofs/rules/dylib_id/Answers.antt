@@ -4,6 +4,7 @@ use Rattle.std.specs.Option.{option_map}
 use Rattle.macho_fields.specs.Bytes.{bytes_of}
 use Rattle.macho_fields.specs.Command.{HasDylibId}
 use Rattle.macho_fields.specs.FileTypes.{FileTypeView, file_type_of, file_type_view}
+use Rattle.macho_fields.specs.First.{rank}
 use Rattle.macho_fields.specs.Image.{commands_of, file_type}
 use Rattle.macho_fields.specs.declared.rule.Rule.TheVariants as rule
 use Rattle.macho_fields.proofs.Options.{of_some, some_has, some_mapped, some_or_not_none}
@@ -12,7 +13,7 @@ use Rattle.macho_image.proofs.Repeated.{HasWrongId, has_id, id_broken, id_kept}
 use Rattle.macho_image.proofs.rules.dylib_id.Goals as goal
 
 pub word_at-requires : goal.word_at-requires
-word_at-requires c = let header = has_header _ c.args.opening.arch 17 (omega arith) c.requires.before in omega (arith, header)
+word_at-requires c = let header = has_header _ c.args.opening.arch (rank rule.DylibId) (omega arith) c.requires.before in omega (arith, header)
 
 pub unwrap-listed-requires : goal.unwrap-listed-requires
 unwrap-listed-requires c =

@@ -1,6 +1,7 @@
 use Rattle.std.proofs.Common.{◌+◌, refl, subst, sym, arith}
 use Rattle.std.proofs.lemmas.Bool.{false≢true}
 use Rattle.macho_fields.specs.Bytes.{bytes_of}
+use Rattle.macho_fields.specs.First.{rank}
 use Rattle.macho_fields.specs.Image.{IsGood}
 use Rattle.macho_fields.specs.Rules.{BreaksHeader}
 use Rattle.macho_fields.specs.declared.rule.Rule.TheVariants as rule
@@ -9,14 +10,14 @@ use Rattle.macho_image.proofs.Places.{IsAt, at_first, at_next, walk_breaks_at, w
 use Rattle.macho_image.proofs.walk.command_walk.Goals as goal
 
 pub end_of_commands-end-requires : goal.end_of_commands-end-requires
-end_of_commands-end-requires c = has_header _ c.args.opening.arch 14 (omega arith) c.requires
+end_of_commands-end-requires c = has_header _ c.args.opening.arch (rank rule.CommandWalk) (omega arith) c.requires
 
 pub word_at-left-requires : goal.word_at-left-requires
-word_at-left-requires c = let header = has_header _ c.args.opening.arch 14 (omega arith) c.requires in omega (arith, header)
+word_at-left-requires c = let header = has_header _ c.args.opening.arch (rank rule.CommandWalk) (omega arith) c.requires in omega (arith, header)
 
 pub next_command-requires-clause-inside : goal.next_command-requires-clause-inside
 next_command-requires-clause-inside c =
-    let inside = commands_inside _ c.args.opening.arch 14 (omega arith) c.requires in omega (arith, inside, c.end_of_commands-end.ensures.end)
+    let inside = commands_inside _ c.args.opening.arch (rank rule.CommandWalk) (omega arith) c.requires in omega (arith, inside, c.end_of_commands-end.ensures.end)
 
 pub loop-left-init : goal.loop-left-init
 loop-left-init c = (omega (arith, c.end_of_commands-end.ensures.end), (0, omega (arith, c.word_at-left.ensures), at_first (bytes_of c.args.opening.bytes)))

@@ -1,5 +1,7 @@
 use Rattle.std.proofs.Common.{◌-◌, ap, [], ◌++◌, ◌∷◌, None, length, sym, subst, ◌∙◌, arith, length-append}
 use Rattle.macho_fields.specs.Bytes.{bytes_of}
+use Rattle.macho_fields.specs.First.{rank}
+use Rattle.macho_fields.specs.declared.rule.Rule.TheVariants as rule
 use Rattle.macho_image.specs.Command.{command_of}
 use Rattle.macho_image.specs.Opening.{ReachesSegments}
 use Rattle.macho_image.proofs.Opened.{opened_below}
@@ -11,10 +13,10 @@ use Rattle.macho_image.proofs.Reached.{AreAfter, none_after, one_after, all_but_
 use Rattle.macho_image.proofs.walk.count_to_last_segment.Goals as goal
 
 pub word_at-all-requires : goal.word_at-all-requires
-word_at-all-requires c = let header = has_header _ None 19 (omega arith) (opened_below _ c.requires) in omega (arith, header)
+word_at-all-requires c = let header = has_header _ None (rank rule.SegmentAddress) (omega arith) (opened_below _ c.requires) in omega (arith, header)
 
 pub commands-command-items-requires : goal.commands-command-items-requires
-commands-command-items-requires c = kept_less _ None 15 19 (omega arith) (opened_below _ c.requires)
+commands-command-items-requires c = kept_less _ None (rank rule.CommandShort) (rank rule.SegmentAddress) (omega arith) (opened_below _ c.requires)
 
 pub loop-command-init : goal.loop-command-init
 loop-command-init c =

@@ -19,7 +19,8 @@ returns-then-shares_with_earlier c =
 
 pub loop-k-preserved : goal.loop-k-preserved
 loop-k-preserved c =
-    none_more (OverlapsEarlierSlice (bytes_of c.args.entries.file)) c.loop-k.k c.loop-k.invariant (λ h. both_ways c.shares_with_earlier.result c.if-shares_with_earlier.false (c.shares_with_earlier.ensures.1 h))
+    none_more (OverlapsEarlierSlice (bytes_of c.args.entries.file)) c.loop-k.k c.loop-k.invariant
+    (λ h. both_ways c.shares_with_earlier.result c.if-shares_with_earlier.false (c.shares_with_earlier.ensures.1 h))
 
 pub returns : goal.returns
 returns c =
