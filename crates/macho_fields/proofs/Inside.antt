@@ -1,5 +1,5 @@
 -- The place of the first break of an image lies in the image, or just after its last byte.
-use Rattle.std.proofs.Common.{◌≡◌, ℕ, suc, zero, ◌+◌, ◌*◌, ◌≤◌, ◌<◌, ◌⊎◌, List, [], ◌∷◌, length, map, Contains, Option, refl, sym, ap, ◌∙◌, arith, lit≤, inl, inr, ⊎_elim}
+use Rattle.std.proofs.Common.{◌≡◌, ℕ, suc, zero, ◌+◌, ◌*◌, ◌≤◌, ◌<◌, ◌⊎◌, List, [], ◌∷◌, length, map, Contains, Option, refl, sym, ap, ◌∙◌, arith, lit≤, inl, inr, ⊎_elim, lit<}
 use Rattle.std.proofs.lemmas.Bool.{cases_lt}
 use Rattle.std.specs.List.{range_with_len}
 use Rattle.macho_fields.specs.Image.{commands_end, command_kind, command_size, Follow, AreCommands, of_kind}
