@@ -50,11 +50,7 @@ pub(crate) fn fat_truncated(file: Bytes) -> Result<Table, Break>
     let truncated = Break::at(Rule::FatTruncated, NFAT_ARCH);
     let count = file.u32_at(Order::Big, NFAT_ARCH).ok_or(truncated)?;
     let wide = file.u32_at(Order::Big, 0) == Some(FAT_MAGIC_64);
-    let entries = Span {
-        start: FAT_HEADER_SIZE,
-        len: u64::from(count) * entry_size(wide),
-    };
-    if !file.contains(entries) {
+    if !file.contains_table(FAT_HEADER_SIZE, u64::from(count), entry_size(wide)) {
         return Err(truncated);
     }
     Ok(Table::new(file, wide, count))

@@ -21,7 +21,7 @@ use Rattle.macho_image.specs.declared.symbol.Symbol.{Symbol}
 use Rattle.macho_image.specs.Segment.{SegmentView, segment_at, SectionView, section_at, sections_with, sections_of}
 use Rattle.macho_rules.proofs.Searches.{Rising}
 use Rattle.macho_verified.specs.Image.{symbol_view}
-use Rattle.macho_verified.specs.Scaffold.{IsUnbrokenImage, IsAccepted, HoldsSegment, HoldsSection, HoldsSymbol, strings}
+use Rattle.macho_verified.specs.Scaffold.{IsUnbrokenImage, IsAccepted, IsVerifiedSegment, IsVerifiedSection, IsVerifiedSymbol, strings}
 
 pub accepted : (image : List ℕ) → NothingBreaks (BreaksImage image None) → IsSoundImage image (commands_of image) → IsAccepted image
 unfolding IsAccepted
@@ -47,16 +47,16 @@ covers_as start len a b place starts is (low, high) = (omega (arith, starts, low
 pub range_inside : (n start len : ℕ) → 0 < len → ((place : ℕ) → Covers start len place → place < n) → start + len ≤ n
 range_inside n start len some inside = let last = inside (start + (len - 1)) (omega (arith, some), omega (arith, some)) in omega (arith, some, last)
 
-pub segments_hold : (image : List ℕ) → IsAccepted image → All (HoldsSegment image) (map (segment_at image) (segments_of image (commands_of image)))
-unfolding IsAccepted HoldsSegment
+pub segments_hold : (image : List ℕ) → IsAccepted image → All (IsVerifiedSegment image) (map (segment_at image) (segments_of image (commands_of image)))
+unfolding IsAccepted IsVerifiedSegment
 segments_hold image keeps =
-    All-map (HoldsSegment image) (segment_at image) (segments_of image (commands_of image))
+    All-map (IsVerifiedSegment image) (segment_at image) (segments_of image (commands_of image))
     (λ k d less. (refl, keeps, All-contains_itself (segments_of image (commands_of image)) k d less))
 
 -- the bytes of a segment that has any lie in the image
-pub segment_fits : (image : List ℕ) (view : SegmentView) → HoldsSegment image view → (start len : ℕ) → start ≡ fileoff view.image view.place → len ≡ filesize view.image view.place → ¬ (len ≡ 0)
+pub segment_fits : (image : List ℕ) (view : SegmentView) → IsVerifiedSegment image view → (start len : ℕ) → start ≡ fileoff view.image view.place → len ≡ filesize view.image view.place → ¬ (len ≡ 0)
     → start + len ≤ length image
-unfolding HoldsSegment
+unfolding IsVerifiedSegment
 segment_fits image view (same, keeps, (k, less, at)) start len starts is some =
     range_inside (length image) start len (omega (arith, some))
     (λ place covers. keeps.sound.reads place (in_segment (
@@ -68,8 +68,8 @@ segment_fits image view (same, keeps, (k, less, at)) start len starts is some =
           (covers_as start len (fileoff view.image view.place) (filesize view.image view.place) place starts is covers),
     )))
 
-pub segment_image : (image : List ℕ) (view : SegmentView) → HoldsSegment image view → image ≡ view.image
-unfolding HoldsSegment
+pub segment_image : (image : List ℕ) (view : SegmentView) → IsVerifiedSegment image view → image ≡ view.image
+unfolding IsVerifiedSegment
 segment_image image view keeps = keeps.0
 
 -- what holds of an answer holds as another thing
@@ -88,11 +88,11 @@ part_is bytes image other start len a b same starts is found =
     found ∙ (ap (λ start. part start len image) starts ∙ (ap (λ len. part a len image) is ∙ ap (part a b) same))
 
 -- the sections of a segment
-pub sections_hold : (image : List ℕ) (view : SegmentView) → HoldsSegment image view → All (HoldsSection image) (map (section_at view.image) (sections_with view.image view.place))
-unfolding HoldsSegment HoldsSection
+pub sections_hold : (image : List ℕ) (view : SegmentView) → IsVerifiedSegment image view → All (IsVerifiedSection image) (map (section_at view.image) (sections_with view.image view.place))
+unfolding IsVerifiedSegment IsVerifiedSection
 sections_hold image view (same, keeps, has) =
-    All-map (HoldsSection image) (section_at view.image) (sections_with view.image view.place)
-    (All-map (λ places. HoldsSection image (section_at view.image places)) (λ section. (view.place, section)) (sections_in view.image view.place)
+    All-map (IsVerifiedSection image) (section_at view.image) (sections_with view.image view.place)
+    (All-map (λ places. IsVerifiedSection image (section_at view.image places)) (λ section. (view.place, section)) (sections_in view.image view.place)
     (λ k d less. (
       same,
       keeps,
@@ -101,15 +101,15 @@ sections_hold image view (same, keeps, has) =
           (All-contains_itself (sections_in view.image view.place) k d less),
     )))
 
-pub section_image : (image : List ℕ) (view : SectionView) → HoldsSection image view → image ≡ view.image
-unfolding HoldsSection
+pub section_image : (image : List ℕ) (view : SectionView) → IsVerifiedSection image view → image ≡ view.image
+unfolding IsVerifiedSection
 section_image image view keeps = keeps.0
 
 -- the bytes of a section that has any lie in the image, where it is not zero-fill
-pub section_fits : (image : List ℕ) (view : SectionView) → HoldsSection image view → (start len : ℕ) → start ≡ section_offset view.image view.place → len ≡ section_size view.image view.place
+pub section_fits : (image : List ℕ) (view : SectionView) → IsVerifiedSection image view → (start len : ℕ) → start ≡ section_offset view.image view.place → len ≡ section_size view.image view.place
     → is_zero_fill view.image view.place ≡ false → ¬ (len ≡ 0)
     → start + len ≤ length image
-unfolding HoldsSection
+unfolding IsVerifiedSection
 section_fits image view (same, keeps, (k, less, at), (j, fewer, there)) start len starts is plain some =
     range_inside (length image) start len (omega (arith, some))
     (λ place covers. keeps.sound.reads place (in_section (
@@ -143,12 +143,12 @@ all_flat P g [] all = λ k d less. absurd (omega arith)
 all_flat P g (x ∷ xs) all = all_append P (g x) (flat_map g xs) (all 0 x (omega arith)) (all_flat P g xs (All-tail (λ x. All P (g x)) x xs all))
 
 -- the sections of all segments
-pub all_sections_hold : (image : List ℕ) → IsAccepted image → All (HoldsSection image) (map (section_at image) (sections_of image (commands_of image)))
-unfolding IsAccepted HoldsSection
+pub all_sections_hold : (image : List ℕ) → IsAccepted image → All (IsVerifiedSection image) (map (section_at image) (sections_of image (commands_of image)))
+unfolding IsAccepted IsVerifiedSection
 all_sections_hold image keeps =
-    All-map (HoldsSection image) (section_at image) (sections_of image (commands_of image))
-    (all_flat (λ places. HoldsSection image (section_at image places)) (sections_with image) (segments_of image (commands_of image))
-    (λ k d less. All-map (λ places. HoldsSection image (section_at image places)) (λ section. (slice_index_or (segments_of image (commands_of image)) k d, section))
+    All-map (IsVerifiedSection image) (section_at image) (sections_of image (commands_of image))
+    (all_flat (λ places. IsVerifiedSection image (section_at image places)) (sections_with image) (segments_of image (commands_of image))
+    (λ k d less. All-map (λ places. IsVerifiedSection image (section_at image places)) (λ section. (slice_index_or (segments_of image (commands_of image)) k d, section))
     (sections_in image (slice_index_or (segments_of image (commands_of image)) k d))
     (λ j e few. (
       refl,
@@ -193,8 +193,8 @@ strings_are : (image : List ℕ) (t : ℕ) → first_of_kind image loader.LC_SYM
 strings_are image t is = ap (strings_from image) is
 
 module _ (image : List ℕ) (keeps : IsUnbrokenImage image) where
-  item_holds : (t k : ℕ) → first_of_kind image loader.LC_SYMTAB (commands_of image) ≡ Some t → k < nsyms image t → HoldsSymbol image (strings image) (symbol_at image (symoff image t + 16 * k))
-  unfolding HoldsSymbol
+  item_holds : (t k : ℕ) → first_of_kind image loader.LC_SYMTAB (commands_of image) ≡ Some t → k < nsyms image t → IsVerifiedSymbol image (strings image) (symbol_at image (symoff image t + 16 * k))
+  unfolding IsVerifiedSymbol
   item_holds t k is few = (refl, refl, ended)
     where
       ended : n_strx image (symoff image t + 16 * k) ≢ 0 → HasZero image ((strings image).start + n_strx image (symoff image t + 16 * k)) ((strings image).start + (strings image).len)
@@ -204,27 +204,27 @@ module _ (image : List ℕ) (keeps : IsUnbrokenImage image) where
           (keeps.sound.names (stroff image t + n_strx image (symoff image t + 16 * k)) (stroff image t + strsize image t) (inr (j, t, less, at, (k, few, (some, refl, refl)))))
 
   items_hold : (first : Option ℕ) → first_of_kind image loader.LC_SYMTAB (commands_of image) ≡ first
-      → All (λ p. HoldsSymbol image (strings image) (symbol_at image p)) (option_map_or (λ t. items_inside image (symoff image t) 16 (nsyms image t)) first [])
+      → All (λ p. IsVerifiedSymbol image (strings image) (symbol_at image p)) (option_map_or (λ t. items_inside image (symoff image t) 16 (nsyms image t)) first [])
   items_hold None is = λ k d less. absurd (omega arith)
   items_hold (Some t) is =
-      all_if (λ p. HoldsSymbol image (strings image) (symbol_at image p)) (nat_le (symoff image t + 16 * nsyms image t) (length image))
+      all_if (λ p. IsVerifiedSymbol image (strings image) (symbol_at image p)) (nat_le (symoff image t + 16 * nsyms image t) (length image))
       (map (λ k. symoff image t + 16 * k) (range_with_len 0 (nsyms image t)))
-      (All-map (λ p. HoldsSymbol image (strings image) (symbol_at image p)) (λ k. symoff image t + 16 * k) (range_with_len 0 (nsyms image t))
-      (numbers_all (λ k. HoldsSymbol image (strings image) (symbol_at image (symoff image t + 16 * k))) 0 (nsyms image t) (λ k few. item_holds t k is (omega (arith, few)))))
+      (All-map (λ p. IsVerifiedSymbol image (strings image) (symbol_at image p)) (λ k. symoff image t + 16 * k) (range_with_len 0 (nsyms image t))
+      (numbers_all (λ k. IsVerifiedSymbol image (strings image) (symbol_at image (symoff image t + 16 * k))) 0 (nsyms image t) (λ k few. item_holds t k is (omega (arith, few)))))
 
-pub symbols_hold : (image : List ℕ) → IsAccepted image → All (HoldsSymbol image (strings image)) (map (symbol_at image) (symbols_of image (commands_of image)))
+pub symbols_hold : (image : List ℕ) → IsAccepted image → All (IsVerifiedSymbol image (strings image)) (map (symbol_at image) (symbols_of image (commands_of image)))
 unfolding IsAccepted
 symbols_hold image keeps =
-    All-map (HoldsSymbol image (strings image)) (symbol_at image) (symbols_of image (commands_of image)) (items_hold image keeps (first_of_kind image loader.LC_SYMTAB (commands_of image)) refl)
+    All-map (IsVerifiedSymbol image (strings image)) (symbol_at image) (symbols_of image (commands_of image)) (items_hold image keeps (first_of_kind image loader.LC_SYMTAB (commands_of image)) refl)
 
 -- some of them
 pub range_holds : (image : List ℕ) → IsAccepted image → (first count : ℕ)
-    → All (HoldsSymbol image (strings image)) (map (symbol_at image) (take count (drop first (symbols_of image (commands_of image)))))
+    → All (IsVerifiedSymbol image (strings image)) (map (symbol_at image) (take count (drop first (symbols_of image (commands_of image)))))
 unfolding IsAccepted
 range_holds image keeps first count =
-    All-map (HoldsSymbol image (strings image)) (symbol_at image) (take count (drop first (symbols_of image (commands_of image))))
-    (All-take (λ p. HoldsSymbol image (strings image) (symbol_at image p)) count (drop first (symbols_of image (commands_of image)))
-    (All-drop (λ p. HoldsSymbol image (strings image) (symbol_at image p)) first (symbols_of image (commands_of image))
+    All-map (IsVerifiedSymbol image (strings image)) (symbol_at image) (take count (drop first (symbols_of image (commands_of image))))
+    (All-take (λ p. IsVerifiedSymbol image (strings image) (symbol_at image p)) count (drop first (symbols_of image (commands_of image)))
+    (All-drop (λ p. IsVerifiedSymbol image (strings image) (symbol_at image p)) first (symbols_of image (commands_of image))
     (items_hold image keeps (first_of_kind image loader.LC_SYMTAB (commands_of image)) refl)))
 
 -- the views of symbols that were read at places
@@ -233,22 +233,22 @@ views_of image [] = refl
 views_of image (p ∷ places) = ap (λ vs. symbol_view image p ∷ vs) (views_of image places)
 
 -- of a symbol: what was read of it
-pub symbol_read : (image : List ℕ) (among : Span) (symbol : Symbol) → HoldsSymbol image among symbol → symbol ≡ symbol_at image symbol.place
-unfolding HoldsSymbol
+pub symbol_read : (image : List ℕ) (among : Span) (symbol : Symbol) → IsVerifiedSymbol image among symbol → symbol ≡ symbol_at image symbol.place
+unfolding IsVerifiedSymbol
 symbol_read image among symbol keeps = keeps.0
 
-pub strx_read : (image : List ℕ) (among : Span) (symbol : Symbol) → HoldsSymbol image among symbol → symbol.strx ≡ n_strx image symbol.place
+pub strx_read : (image : List ℕ) (among : Span) (symbol : Symbol) → IsVerifiedSymbol image among symbol → symbol.strx ≡ n_strx image symbol.place
 strx_read image among symbol keeps = ap (λ (s : Symbol). s.strx) (symbol_read image among symbol keeps)
 
 -- and that its name ends
-pub name_ends : (image : List ℕ) (among : Span) (symbol : Symbol) → HoldsSymbol image among symbol → symbol.strx ≢ 0 → HasZero image (among.start + symbol.strx) (among.start + among.len)
-unfolding HoldsSymbol
+pub name_ends : (image : List ℕ) (among : Span) (symbol : Symbol) → IsVerifiedSymbol image among symbol → symbol.strx ≢ 0 → HasZero image (among.start + symbol.strx) (among.start + among.len)
+unfolding IsVerifiedSymbol
 name_ends image among symbol keeps = keeps.2
 
 -- among the strings of LC_SYMTAB
-pub name_is : (image : List ℕ) (among : Span) (symbol : Symbol) (name : List ℕ) → HoldsSymbol image among symbol → symbol.strx ≢ 0 → name ≡ string_from (among.start + symbol.strx) image
+pub name_is : (image : List ℕ) (among : Span) (symbol : Symbol) (name : List ℕ) → IsVerifiedSymbol image among symbol → symbol.strx ≢ 0 → name ≡ string_from (among.start + symbol.strx) image
     → IsNameAt image (commands_of image) symbol.strx name
-unfolding HoldsSymbol
+unfolding IsVerifiedSymbol
 name_is image among symbol name (read, same, ends) some found = of_first (first_of_kind image loader.LC_SYMTAB (commands_of image)) refl
   where
     of_first : (first : Option ℕ) → first_of_kind image loader.LC_SYMTAB (commands_of image) ≡ first → IsSomeAnd first (λ t. name ≡ string_from (stroff image t + symbol.strx) image)

@@ -23,7 +23,7 @@ use Rattle.macho_rules.proofs.Judged.{keeps_opened, opened_commands}
 use Rattle.macho_rules.proofs.OneCommand.{is_of_kind, symbols_counted}
 use Rattle.macho_rules.proofs.TableItems.{table_inside, in_items}
 use Rattle.macho_verified.specs.Image.{SymbolView, symbol_view, IndirectView, indirect_view}
-use Rattle.macho_verified.specs.Scaffold.{IsUnbrokenImage, IsAccepted, HoldsIndirect}
+use Rattle.macho_verified.specs.Scaffold.{IsUnbrokenImage, IsAccepted, IsVerifiedIndirect}
 
 -- a table that is not outside has all its items
 items_counted : (image : List ℕ) (start each n : ℕ) → ¬ IsOutside image (start, n, each) → length (items_inside image start each n) ≡ n
@@ -109,22 +109,22 @@ indirects_whole image keeps result are =
     views_counted (λ d. items_inside image (indirectsymoff image d) 4 (nindirectsyms image d)) (nindirectsyms image) (indirect_view image) result
     (first_of_kind image loader.LC_DYSYMTAB (commands_of image)) are (entries_counted image keeps)
 
-pub indirects_hold : (image : List ℕ) → IsAccepted image → All (HoldsIndirect image) (map (indirect_at image) (indirects_of image (commands_of image)))
-unfolding IsAccepted HoldsIndirect
+pub indirects_hold : (image : List ℕ) → IsAccepted image → All (IsVerifiedIndirect image) (map (indirect_at image) (indirects_of image (commands_of image)))
+unfolding IsAccepted IsVerifiedIndirect
 indirects_hold image keeps =
-    All-map (HoldsIndirect image) (indirect_at image) (indirects_of image (commands_of image))
+    All-map (IsVerifiedIndirect image) (indirect_at image) (indirects_of image (commands_of image))
     (λ k d less. (refl, λ index. entry_named image keeps _ (All-contains_itself (indirects_of image (commands_of image)) k d less) index))
 
 -- of an indirect entry: what was read of it, and that its symbol is there
-pub entry_read : (image : List ℕ) (entry : Indirect) → HoldsIndirect image entry → entry ≡ indirect_at image entry.place
-unfolding HoldsIndirect
+pub entry_read : (image : List ℕ) (entry : Indirect) → IsVerifiedIndirect image entry → entry ≡ indirect_at image entry.place
+unfolding IsVerifiedIndirect
 entry_read image entry keeps = keeps.0
 
-pub value_read : (image : List ℕ) (entry : Indirect) → HoldsIndirect image entry → entry.value ≡ word image entry.place
+pub value_read : (image : List ℕ) (entry : Indirect) → IsVerifiedIndirect image entry → entry.value ≡ word image entry.place
 value_read image entry keeps = ap (λ (e : Indirect). e.value) (entry_read image entry keeps)
 
-pub symbol_named : (image : List ℕ) (entry : Indirect) → HoldsIndirect image entry → IsSymbolIndex entry.value → entry.value < length (symbols_of image (commands_of image))
-unfolding HoldsIndirect
+pub symbol_named : (image : List ℕ) (entry : Indirect) → IsVerifiedIndirect image entry → IsSymbolIndex entry.value → entry.value < length (symbols_of image (commands_of image))
+unfolding IsVerifiedIndirect
 symbol_named image entry keeps index = keeps.1 index
 
 -- Views of what was read at places

@@ -26,14 +26,14 @@ unfoldable pub IsAccepted : List ℕ → Type 0
 IsAccepted image = IsUnbrokenImage image
 
 -- a segment of such an image
-unfoldable pub HoldsSegment : List ℕ → SegmentView → Type 0
-HoldsSegment image view =
+unfoldable pub IsVerifiedSegment : List ℕ → SegmentView → Type 0
+IsVerifiedSegment image view =
     (image ≡ view.image) × IsUnbrokenImage image
     × Contains (segments_of image (commands_of image)) view.place
 
 -- a section of such an image
-unfoldable pub HoldsSection : List ℕ → SectionView → Type 0
-HoldsSection image view =
+unfoldable pub IsVerifiedSection : List ℕ → SectionView → Type 0
+IsVerifiedSection image view =
     (image ≡ view.image) × IsUnbrokenImage image
     × Contains (segments_of image (commands_of image)) view.segment
     × Contains (sections_in image view.segment) view.place
@@ -46,14 +46,14 @@ strings image =
     (first_of_kind image loader.LC_SYMTAB (commands_of image)) (record { start = 0; len = 0 })
 
 -- a symbol of such an image, with the strings that its name is among, where it has one
-unfoldable pub HoldsSymbol : List ℕ → Span → Symbol → Type 0
-HoldsSymbol image among symbol =
+unfoldable pub IsVerifiedSymbol : List ℕ → Span → Symbol → Type 0
+IsVerifiedSymbol image among symbol =
     (symbol ≡ symbol_at image symbol.place) × (among ≡ strings image)
     × (symbol.strx ≢ 0 → HasZero image (among.start + symbol.strx) (among.start + among.len))
 
 -- an indirect entry of such an image, which has the symbol that the entry names
-unfoldable pub HoldsIndirect : List ℕ → Indirect → Type 0
-HoldsIndirect image entry =
+unfoldable pub IsVerifiedIndirect : List ℕ → Indirect → Type 0
+IsVerifiedIndirect image entry =
     (entry ≡ indirect_at image entry.place)
     × (IsSymbolIndex entry.value → entry.value < length (symbols_of image (commands_of image)))
 

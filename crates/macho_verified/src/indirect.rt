@@ -16,13 +16,13 @@ pub struct VerifiedIndirect<'i, 'a> {
 
 impl<'i, 'a> Model for VerifiedIndirect<'i, 'a> {
     ghost use Rattle.macho_verified.specs.Image.{IndirectView, indirect_view};
-    ghost use Rattle.macho_verified.specs.Scaffold.{HoldsIndirect};
+    ghost use Rattle.macho_verified.specs.Scaffold.{IsVerifiedIndirect};
 
     ghost Value = { IndirectView };
 
     ghost view = { λ verified. indirect_view verified.image.now verified.entry.place };
 
-    ghost invariant = { λ verified. HoldsIndirect verified.image.now verified.entry };
+    ghost invariant = { λ verified. IsVerifiedIndirect verified.image.now verified.entry };
 }
 
 impl<'i, 'a> VerifiedIndirect<'i, 'a> {
@@ -64,14 +64,14 @@ pub struct VerifiedIndirects<'i, 'a> {
 impl<'i, 'a> Model for VerifiedIndirects<'i, 'a> {
     ghost use Rattle.std.specs.Prelude.{List, All, map};
     ghost use Rattle.macho_verified.specs.Image.{IndirectView, indirect_view};
-    ghost use Rattle.macho_verified.specs.Scaffold.{HoldsIndirect};
+    ghost use Rattle.macho_verified.specs.Scaffold.{IsVerifiedIndirect};
 
     ghost Value = { List IndirectView };
 
     ghost view = { λ verified.
         map (λ entry. indirect_view verified.image.now entry.place) verified.entries };
 
-    ghost invariant = { λ verified. All (HoldsIndirect verified.image.now) verified.entries };
+    ghost invariant = { λ verified. All (IsVerifiedIndirect verified.image.now) verified.entries };
 }
 
 impl<'i, 'a> Iterator for VerifiedIndirects<'i, 'a> {

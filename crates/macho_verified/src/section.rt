@@ -14,13 +14,13 @@ pub struct VerifiedSection<'a> {
 impl<'a> Model for VerifiedSection<'a> {
     ghost use Rattle.macho_fields.specs.Bytes.{bytes_of};
     ghost use Rattle.macho_image.specs.Segment.{SectionView};
-    ghost use Rattle.macho_verified.specs.Scaffold.{HoldsSection};
+    ghost use Rattle.macho_verified.specs.Scaffold.{IsVerifiedSection};
 
     ghost Value = { SectionView };
 
     ghost view = { λ verified. verified.section };
 
-    ghost invariant = { λ verified. HoldsSection (bytes_of verified.image) verified.section };
+    ghost invariant = { λ verified. IsVerifiedSection (bytes_of verified.image) verified.section };
 }
 
 impl<'a> VerifiedSection<'a> {
@@ -70,14 +70,14 @@ impl<'a> Model for VerifiedSections<'a> {
     ghost use Rattle.std.specs.Prelude.{List, All};
     ghost use Rattle.macho_fields.specs.Bytes.{bytes_of};
     ghost use Rattle.macho_image.specs.Segment.{SectionView};
-    ghost use Rattle.macho_verified.specs.Scaffold.{HoldsSection};
+    ghost use Rattle.macho_verified.specs.Scaffold.{IsVerifiedSection};
 
     ghost Value = { List SectionView };
 
     ghost view = { λ verified. verified.sections };
 
     ghost invariant = { λ verified.
-        All (HoldsSection (bytes_of verified.image)) verified.sections };
+        All (IsVerifiedSection (bytes_of verified.image)) verified.sections };
 }
 
 impl<'a> Iterator for VerifiedSections<'a> {

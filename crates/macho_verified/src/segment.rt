@@ -15,13 +15,13 @@ pub struct VerifiedSegment<'a> {
 impl<'a> Model for VerifiedSegment<'a> {
     ghost use Rattle.macho_fields.specs.Bytes.{bytes_of};
     ghost use Rattle.macho_image.specs.Segment.{SegmentView};
-    ghost use Rattle.macho_verified.specs.Scaffold.{HoldsSegment};
+    ghost use Rattle.macho_verified.specs.Scaffold.{IsVerifiedSegment};
 
     ghost Value = { SegmentView };
 
     ghost view = { λ verified. verified.segment };
 
-    ghost invariant = { λ verified. HoldsSegment (bytes_of verified.image) verified.segment };
+    ghost invariant = { λ verified. IsVerifiedSegment (bytes_of verified.image) verified.segment };
 }
 
 impl<'a> VerifiedSegment<'a> {
@@ -93,14 +93,14 @@ impl<'a> Model for VerifiedSegments<'a> {
     ghost use Rattle.std.specs.Prelude.{List, All};
     ghost use Rattle.macho_fields.specs.Bytes.{bytes_of};
     ghost use Rattle.macho_image.specs.Segment.{SegmentView};
-    ghost use Rattle.macho_verified.specs.Scaffold.{HoldsSegment};
+    ghost use Rattle.macho_verified.specs.Scaffold.{IsVerifiedSegment};
 
     ghost Value = { List SegmentView };
 
     ghost view = { λ verified. verified.segments };
 
     ghost invariant = { λ verified.
-        All (HoldsSegment (bytes_of verified.image)) verified.segments };
+        All (IsVerifiedSegment (bytes_of verified.image)) verified.segments };
 }
 
 impl<'a> Iterator for VerifiedSegments<'a> {

@@ -21,14 +21,14 @@ pub struct VerifiedSymbol<'a> {
 impl<'a> Model for VerifiedSymbol<'a> {
     ghost use Rattle.macho_fields.specs.Bytes.{bytes_of};
     ghost use Rattle.macho_verified.specs.Image.{SymbolView, symbol_view};
-    ghost use Rattle.macho_verified.specs.Scaffold.{HoldsSymbol};
+    ghost use Rattle.macho_verified.specs.Scaffold.{IsVerifiedSymbol};
 
     ghost Value = { SymbolView };
 
     ghost view = { λ verified. symbol_view (bytes_of verified.image) verified.symbol.place };
 
     ghost invariant = { λ verified.
-        HoldsSymbol (bytes_of verified.image) verified.strings verified.symbol };
+        IsVerifiedSymbol (bytes_of verified.image) verified.strings verified.symbol };
 }
 
 impl<'a> VerifiedSymbol<'a> {
@@ -83,7 +83,7 @@ impl<'a> Model for VerifiedSymbols<'a> {
     ghost use Rattle.std.specs.Prelude.{List, All, map};
     ghost use Rattle.macho_fields.specs.Bytes.{bytes_of};
     ghost use Rattle.macho_verified.specs.Image.{SymbolView, symbol_view};
-    ghost use Rattle.macho_verified.specs.Scaffold.{HoldsSymbol};
+    ghost use Rattle.macho_verified.specs.Scaffold.{IsVerifiedSymbol};
 
     ghost Value = { List SymbolView };
 
@@ -91,7 +91,7 @@ impl<'a> Model for VerifiedSymbols<'a> {
         map (λ symbol. symbol_view (bytes_of verified.image) symbol.place) verified.symbols };
 
     ghost invariant = { λ verified.
-        All (HoldsSymbol (bytes_of verified.image) verified.strings) verified.symbols };
+        All (IsVerifiedSymbol (bytes_of verified.image) verified.strings) verified.symbols };
 }
 
 impl<'a> Iterator for VerifiedSymbols<'a> {

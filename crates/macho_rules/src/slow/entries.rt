@@ -65,8 +65,7 @@ impl<'a> Entries<'a> {
     {
         let wide = file.u32_at(Order::Big, 0) == Some(FAT_MAGIC_64);
         let count = file.u32_at(Order::Big, NFAT_ARCH)?;
-        let table_end = FAT_HEADER_SIZE + u64::from(count) * entry_size(wide);
-        if table_end > file.len() {
+        if !file.contains_table(FAT_HEADER_SIZE, u64::from(count), entry_size(wide)) {
             return None;
         }
         Some(Entries { file, wide, count })

@@ -3,14 +3,14 @@ use Rattle.macho_fields.specs.Image.{commands_of}
 use Rattle.macho_image.specs.Symbol.{indirects_of}
 use Rattle.macho_image.specs.declared.indirect.Indirect.{Indirect}
 use Rattle.macho_verified.specs.Image.{indirect_view}
-use Rattle.macho_verified.specs.Scaffold.{IsAccepted, HoldsIndirect}
+use Rattle.macho_verified.specs.Scaffold.{IsAccepted, IsVerifiedIndirect}
 use Rattle.macho_verified.proofs.Counted.{indirects_hold, indirects_whole, indirect_views_of}
 use Rattle.macho_verified.proofs.image.VerifiedImage.indirects.Goals as goal
 
 pub invariant_of-result : goal.invariant_of-result
 invariant_of-result c =
-    subst (λ (i : List ℕ). All (HoldsIndirect i) c.indirects-entries.result) c.self.view_is
-    (subst (All (HoldsIndirect c.self.inside.image)) (sym c.indirects-entries.ensures) (indirects_hold c.self.inside.image c.self.invariant))
+    subst (λ (i : List ℕ). All (IsVerifiedIndirect i) c.indirects-entries.result) c.self.view_is
+    (subst (All (IsVerifiedIndirect c.self.inside.image)) (sym c.indirects-entries.ensures) (indirects_hold c.self.inside.image c.self.invariant))
 
 pub returns-clause-indirects : goal.returns-clause-indirects
 returns-clause-indirects c =

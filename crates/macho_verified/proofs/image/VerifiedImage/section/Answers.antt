@@ -2,7 +2,7 @@ use Rattle.std.proofs.Common.{◌≡◌, ◌∙◌, ◌-◌, ℕ, List, map, Som
 use Rattle.std.proofs.lemmas.Iterator.Consumers.{nth_from_yields_List, YieldsList-from_first}
 use Rattle.macho_fields.specs.Image.{commands_of}
 use Rattle.macho_image.specs.Segment.{SectionView, section_at, sections_of}
-use Rattle.macho_verified.specs.Scaffold.{HoldsSection}
+use Rattle.macho_verified.specs.Scaffold.{IsVerifiedSection}
 use Rattle.macho_verified.proofs.Accepted.{all_sections_hold, got_has, nth_is}
 use Rattle.macho_verified.proofs.image.VerifiedImage.section.Goals as goal
 
@@ -22,8 +22,8 @@ invariant_of-result c =
     let got : c.nth.result ≡ slice_get all c.in_ok-index.index = nth_is c.nth.result _
     (nth_from_yields_List c.nth.result c.nth.new.self c.in_ok-index.index c.nth.ensures.ran
     (YieldsList-from_first (λ (x : SectionView). x) (λ (left : List SectionView). left) all c.sections.ensures.sections)) in
-    subst (λ (bytes : List ℕ). HoldsSection bytes c.in_ok-section.section) (sym c.bytes.ensures.bytes)
-    (got_has (HoldsSection image) all c.in_ok-index.index c.in_ok-section.section (sym got ∙ c.in_ok-section.was) (all_sections_hold image c.self.invariant))
+    subst (λ (bytes : List ℕ). IsVerifiedSection bytes c.in_ok-section.section) (sym c.bytes.ensures.bytes)
+    (got_has (IsVerifiedSection image) all c.in_ok-index.index c.in_ok-section.section (sym got ∙ c.in_ok-section.was) (all_sections_hold image c.self.invariant))
 
 pub returns-clause-section : goal.returns-clause-section
 returns-clause-section c some =

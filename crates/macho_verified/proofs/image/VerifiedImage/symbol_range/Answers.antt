@@ -5,16 +5,16 @@ use Rattle.macho_fields.specs.declared.span.Span.{Span}
 use Rattle.macho_image.specs.Symbol.{symbols_of}
 use Rattle.macho_image.specs.declared.symbol.Symbol.{Symbol}
 use Rattle.macho_verified.specs.Image.{symbol_view}
-use Rattle.macho_verified.specs.Scaffold.{HoldsSymbol}
+use Rattle.macho_verified.specs.Scaffold.{IsVerifiedSymbol}
 use Rattle.macho_verified.proofs.Accepted.{range_holds, views_of}
 use Rattle.macho_verified.proofs.image.VerifiedImage.symbol_range.Goals as goal
 
 pub invariant_of-result : goal.invariant_of-result
 invariant_of-result c =
     let image = c.self.inside.image in
-    subst (λ (bytes : List ℕ). All (HoldsSymbol bytes c.strings_of.result) c.symbol_range.result) (sym c.bytes.ensures.bytes)
-    (subst (λ (among : Span). All (HoldsSymbol image among) c.symbol_range.result) (sym c.strings_of.ensures)
-    (subst (All (HoldsSymbol image _)) (sym c.symbol_range.ensures) (range_holds image c.self.invariant c.args.first c.args.count)))
+    subst (λ (bytes : List ℕ). All (IsVerifiedSymbol bytes c.strings_of.result) c.symbol_range.result) (sym c.bytes.ensures.bytes)
+    (subst (λ (among : Span). All (IsVerifiedSymbol image among) c.symbol_range.result) (sym c.strings_of.ensures)
+    (subst (All (IsVerifiedSymbol image _)) (sym c.symbol_range.ensures) (range_holds image c.self.invariant c.args.first c.args.count)))
 
 pub returns : goal.returns
 returns c =

@@ -5,16 +5,16 @@ use Rattle.macho_fields.specs.declared.span.Span.{Span}
 use Rattle.macho_image.specs.Symbol.{symbols_of}
 use Rattle.macho_image.specs.declared.symbol.Symbol.{Symbol}
 use Rattle.macho_verified.specs.Image.{symbol_view}
-use Rattle.macho_verified.specs.Scaffold.{IsAccepted, HoldsSymbol}
+use Rattle.macho_verified.specs.Scaffold.{IsAccepted, IsVerifiedSymbol}
 use Rattle.macho_verified.proofs.Accepted.{symbols_hold, views_of}
 use Rattle.macho_verified.proofs.Counted.{symbols_whole}
 use Rattle.macho_verified.proofs.image.VerifiedImage.symbols.Goals as goal
 
 pub invariant_of-result : goal.invariant_of-result
 invariant_of-result c =
-    subst (λ (bytes : List ℕ). All (HoldsSymbol bytes c.strings_of.result) c.symbols-symbols.result) (sym c.bytes.ensures.bytes)
-    (subst (λ (among : Span). All (HoldsSymbol c.self.inside.image among) c.symbols-symbols.result) (sym c.strings_of.ensures)
-    (subst (All (HoldsSymbol c.self.inside.image _)) (sym c.symbols-symbols.ensures) (symbols_hold c.self.inside.image c.self.invariant)))
+    subst (λ (bytes : List ℕ). All (IsVerifiedSymbol bytes c.strings_of.result) c.symbols-symbols.result) (sym c.bytes.ensures.bytes)
+    (subst (λ (among : Span). All (IsVerifiedSymbol c.self.inside.image among) c.symbols-symbols.result) (sym c.strings_of.ensures)
+    (subst (All (IsVerifiedSymbol c.self.inside.image _)) (sym c.symbols-symbols.ensures) (symbols_hold c.self.inside.image c.self.invariant)))
 
 pub returns-clause-symbols : goal.returns-clause-symbols
 returns-clause-symbols c =

@@ -1,6 +1,6 @@
-use Rattle.macho_verified.specs.Scaffold.{HoldsIndirect}
+use Rattle.macho_verified.specs.Scaffold.{IsVerifiedIndirect}
 use Rattle.macho_verified.proofs.Accepted.{rest_has}
 use Rattle.macho_verified.proofs.indirect.VerifiedIndirectsIterator.next.Goals as goal
 
 pub invariant_of-self-2 : goal.invariant_of-self-2
-invariant_of-self-2 c = rest_has (HoldsIndirect c.self.inside.image.now) _ _ _ c.in_ok-entry.ensures.steps c.self.invariant
+invariant_of-self-2 c = rest_has (IsVerifiedIndirect c.self.inside.image.now) _ _ _ c.in_ok-entry.ensures.steps c.self.invariant

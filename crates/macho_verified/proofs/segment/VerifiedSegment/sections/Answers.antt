@@ -1,9 +1,9 @@
 use Rattle.std.proofs.Common.{All, sym, subst}
 use Rattle.macho_fields.specs.Bytes.{bytes_of}
-use Rattle.macho_verified.specs.Scaffold.{HoldsSection}
+use Rattle.macho_verified.specs.Scaffold.{IsVerifiedSection}
 use Rattle.macho_verified.proofs.Accepted.{sections_hold}
 use Rattle.macho_verified.proofs.segment.VerifiedSegment.sections.Goals as goal
 
 pub invariant_of-result : goal.invariant_of-result
 invariant_of-result c =
-    subst (All (HoldsSection (bytes_of c.self.inside.image))) (sym c.sections.ensures) (sections_hold (bytes_of c.self.inside.image) c.self.inside.segment c.self.invariant)
+    subst (All (IsVerifiedSection (bytes_of c.self.inside.image))) (sym c.sections.ensures) (sections_hold (bytes_of c.self.inside.image) c.self.inside.segment c.self.invariant)
