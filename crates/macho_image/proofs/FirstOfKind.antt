@@ -13,7 +13,7 @@ use Rattle.macho_fields.specs.Image.{command_kind}
 use Rattle.macho_fields.specs.LoadCommands.{load_commands, load_command_of, IsUnique}
 use Rattle.macho_fields.specs.declared.load_command.LoadCommand.{LoadCommand}
 use Rattle.macho_fields.proofs.Options.{some_of}
-use Rattle.macho_image.specs.Unique.{unique_kinds}
+use Rattle.macho_image.specs.Scaffold.{unique_kinds}
 use Rattle.macho_fields.proofs.Lists.{none_by_test, none_in_nil, contains_first}
 use Rattle.macho_image.specs.Command.{first_of_kind}
 use Rattle.macho_image.proofs.Passed.{contains_later}

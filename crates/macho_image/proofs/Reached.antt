@@ -10,8 +10,7 @@ use Rattle.macho_fields.specs.declared.header.loader.TheConstants as loader
 use Rattle.macho_fields.specs.declared.rule.Rule.TheVariants as rule
 use Rattle.macho_image.specs.Command.{command_at}
 use Rattle.macho_image.specs.Opened.{IsOpened}
-use Rattle.macho_image.specs.Opening.{ReachesSegments}
-use Rattle.macho_image.specs.Scaffold.{CanWalk, HaveSegments, commands_left}
+use Rattle.macho_image.specs.Scaffold.{CanWalk, HaveSegments, ReachesSegments, commands_left}
 use Rattle.macho_image.proofs.OfOneKind.{left_of_kind-map}
 use Rattle.macho_image.proofs.Opened.{opened_below}
 use Rattle.macho_image.proofs.Opening.{kept_less}

@@ -5,8 +5,6 @@ pub mod Single
 pub mod Library
 pub mod Rpath
 pub mod Opened
-pub mod Unique
-pub mod Opening
 pub mod Segment
 pub mod Entry
 pub mod Symbol

@@ -2,23 +2,56 @@
 use Rattle.std.specs.Prelude.{◌≡◌, ℕ, zero, suc, ◌+◌, ◌*◌, ◌≤◌, ◌<◌, ◌==◌, List, [], ◌∷◌}
 use Rattle.std.specs.Prelude.{map, filter, flat_map}
 use Rattle.std.specs.Prelude.{length, All}
+use Rattle.macho_fields.specs.Bytes.{bytes_of}
 use Rattle.macho_fields.specs.Command.{name_start}
 use Rattle.macho_fields.specs.Field.{HasZero}
-use Rattle.macho_fields.specs.Image.{command_kind, command_size, commands_end, commands_of, IsGood, places_from}
-use Rattle.macho_fields.specs.LoadCommands.{structure_size, names_library}
+use Rattle.macho_fields.specs.Image.{command_kind, command_size, command_count, commands_end, commands_of, IsGood, places_from}
+use Rattle.macho_fields.specs.LoadCommands.{load_commands, structure_size, names_library}
+use Rattle.macho_fields.specs.Rules.{BreaksImage}
 use Rattle.macho_fields.specs.Segment.{nsects, segments_of}
 use Rattle.macho_fields.specs.declared.header.loader.TheConstants as loader
 use Rattle.macho_fields.specs.declared.header.nlist.TheConstants as nlist
 use Rattle.macho_fields.specs.declared.load_command.Structure.TheVariants.{DylibCommand}
 use Rattle.macho_fields.specs.declared.load_command.Structure.TheVariants.{BuildVersionCommand}
+use Rattle.macho_fields.specs.declared.rule.Rule.{Rule}
 use Rattle.macho_image.specs.Build.{build_at}
-use Rattle.macho_image.specs.Command.{CommandView, command_at, command_name}
+use Rattle.macho_image.specs.Command.{CommandView, command_at, command_name, first_of_kind}
 use Rattle.macho_image.specs.Library.{DylibView, dylib_at}
+use Rattle.macho_image.specs.Opened.{IsOpened}
 use Rattle.macho_image.specs.Segment.{SegmentView, SectionView, segment_at, section_at, sections_with}
 use Rattle.macho_image.specs.Symbol.{symbol_at, indirect_at}
 use Rattle.macho_image.specs.declared.build.Build.{Build}
 use Rattle.macho_image.specs.declared.indirect.Indirect.{Indirect}
 use Rattle.macho_image.specs.declared.symbol.Symbol.{Symbol}
+use Rattle.macho_image.specs.declared.unique.UniquePlaces.{UniquePlaces}
+use Rattle.macho_image.specs.declared.walk.Opening.{Opening}
+
+-- What is opened: where it breaks a rule, and what is known of it
+
+-- the bytes break the rule at the place, as an image of the architecture
+abbrev pub breaks_of : Opening → Rule → ℕ → Type 0
+breaks_of opening = BreaksImage (bytes_of opening.bytes) opening.arch
+
+-- the kinds of which an image has at most one command, in the order of the list of load commands
+abbrev pub unique_kinds : List ℕ
+unique_kinds =
+    map (λ command. command.cmd) (filter (λ command. command.is_unique) load_commands)
+
+-- for each unique kind, in their order, the place is that of its first command
+pub record AreFirst (image commands : List ℕ) (unique : UniquePlaces) : Type 0 where
+  pub places : unique.places ≡ map (λ kind. first_of_kind image kind commands) unique_kinds
+
+-- the first commands, so many of them, have all segments
+pub record ReachesSegments (image : List ℕ) (count : ℕ) : Type 0 where
+  pub most : count ≤ command_count image
+  pub all : segments_of image (places_from image loader.MACH_HEADER_64_SIZE count)
+      ≡ segments_of image (commands_of image)
+
+-- what is known of an opened image
+pub record IsKnown (image : List ℕ) (unique : UniquePlaces) (reach : ℕ) : Type 0 where
+  pub opened : IsOpened image
+  pub first : AreFirst image (commands_of image) unique
+  pub segments : ReachesSegments image reach
 
 -- The walk over the commands
 

@@ -24,7 +24,7 @@ pub struct Image<'a> {
 impl<'a> Model for Image<'a> {
     ghost use Rattle.std.specs.Prelude.{List, ℕ};
     ghost use Rattle.macho_fields.specs.Bytes.{bytes_of};
-    ghost use Rattle.macho_image.specs.Opening.{IsKnown};
+    ghost use Rattle.macho_image.specs.Scaffold.{IsKnown};
 
     ghost Value = { List ℕ };
 
@@ -47,8 +47,7 @@ impl<'a> Image<'a> {
     ghost use Rattle.macho_image.specs.Command.{command_of, command_at, first_of_kind};
     ghost use Rattle.macho_image.specs.Header.{IsKind};
     ghost use Rattle.macho_image.specs.Opened.{IsOpened};
-    ghost use Rattle.macho_image.specs.Opening.{AreFirst};
-    ghost use Rattle.macho_image.specs.Scaffold.{HaveSegments};
+    ghost use Rattle.macho_image.specs.Scaffold.{AreFirst, HaveSegments};
 
     /// Opens `bytes` as a 64-bit image. `arch` is the `cputype` and the `cpusubtype` that a
     /// universal file gives for it, or `None` where the image is a file of its own. The magic

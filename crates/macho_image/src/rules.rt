@@ -11,8 +11,7 @@ ghost use Rattle.macho_fields.specs.LoadCommands.{has_name, structure_size};
 ghost use Rattle.macho_fields.specs.Layers.{KeptBelow, Continues};
 ghost use Rattle.macho_fields.specs.declared.rule.Rule.{Rule};
 ghost use Rattle.macho_image.specs.Command.{command_of};
-ghost use Rattle.macho_image.specs.Scaffold.{IsAlone};
-ghost use Rattle.macho_image.specs.Opening.{breaks_of, AreFirst};
+ghost use Rattle.macho_image.specs.Scaffold.{breaks_of, AreFirst, IsAlone};
 
 use crate::command::{Command, word_at};
 use crate::unique::UniquePlaces;

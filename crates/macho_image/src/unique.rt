@@ -2,7 +2,7 @@
 
 ghost use Rattle.std.specs.Prelude.{◌≡◌, ◌==◌};
 ghost use Rattle.std.specs.List.{position};
-ghost use Rattle.macho_image.specs.Unique.{unique_kinds};
+ghost use Rattle.macho_image.specs.Scaffold.{unique_kinds};
 
 use crate::command::Command;
 use macho_fields::header::loader::{LC_DYSYMTAB, LC_ID_DYLIB, LC_MAIN, LC_SYMTAB, LC_UUID};
@@ -23,7 +23,7 @@ impl UniquePlaces {
     ghost use Rattle.macho_fields.specs.Image.{command_kind};
     ghost use Rattle.macho_fields.specs.LoadCommands.{IsUnique};
     ghost use Rattle.macho_image.specs.Command.{first_of_kind};
-    ghost use Rattle.macho_image.specs.Opening.{AreFirst};
+    ghost use Rattle.macho_image.specs.Scaffold.{AreFirst};
 
     /// The places where no command was noted.
     pub(crate) fn new() -> UniquePlaces

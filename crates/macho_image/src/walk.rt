@@ -9,7 +9,7 @@ ghost use Rattle.macho_fields.specs.Layers.{KeptBelow, Continues};
 ghost use Rattle.macho_fields.specs.Universal.{masked};
 ghost use Rattle.macho_fields.specs.declared.rule.Rule.{Rule};
 ghost use Rattle.macho_image.specs.Opened.{IsOpened};
-ghost use Rattle.macho_image.specs.Opening.{breaks_of, ReachesSegments};
+ghost use Rattle.macho_image.specs.Scaffold.{breaks_of, ReachesSegments};
 
 use crate::command::{CMDSIZE, Commands, word_at};
 use macho_fields::header::loader::{LC_SEGMENT_64, LOAD_COMMAND_SIZE, MACH_HEADER_64_SIZE};
@@ -43,7 +43,7 @@ impl<'a> Opening<'a> {
     ghost use Rattle.macho_fields.specs.Layers.{KeptBelow};
     ghost use Rattle.macho_fields.specs.declared.rule.Rule.{Rule};
     ghost use Rattle.macho_image.specs.Command.{command_at};
-    ghost use Rattle.macho_image.specs.Opening.{breaks_of};
+    ghost use Rattle.macho_image.specs.Scaffold.{breaks_of};
 
     /// The load commands, in the order of the file.
     pub(crate) fn commands(self) -> Commands<'a>

@@ -3,7 +3,7 @@ use Rattle.macho_fields.specs.Bytes.{bytes_of}
 use Rattle.macho_fields.specs.First.{rank}
 use Rattle.macho_fields.specs.declared.rule.Rule.TheVariants as rule
 use Rattle.macho_image.specs.Command.{command_of}
-use Rattle.macho_image.specs.Opening.{AreFirst}
+use Rattle.macho_image.specs.Scaffold.{AreFirst}
 use Rattle.macho_image.proofs.Opening.{kept_less, has_commands}
 use Rattle.macho_image.proofs.Passed.{all_left, next, pass, all_passed, left_broken, left_kept}
 use Rattle.macho_image.proofs.Repeated.{Repeats, IsFirstFound, kind_is, found_repeats, none_repeats}

@@ -3,7 +3,7 @@ use Rattle.macho_fields.specs.Bytes.{bytes_of}
 use Rattle.macho_fields.specs.First.{rank}
 use Rattle.macho_fields.specs.declared.rule.Rule.TheVariants as rule
 use Rattle.macho_image.specs.Command.{command_of}
-use Rattle.macho_image.specs.Opening.{AreFirst}
+use Rattle.macho_image.specs.Scaffold.{AreFirst}
 use Rattle.macho_image.proofs.Opening.{has_commands}
 use Rattle.macho_image.proofs.Passed.{all_left, next, pass, all_passed}
 use Rattle.macho_image.proofs.Repeated.{kind_is}

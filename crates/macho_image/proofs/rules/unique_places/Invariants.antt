@@ -1,6 +1,6 @@
 use Rattle.std.proofs.Common.{ℕ, List}
 use Rattle.macho_fields.specs.Bytes.{bytes_of}
-use Rattle.macho_image.specs.Opening.{AreFirst}
+use Rattle.macho_image.specs.Scaffold.{AreFirst}
 use Rattle.macho_image.proofs.Passed.{Left}
 use Rattle.macho_image.proofs.rules.unique_places.Given as goal
 

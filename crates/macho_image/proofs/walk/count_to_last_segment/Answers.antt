@@ -3,7 +3,7 @@ use Rattle.macho_fields.specs.Bytes.{bytes_of}
 use Rattle.macho_fields.specs.First.{rank}
 use Rattle.macho_fields.specs.declared.rule.Rule.TheVariants as rule
 use Rattle.macho_image.specs.Command.{command_of}
-use Rattle.macho_image.specs.Opening.{ReachesSegments}
+use Rattle.macho_image.specs.Scaffold.{ReachesSegments}
 use Rattle.macho_image.proofs.Opened.{opened_below}
 use Rattle.macho_image.proofs.OpenedWalk.{opened_commands}
 use Rattle.macho_image.proofs.Opening.{has_header, kept_less}
