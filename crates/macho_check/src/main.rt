@@ -4,20 +4,13 @@
 
 #[cfg(test)]
 mod doubles;
-mod files;
 #[cfg(test)]
 mod notation;
-mod number;
-mod program;
-mod status;
 #[cfg(test)]
 mod tests;
-mod words;
 
-use files::SystemFiles;
+use macho_program::{SystemFiles, exit_code, run_program, without_memory};
 use macho_report::{FromRead, FromWrite};
-use program::{run_program, without_memory};
-use status::exit_code;
 use std::io::{BufWriter, ErrorKind};
 use std::process::ExitCode;
 use std::rt::Env;

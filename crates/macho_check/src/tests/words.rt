@@ -1,8 +1,8 @@
 //! The words of the command line.
 
 use super::same;
-use crate::number::read_number;
-use crate::words::{Request, WordFault, parse_words};
+use macho_program::number::read_number;
+use macho_program::words::{Request, WordFault, parse_words};
 use std::process::Abort;
 use std::test::Fail;
 

@@ -2,9 +2,9 @@
 
 ghost use Rattle.std.specs.Prelude.{◌≡◌, map, option_map, IfOk, false};
 ghost use Rattle.clap.specs.Words.{app_of, first_of, found_of, kind_of, rows_of, rule_of};
-ghost use Rattle.macho_check.specs.Text.{word_fault_line};
-ghost use Rattle.macho_check.specs.Words.{Answers, asked, asked_by, asked_in, check_asked, file_of, program_command, required, where_asked, word_fault_of};
-ghost use Rattle.macho_check.specs.declared.words.WordFault.TheVariants.{Memory};
+ghost use Rattle.macho_program.specs.Text.{word_fault_line};
+ghost use Rattle.macho_program.specs.Words.{Answers, asked, asked_by, asked_in, check_asked, file_of, program_command, required, where_asked, word_fault_of};
+ghost use Rattle.macho_program.specs.declared.words.WordFault.TheVariants.{Memory};
 
 use crate::number::read_number;
 use clap::error::ErrorKind;

@@ -1,7 +1,7 @@
 //! The numbers among the words.
 
 ghost use Rattle.std.specs.Prelude.{◌≡◌, ◌≤◌};
-ghost use Rattle.macho_check.specs.Number.{number_in, number_of};
+ghost use Rattle.macho_program.specs.Number.{number_in, number_of};
 
 /// How many hexadecimal digits a number has at most.
 const HEXADECIMAL_DIGITS: usize = 16;

@@ -6,11 +6,11 @@ use Rattle.macho_report.specs.declared.outcome.Outcome.{Outcome}
 use Rattle.macho_report.specs.declared.outcome.Outcome.TheVariants as outcome
 use Rattle.macho_report.specs.declared.outcome.RunFault.{RunFault}
 use Rattle.macho_report.specs.declared.outcome.RunFault.TheVariants as fault
-use Rattle.macho_check.specs.declared.program.Found.{Found}
-use Rattle.macho_check.specs.declared.program.Found.TheVariants as found
-use Rattle.macho_check.specs.declared.program.ProgramFault.{ProgramFault}
-use Rattle.macho_check.specs.declared.program.ProgramFault.TheVariants as program
-use Rattle.macho_check.specs.declared.words.WordFault.TheVariants as words
+use Rattle.macho_program.specs.declared.program.Found.{Found}
+use Rattle.macho_program.specs.declared.program.Found.TheVariants as found
+use Rattle.macho_program.specs.declared.program.ProgramFault.{ProgramFault}
+use Rattle.macho_program.specs.declared.program.ProgramFault.TheVariants as program
+use Rattle.macho_program.specs.declared.words.WordFault.TheVariants as words
 
 -- the status for a fault of a run
 abbrev pub fault_status_of : RunFault → ℕ

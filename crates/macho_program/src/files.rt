@@ -23,7 +23,8 @@ pub trait Open {
 /// The files of the system. What they hold is not known.
 #[derive(Drop)]
 pub struct SystemFiles<'a, R: Files> {
-    pub(crate) system: &'a R,
+    /// Opens them.
+    pub system: &'a R,
 }
 
 impl<R: Files> Open for SystemFiles<'_, R> {

@@ -2,12 +2,12 @@ use Rattle.std.proofs.Common.{◌≡◌, ◌≢◌, ◌↔◌, Result, Ok, Err, 
 use Rattle.std.specs.Prelude.{IsErrAnd}
 use Rattle.macho_report.specs.declared.outcome.RunFault.{RunFault}
 use Rattle.macho_report.specs.declared.outcome.RunFault.TheVariants as run
-use Rattle.macho_check.specs.Words.{Asked, file_of}
-use Rattle.macho_check.specs.declared.program.Found.{Found}
-use Rattle.macho_check.specs.declared.program.ProgramFault.{ProgramFault}
-use Rattle.macho_check.specs.declared.program.ProgramFault.TheVariants as program
-use Rattle.macho_check.specs.declared.words.WordFault.TheVariants as words
-use Rattle.macho_check.proofs.program.find_asked.Goals as goal
+use Rattle.macho_program.specs.Words.{Asked, file_of}
+use Rattle.macho_program.specs.declared.program.Found.{Found}
+use Rattle.macho_program.specs.declared.program.ProgramFault.{ProgramFault}
+use Rattle.macho_program.specs.declared.program.ProgramFault.TheVariants as program
+use Rattle.macho_program.specs.declared.words.WordFault.TheVariants as words
+use Rattle.macho_program.proofs.program.find_asked.Goals as goal
 
 same_Err : (e f : ProgramFault) → IsErrOf {T = Found} (Err e) f → e ≡ f
 same_Err e f same = cc

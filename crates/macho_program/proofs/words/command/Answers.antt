@@ -2,8 +2,8 @@ use Rattle.std.proofs.Common.{ap, ap₂, true, ◌∙◌, ◌≡◌, ◌||◌}
 use Rattle.std.proofs.lemmas.Result.{IfOk-weaker}
 use Rattle.clap.specs.Words.{App, Shape, app_of, new_app, with_rule, with_subcommand}
 use Rattle.clap.specs.Simple.{app_of_fields, on_top}
-use Rattle.macho_check.specs.Words.{bare_command, check_command, where_command}
-use Rattle.macho_check.proofs.words.command.Goals as goal
+use Rattle.macho_program.specs.Words.{bare_command, check_command, where_command}
+use Rattle.macho_program.proofs.words.command.Goals as goal
 
 -- the four settings of the command above
 abbrev unnamed : Shape → Shape

@@ -6,10 +6,10 @@ use Rattle.std.proofs.lemmas.Option.{same_Some}
 use Rattle.clap.specs.Words.{IsAmong, Kinds, Row, Text, fault_of, is_simple, is_simple_and_free, subcommand_of}
 use Rattle.clap.specs.declared.error.kind.ErrorKind.{ErrorKind}
 use Rattle.clap.specs.declared.error.kind.ErrorKind.TheVariants.{OutOfMemory}
-use Rattle.macho_check.specs.declared.words.Request.{Request}
-use Rattle.macho_check.specs.declared.words.WordFault.{WordFault}
-use Rattle.macho_check.specs.declared.words.WordFault.TheVariants.{Usage, Memory}
-use Rattle.macho_check.specs.Words.{Answers, asked, asked_in, asked_unless, program_command, word_fault_of}
+use Rattle.macho_program.specs.declared.words.Request.{Request}
+use Rattle.macho_program.specs.declared.words.WordFault.{WordFault}
+use Rattle.macho_program.specs.declared.words.WordFault.TheVariants.{Usage, Memory}
+use Rattle.macho_program.specs.Words.{Answers, asked, asked_in, asked_unless, program_command, word_fault_of}
 
 pub command_is_simple : is_simple program_command ≡ true
 command_is_simple = refl

@@ -6,11 +6,11 @@ use Rattle.clap.specs.Words.{App, Kinds, Row, Rule, Text, fault_of, first_of, ne
 use Rattle.clap.specs.Simple.{on_top}
 use Rattle.clap.specs.declared.error.kind.ErrorKind.{ErrorKind}
 use Rattle.clap.specs.declared.error.kind.ErrorKind.TheVariants.{OutOfMemory}
-use Rattle.macho_check.specs.Number.{number_of}
-use Rattle.macho_check.specs.declared.words.Request.{Request}
-use Rattle.macho_check.specs.declared.words.Request.TheVariants.{Check, Where}
-use Rattle.macho_check.specs.declared.words.WordFault.{WordFault}
-use Rattle.macho_check.specs.declared.words.WordFault.TheVariants.{Usage, BadNumber, Memory}
+use Rattle.macho_program.specs.Number.{number_of}
+use Rattle.macho_program.specs.declared.words.Request.{Request}
+use Rattle.macho_program.specs.declared.words.Request.TheVariants.{Check, Where}
+use Rattle.macho_program.specs.declared.words.WordFault.{WordFault}
+use Rattle.macho_program.specs.declared.words.WordFault.TheVariants.{Usage, BadNumber, Memory}
 
 -- a positional argument that has to be there
 abbrev pub required : Text → Rule

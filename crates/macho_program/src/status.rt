@@ -2,7 +2,7 @@
 
 ghost use Rattle.std.specs.Prelude.{◌≡◌};
 ghost use Rattle.std.specs.Process.{exit_status};
-ghost use Rattle.macho_check.specs.Status.{check_status_of, exit_of, fault_status_of, where_status_of};
+ghost use Rattle.macho_program.specs.Status.{check_status_of, exit_of, fault_status_of, where_status_of};
 
 use crate::program::{Found, ProgramFault};
 use crate::words::WordFault;

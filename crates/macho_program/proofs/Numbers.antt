@@ -5,7 +5,7 @@ use Rattle.std.specs.List.{list_all}
 use Rattle.std.specs.Result.{OkIff, result_ok}
 use Rattle.std.specs.Str.Parse.{AllDigits, IsNumeral, ParsesUnsigned, digits_value}
 use Rattle.std.proofs.lemmas.Str.Parse.{without_leading_plus_none}
-use Rattle.macho_check.specs.Number.{is_digit, is_numeral, number_in}
+use Rattle.macho_program.specs.Number.{is_digit, is_numeral, number_in}
 
 all_are_digits : (base : ℕ) (ds : List ℕ) → AllDigits base ds → list_all (is_digit base) ds ≡ true
 all_are_digits base [] h = refl

@@ -8,11 +8,11 @@ use Rattle.macho_report.specs.Where.{WroteWhere, WroteWherePrefix}
 use Rattle.macho_report.specs.declared.outcome.Outcome.{Outcome}
 use Rattle.macho_report.specs.declared.address.WhereOutcome.{WhereOutcome}
 use Rattle.macho_report.specs.declared.address.WhereOutcome.TheVariants.{NoImage}
-use Rattle.macho_check.specs.Words.{Asked, verdict, place}
-use Rattle.macho_check.specs.Program.{WroteFound, WroteFoundPrefix}
-use Rattle.macho_check.specs.declared.program.Found.{Found}
-use Rattle.macho_check.specs.declared.program.Found.TheVariants as found
-use Rattle.macho_check.proofs.program.find_and_flush.Goals as goal
+use Rattle.macho_program.specs.Words.{Asked, verdict, place}
+use Rattle.macho_program.specs.Program.{WroteFound, WroteFoundPrefix}
+use Rattle.macho_program.specs.declared.program.Found.{Found}
+use Rattle.macho_program.specs.declared.program.Found.TheVariants as found
+use Rattle.macho_program.proofs.program.find_and_flush.Goals as goal
 
 -- a whole text, and then a fault that wrote nothing
 wrote_then_kept : (a b c : Option (List ℕ)) (text : List ℕ) → Wrote a b text → Keeps b c → WrotePrefix a c text

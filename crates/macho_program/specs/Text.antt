@@ -2,12 +2,12 @@
 use Rattle.std.specs.Prelude.{ℕ, List, Option, Some, None, Result, Ok, Err, codes}
 use Rattle.macho_report.specs.Text.{run_fault_line}
 use Rattle.macho_report.specs.declared.address.WhereOutcome.TheVariants.{NoImage}
-use Rattle.macho_check.specs.declared.words.WordFault.{WordFault}
-use Rattle.macho_check.specs.declared.words.WordFault.TheVariants as words
-use Rattle.macho_check.specs.declared.program.Found.{Found}
-use Rattle.macho_check.specs.declared.program.Found.TheVariants as found
-use Rattle.macho_check.specs.declared.program.ProgramFault.{ProgramFault}
-use Rattle.macho_check.specs.declared.program.ProgramFault.TheVariants as program
+use Rattle.macho_program.specs.declared.words.WordFault.{WordFault}
+use Rattle.macho_program.specs.declared.words.WordFault.TheVariants as words
+use Rattle.macho_program.specs.declared.program.Found.{Found}
+use Rattle.macho_program.specs.declared.program.Found.TheVariants as found
+use Rattle.macho_program.specs.declared.program.ProgramFault.{ProgramFault}
+use Rattle.macho_program.specs.declared.program.ProgramFault.TheVariants as program
 
 abbrev pub word_fault_line : WordFault → List ℕ
 word_fault_line words.Usage = codes "usage: macho-check check FILE | where FILE SLICE ADDRESS\n"

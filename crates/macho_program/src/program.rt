@@ -6,12 +6,12 @@ ghost use Rattle.std.specs.Io.KnownBytes.{IsAtEnd};
 ghost use Rattle.macho_report.specs.Stream.{TookAtMost, WritesUnlessFailed};
 ghost use Rattle.macho_report.specs.declared.address.WhereOutcome.TheVariants as where_outcome;
 ghost use Rattle.macho_report.specs.declared.outcome.RunFault.TheVariants as fault;
-ghost use Rattle.macho_check.specs.Program.{AnswersWords, IsFaultOf, WroteFound, WroteFoundPrefix, input_of, request_of};
-ghost use Rattle.macho_check.specs.Text.{end_line, fault_line};
-ghost use Rattle.macho_check.specs.Words.{asked_by, file_of};
-ghost use Rattle.macho_check.specs.declared.program.Found.TheVariants as found_kind;
-ghost use Rattle.macho_check.specs.declared.program.ProgramFault.TheVariants as program;
-ghost use Rattle.macho_check.specs.declared.words.WordFault.TheVariants as word_fault;
+ghost use Rattle.macho_program.specs.Program.{AnswersWords, IsFaultOf, WroteFound, WroteFoundPrefix, input_of, request_of};
+ghost use Rattle.macho_program.specs.Text.{end_line, fault_line};
+ghost use Rattle.macho_program.specs.Words.{asked_by, file_of};
+ghost use Rattle.macho_program.specs.declared.program.Found.TheVariants as found_kind;
+ghost use Rattle.macho_program.specs.declared.program.ProgramFault.TheVariants as program;
+ghost use Rattle.macho_program.specs.declared.words.WordFault.TheVariants as word_fault;
 
 use crate::files::Open;
 use crate::words::{Request, STANDARD_INPUT, WordFault, parse_words};

@@ -5,14 +5,14 @@ use Rattle.std.specs.Str.{bytes_eq}
 use Rattle.macho_report.specs.Run.{WroteVerdict, WroteVerdictPrefix}
 use Rattle.macho_report.specs.Where.{WroteWhere, WroteWherePrefix}
 use Rattle.macho_report.specs.declared.outcome.RunFault.TheVariants as run
-use Rattle.macho_check.specs.Words.{Asked, verdict, place, asked, asked_by, file_of}
-use Rattle.macho_check.specs.declared.words.Request.{Request}
-use Rattle.macho_check.specs.declared.words.WordFault.{WordFault}
-use Rattle.macho_check.specs.declared.words.WordFault.TheVariants as words
-use Rattle.macho_check.specs.declared.program.Found.{Found}
-use Rattle.macho_check.specs.declared.program.Found.TheVariants as found
-use Rattle.macho_check.specs.declared.program.ProgramFault.{ProgramFault}
-use Rattle.macho_check.specs.declared.program.ProgramFault.TheVariants as program
+use Rattle.macho_program.specs.Words.{Asked, verdict, place, asked, asked_by, file_of}
+use Rattle.macho_program.specs.declared.words.Request.{Request}
+use Rattle.macho_program.specs.declared.words.WordFault.{WordFault}
+use Rattle.macho_program.specs.declared.words.WordFault.TheVariants as words
+use Rattle.macho_program.specs.declared.program.Found.{Found}
+use Rattle.macho_program.specs.declared.program.Found.TheVariants as found
+use Rattle.macho_program.specs.declared.program.ProgramFault.{ProgramFault}
+use Rattle.macho_program.specs.declared.program.ProgramFault.TheVariants as program
 
 -- the bytes that are asked about: those of standard input where the name is `-`, and otherwise those of the file
 abbrev pub input_of : Option (List ℕ) → (List ℕ → Option (List ℕ)) → Asked → Option (List ℕ)
