@@ -4,7 +4,7 @@ ghost use Rattle.std.specs.Prelude.{slice_get, IsSomeAnd};
 ghost use Rattle.macho_vectors.specs.Field.{IsNumber, greatest_of};
 
 use crate::fault::Fault;
-use std::alloc::Global;
+use crate::notation::{number, split};
 
 /// The width and the byte order of a field.
 #[derive(Clone, Copy)]
@@ -16,12 +16,13 @@ pub(crate) enum Kind {
     Big64,
 }
 
-/// A line `field NAME : KIND at OFFSET of STARTS`, with the place of each of these fields.
-#[derive(Drop)]
+/// A line `field NAME : KIND at OFFSET of STARTS`.
+#[derive(Clone, Copy)]
 pub(crate) struct Field<'a> {
     pub(crate) name: &'a str,
     pub(crate) kind: Kind,
-    pub(crate) places: Vec<u64>,
+    pub(crate) offset: u64,
+    pub(crate) starts: &'a str,
 }
 
 impl Kind {
@@ -54,35 +55,35 @@ impl Kind {
     }
 }
 
+/// The places of a field in structures of one size that lie one after the other.
+#[derive(Clone, Copy)]
+pub(crate) struct Places {
+    pub(crate) first: u64,
+    pub(crate) count: u64,
+    pub(crate) size: u64,
+}
+
 /// Reads the line, after its word `field`.
-pub(crate) fn read_field(alloc: Global, line: &str) -> Result<Field<'_>, Fault> {
-    let (name, rest) = line.split_once(" : ").ok_or(Fault::Field)?;
-    let (kind, rest) = rest.split_once(" at ").ok_or(Fault::Field)?;
-    let (offset, starts) = rest.split_once(" of ").ok_or(Fault::Field)?;
-    let (kind, offset) = (Kind::of(kind)?, number(offset)?);
-    let mut places = Vec::new(alloc);
-    for start in starts.split_whitespace() {
-        push_places(&mut places, start, offset)?;
-    }
-    Ok(Field { name, kind, places })
+pub(crate) fn read_field(line: &str) -> Result<Field<'_>, Fault> {
+    let (name, rest) = split(line, " : ", Fault::Field)?;
+    let (kind, rest) = split(rest, " at ", Fault::Field)?;
+    let (offset, starts) = split(rest, " of ", Fault::Field)?;
+    Ok(Field {
+        name,
+        kind: Kind::of(kind)?,
+        offset: number(offset)?,
+        starts,
+    })
 }
 
-/// The places of the fields at an offset of the structures that a word names: of the one at START,
-/// or of all where it is `START+COUNT*SIZE`.
-fn push_places(places: &mut Vec<u64>, word: &str, offset: u64) -> Result<(), Fault> {
+/// The places of the field at an offset of the structures that a word names: of the one at START, or
+/// of all where it is `START+COUNT*SIZE`.
+pub(crate) fn read_places(word: &str, offset: u64) -> Result<Places, Fault> {
     let (start, table) = word.split_once('+').unwrap_or((word, "1*0"));
-    let (count, size) = table.split_once('*').ok_or(Fault::Field)?;
-    let size = number(size)?;
-    let mut place = number(start)?.saturating_add(offset);
-    for _ in 0..number(count)? {
-        places.push(place)?;
-        place = place.saturating_add(size);
-    }
-    Ok(())
-}
-
-/// The number that the digits stand for.
-fn number(digits: &str) -> Result<u64, Fault> {
-    let number: u32 = digits.parse().map_err(|_| Fault::Number)?;
-    Ok(u64::from(number))
+    let (count, size) = split(table, "*", Fault::Field)?;
+    Ok(Places {
+        first: number(start)?.saturating_add(offset),
+        count: number(count)?,
+        size: number(size)?,
+    })
 }

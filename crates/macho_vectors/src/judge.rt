@@ -2,8 +2,9 @@
 
 use crate::fault::Fault;
 use crate::fields::{Field, read_field};
+use crate::lines::Place;
 use crate::mutants::{compare_cuts, compare_field, compare_whole};
-use crate::notation::{Piece, append};
+use crate::notation::{Piece, bytes_of, split};
 use crate::tally::Tally;
 use crate::vectors::{Case, Vector, agrees, read_vector, verdict};
 use std::alloc::Global;
@@ -12,13 +13,13 @@ use std::alloc::Global;
 #[derive(Drop)]
 pub(crate) struct Named<'a> {
     /// The pieces.
-    pieces: Vec<Piece>,
+    pieces: Vec<Piece<'a>>,
     /// The last vector.
     vector: Option<Vector<'a>>,
 }
 
 /// What a line asks for, of each file of a vector.
-#[derive(Drop)]
+#[derive(Clone, Copy)]
 enum Task<'a> {
     /// To compare its verdict with the one that is wanted, and with the second verdict.
     Judge,
@@ -42,7 +43,7 @@ impl<'a> Named<'a> {
         &mut self,
         rt: &(impl AllocGlobal + Print),
         tally: &mut Tally,
-        place: &str,
+        place: Place,
         line: &'a str,
     ) -> Result<(), Fault> {
         if line.is_empty() {
@@ -51,29 +52,53 @@ impl<'a> Named<'a> {
         if let Some(piece) = line.strip_prefix("let ") {
             return name_piece(rt.alloc(), &mut self.pieces, piece);
         }
-        let task = self.task(rt.alloc(), line)?;
+        let task = self.task(line)?;
         let vector = self.vector.ok_or(Fault::Vector)?;
-        for choice in vector.choices.split('|') {
-            let file = vector.file(rt.alloc(), &self.pieces, choice)?;
-            let name = vector.name;
-            let case = Case {
-                place,
-                name,
-                choice,
-                file: &file,
-            };
-            do_task(rt, tally, &task, vector.wanted, case)?;
+        self.judge_choices(rt, tally, place, task, vector)
+    }
+
+    /// Does a task for the file of each choice.
+    fn judge_choices(
+        &self,
+        rt: &(impl AllocGlobal + Print),
+        tally: &mut Tally,
+        place: Place,
+        task: Task,
+        vector: Vector,
+    ) -> Result<(), Fault> {
+        for choice in vector.words.choices.split('|') {
+            self.judge_choice(rt, tally, place, task, vector, choice)?;
         }
         Ok(())
     }
 
+    /// Does a task for the file of a choice.
+    fn judge_choice(
+        &self,
+        rt: &(impl AllocGlobal + Print),
+        tally: &mut Tally,
+        place: Place,
+        task: Task,
+        vector: Vector,
+        choice: &str,
+    ) -> Result<(), Fault> {
+        let file = vector.words.file(rt.alloc(), &self.pieces, choice)?;
+        let case = Case {
+            place,
+            name: vector.name,
+            choice,
+            file: &file,
+        };
+        do_task(rt, tally, task, vector.wanted, case)
+    }
+
     /// What a line asks for that names no piece. It keeps a vector, which later lines speak of.
-    fn task(&mut self, alloc: Global, line: &'a str) -> Result<Task<'a>, Fault> {
+    fn task(&mut self, line: &'a str) -> Result<Task<'a>, Fault> {
         if line == "cut" {
             return Ok(Task::Cut);
         }
         if let Some(field) = line.strip_prefix("field ") {
-            return Ok(Task::Set(read_field(alloc, field)?));
+            return Ok(Task::Set(read_field(field)?));
         }
         self.vector = Some(read_vector(line)?);
         Ok(Task::Judge)
@@ -81,11 +106,10 @@ impl<'a> Named<'a> {
 }
 
 /// Names a piece: `NAME = WORDS`.
-fn name_piece(alloc: Global, pieces: &mut Vec<Piece>, line: &str) -> Result<(), Fault> {
-    let (name, words) = line.split_once('=').ok_or(Fault::Line)?;
-    let mut bytes = Vec::new(alloc);
-    append(&mut bytes, alloc, pieces, words)?;
-    let name = name.trim().to_string(alloc)?;
+fn name_piece<'a>(alloc: Global, pieces: &mut Vec<Piece<'a>>, line: &'a str) -> Result<(), Fault> {
+    let (name, words) = split(line, "=", Fault::Line)?;
+    let bytes = bytes_of(alloc, pieces, words)?;
+    let name = name.trim();
     pieces.push(Piece { name, bytes })?;
     Ok(())
 }
@@ -94,7 +118,7 @@ fn name_piece(alloc: Global, pieces: &mut Vec<Piece>, line: &str) -> Result<(), 
 fn do_task(
     rt: &(impl AllocGlobal + Print),
     tally: &mut Tally,
-    task: &Task,
+    task: Task,
     wanted: &str,
     case: Case,
 ) -> Result<(), Fault> {
@@ -117,9 +141,15 @@ fn judge(
 ) -> Result<(), Fault> {
     let agrees = agrees(rt.alloc(), case.file, wanted)?;
     tally.count_vector(agrees);
-    if !agrees {
-        let given = verdict(rt.alloc(), case.file)?;
-        println!(rt; "{case}: wanted {wanted}, given {given}")?;
+    if agrees {
+        return Ok(());
     }
+    print_verdict(rt, wanted, case)
+}
+
+/// Prints the verdict that is wanted, and the one that is given.
+fn print_verdict(rt: &(impl AllocGlobal + Print), wanted: &str, case: Case) -> Result<(), Fault> {
+    let given = verdict(rt.alloc(), case.file)?;
+    println!(rt; "{case}: wanted {wanted}, given {given}")?;
     Ok(())
 }

@@ -1,6 +1,20 @@
 //! The lines of a file of vectors.
 
 use std::alloc::{AllocError, Global};
+use std::fmt;
+
+/// The place of a line: the path of its file, and its number.
+#[derive(Clone, Copy)]
+pub(crate) struct Place<'a> {
+    pub(crate) path: &'a str,
+    pub(crate) number: u64,
+}
+
+impl fmt::Display for Place<'_> {
+    fn fmt<W: fmt::Write>(&self, f: &mut fmt::Formatter<W>) -> fmt::Result {
+        write!(f, "{}:{}", self.path, self.number)
+    }
+}
 
 /// A line, with those that go on with it, and without comments.
 #[derive(Drop)]

@@ -15,7 +15,7 @@ mod vectors;
 
 use fault::Fault;
 use judge::Named;
-use lines::join_lines;
+use lines::{Line, Place, join_lines};
 use std::process::ExitCode;
 use std::rt::{Env, Files};
 use std::{env, fs};
@@ -24,36 +24,67 @@ use tally::Tally;
 /// Does what the lines of the text of a file ask for.
 fn judge_text(
     rt: &(impl AllocGlobal + Print + Eprint),
+    tally: &mut Tally,
     path: &str,
     text: &str,
-    tally: &mut Tally,
 ) -> Result<(), Fault> {
     let lines = join_lines(rt.alloc(), text)?;
     let mut named = Named::new(rt.alloc());
     for line in &lines {
-        let place = format!(in rt.alloc(); "{path}:{}", line.number)?;
-        let judged = named.judge_line(rt, tally, place.as_str(), line.text.as_str());
-        if let Err(fault) = judged {
-            eprintln!(rt; "{place}: {fault}")?;
-            return Err(fault);
-        }
+        judge_line(rt, tally, path, &mut named, line)?;
     }
     Ok(())
 }
 
-/// Does so for each file that the words name. It prints what does not agree, and how many do.
+/// Does what a line asks for. It prints what is wrong with the line.
+fn judge_line<'a>(
+    rt: &(impl AllocGlobal + Print + Eprint),
+    tally: &mut Tally,
+    path: &str,
+    named: &mut Named<'a>,
+    line: &'a Line,
+) -> Result<(), Fault> {
+    let number = line.number;
+    let place = Place { path, number };
+    let judged = named.judge_line(rt, tally, place, line.text.as_str());
+    if let Err(fault) = judged {
+        eprintln!(rt; "{place}: {}", fault.text())?;
+    }
+    judged
+}
+
+/// Judges the file at the path. It prints what does not agree, and how many do.
+fn judge_file(
+    rt: &(impl AllocGlobal + Eprint + Files + Print),
+    tally: &mut Tally,
+    path: &str,
+) -> Result<(), Fault> {
+    let text = fs::read_to_string(rt, path)?;
+    let (agreed, same) = (tally.agreed, tally.same);
+    judge_text(rt, tally, path, text.as_str())?;
+    let agreed = tally.agreed.saturating_sub(agreed);
+    let same = tally.same.saturating_sub(same);
+    println!(rt; "{path}: {agreed} vectors agree, and both verdicts on {same} files")?;
+    Ok(())
+}
+
+/// Does so for each file that the words name.
 fn judge_files(
     rt: &(impl AllocGlobal + Env + Eprint + Files + Print),
     tally: &mut Tally,
 ) -> Result<(), Fault> {
     for path in env::args(rt)?.skip(1) {
-        let text = fs::read_to_string(rt, path.as_str())?;
-        let (agreed, same) = (tally.agreed, tally.same);
-        judge_text(rt, path.as_str(), text.as_str(), tally)?;
-        let agreed = tally.agreed.saturating_sub(agreed);
-        let same = tally.same.saturating_sub(same);
-        println!(rt; "{path}: {agreed} vectors agree, and both verdicts on {same} files")?;
+        judge_file(rt, tally, path.as_str())?;
     }
+    Ok(())
+}
+
+/// Judges the files, and prints the tally of all.
+fn judge_all(
+    rt: &(impl AllocGlobal + Env + Eprint + Files + Print),
+    tally: &mut Tally,
+) -> Result<(), Fault> {
+    judge_files(rt, tally)?;
     tally.print(rt)?;
     Ok(())
 }
@@ -62,10 +93,10 @@ fn judge_files(
 /// file; 1 where that is not so; and 2 where a file is no file of vectors or cannot be read.
 fn main(rt: HostRuntime) -> ExitCode {
     let mut tally = Tally::new();
-    match judge_files(&rt, &mut tally) {
+    match judge_all(&rt, &mut tally) {
         Ok(()) => ExitCode::from(u8::from(!tally.is_good())),
         Err(fault) => {
-            let _ = eprintln!(rt; "macho_vectors: {fault}");
+            let _ = eprintln!(rt; "macho_vectors: {}", fault.text());
             ExitCode::from(2)
         }
     }

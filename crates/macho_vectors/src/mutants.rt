@@ -4,10 +4,11 @@ ghost use Rattle.std.specs.Prelude.{◌≡◌, ◌+◌, ◌++◌, length, take, 
 
 use crate::compare::{Comparison, compare};
 use crate::fault::Fault;
-use crate::fields::Field;
+use crate::fields::{Field, read_places};
 use crate::tally::Tally;
 use crate::vectors::{Case, line_of};
-use std::alloc::Global;
+use macho_fields::Break;
+use std::alloc::{AllocError, Global};
 use std::fmt;
 
 /// What is done to the file of a vector.
@@ -67,10 +68,27 @@ pub(crate) fn compare_field(
     rt: &(impl AllocGlobal + Print),
     tally: &mut Tally,
     case: Case,
-    field: &Field,
+    field: Field,
 ) -> Result<(), Fault> {
-    for place in &field.places {
-        compare_numbers(rt, tally, case, field, *place)?;
+    for word in field.starts.split_whitespace() {
+        compare_places(rt, tally, case, field, word)?;
+    }
+    Ok(())
+}
+
+/// Does so for each place in the structures that a word names.
+fn compare_places(
+    rt: &(impl AllocGlobal + Print),
+    tally: &mut Tally,
+    case: Case,
+    field: Field,
+    word: &str,
+) -> Result<(), Fault> {
+    let places = read_places(word, field.offset)?;
+    let mut place = places.first;
+    for _ in 0..places.count {
+        compare_numbers(rt, tally, case, field, place)?;
+        place = place.saturating_add(places.size);
     }
     Ok(())
 }
@@ -80,7 +98,7 @@ fn compare_numbers(
     rt: &(impl AllocGlobal + Print),
     tally: &mut Tally,
     case: Case,
-    field: &Field,
+    field: Field,
     place: u64,
 ) -> Result<(), Fault> {
     for number in field.kind.extremes() {
@@ -100,15 +118,26 @@ fn with_number(alloc: Global, file: &[u8], place: u64, number: &[u8]) -> Result<
     ensures { IfOk result (λ mutant. mutant.items
         ≡ take place file.now ++ number.now ++ drop (place + length number.now) file.now) }
 {
-    let (front, rest) = file.split_at_checked(place as usize).ok_or(Fault::Outside)?;
-    let back = rest.get(number.len()..).ok_or(Fault::Outside)?;
-    let mut mutant = front.to_vec(alloc)?;
-    mutant.extend_from_slice(number)?;
-    mutant.extend_from_slice(back)?;
-    Ok(mutant)
+    let Some((front, rest)) = file.split_at_checked(place as usize) else {
+        return Err(Fault::Outside);
+    };
+    let Some(back) = rest.get(number.len()..) else {
+        return Err(Fault::Outside);
+    };
+    Ok(join(alloc, front, number, back)?)
 }
 
-/// Compares both verdicts on the mutant, and counts it. It prints two verdicts that are not the same.
+/// These bytes, one after the other.
+fn join(alloc: Global, front: &[u8], number: &[u8], back: &[u8]) -> Result<Vec<u8>, AllocError>
+    ensures { IfOk result (λ joined. joined.items ≡ front.now ++ number.now ++ back.now) }
+{
+    let mut joined = front.to_vec(alloc)?;
+    joined.extend_from_slice(number)?;
+    joined.extend_from_slice(back)?;
+    Ok(joined)
+}
+
+/// Compares both verdicts on the mutant, and counts it. It prints two that are not the same.
 fn compare_mutant(
     rt: &(impl AllocGlobal + Print),
     tally: &mut Tally,
@@ -117,15 +146,27 @@ fn compare_mutant(
     mutant: &[u8],
 ) -> Result<(), Fault> {
     match compare(rt.alloc(), mutant)? {
-        Comparison::Same(first) => tally.count_same(first),
+        Comparison::Same(first) => {
+            tally.count_same(first);
+            Ok(())
+        }
         Comparison::Different { verify, slow_first } => {
             tally.count_different();
-            let (verify, slow_first) = (
-                line_of(rt.alloc(), verify)?,
-                line_of(rt.alloc(), slow_first)?,
-            );
-            println!(rt; "{case}, {mutation}: verify reports {verify}, slow_first {slow_first}")?;
+            print_reports(rt, case, mutation, verify, slow_first)
         }
     }
+}
+
+/// Prints what both report of a mutant.
+fn print_reports(
+    rt: &(impl AllocGlobal + Print),
+    case: Case,
+    mutation: Mutation,
+    verify: Option<Break>,
+    slow_first: Option<Break>,
+) -> Result<(), Fault> {
+    let verify = line_of(rt.alloc(), verify)?;
+    let slow_first = line_of(rt.alloc(), slow_first)?;
+    println!(rt; "{case}, {mutation}: verify reports {verify}, slow_first {slow_first}")?;
     Ok(())
 }

@@ -10,9 +10,31 @@ use std::alloc::Global;
 
 /// Bytes with a name.
 #[derive(Drop)]
-pub(crate) struct Piece {
-    pub(crate) name: String,
+pub(crate) struct Piece<'a> {
+    pub(crate) name: &'a str,
     pub(crate) bytes: Vec<u8>,
+}
+
+/// What stands before and after the first `at` of a text that has one.
+pub(crate) fn split<'a>(
+    text: &'a str,
+    at: &str,
+    fault: Fault,
+) -> Result<(&'a str, &'a str), Fault> {
+    text.split_once(at).ok_or(fault)
+}
+
+/// The number that the digits stand for.
+pub(crate) fn number(digits: &str) -> Result<u64, Fault> {
+    let number: u32 = digits.parse().map_err(|_| Fault::Number)?;
+    Ok(u64::from(number))
+}
+
+/// The bytes of these words.
+pub(crate) fn bytes_of(alloc: Global, pieces: &[Piece], words: &str) -> Result<Vec<u8>, Fault> {
+    let mut bytes = Vec::new(alloc);
+    append(&mut bytes, alloc, pieces, words)?;
+    Ok(bytes)
 }
 
 /// Appends the bytes of these words.
@@ -40,47 +62,57 @@ fn append_word(
         Some(count) => (count, "00"),
         None => word.split_once('*').unwrap_or(("1", word)),
     };
-    let count: u32 = count.parse().map_err(|_| Fault::Number)?;
-    let once = meaning(alloc, pieces, word)?;
+    let count = number(count)?;
+    let mut once = Vec::new(alloc);
+    append_once(&mut once, pieces, word)?;
+    append_times(bytes, &once, count)
+}
+
+/// Appends these bytes so many times.
+fn append_times(bytes: &mut Vec<u8>, once: &[u8], count: u64) -> Result<(), Fault> {
     for _ in 0..count {
-        bytes.extend_from_slice(&once)?;
+        bytes.extend_from_slice(once)?;
     }
     Ok(())
 }
 
-/// What a word stands for: the piece `$NAME`, the bytes of `"TEXT"`, or those of pairs of
+/// Appends what a word stands for: the piece `$NAME`, the bytes of `"TEXT"`, or those of pairs of
 /// hexadecimal digits.
-fn meaning(alloc: Global, pieces: &[Piece], word: &str) -> Result<Vec<u8>, Fault> {
+fn append_once(bytes: &mut Vec<u8>, pieces: &[Piece], word: &str) -> Result<(), Fault> {
     if let Some(name) = word.strip_prefix('$') {
-        return copy_of(alloc, pieces, name);
+        return append_piece(bytes, pieces, name);
     }
     if let Some(text) = word.strip_prefix('"') {
         let text = text.strip_suffix('"').ok_or(Fault::Text)?;
-        return Ok(text.as_bytes().to_vec(alloc)?);
+        return append_times(bytes, text.as_bytes(), 1);
     }
-    pairs(alloc, word)
+    append_pairs(bytes, word)
 }
 
-/// The bytes of the piece of this name.
-fn copy_of(alloc: Global, pieces: &[Piece], name: &str) -> Result<Vec<u8>, Fault> {
+/// Appends the piece of this name.
+fn append_piece(bytes: &mut Vec<u8>, pieces: &[Piece], name: &str) -> Result<(), Fault> {
     for piece in pieces {
-        if piece.name.as_str() == name {
-            return Ok(piece.bytes.to_vec(alloc)?);
+        if piece.name == name {
+            return append_times(bytes, &piece.bytes, 1);
         }
     }
     Err(Fault::Piece)
 }
 
-/// The bytes of pairs of hexadecimal digits.
-fn pairs(alloc: Global, digits: &str) -> Result<Vec<u8>, Fault> {
-    let mut bytes = Vec::new(alloc);
+/// Appends the bytes of pairs of hexadecimal digits.
+fn append_pairs(bytes: &mut Vec<u8>, digits: &str) -> Result<(), Fault> {
     for pair in digits.as_bytes().chunks(2) {
-        let [high, low] = pair else {
-            return Err(Fault::Digits);
-        };
-        bytes.push(value(*high)? * 16 + value(*low)?)?;
+        bytes.push(byte(pair)?)?;
     }
-    Ok(bytes)
+    Ok(())
+}
+
+/// The byte of a pair of hexadecimal digits.
+fn byte(pair: &[u8]) -> Result<u8, Fault> {
+    let [high, low] = pair else {
+        return Err(Fault::Digits);
+    };
+    Ok(value(*high)? * 16 + value(*low)?)
 }
 
 /// The value of a hexadecimal digit, in lower case.

@@ -110,18 +110,30 @@ impl Tally {
     pub(crate) fn print(&self, rt: &(impl AllocGlobal + Print)) -> io::Result<()> {
         let vectors = self.agreed.saturating_add(self.disagreed);
         println!(rt; "{} of {vectors} vectors agree", self.agreed)?;
-        let files = self.same.saturating_add(self.different);
-        println!(rt;
-            "both verdicts are the same on {} of {files} files",
-            self.same
-        )?;
-        println!(rt; "{} files break no rule", self.unbroken)?;
+        let (same, unbroken) = (self.same, self.unbroken);
+        print_files(rt, same, same.saturating_add(self.different), unbroken)?;
         for (rule, count) in RULES.iter().zip(&self.first) {
-            match count {
-                0 => println!(rt; "no file breaks {rule} first, and each rule needs one")?,
-                count => println!(rt; "{count} files break {rule} first")?,
-            }
+            print_first(rt, *rule, *count)?;
         }
         Ok(())
+    }
+}
+
+/// Prints on how many of the files both verdicts are the same, and how many break no rule.
+fn print_files(
+    rt: &(impl AllocGlobal + Print),
+    same: u64,
+    files: u64,
+    unbroken: u64,
+) -> io::Result<()> {
+    println!(rt; "both verdicts are the same on {same} of {files} files")?;
+    println!(rt; "{unbroken} files break no rule")
+}
+
+/// Prints how many files break a rule first.
+fn print_first(rt: &(impl AllocGlobal + Print), rule: Rule, count: u64) -> io::Result<()> {
+    match count {
+        0 => println!(rt; "no file breaks {rule} first, and each rule needs one"),
+        count => println!(rt; "{count} files break {rule} first"),
     }
 }

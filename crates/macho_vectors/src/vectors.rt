@@ -5,26 +5,33 @@ ghost use Rattle.macho_vectors.specs.Verdict.{Agrees, IsVerdict, verdict_line};
 
 use crate::compare::first_broken;
 use crate::fault::Fault;
-use crate::notation::{Piece, append};
+use crate::lines::Place;
+use crate::notation::{Piece, append, split};
 use macho_fields::Break;
 use std::alloc::{AllocError, Global};
 use std::fmt;
 
-/// A line `NAME : WORDS : VERDICT`, with the words before and after a choice `(A | B)`.
+/// A line `NAME : WORDS : VERDICT`.
 #[derive(Clone, Copy)]
 pub(crate) struct Vector<'a> {
     pub(crate) name: &'a str,
+    pub(crate) words: Words<'a>,
+    pub(crate) wanted: &'a str,
+}
+
+/// The words before and after a choice `(A | B)`.
+#[derive(Clone, Copy)]
+pub(crate) struct Words<'a> {
     before: &'a str,
     pub(crate) choices: &'a str,
     after: &'a str,
-    pub(crate) wanted: &'a str,
 }
 
 /// A file of a vector: the place of the line that speaks of it, the name and the choice of the vector, and
 /// the bytes.
 #[derive(Clone, Copy)]
 pub(crate) struct Case<'a> {
-    pub(crate) place: &'a str,
+    pub(crate) place: Place<'a>,
     pub(crate) name: &'a str,
     pub(crate) choice: &'a str,
     pub(crate) file: &'a [u8],
@@ -47,20 +54,27 @@ impl fmt::Display for Case<'_> {
 
 /// Reads the parts of a vector. Where there are no parentheses, there is a choice of nothing.
 pub(crate) fn read_vector(line: &str) -> Result<Vector<'_>, Fault> {
-    let (name, rest) = line.split_once(" : ").ok_or(Fault::Line)?;
-    let (words, wanted) = rest.split_once(" : ").ok_or(Fault::Line)?;
-    let (before, rest) = words.split_once('(').unwrap_or((words, ")"));
-    let (choices, after) = rest.split_once(')').ok_or(Fault::Choice)?;
+    let (name, rest) = split(line, " : ", Fault::Line)?;
+    let (words, wanted) = split(rest, " : ", Fault::Line)?;
     Ok(Vector {
         name,
-        before,
-        choices,
-        after,
+        words: read_words(words)?,
         wanted,
     })
 }
 
-impl Vector<'_> {
+/// Reads the words before and after a choice.
+fn read_words(words: &str) -> Result<Words<'_>, Fault> {
+    let (before, rest) = words.split_once('(').unwrap_or((words, ")"));
+    let (choices, after) = split(rest, ")", Fault::Choice)?;
+    Ok(Words {
+        before,
+        choices,
+        after,
+    })
+}
+
+impl Words<'_> {
     /// The file of a choice.
     pub(crate) fn file(
         &self,
