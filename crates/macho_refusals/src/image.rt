@@ -6,7 +6,8 @@ use macho_fat::slices;
 use macho_fields::Bytes;
 use macho_image::Image;
 use macho_report::{Output, write_layout};
-use macho_rules::{Mapping, check_image, verify};
+use macho_rules::{Mapping, Verified, check_image, verify};
+use std::io;
 
 /// The addresses that a mapping is asked for: in each segment of an executable, and past the last.
 const ADDRESSES: [u64; 5] = [
@@ -61,11 +62,21 @@ pub(crate) fn call_mapping(
     file: &[u8],
 ) -> Result<(), Fault> {
     let verified = verify(rt.alloc(), file)?;
+    map_first(rt, &verified)
+}
+
+/// Does so for the slices of an accepted file.
+fn map_first(rt: &(impl AllocGlobal + Print + Eprint), verified: &Verified) -> Result<(), Fault> {
     announce(rt)?;
-    let Some(mut mapping) = Mapping::of(rt.alloc(), &verified, 0)? else {
-        println!(rt; "no image")?;
-        return Ok(());
-    };
+    match Mapping::of(rt.alloc(), verified, 0)? {
+        None => println!(rt; "no image")?,
+        Some(mut mapping) => print_sources(rt, &mut mapping)?,
+    }
+    Ok(())
+}
+
+/// Prints what is at the addresses.
+fn print_sources(rt: &(impl AllocGlobal + Print), mapping: &mut Mapping) -> io::Result<()> {
     for address in ADDRESSES {
         let source = mapping.source(address);
         println!(rt; "{address:#x} {source:?}")?;

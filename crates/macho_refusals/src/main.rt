@@ -42,11 +42,30 @@ fn make_call<R: Input, W: Output>(
     writer: &mut W,
 ) -> Result<(), Fault> {
     let mut words = env::args(rt)?.skip(1);
-    let name = words.next().ok_or(Fault::NoCall)?;
-    let Ok(limit) = words.next().ok_or(Fault::NoCall)?.parse() else {
+    let (Some(name), Some(limit)) = (words.next(), words.next()) else {
         return Err(Fault::NoCall);
     };
-    match name.as_str() {
+    let limit = limit_of(limit.as_str())?;
+    call_named(rt, name.as_str(), limit, reader, writer)
+}
+
+/// The limit that a word is.
+fn limit_of(word: &str) -> Result<u64, Fault> {
+    let Ok(limit) = word.parse() else {
+        return Err(Fault::NoCall);
+    };
+    Ok(limit)
+}
+
+/// Makes the call of this name, with the limit.
+fn call_named<R: Input, W: Output>(
+    rt: &(impl AllocGlobal + Print + Eprint),
+    name: &str,
+    limit: u64,
+    reader: &mut R,
+    writer: &mut W,
+) -> Result<(), Fault> {
+    match name {
         "run" => {
             announce(rt)?;
             run(rt.alloc(), limit, reader, writer)?;

@@ -16,28 +16,62 @@ pub(crate) fn call_try_insert(
     input: &[u8],
 ) -> Result<(), Fault> {
     let all = spans_of(rt.alloc(), input)?;
+    insert_all(rt, &all)
+}
+
+/// Does so for these spans.
+fn insert_all(rt: &(impl AllocGlobal + Print + Eprint), all: &[Span]) -> Result<(), Fault> {
     let mut pairs = Vec::with_capacity(rt.alloc(), all.len())?;
     let mut spans = Spans::new(rt.alloc());
-    let mut ended = Ok(());
     announce(rt)?;
-    for &span in &all {
-        if !is_placed(span) {
-            return Err(Fault::NoCall);
-        }
-        let tag = pairs.len() as u64;
-        let mut inserted = spans.try_insert(span, tag);
-        if inserted.is_err() {
-            ended = Err(Fault::Memory);
-            expect_held(&mut spans, &pairs, &all)?;
-            inserted = spans.try_insert(span, tag);
-        }
-        if inserted? == Insert::Added {
-            pairs.push((span, tag))?;
-        }
-    }
-    expect_held(&mut spans, &pairs, &all)?;
+    let refused = insert_each(&mut spans, &mut pairs, all)?;
     println!(rt; "{} held", spans.len())?;
-    ended
+    end(refused)
+}
+
+/// Inserts each span, and compares what is held in the end. It answers whether memory was wanting.
+fn insert_each(
+    spans: &mut Spans,
+    pairs: &mut Vec<(Span, u64)>,
+    all: &[Span],
+) -> Result<bool, Fault> {
+    let mut refused = false;
+    for &span in all {
+        refused |= insert(spans, pairs, all, span)?;
+    }
+    expect_held(spans, pairs, all)?;
+    Ok(refused)
+}
+
+/// Inserts a span, a second time where memory was wanting. It answers whether it was.
+fn insert(
+    spans: &mut Spans,
+    pairs: &mut Vec<(Span, u64)>,
+    all: &[Span],
+    span: Span,
+) -> Result<bool, Fault> {
+    if !is_placed(span) {
+        return Err(Fault::NoCall);
+    }
+    let tag = pairs.len() as u64;
+    let mut inserted = spans.try_insert(span, tag);
+    let refused = inserted.is_err();
+    if refused {
+        expect_held(spans, pairs, all)?;
+        inserted = spans.try_insert(span, tag);
+    }
+    if inserted? == Insert::Added {
+        pairs.push((span, tag))?;
+    }
+    Ok(refused)
+}
+
+/// How all calls have ended: with want of memory where one of them was refused it.
+fn end(refused: bool) -> Result<(), Fault> {
+    if refused {
+        return Err(Fault::Memory);
+    }
+    Ok(())
 }
 
 /// Calls `push` for each span, and prints the index of the first that shares a place with an earlier
@@ -47,17 +81,28 @@ pub(crate) fn call_push(
     input: &[u8],
 ) -> Result<(), Fault> {
     let all = spans_of(rt.alloc(), input)?;
+    push_all(rt, &all)
+}
+
+/// Does so for these spans.
+fn push_all(rt: &(impl AllocGlobal + Print + Eprint), all: &[Span]) -> Result<(), Fault> {
     let mut list = SpanList::with_capacity(rt.alloc(), 0)?;
-    let mut ended = Ok(());
     announce(rt)?;
-    for &span in &all {
+    let refused = push_each(&mut list, all)?;
+    println!(rt; "{:?}", list.least_overlap())?;
+    end(refused)
+}
+
+/// Pushes each span, a second time where memory was wanting. It answers whether it was.
+fn push_each(list: &mut SpanList, all: &[Span]) -> Result<bool, Fault> {
+    let mut refused = false;
+    for &span in all {
         if list.push(span).is_err() {
-            ended = Err(Fault::Memory);
+            refused = true;
             list.push(span)?;
         }
     }
-    println!(rt; "{:?}", list.least_overlap())?;
-    ended
+    Ok(refused)
 }
 
 /// The spans of the lines `START LEN`.
@@ -102,5 +147,10 @@ fn expect_held(spans: &mut Spans, pairs: &[(Span, u64)], all: &[Span]) -> Result
 
 /// The pair of the list whose span holds the place.
 fn pair_with(pairs: &[(Span, u64)], place: u64) -> Option<(Span, u64)> {
-    pairs.iter().copied().find(|(held, _)| held.holds(place))
+    for &(held, tag) in pairs {
+        if held.holds(place) {
+            return Some((held, tag));
+        }
+    }
+    None
 }
