@@ -45,9 +45,10 @@ impl fmt::Display for Case<'_> {
             choice,
             ..
         } = *self;
+        write!(f, "{place}: {name}")?;
         match choice.trim() {
-            "" => write!(f, "{place}: {name}"),
-            choice => write!(f, "{place}: {name} ({choice})"),
+            "" => Ok(()),
+            choice => write!(f, " ({choice})"),
         }
     }
 }
