@@ -2,6 +2,7 @@
 
 use super::{check_lines, check_verdict, same};
 use crate::notation::{executable, written};
+use std::alloc::Global;
 use std::test::Fail;
 
 #[test]
@@ -118,28 +119,36 @@ fn whole_executable(rt: HostRuntime) -> Result<(), Fail> {
     Ok(())
 }
 
+/// The place of a field in the executable, its bytes, and the verdict: ncmds; nsyms; filesize of
+/// __DATA; vmsize and nsects of __TEXT; nsects of __DATA.
+const FIELDS: &[(usize, &str, &str)] = &[
+    (0x10, "00000000", "accepted"),
+    (0x10, "01000000", "accepted"),
+    (0x23c, "ffffffff", "refused: table-range at 0x230"),
+    (0x130, "ffffffff ffffffff", "refused: segment-size at 0x100"),
+    (0x88, ".8", "refused: entry at 0x298"),
+    (0xa8, "00000000", "accepted"),
+    (0xa8, "ffffffff", "refused: command-short at 0x68"),
+    (0x140, "00000000", "refused: symbol-section at 0x2010"),
+];
+
 #[test]
 fn fields_of_an_executable(rt: HostRuntime) -> Result<(), Fail> {
-    // ncmds; nsyms; filesize of __DATA; vmsize and nsects of __TEXT; nsects of __DATA.
-    for (place, field, line) in [
-        (0x10, "00000000", "accepted"),
-        (0x10, "01000000", "accepted"),
-        (0x23c, "ffffffff", "refused: table-range at 0x230"),
-        (0x130, "ffffffff ffffffff", "refused: segment-size at 0x100"),
-        (0x88, ".8", "refused: entry at 0x298"),
-        (0xa8, "00000000", "accepted"),
-        (0xa8, "ffffffff", "refused: command-short at 0x68"),
-        (0x140, "00000000", "refused: symbol-section at 0x2010"),
-    ] {
-        let whole = executable(rt.alloc())?;
-        let field = written(rt.alloc(), field)?;
-        let mut file = Vec::new(rt.alloc());
-        file.extend_from_slice(whole.get(..place).ok_or("a short file")?)?;
-        file.extend_from_slice(&field)?;
-        file.extend_from_slice(whole.get(file.len()..).ok_or("a short file")?)?;
+    for &(place, field, line) in FIELDS {
+        let file = executable_with(rt.alloc(), place, field)?;
         check_verdict(&rt, &file, line);
     }
     Ok(())
+}
+
+/// The executable with these bytes at this place.
+fn executable_with(alloc: Global, place: usize, field: &str) -> Result<Vec<u8>, Fail> {
+    let mut file = executable(alloc)?;
+    let field = written(alloc, field)?;
+    for (byte, new) in file.iter_mut().skip(place).zip(&field) {
+        *byte = *new;
+    }
+    Ok(file)
 }
 
 #[test]

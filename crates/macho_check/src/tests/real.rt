@@ -113,12 +113,23 @@ slice 0 x86_64 at 0x0 size 0x30f0 execute
 fn program(rt: HostRuntime) -> Result<(), Fail> {
     let file = program_file(rt.alloc())?;
     check_text(&rt, &file, PROGRAM_REPORT);
-    let verified = verify(rt.alloc(), &file)?;
-    let image = verified.image(0).ok_or("no image")?;
-    check_layout(
-        &rt,
-        &image,
-        "
+    check_views(&rt, &file, &[PROGRAM_VIEWS])
+}
+
+/// Compares the views of the images of a file, one of each slice.
+fn check_views(rt: &(impl Abort + AllocGlobal), file: &[u8], views: &[&str]) -> Result<(), Fail> {
+    let verified = verify(rt.alloc(), file)?;
+    let mut count = 0u64;
+    for lines in views {
+        let image = verified.image(count).ok_or("no image")?;
+        check_layout(rt, &image, lines)?;
+        count = count.saturating_add(1);
+    }
+    same(rt, &verified.slice_count(), &count);
+    Ok(())
+}
+
+const PROGRAM_VIEWS: &str = "
         executable  0x30f0 0x1000007 0x3 0x4
         command  0x20 0x19 0x48 0x48
         command  0x68 0x19 0x98 0x98
@@ -161,9 +172,7 @@ fn program(rt: HostRuntime) -> Result<(), Fail> {
         main  0x3b8 0x440 0x0
         base  0x100000000
         entry  0x100000440
-        ",
-    )
-}
+";
 
 const LIBRARY_X86_64: &str = "
         dylib  0x1058 0x1000007 0x3 0x2
@@ -251,14 +260,16 @@ slice 1 arm64 at 0x1090 size 0x4180 dylib
 fn library(rt: HostRuntime) -> Result<(), Fail> {
     let file = library_file(rt.alloc())?;
     check_text(&rt, &file, LIBRARY_REPORT);
-    let verified = verify(rt.alloc(), &file)?;
-    same(&rt, &verified.slice_count(), &2);
-    check_slice(&rt, &verified, 0, (48, 4184, CPU_TYPE_X86_64, 3));
-    check_slice(&rt, &verified, 1, (4240, 16768, CPU_TYPE_ARM64, 0));
-    let image = verified.image(0).ok_or("no image")?;
-    check_layout(&rt, &image, LIBRARY_X86_64)?;
-    let image = verified.image(1).ok_or("no image")?;
-    check_layout(&rt, &image, LIBRARY_ARM64)
+    check_slices_of_library(&rt, &file)?;
+    check_views(&rt, &file, &[LIBRARY_X86_64, LIBRARY_ARM64])
+}
+
+/// Compares the two slices.
+fn check_slices_of_library(rt: &(impl Abort + AllocGlobal), file: &[u8]) -> Result<(), Fail> {
+    let verified = verify(rt.alloc(), file)?;
+    check_slice(rt, &verified, 0, (48, 4184, CPU_TYPE_X86_64, 3));
+    check_slice(rt, &verified, 1, (4240, 16768, CPU_TYPE_ARM64, 0));
+    Ok(())
 }
 
 /// Compares the start, length and architecture of a slice that is read.

@@ -12,6 +12,7 @@ use macho_report::{
     Failed, Flush, FromRead, FromWrite, Input, Outcome, Output, RunFault, WhereOutcome, run,
     write_all,
 };
+use std::alloc::{AllocError, Global};
 use std::process::{Abort, ExitCode};
 use std::test::Fail;
 
@@ -19,24 +20,30 @@ const TEXT: &[u8; 32] = b"abcdefghijklmnopqrstuvwxyz012345";
 
 #[test]
 fn reads_a_reader_of_std(rt: HostRuntime) -> Result<(), Fail> {
-    let mut long = Vec::new(rt.alloc());
-    for i in 0..(1 << 20) + 1u32 {
-        long.push((i % 251) as u8)?;
-    }
+    let long = long_text(rt.alloc())?;
     let mut counted = CountingReader::new(long.as_slice(), 0);
     let mut reader = FromRead::new(&mut counted);
-    let mut text = Vec::new(rt.alloc());
-    let ended = run(
-        rt.alloc(),
-        1 << 32,
-        &mut reader,
-        &mut FromWrite::new(&mut text),
-    );
+    let ended = run_to_text(rt.alloc(), &mut reader);
     same(&rt, &ended, &Ok(Outcome::Refused));
     same(&rt, &reader.failed(), &false);
     // 16 pieces of 65,536 bytes, one of a single byte, and the end.
     same(&rt, &counted.reads, &18);
     Ok(())
+}
+
+/// A byte more than 16 pieces of 65,536 bytes.
+fn long_text(alloc: Global) -> Result<Vec<u8>, AllocError> {
+    let mut long = Vec::new(alloc);
+    for i in 0..(1 << 20) + 1u32 {
+        long.push((i % 251) as u8)?;
+    }
+    Ok(long)
+}
+
+/// How a run on this input ends, whose text is dropped.
+fn run_to_text(alloc: Global, reader: &mut impl Input) -> Result<Outcome, RunFault> {
+    let mut text = Vec::new(alloc);
+    run(alloc, 1 << 32, reader, &mut FromWrite::new(&mut text))
 }
 
 #[test]
@@ -196,84 +203,85 @@ fn check_end(
     same(rt, &(errors.writes, errors.flushes), &(lines, 0));
 }
 
+/// The words of the program, the read and the call of the writer that fail, and the end.
+const ENDS: &[(Option<&[&str]>, u64, u64, End)] = &[
+    (UNNAMED, 0, 0, End(0, REPORT, "", (2, 12, 1))),
+    (Some(&[]), 0, 0, End(0, REPORT, "", (2, 12, 1))),
+    (UNNAMED, 1, 0, End(3, "", READ_LINE, (1, 0, 0))),
+    (UNNAMED, 2, 0, End(3, "", READ_LINE, (2, 0, 0))),
+    (UNNAMED, 0, 1, End(3, "", WRITE_LINE, (2, 1, 0))),
+    (
+        UNNAMED,
+        0,
+        2,
+        End(3, "accepted, slices ", WRITE_LINE, (2, 2, 0)),
+    ),
+    (UNNAMED, 0, 13, End(3, REPORT, WRITE_LINE, (2, 12, 1))),
+    (None, 0, 0, End(3, "", READ_LINE, (0, 0, 0))),
+    // Nothing is written or flushed where there is no image.
+    (
+        Some(&["macho-check", "where", "-", "1", "0"]),
+        0,
+        1,
+        End(2, "", NO_IMAGE_LINE, (2, 0, 0)),
+    ),
+];
+
+const UNNAMED: Option<&[&str]> = Some(&["macho-check"]);
+
 #[test]
 fn ends_of_the_program(rt: HostRuntime) {
-    let unnamed: &[&str] = &["macho-check"];
-    for (words, bad_read, bad_write, end) in [
-        (Some(unnamed), 0, 0, End(0, REPORT, "", (2, 12, 1))),
-        (Some([].as_slice()), 0, 0, End(0, REPORT, "", (2, 12, 1))),
-        (Some(unnamed), 1, 0, End(3, "", READ_LINE, (1, 0, 0))),
-        (Some(unnamed), 2, 0, End(3, "", READ_LINE, (2, 0, 0))),
-        (Some(unnamed), 0, 1, End(3, "", WRITE_LINE, (2, 1, 0))),
-        (
-            Some(unnamed),
-            0,
-            2,
-            End(3, "accepted, slices ", WRITE_LINE, (2, 2, 0)),
-        ),
-        (Some(unnamed), 0, 13, End(3, REPORT, WRITE_LINE, (2, 12, 1))),
-        (None, 0, 0, End(3, "", READ_LINE, (0, 0, 0))),
-        // Nothing is written or flushed where there is no image.
-        (
-            Some(["macho-check", "where", "-", "1", "0"].as_slice()),
-            0,
-            1,
-            End(2, "", NO_IMAGE_LINE, (2, 0, 0)),
-        ),
-    ] {
+    for &(words, bad_read, bad_write, end) in ENDS {
         check_end(&rt, words, bad_read, bad_write, end);
     }
 }
 
+/// The words behind the program's name, and the end.
+const ENDS_WITH_WORDS: &[(&[&str], End)] = &[
+    (&["check", "-"], End(0, REPORT, "", (2, 12, 1))),
+    (&["check", "header"], End(0, REPORT, "", (0, 12, 1))),
+    (
+        &["check", "empty"],
+        End(1, "refused: magic at 0x0\n", "", (0, 5, 1)),
+    ),
+    (&["check", "none"], End(3, "", READ_LINE, (0, 0, 0))),
+    (&["check", ""], End(3, "", READ_LINE, (0, 0, 0))),
+    (&["check"], End(2, "", USAGE_LINE, (0, 0, 0))),
+    (&["--help"], End(2, "", USAGE_LINE, (0, 0, 0))),
+    (&["none"], End(2, "", USAGE_LINE, (0, 0, 0))),
+    (
+        &["where", "none", "0", "x"],
+        End(2, "", BAD_NUMBER_LINE, (0, 0, 0)),
+    ),
+    (
+        &["where", "none", "0", "0"],
+        End(3, "", READ_LINE, (0, 0, 0)),
+    ),
+    (
+        &["where", "header", "0", "0"],
+        End(0, "unmapped\n", "", (0, 1, 1)),
+    ),
+    (
+        &["where", "-", "0", "0xffffffffffffffff"],
+        End(0, "unmapped\n", "", (2, 1, 1)),
+    ),
+    (
+        &["where", "header", "1", "0"],
+        End(2, "", NO_IMAGE_LINE, (0, 0, 0)),
+    ),
+    (
+        &["where", "header", "18446744073709551615", "0"],
+        End(2, "", NO_IMAGE_LINE, (0, 0, 0)),
+    ),
+    (
+        &["where", "empty", "1", "0"],
+        End(1, "refused: magic at 0x0\n", "", (0, 5, 1)),
+    ),
+];
+
 #[test]
 fn ends_of_the_program_with_words(rt: HostRuntime) {
-    for (words, end) in [
-        (["check", "-"].as_slice(), End(0, REPORT, "", (2, 12, 1))),
-        (
-            ["check", "header"].as_slice(),
-            End(0, REPORT, "", (0, 12, 1)),
-        ),
-        (
-            ["check", "empty"].as_slice(),
-            End(1, "refused: magic at 0x0\n", "", (0, 5, 1)),
-        ),
-        (
-            ["check", "none"].as_slice(),
-            End(3, "", READ_LINE, (0, 0, 0)),
-        ),
-        (["check", ""].as_slice(), End(3, "", READ_LINE, (0, 0, 0))),
-        (["check"].as_slice(), End(2, "", USAGE_LINE, (0, 0, 0))),
-        (["--help"].as_slice(), End(2, "", USAGE_LINE, (0, 0, 0))),
-        (["none"].as_slice(), End(2, "", USAGE_LINE, (0, 0, 0))),
-        (
-            ["where", "none", "0", "x"].as_slice(),
-            End(2, "", BAD_NUMBER_LINE, (0, 0, 0)),
-        ),
-        (
-            ["where", "none", "0", "0"].as_slice(),
-            End(3, "", READ_LINE, (0, 0, 0)),
-        ),
-        (
-            ["where", "header", "0", "0"].as_slice(),
-            End(0, "unmapped\n", "", (0, 1, 1)),
-        ),
-        (
-            ["where", "-", "0", "0xffffffffffffffff"].as_slice(),
-            End(0, "unmapped\n", "", (2, 1, 1)),
-        ),
-        (
-            ["where", "header", "1", "0"].as_slice(),
-            End(2, "", NO_IMAGE_LINE, (0, 0, 0)),
-        ),
-        (
-            ["where", "header", "18446744073709551615", "0"].as_slice(),
-            End(2, "", NO_IMAGE_LINE, (0, 0, 0)),
-        ),
-        (
-            ["where", "empty", "1", "0"].as_slice(),
-            End(1, "refused: magic at 0x0\n", "", (0, 5, 1)),
-        ),
-    ] {
+    for &(words, end) in ENDS_WITH_WORDS {
         check_words(&rt, words, end);
     }
 }

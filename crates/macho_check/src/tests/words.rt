@@ -1,8 +1,8 @@
 //! The words of the command line.
 
 use super::same;
-use macho_program::number::read_number;
-use macho_program::words::{Request, WordFault, parse_words};
+use macho_program::{Request, WordFault, parse_words, read_number};
+use std::alloc::{AllocError, Global};
 use std::process::Abort;
 use std::test::Fail;
 
@@ -48,59 +48,66 @@ fn words_that_are_no_numbers(rt: HostRuntime) {
     }
 }
 
+/// Words that ask for a check, with the name of the file.
+const CHECKS: &[(&[&str], &str)] = &[
+    (&[], "-"),
+    (&["check", "a"], "a"),
+    (&["check", "-"], "-"),
+    (&["check", ""], ""),
+    (&["check", "check"], "check"),
+    (&["check", "where"], "where"),
+    (&["check", "help"], "help"),
+    (&["check", "a b/\u{e9}"], "a b/\u{e9}"),
+    (&["check", "--", "-a"], "-a"),
+    (&["check", "--", "--help"], "--help"),
+];
+
 #[test]
 fn words_that_ask_for_a_check(rt: HostRuntime) -> Result<(), Fail> {
-    for (words, name) in [
-        ([].as_slice(), "-"),
-        (["check", "a"].as_slice(), "a"),
-        (["check", "-"].as_slice(), "-"),
-        (["check", ""].as_slice(), ""),
-        (["check", "check"].as_slice(), "check"),
-        (["check", "where"].as_slice(), "where"),
-        (["check", "help"].as_slice(), "help"),
-        (["check", "a b/\u{e9}"].as_slice(), "a b/\u{e9}"),
-        (["check", "--", "-a"].as_slice(), "-a"),
-        (["check", "--", "--help"].as_slice(), "--help"),
-    ] {
+    for &(words, name) in CHECKS {
         let file = String::from_str(rt.alloc(), name)?;
-        same(
-            &rt,
-            &parse_words(rt.alloc(), words),
-            &Ok(Request::Check { file }),
-        );
+        check_request(&rt, words, Request::Check { file });
     }
     Ok(())
 }
 
+/// Words that ask for a place, with the name of the file, the slice and the address.
+const PLACES: &[(&[&str], &str, u64, u64)] = &[
+    (&["where", "a", "0", "0x1F"], "a", 0, 31),
+    (&["where", "-", "1", "2"], "-", 1, 2),
+    (
+        &["where", "", "007", "0x00000000ffffffff"],
+        "",
+        7,
+        0xffff_ffff,
+    ),
+    (
+        &["where", "7", "18446744073709551615", "0xffffffffffffffff"],
+        "7",
+        u64::MAX,
+        u64::MAX,
+    ),
+    (&["where", "--", "-a", "3", "4"], "-a", 3, 4),
+    (&["where", "a", "--", "3", "4"], "a", 3, 4),
+];
+
 #[test]
 fn words_that_ask_for_a_place(rt: HostRuntime) -> Result<(), Fail> {
-    for (words, name, slice, address) in [
-        (["where", "a", "0", "0x1F"].as_slice(), "a", 0, 31),
-        (["where", "-", "1", "2"].as_slice(), "-", 1, 2),
-        (
-            ["where", "", "007", "0x00000000ffffffff"].as_slice(),
-            "",
-            7,
-            u64::from(u32::MAX),
-        ),
-        (
-            ["where", "7", "18446744073709551615", "0xffffffffffffffff"].as_slice(),
-            "7",
-            u64::MAX,
-            u64::MAX,
-        ),
-        (["where", "--", "-a", "3", "4"].as_slice(), "-a", 3, 4),
-        (["where", "a", "--", "3", "4"].as_slice(), "a", 3, 4),
-    ] {
+    for &(words, name, slice, address) in PLACES {
         let file = String::from_str(rt.alloc(), name)?;
         let request = Request::Where {
             file,
             slice,
             address,
         };
-        same(&rt, &parse_words(rt.alloc(), words), &Ok(request));
+        check_request(&rt, words, request);
     }
     Ok(())
+}
+
+/// Compares what these words ask for.
+fn check_request(rt: &(impl Abort + AllocGlobal), words: &[&str], request: Request) {
+    same(rt, &parse_words(rt.alloc(), words), &Ok(request));
 }
 
 /// Compares the fault of each line of words. A bar stands between two lines, a comma between two words.
@@ -110,14 +117,19 @@ fn check_faults(
     expected: WordFault,
 ) -> Result<(), Fail> {
     for line in lines.split('|') {
-        let mut words = Vec::new(rt.alloc());
-        for word in line.split(',') {
-            words.push(word)?;
-        }
-        let fault = parse_words(rt.alloc(), words.as_slice()).err();
+        let fault = fault_of(rt.alloc(), line)?;
         same(rt, &(line, fault), &(line, Some(expected)));
     }
     Ok(())
+}
+
+/// The fault of a line of words, with a comma between two.
+fn fault_of(alloc: Global, line: &str) -> Result<Option<WordFault>, AllocError> {
+    let mut words = Vec::new(alloc);
+    for word in line.split(',') {
+        words.push(word)?;
+    }
+    Ok(parse_words(alloc, words.as_slice()).err())
 }
 
 #[test]
