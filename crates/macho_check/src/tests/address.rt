@@ -28,20 +28,28 @@ fn check_addresses(
     }
 }
 
+/// What is told of addresses of the executable.
+const TOLD: &[(u64, u64, &str)] = &[
+    (0, 0, "zero\n"),
+    (0, 0x1_0000_0000, "file 0x0\n"),
+    (0, 0x1_0000_2000, "zero\n"),
+    (0, 0x1_0000_302b, "file 0x202b\n"),
+    (0, 0x1_0000_4000, "unmapped\n"),
+    (0, u64::MAX, "unmapped\n"),
+];
+
+/// Slices that the executable has not.
+const NOT_TOLD: &[(u64, u64, &str)] = &[
+    (1, 0, ""),
+    (1 << 32, 0, ""),
+    (u64::MAX, 0x1_0000_0000, ""),
+];
+
 #[test]
 fn address_queries(rt: HostRuntime) -> Result<(), Fail> {
     let file = executable(rt.alloc())?;
-    let told = [
-        (0, 0, "zero\n"),
-        (0, 0x1_0000_0000, "file 0x0\n"),
-        (0, 0x1_0000_2000, "zero\n"),
-        (0, 0x1_0000_302b, "file 0x202b\n"),
-        (0, 0x1_0000_4000, "unmapped\n"),
-        (0, u64::MAX, "unmapped\n"),
-    ];
-    check_addresses(&rt, &file, WhereOutcome::Told, &told);
-    let no_image = [(1, 0, ""), (1 << 32, 0, ""), (u64::MAX, 0x1_0000_0000, "")];
-    check_addresses(&rt, &file, WhereOutcome::NoImage, &no_image);
+    check_addresses(&rt, &file, WhereOutcome::Told, TOLD);
+    check_addresses(&rt, &file, WhereOutcome::NoImage, NOT_TOLD);
     Ok(())
 }
 
@@ -52,6 +60,18 @@ fn rules_come_before_the_image(rt: HostRuntime) {
         check_addresses(&rt, b"", WhereOutcome::Refused, &cases);
     }
 }
+
+/// What is told of addresses of the file below.
+const TOLD_OF_SLICES: &[(u64, u64, &str)] = &[
+    (0, 0, "unmapped\n"),
+    (2, 0xffff_ffff_ffff_fff7, "unmapped\n"),
+    (2, 0xffff_ffff_ffff_fff8, "file 0x68\n"),
+    (2, 0xffff_ffff_ffff_fffb, "file 0x6b\n"),
+    (2, u64::MAX, "zero\n"),
+];
+
+/// A slice that is not read, and one that the file has not.
+const NOT_TOLD_OF_SLICES: &[(u64, u64, &str)] = &[(1, 0, ""), (3, 0, "")];
 
 #[test]
 fn places_count_from_the_start_of_the_slice(rt: HostRuntime) -> Result<(), Fail> {
@@ -65,14 +85,7 @@ fn places_count_from_the_start_of_the_slice(rt: HostRuntime) -> Result<(), Fail>
         cffaedfe 07000000 09000000 02000000 01000000 48000000 .8 19000000 48000000 .16
         f8ffffffffffffff 0800000000000000 6800000000000000 0400000000000000 .4 01000000 .8 .4",
     )?;
-    let told = [
-        (0, 0, "unmapped\n"),
-        (2, 0xffff_ffff_ffff_fff7, "unmapped\n"),
-        (2, 0xffff_ffff_ffff_fff8, "file 0x68\n"),
-        (2, 0xffff_ffff_ffff_fffb, "file 0x6b\n"),
-        (2, u64::MAX, "zero\n"),
-    ];
-    check_addresses(&rt, &file, WhereOutcome::Told, &told);
-    check_addresses(&rt, &file, WhereOutcome::NoImage, &[(1, 0, ""), (3, 0, "")]);
+    check_addresses(&rt, &file, WhereOutcome::Told, TOLD_OF_SLICES);
+    check_addresses(&rt, &file, WhereOutcome::NoImage, NOT_TOLD_OF_SLICES);
     Ok(())
 }

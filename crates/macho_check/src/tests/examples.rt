@@ -105,15 +105,18 @@ fn library_id(rt: HostRuntime) -> Result<(), Fail> {
     )
 }
 
+/// How many bytes of the executable are left, and the verdict.
+const CUTS: &[(usize, &str)] = &[
+    (0x202b, "refused: segment-file at 0x1e8"),
+    (0x2e7, "refused: commands-outside at 0x14"),
+];
+
 #[test]
 fn whole_executable(rt: HostRuntime) -> Result<(), Fail> {
     let file = executable(rt.alloc())?;
     same(&rt, &file.len(), &0x202c);
     check_verdict(&rt, &file, "accepted");
-    for (len, line) in [
-        (0x202b, "refused: segment-file at 0x1e8"),
-        (0x2e7, "refused: commands-outside at 0x14"),
-    ] {
+    for &(len, line) in CUTS {
         check_verdict(&rt, file.get(..len).ok_or("a short file")?, line);
     }
     Ok(())
@@ -144,11 +147,15 @@ fn fields_of_an_executable(rt: HostRuntime) -> Result<(), Fail> {
 /// The executable with these bytes at this place.
 fn executable_with(alloc: Global, place: usize, field: &str) -> Result<Vec<u8>, Fail> {
     let mut file = executable(alloc)?;
-    let field = written(alloc, field)?;
-    for (byte, new) in file.iter_mut().skip(place).zip(&field) {
+    replace(&mut file, place, &written(alloc, field)?);
+    Ok(file)
+}
+
+/// Puts these bytes at this place.
+fn replace(file: &mut [u8], place: usize, field: &[u8]) {
+    for (byte, new) in file.iter_mut().skip(place).zip(field) {
         *byte = *new;
     }
-    Ok(file)
 }
 
 #[test]

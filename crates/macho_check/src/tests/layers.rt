@@ -7,6 +7,7 @@ use macho_fields::header::machine::{CPU_TYPE_ARM64, CPU_TYPE_X86_64};
 use macho_fields::{Break, Bytes, Rule, Span};
 use macho_image::Image;
 use macho_rules::{Mapping, Refusal, Verified, check_image, verify};
+use std::alloc::{AllocError, Global};
 use std::process::Abort;
 use std::test::Fail;
 
@@ -22,30 +23,54 @@ fn check_slices(
     file: &[u8],
     expected: &[Slice],
 ) -> Result<(), Fail> {
+    check_listed(rt, file, expected)?;
+    let verified = verify(rt.alloc(), file)?;
+    check_verified(rt, &verified, expected)
+}
+
+/// Compares the slices of a file. No image of it is looked at.
+fn check_listed(
+    rt: &(impl Abort + AllocGlobal),
+    file: &[u8],
+    expected: &[Slice],
+) -> Result<(), Fail> {
     let list = slices(rt.alloc(), Bytes::new(file))?;
     same(rt, &list.as_slice(), &expected);
-    let verified = verify(rt.alloc(), file)?;
+    Ok(())
+}
+
+/// Compares the slices of a verified file.
+fn check_verified(
+    rt: &(impl Abort + AllocGlobal),
+    verified: &Verified,
+    expected: &[Slice],
+) -> Result<(), Fail> {
     let mut count = 0u64;
     for slice in expected {
-        check_slice(rt, &verified, count, slice)?;
+        check_slice(rt, verified, count, slice)?;
         count = count.saturating_add(1);
     }
     same(rt, &verified.slice_count(), &count);
-    check_past(rt, &verified, count)
+    for index in [count, 1 << 32, u64::MAX] {
+        check_past(rt, verified, index)?;
+    }
+    Ok(())
 }
 
-/// Looks for slices past the last.
+/// Whether the image of a slice has a mapping.
+fn has_mapping(alloc: Global, verified: &Verified, index: u64) -> Result<bool, AllocError> {
+    Ok(Mapping::of(alloc, verified, index)?.is_some())
+}
+
+/// Looks for a slice past the last.
 fn check_past(
     rt: &(impl Abort + AllocGlobal),
     verified: &Verified,
-    count: u64,
+    index: u64,
 ) -> Result<(), Fail> {
-    for index in [count, 1 << 32, u64::MAX] {
-        same(rt, &verified.slice(index), &None);
-        same(rt, &verified.image(index).is_none(), &true);
-        let mapping = Mapping::of(rt.alloc(), verified, index)?;
-        same(rt, &mapping.is_none(), &true);
-    }
+    same(rt, &verified.slice(index), &None);
+    same(rt, &verified.image(index).is_none(), &true);
+    same(rt, &has_mapping(rt.alloc(), verified, index)?, &false);
     Ok(())
 }
 
@@ -57,22 +82,33 @@ fn check_slice(
     slice: &Slice,
 ) -> Result<(), Fail> {
     same(rt, &verified.slice(index), &Some(slice));
-    let mapping = Mapping::of(rt.alloc(), verified, index)?;
-    same(rt, &mapping.is_some(), &slice.read);
-    let Some(image) = verified.image(index) else {
-        same(rt, &slice.read, &false);
-        return Ok(());
-    };
-    same(rt, &slice.read, &true);
-    same(rt, &image.bytes().len(), &slice.span.len);
-    same(rt, &image.arch(), &slice.arch.unwrap_or(image.arch()));
+    same(rt, &has_mapping(rt.alloc(), verified, index)?, &slice.read);
+    let image = verified.image(index);
+    same(rt, &image.is_some(), &slice.read);
+    if let Some(image) = image {
+        same(rt, &image.bytes().len(), &slice.span.len);
+        same(rt, &image.arch(), &slice.arch.unwrap_or(image.arch()));
+    }
     Ok(())
+}
+
+/// Compares the slices of a file that is written out, and keeps all rules.
+fn check_written(
+    rt: &(impl Abort + AllocGlobal),
+    bytes: &str,
+    expected: &[Slice],
+) -> Result<(), Fail> {
+    let file = written(rt.alloc(), bytes)?;
+    check_slices(rt, &file, expected)
 }
 
 #[test]
 fn slices_of_a_plain_file(rt: HostRuntime) -> Result<(), Fail> {
-    let bare = written(rt.alloc(), "cffaedfe 07000001 03000000 02000000 .16")?;
-    check_slices(&rt, &bare, &[slice(0, 32, None, true)])?;
+    check_written(
+        &rt,
+        "cffaedfe 07000001 03000000 02000000 .16",
+        &[slice(0, 32, None, true)],
+    )?;
     let file = executable(rt.alloc())?;
     check_slices(&rt, &file, &[slice(0, 0x202c, None, true)])
 }
@@ -80,30 +116,27 @@ fn slices_of_a_plain_file(rt: HostRuntime) -> Result<(), Fail> {
 #[test]
 fn slices_of_twins(rt: HostRuntime) -> Result<(), Fail> {
     // Of the entries the second has a capability byte, and the third names an image of 32 bits.
-    let file = written(
-        rt.alloc(),
+    check_written(
+        &rt,
         "cafebabe 00000003 0100000c 00000000 00000060 00000020 .4
         0100000c 80000002 00000080 00000020 .4 00000007 00000003 000000a0 00000004 .4 .28
         cffaedfe 0c000001 00000000 02000000 .16 cffaedfe 0c000001 02000000 02000000 .16 cefaedfe",
-    )?;
-    let expected = [
-        slice(96, 32, Some((CPU_TYPE_ARM64, 0)), true),
-        slice(128, 32, Some((CPU_TYPE_ARM64, 2)), true),
-        slice(160, 4, Some((7, 3)), false),
-    ];
-    check_slices(&rt, &file, &expected)
+        &[
+            slice(96, 32, Some((CPU_TYPE_ARM64, 0)), true),
+            slice(128, 32, Some((CPU_TYPE_ARM64, 2)), true),
+            slice(160, 4, Some((7, 3)), false),
+        ],
+    )
 }
 
-/// Compares the slices of a file. No image of it is looked at.
+/// Compares the slices of a file that is written out.
 fn check_list(
     rt: &(impl Abort + AllocGlobal),
     bytes: &str,
     expected: &[Slice],
 ) -> Result<(), Fail> {
     let file = written(rt.alloc(), bytes)?;
-    let list = slices(rt.alloc(), Bytes::new(&file))?;
-    same(rt, &list.as_slice(), &expected);
-    Ok(())
+    check_listed(rt, &file, expected)
 }
 
 #[test]
@@ -162,25 +195,24 @@ fn no_list_of_slices(rt: HostRuntime) -> Result<(), Fail> {
 
 #[test]
 fn opened_and_broken(rt: HostRuntime) -> Result<(), Fail> {
-    let file = written(rt.alloc(), "cffaedfe 07000001 03000000 02000000 .16")?;
-    let image = Image::open(Bytes::new(&file), None)?;
-    same(&rt, &check_image(rt.alloc(), &image), &Ok(()));
-
+    check_opened(&rt, "cffaedfe 07000001 03000000 02000000 .16", Ok(()))?;
     // The entry has no base to count from. The place is in the image.
-    let file = written(
-        rt.alloc(),
-        "cffaedfe 07000001 03000000 02000000 01000000 18000000 .8 28000080 18000000 .16",
-    )?;
-    let image = Image::open(Bytes::new(&file), None)?;
-    let broken = Break {
-        rule: Rule::Entry,
-        place: 0x20,
-    };
-    same(
+    check_opened(
         &rt,
-        &check_image(rt.alloc(), &image),
-        &Err(Refusal::Broken(broken)),
-    );
+        "cffaedfe 07000001 03000000 02000000 01000000 18000000 .8 28000080 18000000 .16",
+        Err(Refusal::Broken(Break::at(Rule::Entry, 0x20))),
+    )
+}
+
+/// Compares what is said of an image that can be opened.
+fn check_opened(
+    rt: &(impl Abort + AllocGlobal),
+    bytes: &str,
+    expected: Result<(), Refusal>,
+) -> Result<(), Fail> {
+    let file = written(rt.alloc(), bytes)?;
+    let image = Image::open(Bytes::new(&file), None)?;
+    same(rt, &check_image(rt.alloc(), &image), &expected);
     Ok(())
 }
 

@@ -3,18 +3,19 @@
 use super::same;
 use crate::notation::{append, executable, written};
 use macho_rules::{Mapping, Source, Verified, verify};
+use std::alloc::Global;
 use std::process::Abort;
 use std::test::Fail;
 
-/// Compares what is at these addresses of an image.
+/// Compares what is at these addresses of an image of a file.
 fn check_sources(
     rt: &(impl Abort + AllocGlobal),
-    verified: &Verified,
+    file: &[u8],
     index: u64,
     sources: &[(u64, Option<Source>)],
 ) -> Result<(), Fail> {
-    let mapping = Mapping::of(rt.alloc(), verified, index)?;
-    let mut mapping = mapping.ok_or("no mapping")?;
+    let verified = verify(rt.alloc(), file)?;
+    let mut mapping = mapping_of(rt.alloc(), &verified, index)?;
     for (address, source) in sources {
         same(
             rt,
@@ -25,28 +26,52 @@ fn check_sources(
     Ok(())
 }
 
-#[test]
-fn address_queries(rt: HostRuntime) -> Result<(), Fail> {
-    let file = executable(rt.alloc())?;
-    let sources = [
-        (0, Some(Source::Zero)),
-        (0xffff_ffff, Some(Source::Zero)),
-        (0x1_0000_0000, Some(Source::File(0))),
-        (0x1_0000_1fff, Some(Source::File(0x1fff))),
-        (0x1_0000_2000, Some(Source::Zero)),
-        (0x1_0000_302b, Some(Source::File(0x202b))),
-        (0x1_0000_302c, Some(Source::Zero)),
-        (0x1_0000_4000, None),
-        (u64::MAX, None),
-    ];
-    let verified = verify(rt.alloc(), &file)?;
-    check_sources(&rt, &verified, 0, &sources)?;
-    for index in [1, 1 << 32, u64::MAX] {
-        let mapping = Mapping::of(rt.alloc(), &verified, index)?;
-        same(&rt, &mapping.is_none(), &true);
+/// The mapping of an image that is there.
+fn mapping_of(alloc: Global, verified: &Verified, index: u64) -> Result<Mapping, Fail> {
+    let mapping = Mapping::of(alloc, verified, index)?;
+    Ok(mapping.ok_or("no mapping")?)
+}
+
+/// Looks for mappings of slices that are not there, or not read.
+fn check_no_mapping(
+    rt: &(impl Abort + AllocGlobal),
+    file: &[u8],
+    slices: &[u64],
+) -> Result<(), Fail> {
+    let verified = verify(rt.alloc(), file)?;
+    for index in slices {
+        let mapping = Mapping::of(rt.alloc(), &verified, *index)?;
+        same(rt, &mapping.is_none(), &true);
     }
     Ok(())
 }
+
+/// What is at addresses of the executable.
+const SOURCES: &[(u64, Option<Source>)] = &[
+    (0, Some(Source::Zero)),
+    (0xffff_ffff, Some(Source::Zero)),
+    (0x1_0000_0000, Some(Source::File(0))),
+    (0x1_0000_1fff, Some(Source::File(0x1fff))),
+    (0x1_0000_2000, Some(Source::Zero)),
+    (0x1_0000_302b, Some(Source::File(0x202b))),
+    (0x1_0000_302c, Some(Source::Zero)),
+    (0x1_0000_4000, None),
+    (u64::MAX, None),
+];
+
+#[test]
+fn address_queries(rt: HostRuntime) -> Result<(), Fail> {
+    let file = executable(rt.alloc())?;
+    check_sources(&rt, &file, 0, SOURCES)?;
+    check_no_mapping(&rt, &file, &[1, 1 << 32, u64::MAX])
+}
+
+/// What is at addresses of the third slice below. Places count from the start of the slice.
+const SOURCES_OF_A_SLICE: &[(u64, Option<Source>)] = &[
+    (0xffff_ffff_ffff_fffb, Some(Source::File(107))),
+    (u64::MAX, Some(Source::Zero)),
+    (0xffff_ffff_ffff_fff7, None),
+];
 
 #[test]
 fn slices_have_mappings_of_their_own(rt: HostRuntime) -> Result<(), Fail> {
@@ -60,68 +85,67 @@ fn slices_have_mappings_of_their_own(rt: HostRuntime) -> Result<(), Fail> {
         cffaedfe 07000000 09000000 02000000 01000000 48000000 .8 19000000 48000000 .16
         f8ffffffffffffff 0800000000000000 6800000000000000 0400000000000000 .4 01000000 .8 .4",
     )?;
-    let verified = verify(rt.alloc(), &file)?;
-    check_sources(&rt, &verified, 0, &[(0, None)])?;
-    let mapping = Mapping::of(rt.alloc(), &verified, 1)?;
-    same(&rt, &mapping.is_none(), &true);
-    // Places count from the start of the slice.
-    let sources = [
-        (0xffff_ffff_ffff_fffb, Some(Source::File(107))),
-        (u64::MAX, Some(Source::Zero)),
-        (0xffff_ffff_ffff_fff7, None),
-    ];
-    check_sources(&rt, &verified, 2, &sources)
+    check_sources(&rt, &file, 0, &[(0, None)])?;
+    check_no_mapping(&rt, &file, &[1])?;
+    check_sources(&rt, &file, 2, SOURCES_OF_A_SLICE)
 }
 
-#[test]
-fn many_segments(rt: HostRuntime) -> Result<(), Fail> {
-    // 1,024 segments of 0x1000 addresses each, from 0 on, and one of 16 bytes of the file.
+/// 1,024 segments of 0x1000 addresses each, from 0 on, and one of 16 bytes of the file.
+fn file_of_many_segments(alloc: Global) -> Result<Vec<u8>, Fail> {
     let mut file = written(
-        rt.alloc(),
+        alloc,
         "cffaedfe 07000001 03000000 02000000 01040000 48200100 .8",
     )?;
     for index in 0..1024u64 {
-        append(&mut file, "19000000 48000000 .16")?;
-        file.extend_from_slice(&index.saturating_mul(0x1000).to_le_bytes())?;
-        append(&mut file, "00100000 .4 .32")?;
+        append_segment(&mut file, index.saturating_mul(0x1000))?;
     }
     append(
         &mut file,
         "19000000 48000000 .16 00004000 .4 00100000 .4 08000000 .4 10000000 .4 .16",
     )?;
-    let verified = verify(rt.alloc(), &file)?;
-    let sources = [
-        (0, Some(Source::Zero)),
-        (0x3f_ffff, Some(Source::Zero)),
-        (0x40_000f, Some(Source::File(23))),
-        (0x40_0010, Some(Source::Zero)),
-        (0x40_1000, None),
-    ];
-    check_sources(&rt, &verified, 0, &sources)
+    Ok(file)
+}
+
+/// Appends a segment of 0x1000 addresses.
+fn append_segment(file: &mut Vec<u8>, address: u64) -> Result<(), Fail> {
+    append(file, "19000000 48000000 .16")?;
+    file.extend_from_slice(&address.to_le_bytes())?;
+    append(file, "00100000 .4 .32")
+}
+
+/// What is at addresses of many segments.
+const SOURCES_OF_MANY: &[(u64, Option<Source>)] = &[
+    (0, Some(Source::Zero)),
+    (0x3f_ffff, Some(Source::Zero)),
+    (0x40_000f, Some(Source::File(23))),
+    (0x40_0010, Some(Source::Zero)),
+    (0x40_1000, None),
+];
+
+#[test]
+fn many_segments(rt: HostRuntime) -> Result<(), Fail> {
+    let file = file_of_many_segments(rt.alloc())?;
+    check_sources(&rt, &file, 0, SOURCES_OF_MANY)
 }
 
 #[test]
 fn probes_of_look_ups(rt: HostRuntime) -> Result<(), Fail> {
-    // Four segments are mapped, and 4 has three binary digits.
     let file = executable(rt.alloc())?;
     let verified = verify(rt.alloc(), &file)?;
-    let mut mapping = Mapping::of(rt.alloc(), &verified, 0)?.ok_or("no mapping")?;
-    same(&rt, &mapping.probes(), &0);
-    for address in [
-        0,
-        0x1_0000_0000,
-        0x1_0000_2000,
-        0x1_0000_302b,
-        0x1_0000_4000,
-        u64::MAX,
-    ] {
-        let _ = mapping.source(address);
+    check_probes(&rt, &mut mapping_of(rt.alloc(), &verified, 0)?);
+    Ok(())
+}
+
+/// Compares the probes of look-ups. Four segments are mapped, and 4 has three binary digits.
+fn check_probes(rt: &impl Abort, mapping: &mut Mapping) {
+    same(rt, &mapping.probes(), &0);
+    for (address, _) in SOURCES {
+        let _ = mapping.source(*address);
         let probes = mapping.probes();
         same(
-            &rt,
-            &(address, probes, 0 < probes && probes < 4),
-            &(address, probes, true),
+            rt,
+            &(*address, probes, 0 < probes && probes < 4),
+            &(*address, probes, true),
         );
     }
-    Ok(())
 }

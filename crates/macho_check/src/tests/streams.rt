@@ -84,17 +84,25 @@ fn each_write_is_one_of_std(rt: HostRuntime) {
     let bytes = [7u8; 1000];
     for size in 0..1001 {
         let mut counted = CountingWriter::new(Vec::new(rt.alloc()), 0, Fault::Error);
-        let mut writer = FromWrite::new(&mut counted);
-        same(&rt, &writer.write(&bytes[..size]), &Ok(size));
-        same(&rt, &writer.failed(), &false);
-        same(&rt, &(counted.writes, counted.flushes), &(1, 0));
-
-        let mut writer = FromWrite::new(&mut counted);
-        same(&rt, &writer.flush().is_ok(), &true);
-        same(&rt, &writer.failed(), &false);
-        same(&rt, &(counted.writes, counted.flushes), &(1, 1));
-        same(&rt, &counted.bytes.as_slice(), &&bytes[..size]);
+        check_write(&rt, &mut counted, &bytes[..size]);
+        check_written(&rt, &counted, &bytes[..size], (1, 0));
+        check_flush(&rt, &mut counted);
+        check_written(&rt, &counted, &bytes[..size], (1, 1));
     }
+}
+
+/// Writes a piece, which is taken whole.
+fn check_write(rt: &impl Abort, counted: &mut CountingWriter, piece: &[u8]) {
+    let mut writer = FromWrite::new(counted);
+    same(rt, &writer.write(piece), &Ok(piece.len()));
+    same(rt, &writer.failed(), &false);
+}
+
+/// Flushes.
+fn check_flush(rt: &impl Abort, counted: &mut CountingWriter) {
+    let mut writer = FromWrite::new(counted);
+    same(rt, &writer.flush().is_ok(), &true);
+    same(rt, &writer.failed(), &false);
 }
 
 #[test]
@@ -127,8 +135,7 @@ fn no_call_follows_a_failed_flush(rt: HostRuntime) {
     same(&rt, &writer.flush(), &Err(Failed));
     same(&rt, &writer.write(b"e"), &Err(Failed));
     same(&rt, &writer.failed(), &true);
-    same(&rt, &(counted.writes, counted.flushes), &(1, 1));
-    same(&rt, &counted.bytes.as_slice(), &b"abcd".as_slice());
+    check_written(&rt, &counted, b"abcd", (1, 1));
 }
 
 /// A header alone, which keeps every rule.
@@ -196,11 +203,17 @@ fn check_end(
         &mut FromWrite::new(&mut errors),
     );
     same(rt, &exit_code(&ended), &ExitCode::from(status));
-    same(rt, &writer.bytes.as_slice(), &text.as_bytes());
-    same(rt, &errors.bytes.as_slice(), &line.as_bytes());
-    same(rt, &(reader.reads, writer.writes, writer.flushes), &calls);
+    let (reads, writes, flushes) = calls;
+    same(rt, &reader.reads, &reads);
+    check_written(rt, &writer, text.as_bytes(), (writes, flushes));
     let lines = u64::from(!line.is_empty());
-    same(rt, &(errors.writes, errors.flushes), &(lines, 0));
+    check_written(rt, &errors, line.as_bytes(), (lines, 0));
+}
+
+/// Compares what a writer has, and how many writes and flushes there were.
+fn check_written(rt: &impl Abort, writer: &CountingWriter, text: &[u8], calls: (u64, u64)) {
+    same(rt, &writer.bytes.as_slice(), &text);
+    same(rt, &(writer.writes, writer.flushes), &calls);
 }
 
 /// The words of the program, the read and the call of the writer that fail, and the end.
@@ -294,28 +307,34 @@ fn check_words(rt: &(impl Abort + AllocGlobal), words: &[&str], end: End) {
     check_end(rt, Some(all.as_slice()), 0, 0, end);
 }
 
+/// The ends of `check`, each with its status.
+const CHECK_STATUSES: &[(Result<Outcome, RunFault>, u8)] = &[
+    (Ok(Outcome::Accepted), 0),
+    (Ok(Outcome::Refused), 1),
+    (Err(RunFault::Read), 3),
+    (Err(RunFault::TooLong), 3),
+    (Err(RunFault::Write), 3),
+    (Err(RunFault::Memory), 4),
+];
+
+/// The ends of `where`, each with its status.
+const WHERE_STATUSES: &[(Result<WhereOutcome, RunFault>, u8)] = &[
+    (Ok(WhereOutcome::Told), 0),
+    (Ok(WhereOutcome::Refused), 1),
+    (Ok(WhereOutcome::NoImage), 2),
+    (Err(RunFault::Read), 3),
+    (Err(RunFault::TooLong), 3),
+    (Err(RunFault::Write), 3),
+    (Err(RunFault::Memory), 4),
+];
+
 #[test]
 fn statuses(rt: HostRuntime) {
-    for (ended, status) in [
-        (Ok(Outcome::Accepted), 0),
-        (Ok(Outcome::Refused), 1),
-        (Err(RunFault::Read), 3),
-        (Err(RunFault::TooLong), 3),
-        (Err(RunFault::Write), 3),
-        (Err(RunFault::Memory), 4),
-    ] {
-        same(&rt, &check_status(&ended), &status);
+    for (ended, status) in CHECK_STATUSES {
+        same(&rt, &check_status(ended), status);
     }
-    for (ended, status) in [
-        (Ok(WhereOutcome::Told), 0),
-        (Ok(WhereOutcome::Refused), 1),
-        (Ok(WhereOutcome::NoImage), 2),
-        (Err(RunFault::Read), 3),
-        (Err(RunFault::TooLong), 3),
-        (Err(RunFault::Write), 3),
-        (Err(RunFault::Memory), 4),
-    ] {
-        same(&rt, &where_status(&ended), &status);
+    for (ended, status) in WHERE_STATUSES {
+        same(&rt, &where_status(ended), status);
     }
     let memory = Err(ProgramFault::Words(WordFault::Memory));
     same(&rt, &exit_code(&memory), &ExitCode::from(4));
@@ -334,8 +353,7 @@ fn faults_of_standard_error_are_ignored(rt: HostRuntime) {
         &mut FromWrite::new(&mut errors),
     );
     same(&rt, &ended, &Err(ProgramFault::Run(RunFault::Read)));
-    same(&rt, &(errors.writes, errors.flushes), &(1, 0));
-    same(&rt, &errors.bytes.is_empty(), &true);
+    check_written(&rt, &errors, b"", (1, 0));
 }
 
 #[test]
@@ -374,19 +392,21 @@ fn check_cut_off(
         same(rt, &(front, writer.bytes.len() < text.len()), &(true, true));
     } else {
         same(rt, &ended, &Ok(outcome));
-        same(rt, &(writer.writes, writer.flushes), &(writes, 0));
-        same(rt, &writer.bytes.as_slice(), &text.as_bytes());
+        check_written(rt, &writer, text.as_bytes(), (writes, 0));
     }
 }
 
+/// The faults of a run, each with its line.
+const LINES: &[(RunFault, &str)] = &[
+    (RunFault::Read, "macho-check: read failed"),
+    (RunFault::TooLong, "macho-check: more than 4294967296 bytes"),
+    (RunFault::Write, "macho-check: write failed"),
+    (RunFault::Memory, "macho-check: out of memory"),
+];
+
 #[test]
 fn lines_of_faults(rt: HostRuntime) -> Result<(), Fail> {
-    for (fault, line) in [
-        (RunFault::Read, "macho-check: read failed"),
-        (RunFault::TooLong, "macho-check: more than 4294967296 bytes"),
-        (RunFault::Write, "macho-check: write failed"),
-        (RunFault::Memory, "macho-check: out of memory"),
-    ] {
+    for &(fault, line) in LINES {
         let text = ProgramFault::Run(fault).to_string(rt.alloc())?;
         same(&rt, &text.as_str(), &line);
     }

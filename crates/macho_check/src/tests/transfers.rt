@@ -21,13 +21,12 @@ fn reads_one_byte_at_a_time(rt: HostRuntime) {
     same(&rt, &reader.failed(), &false);
 }
 
+/// A limit, and a text that is longer.
+const TOO_LONG: &[(u64, &[u8])] = &[(31, TEXT), (0, b"a"), (2, b"abc")];
+
 #[test]
 fn stops_at_the_limit(rt: HostRuntime) {
-    for (limit, text) in [
-        (31, TEXT.as_slice()),
-        (0, b"a".as_slice()),
-        (2, b"abc".as_slice()),
-    ] {
+    for &(limit, text) in TOO_LONG {
         let mut reader = SlowReader::new(text);
         let fault = read_all(rt.alloc(), limit, &mut reader).err();
         same(&rt, &(limit, fault), &(limit, Some(ReadFault::TooLong)));
@@ -40,13 +39,12 @@ fn stops_at_the_limit(rt: HostRuntime) {
     same(&rt, &reader.failed(), &false);
 }
 
+/// A limit, and a text that is not longer.
+const SHORT_ENOUGH: &[(u64, &[u8])] = &[(0, b""), (u64::MAX, TEXT), (33, TEXT)];
+
 #[test]
 fn reads_within_the_limit(rt: HostRuntime) {
-    for (limit, text) in [
-        (0, b"".as_slice()),
-        (u64::MAX, TEXT.as_slice()),
-        (33, TEXT.as_slice()),
-    ] {
+    for &(limit, text) in SHORT_ENOUGH {
         let mut reader = SlowReader::new(text);
         let read = read_all(rt.alloc(), limit, &mut reader).expect(&rt, "within the limit");
         same(&rt, &read.as_slice(), &text);
@@ -128,14 +126,27 @@ fn writes_a_break(rt: HostRuntime) {
     );
 }
 
+/// The limit of a run, the read that fails and the room of its output; how it ends, how many reads
+/// there are, and the text.
+type Ending<T> = (
+    u64,
+    Option<u64>,
+    usize,
+    Result<T, RunFault>,
+    u64,
+    &'static str,
+);
+
+const ENDINGS: &[Ending<Outcome>] = &[
+    (32, None, 1000, Ok(Outcome::Accepted), 33, LAYOUT),
+    (31, None, 1000, Err(RunFault::TooLong), 32, ""),
+    (32, Some(2), 1000, Err(RunFault::Read), 2, ""),
+    (32, None, 10, Err(RunFault::Write), 33, "accepted, "),
+];
+
 #[test]
 fn failing_streams(rt: HostRuntime) {
-    for (limit, fails_at, room, outcome, reads, text) in [
-        (32, None, 1000, Ok(Outcome::Accepted), 33, LAYOUT),
-        (31, None, 1000, Err(RunFault::TooLong), 32, ""),
-        (32, Some(2), 1000, Err(RunFault::Read), 2, ""),
-        (32, None, 10, Err(RunFault::Write), 33, "accepted, "),
-    ] {
+    for &(limit, fails_at, room, outcome, reads, text) in ENDINGS {
         let mut reader = SlowReader::new(BARE_HEADER);
         reader.fails_at = fails_at;
         let mut writer = SlowWriter::new(Vec::new(rt.alloc()), room);
@@ -145,14 +156,16 @@ fn failing_streams(rt: HostRuntime) {
     }
 }
 
+const ENDINGS_OF_AN_ADDRESS: &[Ending<WhereOutcome>] = &[
+    (32, None, 9, Ok(WhereOutcome::Told), 33, "unmapped\n"),
+    (31, None, 9, Err(RunFault::TooLong), 32, ""),
+    (32, Some(2), 9, Err(RunFault::Read), 2, ""),
+    (32, None, 8, Err(RunFault::Write), 33, "unmapped"),
+];
+
 #[test]
 fn failing_streams_of_an_address(rt: HostRuntime) {
-    for (limit, fails_at, room, outcome, reads, text) in [
-        (32, None, 9, Ok(WhereOutcome::Told), 33, "unmapped\n"),
-        (31, None, 9, Err(RunFault::TooLong), 32, ""),
-        (32, Some(2), 9, Err(RunFault::Read), 2, ""),
-        (32, None, 8, Err(RunFault::Write), 33, "unmapped"),
-    ] {
+    for &(limit, fails_at, room, outcome, reads, text) in ENDINGS_OF_AN_ADDRESS {
         let mut reader = SlowReader::new(BARE_HEADER);
         reader.fails_at = fails_at;
         let mut writer = SlowWriter::new(Vec::new(rt.alloc()), room);

@@ -170,18 +170,28 @@ fn check_names(
     Ok(())
 }
 
+/// Offsets in the string table of the executable.
+const NAMES: &[(u32, Option<&str>)] = &[
+    (1, Some("_main")),
+    (7, Some("_x")),
+    (9, Some("")),
+    (0, None),
+    (12, None),
+    (u32::MAX, None),
+];
+
+/// Offsets in a string table whose last name has no end.
+const NAMES_WITHOUT_AN_END: &[(u32, Option<&str>)] = &[
+    (1, Some("a")),
+    (2, Some("")),
+    (3, None),
+    (4, None),
+];
+
 #[test]
 fn symbol_names(rt: HostRuntime) -> Result<(), Fail> {
     let file = executable(rt.alloc())?;
-    let names = [
-        (1, Some("_main")),
-        (7, Some("_x")),
-        (9, Some("")),
-        (0, None),
-        (12, None),
-        (u32::MAX, None),
-    ];
-    check_names(&rt, &file, names.as_slice())?;
+    check_names(&rt, &file, NAMES)?;
 
     // The string table is 00 61 00 62, with a zero byte after it.
     let file = written(
@@ -189,6 +199,5 @@ fn symbol_names(rt: HostRuntime) -> Result<(), Fail> {
         "cffaedfe 07000001 03000000 02000000 01000000 18000000 .8
         02000000 18000000 38000000 01000000 48000000 04000000 01000000 01 .11 0061006200",
     )?;
-    let names = [(1, Some("a")), (2, Some("")), (3, None), (4, None)];
-    check_names(&rt, &file, names.as_slice())
+    check_names(&rt, &file, NAMES_WITHOUT_AN_END)
 }

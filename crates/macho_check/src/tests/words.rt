@@ -6,31 +6,28 @@ use std::alloc::{AllocError, Global};
 use std::process::Abort;
 use std::test::Fail;
 
-/// Words, each with its number in decimal digits.
-const NUMBERS: &str = "\
-0 0
-007 7
-00000000000000000007 7
-10 10
-18446744073709551615 18446744073709551615
-0x0 0
-0x10 16
-0x1f 31
-0x1F 31
-0xaBcDeF 11259375
-0x0000000000000007 7
-0xffffffffffffffff 18446744073709551615
-0xFFFFFFFFFFFFFFFF 18446744073709551615
-";
+/// Words, each with its number.
+const NUMBERS: &[(&str, u64)] = &[
+    ("0", 0),
+    ("007", 7),
+    ("00000000000000000007", 7),
+    ("10", 10),
+    ("18446744073709551615", u64::MAX),
+    ("0x0", 0),
+    ("0x10", 16),
+    ("0x1f", 31),
+    ("0x1F", 31),
+    ("0xaBcDeF", 11_259_375),
+    ("0x0000000000000007", 7),
+    ("0xffffffffffffffff", u64::MAX),
+    ("0xFFFFFFFFFFFFFFFF", u64::MAX),
+];
 
 #[test]
-fn numbers_of_words(rt: HostRuntime) -> Result<(), Fail> {
-    for line in NUMBERS.lines() {
-        let (word, number) = line.split_once(' ').ok_or("a line without a number")?;
-        let number = number.parse::<u64>()?;
+fn numbers_of_words(rt: HostRuntime) {
+    for &(word, number) in NUMBERS {
         same(&rt, &(word, read_number(word)), &(word, Some(number)));
     }
-    Ok(())
 }
 
 /// Words that are no numbers, with a bar between them. The first is empty; then come 2^64 and more, 21
@@ -154,16 +151,19 @@ fn words_with_bad_numbers(rt: HostRuntime) -> Result<(), Fail> {
     )
 }
 
+/// The faults, each with its line.
+const LINES: &[(WordFault, &str)] = &[
+    (
+        WordFault::Usage,
+        "usage: macho-check check FILE | where FILE SLICE ADDRESS",
+    ),
+    (WordFault::BadNumber, "macho-check: bad number"),
+    (WordFault::Memory, "macho-check: out of memory"),
+];
+
 #[test]
 fn lines_of_word_faults(rt: HostRuntime) -> Result<(), Fail> {
-    for (fault, line) in [
-        (
-            WordFault::Usage,
-            "usage: macho-check check FILE | where FILE SLICE ADDRESS",
-        ),
-        (WordFault::BadNumber, "macho-check: bad number"),
-        (WordFault::Memory, "macho-check: out of memory"),
-    ] {
+    for &(fault, line) in LINES {
         same(&rt, &fault.to_string(rt.alloc())?.as_str(), &line);
     }
     Ok(())
