@@ -15,7 +15,7 @@ mod views;
 mod words;
 
 use crate::notation::{append, written};
-use macho_program::status::check_status;
+use macho_program::check_status;
 use macho_report::{FromRead, FromWrite, run};
 use std::fmt::Debug;
 use std::process::Abort;

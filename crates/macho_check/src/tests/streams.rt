@@ -4,10 +4,9 @@ ghost use Rattle.std.specs.Prelude.{None};
 
 use super::same;
 use crate::doubles::{CountingReader, CountingWriter, Fault};
-use macho_program::Open;
-use macho_program::{ProgramFault, run_program};
-use macho_program::{check_status, exit_code, where_status};
-use macho_program::WordFault;
+use macho_program::{
+    Open, ProgramFault, WordFault, check_status, exit_code, run_program, where_status,
+};
 use macho_report::{
     Failed, Flush, FromRead, FromWrite, Input, Outcome, Output, RunFault, WhereOutcome, run,
     write_all,
