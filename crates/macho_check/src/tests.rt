@@ -3,6 +3,7 @@
 
 mod address;
 mod examples;
+mod fields;
 mod layers;
 mod layout;
 mod mapping;
@@ -24,6 +25,14 @@ use std::test::Fail;
 /// Compares what is given with what is wanted. A call costs less proof than `assert_eq!`.
 fn same<T: PartialEq + Debug>(rt: &impl Abort, given: &T, wanted: &T) {
     assert_eq!(rt; *given, *wanted);
+}
+
+/// The next of a fixed sequence of numbers that look random.
+fn next(number: &mut u64) -> u64 {
+    *number = number
+        .wrapping_mul(6_364_136_223_846_793_005)
+        .wrapping_add(1_442_695_040_888_963_407);
+    *number >> 24
 }
 
 /// Runs on the file, and returns what is written and the status.

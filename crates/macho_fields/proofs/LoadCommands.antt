@@ -1,5 +1,5 @@
 -- The structures of load commands: where their fields lie, and what holds of a listed command.
-use Rattle.std.proofs.Common.{◌≡◌, ◌↔◌, ◌&&◌, ℕ, zero, suc, ◌+◌, ◌≤◌, List, [], ◌∷◌, map, Bool, true, false, Option, Some, None, All, Contains, get_or, refl, sym, ap, ◌∙◌, subst, arith, lit≤, lit<}
+use Rattle.std.proofs.Common.{◌≡◌, ◌↔◌, ◌&&◌, ℕ, ◌+◌, ◌≤◌, List, [], map, Bool, true, false, Option, Some, None, All, Contains, get_or, refl, sym, ap, ◌∙◌, subst, lit≤, lit<}
 use Rattle.std.specs.Prelude.{nat_le}
 use Rattle.std.specs.List.{list_all}
 use Rattle.std.specs.Option.{option_map_or}
@@ -12,6 +12,7 @@ use Rattle.macho_fields.specs.Symbol.{table_at, tables_of}
 use Rattle.macho_fields.specs.declared.load_command.Structure.{Structure}
 use Rattle.macho_fields.specs.declared.load_command.Structure.TheVariants as structure
 use Rattle.macho_fields.specs.declared.load_command.TableFields.{TableFields}
+use Rattle.macho_fields.proofs.Lists.{contains_mapped}
 use Rattle.macho_fields.proofs.Options.{some_has, of_some, of_none}
 
 abbrev are_inside : ℕ → TableFields → Bool
@@ -41,11 +42,6 @@ indirects_listed = (3, lit< tt, refl)
 
 pub linkedit_data_listed : Contains (table_fields structure.LinkeditDataCommand) linkedit_data_table
 linkedit_data_listed = (0, lit< tt, refl)
-
-contains_mapped : {A X : Type 0} (at : A → X) (xs : List A) (x : A) → Contains xs x → Contains (map at xs) (at x)
-contains_mapped at [] x (k, less, is) = absurd (omega arith)
-contains_mapped at (y ∷ ys) x (zero, less, is) = (0, omega arith, ap at is)
-contains_mapped at (y ∷ ys) x (suc k, less, is) = let (j, within, same) = contains_mapped at ys x (k, omega arith, is) in (suc j, omega arith, same)
 
 -- a structure with a name has its lc_str, 4 bytes at 8
 pub name_inside : (s : Structure) → has_name s ≡ true → 12 ≤ structure_size s

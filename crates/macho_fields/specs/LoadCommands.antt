@@ -1,8 +1,9 @@
 -- The load commands that are judged: the structure of each, and what the structure has.
 -- (mach-o/loader.h; mach-o/nlist.h: nlist_64; mach-o/reloc.h: relocation_info)
-use Rattle.std.specs.Prelude.{◌≡◌, ℕ, ◌+◌, ◌≤◌, ◌==◌, List, [], ◌∷◌, find, Option, Some, None}
-use Rattle.std.specs.Prelude.{IsSomeAnd, Bool, true, false}
-use Rattle.std.specs.Option.{option_map, option_map_or}
+use Rattle.std.specs.Prelude.{ℕ, ◌+◌, ◌≤◌, ◌==◌, List, [], ◌∷◌, find, map, Option, Some, None}
+use Rattle.std.specs.Prelude.{Bool, IsTrue, true, false}
+use Rattle.std.specs.List.{list_any, position}
+use Rattle.std.specs.Option.{option_map, option_map_or, option_or}
 use Rattle.macho_fields.specs.declared.load_command.LoadCommand.{LoadCommand}
 use Rattle.macho_fields.specs.declared.load_command.Records.{Records}
 use Rattle.macho_fields.specs.declared.load_command.Structure.{Structure}
@@ -14,58 +15,71 @@ use Rattle.macho_fields.specs.declared.header.loader.TheConstants as loader
 use Rattle.macho_fields.specs.declared.header.nlist.TheConstants as nlist
 use Rattle.macho_fields.specs.declared.header.reloc.TheConstants as reloc
 
--- The listed commands, in the order of their numbers. An image has at most one of each command with
--- `one`, and any number of those with `many`.
+-- The listed commands, each with its kind, which is its cmd, and its structure. Both lists are in the
+-- order of the numbers.
 
-abbrev pub one : ℕ → Structure → LoadCommand
-one cmd structure = record { cmd = cmd; structure = structure; is_unique = true }
+abbrev pub listed : ℕ → Structure → LoadCommand
+listed kind structure = record { cmd = kind; structure = structure }
 
-abbrev pub many : ℕ → Structure → LoadCommand
-many cmd structure = record { cmd = cmd; structure = structure; is_unique = false }
-
-abbrev pub load_commands : List LoadCommand
-load_commands =
-    one loader.LC_SYMTAB structure.SymtabCommand
-    ∷ one loader.LC_DYSYMTAB structure.DysymtabCommand
-    ∷ many loader.LC_LOAD_DYLIB structure.DylibCommand
-    ∷ one loader.LC_ID_DYLIB structure.DylibCommand
-    ∷ many loader.LC_LOAD_DYLINKER structure.DylinkerCommand
-    ∷ many loader.LC_ID_DYLINKER structure.DylinkerCommand
-    ∷ many loader.LC_SEGMENT_64 structure.SegmentCommand64
-    ∷ one loader.LC_UUID structure.UuidCommand
-    ∷ many loader.LC_CODE_SIGNATURE structure.LinkeditDataCommand
-    ∷ many loader.LC_SEGMENT_SPLIT_INFO structure.LinkeditDataCommand
-    ∷ many loader.LC_LAZY_LOAD_DYLIB structure.DylibCommand
-    ∷ many loader.LC_DYLD_INFO structure.DyldInfoCommand
-    ∷ many loader.LC_FUNCTION_STARTS structure.LinkeditDataCommand
-    ∷ many loader.LC_DYLD_ENVIRONMENT structure.DylinkerCommand
-    ∷ many loader.LC_DATA_IN_CODE structure.LinkeditDataCommand
-    ∷ many loader.LC_DYLIB_CODE_SIGN_DRS structure.LinkeditDataCommand
-    ∷ many loader.LC_ENCRYPTION_INFO_64 structure.EncryptionInfoCommand64
-    ∷ many loader.LC_LINKER_OPTIMIZATION_HINT structure.LinkeditDataCommand
-    ∷ many loader.LC_NOTE structure.NoteCommand
-    ∷ many loader.LC_BUILD_VERSION structure.BuildVersionCommand
-    ∷ many loader.LC_LOAD_WEAK_DYLIB structure.DylibCommand
-    ∷ many loader.LC_RPATH structure.RpathCommand
-    ∷ many loader.LC_REEXPORT_DYLIB structure.DylibCommand
-    ∷ many loader.LC_DYLD_INFO_ONLY structure.DyldInfoCommand
-    ∷ many loader.LC_LOAD_UPWARD_DYLIB structure.DylibCommand
-    ∷ one loader.LC_MAIN structure.EntryPointCommand
-    ∷ many loader.LC_DYLD_EXPORTS_TRIE structure.LinkeditDataCommand
-    ∷ many loader.LC_DYLD_CHAINED_FIXUPS structure.LinkeditDataCommand
+-- those of which an image has at most one
+abbrev pub unique_commands : List LoadCommand
+unique_commands =
+    listed loader.LC_SYMTAB structure.SymtabCommand
+    ∷ listed loader.LC_DYSYMTAB structure.DysymtabCommand
+    ∷ listed loader.LC_ID_DYLIB structure.DylibCommand
+    ∷ listed loader.LC_UUID structure.UuidCommand
+    ∷ listed loader.LC_MAIN structure.EntryPointCommand
     ∷ []
 
--- the line of the list for a kind of command, which is its cmd
+-- those of which it has any number
+abbrev pub repeatable_commands : List LoadCommand
+repeatable_commands =
+    listed loader.LC_LOAD_DYLIB structure.DylibCommand
+    ∷ listed loader.LC_LOAD_DYLINKER structure.DylinkerCommand
+    ∷ listed loader.LC_ID_DYLINKER structure.DylinkerCommand
+    ∷ listed loader.LC_SEGMENT_64 structure.SegmentCommand64
+    ∷ listed loader.LC_CODE_SIGNATURE structure.LinkeditDataCommand
+    ∷ listed loader.LC_SEGMENT_SPLIT_INFO structure.LinkeditDataCommand
+    ∷ listed loader.LC_LAZY_LOAD_DYLIB structure.DylibCommand
+    ∷ listed loader.LC_DYLD_INFO structure.DyldInfoCommand
+    ∷ listed loader.LC_FUNCTION_STARTS structure.LinkeditDataCommand
+    ∷ listed loader.LC_DYLD_ENVIRONMENT structure.DylinkerCommand
+    ∷ listed loader.LC_DATA_IN_CODE structure.LinkeditDataCommand
+    ∷ listed loader.LC_DYLIB_CODE_SIGN_DRS structure.LinkeditDataCommand
+    ∷ listed loader.LC_ENCRYPTION_INFO_64 structure.EncryptionInfoCommand64
+    ∷ listed loader.LC_LINKER_OPTIMIZATION_HINT structure.LinkeditDataCommand
+    ∷ listed loader.LC_NOTE structure.NoteCommand
+    ∷ listed loader.LC_BUILD_VERSION structure.BuildVersionCommand
+    ∷ listed loader.LC_LOAD_WEAK_DYLIB structure.DylibCommand
+    ∷ listed loader.LC_RPATH structure.RpathCommand
+    ∷ listed loader.LC_REEXPORT_DYLIB structure.DylibCommand
+    ∷ listed loader.LC_DYLD_INFO_ONLY structure.DyldInfoCommand
+    ∷ listed loader.LC_LOAD_UPWARD_DYLIB structure.DylibCommand
+    ∷ listed loader.LC_DYLD_EXPORTS_TRIE structure.LinkeditDataCommand
+    ∷ listed loader.LC_DYLD_CHAINED_FIXUPS structure.LinkeditDataCommand
+    ∷ []
+
+-- the line of the lists for a kind of command
 abbrev pub load_command_of : ℕ → Option LoadCommand
-load_command_of kind = find (λ command. command.cmd == kind) load_commands
+load_command_of kind =
+    option_or (find (λ command. command.cmd == kind) unique_commands)
+    (find (λ command. command.cmd == kind) repeatable_commands)
 
 -- the structure of a listed command, by its kind
 abbrev pub structure_of : ℕ → Option Structure
 structure_of kind = option_map (λ command. command.structure) (load_command_of kind)
 
+-- the kinds of which an image has at most one command
+abbrev pub unique_kinds : List ℕ
+unique_kinds = map (λ command. command.cmd) unique_commands
+
+-- where a kind stands among them
+abbrev pub unique_index : ℕ → Option ℕ
+unique_index kind = position (λ command. command.cmd == kind) unique_commands
+
 -- an image has at most one command of this kind
 abbrev pub IsUnique : ℕ → Type 0
-IsUnique kind = IsSomeAnd (load_command_of kind) (λ command. command.is_unique ≡ true)
+IsUnique kind = IsTrue (list_any (λ command. command.cmd == kind) unique_commands)
 
 -- the size of a structure in bytes
 abbrev pub structure_size : Structure → ℕ
@@ -99,13 +113,20 @@ is_dylib_command other = false
 abbrev pub names_library : ℕ → Bool
 names_library kind = option_map_or is_dylib_command (structure_of kind) false
 
--- The records that follow a structure, by the offset of the 32-bit field with their number, and the
--- size of one: segment_command_64.nsects counts section_64, build_version_command.ntools counts
--- build_tool_version.
+-- The records that follow a structure: the offset of the 32-bit field with their number, and the size
+-- of one.
+
+-- segment_command_64: nsects, of section_64
+abbrev pub section_records : Records
+section_records = record { count = 64; size = loader.SECTION_64_SIZE }
+
+-- build_version_command: ntools, of build_tool_version
+abbrev pub tool_records : Records
+tool_records = record { count = 20; size = loader.BUILD_TOOL_VERSION_SIZE }
+
 abbrev pub records_of : Structure → Option Records
-records_of structure.SegmentCommand64 = Some (record { count = 64; size = loader.SECTION_64_SIZE })
-records_of structure.BuildVersionCommand =
-    Some (record { count = 20; size = loader.BUILD_TOOL_VERSION_SIZE })
+records_of structure.SegmentCommand64 = Some section_records
+records_of structure.BuildVersionCommand = Some tool_records
 records_of other = None
 
 -- the width of a field in bytes

@@ -5,6 +5,7 @@ use Rattle.std.specs.List.{range_with_len}
 use Rattle.std.specs.Option.{option_map}
 use Rattle.macho_fields.specs.Field.{Covers}
 use Rattle.macho_fields.specs.Image.{word, long, commands_of, of_kind}
+use Rattle.macho_fields.specs.LoadCommands.{section_records}
 use Rattle.macho_fields.specs.declared.header.loader.TheConstants as loader
 use Rattle.macho_fields.specs.declared.header.vm_prot.TheConstants as vm_prot
 
@@ -12,7 +13,7 @@ use Rattle.macho_fields.specs.declared.header.vm_prot.TheConstants as vm_prot
 abbrev pub segments_of : List ℕ → List ℕ → List ℕ
 segments_of image commands = of_kind image loader.LC_SEGMENT_64 commands
 
--- segment_command_64: vmaddr at 24, vmsize 32, fileoff 40, filesize 48, initprot 60, nsects 64
+-- segment_command_64: vmaddr at 24, vmsize 32, fileoff 40, filesize 48, initprot 60, and nsects
 abbrev pub vmaddr : List ℕ → ℕ → ℕ
 vmaddr image segment = long image (segment + 24)
 
@@ -29,7 +30,7 @@ abbrev pub initprot : List ℕ → ℕ → ℕ
 initprot image segment = word image (segment + 60)
 
 abbrev pub nsects : List ℕ → ℕ → ℕ
-nsects image segment = word image (segment + 64)
+nsects image segment = word image (segment + section_records.count)
 
 -- the sections of a segment, the section_64 that follow its segment_command_64
 abbrev pub sections_in : List ℕ → ℕ → List ℕ

@@ -155,10 +155,12 @@ HasEndlessName image symtab symbol =
 
 -- nlist_64.n_type: the symbol is no debugging entry (N_STAB), and n_sect is to be the number of a
 -- section (N_TYPE, N_SECT)
+abbrev pub IsSectionType : ℕ → Type 0
+IsSectionType bits =
+    (bit_and bits nlist.N_STAB ≡ 0) × (bit_and bits nlist.N_TYPE ≡ nlist.N_SECT)
+
 abbrev pub NamesSection : List ℕ → ℕ → Type 0
-NamesSection image symbol =
-    (bit_and (n_type image symbol) nlist.N_STAB ≡ 0)
-    × (bit_and (n_type image symbol) nlist.N_TYPE ≡ nlist.N_SECT)
+NamesSection image symbol = IsSectionType (n_type image symbol)
 
 -- the symbol names a section, and none of so many sections has its number
 abbrev pub IsInNoSection : List ℕ → ℕ → ℕ → Type 0

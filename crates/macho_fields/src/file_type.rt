@@ -65,6 +65,3 @@ fn first_of(number: u32, file_types: &[FileType]) -> Option<&FileType>
         .iter()
         .find(|file_type| file_type.number == number)
 }
-
-#[cfg(test)]
-mod tests;

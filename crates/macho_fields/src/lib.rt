@@ -15,7 +15,8 @@ pub mod spans;
 pub use bytes::{Bytes, Order};
 pub use file_type::{FileType, Kind, file_type_of};
 pub use load_command::{
-    LoadCommand, Records, Structure, TableFields, Width, is_unique, names_library, structure_of,
+    LoadCommand, Records, Structure, TableFields, UNIQUE_COUNT, Width, names_library, structure_of,
+    unique_index,
 };
 pub use overlap::SpanList;
 pub use rule::{Break, Rule};

@@ -1,15 +1,15 @@
 //! The load commands that are judged: the structure of each, and what the structure has.
 //! (`mach-o/loader.h`)
 
-ghost use Rattle.std.specs.Prelude.{◌≡◌, ◌==◌, ◌↔◌, find, IsTrue};
+ghost use Rattle.std.specs.Prelude.{◌≡◌, ◌<◌, ◌==◌, find, IfSome};
 ghost use Rattle.std.specs.Option.{option_map};
-ghost use Rattle.macho_fields.specs.LoadCommands.{IsUnique, load_command_of, structure_of};
-ghost use Rattle.macho_fields.specs.LoadCommands.{names_library};
+ghost use Rattle.macho_fields.specs.LoadCommands.{load_command_of, structure_of};
+ghost use Rattle.macho_fields.specs.LoadCommands.{names_library, unique_index};
 
 use crate::header::loader::build_version_command::NTOOLS;
 use crate::header::loader::dyld_info_command::{
-    BIND_OFF, BIND_SIZE, EXPORT_OFF, EXPORT_SIZE, LAZY_BIND_OFF, LAZY_BIND_SIZE, REBASE_OFF,
-    REBASE_SIZE, WEAK_BIND_OFF, WEAK_BIND_SIZE,
+    BIND_OFF, BIND_SIZE_OFFSET, EXPORT_OFF, EXPORT_SIZE_OFFSET, LAZY_BIND_OFF,
+    LAZY_BIND_SIZE_OFFSET, REBASE_OFF, REBASE_SIZE_OFFSET, WEAK_BIND_OFF, WEAK_BIND_SIZE_OFFSET,
 };
 use crate::header::loader::dysymtab_command::{
     EXTREFSYMOFF, EXTRELOFF, INDIRECTSYMOFF, LOCRELOFF, MODTABOFF, NEXTREFSYMS, NEXTREL,
@@ -17,7 +17,7 @@ use crate::header::loader::dysymtab_command::{
 };
 use crate::header::loader::encryption_info_command_64::{CRYPTOFF, CRYPTSIZE};
 use crate::header::loader::linkedit_data_command::{DATAOFF, DATASIZE};
-use crate::header::loader::note_command::{OFFSET, SIZE};
+use crate::header::loader::note_command::{OFFSET, SIZE_OFFSET};
 use crate::header::loader::segment_command_64::NSECTS;
 use crate::header::loader::symtab_command::{NSYMS, STROFF, STRSIZE, SYMOFF};
 use crate::header::loader::{
@@ -139,18 +139,18 @@ const LINKEDIT_DATA_TABLES: &[TableFields] = &[table!(DATAOFF, DATASIZE, Uint32,
 
 /// Bytes of five kinds.
 const DYLD_INFO_TABLES: &[TableFields] = &[
-    table!(REBASE_OFF, REBASE_SIZE, Uint32, 1),
-    table!(BIND_OFF, BIND_SIZE, Uint32, 1),
-    table!(WEAK_BIND_OFF, WEAK_BIND_SIZE, Uint32, 1),
-    table!(LAZY_BIND_OFF, LAZY_BIND_SIZE, Uint32, 1),
-    table!(EXPORT_OFF, EXPORT_SIZE, Uint32, 1),
+    table!(REBASE_OFF, REBASE_SIZE_OFFSET, Uint32, 1),
+    table!(BIND_OFF, BIND_SIZE_OFFSET, Uint32, 1),
+    table!(WEAK_BIND_OFF, WEAK_BIND_SIZE_OFFSET, Uint32, 1),
+    table!(LAZY_BIND_OFF, LAZY_BIND_SIZE_OFFSET, Uint32, 1),
+    table!(EXPORT_OFF, EXPORT_SIZE_OFFSET, Uint32, 1),
 ];
 
 /// The encrypted bytes.
 const ENCRYPTION_INFO_TABLES: &[TableFields] = &[table!(CRYPTOFF, CRYPTSIZE, Uint32, 1)];
 
 /// The data, as bytes.
-const NOTE_TABLES: &[TableFields] = &[table!(OFFSET, SIZE, Uint64, 1)];
+const NOTE_TABLES: &[TableFields] = &[table!(OFFSET, SIZE_OFFSET, Uint64, 1)];
 
 impl Structure {
     ghost use Rattle.std.specs.Prelude.{◌≡◌, ◌+◌, ◌≤◌, All, IsTrue, IfSome};
@@ -233,70 +233,64 @@ pub struct LoadCommand {
     pub cmd: u32,
     /// Its structure.
     pub structure: Structure,
-    /// Whether an image has at most one.
-    pub is_unique: bool,
 }
 
-/// A load command of which an image has any number.
-macro_rules! many {
+/// A load command, by the name of its `cmd` and its structure.
+macro_rules! command {
     ($cmd:ident, $structure:ident) => {
         LoadCommand {
             cmd: loader::$cmd,
             structure: Structure::$structure,
-            is_unique: false,
         }
     };
 }
 
-/// A load command of which an image has at most one.
-macro_rules! one {
-    ($cmd:ident, $structure:ident) => {
-        LoadCommand {
-            cmd: loader::$cmd,
-            structure: Structure::$structure,
-            is_unique: true,
-        }
-    };
-}
+/// How many load commands there are of which an image has at most one.
+pub const UNIQUE_COUNT: usize = 5;
 
-/// The load commands that are judged, in the order of their numbers: of `one` an image has at most
-/// one, of `many` any number.
-const LOAD_COMMANDS: &[LoadCommand] = &[
-    one!(LC_SYMTAB, SymtabCommand),
-    one!(LC_DYSYMTAB, DysymtabCommand),
-    many!(LC_LOAD_DYLIB, DylibCommand),
-    one!(LC_ID_DYLIB, DylibCommand),
-    many!(LC_LOAD_DYLINKER, DylinkerCommand),
-    many!(LC_ID_DYLINKER, DylinkerCommand),
-    many!(LC_SEGMENT_64, SegmentCommand64),
-    one!(LC_UUID, UuidCommand),
-    many!(LC_CODE_SIGNATURE, LinkeditDataCommand),
-    many!(LC_SEGMENT_SPLIT_INFO, LinkeditDataCommand),
-    many!(LC_LAZY_LOAD_DYLIB, DylibCommand),
-    many!(LC_DYLD_INFO, DyldInfoCommand),
-    many!(LC_FUNCTION_STARTS, LinkeditDataCommand),
-    many!(LC_DYLD_ENVIRONMENT, DylinkerCommand),
-    many!(LC_DATA_IN_CODE, LinkeditDataCommand),
-    many!(LC_DYLIB_CODE_SIGN_DRS, LinkeditDataCommand),
-    many!(LC_ENCRYPTION_INFO_64, EncryptionInfoCommand64),
-    many!(LC_LINKER_OPTIMIZATION_HINT, LinkeditDataCommand),
-    many!(LC_NOTE, NoteCommand),
-    many!(LC_BUILD_VERSION, BuildVersionCommand),
-    many!(LC_LOAD_WEAK_DYLIB, DylibCommand),
-    many!(LC_RPATH, RpathCommand),
-    many!(LC_REEXPORT_DYLIB, DylibCommand),
-    many!(LC_DYLD_INFO_ONLY, DyldInfoCommand),
-    many!(LC_LOAD_UPWARD_DYLIB, DylibCommand),
-    one!(LC_MAIN, EntryPointCommand),
-    many!(LC_DYLD_EXPORTS_TRIE, LinkeditDataCommand),
-    many!(LC_DYLD_CHAINED_FIXUPS, LinkeditDataCommand),
+/// The load commands of which an image has at most one, in the order of their numbers.
+const UNIQUE_COMMANDS: [LoadCommand; UNIQUE_COUNT] = [
+    command!(LC_SYMTAB, SymtabCommand),
+    command!(LC_DYSYMTAB, DysymtabCommand),
+    command!(LC_ID_DYLIB, DylibCommand),
+    command!(LC_UUID, UuidCommand),
+    command!(LC_MAIN, EntryPointCommand),
 ];
 
-/// What the list says of a command with this `cmd`, or `None` where it is not judged.
+/// The load commands of which an image has any number, in the order of their numbers.
+const REPEATABLE_COMMANDS: &[LoadCommand] = &[
+    command!(LC_LOAD_DYLIB, DylibCommand),
+    command!(LC_LOAD_DYLINKER, DylinkerCommand),
+    command!(LC_ID_DYLINKER, DylinkerCommand),
+    command!(LC_SEGMENT_64, SegmentCommand64),
+    command!(LC_CODE_SIGNATURE, LinkeditDataCommand),
+    command!(LC_SEGMENT_SPLIT_INFO, LinkeditDataCommand),
+    command!(LC_LAZY_LOAD_DYLIB, DylibCommand),
+    command!(LC_DYLD_INFO, DyldInfoCommand),
+    command!(LC_FUNCTION_STARTS, LinkeditDataCommand),
+    command!(LC_DYLD_ENVIRONMENT, DylinkerCommand),
+    command!(LC_DATA_IN_CODE, LinkeditDataCommand),
+    command!(LC_DYLIB_CODE_SIGN_DRS, LinkeditDataCommand),
+    command!(LC_ENCRYPTION_INFO_64, EncryptionInfoCommand64),
+    command!(LC_LINKER_OPTIMIZATION_HINT, LinkeditDataCommand),
+    command!(LC_NOTE, NoteCommand),
+    command!(LC_BUILD_VERSION, BuildVersionCommand),
+    command!(LC_LOAD_WEAK_DYLIB, DylibCommand),
+    command!(LC_RPATH, RpathCommand),
+    command!(LC_REEXPORT_DYLIB, DylibCommand),
+    command!(LC_DYLD_INFO_ONLY, DyldInfoCommand),
+    command!(LC_LOAD_UPWARD_DYLIB, DylibCommand),
+    command!(LC_DYLD_EXPORTS_TRIE, LinkeditDataCommand),
+    command!(LC_DYLD_CHAINED_FIXUPS, LinkeditDataCommand),
+];
+
+/// What the lists say of a command with this `cmd`, or `None` where it is not judged.
 pub fn load_command_of(cmd: u32) -> Option<LoadCommand>
     ensures { result ≡ load_command_of cmd }
 {
-    first_of(cmd, LOAD_COMMANDS).copied()
+    first_of(cmd, &UNIQUE_COMMANDS)
+        .or_else(|| first_of(cmd, REPEATABLE_COMMANDS))
+        .copied()
 }
 
 /// The first of the commands with this `cmd`.
@@ -314,11 +308,15 @@ pub fn structure_of(cmd: u32) -> Option<Structure>
     load_command_of(cmd).map(|command| command.structure)
 }
 
-/// Whether an image has at most one command with this `cmd`.
-pub fn is_unique(cmd: u32) -> bool
-    ensures { IsTrue result ↔ IsUnique cmd }
+/// Where a command with this `cmd` stands among those of which an image has at most one, from 0 on, or
+/// `None` where an image has any number of them, or it is not judged.
+pub fn unique_index(cmd: u32) -> Option<usize>
+    ensures index { result ≡ unique_index cmd }
+    ensures inside { IfSome result (λ index. index < UNIQUE_COUNT) }
 {
-    load_command_of(cmd).is_some_and(|command| command.is_unique)
+    UNIQUE_COMMANDS
+        .iter()
+        .position(|command| command.cmd == cmd)
 }
 
 /// Whether a command with this `cmd` names a library.
@@ -327,6 +325,3 @@ pub fn names_library(cmd: u32) -> bool
 {
     structure_of(cmd) == Some(Structure::DylibCommand)
 }
-
-#[cfg(test)]
-mod tests;

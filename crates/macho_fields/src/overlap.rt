@@ -113,6 +113,3 @@ fn least_sharing(items: &[Numbered]) -> u64
     }
     high - 1
 }
-
-#[cfg(test)]
-mod tests;

@@ -171,6 +171,3 @@ impl fmt::Display for Break {
         f.pad(text.as_str())
     }
 }
-
-#[cfg(test)]
-mod tests;

@@ -132,6 +132,3 @@ fn gap_for(held: &mut Held, span: Span) -> Option<usize>
     let after = next < held.len() && held.shares(next, span);
     if before || after { None } else { Some(next) }
 }
-
-#[cfg(test)]
-mod tests;

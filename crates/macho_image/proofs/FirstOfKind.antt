@@ -1,22 +1,20 @@
 -- The first command of each unique kind.
-use Rattle.std.proofs.Common.{◌≡◌, ◌==◌, ◌&&◌, ◌||◌, ℕ, suc, zero, ◌<◌, ◌⊎◌, List, [], ◌∷◌, ◌++◌, Bool, true, false, not, cond}
-use Rattle.std.proofs.Common.{map, length, set, get_or, Contains, IsSomeAnd, Option, Some, None, refl, sym, ap, ap₂, ◌∙◌, subst, arith, inl, inr}
-use Rattle.std.specs.Prelude.{find, ⊤}
-use Rattle.std.specs.List.{position, list_any, list_all, position_or_len}
+use Rattle.std.proofs.Common.{◌≡◌, ◌==◌, ◌&&◌, ℕ, suc, zero, ◌<◌, ◌⊎◌, List, [], ◌∷◌, ◌++◌, Bool, true, false, not, cond}
+use Rattle.std.proofs.Common.{map, length, set, get_or, Contains, Option, Some, None, refl, sym, ap, ap₂, ◌∙◌, subst, arith, inl, inr}
+use Rattle.std.specs.Prelude.{⊤}
+use Rattle.std.specs.List.{list_any, position_or_len}
 use Rattle.std.specs.Option.{option_or}
 use Rattle.std.proofs.lemmas.List.Quantifiers.{position-Some}
 use Rattle.std.proofs.lemmas.Bool.{cases_Bool, cases_lt, lt-ltb, false≢true, and_parts, not-true, eqb-true, eq-eqb, ne_eqb}
-use Rattle.std.proofs.lemmas.List.{get_or-map}
-use Rattle.std.proofs.lemmas.List.Folds.{Any-from_list_any}
-use Rattle.std.proofs.lemmas.List.Sums.{fails_before_first, AllPass-from_list_all}
+use Rattle.std.proofs.lemmas.List.{get_or-map, get_or_default}
+use Rattle.std.proofs.lemmas.List.Folds.{Any-from_list_any, list_any-from_Any}
+use Rattle.std.proofs.lemmas.List.Sums.{fails_before_first}
 use Rattle.macho_fields.specs.Image.{command_kind}
-use Rattle.macho_fields.specs.LoadCommands.{load_commands, load_command_of, IsUnique}
+use Rattle.macho_fields.specs.LoadCommands.{unique_commands, unique_kinds, unique_index, IsUnique}
 use Rattle.macho_fields.specs.declared.load_command.LoadCommand.{LoadCommand}
-use Rattle.macho_fields.proofs.Options.{some_of}
-use Rattle.macho_image.specs.Scaffold.{unique_kinds}
-use Rattle.macho_fields.proofs.Lists.{none_by_test, none_in_nil, contains_first}
+use Rattle.macho_fields.specs.declared.load_command.Structure.TheVariants.{SymtabCommand}
+use Rattle.macho_fields.proofs.Lists.{none_by_test, none_in_nil, contains_first, contains_later}
 use Rattle.macho_image.specs.Command.{first_of_kind}
-use Rattle.macho_image.proofs.Passed.{contains_later}
 
 first_by : (image : List ℕ) (kind x : ℕ) (xs : List ℕ) → first_of_kind image kind (x ∷ xs) ≡ cond (command_kind image x == kind) (Some x) (first_of_kind image kind xs)
 first_by image kind x xs = elim (cases_Bool (command_kind image x == kind)) [ inl of_it ↦ rw of_it refl | inr other ↦ rw other refl ]
@@ -95,68 +93,42 @@ set_one f g kind (suc i) v (k ∷ ks) distinct less at others is =
 
 -- The places of the first commands
 
+abbrev no_command : LoadCommand
+no_command = record { cmd = 0; structure = SymtabCommand }
+
 -- the kind at a position
-kind_at : (kind i : ℕ) → position (λ unique. unique == kind) unique_kinds ≡ Some i → (i < length unique_kinds) × (get_or unique_kinds i kind ≡ kind)
+kind_at : (kind i : ℕ) → unique_index kind ≡ Some i → (i < length unique_kinds) × (get_or unique_kinds i kind ≡ kind)
 kind_at kind i is =
-    let (less, test, before) = position-Some (λ unique. unique == kind) unique_kinds i kind is in
-    (less, eqb-true (get_or unique_kinds i kind) kind test)
+    let (less, test, before) = position-Some (λ command. command.cmd == kind) unique_commands i no_command is in
+    (less, get_or-map (λ command. command.cmd) unique_commands i no_command kind less ∙ eqb-true _ kind test)
 
--- the unique kinds are those of the registry
-abbrev is_unique : Option LoadCommand → Bool
-is_unique None = false
-is_unique (Some c) = c.is_unique
-
-listed_is_unique : (kind : ℕ) → Contains unique_kinds kind → IsUnique kind
-listed_is_unique kind (i, less, at) =
-    of_test (load_command_of kind) (subst (λ k. is_unique (load_command_of k) ≡ true) at (AllPass-from_list_all (λ k. is_unique (load_command_of k)) unique_kinds refl i kind less))
-  where
-    of_test : (o : Option LoadCommand) → is_unique o ≡ true → IsSomeAnd o (λ c. c.is_unique ≡ true)
-    of_test None t = absurd (false≢true t)
-    of_test (Some c) t = t
-
-pub unique_is_listed : (kind : ℕ) → IsUnique kind → Contains unique_kinds kind
-unique_is_listed kind unique =
-    let (c, found, is) = some_of (λ (c : LoadCommand). c.is_unique ≡ true) (load_command_of kind) unique in
-    among load_commands refl c found is
-  where
-    among : (lines : List LoadCommand) → list_all (λ c. not c.is_unique || list_any (λ k. k == c.cmd) unique_kinds) lines ≡ true → (c : LoadCommand)
-        → find (λ c. c.cmd == kind) lines ≡ Some c → c.is_unique ≡ true → Contains unique_kinds kind
-    among [] passes c found is = absurd (cc)
-    among (line ∷ lines) passes c found is =
-        let both = and_parts (not line.is_unique || list_any (λ k. k == line.cmd) unique_kinds)
-        (list_all (λ (c : LoadCommand). not c.is_unique || list_any (λ k. k == c.cmd) unique_kinds) lines) passes in
-        elim (cases_Bool (line.cmd == kind)) [
-          | inl here ↦
-              let same : Some line ≡ Some c = rw here at found in
-              let line_is : line ≡ c = cc in
-              let unique : line.is_unique ≡ true = ap (λ (l : LoadCommand). l.is_unique) line_is ∙ is in
-              let any : list_any (λ k. k == line.cmd) unique_kinds ≡ true = rw unique at both.0 in
-              let (k, x, less, at, e) = Any-from_list_any (λ k. k == line.cmd) unique_kinds any in
-              let x_is : x ≡ kind = eqb-true x line.cmd e ∙ eqb-true line.cmd kind here in
-              subst (Contains unique_kinds) x_is (k, less, at)
-          | inr other ↦ among lines both.1 c (rw other at found) is
-        ]
-
-pub kind_at_unique : (kind i : ℕ) → position (λ unique. unique == kind) unique_kinds ≡ Some i → IsUnique kind
-kind_at_unique kind i is = let (less, at) = kind_at kind i is in listed_is_unique kind (i, less, at)
-
-pub no_kind_at : (kind : ℕ) → position (λ unique. unique == kind) unique_kinds ≡ None → ¬ Contains unique_kinds kind
-no_kind_at kind none (i, less, at) = elim (cases_lt (position_or_len is unique_kinds) (length unique_kinds)) [
-  | inl found ↦ absurd (let some : cond true (Some (position_or_len is unique_kinds)) None ≡ None =
-      subst (λ b. cond b (Some (position_or_len is unique_kinds)) None ≡ None) (lt-ltb _ _ found) none in cc)
-  | inr past ↦ false≢true (sym (fails_before_first is unique_kinds i kind (omega arith)) ∙ eq-eqb _ kind at)
+no_kind_at : (kind : ℕ) → unique_index kind ≡ None → ¬ Contains unique_kinds kind
+no_kind_at kind none (i, less, at) = elim (cases_lt (position_or_len is unique_commands) (length unique_commands)) [
+  | inl found ↦ absurd (let some : cond true (Some (position_or_len is unique_commands)) None ≡ None =
+      subst (λ b. cond b (Some (position_or_len is unique_commands)) None ≡ None) (lt-ltb _ _ found) none in cc)
+  | inr past ↦ false≢true (sym (fails_before_first is unique_commands i no_command (omega arith)) ∙ eq-eqb _ kind (sym (get_or-map (λ command. command.cmd) unique_commands i no_command kind less) ∙ at))
 ]
   where
-    is : ℕ → Bool
-    is unique = unique == kind
+    is : LoadCommand → Bool
+    is command = command.cmd == kind
 
-pub place_at : (image commands : List ℕ) (places : List (Option ℕ)) (kind i : ℕ) → position (λ unique. unique == kind) unique_kinds ≡ Some i
+pub index_is_unique : (kind i : ℕ) → unique_index kind ≡ Some i → IsUnique kind
+index_is_unique kind i is =
+    let (less, test, before) = position-Some (λ command. command.cmd == kind) unique_commands i no_command is in
+    list_any-from_Any (λ command. command.cmd == kind) unique_commands (i, get_or unique_commands i no_command, less, get_or_default unique_commands i _ no_command less, test)
+
+pub no_index_is_unique : (kind : ℕ) → unique_index kind ≡ None → ¬ IsUnique kind
+no_index_is_unique kind none unique =
+    let (i, command, less, at, test) = Any-from_list_any (λ command. command.cmd == kind) unique_commands unique in
+    no_kind_at kind none (i, less, get_or-map (λ command. command.cmd) unique_commands i command kind less ∙ (ap (λ (c : LoadCommand). c.cmd) at ∙ eqb-true command.cmd kind test))
+
+pub place_at : (image commands : List ℕ) (places : List (Option ℕ)) (kind i : ℕ) → unique_index kind ≡ Some i
     → places ≡ map (λ unique. first_of_kind image unique commands) unique_kinds → get_or places i None ≡ first_of_kind image kind commands
 place_at image commands places kind i is first =
     let (less, at) = kind_at kind i is in
     ap (λ ps. get_or ps i None) first ∙ (get_or-map (λ unique. first_of_kind image unique commands) unique_kinds i kind None less ∙ ap (λ unique. first_of_kind image unique commands) at)
 
-pub note_place : (image commands : List ℕ) (places : List (Option ℕ)) (kind i p : ℕ) → position (λ unique. unique == kind) unique_kinds ≡ Some i → kind ≡ command_kind image p
+pub note_place : (image commands : List ℕ) (places : List (Option ℕ)) (kind i p : ℕ) → unique_index kind ≡ Some i → kind ≡ command_kind image p
     → places ≡ map (λ unique. first_of_kind image unique commands) unique_kinds
     → set places i (option_or (get_or places i None) (Some p)) ≡ map (λ unique. first_of_kind image unique (commands ++ p ∷ [])) unique_kinds
 note_place image commands places kind i p is kind_is first =
@@ -172,15 +144,11 @@ note_place image commands places kind i p is kind_is first =
     others : (k : ℕ) → ¬ (k ≡ kind) → first_of_kind image k (commands ++ p ∷ []) ≡ first_of_kind image k commands
     others k other = first_other image k p commands (λ same. other (sym (kind_is ∙ same)))
 
-pub note_other : (image commands : List ℕ) (places : List (Option ℕ)) (kind p : ℕ) → position (λ unique. unique == kind) unique_kinds ≡ None → kind ≡ command_kind image p
+pub note_other : (image commands : List ℕ) (places : List (Option ℕ)) (kind p : ℕ) → unique_index kind ≡ None → kind ≡ command_kind image p
     → places ≡ map (λ unique. first_of_kind image unique commands) unique_kinds → places ≡ map (λ unique. first_of_kind image unique (commands ++ p ∷ [])) unique_kinds
 note_other image commands places kind p is kind_is first =
     first ∙ sym (same_values (λ unique. first_of_kind image unique commands) (λ unique. first_of_kind image unique (commands ++ p ∷ [])) unique_kinds
     (λ k has. first_other image k p commands (λ same. no_kind_at kind is (subst (Contains unique_kinds) (sym (kind_is ∙ same)) has))))
 
 pub unique_or_not : (kind : ℕ) → IsUnique kind ⊎ ¬ IsUnique kind
-unique_or_not kind = by_position (position (λ unique. unique == kind) unique_kinds) refl
-  where
-    by_position : (o : Option ℕ) → position (λ unique. unique == kind) unique_kinds ≡ o → IsUnique kind ⊎ ¬ IsUnique kind
-    by_position None is = inr (λ unique. no_kind_at kind is (unique_is_listed kind unique))
-    by_position (Some i) is = inl (kind_at_unique kind i is)
+unique_or_not kind = elim (cases_Bool (list_any (λ command. command.cmd == kind) unique_commands)) [ inl unique ↦ inl unique | inr other ↦ inr (λ unique. false≢true (sym other ∙ unique)) ]

@@ -1,11 +1,11 @@
 -- The commands of an image, of which some are passed and the others are left.
-use Rattle.std.proofs.Common.{◌≡◌, ℕ, suc, zero, ◌+◌, ◌≤◌, ◌<◌, ◌⊎◌, List, [], ◌∷◌, ◌++◌, map, Contains, refl, sym, ap, ◌∙◌, subst, arith, inl, inr, append_assoc, Option}
+use Rattle.std.proofs.Common.{◌≡◌, ℕ, ◌+◌, ◌≤◌, ◌<◌, List, [], ◌∷◌, ◌++◌, map, Contains, refl, sym, ap, ◌∙◌, subst, arith, inl, inr, append_assoc, Option}
 use Rattle.std.proofs.lemmas.Bool.{cases_lt}
 use Rattle.std.proofs.lemmas.List.{append-nil}
 use Rattle.std.proofs.lemmas.List.Elements.{All-contains, Contains-append_left, Contains-append_right, Contains-append_cases}
 use Rattle.macho_fields.specs.Image.{command_size, commands_of, Follow, AreCommands}
 use Rattle.macho_fields.proofs.Chains.{places_above}
-use Rattle.macho_fields.proofs.Lists.{none_in_nil, contains_first}
+use Rattle.macho_fields.proofs.Lists.{none_in_nil, contains_first, first_or_later}
 use Rattle.macho_fields.specs.Rules.{BreaksHeader, BreaksCommands, BreaksImage}
 use Rattle.macho_fields.specs.First.{rank}
 use Rattle.macho_fields.specs.Layers.{IsLeast}
@@ -14,9 +14,6 @@ use Rattle.macho_fields.specs.declared.rule.Rule.TheVariants as rule
 use Rattle.macho_fields.specs.declared.rule.Break.{Break}
 use Rattle.macho_image.specs.Command.{CommandView, command_at}
 use Rattle.macho_image.proofs.Opening.{Kept, has_commands, commands_kept, commands_broken}
-
-pub contains_later : (x y : ℕ) (xs : List ℕ) → Contains xs y → Contains (x ∷ xs) y
-contains_later x y xs (k, less, at) = (suc k, omega arith, at)
 
 -- these commands are left, and none that was passed has P
 pub record Left (image : List ℕ) (P : ℕ → Type 0) (passed : List ℕ) (left : List CommandView) : Type 0 where
@@ -27,10 +24,6 @@ pub record Left (image : List ℕ) (P : ℕ → Type 0) (passed : List ℕ) (lef
 
 pub all_left : (image : List ℕ) (P : ℕ → Type 0) (left : List CommandView) → left ≡ map (command_at image) (commands_of image) → Left image P [] left
 all_left image P left is = record { places = commands_of image; all = refl; is = is; none = λ p has. absurd (none_in_nil p has) }
-
-first_or_later : (x y : ℕ) (xs : List ℕ) → Contains (x ∷ xs) y → (x ≡ y) ⊎ Contains xs y
-first_or_later x y xs (zero, less, at) = inl at
-first_or_later x y xs (suc k, less, at) = inr (k, omega arith, at)
 
 -- The first of those that are left
 

@@ -6,7 +6,7 @@ use Rattle.macho_fields.specs.Bytes.{bytes_of}
 use Rattle.macho_fields.specs.Command.{name_start}
 use Rattle.macho_fields.specs.Field.{HasZero}
 use Rattle.macho_fields.specs.Image.{command_kind, command_size, command_count, commands_end, commands_of, IsGood, places_from}
-use Rattle.macho_fields.specs.LoadCommands.{load_commands, structure_size, names_library}
+use Rattle.macho_fields.specs.LoadCommands.{structure_size, names_library, unique_kinds}
 use Rattle.macho_fields.specs.Rules.{BreaksImage}
 use Rattle.macho_fields.specs.Segment.{nsects, segments_of}
 use Rattle.macho_fields.specs.declared.header.loader.TheConstants as loader
@@ -31,11 +31,6 @@ use Rattle.macho_image.specs.declared.walk.Opening.{Opening}
 -- the bytes break the rule at the place, as an image of the architecture
 abbrev pub breaks_of : Opening → Rule → ℕ → Type 0
 breaks_of opening = BreaksImage (bytes_of opening.bytes) opening.arch
-
--- the kinds of which an image has at most one command, in the order of the list of load commands
-abbrev pub unique_kinds : List ℕ
-unique_kinds =
-    map (λ command. command.cmd) (filter (λ command. command.is_unique) load_commands)
 
 -- for each unique kind, in their order, the place is that of its first command
 pub record AreFirst (image commands : List ℕ) (unique : UniquePlaces) : Type 0 where

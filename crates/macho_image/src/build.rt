@@ -57,7 +57,7 @@ impl<'a> Iterator for Builds<'a> {
     ghost remaining = { item_count (λ left. left) };
 
     fn next(&mut self) -> Option<Build> {
-        let command = self.commands.next_of_kind(LC_BUILD_VERSION)?;
+        let command = self.commands.next_with_cmd(LC_BUILD_VERSION)?;
         Some(build_from(self.image, command.place))
     }
 }

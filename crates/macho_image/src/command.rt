@@ -15,7 +15,7 @@ use std::marker::Model;
 pub struct Command<'a> {
     /// Where it begins in the image.
     pub place: u64,
-    /// Its kind: one of the `LC_` numbers, or any other.
+    /// Which command it is: one of the `LC_` numbers, or any other.
     pub cmd: u32,
     /// Its `cmdsize`: its size in bytes.
     pub size: u32,
@@ -71,7 +71,7 @@ impl<'a> Commands<'a> {
     ghost use Rattle.macho_image.specs.Scaffold.{left_of_kind};
 
     /// The next command whose `cmd` is `wanted`. The commands before it are skipped.
-    pub(crate) fn next_of_kind(&mut self, wanted: u32) -> Option<Command<'a>>
+    pub(crate) fn next_with_cmd(&mut self, wanted: u32) -> Option<Command<'a>>
         ensures { YieldsFirstBy command_of (left_of_kind wanted) self.old result self.new }
     {
         while let Some(command) = self.next() {

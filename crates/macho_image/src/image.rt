@@ -145,7 +145,7 @@ impl<'a> Image<'a> {
         ensures { option_map command_of result ≡ option_map (command_at self.now)
             (first_of_kind self.now cmd (commands_of self.now)) }
     {
-        self.commands().next_of_kind(cmd)
+        self.commands().next_with_cmd(cmd)
     }
 
     /// The commands up to the last segment.

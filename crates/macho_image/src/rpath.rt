@@ -37,7 +37,7 @@ impl<'a> Iterator for Rpaths<'a> {
     ghost remaining = { item_count (λ left. left) };
 
     fn next(&mut self) -> Option<&'a [u8]> {
-        let command = self.commands.next_of_kind(LC_RPATH)?;
+        let command = self.commands.next_with_cmd(LC_RPATH)?;
         Some(name_of(self.image, command.place))
     }
 }

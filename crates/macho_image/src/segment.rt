@@ -143,7 +143,7 @@ impl<'a> Iterator for Segments<'a> {
     ghost remaining = { item_count (λ left. left) };
 
     fn next(&mut self) -> Option<Segment<'a>> {
-        let command = self.commands.next_of_kind(LC_SEGMENT_64)?;
+        let command = self.commands.next_with_cmd(LC_SEGMENT_64)?;
         Some(Segment {
             image: self.image,
             place: command.place,

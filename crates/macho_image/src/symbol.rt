@@ -6,7 +6,7 @@ ghost use Rattle.macho_image.specs.Symbol.{symbol_at};
 
 use crate::command::{long_at, word_at};
 use crate::image::Image;
-use macho_fields::header::nlist::NLIST_64_SIZE;
+use macho_fields::header::nlist::{N_SECT, N_STAB, N_TYPE, NLIST_64_SIZE};
 use macho_fields::{Bytes, Order};
 use std::marker::Model;
 
@@ -25,6 +25,19 @@ pub struct Symbol {
     pub desc: u16,
     /// `n_value`: its address, where it is defined in a section.
     pub value: u64,
+}
+
+impl Symbol {
+    ghost use Rattle.std.specs.Prelude.{◌↔◌, IsTrue};
+    ghost use Rattle.macho_fields.specs.Symbol.{IsSectionType};
+
+    /// Whether `sect` is to be the number of a section: the symbol is defined in one, and is no
+    /// debugging entry.
+    pub fn names_section(&self) -> bool
+        ensures { IsTrue result ↔ IsSectionType self.now.kind }
+    {
+        self.kind & N_STAB == 0 && self.kind & N_TYPE == N_SECT
+    }
 }
 
 /// The symbols of an image that remain, in the order of the table.

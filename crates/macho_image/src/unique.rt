@@ -1,21 +1,13 @@
 //! The commands of which an image has at most one. (`mach-o/loader.h`: `load_command`)
 
-ghost use Rattle.std.specs.Prelude.{◌≡◌, ◌==◌};
-ghost use Rattle.std.specs.List.{position};
-ghost use Rattle.macho_image.specs.Scaffold.{unique_kinds};
-
 use crate::command::Command;
-use macho_fields::header::loader::{LC_DYSYMTAB, LC_ID_DYLIB, LC_MAIN, LC_SYMTAB, LC_UUID};
+use macho_fields::{UNIQUE_COUNT, unique_index};
 
-/// The values of `cmd` of which an image has at most one command: those of which the registry,
-/// `macho_fields::is_unique`, says so.
-const UNIQUE_KINDS: [u32; 5] = [LC_SYMTAB, LC_DYSYMTAB, LC_ID_DYLIB, LC_UUID, LC_MAIN];
-
-/// For each of these kinds, in their order, the place of the first command of the kind, or `None`
-/// where there is none.
+/// For each of these commands, in the order of their list, `macho_fields::unique_index`, the place of
+/// the first one, or `None` where there is none.
 #[derive(Clone, Copy)]
 pub(crate) struct UniquePlaces {
-    places: [Option<u64>; 5],
+    places: [Option<u64>; UNIQUE_COUNT],
 }
 
 impl UniquePlaces {
@@ -29,7 +21,9 @@ impl UniquePlaces {
     pub(crate) fn new() -> UniquePlaces
         ensures { (image : List ℕ) → AreFirst image [] result }
     {
-        UniquePlaces { places: [None; 5] }
+        UniquePlaces {
+            places: [None; UNIQUE_COUNT],
+        }
     }
 
     /// The place of the first command with this `cmd` that was noted.
@@ -38,7 +32,7 @@ impl UniquePlaces {
             → IsUnique cmd → result ≡ first_of_kind image cmd commands }
         ensures other { ¬ IsUnique cmd → result ≡ None }
     {
-        let index = index_of(cmd)?;
+        let index = unique_index(cmd)?;
         self.places[index]
     }
 
@@ -48,15 +42,8 @@ impl UniquePlaces {
             → AreFirst image commands self.old
             → AreFirst image (commands ++ command.entry.place ∷ []) self.new }
     {
-        if let Some(index) = index_of(command.cmd) {
+        if let Some(index) = unique_index(command.cmd) {
             self.places[index] = self.places[index].or(Some(command.place));
         }
     }
-}
-
-/// Where `cmd` is among those of the unique kinds.
-fn index_of(cmd: u32) -> Option<usize>
-    ensures { result ≡ position (λ unique. unique == cmd) unique_kinds }
-{
-    UNIQUE_KINDS.iter().position(|unique| *unique == cmd)
 }

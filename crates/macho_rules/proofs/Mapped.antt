@@ -3,6 +3,7 @@ use Rattle.std.proofs.Common.{◌≡◌, ℕ, suc, zero, ◌≤◌, ◌<◌, ◌
 use Rattle.std.specs.Prelude.{nat_lt, AllPairs}
 use Rattle.std.proofs.lemmas.Bool.{cases_Bool, lt-ltb, ltb-true, false_from_ne_true}
 use Rattle.std.proofs.lemmas.List.Elements.{All-contains, Contains-get_or, filter_passes}
+use Rattle.macho_fields.proofs.Lists.{contains_first, contains_later}
 use Rattle.macho_fields.specs.Image.{commands_of}
 use Rattle.macho_fields.specs.Segment.{segments_of, vmaddr, vmsize}
 use Rattle.macho_fields.specs.declared.span.Span.{Span}
@@ -13,7 +14,7 @@ use Rattle.macho_rules.specs.Mapping.{mapped_segments}
 use Rattle.macho_rules.specs.Scaffold.{memory_at}
 use Rattle.macho_rules.specs.Verdict.{HasMapped}
 use Rattle.macho_rules.proofs.Judged.{opened_commands}
-use Rattle.macho_rules.proofs.Searches.{Ordered, ordered_filter, has_first, has_later, unfiltered, any_of}
+use Rattle.macho_rules.proofs.Searches.{Ordered, ordered_filter, unfiltered, any_of}
 use Rattle.macho_rules.proofs.SegmentItems.{AreSegments, segment_of, some_segment}
 
 ordered_from_pairs : {X : Type 0} (R : X → X → Type 0) (xs : List X) → AllPairs R xs → Ordered R xs
@@ -46,10 +47,10 @@ get_after (x ∷ xs) y ys (suc n) is = get_after xs y ys n (omega arith)
 pub filtered : {X : Type 0} (test : X → Bool) (xs : List X) (x : X) → Contains xs x → test x ≡ true → Contains (filter test xs) x
 filtered test [] x (k, less, at) is = absurd (omega arith)
 filtered test (y ∷ ys) x (zero, less, at) is =
-    let t = ap test at ∙ is in rw t (subst (Contains (y ∷ filter test ys)) at (has_first y (filter test ys)))
+    let t = ap test at ∙ is in rw t (subst (Contains (y ∷ filter test ys)) at (contains_first y (filter test ys)))
 filtered test (y ∷ ys) x (suc k, less, at) is =
     let rest = filtered test ys x (k, omega arith, at) is in
-    elim (cases_Bool (test y)) [ inl t ↦ rw t (has_later y x (filter test ys) rest) | inr f ↦ rw f rest ]
+    elim (cases_Bool (test y)) [ inl t ↦ rw t (contains_later y x (filter test ys) rest) | inr f ↦ rw f rest ]
 
 -- a span is its start and its length
 span_is : (span : Span) (start len : ℕ) → span.start ≡ start → span.len ≡ len → ◌≡◌ {A = Span} span (record { start = start; len = len })
@@ -101,7 +102,7 @@ module _ (image : List ℕ) where
     left_among t has = going.among t (subst (λ ts. Contains ts t) (sym next) has)
 
     pub passing_image : s.image ≡ image
-    passing_image = ap (λ (t : SegmentView). t.image) (segment_of image all are s (left_among s (has_first s rest)))
+    passing_image = ap (λ (t : SegmentView). t.image) (segment_of image all are s (left_among s (contains_first s rest)))
 
     pub passing_memory : (span : Span) → span.start ≡ vmaddr s.image s.place → span.len ≡ vmsize s.image s.place → span ≡ memory_at image s.place
     passing_memory span first count = span_is span _ _ (first ∙ ap (λ bytes. vmaddr bytes s.place) passing_image) (count ∙ ap (λ bytes. vmsize bytes s.place) passing_image)
@@ -110,7 +111,7 @@ module _ (image : List ℕ) where
     pub passed_over : vmsize s.image s.place ≤ 0 → ArePassed all rest seen
     passed_over none = record {
       kept = going.kept ∙ (ap (λ ts. seen ++ mapped_left ts) next ∙ ap (λ ps. seen ++ ps) same);
-      among = λ t has. left_among t (has_later s t rest has);
+      among = λ t has. left_among t (contains_later s t rest has);
     }
       where
         same : mapped_left (s ∷ rest) ≡ mapped_left rest
@@ -126,7 +127,7 @@ module _ (image : List ℕ) where
       passing_mapped = subst (λ bytes. 0 < vmsize bytes s.place) passing_image more
 
       pub some_mapped : HasMapped image
-      some_mapped = some_segment image all are (λ bytes segment. 0 < vmsize bytes segment) s (left_among s (has_first s rest)) more
+      some_mapped = some_segment image all are (λ bytes segment. 0 < vmsize bytes segment) s (left_among s (contains_first s rest)) more
 
       first_mapped : mapped_left (s ∷ rest) ≡ s.place ∷ mapped_left rest
       first_mapped = let t = lt-ltb 0 (vmsize image s.place) passing_mapped in rw t refl
@@ -138,7 +139,7 @@ module _ (image : List ℕ) where
       mapped_split = sym (all_mapped all are) ∙ split
 
       pub passed_one : ArePassed all rest (seen ++ s.place ∷ [])
-      passed_one = record { kept = split ∙ sym (append_one seen s.place (mapped_left rest)); among = λ t has. left_among t (has_later s t rest has) }
+      passed_one = record { kept = split ∙ sym (append_one seen s.place (mapped_left rest)); among = λ t has. left_among t (contains_later s t rest has) }
 
   -- where none is left, all mapped segments were gone over
   pub passed_all : (all left : List SegmentView) (seen : List ℕ) → AreSegments image all → ArePassed all left seen → left ≡ [] → seen ≡ mapped_segments image

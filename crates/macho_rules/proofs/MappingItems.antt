@@ -10,6 +10,7 @@ use Rattle.std.proofs.lemmas.List.{length-map, get_or-map, get_or_default, get_o
 use Rattle.std.proofs.lemmas.List.Elements.{All-map, All-same, Contains-get_or}
 use Rattle.std.proofs.lemmas.List.Sorted.{Contains-permutation, IsPermutation-map, IsPermutation-sym, length_permutation}
 use Rattle.std.proofs.lemmas.Map.Keys.{IsDistinct-IsPermutation, IsDistinct-from_apart, apart_from_distinct}
+use Rattle.macho_fields.proofs.Lists.{contains_first, contains_later}
 use Rattle.macho_fields.specs.Image.{commands_of}
 use Rattle.macho_fields.specs.Layers.{NothingBreaks}
 use Rattle.macho_fields.specs.Rules.{BreaksImage}
@@ -27,7 +28,7 @@ use Rattle.macho_rules.specs.declared.mapping.FilePart.{FilePart}
 use Rattle.macho_rules.proofs.Judged.{opened_commands}
 use Rattle.macho_rules.proofs.Mapped.{mapped_rise, mapped_among, among_mapped, mapped_positive, ordered_at}
 use Rattle.macho_rules.proofs.Memory.{none_holds, one_holds}
-use Rattle.macho_rules.proofs.Searches.{has_first, has_later, any_of}
+use Rattle.macho_rules.proofs.Searches.{any_of}
 
 -- The spans of a mapping
 
@@ -88,10 +89,10 @@ module _ (image : List ℕ) where
   numbered_has k [] p (j, less, at) = absurd (omega arith)
   numbered_has k (q ∷ ps) p (zero, less, at) =
       let same : ◌≡◌ {A = Span × ℕ} (memory_at image q, k) (memory_at image p, k + 0) = ap (λ r. (memory_at image r, k)) at ∙ ap (λ (n : ℕ). (memory_at image p, n)) (omega arith) in
-      (0, omega arith, at, subst (Contains (numbered_memory image k (q ∷ ps))) same (has_first (memory_at image q, k) (numbered_memory image (k + 1) ps)))
+      (0, omega arith, at, subst (Contains (numbered_memory image k (q ∷ ps))) same (contains_first (memory_at image q, k) (numbered_memory image (k + 1) ps)))
   numbered_has k (q ∷ ps) p (suc j, less, at) =
       let (i, within, is, has) = numbered_has (k + 1) ps p (j, omega arith, at) in
-      (suc i, omega arith, is, has_later (memory_at image q, k) _ _ (subst (Contains (numbered_memory image (k + 1) ps)) (ap (λ (n : ℕ). (memory_at image p, n)) (omega arith)) has))
+      (suc i, omega arith, is, contains_later (memory_at image q, k) _ _ (subst (Contains (numbered_memory image (k + 1) ps)) (ap (λ (n : ℕ). (memory_at image p, n)) (omega arith)) has))
 
   -- the pairs that were collected are those of the segments, in whatever order they stand
   pub pairs_moved : (items pairs : List (Span × ℕ)) → items ≡ numbered_memory image 0 (mapped_segments image) → IsPermutation items pairs

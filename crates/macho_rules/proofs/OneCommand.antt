@@ -4,6 +4,7 @@ use Rattle.std.specs.Prelude.{find}
 use Rattle.std.specs.Option.{option_map, option_map_or}
 use Rattle.std.proofs.lemmas.Bool.{cases_Bool, cases_order}
 use Rattle.std.proofs.lemmas.Option.{none-some, same_Some}
+use Rattle.macho_fields.proofs.Lists.{none_in_nil}
 use Rattle.macho_fields.specs.LoadCommands.{IsUnique}
 use Rattle.macho_fields.specs.Image.{command_kind, commands_of, of_kind}
 use Rattle.macho_fields.specs.First.{rank}
@@ -19,7 +20,6 @@ use Rattle.macho_image.specs.Command.{first_of_kind}
 use Rattle.macho_image.specs.Opened.{IsOpened}
 use Rattle.macho_rules.specs.Check.{KeptBefore}
 use Rattle.macho_rules.proofs.Judged.{opened_keeps, keeps_opened, opened_commands, judged_broken, judged_kept}
-use Rattle.macho_rules.proofs.Searches.{has_nothing}
 
 -- what an option has, where it is seen through a function
 pub no_first : {X : Type 0} (at : ℕ → X) (first : Option ℕ) → None ≡ option_map at first → first ≡ None
@@ -45,7 +45,7 @@ module _ (image : List ℕ) (kind : ℕ) where
   none_of_kind none c has = empty (of_kind image kind (commands_of image)) none has
     where
       empty : (xs : List ℕ) → slice_get xs 0 ≡ None → ¬ Contains xs c
-      empty [] e has_c = has_nothing c has_c
+      empty [] e has_c = none_in_nil c has_c
       empty (x ∷ xs) e has_c = none-some x (sym e)
 
   module _ (opened : IsOpened image) (unique : IsUnique kind) where

@@ -1,22 +1,10 @@
 -- A search for the first item that breaks a rule, over items whose places do not fall.
-use Rattle.std.proofs.Common.{◌≡◌, ℕ, suc, zero, ◌+◌, ◌≤◌, ◌<◌, ◌⊎◌, List, [], ◌∷◌, ◌++◌, map, filter, Any, Bool, Contains, refl, sym, subst, arith, inl, inr, le_refl}
+use Rattle.std.proofs.Common.{◌≡◌, ℕ, suc, zero, ◌+◌, ◌≤◌, ◌<◌, ◌⊎◌, List, [], ◌∷◌, ◌++◌, map, filter, Any, Bool, Contains, sym, subst, arith, inl, inr, le_refl}
 use Rattle.std.specs.Prelude.{⊤}
 use Rattle.std.specs.List.{range_with_len}
 use Rattle.std.proofs.lemmas.Bool.{cases_Bool, cases_eq}
 use Rattle.std.proofs.lemmas.List.Elements.{Contains-append_cases, All-contains, All-filter, All-contains_itself}
-
-pub has_nothing : {X : Type 0} (x : X) → ¬ Contains [] x
-has_nothing x (k, less, at) = absurd (omega arith)
-
-pub has_first : {X : Type 0} (x : X) (xs : List X) → Contains (x ∷ xs) x
-has_first x xs = (0, omega arith, refl)
-
-pub has_later : {X : Type 0} (x y : X) (xs : List X) → Contains xs y → Contains (x ∷ xs) y
-has_later x y xs (k, less, at) = (suc k, omega arith, at)
-
-pub first_or_later : {X : Type 0} (x y : X) (xs : List X) → Contains (x ∷ xs) y → (x ≡ y) ⊎ Contains xs y
-first_or_later x y xs (zero, less, at) = inl at
-first_or_later x y xs (suc k, less, at) = inr (k, omega arith, at)
+use Rattle.macho_fields.proofs.Lists.{none_in_nil, contains_first, contains_later, contains_mapped, first_or_later}
 
 -- each item and each later one have R
 abbrev pub Ordered : {X : Type 0} → (X → X → Type 0) → List X → Type 0
@@ -30,11 +18,11 @@ ordered_weaken R S to (x ∷ xs) (first, rest) = (λ y has. to x y (first y has)
 pub ordered_append : {X : Type 0} (R : X → X → Type 0) (xs ys : List X) → Ordered R xs → Ordered R ys → ((x y : X) → Contains xs x → Contains ys y → R x y) → Ordered R (xs ++ ys)
 ordered_append R [] ys up down across = down
 ordered_append {X = X} R (x ∷ xs) ys (first, up) down across =
-    (λ y has. either y (Contains-append_cases xs ys y has), ordered_append R xs ys up down (λ a b has_a has_b. across a b (has_later x a xs has_a) has_b))
+    (λ y has. either y (Contains-append_cases xs ys y has), ordered_append R xs ys up down (λ a b has_a has_b. across a b (contains_later x a xs has_a) has_b))
   where
     either : (y : X) → Contains xs y ⊎ Contains ys y → R x y
     either y (inl among) = first y among
-    either y (inr after) = across x y (has_first x xs) after
+    either y (inr after) = across x y (contains_first x xs) after
 
 pub unfiltered : {X : Type 0} (test : X → Bool) (xs : List X) (y : X) → Contains (filter test xs) y → Contains xs y
 unfiltered test xs y has = All-contains (Contains xs) (filter test xs) y (All-filter test (Contains xs) xs (All-contains_itself xs)) has
@@ -59,13 +47,13 @@ search_all place P all rising = record { rising = rising; among = λ x has. has;
 
 module _ {X : Type 0} (place : X → ℕ) (P : X → Type 0) (all left rest : List X) (x : X) (is : left ≡ x ∷ rest) (search : Searching place P all left) where
   pub first_among : Contains all x
-  first_among = search.among x (subst (λ ys. Contains ys x) (sym is) (has_first x rest))
+  first_among = search.among x (subst (λ ys. Contains ys x) (sym is) (contains_first x rest))
 
   pub search_next : ¬ P x → Searching place P all rest
   search_next passed =
       let rising : Rising place (x ∷ rest) = subst (Rising place) is search.rising in record {
         rising = rising.1;
-        among = λ y has. search.among y (subst (λ ys. Contains ys y) (sym is) (has_later x y rest has));
+        among = λ y has. search.among y (subst (λ ys. Contains ys y) (sym is) (contains_later x y rest has));
         ahead = λ y has broken. later y broken (first_or_later x y rest (subst (λ ys. Contains ys y) is (search.ahead y has broken)));
       }
     where
@@ -82,7 +70,7 @@ module _ {X : Type 0} (place : X → ℕ) (P : X → Type 0) (all left rest : Li
       first_or (inr later) = (subst (Rising place) is search.rising).0 y later
 
 pub none_left : {X : Type 0} (place : X → ℕ) (P : X → Type 0) (all left : List X) → left ≡ [] → Searching place P all left → (x : X) → Contains all x → ¬ P x
-none_left place P all left is search x has broken = has_nothing x (subst (λ ys. Contains ys x) is (search.ahead x has broken))
+none_left place P all left is search x has broken = none_in_nil x (subst (λ ys. Contains ys x) is (search.ahead x has broken))
 
 -- the breaks of a rule are the places of the items with P
 pub record AreBreaks {X : Type 0} (breaks : ℕ → Type 0) (place : X → ℕ) (P : X → Type 0) (all : List X) : Type 0 where
@@ -109,7 +97,7 @@ search_ended {X = X} breaks place P all left is breaking search p broken = none 
 -- Items of a table, one for each number of a range
 
 pub has_number : {X : Type 0} (f : ℕ → X) (a n : ℕ) (y : X) → Contains (map f (range_with_len a n)) y → (k : ℕ) × (a ≤ k) × (k < a + n) × (f k ≡ y)
-has_number f a zero y has = absurd (has_nothing y has)
+has_number f a zero y has = absurd (none_in_nil y has)
 has_number {X = X} f a (suc n) y has =
     elim (first_or_later (f a) y (map f (range_with_len (a + 1) n)) has) [ inl same ↦ (a, omega arith, omega arith, same) | inr later ↦ one_on (has_number f (a + 1) n y later) ]
   where
@@ -120,8 +108,8 @@ pub number_has : {X : Type 0} (f : ℕ → X) (a n k : ℕ) → a ≤ k → k < 
 number_has f a zero k low high = absurd (omega arith)
 number_has f a (suc n) k low high =
     elim (cases_eq a k) [
-      | inl same ↦ subst (λ j. Contains (f a ∷ map f (range_with_len (a + 1) n)) (f j)) same (has_first (f a) (map f (range_with_len (a + 1) n)))
-      | inr other ↦ has_later (f a) (f k) (map f (range_with_len (a + 1) n)) (number_has f (a + 1) n k (omega arith) (omega arith))
+      | inl same ↦ subst (λ j. Contains (f a ∷ map f (range_with_len (a + 1) n)) (f j)) same (contains_first (f a) (map f (range_with_len (a + 1) n)))
+      | inr other ↦ contains_later (f a) (f k) (map f (range_with_len (a + 1) n)) (number_has f (a + 1) n k (omega arith) (omega arith))
     ]
 
 -- the numbers of a range, each taken to a place by f, do not fall where f does not
@@ -134,18 +122,12 @@ numbers_rise f up a (suc n) = (λ y has. above y (has_number f (a + 1) n y has),
 
 -- Items that are read at places
 
-pub has_mapped : {A X : Type 0} (at : A → X) (ps : List A) (p : A) → Contains ps p → Contains (map at ps) (at p)
-has_mapped at [] p has = absurd (has_nothing p has)
-has_mapped at (q ∷ ps) p has =
-    elim (first_or_later q p ps has)
-    [ inl same ↦ subst (λ r. Contains (at q ∷ map at ps) (at r)) same (has_first (at q) (map at ps)) | inr later ↦ has_later (at q) (at p) (map at ps) (has_mapped at ps p later) ]
-
 pub mapped_has : {A X : Type 0} (at : A → X) (ps : List A) (x : X) → Contains (map at ps) x → (p : A) × Contains ps p × (at p ≡ x)
-mapped_has at [] x has = absurd (has_nothing x has)
-mapped_has {A = A} {X = X} at (q ∷ ps) x has = elim (first_or_later (at q) x (map at ps) has) [ inl same ↦ (q, has_first q ps, same) | inr later ↦ one_on (mapped_has at ps x later) ]
+mapped_has at [] x has = absurd (none_in_nil x has)
+mapped_has {A = A} {X = X} at (q ∷ ps) x has = elim (first_or_later (at q) x (map at ps) has) [ inl same ↦ (q, contains_first q ps, same) | inr later ↦ one_on (mapped_has at ps x later) ]
   where
     one_on : (p : A) × Contains ps p × (at p ≡ x) → (p : A) × Contains (q ∷ ps) p × (at p ≡ x)
-    one_on (p, has_p, is) = (p, has_later q p ps has_p, is)
+    one_on (p, has_p, is) = (p, contains_later q p ps has_p, is)
 
 pub ordered_map : {A X : Type 0} (R : X → X → Type 0) (at : A → X) (ps : List A) → Ordered (λ p q. R (at p) (at q)) ps → Ordered R (map at ps)
 ordered_map R at [] order = tt
@@ -159,7 +141,7 @@ pub are_breaks_at : {A X : Type 0} (breaks : ℕ → Type 0) (place : X → ℕ)
     → ((q : ℕ) → breaks q → (p : A) × Contains ps p × P (at p) × (place (at p) ≡ q)) → AreBreaks breaks place P (map at ps)
 are_breaks_at {A = A} {X = X} breaks place P at ps to from = record {
   broken = λ x has here. here_too x here (mapped_has at ps x has);
-  only = λ q broken. let (p, has, here, same) = from q broken in (at p, has_mapped at ps p has, here, same);
+  only = λ q broken. let (p, has, here, same) = from q broken in (at p, contains_mapped at ps p has, here, same);
 }
   where
     here_too : (x : X) → P x → (p : A) × Contains ps p × (at p ≡ x) → breaks (place x)

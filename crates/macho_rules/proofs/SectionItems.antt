@@ -2,6 +2,7 @@
 use Rattle.std.proofs.Common.{◌≡◌, ℕ, ◌+◌, ◌*◌, ◌≤◌, ◌<◌, List, [], ◌∷◌, map, Contains, refl, sym, ap, subst, arith, inl, inr}
 use Rattle.std.specs.Prelude.{flat_map}
 use Rattle.std.proofs.lemmas.List.Elements.{Contains-append_left, Contains-append_right, Contains-append_cases}
+use Rattle.macho_fields.proofs.Lists.{none_in_nil, contains_first, contains_later, first_or_later, contains_mapped}
 use Rattle.macho_fields.specs.Image.{commands_of}
 use Rattle.macho_fields.specs.Segment.{segments_of, sections_in, nsects, AtSection}
 use Rattle.macho_fields.specs.declared.header.loader.TheConstants as loader
@@ -9,7 +10,7 @@ use Rattle.macho_fields.proofs.Opened.{sections_inside}
 use Rattle.macho_fields.proofs.Parts.{of_kind_is, of_kind_among}
 use Rattle.macho_image.specs.Opened.{IsOpened}
 use Rattle.macho_image.specs.Segment.{SectionView, section_at, sections_with, sections_of}
-use Rattle.macho_rules.proofs.Searches.{has_nothing, has_first, has_later, first_or_later, has_mapped, mapped_has, has_number, numbers_rise, Ordered}
+use Rattle.macho_rules.proofs.Searches.{mapped_has, has_number, numbers_rise, Ordered}
 use Rattle.macho_rules.proofs.Searches.{ordered_append, ordered_map, Rising, Searching, search_all, first_among, AreBreaks, are_breaks_at, any_of, one_of}
 use Rattle.macho_rules.proofs.Judged.{opened_facts, opened_commands}
 use Rattle.macho_rules.proofs.SegmentItems.{EndsBefore, segments_spread}
@@ -33,21 +34,21 @@ module _ (image : List ℕ) (opened : IsOpened image) where
       (ap (λ (q : ℕ × ℕ). q.0) (sym at), subst (λ (q : ℕ × ℕ). Contains (sections_in image segment) q.1) at among)
 
   from_segments : (segments : List ℕ) (pair : ℕ × ℕ) → Contains (flat_map (sections_with image) segments) pair → Contains segments pair.0 × Contains (sections_in image pair.0) pair.1
-  from_segments [] pair has = absurd (has_nothing pair has)
+  from_segments [] pair has = absurd (none_in_nil pair has)
   from_segments (x ∷ xs) pair has =
       elim (Contains-append_cases (sections_with image x) (flat_map (sections_with image) xs) pair has) [
         | inl here ↦ (let (same, among) = with_segment x pair here in
-            (subst (Contains (x ∷ xs)) (sym same) (has_first x xs), subst (λ s. Contains (sections_in image s) pair.1) (sym same) among))
-        | inr later ↦ (let (has_segment, among) = from_segments xs pair later in (has_later x pair.0 xs has_segment, among))
+            (subst (Contains (x ∷ xs)) (sym same) (contains_first x xs), subst (λ s. Contains (sections_in image s) pair.1) (sym same) among))
+        | inr later ↦ (let (has_segment, among) = from_segments xs pair later in (contains_later x pair.0 xs has_segment, among))
       ]
 
   to_segments : (segments : List ℕ) (segment section : ℕ) → Contains segments segment → Contains (sections_in image segment) section
       → Contains (flat_map (sections_with image) segments) (segment, section)
-  to_segments [] segment section has among = absurd (has_nothing segment has)
+  to_segments [] segment section has among = absurd (none_in_nil segment has)
   to_segments (x ∷ xs) segment section has among =
       elim (first_or_later x segment xs has) [
         | inl same ↦ Contains-append_left (sections_with image x) (flat_map (sections_with image) xs) (segment, section)
-            (subst (λ s. Contains (sections_with image s) (segment, section)) (sym same) (has_mapped (λ p. (segment, p)) (sections_in image segment) section among))
+            (subst (λ s. Contains (sections_with image s) (segment, section)) (sym same) (contains_mapped (λ p. (segment, p)) (sections_in image segment) section among))
         | inr later ↦ Contains-append_right (sections_with image x) (flat_map (sections_with image) xs) (segment, section) (to_segments xs segment section later among)
       ]
 
@@ -57,11 +58,11 @@ module _ (image : List ℕ) (opened : IsOpened image) where
   rise_from (x ∷ xs) (first, rest) among =
       ordered_append (λ (a b : ℕ × ℕ). a.1 ≤ b.1) (sections_with image x) (flat_map (sections_with image) xs)
       (ordered_map (λ (a b : ℕ × ℕ). a.1 ≤ b.1) (λ section. (x, section)) (sections_in image x) (numbers_rise (λ k. x + 72 + 80 * k) (λ i k less. omega arith) 0 (nsects image x)))
-      (rise_from xs rest (λ s has. among s (has_later x s xs has)))
+      (rise_from xs rest (λ s has. among s (contains_later x s xs has)))
       (λ a b has_a has_b.
       let (same, in_x) = with_segment x a has_a in
       let (later, in_b) = from_segments xs b has_b in
-      sections_before x b.0 a.1 b.1 (among x (has_first x xs)) (first b.0 later) in_x in_b)
+      sections_before x b.0 a.1 b.1 (among x (contains_first x xs)) (first b.0 later) in_x in_b)
 
 -- the sections of the image
 abbrev pub AreSections : List ℕ → List SectionView → Type 0

@@ -1,12 +1,13 @@
 -- The segments of an opened image, one after the other.
 use Rattle.std.proofs.Common.{◌≡◌, ℕ, ◌+◌, ◌≤◌, ◌<◌, List, [], ◌∷◌, map, Any, Contains, refl, sym, ap, subst, arith}
 use Rattle.std.proofs.lemmas.List.Elements.{All-contains}
+use Rattle.macho_fields.proofs.Lists.{contains_mapped}
 use Rattle.macho_fields.specs.Image.{command_size, commands_of, Follow}
 use Rattle.macho_fields.specs.Segment.{segments_of, Supplies, OverlapsEarlier}
 use Rattle.macho_fields.proofs.Chains.{places_above}
 use Rattle.macho_image.specs.Opened.{IsOpened}
 use Rattle.macho_image.specs.Segment.{SegmentView, segment_at}
-use Rattle.macho_rules.proofs.Searches.{has_mapped, mapped_has, Ordered, ordered_weaken, ordered_filter, ordered_map, Rising}
+use Rattle.macho_rules.proofs.Searches.{mapped_has, Ordered, ordered_weaken, ordered_filter, ordered_map, Rising}
 use Rattle.macho_rules.proofs.Searches.{Searching, search_all, first_among, AreBreaks, are_breaks_at, any_of, one_of}
 use Rattle.macho_rules.proofs.Judged.{opened_commands}
 
@@ -67,7 +68,7 @@ module _ (image : List ℕ) (all : List SegmentView) (are : AreSegments image al
   pub of_segment : (P : List ℕ → ℕ → Type 0) → Any (P image) (segments_of image (commands_of image)) → (s : SegmentView) × Contains all s × P s.image s.place
   of_segment P any =
       let (p, has, here) = one_of (P image) _ any in
-      (segment_at image p, subst (λ xs. Contains xs (segment_at image p)) (sym are) (has_mapped (segment_at image) _ p has), here)
+      (segment_at image p, subst (λ xs. Contains xs (segment_at image p)) (sym are) (contains_mapped (segment_at image) _ p has), here)
 
   -- a segment that is left is one of the image
   pub segment_image : (P : SegmentView → Type 0) (left rest : List SegmentView) (s : SegmentView) → left ≡ s ∷ rest → Searching (λ t. t.place) P all left → s.image ≡ image

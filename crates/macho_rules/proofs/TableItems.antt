@@ -5,6 +5,7 @@ use Rattle.std.specs.Option.{option_map_or}
 use Rattle.std.specs.List.{range_with_len}
 use Rattle.std.proofs.Math.Nat.{mul_comm, mul-le-mul_left}
 use Rattle.std.proofs.lemmas.Bool.{cases_Bool, cases_lt, le-leb}
+use Rattle.macho_fields.proofs.Lists.{contains_mapped, none_in_nil}
 use Rattle.macho_fields.specs.LoadCommands.{structure_of, table_fields, IsUnique}
 use Rattle.macho_fields.specs.declared.load_command.Structure.{Structure}
 use Rattle.macho_fields.specs.declared.load_command.TableFields.{TableFields}
@@ -21,7 +22,7 @@ use Rattle.macho_image.specs.Symbol.{items_inside}
 use Rattle.macho_rules.specs.Check.{KeptBefore}
 use Rattle.macho_rules.proofs.Judged.{keeps_opened, opened_commands}
 use Rattle.macho_rules.proofs.OneCommand.{Has, first_is, is_of_kind}
-use Rattle.macho_rules.proofs.Searches.{any_of, has_mapped, has_nothing, has_number, number_has, mapped_has, numbers_rise, Rising, ordered_map, Searching, search_all, AreBreaks, are_breaks_at}
+use Rattle.macho_rules.proofs.Searches.{any_of, has_number, number_has, mapped_has, numbers_rise, Rising, ordered_map, Searching, search_all, AreBreaks, are_breaks_at}
 
 -- a table of a command of a kind lies inside the image, or has no items
 pub table_inside : (image : List ℕ) (kind : ℕ) (s : Structure) (command : ℕ) (fields : TableFields) (r : Rule)
@@ -35,7 +36,7 @@ table_inside image kind s command fields r late below listed has bounded outside
       opened_commands image (keeps_opened image r (omega (arith, late)) below),
       (
         of_kind_among image (commands_of image) kind command has,
-        subst (Any (IsOutside image)) (sym tables) (any_of (IsOutside image) _ (table_at image command fields) (has_mapped (table_at image command) (table_fields s) fields bounded) outside),
+        subst (Any (IsOutside image)) (sym tables) (any_of (IsOutside image) _ (table_at image command fields) (contains_mapped (table_at image command) (table_fields s) fields bounded) outside),
       ),
     ))
 
@@ -44,7 +45,7 @@ in_items image start each n p has =
     elim (cases_Bool (nat_le (start + each * n) (length image))) [
       | inl t ↦ from_number (has_number (λ k. start + each * k) 0 n p (subst (λ b. Contains (if b then map (λ k. start + each * k) (range_with_len 0 n) else []) p) t has))
       | inr f ↦
-          absurd (has_nothing p (subst (λ b. Contains (if b then map (λ k. start + each * k) (range_with_len 0 n) else []) p) f has))
+          absurd (none_in_nil p (subst (λ b. Contains (if b then map (λ k. start + each * k) (range_with_len 0 n) else []) p) f has))
     ]
   where
     from_number : (k : ℕ) × (0 ≤ k) × (k < 0 + n) × (start + each * k ≡ p) → (k : ℕ) × (k < n) × (p ≡ start + each * k)
@@ -98,7 +99,7 @@ module _ {X : Type 0} (image : List ℕ) (kind each : ℕ) (start count : ℕ �
     opened = keeps_opened image r (omega (arith, late)) below
 
     item_breaks : (p : ℕ) (first : Option ℕ) → first_of_kind image kind (commands_of image) ≡ first → Contains (items_of first) p → Q (at p) → AtItem P p
-    item_breaks p None is none here = absurd (has_nothing p none)
+    item_breaks p None is none here = absurd (none_in_nil p none)
     item_breaks p (Some c) is some here = found (is_of_kind image kind c is) (in_items image (start c) each (count c) p some)
       where
         found : Has image kind c → (k : ℕ) × (k < count c) × (p ≡ start c + each * k) → AtItem P p

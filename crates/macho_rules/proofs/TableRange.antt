@@ -2,6 +2,7 @@
 use Rattle.std.proofs.Common.{◌≡◌, ℕ, ◌+◌, ◌≤◌, ◌<◌, List, [], ◌∷◌, map, length, slice_index_or, All, Any, Contains, None, Some, refl, sym, ap, ◌∙◌, subst, arith, inl, inr}
 use Rattle.std.proofs.lemmas.Bool.{cases_order}
 use Rattle.std.proofs.lemmas.List.{get_or_default}
+use Rattle.macho_fields.proofs.Lists.{none_in_nil, contains_mapped}
 use Rattle.macho_fields.specs.Image.{command_kind, commands_of}
 use Rattle.macho_fields.specs.LoadCommands.{structure_of, width_size, table_fields}
 use Rattle.macho_fields.specs.Symbol.{table_at, tables_of, IsOutside}
@@ -12,7 +13,7 @@ use Rattle.macho_fields.proofs.Opened.{table_fields_inside}
 use Rattle.macho_image.specs.Command.{CommandView, command_at}
 use Rattle.macho_image.specs.Opened.{IsOpened}
 use Rattle.macho_rules.proofs.Judged.{opened_facts, opened_commands}
-use Rattle.macho_rules.proofs.Searches.{has_nothing, has_mapped, mapped_has, any_of, one_of, Rising, ordered_map, Searching, search_all, first_among, AreBreaks, are_breaks_at}
+use Rattle.macho_rules.proofs.Searches.{mapped_has, any_of, one_of, Rising, ordered_map, Searching, search_all, first_among, AreBreaks, are_breaks_at}
 use Rattle.macho_rules.proofs.SegmentItems.{commands_rise}
 
 -- Tables of a command
@@ -45,7 +46,7 @@ module _ (image : List ℕ) (command : ℕ) where
     one_outside n d inside outside =
         subst (Any (IsOutside image)) (sym bounded)
         (any_of (IsOutside image) _ _
-        (has_mapped (table_at image command) tables (slice_index_or tables n d) (n, inside, get_or_default tables n (slice_index_or tables n d) d inside)) outside)
+        (contains_mapped (table_at image command) tables (slice_index_or tables n d) (n, inside, get_or_default tables n (slice_index_or tables n d) d inside)) outside)
 
     pub none_of_all : (n : ℕ) → length tables ≤ n → NoneOutside image command tables n → ¬ Any (IsOutside image) (tables_of image command)
     none_of_all n all none any =
@@ -63,7 +64,7 @@ module _ (image : List ℕ) (command : ℕ) where
 
   pub none_listed : structure_of (command_kind image command) ≡ None → ¬ Any (IsOutside image) (tables_of image command)
   none_listed none any =
-      let (table, has, _) = one_of (IsOutside image) [] (subst (Any (IsOutside image)) (tables_unlisted image command none) any) in has_nothing table has
+      let (table, has, _) = one_of (IsOutside image) [] (subst (Any (IsOutside image)) (tables_unlisted image command none) any) in none_in_nil table has
 
 -- Commands
 

@@ -11,7 +11,6 @@ ghost use Rattle.macho_fields.specs.declared.rule.Rule.{Rule};
 ghost use Rattle.macho_image.specs.Symbol.{symbol_at};
 ghost use Rattle.macho_rules.specs.Check.{KeptBefore, JudgesUpTo};
 
-use macho_fields::header::nlist::{N_SECT, N_STAB, N_TYPE};
 use macho_fields::{Break, Bytes, Rule, Span};
 use macho_image::{Image, Indirect, Symbol, Symtab};
 
@@ -77,8 +76,7 @@ fn is_in_no_section(symbol: Symbol, count: u64) -> bool
     ensures { (image : List ℕ) → symbol ≡ symbol_at image symbol.place
         → (IsTrue result ↔ IsInNoSection image count symbol.place) }
 {
-    let names_section = symbol.kind & N_STAB == 0 && symbol.kind & N_TYPE == N_SECT;
-    names_section && (symbol.sect == 0 || u64::from(symbol.sect) > count)
+    symbol.names_section() && (symbol.sect == 0 || u64::from(symbol.sect) > count)
 }
 
 /// Each indirect entry that is the index of a symbol is that of one.

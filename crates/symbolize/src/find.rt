@@ -5,8 +5,7 @@ ghost use Rattle.symbolize.specs.Find.{symbols, IsAtOrBefore, IsNearest};
 ghost use Rattle.symbolize.specs.Find.{sections, HasAddress, IsFirstAt};
 
 use macho_fields::Span;
-use macho_fields::header::nlist::{N_SECT, N_STAB, N_TYPE};
-use macho_image::{Section, Symbol};
+use macho_image::Section;
 use macho_verified::{VerifiedImage, VerifiedSymbol};
 
 /// The symbol of a section that begins nearest before the address, or at it. Of several that begin
@@ -36,8 +35,8 @@ pub(crate) fn nearest_symbol<'a>(
 fn is_at_or_before(symbol: &VerifiedSymbol, address: u64) -> bool
     ensures { IsTrue result ↔ IsAtOrBefore address symbol.now }
 {
-    let Symbol { kind, value, .. } = symbol.symbol();
-    kind & N_STAB == 0 && kind & N_TYPE == N_SECT && value <= address
+    let symbol = symbol.symbol();
+    symbol.names_section() && symbol.value <= address
 }
 
 /// The first section of a mapped segment that has the address.

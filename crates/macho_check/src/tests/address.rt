@@ -1,7 +1,7 @@
 //! What a run says of addresses. The values were worked out by hand.
 
 use super::same;
-use crate::notation::{executable, written};
+use crate::notation::{executable, three_slices};
 use macho_report::{FromRead, FromWrite, WhereOutcome, run_where};
 use std::process::Abort;
 use std::test::Fail;
@@ -75,16 +75,7 @@ const NOT_TOLD_OF_SLICES: &[(u64, u64, &str)] = &[(1, 0, ""), (3, 0, "")];
 
 #[test]
 fn places_count_from_the_start_of_the_slice(rt: HostRuntime) -> Result<(), Fail> {
-    // The second slice is of 32 bits. The third, of 108 bytes at 132, has a segment of its last
-    // four bytes, which ends with the last address.
-    let file = written(
-        rt.alloc(),
-        "cafebabe 00000003 0100000c 00000000 00000060 00000020 .4
-        00000007 00000003 00000080 00000004 .4 00000007 00000009 00000084 0000006c .4 .28
-        cffaedfe 0c000001 00000000 02000000 .16 cefaedfe
-        cffaedfe 07000000 09000000 02000000 01000000 48000000 .8 19000000 48000000 .16
-        f8ffffffffffffff 0800000000000000 6800000000000000 0400000000000000 .4 01000000 .8 .4",
-    )?;
+    let file = three_slices(rt.alloc())?;
     check_addresses(&rt, &file, WhereOutcome::Told, TOLD_OF_SLICES);
     check_addresses(&rt, &file, WhereOutcome::NoImage, NOT_TOLD_OF_SLICES);
     Ok(())

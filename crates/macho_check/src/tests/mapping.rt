@@ -1,7 +1,7 @@
 //! What stands at the addresses of verified images.
 
 use super::same;
-use crate::notation::{append, executable, written};
+use crate::notation::{append, executable, three_slices, written};
 use macho_rules::{Mapping, Source, Verified, verify};
 use std::alloc::Global;
 use std::process::Abort;
@@ -75,16 +75,7 @@ const SOURCES_OF_A_SLICE: &[(u64, Option<Source>)] = &[
 
 #[test]
 fn slices_have_mappings_of_their_own(rt: HostRuntime) -> Result<(), Fail> {
-    // The second slice is of 32 bits. The third, of 108 bytes at 132, has a segment of its last
-    // four bytes, which ends with the last address.
-    let file = written(
-        rt.alloc(),
-        "cafebabe 00000003 0100000c 00000000 00000060 00000020 .4
-        00000007 00000003 00000080 00000004 .4 00000007 00000009 00000084 0000006c .4 .28
-        cffaedfe 0c000001 00000000 02000000 .16 cefaedfe
-        cffaedfe 07000000 09000000 02000000 01000000 48000000 .8 19000000 48000000 .16
-        f8ffffffffffffff 0800000000000000 6800000000000000 0400000000000000 .4 01000000 .8 .4",
-    )?;
+    let file = three_slices(rt.alloc())?;
     check_sources(&rt, &file, 0, &[(0, None)])?;
     check_no_mapping(&rt, &file, &[1])?;
     check_sources(&rt, &file, 2, SOURCES_OF_A_SLICE)

@@ -1,20 +1,12 @@
 //! The rules that compare ranges, on random files, against a plain comparison of all pairs.
 
-use super::same;
+use super::{next, same};
 use crate::notation::append;
 use macho_fields::{Break, Rule};
 use macho_rules::{Refusal, verify};
 use std::alloc::{AllocError, Global};
 use std::process::Abort;
 use std::test::Fail;
-
-/// The next of a fixed sequence of numbers that look random.
-fn next(number: &mut u64) -> u64 {
-    *number = number
-        .wrapping_mul(6_364_136_223_846_793_005)
-        .wrapping_add(1_442_695_040_888_963_407);
-    *number >> 24
-}
 
 /// Some starts with their lengths. The starts are below 64 and the lengths below 8.
 fn random_spans(

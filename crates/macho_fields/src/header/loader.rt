@@ -175,23 +175,23 @@ pub mod dyld_info_command {
     /// The place of the rebase opcodes.
     pub const REBASE_OFF: u64 = 8;
     /// The number of bytes of the rebase opcodes.
-    pub const REBASE_SIZE: u64 = 12;
+    pub const REBASE_SIZE_OFFSET: u64 = 12;
     /// The place of the bind opcodes.
     pub const BIND_OFF: u64 = 16;
     /// The number of bytes of the bind opcodes.
-    pub const BIND_SIZE: u64 = 20;
+    pub const BIND_SIZE_OFFSET: u64 = 20;
     /// The place of the weak bind opcodes.
     pub const WEAK_BIND_OFF: u64 = 24;
     /// The number of bytes of the weak bind opcodes.
-    pub const WEAK_BIND_SIZE: u64 = 28;
+    pub const WEAK_BIND_SIZE_OFFSET: u64 = 28;
     /// The place of the lazy bind opcodes.
     pub const LAZY_BIND_OFF: u64 = 32;
     /// The number of bytes of the lazy bind opcodes.
-    pub const LAZY_BIND_SIZE: u64 = 36;
+    pub const LAZY_BIND_SIZE_OFFSET: u64 = 36;
     /// The place of the trie of exported symbols.
     pub const EXPORT_OFF: u64 = 40;
     /// The number of bytes of the trie of exported symbols.
-    pub const EXPORT_SIZE: u64 = 44;
+    pub const EXPORT_SIZE_OFFSET: u64 = 44;
 }
 
 /// The offsets of the 32-bit fields of `encryption_info_command_64`.
@@ -207,7 +207,7 @@ pub mod note_command {
     /// The place of the data.
     pub const OFFSET: u64 = 24;
     /// The number of bytes of the data.
-    pub const SIZE: u64 = 32;
+    pub const SIZE_OFFSET: u64 = 32;
 }
 
 /// The offset of a 32-bit field of `segment_command_64`.

@@ -137,6 +137,3 @@ impl Held {
         Ok(())
     }
 }
-
-#[cfg(test)]
-mod tests;

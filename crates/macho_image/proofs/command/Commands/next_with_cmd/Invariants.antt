@@ -1,6 +1,6 @@
 use Rattle.std.proofs.Common.{◌≡◌}
 use Rattle.macho_image.specs.Scaffold.{left_of_kind}
-use Rattle.macho_image.proofs.command.Commands.next_of_kind.Given as goal
+use Rattle.macho_image.proofs.command.Commands.next_with_cmd.Given as goal
 
 -- only commands of other kinds were skipped
 abbrev pub invariant-loop-command : goal.invariant-loop-command
