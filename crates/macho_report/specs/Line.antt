@@ -78,7 +78,8 @@ library_word kind =
     else (if kind == loader.LC_LOAD_WEAK_DYLIB then codes "weak"
     else (if kind == loader.LC_REEXPORT_DYLIB then codes "reexport"
     else (if kind == loader.LC_LAZY_LOAD_DYLIB then codes "lazy"
-    else codes "upward"))))
+    else (if kind == loader.LC_LOAD_UPWARD_DYLIB then codes "upward"
+    else codes "dylib")))))
 
 -- a library, or the image itself: the cmd of its command, its name, its current version and its
 -- compatibility version

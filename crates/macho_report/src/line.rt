@@ -20,7 +20,8 @@ use crate::number::{
 use crate::stream::Output;
 use crate::transfer::{WriteFault, write_all};
 use macho_fields::header::loader::{
-    LC_ID_DYLIB, LC_LAZY_LOAD_DYLIB, LC_LOAD_DYLIB, LC_LOAD_WEAK_DYLIB, LC_REEXPORT_DYLIB,
+    LC_ID_DYLIB, LC_LAZY_LOAD_DYLIB, LC_LOAD_DYLIB, LC_LOAD_UPWARD_DYLIB, LC_LOAD_WEAK_DYLIB,
+    LC_REEXPORT_DYLIB,
 };
 use macho_fields::header::vm_prot::{VM_PROT_EXECUTE, VM_PROT_READ, VM_PROT_WRITE};
 use macho_fields::{Break, Span};
@@ -230,16 +231,17 @@ fn write_versions<W: Output>(library: &Dylib, writer: &mut W) -> Result<(), Writ
 }
 
 // How the line of a library begins: the word of its command, with the blanks around it.
-fn library_start(kind: u32) -> &'static str
-    ensures { result.now ≡ library_start kind }
+fn library_start(cmd: u32) -> &'static str
+    ensures { result.now ≡ library_start cmd }
 {
-    match kind {
+    match cmd {
         LC_ID_DYLIB => "  id ",
         LC_LOAD_DYLIB => "  load ",
         LC_LOAD_WEAK_DYLIB => "  weak ",
         LC_REEXPORT_DYLIB => "  reexport ",
         LC_LAZY_LOAD_DYLIB => "  lazy ",
-        _ => "  upward ",
+        LC_LOAD_UPWARD_DYLIB => "  upward ",
+        _ => "  dylib ",
     }
 }
 
