@@ -1,12 +1,14 @@
 //! The verdict on a file.
 
-ghost use Rattle.std.specs.Prelude.{◌≡◌, ◌+◌, ◌≤◌, ◌↔◌, OnOk, IfOk, IfErr, IfSome, IsSome, IsSomeAnd, IsTrue, length};
+ghost use Rattle.std.specs.Prelude.{◌≡◌, ◌+◌, ◌≤◌, ◌↔◌, OnOk, IfOk, IfErr, IfSome, IsSome, IsSomeAnd, IsTrue, length, slice_get, None};
+ghost use Rattle.std.specs.Option.{option_map};
 ghost use Rattle.macho_fields.specs.Bytes.{bytes_of};
 ghost use Rattle.macho_fields.specs.First.{IsUnbroken};
 ghost use Rattle.macho_fields.specs.Layers.{NothingBreaks};
-ghost use Rattle.macho_fields.specs.Loader.{IsSound};
+ghost use Rattle.macho_fields.specs.Loader.{IsSound, IsSoundImage};
 ghost use Rattle.macho_fields.specs.Rules.{BreaksFile, BreaksImage};
-ghost use Rattle.macho_fields.specs.Universal.{slice_bytes, IsImage};
+ghost use Rattle.macho_fields.specs.Universal.{slice_bytes, IsImage, slices_of, HasImage};
+ghost use Rattle.macho_fields.specs.Image.{commands_of};
 ghost use Rattle.macho_fat.specs.Slices.{slice_of, AreSlices};
 ghost use Rattle.macho_rules.specs.Verdict.{IsRefusal, IsImageRefusal, IsSliceRefusal};
 
@@ -102,17 +104,6 @@ fn check_bytes(alloc: Global, bytes: Bytes, arch: Option<(u32, u32)>) -> Result<
 }
 
 impl<'a> Verified<'a> {
-    ghost use Rattle.std.specs.Prelude.{◌≡◌, ◌↔◌, length, slice_get, None, IsSome, IfSome, IsSomeAnd, IsTrue};
-    ghost use Rattle.std.specs.Option.{option_map};
-    ghost use Rattle.macho_fields.specs.Layers.{NothingBreaks};
-    ghost use Rattle.macho_fields.specs.Bytes.{bytes_of};
-    ghost use Rattle.macho_fields.specs.First.{IsUnbroken};
-    ghost use Rattle.macho_fields.specs.Image.{commands_of};
-    ghost use Rattle.macho_fields.specs.Loader.{IsSound, IsSoundImage};
-    ghost use Rattle.macho_fields.specs.Rules.{BreaksImage};
-    ghost use Rattle.macho_fields.specs.Universal.{slices_of, slice_bytes, IsImage, HasImage};
-    ghost use Rattle.macho_fat.specs.Slices.{slice_of};
-
     /// All bytes of the file. Its clauses `unbroken` and `sound` are the verdict.
     pub fn bytes(&self) -> Bytes<'a>
         ensures bytes { bytes_of result ≡ self.now }

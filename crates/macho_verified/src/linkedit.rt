@@ -1,6 +1,6 @@
 //! The data that commands of an accepted image name. (`mach-o/loader.h`: `linkedit_data_command`)
 
-ghost use Rattle.std.specs.Prelude.{◌≡◌, ◌↔◌, ◌+◌, ◌≤◌, Some, IsTrue, length};
+ghost use Rattle.std.specs.Prelude.{◌≡◌, ◌↔◌, ◌+◌, ◌≤◌, Some, IsTrue, length, IsSome, IfSome, IsSomeAnd};
 ghost use Rattle.macho_fields.specs.Bytes.{bytes_of};
 ghost use Rattle.macho_fields.specs.Field.{part};
 ghost use Rattle.macho_fields.specs.Image.{commands_of};
@@ -15,13 +15,6 @@ use macho_fields::header::loader::linkedit_data_command::{DATAOFF, DATASIZE};
 use macho_fields::{Bytes, Order, Span, Structure, structure_of};
 
 impl<'a> VerifiedImage<'a> {
-    ghost use Rattle.std.specs.Prelude.{◌≡◌, ◌↔◌, length, Some, IsSome, IfSome, IsSomeAnd};
-    ghost use Rattle.macho_fields.specs.Field.{part};
-    ghost use Rattle.macho_fields.specs.Image.{commands_of};
-    ghost use Rattle.macho_fields.specs.LoadCommands.{structure_of};
-    ghost use Rattle.macho_image.specs.Command.{first_of_kind};
-    ghost use Rattle.macho_verified.specs.Image.{dataoff, datasize};
-
     /// The data that the first command with this `cmd`, such as `LC_FUNCTION_STARTS`, names: the
     /// `datasize` bytes from `dataoff` on, borrowed from the image. `None` where the list of load
     /// commands (`macho_fields::structure_of`) has no `linkedit_data_command` with this `cmd`, and
