@@ -106,7 +106,8 @@ no_kind_at : (kind : ℕ) → unique_index kind ≡ None → ¬ Contains unique_
 no_kind_at kind none (i, less, at) = elim (cases_lt (position_or_len is unique_commands) (length unique_commands)) [
   | inl found ↦ absurd (let some : cond true (Some (position_or_len is unique_commands)) None ≡ None =
       subst (λ b. cond b (Some (position_or_len is unique_commands)) None ≡ None) (lt-ltb _ _ found) none in cc)
-  | inr past ↦ false≢true (sym (fails_before_first is unique_commands i no_command (omega arith)) ∙ eq-eqb _ kind (sym (get_or-map (λ command. command.cmd) unique_commands i no_command kind less) ∙ at))
+  | inr past ↦ false≢true (sym (fails_before_first is unique_commands i no_command (omega arith))
+      ∙ eq-eqb _ kind (sym (get_or-map (λ command. command.cmd) unique_commands i no_command kind less) ∙ at))
 ]
   where
     is : LoadCommand → Bool
