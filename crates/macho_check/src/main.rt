@@ -10,8 +10,8 @@ mod notation;
 mod tests;
 
 use macho_program::{SystemFiles, exit_code, run_program, without_memory};
-use macho_report::{FromRead, FromWrite};
-use std::io::{BufWriter, ErrorKind};
+use macho_report::{FromRead, FromWrite, Output};
+use std::io::{BufWriter, ErrorKind, Write};
 use std::process::ExitCode;
 use std::rt::Env;
 use std::{env, io};
@@ -33,16 +33,28 @@ fn main(rt: HostRuntime) -> ExitCode {
         }
         words => words.ok(),
     };
-    let ended = run_program(
-        rt.alloc(),
-        words.as_ref().map(|words| words.as_slice()),
-        &SystemFiles { system: &rt },
-        &mut FromRead::new(&mut rt.stdin()),
-        &mut FromWrite::new(&mut stdout),
-        &mut errors,
-    );
+    let words = words.as_ref().map(|words| words.as_slice());
+    let status = run_words(&rt, words, &mut stdout, &mut errors);
     // What a failed write has left in the buffer is dropped here. The buffer's own drop would write it.
     let _ = stdout.into_parts();
+    status
+}
+
+// Runs on the process's own files and standard input.
+fn run_words(
+    rt: &HostRuntime,
+    words: Option<&[String]>,
+    stdout: &mut impl Write,
+    errors: &mut impl Output,
+) -> ExitCode {
+    let ended = run_program(
+        rt.alloc(),
+        words,
+        &SystemFiles { system: rt },
+        &mut FromRead::new(&mut rt.stdin()),
+        &mut FromWrite::new(stdout),
+        errors,
+    );
     exit_code(&ended)
 }
 

@@ -10,6 +10,13 @@ pub(crate) fn written(alloc: Global, text: &str) -> Result<Vec<u8>, Fail> {
     Ok(bytes)
 }
 
+/// The bytes of `text` after those of `front`.
+pub(crate) fn written_after(alloc: Global, front: &str, text: &str) -> Result<Vec<u8>, Fail> {
+    let mut bytes = written(alloc, front)?;
+    append(&mut bytes, text)?;
+    Ok(bytes)
+}
+
 /// Appends the bytes of this text.
 pub(crate) fn append(bytes: &mut Vec<u8>, text: &str) -> Result<(), Fail> {
     for word in text.split_whitespace() {

@@ -15,7 +15,7 @@ mod transfers;
 mod views;
 mod words;
 
-use crate::notation::{append, written};
+use crate::notation::written_after;
 use macho_program::check_status;
 use macho_report::{FromRead, FromWrite, run};
 use std::fmt::Debug;
@@ -82,8 +82,7 @@ fn check_lines(rt: &(impl Abort + AllocGlobal), front: &str, lines: &str) -> Res
 
 fn check_line(rt: &(impl Abort + AllocGlobal), front: &str, line: &str) -> Result<(), Fail> {
     let (bytes, verdict) = line.split_once(" : ").ok_or("a line without a verdict")?;
-    let mut file = written(rt.alloc(), front)?;
-    append(&mut file, bytes)?;
+    let file = written_after(rt.alloc(), front, bytes)?;
     check_verdict(rt, &file, verdict);
     Ok(())
 }

@@ -1,8 +1,9 @@
 //! The views of an image as text: a line for each part, with its name and its numbers.
 
 use super::same;
-use macho_image::{Image, Kind};
+use macho_image::{Image, Kind, Segment};
 use std::alloc::{AllocError, Global};
+use std::fmt::Debug;
 use std::process::Abort;
 use std::test::Fail;
 
@@ -44,11 +45,6 @@ fn linkedit(text: &mut String, alloc: Global, image: &Image) -> Result<(), Alloc
 
 /// The image with its size, cputype, cpusubtype and number of sections.
 fn header(text: &mut String, alloc: Global, image: &Image) -> Result<(), AllocError> {
-    let kind = match image.kind() {
-        Kind::Execute => "executable",
-        Kind::Dylib => "dylib",
-        Kind::Bundle => "bundle",
-    };
     let (cputype, cpusubtype) = image.arch();
     let numbers = [
         image.bytes().len(),
@@ -56,7 +52,15 @@ fn header(text: &mut String, alloc: Global, image: &Image) -> Result<(), AllocEr
         u64::from(cpusubtype),
         image.section_count(),
     ];
-    line(text, alloc, kind, b"", &numbers)
+    line(text, alloc, kind_word(image.kind()), b"", &numbers)
+}
+
+const fn kind_word(kind: Kind) -> &'static str {
+    match kind {
+        Kind::Execute => "executable",
+        Kind::Dylib => "dylib",
+        Kind::Bundle => "bundle",
+    }
 }
 
 /// Appends a line: what it is of, a name, and numbers.
@@ -67,9 +71,8 @@ fn line(
     name: &[u8],
     numbers: &[u64],
 ) -> Result<(), AllocError> {
-    text.push_str(part)?;
-    text.push_str(" ")?;
-    text.push_str(str::from_utf8(name).unwrap_or("?"))?;
+    let name = str::from_utf8(name).unwrap_or("?");
+    text.push_str(&format!(in alloc; "{part} {name}")?)?;
     for number in numbers {
         text.push_str(&format!(in alloc; " {number:#x}")?)?;
     }
@@ -91,7 +94,7 @@ fn commands(text: &mut String, alloc: Global, image: &Image) -> Result<(), Alloc
 }
 
 /// Each segment with its place, vmaddr, vmsize, fileoff, filesize, initprot and nsects, and its
-/// sections, each with its place, addr, size, offset, reloff, nreloc and flags.
+/// sections.
 fn segments(text: &mut String, alloc: Global, image: &Image) -> Result<(), AllocError> {
     for segment in image.segments() {
         let numbers = [
@@ -104,36 +107,46 @@ fn segments(text: &mut String, alloc: Global, image: &Image) -> Result<(), Alloc
             segment.nsects(),
         ];
         line(text, alloc, "segment", segment.name(), &numbers)?;
-        for section in segment.sections() {
-            let part = if section.is_zero_fill() {
-                "zeros"
-            } else {
-                "section"
-            };
-            let numbers = [
-                section.place(),
-                section.addr(),
-                section.size(),
-                section.offset(),
-                section.reloff(),
-                section.nreloc(),
-                section.flags(),
-            ];
-            line(text, alloc, part, section.name(), &numbers)?;
-        }
+        sections(text, alloc, &segment)?;
+    }
+    Ok(())
+}
+
+/// Each section of a segment with its place, addr, size, offset, reloff, nreloc and flags.
+fn sections(text: &mut String, alloc: Global, segment: &Segment) -> Result<(), AllocError> {
+    for section in segment.sections() {
+        let is_zero_fill = section.is_zero_fill();
+        let part = if is_zero_fill { "zeros" } else { "section" };
+        let numbers = [
+            section.place(),
+            section.addr(),
+            section.size(),
+            section.offset(),
+            section.reloff(),
+            section.nreloc(),
+            section.flags(),
+        ];
+        line(text, alloc, part, section.name(), &numbers)?;
     }
     Ok(())
 }
 
 /// The two commands of symbols, with their places and words.
 fn tables(text: &mut String, alloc: Global, image: &Image) -> Result<(), AllocError> {
-    if let Some(table) = image.symtab() {
-        text.push_str(&format!(in alloc; "{table:?}\n")?)?;
+    shown(text, alloc, image.symtab())?;
+    shown(text, alloc, image.dysymtab())
+}
+
+/// A command with its place and words, where there is one.
+fn shown<T: Debug + Copy>(
+    text: &mut String,
+    alloc: Global,
+    command: Option<T>,
+) -> Result<(), AllocError> {
+    match command {
+        Some(command) => text.push_str(&format!(in alloc; "{command:?}\n")?),
+        None => Ok(()),
     }
-    if let Some(table) = image.dysymtab() {
-        text.push_str(&format!(in alloc; "{table:?}\n")?)?;
-    }
-    Ok(())
 }
 
 /// Each symbol with its place, `n_strx`, `n_type`, `n_sect`, `n_desc` and `n_value`.

@@ -48,16 +48,29 @@ fn segments_at(alloc: Global, spans: &[(u32, u32)]) -> Result<Vec<u8>, Fail> {
     let mut file = Vec::new(alloc);
     let count = u32::try_from(spans.len()).unwrap_or(0);
     append(&mut file, "cffaedfe 07000001 03000000 02000000")?;
-    file.extend_from_slice(&count.to_le_bytes())?;
-    file.extend_from_slice(&count.saturating_mul(72).to_le_bytes())?;
-    append(&mut file, ".8")?;
+    append_little(&mut file, &[count, count.saturating_mul(72), 0, 0])?;
     for (start, len) in spans {
         append(&mut file, "19000000 48000000 .16")?;
-        file.extend_from_slice(&u64::from(*start).to_le_bytes())?;
-        file.extend_from_slice(&u64::from(*len).to_le_bytes())?;
+        append_little(&mut file, &[*start, 0, *len, 0])?;
         append(&mut file, ".32")?;
     }
     Ok(file)
+}
+
+/// Appends numbers of 32 bits, the low byte of each first.
+fn append_little(file: &mut Vec<u8>, numbers: &[u32]) -> Result<(), AllocError> {
+    for number in numbers {
+        file.extend_from_slice(&number.to_le_bytes())?;
+    }
+    Ok(())
+}
+
+/// Appends numbers of 32 bits, the high byte of each first.
+fn append_big(file: &mut Vec<u8>, numbers: &[u32]) -> Result<(), AllocError> {
+    for number in numbers {
+        file.extend_from_slice(&number.to_be_bytes())?;
+    }
+    Ok(())
 }
 
 #[test]
@@ -73,9 +86,10 @@ fn segments_of_random_files(rt: HostRuntime) -> Result<(), Fail> {
         same(&rt, &verify(rt.alloc(), &file).err(), &wanted);
         broken = broken.saturating_add(u64::from(wanted.is_some()));
     }
-    assert!(rt;
-        (1_000..9_000).contains(&broken),
-        "{broken} files are broken"
+    same(
+        &rt,
+        &(broken, (1_000..9_000).contains(&broken)),
+        &(broken, true),
     );
     Ok(())
 }
@@ -87,13 +101,10 @@ fn entries_at(alloc: Global, spans: &[(u32, u32)], arches: &[(u32, u32)]) -> Res
     let count = u32::try_from(spans.len()).unwrap_or(0);
     let end = count.saturating_mul(20).saturating_add(8);
     append(&mut file, "cafebabe")?;
-    file.extend_from_slice(&count.to_be_bytes())?;
+    append_big(&mut file, &[count])?;
     for ((start, len), (cputype, cpusubtype)) in spans.iter().zip(arches) {
-        file.extend_from_slice(&cputype.to_be_bytes())?;
-        file.extend_from_slice(&cpusubtype.to_be_bytes())?;
-        file.extend_from_slice(&end.saturating_add(*start).to_be_bytes())?;
-        file.extend_from_slice(&len.to_be_bytes())?;
-        append(&mut file, ".4")?;
+        let start = end.saturating_add(*start);
+        append_big(&mut file, &[*cputype, *cpusubtype, start, *len, 0])?;
     }
     append(&mut file, ".71")?;
     Ok(file)
@@ -118,18 +129,28 @@ fn broken_entry(spans: &[(u32, u32)], arches: &[(u32, u32)]) -> Break {
     }
 }
 
+/// Some architectures of four processors with four variants, some with a capability bit.
+fn random_arches(
+    alloc: Global,
+    number: &mut u64,
+    count: u64,
+) -> Result<Vec<(u32, u32)>, AllocError> {
+    let mut arches = Vec::new(alloc);
+    for _ in 0..count {
+        let random = next(number);
+        let capability = if random % 2 == 0 { 0 } else { 0x8000_0000 };
+        let cputype = ((random >> 8) % 4) as u32;
+        arches.push((cputype, ((random >> 16) % 4) as u32 | capability))?;
+    }
+    Ok(arches)
+}
+
 #[test]
 fn entries_of_random_files(rt: HostRuntime) -> Result<(), Fail> {
     let (mut number, mut overlaps, mut duplicates) = (1, 0u64, 0u64);
     for round in 0..10_000u64 {
         let spans = random_spans(rt.alloc(), &mut number, round % 8)?;
-        let mut arches = Vec::new(rt.alloc());
-        for _ in 0..round % 8 {
-            let random = next(&mut number);
-            let capability = if random % 2 == 0 { 0 } else { 0x8000_0000 };
-            let cputype = ((random >> 8) % 4) as u32;
-            arches.push((cputype, ((random >> 16) % 4) as u32 | capability))?;
-        }
+        let arches = random_arches(rt.alloc(), &mut number, round % 8)?;
         let wanted = broken_entry(&spans, &arches);
         let file = entries_at(rt.alloc(), &spans, &arches)?;
         same(
@@ -140,10 +161,11 @@ fn entries_of_random_files(rt: HostRuntime) -> Result<(), Fail> {
         overlaps = overlaps.saturating_add(u64::from(wanted.rule == Rule::FatOverlap));
         duplicates = duplicates.saturating_add(u64::from(wanted.rule == Rule::FatDuplicate));
     }
-    assert!(rt; overlaps > 1_000, "{overlaps} files break fat-overlap");
-    assert!(rt;
-        duplicates > 1_000,
-        "{duplicates} files break fat-duplicate"
+    let many = (overlaps > 1_000, duplicates > 1_000);
+    same(
+        &rt,
+        &(overlaps, duplicates, many),
+        &(overlaps, duplicates, (true, true)),
     );
     Ok(())
 }

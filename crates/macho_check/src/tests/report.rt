@@ -1,7 +1,7 @@
 //! The report on accepted files: texts that were worked out by hand from the bytes.
 
 use super::check_text;
-use crate::notation::{append, executable, written};
+use crate::notation::{executable, written_after};
 use std::process::Abort;
 use std::test::Fail;
 
@@ -25,12 +25,8 @@ fn check_parts(
     cases: &[(&str, &str)],
 ) -> Result<(), Fail> {
     for &(bytes, part) in cases {
-        let mut file = written(rt.alloc(), front)?;
-        append(&mut file, bytes)?;
-        let mut text = String::new(rt.alloc());
-        text.push_str(before)?;
-        text.push_str(part)?;
-        text.push_str(after)?;
+        let file = written_after(rt.alloc(), front, bytes)?;
+        let text = format!(in rt.alloc(); "{before}{part}{after}")?;
         check_text(rt, &file, text.as_str());
     }
     Ok(())
