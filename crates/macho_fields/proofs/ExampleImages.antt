@@ -2,7 +2,7 @@
 use Rattle.std.proofs.Common.{◌*◌, Any, ◌≡◌, ℕ, ◌+◌, ◌<◌, ◌⊎◌, List, [], ◌∷◌, ◌++◌, length, true, false, true≢false, ◌&&◌, nat_lt, Contains, None, IsSomeAnd, refl, sym, subst, arith, lit≤, inl, inr}
 use Rattle.std.specs.List.{list_any}
 use Rattle.std.proofs.lemmas.Bool.{lt-ltb, and_from}
-use Rattle.macho_fields.specs.Image.{command_size, command_kind, file_type, AreCommands}
+use Rattle.macho_fields.specs.Image.{command_size, command_cmd, file_type, AreCommands}
 use Rattle.macho_fields.specs.LoadCommands.{structure_of}
 use Rattle.macho_fields.specs.FileTypes.{FileTypeView, file_type_of}
 use Rattle.macho_fields.specs.Command.{IsShort, IsBadName, HasBadName, HasDylibId, least_size}
@@ -95,19 +95,19 @@ module _ (image : List ℕ) (at : ℕ) where
   pub not_repeated : ¬ BreaksCommands image (32 ∷ []) rule.CommandRepeated at
   not_repeated h =
       let here : 32 ≡ at = only_one 32 at h.0 in
-      let (before, same) = any_one (λ earlier. (earlier < at) × (command_kind image earlier ≡ command_kind image at)) 32 h.1.1 in
+      let (before, same) = any_one (λ earlier. (earlier < at) × (command_cmd image earlier ≡ command_cmd image at)) 32 h.1.1 in
       let less : 32 < at = before in absurd (omega arith)
 
-  pub keeps_size : structure_of (command_kind image 32) ≡ None → ¬ BreaksCommands image (32 ∷ []) rule.CommandShort at
+  pub keeps_size : structure_of (command_cmd image 32) ≡ None → ¬ BreaksCommands image (32 ∷ []) rule.CommandShort at
   keeps_size unlisted h =
       let short : Structure → Type 0 = λ structure. command_size image 32 < least_size image 32 structure in
-      of_none short (structure_of (command_kind image 32)) unlisted (subst (IsShort image) (sym (only_one 32 at h.0)) h.1)
+      of_none short (structure_of (command_cmd image 32)) unlisted (subst (IsShort image) (sym (only_one 32 at h.0)) h.1)
 
-  pub no_library : file_type image ≡ 2 → ¬ (command_kind image 32 ≡ 0xd) → ¬ BreaksCommands image (32 ∷ []) rule.DylibId at
-  no_library kind other h = other (any_one (λ command. command_kind image command ≡ 0xd) 32 (executable_names image (32 ∷ []) kind h.1))
+  pub no_library : file_type image ≡ 2 → ¬ (command_cmd image 32 ≡ 0xd) → ¬ BreaksCommands image (32 ∷ []) rule.DylibId at
+  no_library kind other h = other (any_one (λ command. command_cmd image command ≡ 0xd) 32 (executable_names image (32 ∷ []) kind h.1))
 
-  pub no_name : structure_of (command_kind image 32) ≡ None → ¬ BreaksCommands image (32 ∷ []) rule.Name at
-  no_name unlisted h = of_none (IsBadName image 32) (structure_of (command_kind image 32)) unlisted (subst (HasBadName image) (sym (only_one 32 at h.0)) h.1)
+  pub no_name : structure_of (command_cmd image 32) ≡ None → ¬ BreaksCommands image (32 ∷ []) rule.Name at
+  no_name unlisted h = of_none (IsBadName image 32) (structure_of (command_cmd image 32)) unlisted (subst (HasBadName image) (sym (only_one 32 at h.0)) h.1)
 
 none_outside : (image : List ℕ) (at : ℕ)
     → list_any (λ table. nat_lt 0 table.1 && nat_lt (length image) (table.0 + table.1 * table.2)) (tables_of image 32) ≡ false

@@ -2,7 +2,7 @@
 use Rattle.std.proofs.Common.{◌≡◌, ℕ, suc, zero, ◌+◌, ◌*◌, ◌≤◌, ◌<◌, ◌⊎◌, List, [], ◌∷◌, length, map, Contains, Option, refl, sym, ap, ◌∙◌, arith, lit≤, inl, inr, ⊎_elim, lit<}
 use Rattle.std.proofs.lemmas.Bool.{cases_lt}
 use Rattle.std.specs.List.{range_with_len}
-use Rattle.macho_fields.specs.Image.{commands_end, command_kind, command_size, Follow, AreCommands, of_kind}
+use Rattle.macho_fields.specs.Image.{commands_end, command_cmd, command_size, Follow, AreCommands, with_cmd}
 use Rattle.macho_fields.specs.LoadCommands.{structure_of, indirect_table}
 use Rattle.macho_fields.specs.Segment.{segments_of, AtSection, nsects}
 use Rattle.macho_fields.specs.Symbol.{symoff, nsyms, stroff, strsize, indirectsymoff, nindirectsyms, tables_of, AtSymbol}
@@ -14,7 +14,7 @@ use Rattle.macho_fields.specs.declared.rule.Rule.{Rule}
 use Rattle.macho_fields.specs.declared.rule.Rule.TheVariants as rule
 use Rattle.macho_fields.specs.declared.rule.Break.{Break}
 use Rattle.macho_fields.specs.declared.header.loader.TheConstants as loader
-use Rattle.macho_fields.proofs.Parts.{command_good, of_kind_is, of_kind_among}
+use Rattle.macho_fields.proofs.Parts.{command_good, with_cmd_is, with_cmd_among}
 use Rattle.macho_fields.proofs.Lists.{contains_first}
 use Rattle.macho_fields.proofs.LoadCommands.{table_listed, indirects_listed}
 use Rattle.macho_fields.proofs.Opened.{Keeps, keeps_rules, command_inside, sections_inside}
@@ -31,8 +31,8 @@ item_of_range f start (suc n) x (suc k, less, at) =
 pub segment_holds : (image commands : List ℕ) → Keeps image → AreCommands image commands → (segment : ℕ)
     → Contains (segments_of image commands) segment → segment + 72 + 80 * nsects image segment ≤ length image
 segment_holds image commands opened are segment has =
-    let among = of_kind_among image commands loader.LC_SEGMENT_64 segment has in
-    let whole = sections_inside image commands opened are segment among (of_kind_is image commands loader.LC_SEGMENT_64 segment has) in
+    let among = with_cmd_among image commands loader.LC_SEGMENT_64 segment has in
+    let whole = sections_inside image commands opened are segment among (with_cmd_is image commands loader.LC_SEGMENT_64 segment has) in
     let most = command_inside image commands opened are segment among in
     omega arith
 
@@ -70,8 +70,8 @@ module _ (image : List ℕ) (arch : Option (ℕ × ℕ)) where
       let most = all_inside n late below in omega arith
 
   at_kind : (n : ℕ) → rank rule.CommandsOutside < n → Below n → (commands : List ℕ) → AreCommands image commands → (kind place : ℕ)
-      → Contains (of_kind image kind commands) place → place ≤ length image
-  at_kind n late below commands are kind place has = at_command n late below commands are place (of_kind_among image commands kind place has)
+      → Contains (with_cmd image kind commands) place → place ≤ length image
+  at_kind n late below commands are kind place has = at_command n late below commands are place (with_cmd_among image commands kind place has)
 
   opens : (n : ℕ) → rank rule.SegmentAddress ≤ n → Below n → Keeps image
   opens n late below = keeps_rules image arch (λ r place less h. below r place (omega arith) h)
@@ -94,8 +94,8 @@ module _ (image : List ℕ) (arch : Option (ℕ × ℕ)) where
   at_symbol : (n : ℕ) → rank rule.TableRange < n → Below n → (commands : List ℕ) → AreCommands image commands → (P : ℕ → ℕ → Type 0) (place : ℕ)
       → AtSymbol image commands P place → place ≤ length image
   at_symbol n late below commands are P place (j, symtab, less, at, (k, lower, is, p)) =
-      let among = of_kind_among image commands loader.LC_SYMTAB symtab (j, less, at) in
-      let kind : command_kind image symtab ≡ loader.LC_SYMTAB = of_kind_is image commands loader.LC_SYMTAB symtab (j, less, at) in
+      let among = with_cmd_among image commands loader.LC_SYMTAB symtab (j, less, at) in
+      let kind : command_cmd image symtab ≡ loader.LC_SYMTAB = with_cmd_is image commands loader.LC_SYMTAB symtab (j, less, at) in
       let symbols : ℕ × ℕ × ℕ = (symoff image symtab, nsyms image symtab, 16) in
       let strings : ℕ × ℕ × ℕ = (stroff image symtab, strsize image symtab, 1) in
       let has : Contains (tables_of image symtab) symbols = rw kind (contains_first symbols (strings ∷ [])) in
@@ -103,11 +103,11 @@ module _ (image : List ℕ) (arch : Option (ℕ × ℕ)) where
       omega (arith, is)
 
   at_indirect : (n : ℕ) → rank rule.TableRange < n → Below n → (commands : List ℕ) → AreCommands image commands → (dysymtab k place : ℕ)
-      → Contains (of_kind image loader.LC_DYSYMTAB commands) dysymtab → k < nindirectsyms image dysymtab
+      → Contains (with_cmd image loader.LC_DYSYMTAB commands) dysymtab → k < nindirectsyms image dysymtab
       → place ≡ indirectsymoff image dysymtab + 4 * k → place ≤ length image
   at_indirect n late below commands are dysymtab k place found lower is =
-      let among = of_kind_among image commands loader.LC_DYSYMTAB dysymtab found in
-      let kind : command_kind image dysymtab ≡ loader.LC_DYSYMTAB = of_kind_is image commands loader.LC_DYSYMTAB dysymtab found in
+      let among = with_cmd_among image commands loader.LC_DYSYMTAB dysymtab found in
+      let kind : command_cmd image dysymtab ≡ loader.LC_DYSYMTAB = with_cmd_is image commands loader.LC_DYSYMTAB dysymtab found in
       let has : Contains (tables_of image dysymtab) (indirectsymoff image dysymtab, nindirectsyms image dysymtab, 4) =
       table_listed image dysymtab DysymtabCommand indirect_table (ap structure_of kind) indirects_listed in
       let most : indirectsymoff image dysymtab + nindirectsyms image dysymtab * 4 ≤ length image =

@@ -6,7 +6,7 @@ use Rattle.std.specs.Option.{option_map_or}
 use Rattle.std.proofs.lemmas.Bool.{true≢false, leb-true, le-leb, and_parts}
 use Rattle.std.proofs.lemmas.List.Sums.{AllPass-from_list_all}
 use Rattle.macho_fields.specs.LoadCommands.{structure_of, structure_size, has_name, names_library, is_dylib_command, width_size, AreFieldsInside, table_fields, symbol_table, string_table, indirect_table, linkedit_data_table}
-use Rattle.macho_fields.specs.Image.{word, command_kind, command_size}
+use Rattle.macho_fields.specs.Image.{word, command_cmd, command_size}
 use Rattle.macho_fields.specs.Command.{HasStructure, record_count}
 use Rattle.macho_fields.specs.Symbol.{table_at, tables_of}
 use Rattle.macho_fields.specs.declared.load_command.Structure.{Structure}
@@ -65,23 +65,23 @@ module _ (image : List ℕ) (command : ℕ) where
   records_counted offset inside = rw (le-leb (offset + 4) (command_size image command) inside) refl
 
   -- the structure of a command, by its kind
-  pub structure_by_kind : (kind : ℕ) (o : Option Structure) → command_kind image command ≡ kind → structure_of kind ≡ o → structure_of (command_kind image command) ≡ o
+  pub structure_by_kind : (kind : ℕ) (o : Option Structure) → command_cmd image command ≡ kind → structure_of kind ≡ o → structure_of (command_cmd image command) ≡ o
   structure_by_kind kind o is listed = ap structure_of is ∙ listed
 
-  pub tables_listed : (s : Structure) → structure_of (command_kind image command) ≡ Some s → tables_of image command ≡ map (table_at image command) (table_fields s)
+  pub tables_listed : (s : Structure) → structure_of (command_cmd image command) ≡ Some s → tables_of image command ≡ map (table_at image command) (table_fields s)
   tables_listed s listed = ap (λ o. option_map_or (λ t. map (table_at image command) (table_fields t)) o []) listed
 
-  pub table_listed : (s : Structure) (fields : TableFields) → structure_of (command_kind image command) ≡ Some s → Contains (table_fields s) fields
+  pub table_listed : (s : Structure) (fields : TableFields) → structure_of (command_cmd image command) ≡ Some s → Contains (table_fields s) fields
       → Contains (tables_of image command) (table_at image command fields)
   table_listed s fields listed has =
       subst (λ tables. Contains tables (table_at image command fields)) (sym (tables_listed s listed)) (contains_mapped (table_at image command) (table_fields s) fields has)
 
-  pub tables_unlisted : structure_of (command_kind image command) ≡ None → tables_of image command ≡ []
+  pub tables_unlisted : structure_of (command_cmd image command) ≡ None → tables_of image command ≡ []
   tables_unlisted none = ap (λ o. option_map_or (λ t. map (table_at image command) (table_fields t)) o []) none
 
   -- what holds of the structure of a listed command
-  pub has_structure : (P : Structure → Type 0) (s : Structure) → structure_of (command_kind image command) ≡ Some s → HasStructure image command P ↔ P s
-  has_structure P s listed = (some_has P (structure_of (command_kind image command)) s listed, of_some P (structure_of (command_kind image command)) s listed)
+  pub has_structure : (P : Structure → Type 0) (s : Structure) → structure_of (command_cmd image command) ≡ Some s → HasStructure image command P ↔ P s
+  has_structure P s listed = (some_has P (structure_of (command_cmd image command)) s listed, of_some P (structure_of (command_cmd image command)) s listed)
 
-  pub has_no_structure : (P : Structure → Type 0) → structure_of (command_kind image command) ≡ None → ¬ HasStructure image command P
-  has_no_structure P none = of_none P (structure_of (command_kind image command)) none
+  pub has_no_structure : (P : Structure → Type 0) → structure_of (command_cmd image command) ≡ None → ¬ HasStructure image command P
+  has_no_structure P none = of_none P (structure_of (command_cmd image command)) none

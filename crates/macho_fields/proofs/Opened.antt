@@ -3,7 +3,7 @@ use Rattle.std.proofs.Common.{◌≡◌, ℕ, ◌+◌, ◌*◌, ◌≤◌, ◌<�
 use Rattle.std.specs.Prelude.{IsSome}
 use Rattle.std.proofs.lemmas.Bool.{cases_lt}
 use Rattle.macho_fields.specs.Field.{HasZero}
-use Rattle.macho_fields.specs.Image.{file_type, commands_end, command_kind, command_size, AreCommands}
+use Rattle.macho_fields.specs.Image.{file_type, commands_end, command_cmd, command_size, AreCommands}
 use Rattle.macho_fields.specs.LoadCommands.{structure_of, structure_size, has_name, width_size, table_fields}
 use Rattle.macho_fields.specs.Segment.{nsects}
 use Rattle.macho_fields.specs.FileTypes.{file_type_of}
@@ -50,15 +50,15 @@ module _ (image commands : List ℕ) (opened : Keeps image) (are : AreCommands i
       let most = opened.inside in omega arith
 
   -- the structure of a listed command, with its records, lies inside the command
-  pub structure_inside : (command : ℕ) (structure : Structure) → Contains commands command → structure_of (command_kind image command) ≡ Some structure
+  pub structure_inside : (command : ℕ) (structure : Structure) → Contains commands command → structure_of (command_cmd image command) ≡ Some structure
       → least_size image command structure ≤ command_size image command
   structure_inside command structure has listed =
       let short : Structure → Type 0 = λ s. command_size image command < least_size image command s in
       at_least (least_size image command structure) (command_size image command)
-      (λ less. opened.whole commands are command has (of_some short (structure_of (command_kind image command)) structure listed less))
+      (λ less. opened.whole commands are command has (of_some short (structure_of (command_cmd image command)) structure listed less))
 
   -- so do the fields that bound its tables lie inside the image
-  pub table_fields_inside : (command : ℕ) (structure : Structure) → Contains commands command → structure_of (command_kind image command) ≡ Some structure
+  pub table_fields_inside : (command : ℕ) (structure : Structure) → Contains commands command → structure_of (command_cmd image command) ≡ Some structure
       → All (λ fields. (command + fields.place + width_size fields.width ≤ length image) × (command + fields.count + width_size fields.width ≤ length image)) (table_fields structure)
   table_fields_inside command structure has listed k d less =
       let whole : structure_size structure + records_size image command structure ≤ command_size image command = structure_inside command structure has listed in
@@ -66,7 +66,7 @@ module _ (image commands : List ℕ) (opened : Keeps image) (are : AreCommands i
       let (place, count) = fields_inside structure k d less in (omega arith, omega arith)
 
   -- the sections of a segment lie in its command
-  pub sections_inside : (segment : ℕ) → Contains commands segment → command_kind image segment ≡ loader.LC_SEGMENT_64
+  pub sections_inside : (segment : ℕ) → Contains commands segment → command_cmd image segment ≡ loader.LC_SEGMENT_64
       → loader.SEGMENT_COMMAND_64_SIZE + loader.SECTION_64_SIZE * nsects image segment ≤ command_size image segment
   sections_inside segment has is =
       let listed = structure_by_kind image segment loader.LC_SEGMENT_64 (Some SegmentCommand64) is refl in
@@ -76,15 +76,15 @@ module _ (image commands : List ℕ) (opened : Keeps image) (are : AreCommands i
 
   -- the same, of a structure that has P
   pub with_structure : (command : ℕ) (P : Structure → Type 0) → Contains commands command → HasStructure image command P
-      → (structure : Structure) × (structure_of (command_kind image command) ≡ Some structure) × P structure × (least_size image command structure ≤ command_size image command)
+      → (structure : Structure) × (structure_of (command_cmd image command) ≡ Some structure) × P structure × (least_size image command structure ≤ command_size image command)
   with_structure command P has holds =
-      let (structure, listed, p) = some_of P (structure_of (command_kind image command)) holds in
+      let (structure, listed, p) = some_of P (structure_of (command_cmd image command)) holds in
       (structure, listed, p, structure_inside command structure has listed)
 
   -- the name of a command ends inside the command
   pub name_ended : (command : ℕ) → Contains commands command → IsNamed image command → HasZero image (name_start image command) (command + command_size image command)
   name_ended command has named =
-      let (structure, listed, p) = some_of (λ s. has_name s ≡ true) (structure_of (command_kind image command)) named in
-      let bad = of_some (IsBadName image command) (structure_of (command_kind image command)) structure listed in
+      let (structure, listed, p) = some_of (λ s. has_name s ≡ true) (structure_of (command_cmd image command)) named in
+      let bad = of_some (IsBadName image command) (structure_of (command_cmd image command)) structure listed in
       not_not (zero_or_none image (name_start image command) (command + command_size image command))
       (λ none. opened.named commands are command has (bad (p, inr none)))

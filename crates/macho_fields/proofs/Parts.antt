@@ -2,7 +2,7 @@
 use Rattle.std.proofs.Common.{◌≡◌, ℕ, suc, zero, ◌+◌, ◌≤◌, ◌==◌, List, [], ◌∷◌, ◌++◌, length, Bool, filter, true, All, Contains, Option, refl, sym, subst, arith, inl, inr, length-append, le_refl}
 use Rattle.std.proofs.lemmas.Bool.{eqb-true}
 use Rattle.std.proofs.lemmas.List.Elements.{All-contains, filter_passes, All-filter, All-contains_itself}
-use Rattle.macho_fields.specs.Image.{command_size, command_count, command_kind, IsGood, Follow, IsChain, AreCommands, commands_of, of_kind}
+use Rattle.macho_fields.specs.Image.{command_size, command_count, command_cmd, IsGood, Follow, IsChain, AreCommands, commands_of, with_cmd}
 use Rattle.macho_fields.specs.Rules.{BreaksHeader}
 use Rattle.macho_fields.specs.declared.rule.Rule.TheVariants as rule
 use Rattle.macho_fields.proofs.Chains.{counted_off}
@@ -46,12 +46,12 @@ commands_good image start (x ∷ xs) m f (suc k) d h = commands_good image (x + 
 pub command_good : (image commands : List ℕ) (command : ℕ) → AreCommands image commands → Contains commands command → IsGood image command
 command_good image commands command (e, next, chain) has = All-contains (IsGood image) commands command (commands_good image 32 commands next chain) has
 
-pub of_kind_is : (image commands : List ℕ) (kind command : ℕ) → Contains (of_kind image kind commands) command → command_kind image command ≡ kind
-of_kind_is image commands kind command has =
-    let test : ℕ → Bool = λ c. command_kind image c == kind in
-    eqb-true (command_kind image command) kind (All-contains (λ c. test c ≡ true) (filter test commands) command (filter_passes test commands) has)
+pub with_cmd_is : (image commands : List ℕ) (kind command : ℕ) → Contains (with_cmd image kind commands) command → command_cmd image command ≡ kind
+with_cmd_is image commands kind command has =
+    let test : ℕ → Bool = λ c. command_cmd image c == kind in
+    eqb-true (command_cmd image command) kind (All-contains (λ c. test c ≡ true) (filter test commands) command (filter_passes test commands) has)
 
-pub of_kind_among : (image commands : List ℕ) (kind command : ℕ) → Contains (of_kind image kind commands) command → Contains commands command
-of_kind_among image commands kind command has =
-    let test : ℕ → Bool = λ c. command_kind image c == kind in
+pub with_cmd_among : (image commands : List ℕ) (kind command : ℕ) → Contains (with_cmd image kind commands) command → Contains commands command
+with_cmd_among image commands kind command has =
+    let test : ℕ → Bool = λ c. command_cmd image c == kind in
     All-contains (Contains commands) (filter test commands) command (All-filter test (Contains commands) commands (All-contains_itself commands)) has

@@ -2,7 +2,7 @@
 use Rattle.std.proofs.Common.{◌≡◌, ◌≢◌, ℕ, ◌+◌, ◌-◌, ◌*◌, ◌≤◌, ◌<◌, ◌⊎◌, List, length, false, slice_index, bit_and, Any, Contains, Option, IsSomeAnd, refl, sym, ap, subst, arith, inl, inr}
 use Rattle.std.proofs.lemmas.Bool.{cases_lt, cases_eq, cases_order, lt-ltb}
 use Rattle.macho_fields.specs.Field.{HasZero, Covers}
-use Rattle.macho_fields.specs.Image.{word, long, command_size, AreCommands, of_kind}
+use Rattle.macho_fields.specs.Image.{word, long, command_size, AreCommands, with_cmd}
 use Rattle.macho_fields.specs.Command.{HasStructure, least_size, IsNamed, name_start}
 use Rattle.macho_fields.specs.Segment.{segments_of, sections_in, vmaddr, vmsize, fileoff, filesize, initprot, base_of, Supplies, IsInFilePart, IsExecutable, section_address, section_size, section_offset, is_zero_fill, File, source}
 use Rattle.macho_fields.specs.Symbol.{tables_of, IsOutside, HasEndlessName}
@@ -198,15 +198,15 @@ module _ (image : List ℕ) (arch : Option (ℕ × ℕ)) (keeps : (r : Rule) (pl
       let ended = name_ended image commands opened are command has name.0 in
       subst (λ n. HasZero image n end) (sym name.1) (subst (λ n. HasZero image (name_start image command) n) (sym name.2) ended)
 
-  symbol_name : (start end : ℕ) → Any (SymbolName start end) (of_kind image 0x2 commands) → HasZero image start end
+  symbol_name : (start end : ℕ) → Any (SymbolName start end) (with_cmd image 0x2 commands) → HasZero image start end
   symbol_name start end any =
-      let (symtab, (has, name)) = with_item (SymbolName start end) (of_kind image 0x2 commands) any in
+      let (symtab, (has, name)) = with_item (SymbolName start end) (with_cmd image 0x2 commands) any in
       let symbol = word image (symtab + 8) + 16 * name.0 in
       let ended : HasZero image (word image (symtab + 16) + word image symbol) (word image (symtab + 16) + word image (symtab + 20)) =
       not_not (zero_or_none image (word image (symtab + 16) + word image symbol) (word image (symtab + 16) + word image (symtab + 20)))
       (λ none. keeps_commands rule.SymbolName symbol
       (as_any (λ s. (k : ℕ) × (k < word image (s + 12)) × (symbol ≡ word image (s + 8) + 16 * k) × HasEndlessName image s symbol)
-      (of_kind image 0x2 commands) symtab has
+      (with_cmd image 0x2 commands) symtab has
       (name.0, name.1, refl, (name.2.0, none)))) in
       subst (λ n. HasZero image n end) (sym name.2.1) (subst (λ n. HasZero image (word image (symtab + 16) + word image symbol) n) (sym name.2.2) ended)
 
@@ -253,7 +253,7 @@ module _ (image : List ℕ) (arch : Option (ℕ × ℕ)) (keeps : (r : Rule) (pl
                 ]
           ]
 
-  entry_runs : (main : ℕ) → Contains (of_kind image 0x80000028 commands) main → IsSomeAnd (base_of image commands) (λ base. IsExecutable image commands (base + long image (main + 8)))
+  entry_runs : (main : ℕ) → Contains (with_cmd image 0x80000028 commands) main → IsSomeAnd (base_of image commands) (λ base. IsExecutable image commands (base + long image (main + 8)))
   entry_runs main has =
       not_not
       (some_or_not (λ base. IsExecutable image commands (base + long image (main + 8)))

@@ -1,9 +1,9 @@
--- What a load command of a listed kind has to be. (mach-o/loader.h)
+-- What a listed load command has to be. (mach-o/loader.h)
 use Rattle.std.specs.Prelude.{◌≡◌, ℕ, ◌+◌, ◌*◌, ◌<◌, ◌⊎◌, List, Any, true, false, IsSomeAnd, nat_le}
 use Rattle.std.specs.Prelude.{if◌then◌else◌}
 use Rattle.std.specs.Option.{option_map_or}
 use Rattle.macho_fields.specs.Field.{HasZero}
-use Rattle.macho_fields.specs.Image.{word, file_type, command_kind, command_size}
+use Rattle.macho_fields.specs.Image.{word, file_type, command_cmd, command_size}
 use Rattle.macho_fields.specs.FileTypes.{file_type_of}
 use Rattle.macho_fields.specs.LoadCommands.{IsUnique, structure_of, structure_size, has_name, records_of}
 use Rattle.macho_fields.specs.declared.load_command.Structure.{Structure}
@@ -11,7 +11,7 @@ use Rattle.macho_fields.specs.declared.header.loader.TheConstants as loader
 
 -- the command is listed, and its structure has P
 abbrev pub HasStructure : List ℕ → ℕ → (Structure → Type 0) → Type 0
-HasStructure image command P = IsSomeAnd (structure_of (command_kind image command)) P
+HasStructure image command P = IsSomeAnd (structure_of (command_cmd image command)) P
 
 -- the count of records in the field at this offset, 0 where the field is not wholly inside the
 -- command
@@ -58,17 +58,17 @@ IsBadName image command structure =
 abbrev pub HasBadName : List ℕ → ℕ → Type 0
 HasBadName image command = HasStructure image command (IsBadName image command)
 
--- an image has at most one command of this kind, and an earlier one is of the kind
+-- an image has at most one command with this cmd, and an earlier one has it too
 abbrev pub RepeatsEarlier : List ℕ → List ℕ → ℕ → Type 0
 RepeatsEarlier image commands command =
-    IsUnique (command_kind image command)
+    IsUnique (command_cmd image command)
     × Any (λ earlier.
-    (earlier < command) × (command_kind image earlier ≡ command_kind image command)) commands
+    (earlier < command) × (command_cmd image earlier ≡ command_cmd image command)) commands
 
 -- some command is an LC_ID_DYLIB
 abbrev pub HasDylibId : List ℕ → List ℕ → Type 0
 HasDylibId image commands =
-    Any (λ command. command_kind image command ≡ loader.LC_ID_DYLIB) commands
+    Any (λ command. command_cmd image command ≡ loader.LC_ID_DYLIB) commands
 
 -- an image of this filetype names itself, and has no LC_ID_DYLIB; or it does not, and has one
 abbrev pub IsMisnamed : List ℕ → List ℕ → Type 0

@@ -31,8 +31,8 @@ abbrev pub commands_end : List ℕ → ℕ
 commands_end image = loader.MACH_HEADER_64_SIZE + word image 20
 
 -- load_command: cmd at 0, cmdsize at 4. A command is named by its place.
-abbrev pub command_kind : List ℕ → ℕ → ℕ
-command_kind image command = word image command
+abbrev pub command_cmd : List ℕ → ℕ → ℕ
+command_cmd image command = word image command
 
 abbrev pub command_size : List ℕ → ℕ → ℕ
 command_size image command = word image (command + 4)
@@ -74,6 +74,6 @@ places_from image start (suc left) =
 abbrev pub commands_of : List ℕ → List ℕ
 commands_of image = places_from image loader.MACH_HEADER_64_SIZE (command_count image)
 
--- the commands of one kind, in order
-abbrev pub of_kind : List ℕ → ℕ → List ℕ → List ℕ
-of_kind image wanted commands = filter (λ command. command_kind image command == wanted) commands
+-- the commands with one cmd, in order
+abbrev pub with_cmd : List ℕ → ℕ → List ℕ → List ℕ
+with_cmd image wanted commands = filter (λ command. command_cmd image command == wanted) commands

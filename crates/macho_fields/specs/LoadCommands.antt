@@ -15,11 +15,11 @@ use Rattle.macho_fields.specs.declared.header.loader.TheConstants as loader
 use Rattle.macho_fields.specs.declared.header.nlist.TheConstants as nlist
 use Rattle.macho_fields.specs.declared.header.reloc.TheConstants as reloc
 
--- The listed commands, each with its kind, which is its cmd, and its structure. Both lists are in the
--- order of the numbers.
+-- The listed commands, each with its cmd and its structure. Both lists are in the order of the
+-- numbers.
 
 abbrev pub listed : ℕ → Structure → LoadCommand
-listed kind structure = record { cmd = kind; structure = structure }
+listed cmd structure = record { cmd = cmd; structure = structure }
 
 -- those of which an image has at most one
 abbrev pub unique_commands : List LoadCommand
@@ -59,27 +59,27 @@ repeatable_commands =
     ∷ listed loader.LC_DYLD_CHAINED_FIXUPS structure.LinkeditDataCommand
     ∷ []
 
--- the line of the lists for a kind of command
+-- the line of the lists for a cmd
 abbrev pub load_command_of : ℕ → Option LoadCommand
-load_command_of kind =
-    option_or (find (λ command. command.cmd == kind) unique_commands)
-    (find (λ command. command.cmd == kind) repeatable_commands)
+load_command_of cmd =
+    option_or (find (λ command. command.cmd == cmd) unique_commands)
+    (find (λ command. command.cmd == cmd) repeatable_commands)
 
--- the structure of a listed command, by its kind
+-- the structure of a listed command, by its cmd
 abbrev pub structure_of : ℕ → Option Structure
-structure_of kind = option_map (λ command. command.structure) (load_command_of kind)
+structure_of cmd = option_map (λ command. command.structure) (load_command_of cmd)
 
--- the kinds of which an image has at most one command
-abbrev pub unique_kinds : List ℕ
-unique_kinds = map (λ command. command.cmd) unique_commands
+-- the cmds of which an image has at most one command
+abbrev pub unique_cmds : List ℕ
+unique_cmds = map (λ command. command.cmd) unique_commands
 
--- where a kind stands among them
+-- where a cmd stands among them
 abbrev pub unique_index : ℕ → Option ℕ
-unique_index kind = position (λ command. command.cmd == kind) unique_commands
+unique_index cmd = position (λ command. command.cmd == cmd) unique_commands
 
--- an image has at most one command of this kind
+-- an image has at most one command with this cmd
 abbrev pub IsUnique : ℕ → Type 0
-IsUnique kind = IsTrue (list_any (λ command. command.cmd == kind) unique_commands)
+IsUnique cmd = IsTrue (list_any (λ command. command.cmd == cmd) unique_commands)
 
 -- the size of a structure in bytes
 abbrev pub structure_size : Structure → ℕ
@@ -105,13 +105,13 @@ has_name structure.DylinkerCommand = true
 has_name structure.RpathCommand = true
 has_name other = false
 
--- a command of this kind names a library: its structure is dylib_command
+-- a command with this cmd names a library: its structure is dylib_command
 abbrev pub is_dylib_command : Structure → Bool
 is_dylib_command structure.DylibCommand = true
 is_dylib_command other = false
 
 abbrev pub names_library : ℕ → Bool
-names_library kind = option_map_or is_dylib_command (structure_of kind) false
+names_library cmd = option_map_or is_dylib_command (structure_of cmd) false
 
 -- The records that follow a structure: the offset of the 32-bit field with their number, and the size
 -- of one.

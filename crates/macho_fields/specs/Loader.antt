@@ -3,7 +3,7 @@
 use Rattle.std.specs.Prelude.{◌≡◌, ◌≢◌, ℕ, ◌+◌, ◌*◌, ◌≤◌, ◌<◌, ◌⊎◌, List, length, false, Any, slice_index, Some, All, Contains, slice_get, IsSomeAnd}
 use Rattle.macho_fields.specs.Field.{Covers, HasZero}
 use Rattle.macho_fields.specs.Universal.{FileSlice, slices_of, slice_bytes, HasPlace, IsImage, IsUniversal, table_end}
-use Rattle.macho_fields.specs.Image.{command_size, of_kind, AreCommands}
+use Rattle.macho_fields.specs.Image.{command_size, with_cmd, AreCommands}
 use Rattle.macho_fields.specs.Command.{HasStructure, least_size, IsNamed, name_start}
 use Rattle.macho_fields.specs.Segment.{segments_of, sections_in, fileoff, filesize, section_size, section_offset, reloff, nreloc, is_zero_fill, vmsize, section_address, Supplies, File, source, base_of, entryoff, IsExecutable}
 use Rattle.macho_fields.specs.Symbol.{nsyms, symoff, stroff, strsize, n_strx, tables_of}
@@ -21,7 +21,7 @@ IsName image commands start end =
     × let strx = n_strx image (symoff image symtab + nlist.NLIST_64_SIZE * k) in
     (strx ≢ 0) × (start ≡ stroff image symtab + strx)
     × (end ≡ stroff image symtab + strsize image symtab))
-    (of_kind image loader.LC_SYMTAB commands)
+    (with_cmd image loader.LC_SYMTAB commands)
 
 -- A table, by its start and its length in bytes: one that a command bounds, or the relocations of a
 -- section (mach-o/reloc.h: relocation_info).
@@ -86,7 +86,7 @@ pub record IsSoundImage (image commands : List ℕ) : Type 0 where
   -- each name ends in its command or its string table
   pub names : (start end : ℕ) → IsName image commands start end → HasZero image start end
   -- the entry is at a file byte of a segment that may be executed
-  pub entries : (main : ℕ) → Contains (of_kind image loader.LC_MAIN commands) main
+  pub entries : (main : ℕ) → Contains (with_cmd image loader.LC_MAIN commands) main
       → IsSomeAnd (base_of image commands)
       (λ base. IsExecutable image commands (base + entryoff image main))
 

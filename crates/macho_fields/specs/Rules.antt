@@ -2,7 +2,7 @@
 -- in words, and names the structures. A rule is judged where the rules before it are unbroken.
 use Rattle.std.specs.Prelude.{◌≡◌, ◌≢◌, ℕ, ◌+◌, ◌*◌, ◌<◌, ◌⊎◌, List, length, Option, None, IsSomeAnd, Any, All, Contains}
 use Rattle.macho_fields.specs.Universal.{IsUniversal, entry_count, entry_place, slices_of, table_end, slice_bytes, masked, IsImage, IsForeign, IsSliceOutside, IsSliceInTable, IsSliceMisaligned, OverlapsEarlierSlice, RepeatsEarlierArch}
-use Rattle.macho_fields.specs.Image.{word, cpu_type, cpu_subtype, file_type, command_count, commands_end, IsGood, IsChain, AreCommands, of_kind}
+use Rattle.macho_fields.specs.Image.{word, cpu_type, cpu_subtype, file_type, command_count, commands_end, IsGood, IsChain, AreCommands, with_cmd}
 use Rattle.macho_fields.specs.FileTypes.{file_type_of}
 use Rattle.macho_fields.specs.Command.{IsShort, RepeatsEarlier, IsMisnamed, HasBadName}
 use Rattle.macho_fields.specs.Segment.{segments_of, AtSection, section_count, PassesLastAddress, IsLongerInFile, PassesImage, OverlapsEarlier, IsOutsideMemory, IsMisplaced, HasRelocsOutside, HasNoEntry}
@@ -86,7 +86,7 @@ BreaksCommands image commands rule.SectionRelocs place =
 BreaksCommands image commands rule.TableRange place =
     Contains commands place × Any (IsOutside image) (tables_of image place)
 BreaksCommands image commands rule.SymbolGroup place =
-    Contains (of_kind image loader.LC_DYSYMTAB commands) place
+    Contains (with_cmd image loader.LC_DYSYMTAB commands) place
     × Any (PassesSymbols (symbol_count image commands)) (groups_of image place)
 BreaksCommands image commands rule.SymbolName place =
     AtSymbol image commands (HasEndlessName image) place
@@ -96,9 +96,9 @@ BreaksCommands image commands rule.IndirectIndex place =
     Any (λ dysymtab. (k : ℕ) × (k < nindirectsyms image dysymtab)
     × (place ≡ indirectsymoff image dysymtab + 4 * k)
     × NamesNoSymbol (symbol_count image commands) (word image place))
-    (of_kind image loader.LC_DYSYMTAB commands)
+    (with_cmd image loader.LC_DYSYMTAB commands)
 BreaksCommands image commands rule.Entry place =
-    Contains (of_kind image loader.LC_MAIN commands) place × HasNoEntry image commands place
+    Contains (with_cmd image loader.LC_MAIN commands) place × HasNoEntry image commands place
 BreaksCommands image commands other place = ⊥
 
 -- An image breaks a rule of its header and walk, or one that needs its commands.

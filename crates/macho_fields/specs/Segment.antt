@@ -4,14 +4,14 @@ use Rattle.std.specs.Prelude.{◌&&◌, ◌||◌, ◌≡◌, ◌≢◌, ℕ, ◌
 use Rattle.std.specs.List.{range_with_len}
 use Rattle.std.specs.Option.{option_map}
 use Rattle.macho_fields.specs.Field.{Covers}
-use Rattle.macho_fields.specs.Image.{word, long, commands_of, of_kind}
+use Rattle.macho_fields.specs.Image.{word, long, commands_of, with_cmd}
 use Rattle.macho_fields.specs.LoadCommands.{section_records}
 use Rattle.macho_fields.specs.declared.header.loader.TheConstants as loader
 use Rattle.macho_fields.specs.declared.header.vm_prot.TheConstants as vm_prot
 
 -- the segments of an image, in order
 abbrev pub segments_of : List ℕ → List ℕ → List ℕ
-segments_of image commands = of_kind image loader.LC_SEGMENT_64 commands
+segments_of image commands = with_cmd image loader.LC_SEGMENT_64 commands
 
 -- segment_command_64: vmaddr at 24, vmsize 32, fileoff 40, filesize 48, initprot 60, and nsects
 abbrev pub vmaddr : List ℕ → ℕ → ℕ

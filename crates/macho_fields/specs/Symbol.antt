@@ -3,7 +3,7 @@
 use Rattle.std.specs.Prelude.{◌≡◌, ◌≢◌, ℕ, ◌+◌, ◌*◌, ◌≤◌, ◌<◌, ◌==◌, ◌⊎◌, List, [], ◌∷◌, length, find, map, Any, slice_index, bit_and}
 use Rattle.std.specs.Option.{option_map_or}
 use Rattle.macho_fields.specs.Field.{number, HasZero}
-use Rattle.macho_fields.specs.Image.{word, long, command_kind, of_kind}
+use Rattle.macho_fields.specs.Image.{word, long, command_cmd, with_cmd}
 use Rattle.macho_fields.specs.LoadCommands.{structure_of, width_size, table_fields, symbol_table}
 use Rattle.macho_fields.specs.LoadCommands.{string_table, contents_table, module_table}
 use Rattle.macho_fields.specs.LoadCommands.{reference_table, indirect_table, external_relocations}
@@ -42,7 +42,7 @@ strsize image symtab = item_count image symtab string_table
 abbrev pub symbol_count : List ℕ → List ℕ → ℕ
 symbol_count image commands =
     option_map_or (nsyms image)
-    (find (λ command. command_kind image command == loader.LC_SYMTAB) commands) 0
+    (find (λ command. command_cmd image command == loader.LC_SYMTAB) commands) 0
 
 -- dysymtab_command: ilocalsym at 8, nlocalsym 12, iextdefsym 16, nextdefsym 20, iundefsym 24,
 -- nundefsym 28, and its tables
@@ -116,7 +116,7 @@ table_at image command fields =
 abbrev pub tables_of : List ℕ → ℕ → List (ℕ × ℕ × ℕ)
 tables_of image command =
     option_map_or (λ structure. map (table_at image command) (table_fields structure))
-    (structure_of (command_kind image command)) []
+    (structure_of (command_cmd image command)) []
 
 -- a table that has items ends past the image
 abbrev pub IsOutside : List ℕ → ℕ × ℕ × ℕ → Type 0
@@ -127,7 +127,7 @@ abbrev pub AtSymbol : List ℕ → List ℕ → (ℕ → ℕ → Type 0) → ℕ
 AtSymbol image commands P place =
     Any (λ symtab. (k : ℕ) × (k < nsyms image symtab)
     × (place ≡ symoff image symtab + nlist.NLIST_64_SIZE * k) × P symtab place)
-    (of_kind image loader.LC_SYMTAB commands)
+    (with_cmd image loader.LC_SYMTAB commands)
 
 -- nlist_64: n_strx at 0, n_type of 1 byte at 4, n_sect of 1 byte at 5, n_desc of 2 bytes at 6,
 -- n_value of 8 bytes at 8

@@ -4,7 +4,7 @@ use Rattle.std.specs.Prelude.{nat_le}
 use Rattle.std.specs.Option.{option_map_or}
 use Rattle.std.proofs.lemmas.Bool.{cases_lt, lt-leb}
 use Rattle.macho_fields.specs.Field.{part, HasZero}
-use Rattle.macho_fields.specs.Image.{word, command_kind, command_size, commands_end, commands_of, IsGood}
+use Rattle.macho_fields.specs.Image.{word, command_cmd, command_size, commands_end, commands_of, IsGood}
 use Rattle.macho_fields.specs.Command.{record_count, least_size, name_offset, name_start, IsShort, IsBadName, HasBadName}
 use Rattle.macho_fields.specs.LoadCommands.{structure_of, structure_size, records_of, has_name}
 use Rattle.macho_fields.specs.First.{rank}
@@ -44,7 +44,7 @@ module _ (image : List ℕ) (p : ℕ) (good : IsGood image p) (inside : commands
   word_alone : (offset : ℕ) → offset + 4 ≤ size → word bytes (0 + offset) ≡ word image (p + offset)
   word_alone offset fits = ap (word bytes) (from_start offset) ∙ word_in_part p size offset image fits
 
-  kind_alone : command_kind bytes 0 ≡ command_kind image p
+  kind_alone : command_cmd bytes 0 ≡ command_cmd image p
   kind_alone = word_alone 0 (let h = long in omega arith) ∙ ap (word image) (let e : p + 0 ≡ p = omega arith in e)
 
   size_alone : command_size bytes 0 ≡ size
@@ -80,9 +80,9 @@ module _ (image : List ℕ) (p : ℕ) (good : IsGood image p) (inside : commands
 
   pub short_alone : IsShort bytes 0 ↔ IsShort image p
   short_alone = (
-    λ h. of_structure (ShortAs bytes 0) (ShortAs image p) (structure_of (command_kind image p)) (λ s short. let e = size_alone in let l = least_alone s in omega arith)
+    λ h. of_structure (ShortAs bytes 0) (ShortAs image p) (structure_of (command_cmd image p)) (λ s short. let e = size_alone in let l = least_alone s in omega arith)
         (subst (λ kind. IsSomeAnd (structure_of kind) (ShortAs bytes 0)) kind_alone h),
-    λ h. subst (λ kind. IsSomeAnd (structure_of kind) (ShortAs bytes 0)) (sym kind_alone) (of_structure (ShortAs image p) (ShortAs bytes 0) (structure_of (command_kind image p))
+    λ h. subst (λ kind. IsSomeAnd (structure_of kind) (ShortAs bytes 0)) (sym kind_alone) (of_structure (ShortAs image p) (ShortAs bytes 0) (structure_of (command_cmd image p))
         (λ s short. let e = size_alone in let l = least_alone s in omega arith) h),
   )
 
@@ -103,21 +103,21 @@ module _ (image : List ℕ) (p : ℕ) (good : IsGood image p) (inside : commands
     )
 
   -- a command that is not short has room for its name
-  has_room : ¬ IsShort image p → (s : Structure) → structure_of (command_kind image p) ≡ Some s → has_name s ≡ true → 12 ≤ size
+  has_room : ¬ IsShort image p → (s : Structure) → structure_of (command_cmd image p) ≡ Some s → has_name s ≡ true → 12 ≤ size
   has_room whole s listed named = elim (cases_lt size (least_size image p s)) [
-    | inl short ↦ absurd (whole (of_some (ShortAs image p) (structure_of (command_kind image p)) s listed short))
+    | inl short ↦ absurd (whole (of_some (ShortAs image p) (structure_of (command_cmd image p)) s listed short))
     | inr most ↦ let h = name_inside s named in omega arith
   ]
 
   pub bad_alone : ¬ IsShort image p → HasBadName bytes 0 ↔ HasBadName image p
   bad_alone whole = (
-    λ h. let (s, listed, (named, bad)) = some_of (IsBadName bytes 0) (structure_of (command_kind image p)) (subst (λ kind. IsSomeAnd (structure_of kind) (IsBadName bytes 0)) kind_alone h) in
+    λ h. let (s, listed, (named, bad)) = some_of (IsBadName bytes 0) (structure_of (command_cmd image p)) (subst (λ kind. IsSomeAnd (structure_of kind) (IsBadName bytes 0)) kind_alone h) in
         let room = has_room whole s listed named in
-        of_some (IsBadName image p) (structure_of (command_kind image p)) s listed
+        of_some (IsBadName image p) (structure_of (command_cmd image p)) s listed
         (named, ⊎_elim (λ low. inl (let e = offset_alone room in omega (arith, low))) (λ none. inr (λ zero. none ((zero_alone room).1 zero))) bad),
-    λ h. let (s, listed, (named, bad)) = some_of (IsBadName image p) (structure_of (command_kind image p)) h in
+    λ h. let (s, listed, (named, bad)) = some_of (IsBadName image p) (structure_of (command_cmd image p)) h in
         let room = has_room whole s listed named in
-        subst (λ kind. IsSomeAnd (structure_of kind) (IsBadName bytes 0)) (sym kind_alone) (of_some (IsBadName bytes 0) (structure_of (command_kind image p)) s listed
+        subst (λ kind. IsSomeAnd (structure_of kind) (IsBadName bytes 0)) (sym kind_alone) (of_some (IsBadName bytes 0) (structure_of (command_cmd image p)) s listed
         (named, ⊎_elim (λ low. inl (let e = offset_alone room in omega (arith, low))) (λ none. inr (λ zero. none ((zero_alone room).0 zero))) bad)),
   )
 

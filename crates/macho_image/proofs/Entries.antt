@@ -6,7 +6,7 @@ use Rattle.std.proofs.lemmas.Bool.{cases_lt, lt-ltb, le-ltb}
 use Rattle.macho_fields.specs.Segment.{vmaddr, segments_of, shows_start, base_of, entryoff}
 use Rattle.macho_fields.specs.declared.header.loader.TheConstants as loader
 use Rattle.macho_fields.specs.Image.{commands_of}
-use Rattle.macho_image.specs.Command.{first_of_kind}
+use Rattle.macho_image.specs.Command.{first_with_cmd}
 use Rattle.macho_image.specs.Single.{main_command_at}
 use Rattle.macho_image.specs.declared.main_command.MainCommand.{MainCommand}
 use Rattle.macho_image.specs.Segment.{SegmentView, segment_at}
@@ -54,7 +54,7 @@ sum_of_both image base main (Some x) (Some y) e f =
     ap₂ (λ u v. address (u + v)) base_is (ap (λ (c : MainCommand). c.entryoff) main_is)
 
 pub entry_seen : (image : List ℕ) (base : ℕ) (main : MainCommand) (r : Option ℕ) → Some base ≡ base_of image (commands_of image)
-    → Some main ≡ option_map (main_command_at image) (first_of_kind image loader.LC_MAIN (commands_of image))
+    → Some main ≡ option_map (main_command_at image) (first_with_cmd image loader.LC_MAIN (commands_of image))
     → SomeIff r (base + main.entryoff < 18446744073709551616) (base + main.entryoff) → r ≡ entry_of image (commands_of image)
 entry_seen image base main r some main_is sum =
-    sum_is_address r (base + main.entryoff) sum ∙ sum_of_both image base main (base_of image (commands_of image)) (first_of_kind image loader.LC_MAIN (commands_of image)) some main_is
+    sum_is_address r (base + main.entryoff) sum ∙ sum_of_both image base main (base_of image (commands_of image)) (first_with_cmd image loader.LC_MAIN (commands_of image)) some main_is

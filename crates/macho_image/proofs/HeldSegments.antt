@@ -5,11 +5,11 @@ use Rattle.std.proofs.lemmas.List.{map-append}
 use Rattle.std.proofs.lemmas.Bool.{eqb-true}
 use Rattle.std.proofs.lemmas.List.Elements.{All-contains_itself, All-map, All-tail}
 use Rattle.std.proofs.lemmas.List.Sums.{sum_by-cons}
-use Rattle.macho_fields.specs.Image.{command_kind, command_size, commands_end, commands_of, Follow, AreCommands}
+use Rattle.macho_fields.specs.Image.{command_cmd, command_size, commands_end, commands_of, Follow, AreCommands}
 use Rattle.macho_fields.specs.Segment.{nsects, segments_of, section_count}
 use Rattle.macho_fields.specs.declared.header.loader.TheConstants as loader
 use Rattle.macho_fields.proofs.Opened.{Keeps, sections_inside, command_inside}
-use Rattle.macho_fields.proofs.Parts.{of_kind_is, of_kind_among}
+use Rattle.macho_fields.proofs.Parts.{with_cmd_is, with_cmd_among}
 use Rattle.macho_image.specs.Opened.{IsOpened}
 use Rattle.macho_image.specs.Command.{CommandView, command_at}
 use Rattle.macho_image.specs.Scaffold.{HaveSegments, HoldsSegment, HoldSegments, sections_from, sections_among}
@@ -19,8 +19,8 @@ use Rattle.macho_image.proofs.OpenedWalk.{opened_commands}
 
 held_segment : (image commands : List ℕ) (segment : ℕ) → Keeps image → AreCommands image commands → Contains (segments_of image commands) segment → HoldsSegment image segment
 held_segment image commands segment opened are has =
-    let among = of_kind_among image commands loader.LC_SEGMENT_64 segment has in
-    let holds : 72 + 80 * nsects image segment ≤ command_size image segment = sections_inside image commands opened are segment among (of_kind_is image commands loader.LC_SEGMENT_64 segment has) in
+    let among = with_cmd_among image commands loader.LC_SEGMENT_64 segment has in
+    let holds : 72 + 80 * nsects image segment ≤ command_size image segment = sections_inside image commands opened are segment among (with_cmd_is image commands loader.LC_SEGMENT_64 segment has) in
     let inside : segment + command_size image segment ≤ length image = command_inside image commands opened are segment among in omega arith
 
 -- the segments of an opened image lie inside it
@@ -73,7 +73,7 @@ all_counted image all is = ap counted is ∙ counted_places image (segments_of i
 -- the sections of a command, where it is a segment, lie in it
 abbrev HoldsItsSections : List ℕ → ℕ → Type 0
 HoldsItsSections image command =
-    command_kind image command ≡ loader.LC_SEGMENT_64 → 80 * nsects image command ≤ command_size image command
+    command_cmd image command ≡ loader.LC_SEGMENT_64 → 80 * nsects image command ≤ command_size image command
 
 count_first : (image xs : List ℕ) (x : ℕ) (b : Bool) → sum_by (nsects image) (cond b (x ∷ xs) xs) ≡ cond b (nsects image x) 0 + sum_by (nsects image) xs
 count_first image xs x true = sum_by-cons (nsects image) x xs
@@ -88,12 +88,12 @@ count_in_chain : (image : List ℕ) (start : ℕ) (xs : List ℕ) (next : ℕ) �
     → start + 80 * section_count image xs ≤ commands_end image
 count_in_chain image start [] next chain within hold = omega arith
 count_in_chain image start (x ∷ xs) next (first, good, rest) within hold =
-    let is_segment : Bool = command_kind image x == loader.LC_SEGMENT_64 in
+    let is_segment : Bool = command_cmd image x == loader.LC_SEGMENT_64 in
     let n : ℕ = cond is_segment (nsects image x) 0 in
     let size : ℕ = command_size image x in
     let end : x + size ≤ commands_end image = good.inside in
     let sum : section_count image (x ∷ xs) ≡ n + section_count image xs = count_first image (segments_of image xs) x is_segment in
-    let here : 80 * n ≤ size = in_command (nsects image x) size is_segment (λ h. hold 0 x (omega arith) (eqb-true (command_kind image x) loader.LC_SEGMENT_64 h)) in
+    let here : 80 * n ≤ size = in_command (nsects image x) size is_segment (λ h. hold 0 x (omega arith) (eqb-true (command_cmd image x) loader.LC_SEGMENT_64 h)) in
     let more : x + size + 80 * section_count image xs ≤ commands_end image = count_in_chain image (x + size) xs next rest end (All-tail (HoldsItsSections image) x xs hold) in omega arith
 
 pub count_fits : (image : List ℕ) → IsOpened image → 80 * section_count image (commands_of image) ≤ length image

@@ -3,7 +3,7 @@ pub mod Opened
 pub mod Walked
 pub mod Progress
 pub mod OpenedWalk
-pub mod OfOneKind
+pub mod WithOneCmd
 pub mod Kept
 pub mod HeldSegments
 pub mod Reached
@@ -15,7 +15,7 @@ pub mod Places
 pub mod Passed
 pub mod ReadParts
 pub mod Alone
-pub mod FirstOfKind
+pub mod FirstWithCmd
 pub mod Repeated
 pub mod Items
 pub mod Ranges

@@ -3,14 +3,14 @@ use Rattle.std.proofs.Common.{◌≡◌, ℕ, ◌+◌, ◌≤◌, List, length, 
 use Rattle.std.proofs.lemmas.List.Elements.{All-map, All-contains_itself}
 use Rattle.macho_fields.specs.Command.{IsNamed, name_start}
 use Rattle.macho_fields.specs.Field.{HasZero}
-use Rattle.macho_fields.specs.Image.{command_kind, command_size, commands_of, of_kind}
+use Rattle.macho_fields.specs.Image.{command_cmd, command_size, commands_of, with_cmd}
 use Rattle.macho_fields.specs.LoadCommands.{structure_of, structure_size, has_name}
 use Rattle.macho_fields.specs.declared.load_command.Structure.{Structure}
 use Rattle.macho_fields.proofs.LoadCommands.{name_inside}
 use Rattle.macho_fields.proofs.Opened.{command_inside, name_ended}
 use Rattle.macho_fields.proofs.Options.{of_some}
-use Rattle.macho_fields.proofs.Parts.{of_kind_is, of_kind_among}
-use Rattle.macho_image.specs.Command.{CommandView, command_at, first_of_kind}
+use Rattle.macho_fields.proofs.Parts.{with_cmd_is, with_cmd_among}
+use Rattle.macho_image.specs.Command.{CommandView, command_at, first_with_cmd}
 use Rattle.macho_image.specs.Opened.{IsOpened}
 use Rattle.macho_image.specs.Scaffold.{HoldsName, HoldNames}
 use Rattle.macho_image.proofs.Kept.{AreAll, held, all_kept, got_first}
@@ -26,25 +26,25 @@ ended image command named opened has =
     (z, low, omega arith, within, zero_here)
 
 -- where the structure of their kind has a name, that of each is held
-held_name : (image : List ℕ) (kind command : ℕ) (s : Structure) → structure_of kind ≡ Some s → has_name s ≡ true → IsOpened image → Contains (of_kind image kind (commands_of image)) command
+held_name : (image : List ℕ) (kind command : ℕ) (s : Structure) → structure_of kind ≡ Some s → has_name s ≡ true → IsOpened image → Contains (with_cmd image kind (commands_of image)) command
     → HoldsName image command
 held_name image kind command s listed named opened has =
-    let is : command_kind image command ≡ kind = of_kind_is image (commands_of image) kind command has in
+    let is : command_cmd image command ≡ kind = with_cmd_is image (commands_of image) kind command has in
     let whole : command + structure_size s ≤ length image = held image kind command s listed opened has in
     let room : 12 ≤ structure_size s = name_inside s named in record {
       whole = omega arith;
-      ended = ended image command (of_some (λ t. has_name t ≡ true) (structure_of (command_kind image command)) s (ap structure_of is ∙ listed) named) opened
-          (of_kind_among image (commands_of image) kind command has);
+      ended = ended image command (of_some (λ t. has_name t ≡ true) (structure_of (command_cmd image command)) s (ap structure_of is ∙ listed) named) opened
+          (with_cmd_among image (commands_of image) kind command has);
     }
 
 pub all_names_held : (image : List ℕ) (all : List CommandView) (kind : ℕ) (s : Structure) → structure_of kind ≡ Some s → has_name s ≡ true → IsOpened image → AreAll image all
     → HoldNames image kind all
 all_names_held image all kind s listed named opened is =
-    let places = of_kind image kind (commands_of image) in
+    let places = with_cmd image kind (commands_of image) in
     subst (All (λ c. HoldsName image c.place)) (sym (all_kept image all kind is)) (All-map (λ c. HoldsName image c.place) (command_at image) places
     (λ k d less. held_name image kind _ s listed named opened (All-contains_itself places k d less)))
 
 -- that of the first of them
 pub first_name_held : (image : List ℕ) (kind place : ℕ) (s : Structure) → structure_of kind ≡ Some s → has_name s ≡ true → IsOpened image
-    → first_of_kind image kind (commands_of image) ≡ Some place → HoldsName image place
-first_name_held image kind place s listed named opened is = held_name image kind place s listed named opened (got_first (of_kind image kind (commands_of image)) place is)
+    → first_with_cmd image kind (commands_of image) ≡ Some place → HoldsName image place
+first_name_held image kind place s listed named opened is = held_name image kind place s listed named opened (got_first (with_cmd image kind (commands_of image)) place is)

@@ -4,14 +4,14 @@ use Rattle.std.proofs.lemmas.Bool.{ne_eqb}
 use Rattle.std.proofs.lemmas.List.{append-nil}
 use Rattle.std.proofs.lemmas.List.Elements.{All-cons, All-tail, filter-append}
 use Rattle.macho_fields.specs.First.{rank}
-use Rattle.macho_fields.specs.Image.{command_count, command_kind, command_size, commands_of, AreCommands, IsGood, places_from}
+use Rattle.macho_fields.specs.Image.{command_count, command_cmd, command_size, commands_of, AreCommands, IsGood, places_from}
 use Rattle.macho_fields.specs.Segment.{segments_of}
 use Rattle.macho_fields.specs.declared.header.loader.TheConstants as loader
 use Rattle.macho_fields.specs.declared.rule.Rule.TheVariants as rule
 use Rattle.macho_image.specs.Command.{command_at}
 use Rattle.macho_image.specs.Opened.{IsOpened}
 use Rattle.macho_image.specs.Scaffold.{CanWalk, HaveSegments, ReachesSegments, commands_left}
-use Rattle.macho_image.proofs.OfOneKind.{left_of_kind-map}
+use Rattle.macho_image.proofs.WithOneCmd.{left_with_cmd-map}
 use Rattle.macho_image.proofs.Opened.{opened_below}
 use Rattle.macho_image.proofs.Opening.{kept_less}
 use Rattle.macho_image.proofs.OpenedWalk.{can_walk}
@@ -27,13 +27,13 @@ pub record AreAfter (image passed : List ℕ) (after : ℕ) : Type 0 where
 pub none_after : (image passed : List ℕ) → AreAfter image passed 0
 none_after image passed = record { first = passed; rest = []; all = append-nil passed; count = refl; none = refl }
 
-pub one_after : (image passed : List ℕ) (after p : ℕ) → command_kind image p ≢ loader.LC_SEGMENT_64 → AreAfter image passed after → AreAfter image (passed ++ p ∷ []) (after + 1)
+pub one_after : (image passed : List ℕ) (after p : ℕ) → command_cmd image p ≢ loader.LC_SEGMENT_64 → AreAfter image passed after → AreAfter image (passed ++ p ∷ []) (after + 1)
 one_after image passed after p other a = record {
   first = a.first;
   rest = a.rest ++ p ∷ [];
   all = sym (append_assoc a.first a.rest (p ∷ [])) ∙ ap (λ ps. ps ++ p ∷ []) a.all;
   count = omega (arith, a.count, length-append a.rest (p ∷ []));
-  none = filter-append _ a.rest (p ∷ []) ∙ (ap (λ ps. ps ++ segments_of image (p ∷ [])) a.none ∙ rw (ne_eqb (command_kind image p) loader.LC_SEGMENT_64 other) refl);
+  none = filter-append _ a.rest (p ∷ []) ∙ (ap (λ ps. ps ++ segments_of image (p ∷ [])) a.none ∙ rw (ne_eqb (command_cmd image p) loader.LC_SEGMENT_64 other) refl);
 }
 
 -- the first places are the places of so many commands
@@ -74,4 +74,4 @@ can_reach image count opened r =
     record { good = good_among image 32 count (command_count image) r.most all.good; inside = all.inside }
 
 pub have_segments : (image : List ℕ) (count : ℕ) → ReachesSegments image count → HaveSegments image (commands_left image 32 count)
-have_segments image count r = left_of_kind-map image loader.LC_SEGMENT_64 (places_from image 32 count) ∙ ap (map (command_at image)) r.all
+have_segments image count r = left_with_cmd-map image loader.LC_SEGMENT_64 (places_from image 32 count) ∙ ap (map (command_at image)) r.all

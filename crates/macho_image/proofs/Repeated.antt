@@ -5,10 +5,10 @@ use Rattle.std.specs.Option.{is_some}
 use mathlib.Core.Bool.{beq}
 use Rattle.macho_fields.specs.Command.{RepeatsEarlier, HasDylibId}
 use Rattle.macho_fields.specs.LoadCommands.{IsUnique}
-use Rattle.macho_fields.specs.Image.{command_kind, commands_of, AreCommands}
+use Rattle.macho_fields.specs.Image.{command_cmd, commands_of, AreCommands}
 use Rattle.macho_fields.specs.declared.header.loader.TheConstants as loader
-use Rattle.macho_image.specs.Command.{CommandView, first_of_kind}
-use Rattle.macho_image.proofs.FirstOfKind.{first_is, first_none, unique_or_not}
+use Rattle.macho_image.specs.Command.{CommandView, first_with_cmd}
+use Rattle.macho_image.proofs.FirstWithCmd.{first_is, first_none, unique_or_not}
 use Rattle.macho_image.proofs.Passed.{IsNext, passed_are_before, before_are_passed}
 
 -- the command repeats an earlier one of the image
@@ -17,11 +17,11 @@ Repeats image p = RepeatsEarlier image (commands_of image) p
 
 -- what is found of the kind of a command among those before it
 pub record IsFirstFound (image passed : List ℕ) (kind : ℕ) (found : Option ℕ) : Type 0 where
-  pub unique : IsUnique kind → found ≡ first_of_kind image kind passed
+  pub unique : IsUnique kind → found ≡ first_with_cmd image kind passed
   pub other : ¬ IsUnique kind → found ≡ None
 
 module _ (image passed : List ℕ) (v : CommandView) (rest : List CommandView) (are : AreCommands image (commands_of image)) (nx : IsNext image passed v rest) where
-  pub kind_is : v.cmd ≡ command_kind image v.place
+  pub kind_is : v.cmd ≡ command_cmd image v.place
   kind_is = ap (λ (w : CommandView). w.cmd) nx.is
 
   pub found_repeats : (found : Option ℕ) (some : Bool) → some ≡ is_some found → some ≡ true → IsFirstFound image passed v.cmd found → Repeats image v.place
@@ -41,7 +41,7 @@ module _ (image passed : List ℕ) (v : CommandView) (rest : List CommandView) (
       (before_are_passed image passed v rest are nx p (k, less, at) before) (same ∙ sym kind_is)
 
 -- the first LC_ID_DYLIB tells whether there is one
-pub has_id : (image : List ℕ) (found : Option ℕ) (some : Bool) → some ≡ is_some found → found ≡ first_of_kind image loader.LC_ID_DYLIB (commands_of image)
+pub has_id : (image : List ℕ) (found : Option ℕ) (some : Bool) → some ≡ is_some found → found ≡ first_with_cmd image loader.LC_ID_DYLIB (commands_of image)
     → IsTrue some ↔ HasDylibId image (commands_of image)
 has_id image None some is none = (
   λ h. absurd (false≢true (sym is ∙ h)),

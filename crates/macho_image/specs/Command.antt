@@ -2,12 +2,12 @@
 use Rattle.std.specs.Prelude.{ℕ, List, Option, slice_get}
 use Rattle.macho_fields.specs.Command.{name_start}
 use Rattle.macho_fields.specs.Field.{part, string_from}
-use Rattle.macho_fields.specs.Image.{command_kind, command_size, of_kind}
+use Rattle.macho_fields.specs.Image.{command_cmd, command_size, with_cmd}
 use Rattle.macho_image.specs.declared.command.Command.{Command}
 
--- the first of the commands of one kind
-abbrev pub first_of_kind : List ℕ → ℕ → List ℕ → Option ℕ
-first_of_kind image wanted commands = slice_get (of_kind image wanted commands) 0
+-- the first of the commands with one cmd
+abbrev pub first_with_cmd : List ℕ → ℕ → List ℕ → Option ℕ
+first_with_cmd image wanted commands = slice_get (with_cmd image wanted commands) 0
 
 -- a command: its place, cmd, cmdsize and bytes
 pub record CommandView : Type 0 where
@@ -23,7 +23,7 @@ command_of c = record { place = c.place; cmd = c.cmd; size = c.size; bytes = c.b
 abbrev pub command_at : List ℕ → ℕ → CommandView
 command_at image place = record {
   place = place;
-  cmd = command_kind image place;
+  cmd = command_cmd image place;
   size = command_size image place;
   bytes = part place (command_size image place) image;
 }

@@ -3,7 +3,7 @@ use Rattle.std.specs.Prelude.{ℕ, ◌+◌, ◌^◌, nat_lt, List, Option, Some,
 use Rattle.std.specs.Option.{option_and_then}
 use Rattle.macho_fields.specs.Segment.{base_of, entryoff}
 use Rattle.macho_fields.specs.declared.header.loader.TheConstants as loader
-use Rattle.macho_image.specs.Command.{first_of_kind}
+use Rattle.macho_image.specs.Command.{first_with_cmd}
 
 -- the number as an address of 64 bits, and none where it does not fit
 abbrev pub address : ℕ → Option ℕ
@@ -14,4 +14,4 @@ abbrev pub entry_of : List ℕ → List ℕ → Option ℕ
 entry_of image commands =
     option_and_then (λ base.
     option_and_then (λ main. address (base + entryoff image main))
-    (first_of_kind image loader.LC_MAIN commands)) (base_of image commands)
+    (first_with_cmd image loader.LC_MAIN commands)) (base_of image commands)

@@ -1,13 +1,13 @@
 -- The libraries that an image names. (mach-o/loader.h: dylib_command)
 use Rattle.std.specs.Prelude.{ℕ, ◌+◌, List, filter}
-use Rattle.macho_fields.specs.Image.{word, command_kind}
+use Rattle.macho_fields.specs.Image.{word, command_cmd}
 use Rattle.macho_fields.specs.LoadCommands.{names_library}
 use Rattle.macho_image.specs.Command.{command_name}
 use Rattle.macho_image.specs.declared.library.Dylib.{Dylib}
 
 -- the commands that name a library, in order
 abbrev pub libraries : List ℕ → List ℕ → List ℕ
-libraries image commands = filter (λ command. names_library (command_kind image command)) commands
+libraries image commands = filter (λ command. names_library (command_cmd image command)) commands
 
 -- a library: the place and the cmd of its command, its name and two versions
 pub record DylibView : Type 0 where
@@ -30,7 +30,7 @@ dylib_of d = record {
 abbrev pub dylib_at : List ℕ → ℕ → DylibView
 dylib_at image command = record {
   place = command;
-  cmd = command_kind image command;
+  cmd = command_cmd image command;
   name = command_name image command;
   current = word image (command + 16);
   compatible = word image (command + 20);

@@ -1,10 +1,10 @@
 -- The run paths of an image, where the libraries that it names with @rpath are looked for.
 -- (mach-o/loader.h: rpath_command)
 use Rattle.std.specs.Prelude.{ℕ, List, map}
-use Rattle.macho_fields.specs.Image.{of_kind}
+use Rattle.macho_fields.specs.Image.{with_cmd}
 use Rattle.macho_fields.specs.declared.header.loader.TheConstants as loader
 use Rattle.macho_image.specs.Command.{command_name}
 
 -- those of the LC_RPATH commands, in order
 abbrev pub rpaths_of : List ℕ → List ℕ → List (List ℕ)
-rpaths_of image commands = map (command_name image) (of_kind image loader.LC_RPATH commands)
+rpaths_of image commands = map (command_name image) (with_cmd image loader.LC_RPATH commands)

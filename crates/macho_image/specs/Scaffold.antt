@@ -5,8 +5,8 @@ use Rattle.std.specs.Prelude.{length, All}
 use Rattle.macho_fields.specs.Bytes.{bytes_of}
 use Rattle.macho_fields.specs.Command.{name_start}
 use Rattle.macho_fields.specs.Field.{HasZero}
-use Rattle.macho_fields.specs.Image.{command_kind, command_size, command_count, commands_end, commands_of, IsGood, places_from}
-use Rattle.macho_fields.specs.LoadCommands.{structure_size, names_library, unique_kinds}
+use Rattle.macho_fields.specs.Image.{command_cmd, command_size, command_count, commands_end, commands_of, IsGood, places_from}
+use Rattle.macho_fields.specs.LoadCommands.{structure_size, names_library, unique_cmds}
 use Rattle.macho_fields.specs.Rules.{BreaksImage}
 use Rattle.macho_fields.specs.Segment.{nsects, segments_of}
 use Rattle.macho_fields.specs.declared.header.loader.TheConstants as loader
@@ -15,7 +15,7 @@ use Rattle.macho_fields.specs.declared.load_command.Structure.TheVariants.{Dylib
 use Rattle.macho_fields.specs.declared.load_command.Structure.TheVariants.{BuildVersionCommand}
 use Rattle.macho_fields.specs.declared.rule.Rule.{Rule}
 use Rattle.macho_image.specs.Build.{build_at}
-use Rattle.macho_image.specs.Command.{CommandView, command_at, command_name, first_of_kind}
+use Rattle.macho_image.specs.Command.{CommandView, command_at, command_name, first_with_cmd}
 use Rattle.macho_image.specs.Library.{DylibView, dylib_at}
 use Rattle.macho_image.specs.Opened.{IsOpened}
 use Rattle.macho_image.specs.Segment.{SegmentView, SectionView, segment_at, section_at, sections_with}
@@ -32,9 +32,9 @@ use Rattle.macho_image.specs.declared.walk.Opening.{Opening}
 abbrev pub breaks_of : Opening → Rule → ℕ → Type 0
 breaks_of opening = BreaksImage (bytes_of opening.bytes) opening.arch
 
--- for each unique kind, in their order, the place is that of its first command
+-- for each unique cmd, in their order, the place is that of its first command
 pub record AreFirst (image commands : List ℕ) (unique : UniquePlaces) : Type 0 where
-  pub places : unique.places ≡ map (λ kind. first_of_kind image kind commands) unique_kinds
+  pub places : unique.places ≡ map (λ cmd. first_with_cmd image cmd commands) unique_cmds
 
 -- the first commands, so many of them, have all segments
 pub record ReachesSegments (image : List ℕ) (count : ℕ) : Type 0 where
@@ -52,7 +52,7 @@ pub record IsKnown (image : List ℕ) (unique : UniquePlaces) (reach : ℕ) : Ty
 
 -- a command whose fields are those of its own bytes, which end where it ends
 pub record IsAlone (c : CommandView) : Type 0 where
-  pub cmd : c.cmd ≡ command_kind c.bytes 0
+  pub cmd : c.cmd ≡ command_cmd c.bytes 0
   pub size : c.size ≡ command_size c.bytes 0
   pub whole : c.size ≡ length c.bytes
 
@@ -65,9 +65,9 @@ pub record CanWalk (image : List ℕ) (place left : ℕ) : Type 0 where
   pub good : All (IsGood image) (places_from image place left)
   pub inside : commands_end image ≤ length image
 
--- those of one kind
-abbrev pub left_of_kind : ℕ → List CommandView → List CommandView
-left_of_kind wanted commands = filter (λ c. c.cmd == wanted) commands
+-- those with one cmd
+abbrev pub left_with_cmd : ℕ → List CommandView → List CommandView
+left_with_cmd wanted commands = filter (λ c. c.cmd == wanted) commands
 
 -- Views: what remains in an iterator, and what its items need of the image
 
@@ -80,18 +80,18 @@ HoldsSegment image segment =
 -- the segments among the commands that remain
 abbrev pub segments_left : List ℕ → List CommandView → List SegmentView
 segments_left image commands =
-    map (λ c. segment_at image c.place) (left_of_kind loader.LC_SEGMENT_64 commands)
+    map (λ c. segment_at image c.place) (left_with_cmd loader.LC_SEGMENT_64 commands)
 
 -- the commands of a walk have all segments of the image
 abbrev pub HaveSegments : List ℕ → List CommandView → Type 0
 HaveSegments image commands =
-    left_of_kind loader.LC_SEGMENT_64 commands
+    left_with_cmd loader.LC_SEGMENT_64 commands
     ≡ map (command_at image) (segments_of image (commands_of image))
 
 -- they lie inside the image
 abbrev pub HoldSegments : List ℕ → List CommandView → Type 0
 HoldSegments image commands =
-    All (λ c. HoldsSegment image c.place) (left_of_kind loader.LC_SEGMENT_64 commands)
+    All (λ c. HoldsSegment image c.place) (left_with_cmd loader.LC_SEGMENT_64 commands)
 
 -- the section and its segment lie inside the image
 pub record HoldsSection (image : List ℕ) (segment section : ℕ) : Type 0 where
@@ -123,10 +123,10 @@ pub record HoldsName (image : List ℕ) (command : ℕ) : Type 0 where
 -- the paths among the commands that remain
 abbrev pub rpaths_left : List ℕ → List CommandView → List (List ℕ)
 rpaths_left image commands =
-    map (λ c. command_name image c.place) (left_of_kind loader.LC_RPATH commands)
+    map (λ c. command_name image c.place) (left_with_cmd loader.LC_RPATH commands)
 
 abbrev pub HoldNames : List ℕ → ℕ → List CommandView → Type 0
-HoldNames image kind commands = All (λ c. HoldsName image c.place) (left_of_kind kind commands)
+HoldNames image cmd commands = All (λ c. HoldsName image c.place) (left_with_cmd cmd commands)
 
 -- the libraries among the commands that remain
 abbrev pub libraries_left : List CommandView → List CommandView
@@ -150,12 +150,12 @@ LieInside image size commands = All (λ c. c.place + size ≤ length image) comm
 -- the builds among the commands that remain
 abbrev pub builds_left : List ℕ → List CommandView → List Build
 builds_left image commands =
-    map (λ c. build_at image c.place) (left_of_kind loader.LC_BUILD_VERSION commands)
+    map (λ c. build_at image c.place) (left_with_cmd loader.LC_BUILD_VERSION commands)
 
 abbrev pub HoldBuilds : List ℕ → List CommandView → Type 0
 HoldBuilds image commands =
     LieInside image (structure_size BuildVersionCommand)
-    (left_of_kind loader.LC_BUILD_VERSION commands)
+    (left_with_cmd loader.LC_BUILD_VERSION commands)
 
 -- the places of `left` items of a table, of which the first is at `place`
 abbrev pub items_from : ℕ → ℕ → ℕ → List ℕ

@@ -15,7 +15,7 @@ use Rattle.macho_fields.specs.Symbol.{nlocrel}
 use Rattle.macho_fields.specs.Symbol.{n_strx, n_type, n_sect, n_desc, n_value}
 use Rattle.macho_fields.specs.declared.header.loader.TheConstants as loader
 use Rattle.macho_fields.specs.declared.header.nlist.TheConstants as nlist
-use Rattle.macho_image.specs.Command.{first_of_kind}
+use Rattle.macho_image.specs.Command.{first_with_cmd}
 use Rattle.macho_image.specs.declared.symtab.Symtab.{Symtab}
 use Rattle.macho_image.specs.declared.dysymtab.Dysymtab.{Dysymtab}
 use Rattle.macho_image.specs.declared.symbol.Symbol.{Symbol}
@@ -66,14 +66,14 @@ abbrev pub symbols_of : List ℕ → List ℕ → List ℕ
 symbols_of image commands =
     option_map_or (λ symtab.
     items_inside image (symoff image symtab) nlist.NLIST_64_SIZE (nsyms image symtab))
-    (first_of_kind image loader.LC_SYMTAB commands) []
+    (first_with_cmd image loader.LC_SYMTAB commands) []
 
 -- nlist_64
 abbrev pub symbol_at : List ℕ → ℕ → Symbol
 symbol_at image symbol = record {
   place = symbol;
   strx = n_strx image symbol;
-  kind = n_type image symbol;
+  symbol_type = n_type image symbol;
   sect = n_sect image symbol;
   desc = n_desc image symbol;
   value = n_value image symbol;
@@ -85,7 +85,7 @@ indirects_of image commands =
     option_map_or (λ dysymtab.
     items_inside image (indirectsymoff image dysymtab) loader.INDIRECT_ENTRY_SIZE
     (nindirectsyms image dysymtab))
-    (first_of_kind image loader.LC_DYSYMTAB commands) []
+    (first_with_cmd image loader.LC_DYSYMTAB commands) []
 
 abbrev pub indirect_at : List ℕ → ℕ → Indirect
 indirect_at image entry = record { place = entry; value = word image entry }
@@ -98,11 +98,11 @@ EndsInStrings image start size strx =
 -- strx is not 0, the strings of LC_SYMTAB lie inside the image, and the one at strx ends in them
 abbrev pub HasName : List ℕ → List ℕ → ℕ → Type 0
 HasName image commands strx =
-    (strx ≢ 0) × IsSomeAnd (first_of_kind image loader.LC_SYMTAB commands) (λ symtab.
+    (strx ≢ 0) × IsSomeAnd (first_with_cmd image loader.LC_SYMTAB commands) (λ symtab.
     EndsInStrings image (stroff image symtab) (strsize image symtab) strx)
 
 -- the name at strx in the strings: the bytes up to the first zero byte
 abbrev pub IsNameAt : List ℕ → List ℕ → ℕ → List ℕ → Type 0
 IsNameAt image commands strx name =
-    IsSomeAnd (first_of_kind image loader.LC_SYMTAB commands) (λ symtab.
+    IsSomeAnd (first_with_cmd image loader.LC_SYMTAB commands) (λ symtab.
     name ≡ string_from (stroff image symtab + strx) image)

@@ -64,13 +64,13 @@ impl<'a> Iterator for Builds<'a> {
 
 impl<'a> Image<'a> {
     ghost use Rattle.std.specs.Prelude.{◌≡◌, map};
-    ghost use Rattle.macho_fields.specs.Image.{commands_of, of_kind};
+    ghost use Rattle.macho_fields.specs.Image.{commands_of, with_cmd};
     ghost use Rattle.macho_image.specs.Build.{build_at};
 
     /// The `LC_BUILD_VERSION` commands, in the order of the commands.
     pub fn builds(&self) -> Builds<'a>
         ensures { result ≡ map (build_at self.now)
-            (of_kind self.now LC_BUILD_VERSION (commands_of self.now)) }
+            (with_cmd self.now LC_BUILD_VERSION (commands_of self.now)) }
     {
         Builds {
             image: self.bytes(),

@@ -68,11 +68,11 @@ impl<'a> Iterator for Commands<'a> {
 impl<'a> Commands<'a> {
     ghost use Rattle.std.specs.Iterator.{YieldsFirstBy};
     ghost use Rattle.macho_image.specs.Command.{command_of};
-    ghost use Rattle.macho_image.specs.Scaffold.{left_of_kind};
+    ghost use Rattle.macho_image.specs.Scaffold.{left_with_cmd};
 
     /// The next command whose `cmd` is `wanted`. The commands before it are skipped.
     pub(crate) fn next_with_cmd(&mut self, wanted: u32) -> Option<Command<'a>>
-        ensures { YieldsFirstBy command_of (left_of_kind wanted) self.old result self.new }
+        ensures { YieldsFirstBy command_of (left_with_cmd wanted) self.old result self.new }
     {
         while let Some(command) = self.next() {
             if command.cmd == wanted {

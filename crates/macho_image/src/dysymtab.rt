@@ -67,13 +67,13 @@ impl<'a> Image<'a> {
     ghost use Rattle.std.specs.Prelude.{◌≡◌};
     ghost use Rattle.std.specs.Option.{option_map};
     ghost use Rattle.macho_fields.specs.Image.{commands_of};
-    ghost use Rattle.macho_image.specs.Command.{first_of_kind};
+    ghost use Rattle.macho_image.specs.Command.{first_with_cmd};
     ghost use Rattle.macho_image.specs.Symbol.{dysymtab_at};
 
     /// The `LC_DYSYMTAB` command, or `None` where the image has none.
     pub fn dysymtab(&self) -> Option<Dysymtab>
         ensures { result ≡ option_map (dysymtab_at self.now)
-            (first_of_kind self.now LC_DYSYMTAB (commands_of self.now)) }
+            (first_with_cmd self.now LC_DYSYMTAB (commands_of self.now)) }
     {
         let place = self.place_of(LC_DYSYMTAB)?;
         Some(dysymtab_from(self.bytes(), place))

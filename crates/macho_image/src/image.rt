@@ -44,7 +44,7 @@ impl<'a> Image<'a> {
     ghost use Rattle.macho_fields.specs.Image.{cpu_type, cpu_subtype, file_type, commands_of};
     ghost use Rattle.macho_fields.specs.Universal.{masked};
     ghost use Rattle.macho_fields.specs.declared.rule.Rule.{Rule};
-    ghost use Rattle.macho_image.specs.Command.{command_of, command_at, first_of_kind};
+    ghost use Rattle.macho_image.specs.Command.{command_of, command_at, first_with_cmd};
     ghost use Rattle.macho_image.specs.Header.{IsKind};
     ghost use Rattle.macho_image.specs.Opened.{IsOpened};
     ghost use Rattle.macho_image.specs.Scaffold.{AreFirst, HaveSegments};
@@ -143,7 +143,7 @@ impl<'a> Image<'a> {
     /// the rules forbid that of some only.
     pub fn first_command(&self, cmd: u32) -> Option<Command<'a>>
         ensures { option_map command_of result ≡ option_map (command_at self.now)
-            (first_of_kind self.now cmd (commands_of self.now)) }
+            (first_with_cmd self.now cmd (commands_of self.now)) }
     {
         self.commands().next_with_cmd(cmd)
     }
@@ -163,7 +163,7 @@ impl<'a> Image<'a> {
     /// The place of the command with this `cmd`, of which an image has at most one.
     pub(crate) fn place_of(&self, cmd: u32) -> Option<u64>
         requires { IsUnique cmd }
-        ensures { result ≡ first_of_kind self.now cmd (commands_of self.now) }
+        ensures { result ≡ first_with_cmd self.now cmd (commands_of self.now) }
     {
         self.unique.of(cmd)
     }

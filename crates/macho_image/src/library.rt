@@ -70,7 +70,7 @@ impl<'a> Image<'a> {
     ghost use Rattle.std.specs.Prelude.{◌≡◌, map};
     ghost use Rattle.macho_fields.specs.Image.{commands_of};
     ghost use Rattle.std.specs.Option.{option_map};
-    ghost use Rattle.macho_image.specs.Command.{first_of_kind};
+    ghost use Rattle.macho_image.specs.Command.{first_with_cmd};
     ghost use Rattle.macho_image.specs.Library.{libraries, dylib_of, dylib_at};
 
     /// The libraries that the image names, in the order of the commands. The `LC_ID_DYLIB` of a
@@ -87,7 +87,7 @@ impl<'a> Image<'a> {
     /// What the image is as a library, by its `LC_ID_DYLIB`, or `None` where it has none.
     pub fn id(&self) -> Option<Dylib<'a>>
         ensures { option_map dylib_of result ≡ option_map (dylib_at self.now)
-            (first_of_kind self.now LC_ID_DYLIB (commands_of self.now)) }
+            (first_with_cmd self.now LC_ID_DYLIB (commands_of self.now)) }
     {
         let place = self.place_of(LC_ID_DYLIB)?;
         Some(dylib_from(self.bytes(), place))

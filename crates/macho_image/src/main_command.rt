@@ -26,13 +26,13 @@ impl<'a> Image<'a> {
     ghost use Rattle.std.specs.Prelude.{◌≡◌};
     ghost use Rattle.std.specs.Option.{option_map};
     ghost use Rattle.macho_fields.specs.Image.{commands_of};
-    ghost use Rattle.macho_image.specs.Command.{first_of_kind};
+    ghost use Rattle.macho_image.specs.Command.{first_with_cmd};
     ghost use Rattle.macho_image.specs.Single.{main_command_at};
 
     /// The `LC_MAIN` command, or `None` where the image has none.
     pub fn main_command(&self) -> Option<MainCommand>
         ensures { result ≡ option_map (main_command_at self.now)
-            (first_of_kind self.now LC_MAIN (commands_of self.now)) }
+            (first_with_cmd self.now LC_MAIN (commands_of self.now)) }
     {
         let place = self.place_of(LC_MAIN)?;
         Some(main_command_from(self.bytes(), place))

@@ -64,8 +64,8 @@ fn record_count(command: Command, offset: u64) -> u32
     bytes.u32_at(Order::Little, offset).unwrap_or(0)
 }
 
-/// The rule `command-repeated`: no command of a unique kind repeats an earlier one. The places of
-/// those commands are returned.
+/// The rule `command-repeated`: no command of which an image has at most one is a second one. The places
+/// of the first ones are returned.
 pub(crate) fn command_repeated(opening: Opening) -> Result<UniquePlaces, Break>
     requires { KeptBelow (breaks_of opening) (rank Rule.CommandRepeated) }
     ensures decides { Continues (breaks_of opening.entry) Rule.CommandRepeated result }

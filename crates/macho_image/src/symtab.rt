@@ -32,13 +32,13 @@ impl<'a> Image<'a> {
     ghost use Rattle.std.specs.Prelude.{◌≡◌, ◌↔◌, IsSome, IfSome};
     ghost use Rattle.std.specs.Option.{option_map};
     ghost use Rattle.macho_fields.specs.Image.{commands_of};
-    ghost use Rattle.macho_image.specs.Command.{first_of_kind};
+    ghost use Rattle.macho_image.specs.Command.{first_with_cmd};
     ghost use Rattle.macho_image.specs.Symbol.{symtab_at, HasName, IsNameAt};
 
     /// The `LC_SYMTAB` command, or `None` where the image has none.
     pub fn symtab(&self) -> Option<Symtab>
         ensures { result ≡ option_map (symtab_at self.now)
-            (first_of_kind self.now LC_SYMTAB (commands_of self.now)) }
+            (first_with_cmd self.now LC_SYMTAB (commands_of self.now)) }
     {
         let place = self.place_of(LC_SYMTAB)?;
         Some(symtab_from(self.bytes(), place))

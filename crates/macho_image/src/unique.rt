@@ -12,9 +12,9 @@ pub(crate) struct UniquePlaces {
 
 impl UniquePlaces {
     ghost use Rattle.std.specs.Prelude.{◌≡◌, ◌∷◌, ◌++◌, [], ℕ, List, None};
-    ghost use Rattle.macho_fields.specs.Image.{command_kind};
+    ghost use Rattle.macho_fields.specs.Image.{command_cmd};
     ghost use Rattle.macho_fields.specs.LoadCommands.{IsUnique};
-    ghost use Rattle.macho_image.specs.Command.{first_of_kind};
+    ghost use Rattle.macho_image.specs.Command.{first_with_cmd};
     ghost use Rattle.macho_image.specs.Scaffold.{AreFirst};
 
     /// The places where no command was noted.
@@ -29,7 +29,7 @@ impl UniquePlaces {
     /// The place of the first command with this `cmd` that was noted.
     pub(crate) fn of(&self, cmd: u32) -> Option<u64>
         ensures unique { (image commands : List ℕ) → AreFirst image commands self.now
-            → IsUnique cmd → result ≡ first_of_kind image cmd commands }
+            → IsUnique cmd → result ≡ first_with_cmd image cmd commands }
         ensures other { ¬ IsUnique cmd → result ≡ None }
     {
         let index = unique_index(cmd)?;
@@ -38,7 +38,7 @@ impl UniquePlaces {
 
     /// Notes a command that comes after those noted before.
     pub(crate) fn note(&mut self, command: Command)
-        ensures { (image commands : List ℕ) → command.entry.cmd ≡ command_kind image command.entry.place
+        ensures { (image commands : List ℕ) → command.entry.cmd ≡ command_cmd image command.entry.place
             → AreFirst image commands self.old
             → AreFirst image (commands ++ command.entry.place ∷ []) self.new }
     {

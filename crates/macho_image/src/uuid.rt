@@ -14,14 +14,14 @@ impl<'a> Image<'a> {
     ghost use Rattle.std.specs.Prelude.{◌≡◌};
     ghost use Rattle.std.specs.Option.{option_map};
     ghost use Rattle.macho_fields.specs.Image.{commands_of};
-    ghost use Rattle.macho_image.specs.Command.{first_of_kind};
+    ghost use Rattle.macho_image.specs.Command.{first_with_cmd};
     ghost use Rattle.macho_image.specs.Single.{uuid_at};
 
     /// The 16 bytes of the UUID of the build, or `None` where the image has no `LC_UUID`.
     /// (`uuid_command`)
     pub fn uuid(&self) -> Option<[u8; 16]>
         ensures { result ≡ option_map (uuid_at self.now)
-            (first_of_kind self.now LC_UUID (commands_of self.now)) }
+            (first_with_cmd self.now LC_UUID (commands_of self.now)) }
     {
         let place = self.place_of(LC_UUID)?;
         Some(uuid_from(self.bytes(), place))

@@ -41,9 +41,9 @@ pub asked_and_taken : (words : List Text) (name : Text) (rows : List Row) (r : R
     → fault_of program_command words ≡ [] → subcommand_of program_command words ≡ Some (name, rows) → Answers r (asked_in name rows) → Answers r (asked words)
 asked_and_taken words name rows r some none met answers = subst (Answers r) (asked_of_some words some) (taken _ _ name rows r none met answers)
 
-of_kind : (kind : ErrorKind) → (word_fault_of kind ≡ Usage) ⊎ (word_fault_of kind ≡ Memory)
-of_kind OutOfMemory = inr refl
-of_kind _ = inl refl
+with_cmd : (kind : ErrorKind) → (word_fault_of kind ≡ Usage) ⊎ (word_fault_of kind ≡ Memory)
+with_cmd OutOfMemory = inr refl
+with_cmd _ = inl refl
 
 -- the answer to words that `clap` refuses
 refused : (faults : Kinds) (sub : Option (Text × List Row)) (kind : ErrorKind) (r : Result Request WordFault) → (kind ≡ OutOfMemory) ⊎ IsAmong kind faults
@@ -51,7 +51,7 @@ refused : (faults : Kinds) (sub : Option (Text × List Row)) (kind : ErrorKind) 
 refused faults sub kind (Ok request) why is = absurd is
 refused faults sub kind (Err fault) (inl memory) is = let out : fault ≡ Memory = is ∙ ap word_fault_of memory in rw out tt
 refused [] sub kind (Err fault) (inr among) is = absurd among
-refused (k ∷ ks) sub kind (Err fault) (inr among) is = elim (of_kind kind) [
+refused (k ∷ ks) sub kind (Err fault) (inr among) is = elim (with_cmd kind) [
   | inl usage ↦ let out : fault ≡ Usage = is ∙ usage in rw out refl
   | inr memory ↦ let out : fault ≡ Memory = is ∙ memory in rw out tt
 ]

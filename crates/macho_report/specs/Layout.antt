@@ -5,14 +5,14 @@ use Rattle.std.specs.Option.{option_map_or}
 use Rattle.std.specs.Fmt.{decimal}
 use Rattle.macho_fields.specs.Field.{number}
 use Rattle.macho_fields.specs.FileTypes.{file_type_of}
-use Rattle.macho_fields.specs.Image.{cpu_type, cpu_subtype, file_type, command_kind, commands_of, of_kind}
+use Rattle.macho_fields.specs.Image.{cpu_type, cpu_subtype, file_type, command_cmd, commands_of, with_cmd}
 use Rattle.macho_fields.specs.Segment.{segments_of, sections_in}
 use Rattle.macho_fields.specs.Symbol.{nsyms}
 use Rattle.macho_fields.specs.Universal.{FileSlice, slices_of, slice_bytes, masked}
 use Rattle.macho_fields.specs.declared.bytes.Order.TheVariants.{Little}
 use Rattle.macho_fields.specs.declared.header.loader.TheConstants as loader
 use Rattle.macho_image.specs.Build.{build_at}
-use Rattle.macho_image.specs.Command.{first_of_kind}
+use Rattle.macho_image.specs.Command.{first_with_cmd}
 use Rattle.macho_image.specs.Entry.{entry_of}
 use Rattle.macho_image.specs.Library.{libraries, dylib_at}
 use Rattle.macho_image.specs.Single.{uuid_at}
@@ -31,13 +31,13 @@ library_text image command =
 -- the line of LC_ID_DYLIB
 abbrev pub id_text : List ℕ → List ℕ → List ℕ
 id_text image commands =
-    option_map_or (library_text image) (first_of_kind image loader.LC_ID_DYLIB commands) []
+    option_map_or (library_text image) (first_with_cmd image loader.LC_ID_DYLIB commands) []
 
 -- the line of LC_UUID
 abbrev pub uuid_text : List ℕ → List ℕ → List ℕ
 uuid_text image commands =
     option_map_or (λ command. uuid_line (uuid_at image command))
-    (first_of_kind image loader.LC_UUID commands) []
+    (first_with_cmd image loader.LC_UUID commands) []
 
 -- the lines of LC_BUILD_VERSION
 abbrev pub build_text : List ℕ → ℕ → List ℕ
@@ -46,7 +46,7 @@ build_text image command =
 
 abbrev pub builds_text : List ℕ → List ℕ → List ℕ
 builds_text image commands =
-    joined (map (build_text image) (of_kind image loader.LC_BUILD_VERSION commands))
+    joined (map (build_text image) (with_cmd image loader.LC_BUILD_VERSION commands))
 
 -- the lines of the segments, each before those of its sections
 abbrev pub segment_text : List ℕ → ℕ → List ℕ
@@ -61,14 +61,14 @@ segments_text image commands = joined (map (segment_text image) (segments_of ima
 abbrev pub libraries_text : List ℕ → List ℕ → List ℕ
 libraries_text image commands =
     joined (map (library_text image)
-    (filter (λ command. not (command_kind image command == loader.LC_ID_DYLIB))
+    (filter (λ command. not (command_cmd image command == loader.LC_ID_DYLIB))
     (libraries image commands)))
 
 -- the line of LC_SYMTAB
 abbrev pub symbols_text : List ℕ → List ℕ → List ℕ
 symbols_text image commands =
     option_map_or (λ command. symbols_line (nsyms image command))
-    (first_of_kind image loader.LC_SYMTAB commands) []
+    (first_with_cmd image loader.LC_SYMTAB commands) []
 
 abbrev pub image_text : List ℕ → List ℕ
 image_text image =

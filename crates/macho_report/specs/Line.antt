@@ -72,20 +72,20 @@ section_line image section =
 
 -- the word of a command that names a library, by its cmd
 abbrev pub library_word : ℕ → List ℕ
-library_word kind =
-    if kind == loader.LC_ID_DYLIB then codes "id"
-    else (if kind == loader.LC_LOAD_DYLIB then codes "load"
-    else (if kind == loader.LC_LOAD_WEAK_DYLIB then codes "weak"
-    else (if kind == loader.LC_REEXPORT_DYLIB then codes "reexport"
-    else (if kind == loader.LC_LAZY_LOAD_DYLIB then codes "lazy"
-    else (if kind == loader.LC_LOAD_UPWARD_DYLIB then codes "upward"
+library_word cmd =
+    if cmd == loader.LC_ID_DYLIB then codes "id"
+    else (if cmd == loader.LC_LOAD_DYLIB then codes "load"
+    else (if cmd == loader.LC_LOAD_WEAK_DYLIB then codes "weak"
+    else (if cmd == loader.LC_REEXPORT_DYLIB then codes "reexport"
+    else (if cmd == loader.LC_LAZY_LOAD_DYLIB then codes "lazy"
+    else (if cmd == loader.LC_LOAD_UPWARD_DYLIB then codes "upward"
     else codes "dylib")))))
 
 -- a library, or the image itself: the cmd of its command, its name, its current version and its
 -- compatibility version
 abbrev pub library_line : ℕ → List ℕ → ℕ → ℕ → List ℕ
-library_line kind name current compatible =
-    joined (codes "  " ∷ library_word kind ∷ codes " " ∷ quoted name
+library_line cmd name current compatible =
+    joined (codes "  " ∷ library_word cmd ∷ codes " " ∷ quoted name
     ∷ codes " current " ∷ version_text current
     ∷ codes " compatible " ∷ version_text compatible ∷ codes "\n" ∷ [])
 

@@ -14,7 +14,7 @@ linked_text library =
 
 -- how the line of a library begins, which is written at once
 abbrev pub library_start : ℕ → List ℕ
-library_start kind = codes "  " ++ library_word kind ++ codes " "
+library_start cmd = codes "  " ++ library_word cmd ++ codes " "
 
 -- how the lines of libraries and sections end, each of which is written at once
 abbrev pub versions_end : ℕ → ℕ → List ℕ

@@ -9,7 +9,7 @@ use Rattle.macho_fields.specs.Field.{Covers, HasZero}
 use Rattle.macho_fields.specs.Image.{commands_of}
 use Rattle.macho_fields.specs.Symbol.{HasEndlessName}
 use Rattle.macho_fields.specs.declared.header.loader.TheConstants as loader
-use Rattle.macho_image.specs.Command.{first_of_kind}
+use Rattle.macho_image.specs.Command.{first_with_cmd}
 use Rattle.macho_image.specs.Symbol.{symtab_at, symbol_at}
 use Rattle.macho_image.specs.declared.symbol.Symbol.{Symbol}
 use Rattle.macho_image.specs.declared.symtab.Symtab.{Symtab}
@@ -33,7 +33,7 @@ past_last_end image start size strx (Some place) (found, zero, after) =
       λ past (z, from, below, inside, at). after (z, omega (arith, past), below, inside, at),
     )
 
-module _ (image bytes : List ℕ) (same : bytes ≡ image) (symtab : Symtab) (is : Some symtab ≡ option_map (symtab_at image) (first_of_kind image loader.LC_SYMTAB (commands_of image)))
+module _ (image bytes : List ℕ) (same : bytes ≡ image) (symtab : Symtab) (is : Some symtab ≡ option_map (symtab_at image) (first_with_cmd image loader.LC_SYMTAB (commands_of image)))
     (last : Option ℕ) (found : IsSome last ↔ HasZero bytes symtab.stroff (symtab.stroff + symtab.strsize))
     (zero : IfSome last (λ place. Covers symtab.stroff symtab.strsize place × (slice_get bytes place ≡ Some 0)))
     (after : IfSome last (λ place. ¬ HasZero bytes (place + 1) (symtab.stroff + symtab.strsize))) where

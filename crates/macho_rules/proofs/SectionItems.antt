@@ -7,7 +7,7 @@ use Rattle.macho_fields.specs.Image.{commands_of}
 use Rattle.macho_fields.specs.Segment.{segments_of, sections_in, nsects, AtSection}
 use Rattle.macho_fields.specs.declared.header.loader.TheConstants as loader
 use Rattle.macho_fields.proofs.Opened.{sections_inside}
-use Rattle.macho_fields.proofs.Parts.{of_kind_is, of_kind_among}
+use Rattle.macho_fields.proofs.Parts.{with_cmd_is, with_cmd_among}
 use Rattle.macho_image.specs.Opened.{IsOpened}
 use Rattle.macho_image.specs.Segment.{SectionView, section_at, sections_with, sections_of}
 use Rattle.macho_rules.proofs.Searches.{mapped_has, has_number, numbers_rise, Ordered}
@@ -25,8 +25,8 @@ module _ (image : List ℕ) (opened : IsOpened image) where
   sections_before a b p q has apart in_a in_b =
       let (i, within, at_p) = numbered image a p in_a in
       let (j, _, at_q) = numbered image b q in_b in
-      let holds = sections_inside image (commands_of image) (opened_facts image opened) (opened_commands image opened) a (of_kind_among image (commands_of image) loader.LC_SEGMENT_64 a has)
-      (of_kind_is image (commands_of image) loader.LC_SEGMENT_64 a has) in
+      let holds = sections_inside image (commands_of image) (opened_facts image opened) (opened_commands image opened) a (with_cmd_among image (commands_of image) loader.LC_SEGMENT_64 a has)
+      (with_cmd_is image (commands_of image) loader.LC_SEGMENT_64 a has) in
       omega (arith, within, at_p, at_q, holds, apart)
 
   with_segment : (segment : ℕ) (pair : ℕ × ℕ) → Contains (sections_with image segment) pair → (pair.0 ≡ segment) × Contains (sections_in image segment) pair.1

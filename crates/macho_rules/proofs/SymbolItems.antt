@@ -13,13 +13,13 @@ use Rattle.macho_fields.specs.declared.header.loader.TheConstants as loader
 use Rattle.macho_fields.specs.declared.rule.Rule.{Rule}
 use Rattle.macho_fields.specs.declared.rule.Rule.TheVariants as rule
 use Rattle.macho_fields.proofs.LoadCommands.{symbols_listed, strings_listed, indirects_listed}
-use Rattle.macho_image.specs.Command.{first_of_kind}
+use Rattle.macho_image.specs.Command.{first_with_cmd}
 use Rattle.macho_image.specs.Symbol.{symtab_at, symbols_of, symbol_at, indirects_of, indirect_at}
 use Rattle.macho_image.specs.declared.indirect.Indirect.{Indirect}
 use Rattle.macho_image.specs.declared.symbol.Symbol.{Symbol}
 use Rattle.macho_image.specs.declared.symtab.Symtab.{Symtab}
 use Rattle.macho_rules.specs.Check.{KeptBefore}
-use Rattle.macho_rules.proofs.OneCommand.{first_at, is_of_kind}
+use Rattle.macho_rules.proofs.OneCommand.{first_at, is_with_cmd}
 use Rattle.macho_rules.proofs.Searches.{Searching, first_among, AreBreaks}
 use Rattle.macho_rules.proofs.TableItems.{table_inside, AtItem, items_search, item_at, items_break}
 
@@ -57,7 +57,7 @@ module _ (image : List ℕ) (all : List Symbol) (are : AreSymbols image all) whe
       item_at image loader.LC_SYMTAB 16 (symoff image) (nsyms image) (symbol_at image) (λ t. t.place) (λ p. refl) all are s (first_among (λ t. t.place) Q all left rest s is search)
 
   module _ (r : Rule) (late : rank rule.TableRange < rank r) (below : KeptBefore image r) where
-    symbols_break : (P : ℕ → ℕ → Type 0) (Q : Symbol → Type 0) → ((c p : ℕ) → first_of_kind image loader.LC_SYMTAB (commands_of image) ≡ Some c → Q (symbol_at image p) ↔ P c p)
+    symbols_break : (P : ℕ → ℕ → Type 0) (Q : Symbol → Type 0) → ((c p : ℕ) → first_with_cmd image loader.LC_SYMTAB (commands_of image) ≡ Some c → Q (symbol_at image p) ↔ P c p)
         → AreBreaks (AtSymbol image (commands_of image) P) (λ s. s.place) Q all
     symbols_break P Q seen =
         items_break image loader.LC_SYMTAB 16 (symoff image) (nsyms image) (symbol_at image) (λ s. s.place) (λ p. refl) r late below refl
@@ -69,7 +69,7 @@ module _ (image : List ℕ) (all : List Symbol) (are : AreSymbols image all) whe
         symbols_break (λ symtab. IsInNoSection image (section_count image (commands_of image))) (λ s. IsInNoSection image count s.place)
         (λ c p first. (λ here. subst (λ n. IsInNoSection image n p) number here, λ here. subst (λ n. IsInNoSection image n p) (sym number) here))
 
-    pub names_break : (symtab : ℕ) → first_of_kind image loader.LC_SYMTAB (commands_of image) ≡ Some symtab
+    pub names_break : (symtab : ℕ) → first_with_cmd image loader.LC_SYMTAB (commands_of image) ≡ Some symtab
         → AreBreaks (AtSymbol image (commands_of image) (HasEndlessName image)) (λ s. s.place) (λ s. HasEndlessName image symtab s.place) all
     names_break symtab is =
         symbols_break (HasEndlessName image) (λ s. HasEndlessName image symtab s.place)
@@ -78,8 +78,8 @@ module _ (image : List ℕ) (all : List Symbol) (are : AreSymbols image all) whe
 
 -- The symbol table of an image
 
-module _ (image : List ℕ) (symtab : Symtab) (is : Some symtab ≡ option_map (symtab_at image) (first_of_kind image loader.LC_SYMTAB (commands_of image))) where
-  pub symtab_first : first_of_kind image loader.LC_SYMTAB (commands_of image) ≡ Some symtab.place
+module _ (image : List ℕ) (symtab : Symtab) (is : Some symtab ≡ option_map (symtab_at image) (first_with_cmd image loader.LC_SYMTAB (commands_of image))) where
+  pub symtab_first : first_with_cmd image loader.LC_SYMTAB (commands_of image) ≡ Some symtab.place
   symtab_first = let (c, first, same) = first_at (symtab_at image) _ symtab is in first ∙ ap Some (sym (ap (λ (t : Symtab). t.place) same))
 
   pub symtab_read : symtab ≡ symtab_at image symtab.place
@@ -92,5 +92,5 @@ module _ (image : List ℕ) (symtab : Symtab) (is : Some symtab ≡ option_map (
       let size : symtab.strsize ≡ strsize image c = ap (λ (t : Symtab). t.strsize) same in
       let start : symtab.stroff ≡ stroff image c = ap (λ (t : Symtab). t.stroff) same in
       let fits : ¬ IsOutside image (stroff image c, strsize image c, 1) =
-      table_inside image loader.LC_SYMTAB SymtabCommand c string_table r late below refl (is_of_kind image loader.LC_SYMTAB c first) strings_listed in
+      table_inside image loader.LC_SYMTAB SymtabCommand c string_table r late below refl (is_with_cmd image loader.LC_SYMTAB c first) strings_listed in
       elim (cases_lt (length image) (stroff image c + strsize image c)) [ inl past ↦ absurd (fits (omega arith, omega arith)) | inr most ↦ omega arith ]

@@ -3,7 +3,7 @@ use Rattle.std.proofs.Common.{◌≡◌, ℕ, ◌+◌, ◌≤◌, ◌<◌, List,
 use Rattle.std.proofs.lemmas.Bool.{cases_order}
 use Rattle.std.proofs.lemmas.List.{get_or_default}
 use Rattle.macho_fields.proofs.Lists.{none_in_nil, contains_mapped}
-use Rattle.macho_fields.specs.Image.{command_kind, commands_of}
+use Rattle.macho_fields.specs.Image.{command_cmd, commands_of}
 use Rattle.macho_fields.specs.LoadCommands.{structure_of, width_size, table_fields}
 use Rattle.macho_fields.specs.Symbol.{table_at, tables_of, IsOutside}
 use Rattle.macho_fields.specs.declared.load_command.Structure.{Structure}
@@ -38,7 +38,7 @@ module _ (image : List ℕ) (command : ℕ) where
         | inr (inr after) ↦ absurd (omega arith)
       ]
 
-  module _ (s : Structure) (tables : List TableFields) (listed : structure_of (command_kind image command) ≡ Some s) (is : tables ≡ table_fields s) where
+  module _ (s : Structure) (tables : List TableFields) (listed : structure_of (command_cmd image command) ≡ Some s) (is : tables ≡ table_fields s) where
     bounded : tables_of image command ≡ map (table_at image command) tables
     bounded = tables_listed image command s listed ∙ ap (map (table_at image command)) (sym is)
 
@@ -62,7 +62,7 @@ module _ (image : List ℕ) (command : ℕ) where
     fields_held opened has n d less =
         subst (All LieInside) (sym is) (table_fields_inside image (commands_of image) (opened_facts image opened) (opened_commands image opened) command s has listed) n d less
 
-  pub none_listed : structure_of (command_kind image command) ≡ None → ¬ Any (IsOutside image) (tables_of image command)
+  pub none_listed : structure_of (command_cmd image command) ≡ None → ¬ Any (IsOutside image) (tables_of image command)
   none_listed none any =
       let (table, has, _) = one_of (IsOutside image) [] (subst (Any (IsOutside image)) (tables_unlisted image command none) any) in none_in_nil table has
 
@@ -89,7 +89,7 @@ module _ (image : List ℕ) (all : List CommandView) (opened : IsOpened image) (
 
   -- a command that is left is one of the image
   pub view_left : (Q : CommandView → Type 0) (left rest : List CommandView) (v : CommandView) → left ≡ v ∷ rest → Searching (λ w. w.place) Q all left
-      → Contains (commands_of image) v.place × (v.cmd ≡ command_kind image v.place)
+      → Contains (commands_of image) v.place × (v.cmd ≡ command_cmd image v.place)
   view_left Q left rest v is search =
       let (p, has, at) = mapped_has (command_at image) (commands_of image) v (subst (λ these. Contains these v) are (first_among (λ w. w.place) Q all left rest v is search)) in
-      subst (λ (w : CommandView). Contains (commands_of image) w.place × (w.cmd ≡ command_kind image w.place)) at (has, refl)
+      subst (λ (w : CommandView). Contains (commands_of image) w.place × (w.cmd ≡ command_cmd image w.place)) at (has, refl)

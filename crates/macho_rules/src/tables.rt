@@ -3,7 +3,7 @@
 
 ghost use Rattle.std.specs.Prelude.{◌≡◌, ◌+◌, ◌≤◌, ◌↔◌, ℕ, List, length, IsTrue, Any, Contains};
 ghost use Rattle.macho_fields.specs.Bytes.{bytes_of};
-ghost use Rattle.macho_fields.specs.Image.{command_kind, commands_of};
+ghost use Rattle.macho_fields.specs.Image.{command_cmd, commands_of};
 ghost use Rattle.macho_fields.specs.LoadCommands.{width_size};
 ghost use Rattle.macho_fields.specs.Symbol.{number_of, table_at, tables_of, IsOutside};
 ghost use Rattle.macho_fields.specs.Symbol.{groups_of, PassesSymbols};
@@ -35,7 +35,7 @@ pub(crate) fn table_range(image: &Image) -> Result<(), Break>
 fn has_table_outside(image: Bytes, cmd: u32, command: u64) -> bool
     requires opened { IsOpened (bytes_of image) }
     requires listed { Contains (commands_of (bytes_of image)) command }
-    requires cmd { cmd ≡ command_kind (bytes_of image) command }
+    requires cmd { cmd ≡ command_cmd (bytes_of image) command }
     ensures { IsTrue result
         ↔ Any (IsOutside (bytes_of image.entry)) (tables_of (bytes_of image.entry) command) }
 {

@@ -6,7 +6,7 @@ use Rattle.std.proofs.lemmas.Option.{none-some, same_Some}
 use Rattle.std.specs.List.{range_with_len}
 use Rattle.std.specs.Option.{option_map, option_map_or}
 use Rattle.macho_fields.specs.Field.{Covers, HasZero, part, string_from}
-use Rattle.macho_fields.specs.Image.{commands_of, of_kind}
+use Rattle.macho_fields.specs.Image.{commands_of, with_cmd}
 use Rattle.macho_fields.specs.Layers.{NothingBreaks}
 use Rattle.macho_fields.specs.Loader.{IsSoundImage}
 use Rattle.macho_fields.specs.Loader.Reads.{in_segment, in_section}
@@ -15,7 +15,7 @@ use Rattle.macho_fields.specs.Segment.{segments_of, sections_in, fileoff, filesi
 use Rattle.macho_fields.specs.Symbol.{symoff, nsyms, stroff, strsize, n_strx}
 use Rattle.macho_fields.specs.declared.header.loader.TheConstants as loader
 use Rattle.macho_fields.specs.declared.span.Span.{Span}
-use Rattle.macho_image.specs.Command.{first_of_kind}
+use Rattle.macho_image.specs.Command.{first_with_cmd}
 use Rattle.macho_image.specs.Symbol.{symbols_of, symbol_at, items_inside, IsNameAt}
 use Rattle.macho_image.specs.declared.symbol.Symbol.{Symbol}
 use Rattle.macho_image.specs.Segment.{SegmentView, segment_at, SectionView, section_at, sections_with, sections_of}
@@ -189,21 +189,21 @@ strings_from image first =
     option_map_or (λ symtab. record { start = stroff image symtab; len = strsize image symtab }) first (record { start = 0; len = 0 })
 
 -- the strings of the one LC_SYMTAB
-strings_are : (image : List ℕ) (t : ℕ) → first_of_kind image loader.LC_SYMTAB (commands_of image) ≡ Some t → strings image ≡ record { start = stroff image t; len = strsize image t }
+strings_are : (image : List ℕ) (t : ℕ) → first_with_cmd image loader.LC_SYMTAB (commands_of image) ≡ Some t → strings image ≡ record { start = stroff image t; len = strsize image t }
 strings_are image t is = ap (strings_from image) is
 
 module _ (image : List ℕ) (keeps : IsUnbrokenImage image) where
-  item_holds : (t k : ℕ) → first_of_kind image loader.LC_SYMTAB (commands_of image) ≡ Some t → k < nsyms image t → IsVerifiedSymbol image (strings image) (symbol_at image (symoff image t + 16 * k))
+  item_holds : (t k : ℕ) → first_with_cmd image loader.LC_SYMTAB (commands_of image) ≡ Some t → k < nsyms image t → IsVerifiedSymbol image (strings image) (symbol_at image (symoff image t + 16 * k))
   unfolding IsVerifiedSymbol
   item_holds t k is few = (refl, refl, ended)
     where
       ended : n_strx image (symoff image t + 16 * k) ≢ 0 → HasZero image ((strings image).start + n_strx image (symoff image t + 16 * k)) ((strings image).start + (strings image).len)
       ended some =
-          let (j, less, at) = got_first (of_kind image loader.LC_SYMTAB (commands_of image)) t is in
+          let (j, less, at) = got_first (with_cmd image loader.LC_SYMTAB (commands_of image)) t is in
           subst (λ (among : Span). HasZero image (among.start + n_strx image (symoff image t + 16 * k)) (among.start + among.len)) (sym (strings_are image t is))
           (keeps.sound.names (stroff image t + n_strx image (symoff image t + 16 * k)) (stroff image t + strsize image t) (inr (j, t, less, at, (k, few, (some, refl, refl)))))
 
-  items_hold : (first : Option ℕ) → first_of_kind image loader.LC_SYMTAB (commands_of image) ≡ first
+  items_hold : (first : Option ℕ) → first_with_cmd image loader.LC_SYMTAB (commands_of image) ≡ first
       → All (λ p. IsVerifiedSymbol image (strings image) (symbol_at image p)) (option_map_or (λ t. items_inside image (symoff image t) 16 (nsyms image t)) first [])
   items_hold None is = λ k d less. absurd (omega arith)
   items_hold (Some t) is =
@@ -215,7 +215,7 @@ module _ (image : List ℕ) (keeps : IsUnbrokenImage image) where
 pub symbols_hold : (image : List ℕ) → IsAccepted image → All (IsVerifiedSymbol image (strings image)) (map (symbol_at image) (symbols_of image (commands_of image)))
 unfolding IsAccepted
 symbols_hold image keeps =
-    All-map (IsVerifiedSymbol image (strings image)) (symbol_at image) (symbols_of image (commands_of image)) (items_hold image keeps (first_of_kind image loader.LC_SYMTAB (commands_of image)) refl)
+    All-map (IsVerifiedSymbol image (strings image)) (symbol_at image) (symbols_of image (commands_of image)) (items_hold image keeps (first_with_cmd image loader.LC_SYMTAB (commands_of image)) refl)
 
 -- some of them
 pub range_holds : (image : List ℕ) → IsAccepted image → (first count : ℕ)
@@ -225,7 +225,7 @@ range_holds image keeps first count =
     All-map (IsVerifiedSymbol image (strings image)) (symbol_at image) (take count (drop first (symbols_of image (commands_of image))))
     (All-take (λ p. IsVerifiedSymbol image (strings image) (symbol_at image p)) count (drop first (symbols_of image (commands_of image)))
     (All-drop (λ p. IsVerifiedSymbol image (strings image) (symbol_at image p)) first (symbols_of image (commands_of image))
-    (items_hold image keeps (first_of_kind image loader.LC_SYMTAB (commands_of image)) refl)))
+    (items_hold image keeps (first_with_cmd image loader.LC_SYMTAB (commands_of image)) refl)))
 
 -- the views of symbols that were read at places
 pub views_of : (image : List ℕ) (places : List ℕ) → map (λ (symbol : Symbol). symbol_view image symbol.place) (map (symbol_at image) places) ≡ map (symbol_view image) places
@@ -249,9 +249,9 @@ name_ends image among symbol keeps = keeps.2
 pub name_is : (image : List ℕ) (among : Span) (symbol : Symbol) (name : List ℕ) → IsVerifiedSymbol image among symbol → symbol.strx ≢ 0 → name ≡ string_from (among.start + symbol.strx) image
     → IsNameAt image (commands_of image) symbol.strx name
 unfolding IsVerifiedSymbol
-name_is image among symbol name (read, same, ends) some found = of_first (first_of_kind image loader.LC_SYMTAB (commands_of image)) refl
+name_is image among symbol name (read, same, ends) some found = of_first (first_with_cmd image loader.LC_SYMTAB (commands_of image)) refl
   where
-    of_first : (first : Option ℕ) → first_of_kind image loader.LC_SYMTAB (commands_of image) ≡ first → IsSomeAnd first (λ t. name ≡ string_from (stroff image t + symbol.strx) image)
+    of_first : (first : Option ℕ) → first_with_cmd image loader.LC_SYMTAB (commands_of image) ≡ first → IsSomeAnd first (λ t. name ≡ string_from (stroff image t + symbol.strx) image)
     of_first None is =
         let none : among ≡ record { start = 0; len = 0 } = same ∙ ap (strings_from image) is in
         let (z, low, high, inside, is_zero) = subst (λ (a : Span). HasZero image (a.start + symbol.strx) (a.start + a.len)) none (ends some) in

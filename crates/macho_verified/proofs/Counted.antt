@@ -15,12 +15,12 @@ use Rattle.macho_fields.specs.declared.header.loader.TheConstants as loader
 use Rattle.macho_fields.specs.declared.load_command.Structure.TheVariants.{SymtabCommand, DysymtabCommand}
 use Rattle.macho_fields.specs.declared.rule.Rule.TheVariants as rule
 use Rattle.macho_fields.proofs.LoadCommands.{symbols_listed, indirects_listed}
-use Rattle.macho_image.specs.Command.{first_of_kind}
+use Rattle.macho_image.specs.Command.{first_with_cmd}
 use Rattle.macho_image.specs.Symbol.{symbols_of, indirects_of, indirect_at, items_inside}
 use Rattle.macho_image.specs.declared.indirect.Indirect.{Indirect}
 use Rattle.macho_rules.specs.Check.{KeptBefore}
 use Rattle.macho_rules.proofs.Judged.{keeps_opened, opened_commands}
-use Rattle.macho_rules.proofs.OneCommand.{is_of_kind, symbols_counted}
+use Rattle.macho_rules.proofs.OneCommand.{is_with_cmd, symbols_counted}
 use Rattle.macho_rules.proofs.TableItems.{table_inside, in_items}
 use Rattle.macho_verified.specs.Image.{SymbolView, symbol_view, IndirectView, indirect_view}
 use Rattle.macho_verified.specs.Scaffold.{IsUnbrokenImage, IsAccepted, IsVerifiedIndirect}
@@ -47,31 +47,31 @@ module _ (image : List ℕ) (keeps : IsUnbrokenImage image) where
   below : KeptBefore image rule.IndirectIndex
   below other place late = keeps.unbroken other place
 
-  table_counted : (t : ℕ) → first_of_kind image loader.LC_SYMTAB (commands_of image) ≡ Some t → length (items_inside image (symoff image t) 16 (nsyms image t)) ≡ nsyms image t
+  table_counted : (t : ℕ) → first_with_cmd image loader.LC_SYMTAB (commands_of image) ≡ Some t → length (items_inside image (symoff image t) 16 (nsyms image t)) ≡ nsyms image t
   table_counted t is =
       items_counted image (symoff image t) 16 (nsyms image t)
-      (table_inside image loader.LC_SYMTAB SymtabCommand t symbol_table rule.IndirectIndex (lit< tt) below refl (is_of_kind image loader.LC_SYMTAB t is) symbols_listed)
+      (table_inside image loader.LC_SYMTAB SymtabCommand t symbol_table rule.IndirectIndex (lit< tt) below refl (is_with_cmd image loader.LC_SYMTAB t is) symbols_listed)
 
-  entries_counted : (d : ℕ) → first_of_kind image loader.LC_DYSYMTAB (commands_of image) ≡ Some d
+  entries_counted : (d : ℕ) → first_with_cmd image loader.LC_DYSYMTAB (commands_of image) ≡ Some d
       → length (items_inside image (indirectsymoff image d) 4 (nindirectsyms image d)) ≡ nindirectsyms image d
   entries_counted d is =
       items_counted image (indirectsymoff image d) 4 (nindirectsyms image d)
-      (table_inside image loader.LC_DYSYMTAB DysymtabCommand d indirect_table rule.IndirectIndex (lit< tt) below refl (is_of_kind image loader.LC_DYSYMTAB d is) indirects_listed)
+      (table_inside image loader.LC_DYSYMTAB DysymtabCommand d indirect_table rule.IndirectIndex (lit< tt) below refl (is_with_cmd image loader.LC_DYSYMTAB d is) indirects_listed)
 
-  counted : (first : Option ℕ) → first_of_kind image loader.LC_SYMTAB (commands_of image) ≡ first
+  counted : (first : Option ℕ) → first_with_cmd image loader.LC_SYMTAB (commands_of image) ≡ first
       → length (option_map_or (λ t. items_inside image (symoff image t) 16 (nsyms image t)) first []) ≡ option_map_or (nsyms image) first 0
   counted None is = refl
   counted (Some t) is = table_counted t is
 
   -- as many symbols as LC_SYMTAB says
   all_symbols : length (symbols_of image (commands_of image)) ≡ symbol_count image (commands_of image)
-  all_symbols = counted (first_of_kind image loader.LC_SYMTAB (commands_of image)) refl ∙ sym (symbols_counted image (commands_of image))
+  all_symbols = counted (first_with_cmd image loader.LC_SYMTAB (commands_of image)) refl ∙ sym (symbols_counted image (commands_of image))
 
   no_bad_entry : (place : ℕ) → ¬ BreaksCommands image (commands_of image) rule.IndirectIndex place
   no_bad_entry place broken =
       keeps.unbroken rule.IndirectIndex place (inr (commands_of image, opened_commands image (keeps_opened image rule.IndirectIndex (lit< tt) below), broken))
 
-  named : (first : Option ℕ) → first_of_kind image loader.LC_DYSYMTAB (commands_of image) ≡ first → (place : ℕ)
+  named : (first : Option ℕ) → first_with_cmd image loader.LC_DYSYMTAB (commands_of image) ≡ first → (place : ℕ)
       → Contains (option_map_or (λ d. items_inside image (indirectsymoff image d) 4 (nindirectsyms image d)) first []) place
       → IsSymbolIndex (word image place) → word image place < symbol_count image (commands_of image)
   named None is place (k, less, at) index = absurd (omega arith)
@@ -79,7 +79,7 @@ module _ (image : List ℕ) (keeps : IsUnbrokenImage image) where
       elim (cases_lt (word image place) (symbol_count image (commands_of image))) [
         | inl less ↦ less
         | inr past ↦
-            let (j, few, at) = is_of_kind image loader.LC_DYSYMTAB d is in
+            let (j, few, at) = is_with_cmd image loader.LC_DYSYMTAB d is in
             let (k, fewer, here) = in_items image (indirectsymoff image d) 4 (nindirectsyms image d) place has in
             absurd (no_bad_entry place (j, d, few, at, (k, fewer, here, (index, past))))
       ]
@@ -87,7 +87,7 @@ module _ (image : List ℕ) (keeps : IsUnbrokenImage image) where
   entry_named : (place : ℕ) → Contains (indirects_of image (commands_of image)) place → IsSymbolIndex (word image place)
       → word image place < length (symbols_of image (commands_of image))
   entry_named place has index =
-      subst (λ n. word image place < n) (sym all_symbols) (named (first_of_kind image loader.LC_DYSYMTAB (commands_of image)) refl place has index)
+      subst (λ n. word image place < n) (sym all_symbols) (named (first_with_cmd image loader.LC_DYSYMTAB (commands_of image)) refl place has index)
 
 pub symbols_are_counted : (image : List ℕ) → IsAccepted image → length (symbols_of image (commands_of image)) ≡ symbol_count image (commands_of image)
 unfolding IsAccepted
@@ -95,19 +95,19 @@ symbols_are_counted image keeps = all_symbols image keeps
 
 -- so all symbols come
 pub symbols_whole : (image : List ℕ) → IsAccepted image → (result : List SymbolView) → result ≡ map (symbol_view image) (symbols_of image (commands_of image))
-    → IfSome (first_of_kind image loader.LC_SYMTAB (commands_of image)) (λ t. length result ≡ nsyms image t)
+    → IfSome (first_with_cmd image loader.LC_SYMTAB (commands_of image)) (λ t. length result ≡ nsyms image t)
 unfolding IsAccepted
 symbols_whole image keeps result are =
-    views_counted (λ t. items_inside image (symoff image t) 16 (nsyms image t)) (nsyms image) (symbol_view image) result (first_of_kind image loader.LC_SYMTAB (commands_of image)) are
+    views_counted (λ t. items_inside image (symoff image t) 16 (nsyms image t)) (nsyms image) (symbol_view image) result (first_with_cmd image loader.LC_SYMTAB (commands_of image)) are
     (table_counted image keeps)
 
 -- and all indirect entries
 pub indirects_whole : (image : List ℕ) → IsAccepted image → (result : List IndirectView) → result ≡ map (indirect_view image) (indirects_of image (commands_of image))
-    → IfSome (first_of_kind image loader.LC_DYSYMTAB (commands_of image)) (λ d. length result ≡ nindirectsyms image d)
+    → IfSome (first_with_cmd image loader.LC_DYSYMTAB (commands_of image)) (λ d. length result ≡ nindirectsyms image d)
 unfolding IsAccepted
 indirects_whole image keeps result are =
     views_counted (λ d. items_inside image (indirectsymoff image d) 4 (nindirectsyms image d)) (nindirectsyms image) (indirect_view image) result
-    (first_of_kind image loader.LC_DYSYMTAB (commands_of image)) are (entries_counted image keeps)
+    (first_with_cmd image loader.LC_DYSYMTAB (commands_of image)) are (entries_counted image keeps)
 
 pub indirects_hold : (image : List ℕ) → IsAccepted image → All (IsVerifiedIndirect image) (map (indirect_at image) (indirects_of image (commands_of image)))
 unfolding IsAccepted IsVerifiedIndirect

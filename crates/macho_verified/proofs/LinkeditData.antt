@@ -1,7 +1,7 @@
 -- The data that a linkedit_data_command of an accepted image names.
 use Rattle.std.proofs.Common.{◌≡◌, ℕ, ◌+◌, ◌*◌, ◌≤◌, ◌<◌, List, [], length, Any, Contains, Some, refl, sym, ap, ◌∙◌, subst, arith, lit<, inl}
 use Rattle.macho_fields.specs.Field.{Covers, part}
-use Rattle.macho_fields.specs.Image.{command_kind, commands_of}
+use Rattle.macho_fields.specs.Image.{command_cmd, commands_of}
 use Rattle.macho_fields.specs.Command.{HasStructure, least_size}
 use Rattle.macho_fields.specs.LoadCommands.{structure_of, linkedit_data_table}
 use Rattle.macho_fields.specs.Loader.{IsSoundImage}
@@ -9,9 +9,9 @@ use Rattle.macho_fields.specs.Loader.Reads.{in_structure, in_table}
 use Rattle.macho_fields.specs.Symbol.{table_at, tables_of}
 use Rattle.macho_fields.specs.declared.load_command.Structure.TheVariants.{LinkeditDataCommand}
 use Rattle.macho_fields.proofs.LoadCommands.{has_structure, table_listed, linkedit_data_listed}
-use Rattle.macho_fields.proofs.Parts.{of_kind_is, of_kind_among}
-use Rattle.macho_image.specs.Command.{first_of_kind}
-use Rattle.macho_rules.proofs.OneCommand.{is_of_kind}
+use Rattle.macho_fields.proofs.Parts.{with_cmd_is, with_cmd_among}
+use Rattle.macho_image.specs.Command.{first_with_cmd}
+use Rattle.macho_rules.proofs.OneCommand.{is_with_cmd}
 use Rattle.macho_rules.proofs.Searches.{any_of}
 use Rattle.macho_verified.specs.Image.{dataoff, datasize}
 use Rattle.macho_verified.specs.Scaffold.{IsAccepted, HasData}
@@ -19,12 +19,12 @@ use Rattle.macho_verified.proofs.Accepted.{accepted_sound, range_inside}
 
 -- The first command of a kind whose structure is linkedit_data_command
 module _ (image : List ℕ) (keeps : IsAccepted image) (cmd : ℕ) (listed : structure_of cmd ≡ Some LinkeditDataCommand) (command : ℕ)
-    (first : first_of_kind image cmd (commands_of image) ≡ Some command) where
+    (first : first_with_cmd image cmd (commands_of image) ≡ Some command) where
   among : Contains (commands_of image) command
-  among = of_kind_among image (commands_of image) cmd command (is_of_kind image cmd command first)
+  among = with_cmd_among image (commands_of image) cmd command (is_with_cmd image cmd command first)
 
-  structure : structure_of (command_kind image command) ≡ Some LinkeditDataCommand
-  structure = ap structure_of (of_kind_is image (commands_of image) cmd command (is_of_kind image cmd command first)) ∙ listed
+  structure : structure_of (command_cmd image command) ≡ Some LinkeditDataCommand
+  structure = ap structure_of (with_cmd_is image (commands_of image) cmd command (is_with_cmd image cmd command first)) ∙ listed
 
   sound : IsSoundImage image (commands_of image)
   sound = accepted_sound image keeps

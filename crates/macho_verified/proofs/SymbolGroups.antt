@@ -7,11 +7,11 @@ use Rattle.macho_fields.specs.Image.{commands_of}
 use Rattle.macho_fields.specs.Symbol.{symbol_count, groups_of, PassesSymbols}
 use Rattle.macho_fields.specs.declared.header.loader.TheConstants as loader
 use Rattle.macho_fields.specs.declared.rule.Rule.TheVariants as rule
-use Rattle.macho_image.specs.Command.{first_of_kind}
+use Rattle.macho_image.specs.Command.{first_with_cmd}
 use Rattle.macho_image.specs.Symbol.{symbols_of, dysymtab_at}
 use Rattle.macho_image.specs.declared.dysymtab.Dysymtab.{Dysymtab}
 use Rattle.macho_rules.proofs.Judged.{opened_commands}
-use Rattle.macho_rules.proofs.OneCommand.{is_of_kind, no_first, first_at}
+use Rattle.macho_rules.proofs.OneCommand.{is_with_cmd, no_first, first_at}
 use Rattle.macho_rules.proofs.Searches.{any_of}
 use Rattle.macho_rules.proofs.Verdicts.{unbroken_opened}
 use Rattle.macho_verified.specs.Image.{SymbolView, symbol_view, symbol_group}
@@ -21,7 +21,7 @@ use Rattle.macho_verified.proofs.Counted.{symbols_are_counted}
 
 module _ (image : List ℕ) (keeps : IsAccepted image) where
   -- each group is whole
-  pub group_counted : (d first count : ℕ) → first_of_kind image loader.LC_DYSYMTAB (commands_of image) ≡ Some d → Contains (groups_of image d) (first, count)
+  pub group_counted : (d first count : ℕ) → first_with_cmd image loader.LC_DYSYMTAB (commands_of image) ≡ Some d → Contains (groups_of image d) (first, count)
       → length (take count (drop first (symbols_of image (commands_of image)))) ≡ count
   group_counted d first zero is has = refl
   group_counted d first (suc n) is has = elim (cases_lt (symbol_count image (commands_of image)) (first + suc n)) [
@@ -29,7 +29,7 @@ module _ (image : List ℕ) (keeps : IsAccepted image) where
       commands_of image,
       opened_commands image (unbroken_opened image (accepted_unbroken image keeps)),
       (
-        is_of_kind image loader.LC_DYSYMTAB d is,
+        is_with_cmd image loader.LC_DYSYMTAB d is,
         any_of (PassesSymbols (symbol_count image (commands_of image))) (groups_of image d) (first, suc n) has (omega arith, past),
       ),
     )))
@@ -40,7 +40,7 @@ module _ (image : List ℕ) (keeps : IsAccepted image) where
 
 -- what was read of the LC_DYSYMTAB of an image
 abbrev pub IsRead : List ℕ → Option Dysymtab → Type 0
-IsRead image read = read ≡ option_map (dysymtab_at image) (first_of_kind image loader.LC_DYSYMTAB (commands_of image))
+IsRead image read = read ≡ option_map (dysymtab_at image) (first_with_cmd image loader.LC_DYSYMTAB (commands_of image))
 
 -- The group by two fields of it
 module _ (inside image : List ℕ) (same : inside ≡ image) (first count : List ℕ → ℕ → ℕ) (result : List SymbolView) where
@@ -53,19 +53,19 @@ module _ (inside image : List ℕ) (same : inside ≡ image) (first count : List
 
   -- there is none
   module _ (read : IsRead inside None) where
-    none : first_of_kind image loader.LC_DYSYMTAB (commands_of image) ≡ None
+    none : first_with_cmd image loader.LC_DYSYMTAB (commands_of image) ≡ None
     none = no_first (dysymtab_at image) _ (subst (λ (i : List ℕ). IsRead i None) same read)
 
     pub no_group : result ≡ [] → result ≡ map (symbol_view image) (symbol_group first count image)
     no_group is = subst IsGroup (sym none) is
 
-    pub none_whole : IfSome (first_of_kind image loader.LC_DYSYMTAB (commands_of image)) (λ p. length result ≡ count image p)
+    pub none_whole : IfSome (first_with_cmd image loader.LC_DYSYMTAB (commands_of image)) (λ p. length result ≡ count image p)
     none_whole = subst IsWhole (sym none) tt
 
   -- there is one, with these two fields
   module _ (d : Dysymtab) (read : IsRead inside (Some d)) (a n : Dysymtab → ℕ) (starts : (p : ℕ) → a (dysymtab_at image p) ≡ first image p) (many : (p : ℕ) → n (dysymtab_at image p) ≡ count image p)
       (is : result ≡ map (symbol_view image) (take (n d) (drop (a d) (symbols_of image (commands_of image))))) where
-    found : (p : ℕ) × (first_of_kind image loader.LC_DYSYMTAB (commands_of image) ≡ Some p) × (d ≡ dysymtab_at image p)
+    found : (p : ℕ) × (first_with_cmd image loader.LC_DYSYMTAB (commands_of image) ≡ Some p) × (d ≡ dysymtab_at image p)
     found = first_at (dysymtab_at image) _ d (subst (λ (i : List ℕ). IsRead i (Some d)) same read)
 
     named : (p : ℕ) → d ≡ dysymtab_at image p → IsGroup (Some p)
@@ -78,7 +78,7 @@ module _ (inside image : List ℕ) (same : inside ≡ image) (first count : List
     group_read = let (p, some, at) = found in subst IsGroup (sym some) (named p at)
 
     pub group_whole : IsAccepted inside → ((p : ℕ) → Contains (groups_of image p) (first image p, count image p))
-        → IfSome (first_of_kind image loader.LC_DYSYMTAB (commands_of image)) (λ p. length result ≡ count image p)
+        → IfSome (first_with_cmd image loader.LC_DYSYMTAB (commands_of image)) (λ p. length result ≡ count image p)
     group_whole keeps has =
         let (p, some, at) = found in
         subst IsWhole (sym some)

@@ -8,7 +8,7 @@ use Rattle.macho_fields.specs.LoadCommands.{linkedit_data_table}
 use Rattle.macho_fields.specs.Segment.{vmaddr, vmsize, fileoff, filesize}
 use Rattle.macho_fields.specs.Symbol.{table_place, item_count}
 use Rattle.macho_fields.specs.declared.header.loader.TheConstants as loader
-use Rattle.macho_image.specs.Command.{first_of_kind}
+use Rattle.macho_image.specs.Command.{first_with_cmd}
 use Rattle.macho_image.specs.Symbol.{symbols_of}
 
 -- a symbol of an image, by its place
@@ -26,7 +26,7 @@ abbrev pub symbol_group : (List ℕ → ℕ → ℕ) → (List ℕ → ℕ → �
 symbol_group first count image =
     option_map_or (λ dysymtab.
     take (count image dysymtab) (drop (first image dysymtab) (symbols_of image (commands_of image))))
-    (first_of_kind image loader.LC_DYSYMTAB (commands_of image)) []
+    (first_with_cmd image loader.LC_DYSYMTAB (commands_of image)) []
 
 -- an indirect entry of an image, by its place
 pub record IndirectView : Type 0 where

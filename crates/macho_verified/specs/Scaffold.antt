@@ -10,7 +10,7 @@ use Rattle.macho_fields.specs.Segment.{segments_of, sections_in}
 use Rattle.macho_fields.specs.Symbol.{stroff, strsize, IsSymbolIndex}
 use Rattle.macho_fields.specs.declared.header.loader.TheConstants as loader
 use Rattle.macho_fields.specs.declared.span.Span.{Span}
-use Rattle.macho_image.specs.Command.{first_of_kind}
+use Rattle.macho_image.specs.Command.{first_with_cmd}
 use Rattle.macho_image.specs.Segment.{SegmentView, SectionView}
 use Rattle.macho_image.specs.Symbol.{symbol_at, symbols_of, indirect_at}
 use Rattle.macho_image.specs.declared.indirect.Indirect.{Indirect}
@@ -43,7 +43,7 @@ abbrev pub strings : List ℕ → Span
 strings image =
     option_map_or
     (λ symtab. record { start = stroff image symtab; len = strsize image symtab })
-    (first_of_kind image loader.LC_SYMTAB (commands_of image)) (record { start = 0; len = 0 })
+    (first_with_cmd image loader.LC_SYMTAB (commands_of image)) (record { start = 0; len = 0 })
 
 -- a symbol of such an image, with the strings that its name is among, where it has one
 unfoldable pub IsVerifiedSymbol : List ℕ → Span → Symbol → Type 0

@@ -9,7 +9,7 @@ impl<'a> VerifiedImage<'a> {
     ghost use Rattle.macho_fields.specs.Image.{commands_of};
     ghost use Rattle.macho_fields.specs.Symbol.{ilocalsym, nlocalsym, iextdefsym, nextdefsym};
     ghost use Rattle.macho_fields.specs.Symbol.{iundefsym, nundefsym};
-    ghost use Rattle.macho_image.specs.Command.{first_of_kind};
+    ghost use Rattle.macho_image.specs.Command.{first_with_cmd};
     ghost use Rattle.macho_image.specs.Symbol.{symbols_of};
     ghost use Rattle.macho_verified.specs.Image.{symbol_view, symbol_group};
 
@@ -18,7 +18,7 @@ impl<'a> VerifiedImage<'a> {
     pub fn local_symbols(&self) -> VerifiedSymbols<'a>
         ensures symbols { result
             ≡ map (symbol_view self.now) (symbol_group ilocalsym nlocalsym self.now) }
-        ensures whole { IfSome (first_of_kind self.now LC_DYSYMTAB (commands_of self.now))
+        ensures whole { IfSome (first_with_cmd self.now LC_DYSYMTAB (commands_of self.now))
             (λ dysymtab. length result ≡ nlocalsym self.now dysymtab) }
     {
         match self.image.dysymtab() {
@@ -32,7 +32,7 @@ impl<'a> VerifiedImage<'a> {
     pub fn defined_symbols(&self) -> VerifiedSymbols<'a>
         ensures symbols { result
             ≡ map (symbol_view self.now) (symbol_group iextdefsym nextdefsym self.now) }
-        ensures whole { IfSome (first_of_kind self.now LC_DYSYMTAB (commands_of self.now))
+        ensures whole { IfSome (first_with_cmd self.now LC_DYSYMTAB (commands_of self.now))
             (λ dysymtab. length result ≡ nextdefsym self.now dysymtab) }
     {
         match self.image.dysymtab() {
@@ -46,7 +46,7 @@ impl<'a> VerifiedImage<'a> {
     pub fn undefined_symbols(&self) -> VerifiedSymbols<'a>
         ensures symbols { result
             ≡ map (symbol_view self.now) (symbol_group iundefsym nundefsym self.now) }
-        ensures whole { IfSome (first_of_kind self.now LC_DYSYMTAB (commands_of self.now))
+        ensures whole { IfSome (first_with_cmd self.now LC_DYSYMTAB (commands_of self.now))
             (λ dysymtab. length result ≡ nundefsym self.now dysymtab) }
     {
         match self.image.dysymtab() {

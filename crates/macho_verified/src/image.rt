@@ -34,7 +34,7 @@ impl<'a> VerifiedImage<'a> {
     ghost use Rattle.macho_fields.specs.Segment.{segments_of};
     ghost use Rattle.macho_fields.specs.Symbol.{nsyms};
     ghost use Rattle.macho_fields.specs.Universal.{slices_of, slice_bytes, HasImage};
-    ghost use Rattle.macho_image.specs.Command.{first_of_kind};
+    ghost use Rattle.macho_image.specs.Command.{first_with_cmd};
     ghost use Rattle.macho_image.specs.Segment.{segment_at, section_at, sections_of};
     ghost use Rattle.macho_image.specs.Symbol.{symbols_of};
     ghost use Rattle.macho_verified.specs.Image.{symbol_view, HasBytesAt, bytes_from};
@@ -111,7 +111,7 @@ impl<'a> VerifiedImage<'a> {
     pub fn symbols(&self) -> VerifiedSymbols<'a>
         ensures symbols { result ≡ map (symbol_view self.now)
             (symbols_of self.now (commands_of self.now)) }
-        ensures whole { IfSome (first_of_kind self.now LC_SYMTAB (commands_of self.now))
+        ensures whole { IfSome (first_with_cmd self.now LC_SYMTAB (commands_of self.now))
             (λ symtab. length result ≡ nsyms self.now symtab) }
     {
         let symbols = self.image.symbols();

@@ -96,7 +96,7 @@ impl<'a> VerifiedImage<'a> {
     ghost use Rattle.std.specs.Prelude.{◌≡◌, map, length, IfSome};
     ghost use Rattle.macho_fields.specs.Image.{commands_of};
     ghost use Rattle.macho_fields.specs.Symbol.{nindirectsyms};
-    ghost use Rattle.macho_image.specs.Command.{first_of_kind};
+    ghost use Rattle.macho_image.specs.Command.{first_with_cmd};
     ghost use Rattle.macho_image.specs.Symbol.{indirects_of};
     ghost use Rattle.macho_verified.specs.Image.{indirect_view};
 
@@ -105,7 +105,7 @@ impl<'a> VerifiedImage<'a> {
     pub fn indirects<'i>(&'i self) -> VerifiedIndirects<'i, 'a>
         ensures indirects { result ≡ map (indirect_view self.now)
             (indirects_of self.now (commands_of self.now)) }
-        ensures whole { IfSome (first_of_kind self.now LC_DYSYMTAB (commands_of self.now))
+        ensures whole { IfSome (first_with_cmd self.now LC_DYSYMTAB (commands_of self.now))
             (λ dysymtab. length result ≡ nindirectsyms self.now dysymtab) }
     {
         let entries = self.image.indirects();

@@ -6,7 +6,7 @@ ghost use Rattle.macho_fields.specs.Field.{part};
 ghost use Rattle.macho_fields.specs.Image.{commands_of};
 ghost use Rattle.macho_fields.specs.LoadCommands.{structure_of, structure_size};
 ghost use Rattle.macho_fields.specs.declared.load_command.Structure.TheVariants.{LinkeditDataCommand};
-ghost use Rattle.macho_image.specs.Command.{first_of_kind};
+ghost use Rattle.macho_image.specs.Command.{first_with_cmd};
 ghost use Rattle.macho_verified.specs.Image.{dataoff, datasize};
 ghost use Rattle.macho_verified.specs.Scaffold.{HasData};
 
@@ -22,12 +22,12 @@ impl<'a> VerifiedImage<'a> {
     /// that, and a loader may take another than the first.
     pub fn linkedit_data(&self, cmd: u32) -> Option<&'a [u8]>
         ensures held { IsSome result ↔ ((structure_of cmd ≡ Some Structure.LinkeditDataCommand)
-            × IsSome (first_of_kind self.now cmd (commands_of self.now))) }
+            × IsSome (first_with_cmd self.now cmd (commands_of self.now))) }
         ensures bytes { IfSome result (λ bytes.
-            IsSomeAnd (first_of_kind self.now cmd (commands_of self.now)) (λ command.
+            IsSomeAnd (first_with_cmd self.now cmd (commands_of self.now)) (λ command.
             bytes.now ≡ part (dataoff self.now command) (datasize self.now command) self.now)) }
         ensures whole { IfSome result (λ bytes.
-            IsSomeAnd (first_of_kind self.now cmd (commands_of self.now)) (λ command.
+            IsSomeAnd (first_with_cmd self.now cmd (commands_of self.now)) (λ command.
             length bytes.now ≡ datasize self.now command)) }
     {
         if !names_linkedit_data(cmd) {

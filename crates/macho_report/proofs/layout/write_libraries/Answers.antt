@@ -1,7 +1,7 @@
 use Rattle.std.proofs.Common.{◌∙◌, refl, ◌==◌}
 use Rattle.macho_report.proofs.StreamLemmas.{writes_fault}
 use Rattle.macho_report.proofs.Loops.{items_begin_unmarked, item_wrote, item_failed, items_end}
-use Rattle.macho_fields.specs.Image.{command_kind}
+use Rattle.macho_fields.specs.Image.{command_cmd}
 use Rattle.macho_fields.specs.declared.header.loader.TheConstants as loader
 use Rattle.macho_image.specs.Library.{dylib_at}
 use Rattle.macho_report.specs.Layout.{library_text}
@@ -11,7 +11,7 @@ use Rattle.macho_report.proofs.layout.write_libraries.Goals as goal
 pub loop-library-init : goal.loop-library-init
 loop-library-init g c =
     let are = c.into_iter-library-iterator.ensures.into_iter_gives ∙ c.dylibs-library-items.ensures in record {
-      writing = items_begin_unmarked linked_text (dylib_at c.args.image.now) (λ p. command_kind c.args.image.now p == loader.LC_ID_DYLIB) (library_text c.args.image.now) _ _ _ are (λ p. refl);
+      writing = items_begin_unmarked linked_text (dylib_at c.args.image.now) (λ p. command_cmd c.args.image.now p == loader.LC_ID_DYLIB) (library_text c.args.image.now) _ _ _ are (λ p. refl);
       same = refl;
     }
 

@@ -5,7 +5,7 @@ use Rattle.macho_fields.specs.declared.rule.Rule.TheVariants as rule
 use Rattle.macho_image.specs.Symbol.{symtab_at}
 use Rattle.macho_rules.proofs.Judged.{judged_found, judged_ended, judged_kept}
 use Rattle.macho_rules.proofs.Names.{endless_name}
-use Rattle.macho_rules.proofs.OneCommand.{no_first, none_of_kind}
+use Rattle.macho_rules.proofs.OneCommand.{no_first, none_with_cmd}
 use Rattle.macho_rules.proofs.Searches.{search_next, one_of}
 use Rattle.macho_rules.proofs.SymbolItems.{symbols_search, symbol_left, names_break, symtab_first}
 use Rattle.macho_rules.proofs.symbols.symbol_name.Goals as goal
@@ -15,7 +15,7 @@ returns-in_default c =
     let image = c.args.image.now in
     judged_kept image rule.SymbolName (lit≤ tt) c.requires
     (λ p broken.
-    let (symtab, has, rest) = one_of _ _ broken in none_of_kind image loader.LC_SYMTAB (no_first (symtab_at image) _ (sym c.in_default.is ∙ c.symtab.ensures)) symtab has)
+    let (symtab, has, rest) = one_of _ _ broken in none_with_cmd image loader.LC_SYMTAB (no_first (symtab_at image) _ (sym c.in_default.is ∙ c.symtab.ensures)) symtab has)
 
 pub loop-symbol-init : goal.loop-symbol-init
 loop-symbol-init c = (tt, tt, symbols_search c.args.image.now _ (c.into_iter-symbol-iterator.ensures.into_iter_gives ∙ c.symbols-symbol-items.ensures) _)

@@ -1,6 +1,6 @@
 use Rattle.std.proofs.Common.{◌≡◌, List, ℕ, Contains, sym, subst, ◌∙◌, lit≤}
 use Rattle.std.proofs.lemmas.Bool.{both_ways}
-use Rattle.macho_fields.specs.Image.{command_kind, commands_of}
+use Rattle.macho_fields.specs.Image.{command_cmd, commands_of}
 use Rattle.macho_fields.specs.declared.rule.Rule.TheVariants as rule
 use Rattle.macho_image.specs.Command.{command_of}
 use Rattle.macho_image.specs.Opened.{IsOpened}
@@ -25,7 +25,7 @@ has_table_outside-requires c =
     record {
       opened = subst IsOpened same c.bytes-bytes.ensures.opened;
       listed = subst (λ (bytes : List ℕ). Contains (commands_of bytes) c.in-Some.command.place) same listed;
-      cmd = subst (λ (bytes : List ℕ). c.in-Some.command.cmd ≡ command_kind bytes c.in-Some.command.place) same cmd;
+      cmd = subst (λ (bytes : List ℕ). c.in-Some.command.cmd ≡ command_cmd bytes c.in-Some.command.place) same cmd;
     }
 
 pub returns-then-has_table_outside : goal.returns-then-has_table_outside

@@ -1,6 +1,6 @@
 use Rattle.std.proofs.Common.{◌+◌, ◌≤◌, length}
 use Rattle.macho_fields.specs.Bytes.{bytes_of}
-use Rattle.macho_image.proofs.OfOneKind.{first_has, rest_has}
+use Rattle.macho_image.proofs.WithOneCmd.{first_has, rest_has}
 use Rattle.macho_image.proofs.build.BuildsIterator.next.Goals as goal
 
 pub build_from-requires : goal.build_from-requires

@@ -4,7 +4,7 @@ use Rattle.macho_fields.specs.Segment.{segments_of}
 use Rattle.macho_image.specs.Segment.{segment_at}
 use Rattle.macho_image.specs.Scaffold.{segments_left, HoldSegments}
 use Rattle.macho_image.proofs.HeldSegments.{all_segments_hold}
-use Rattle.macho_image.proofs.OfOneKind.{map-places}
+use Rattle.macho_image.proofs.WithOneCmd.{map-places}
 use Rattle.macho_image.proofs.image.Image.segments.Goals as goal
 
 pub invariant_of-result : goal.invariant_of-result

@@ -1,5 +1,5 @@
 use Rattle.std.proofs.Common.{ap, set, sym, ◌∙◌}
-use Rattle.macho_image.proofs.FirstOfKind.{note_place, note_other}
+use Rattle.macho_image.proofs.FirstWithCmd.{note_place, note_other}
 use Rattle.macho_image.proofs.unique.UniquePlaces.note.Goals as goal
 
 pub returns-in-Some : goal.returns-in-Some

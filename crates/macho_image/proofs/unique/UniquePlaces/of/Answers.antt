@@ -1,5 +1,5 @@
 use Rattle.std.proofs.Common.{sym, ◌∙◌}
-use Rattle.macho_image.proofs.FirstOfKind.{index_is_unique, no_index_is_unique, place_at}
+use Rattle.macho_image.proofs.FirstWithCmd.{index_is_unique, no_index_is_unique, place_at}
 use Rattle.macho_image.proofs.unique.UniquePlaces.of.Goals as goal
 
 pub returns-in_err-index-clause-unique : goal.returns-in_err-index-clause-unique

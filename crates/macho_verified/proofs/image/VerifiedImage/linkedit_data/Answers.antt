@@ -1,7 +1,7 @@
 use Rattle.std.proofs.Common.{◌≡◌, ◌+◌, ◌≤◌, List, ℕ, length, IsSome, IsSomeAnd, refl, sym, subst}
 use Rattle.macho_fields.specs.Field.{part}
 use Rattle.macho_fields.specs.Image.{commands_of}
-use Rattle.macho_image.specs.Command.{command_of, first_of_kind}
+use Rattle.macho_image.specs.Command.{command_of, first_with_cmd}
 use Rattle.macho_image.proofs.Kept.{first_place}
 use Rattle.macho_verified.specs.Image.{dataoff, datasize}
 use Rattle.macho_verified.specs.Scaffold.{HasData}
@@ -25,15 +25,15 @@ data_at-requires-clause-data c =
 pub returns-clause-held : goal.returns-clause-held
 returns-clause-held c =
     let first = first_place c.self.inside.image _ (command_of c.in_ok-command.command) c.in_ok-command.ensures in
-    let some : IsSome (first_of_kind c.self.inside.image c.args.cmd (commands_of c.self.inside.image)) = subst IsSome (sym first) refl in
-    (λ given. (c.names_linkedit_data.ensures.0 c.if-not-names_linkedit_data.false, subst (λ (i : List ℕ). IsSome (first_of_kind i c.args.cmd (commands_of i))) c.self.view_is some), λ held. refl)
+    let some : IsSome (first_with_cmd c.self.inside.image c.args.cmd (commands_of c.self.inside.image)) = subst IsSome (sym first) refl in
+    (λ given. (c.names_linkedit_data.ensures.0 c.if-not-names_linkedit_data.false, subst (λ (i : List ℕ). IsSome (first_with_cmd i c.args.cmd (commands_of i))) c.self.view_is some), λ held. refl)
 
 pub returns-clause-bytes : goal.returns-clause-bytes
 returns-clause-bytes c =
     let named = c.data_at.result.now in
     let command = c.in_ok-command.command.place in
     let first = first_place c.self.inside.image _ (command_of c.in_ok-command.command) c.in_ok-command.ensures in
-    subst (λ (i : List ℕ). IsSomeAnd (first_of_kind i c.args.cmd (commands_of i)) (λ p. named ≡ part (dataoff i p) (datasize i p) i)) c.self.view_is
+    subst (λ (i : List ℕ). IsSomeAnd (first_with_cmd i c.args.cmd (commands_of i)) (λ p. named ≡ part (dataoff i p) (datasize i p) i)) c.self.view_is
     (subst (λ o. IsSomeAnd o (λ p. named ≡ part (dataoff c.self.inside.image p) (datasize c.self.inside.image p) c.self.inside.image)) (sym first)
     (subst (λ (bytes : List ℕ). named ≡ part (dataoff bytes command) (datasize bytes command) bytes) c.bytes.ensures.bytes c.data_at.ensures.bytes))
 
@@ -42,6 +42,6 @@ returns-clause-whole c =
     let named = c.data_at.result.now in
     let command = c.in_ok-command.command.place in
     let first = first_place c.self.inside.image _ (command_of c.in_ok-command.command) c.in_ok-command.ensures in
-    subst (λ (i : List ℕ). IsSomeAnd (first_of_kind i c.args.cmd (commands_of i)) (λ p. length named ≡ datasize i p)) c.self.view_is
+    subst (λ (i : List ℕ). IsSomeAnd (first_with_cmd i c.args.cmd (commands_of i)) (λ p. length named ≡ datasize i p)) c.self.view_is
     (subst (λ o. IsSomeAnd o (λ p. length named ≡ datasize c.self.inside.image p)) (sym first)
     (subst (λ (bytes : List ℕ). length named ≡ datasize bytes command) c.bytes.ensures.bytes c.data_at.ensures.whole))

@@ -9,52 +9,52 @@ use Rattle.std.proofs.lemmas.Bool.{cases_Bool, cases_lt, lt-ltb, false≢true, a
 use Rattle.std.proofs.lemmas.List.{get_or-map, get_or_default}
 use Rattle.std.proofs.lemmas.List.Folds.{Any-from_list_any, list_any-from_Any}
 use Rattle.std.proofs.lemmas.List.Sums.{fails_before_first}
-use Rattle.macho_fields.specs.Image.{command_kind}
-use Rattle.macho_fields.specs.LoadCommands.{unique_commands, unique_kinds, unique_index, IsUnique}
+use Rattle.macho_fields.specs.Image.{command_cmd}
+use Rattle.macho_fields.specs.LoadCommands.{unique_commands, unique_cmds, unique_index, IsUnique}
 use Rattle.macho_fields.specs.declared.load_command.LoadCommand.{LoadCommand}
 use Rattle.macho_fields.specs.declared.load_command.Structure.TheVariants.{SymtabCommand}
 use Rattle.macho_fields.proofs.Lists.{none_by_test, none_in_nil, contains_first, contains_later}
-use Rattle.macho_image.specs.Command.{first_of_kind}
+use Rattle.macho_image.specs.Command.{first_with_cmd}
 
-first_by : (image : List ℕ) (kind x : ℕ) (xs : List ℕ) → first_of_kind image kind (x ∷ xs) ≡ cond (command_kind image x == kind) (Some x) (first_of_kind image kind xs)
-first_by image kind x xs = elim (cases_Bool (command_kind image x == kind)) [ inl of_it ↦ rw of_it refl | inr other ↦ rw other refl ]
+first_by : (image : List ℕ) (kind x : ℕ) (xs : List ℕ) → first_with_cmd image kind (x ∷ xs) ≡ cond (command_cmd image x == kind) (Some x) (first_with_cmd image kind xs)
+first_by image kind x xs = elim (cases_Bool (command_cmd image x == kind)) [ inl of_it ↦ rw of_it refl | inr other ↦ rw other refl ]
 
 -- with one command more
-pub first_more : (image : List ℕ) (kind p : ℕ) (xs : List ℕ) → first_of_kind image kind (xs ++ p ∷ []) ≡ option_or (first_of_kind image kind xs) (cond (command_kind image p == kind) (Some p) None)
+pub first_more : (image : List ℕ) (kind p : ℕ) (xs : List ℕ) → first_with_cmd image kind (xs ++ p ∷ []) ≡ option_or (first_with_cmd image kind xs) (cond (command_cmd image p == kind) (Some p) None)
 first_more image kind p [] = first_by image kind p []
-first_more image kind p (x ∷ xs) = elim (cases_Bool (command_kind image x == kind)) [
+first_more image kind p (x ∷ xs) = elim (cases_Bool (command_cmd image x == kind)) [
   | inl of_it ↦ rw of_it refl
   | inr other ↦ rw other (first_more image kind p xs)
 ]
 
 -- a command of another kind changes nothing
-first_other : (image : List ℕ) (kind p : ℕ) (xs : List ℕ) → ¬ (command_kind image p ≡ kind) → first_of_kind image kind (xs ++ p ∷ []) ≡ first_of_kind image kind xs
+first_other : (image : List ℕ) (kind p : ℕ) (xs : List ℕ) → ¬ (command_cmd image p ≡ kind) → first_with_cmd image kind (xs ++ p ∷ []) ≡ first_with_cmd image kind xs
 first_other image kind p xs other =
-    first_more image kind p xs ∙ (ap (λ b. option_or (first_of_kind image kind xs) (cond b (Some p) None)) (ne_eqb (command_kind image p) kind other) ∙ kept (first_of_kind image kind xs))
+    first_more image kind p xs ∙ (ap (λ b. option_or (first_with_cmd image kind xs) (cond b (Some p) None)) (ne_eqb (command_cmd image p) kind other) ∙ kept (first_with_cmd image kind xs))
   where
     kept : (o : Option ℕ) → option_or o None ≡ o
     kept None = refl
     kept (Some x) = refl
 
 -- the first of a kind is of the kind, and one of them
-pub first_is : (image : List ℕ) (kind p : ℕ) (xs : List ℕ) → first_of_kind image kind xs ≡ Some p → Contains xs p × (command_kind image p ≡ kind)
+pub first_is : (image : List ℕ) (kind p : ℕ) (xs : List ℕ) → first_with_cmd image kind xs ≡ Some p → Contains xs p × (command_cmd image p ≡ kind)
 first_is image kind p [] is = absurd (cc)
-first_is image kind p (x ∷ xs) is = elim (cases_Bool (command_kind image x == kind)) [
+first_is image kind p (x ∷ xs) is = elim (cases_Bool (command_cmd image x == kind)) [
   | inl of_it ↦
       let same : Some x ≡ Some p = rw of_it at is in
       let e : x ≡ p = cc in
-      (subst (λ q. Contains (x ∷ xs) q) e (contains_first x xs), subst (λ q. command_kind image q ≡ kind) e (eqb-true (command_kind image x) kind of_it))
+      (subst (λ q. Contains (x ∷ xs) q) e (contains_first x xs), subst (λ q. command_cmd image q ≡ kind) e (eqb-true (command_cmd image x) kind of_it))
   | inr other ↦
       let rest = first_is image kind p xs (rw other at is) in
       (contains_later x p xs rest.0, rest.1)
 ]
 
 -- where there is no first, there is none
-pub first_none : (image : List ℕ) (kind p : ℕ) (xs : List ℕ) → first_of_kind image kind xs ≡ None → Contains xs p → ¬ (command_kind image p ≡ kind)
+pub first_none : (image : List ℕ) (kind p : ℕ) (xs : List ℕ) → first_with_cmd image kind xs ≡ None → Contains xs p → ¬ (command_cmd image p ≡ kind)
 first_none image kind p [] is has same = absurd (none_in_nil p has)
 first_none image kind p (x ∷ xs) is (zero, less, at) same =
-    absurd (let found = rw (eq-eqb (command_kind image x) kind (ap (command_kind image) at ∙ same)) at is in cc)
-first_none image kind p (x ∷ xs) is (suc k, less, at) same = elim (cases_Bool (command_kind image x == kind)) [
+    absurd (let found = rw (eq-eqb (command_cmd image x) kind (ap (command_cmd image) at ∙ same)) at is in cc)
+first_none image kind p (x ∷ xs) is (suc k, less, at) same = elim (cases_Bool (command_cmd image x == kind)) [
   | inl of_it ↦ absurd (let found = rw of_it at is in cc)
   | inr other ↦ first_none image kind p xs (rw other at is) (k, omega arith, at) same
 ]
@@ -97,12 +97,12 @@ abbrev no_command : LoadCommand
 no_command = record { cmd = 0; structure = SymtabCommand }
 
 -- the kind at a position
-kind_at : (kind i : ℕ) → unique_index kind ≡ Some i → (i < length unique_kinds) × (get_or unique_kinds i kind ≡ kind)
+kind_at : (kind i : ℕ) → unique_index kind ≡ Some i → (i < length unique_cmds) × (get_or unique_cmds i kind ≡ kind)
 kind_at kind i is =
     let (less, test, before) = position-Some (λ command. command.cmd == kind) unique_commands i no_command is in
     (less, get_or-map (λ command. command.cmd) unique_commands i no_command kind less ∙ eqb-true _ kind test)
 
-no_kind_at : (kind : ℕ) → unique_index kind ≡ None → ¬ Contains unique_kinds kind
+no_kind_at : (kind : ℕ) → unique_index kind ≡ None → ¬ Contains unique_cmds kind
 no_kind_at kind none (i, less, at) = elim (cases_lt (position_or_len is unique_commands) (length unique_commands)) [
   | inl found ↦ absurd (let some : cond true (Some (position_or_len is unique_commands)) None ≡ None =
       subst (λ b. cond b (Some (position_or_len is unique_commands)) None ≡ None) (lt-ltb _ _ found) none in cc)
@@ -124,32 +124,32 @@ no_index_is_unique kind none unique =
     no_kind_at kind none (i, less, get_or-map (λ command. command.cmd) unique_commands i command kind less ∙ (ap (λ (c : LoadCommand). c.cmd) at ∙ eqb-true command.cmd kind test))
 
 pub place_at : (image commands : List ℕ) (places : List (Option ℕ)) (kind i : ℕ) → unique_index kind ≡ Some i
-    → places ≡ map (λ unique. first_of_kind image unique commands) unique_kinds → get_or places i None ≡ first_of_kind image kind commands
+    → places ≡ map (λ unique. first_with_cmd image unique commands) unique_cmds → get_or places i None ≡ first_with_cmd image kind commands
 place_at image commands places kind i is first =
     let (less, at) = kind_at kind i is in
-    ap (λ ps. get_or ps i None) first ∙ (get_or-map (λ unique. first_of_kind image unique commands) unique_kinds i kind None less ∙ ap (λ unique. first_of_kind image unique commands) at)
+    ap (λ ps. get_or ps i None) first ∙ (get_or-map (λ unique. first_with_cmd image unique commands) unique_cmds i kind None less ∙ ap (λ unique. first_with_cmd image unique commands) at)
 
-pub note_place : (image commands : List ℕ) (places : List (Option ℕ)) (kind i p : ℕ) → unique_index kind ≡ Some i → kind ≡ command_kind image p
-    → places ≡ map (λ unique. first_of_kind image unique commands) unique_kinds
-    → set places i (option_or (get_or places i None) (Some p)) ≡ map (λ unique. first_of_kind image unique (commands ++ p ∷ [])) unique_kinds
+pub note_place : (image commands : List ℕ) (places : List (Option ℕ)) (kind i p : ℕ) → unique_index kind ≡ Some i → kind ≡ command_cmd image p
+    → places ≡ map (λ unique. first_with_cmd image unique commands) unique_cmds
+    → set places i (option_or (get_or places i None) (Some p)) ≡ map (λ unique. first_with_cmd image unique (commands ++ p ∷ [])) unique_cmds
 note_place image commands places kind i p is kind_is first =
     let (less, at) = kind_at kind i is in
     let here = place_at image commands places kind i is first in
     ap (λ ps. set ps i (option_or (get_or places i None) (Some p))) first
-    ∙ set_one (λ unique. first_of_kind image unique commands) (λ unique. first_of_kind image unique (commands ++ p ∷ [])) kind i (option_or (get_or places i None) (Some p)) unique_kinds
-    (distinct_by_test unique_kinds refl) less at others (first_more image kind p commands ∙ ap₂ (λ old new. option_or old new) (sym here) mine)
+    ∙ set_one (λ unique. first_with_cmd image unique commands) (λ unique. first_with_cmd image unique (commands ++ p ∷ [])) kind i (option_or (get_or places i None) (Some p)) unique_cmds
+    (distinct_by_test unique_cmds refl) less at others (first_more image kind p commands ∙ ap₂ (λ old new. option_or old new) (sym here) mine)
   where
-    mine : cond (command_kind image p == kind) (Some p) None ≡ Some p
-    mine = rw (eq-eqb (command_kind image p) kind (sym kind_is)) refl
+    mine : cond (command_cmd image p == kind) (Some p) None ≡ Some p
+    mine = rw (eq-eqb (command_cmd image p) kind (sym kind_is)) refl
 
-    others : (k : ℕ) → ¬ (k ≡ kind) → first_of_kind image k (commands ++ p ∷ []) ≡ first_of_kind image k commands
+    others : (k : ℕ) → ¬ (k ≡ kind) → first_with_cmd image k (commands ++ p ∷ []) ≡ first_with_cmd image k commands
     others k other = first_other image k p commands (λ same. other (sym (kind_is ∙ same)))
 
-pub note_other : (image commands : List ℕ) (places : List (Option ℕ)) (kind p : ℕ) → unique_index kind ≡ None → kind ≡ command_kind image p
-    → places ≡ map (λ unique. first_of_kind image unique commands) unique_kinds → places ≡ map (λ unique. first_of_kind image unique (commands ++ p ∷ [])) unique_kinds
+pub note_other : (image commands : List ℕ) (places : List (Option ℕ)) (kind p : ℕ) → unique_index kind ≡ None → kind ≡ command_cmd image p
+    → places ≡ map (λ unique. first_with_cmd image unique commands) unique_cmds → places ≡ map (λ unique. first_with_cmd image unique (commands ++ p ∷ [])) unique_cmds
 note_other image commands places kind p is kind_is first =
-    first ∙ sym (same_values (λ unique. first_of_kind image unique commands) (λ unique. first_of_kind image unique (commands ++ p ∷ [])) unique_kinds
-    (λ k has. first_other image k p commands (λ same. no_kind_at kind is (subst (Contains unique_kinds) (sym (kind_is ∙ same)) has))))
+    first ∙ sym (same_values (λ unique. first_with_cmd image unique commands) (λ unique. first_with_cmd image unique (commands ++ p ∷ [])) unique_cmds
+    (λ k has. first_other image k p commands (λ same. no_kind_at kind is (subst (Contains unique_cmds) (sym (kind_is ∙ same)) has))))
 
 pub unique_or_not : (kind : ℕ) → IsUnique kind ⊎ ¬ IsUnique kind
 unique_or_not kind = elim (cases_Bool (list_any (λ command. command.cmd == kind) unique_commands)) [ inl unique ↦ inl unique | inr other ↦ inr (λ unique. false≢true (sym other ∙ unique)) ]

@@ -1,9 +1,9 @@
 -- The commands of one kind, as they remain in a walk and as the image has them.
 use Rattle.std.proofs.Common.{◌≡◌, ℕ, ◌==◌, List, [], ◌∷◌, map, cond, Bool, true, false, All, refl, ap, subst, arith}
 use Rattle.std.proofs.lemmas.List.Elements.{All-tail}
-use Rattle.macho_fields.specs.Image.{command_kind, of_kind}
+use Rattle.macho_fields.specs.Image.{command_cmd, with_cmd}
 use Rattle.macho_image.specs.Command.{CommandView, command_at}
-use Rattle.macho_image.specs.Scaffold.{left_of_kind}
+use Rattle.macho_image.specs.Scaffold.{left_with_cmd}
 
 -- a command is kept among the views where it is kept among the places
 pub keep_or_pass : (image : List ℕ) (x : ℕ) (vs : List CommandView) (xs : List ℕ) (b : Bool) → vs ≡ map (command_at image) xs
@@ -11,10 +11,10 @@ pub keep_or_pass : (image : List ℕ) (x : ℕ) (vs : List CommandView) (xs : Li
 keep_or_pass image x vs xs true same = ap (λ ys. command_at image x ∷ ys) same
 keep_or_pass image x vs xs false same = same
 
-pub left_of_kind-map : (image : List ℕ) (wanted : ℕ) (xs : List ℕ) → left_of_kind wanted (map (command_at image) xs) ≡ map (command_at image) (of_kind image wanted xs)
-left_of_kind-map image wanted [] = refl
-left_of_kind-map image wanted (x ∷ xs) =
-    keep_or_pass image x (left_of_kind wanted (map (command_at image) xs)) (of_kind image wanted xs) (command_kind image x == wanted) (left_of_kind-map image wanted xs)
+pub left_with_cmd-map : (image : List ℕ) (wanted : ℕ) (xs : List ℕ) → left_with_cmd wanted (map (command_at image) xs) ≡ map (command_at image) (with_cmd image wanted xs)
+left_with_cmd-map image wanted [] = refl
+left_with_cmd-map image wanted (x ∷ xs) =
+    keep_or_pass image x (left_with_cmd wanted (map (command_at image) xs)) (with_cmd image wanted xs) (command_cmd image x == wanted) (left_with_cmd-map image wanted xs)
 
 -- what g reads at the place of each command
 pub map-places : {B : Type 0} (g : ℕ → B) (image xs : List ℕ) → map (λ c. g c.place) (map (command_at image) xs) ≡ map g xs
