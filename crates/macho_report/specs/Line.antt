@@ -23,15 +23,15 @@ slice_line index arch start size kind =
     joined (codes "slice " ∷ decimal index ∷ codes " " ∷ arch ∷ extent_text (codes " at ") start size
     ∷ codes " " ∷ kind ∷ codes "\n" ∷ [])
 
--- LC_UUID: the bytes of the uuid, in groups of 4, 2, 2, 2 and 6
-abbrev pub uuid_group : List ℕ → ℕ → ℕ → List ℕ
-uuid_group uuid start count = joined (map upper_byte_hex (take count (drop start uuid)))
+-- LC_UUID: the bytes of the uuid, in groups of 4, 2, 2, 2 and 6, each after a text
+abbrev pub uuid_group : List ℕ → List ℕ → ℕ → ℕ → List ℕ
+uuid_group text uuid start count = joined (text ∷ map upper_byte_hex (take count (drop start uuid)))
 
 abbrev pub uuid_line : List ℕ → List ℕ
 uuid_line uuid =
-    joined (codes "  uuid " ∷ uuid_group uuid 0 4 ∷ codes "-" ∷ uuid_group uuid 4 2 ∷ codes "-"
-    ∷ uuid_group uuid 6 2 ∷ codes "-" ∷ uuid_group uuid 8 2 ∷ codes "-" ∷ uuid_group uuid 10 6
-    ∷ codes "\n" ∷ [])
+    joined (uuid_group (codes "  uuid ") uuid 0 4 ∷ uuid_group (codes "-") uuid 4 2
+    ∷ uuid_group (codes "-") uuid 6 2 ∷ uuid_group (codes "-") uuid 8 2
+    ∷ uuid_group (codes "-") uuid 10 6 ∷ codes "\n" ∷ [])
 
 -- LC_BUILD_VERSION: the platform, and the versions minos and sdk
 abbrev pub build_line : ℕ → ℕ → ℕ → List ℕ

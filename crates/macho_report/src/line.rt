@@ -1,10 +1,11 @@
 //! The lines of the report. Each ends with one line feed.
 
-ghost use Rattle.std.specs.Prelude.{◌≡◌, ◌≤◌, [], ◌∷◌, length, Some, IsErr, IsTrue};
+ghost use Rattle.std.specs.Prelude.{◌≡◌, ◌≤◌, [], ◌∷◌, length, map, Some, IsErr, IsTrue};
 ghost use Rattle.std.specs.Option.{option_map, option_map_or};
 ghost use Rattle.macho_fields.specs.Segment.{File};
 ghost use Rattle.macho_rules.specs.Source.{source_of};
-ghost use Rattle.macho_report.specs.Stream.{Writes, FailsAtFault};
+ghost use Rattle.macho_report.specs.Stream.{Writes, FailsAtFault, joined};
+ghost use Rattle.macho_report.specs.Number.{upper_byte_hex};
 ghost use Rattle.macho_report.specs.Arch.{arch_text};
 ghost use Rattle.macho_report.specs.Line.{extent_text, slice_line, uuid_line, build_line, letter, protection_text, segment_line, section_line, library_line, symbols_line, entry_line};
 ghost use Rattle.macho_report.specs.Text.{break_text};
@@ -105,17 +106,22 @@ pub(crate) fn write_uuid<W: Output>(uuid: &[u8; 16], writer: &mut W) -> Result<(
         (uuid_line uuid.now) }
     ensures failed { FailsAtFault (W.has_failed writer.old) (W.has_failed writer.new) result }
 {
-    write_all(b"  uuid ", writer)?;
-    write_upper_bytes(&uuid[..4], writer)?;
-    write_all(b"-", writer)?;
-    write_upper_bytes(&uuid[4..6], writer)?;
-    write_all(b"-", writer)?;
-    write_upper_bytes(&uuid[6..8], writer)?;
-    write_all(b"-", writer)?;
-    write_upper_bytes(&uuid[8..10], writer)?;
-    write_all(b"-", writer)?;
-    write_upper_bytes(&uuid[10..], writer)?;
+    write_group(b"  uuid ", &uuid[..4], writer)?;
+    write_group(b"-", &uuid[4..6], writer)?;
+    write_group(b"-", &uuid[6..8], writer)?;
+    write_group(b"-", &uuid[8..10], writer)?;
+    write_group(b"-", &uuid[10..], writer)?;
     write_all(b"\n", writer)
+}
+
+// Writes a text, and after it a group of the bytes of a UUID.
+fn write_group<W: Output>(text: &[u8], bytes: &[u8], writer: &mut W) -> Result<(), WriteFault>
+    ensures bytes { Writes (W.contents writer.old) (W.contents writer.new) result
+        (joined (text.now ∷ map upper_byte_hex bytes.now)) }
+    ensures failed { FailsAtFault (W.has_failed writer.old) (W.has_failed writer.new) result }
+{
+    write_all(text, writer)?;
+    write_upper_bytes(bytes, writer)
 }
 
 /// Writes the line of a build: its platform and two versions.
