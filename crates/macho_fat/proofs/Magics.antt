@@ -1,5 +1,5 @@
 -- The least place of a slice that is no image, where one entry more is gone over.
-use Rattle.std.proofs.Common.{◌≡◌, ℕ, ◌+◌, ◌<◌, ◌⊎◌, min, List, Option, Some, None, MatchOption, refl, sym, ◌∙◌, subst, arith, inl, inr}
+use Rattle.std.proofs.Common.{◌≡◌, ℕ, ◌+◌, ◌⊎◌, min, List, Option, Some, None, MatchOption, refl, sym, ◌∙◌, subst, arith, inl, inr}
 use Rattle.std.proofs.lemmas.Bool.{cases_lt}
 use Rattle.macho_fields.specs.Universal.{entry_slice}
 use Rattle.macho_fields.proofs.Magics.{IsForeignEntry, DecidesForeign, none_foreign, first_foreign, more_foreign}
