@@ -99,10 +99,10 @@ fn find_in<R: Input, W: Output>(
     ensures unwritten { IfErr result (λ fault. (fault ≡ RunFault.Write) ⊎ (writer.new ≡ writer.old)) }
 {
     match request {
-        Request::Check { .. } => Ok(Found::Check(run(alloc, LIMIT, reader, writer)?)),
-        Request::Where { slice, address, .. } => Ok(Found::Where(run_where(
-            alloc, LIMIT, *slice, *address, reader, writer,
-        )?)),
+        Request::Check { .. } => run(alloc, LIMIT, reader, writer).map(Found::Check),
+        Request::Where { slice, address, .. } => {
+            run_where(alloc, LIMIT, *slice, *address, reader, writer).map(Found::Where)
+        }
     }
 }
 
