@@ -69,9 +69,9 @@ module _ (image : List ℕ) (arch : Option (ℕ × ℕ)) where
       let good : place + command_size image place ≤ commands_end image = (command_good image commands place are has).inside in
       let most = all_inside n late below in omega arith
 
-  at_kind : (n : ℕ) → rank rule.CommandsOutside < n → Below n → (commands : List ℕ) → AreCommands image commands → (kind place : ℕ)
-      → Contains (with_cmd image kind commands) place → place ≤ length image
-  at_kind n late below commands are kind place has = at_command n late below commands are place (with_cmd_among image commands kind place has)
+  at_cmd : (n : ℕ) → rank rule.CommandsOutside < n → Below n → (commands : List ℕ) → AreCommands image commands → (cmd place : ℕ)
+      → Contains (with_cmd image cmd commands) place → place ≤ length image
+  at_cmd n late below commands are cmd place has = at_command n late below commands are place (with_cmd_among image commands cmd place has)
 
   opens : (n : ℕ) → rank rule.SegmentAddress ≤ n → Below n → Keeps image
   opens n late below = keeps_rules image arch (λ r place less h. below r place (omega arith) h)
@@ -95,10 +95,10 @@ module _ (image : List ℕ) (arch : Option (ℕ × ℕ)) where
       → AtSymbol image commands P place → place ≤ length image
   at_symbol n late below commands are P place (j, symtab, less, at, (k, lower, is, p)) =
       let among = with_cmd_among image commands loader.LC_SYMTAB symtab (j, less, at) in
-      let kind : command_cmd image symtab ≡ loader.LC_SYMTAB = with_cmd_is image commands loader.LC_SYMTAB symtab (j, less, at) in
+      let cmd : command_cmd image symtab ≡ loader.LC_SYMTAB = with_cmd_is image commands loader.LC_SYMTAB symtab (j, less, at) in
       let symbols : ℕ × ℕ × ℕ = (symoff image symtab, nsyms image symtab, 16) in
       let strings : ℕ × ℕ × ℕ = (stroff image symtab, strsize image symtab, 1) in
-      let has : Contains (tables_of image symtab) symbols = rw kind (contains_first symbols (strings ∷ [])) in
+      let has : Contains (tables_of image symtab) symbols = rw cmd (contains_first symbols (strings ∷ [])) in
       let most : symoff image symtab + nsyms image symtab * 16 ≤ length image = table_inside n late below commands are symtab among (symoff image symtab, nsyms image symtab, 16) has (omega arith) in
       omega (arith, is)
 
@@ -107,9 +107,9 @@ module _ (image : List ℕ) (arch : Option (ℕ × ℕ)) where
       → place ≡ indirectsymoff image dysymtab + 4 * k → place ≤ length image
   at_indirect n late below commands are dysymtab k place found lower is =
       let among = with_cmd_among image commands loader.LC_DYSYMTAB dysymtab found in
-      let kind : command_cmd image dysymtab ≡ loader.LC_DYSYMTAB = with_cmd_is image commands loader.LC_DYSYMTAB dysymtab found in
+      let cmd : command_cmd image dysymtab ≡ loader.LC_DYSYMTAB = with_cmd_is image commands loader.LC_DYSYMTAB dysymtab found in
       let has : Contains (tables_of image dysymtab) (indirectsymoff image dysymtab, nindirectsyms image dysymtab, 4) =
-      table_listed image dysymtab DysymtabCommand indirect_table (ap structure_of kind) indirects_listed in
+      table_listed image dysymtab DysymtabCommand indirect_table (ap structure_of cmd) indirects_listed in
       let most : indirectsymoff image dysymtab + nindirectsyms image dysymtab * 4 ≤ length image =
       table_inside n late below commands are dysymtab among (indirectsymoff image dysymtab, nindirectsyms image dysymtab, 4) has (omega arith) in
       omega (arith, is)
@@ -134,10 +134,10 @@ module _ (image : List ℕ) (arch : Option (ℕ × ℕ)) where
   place_inside rule.CommandRepeated place below h = ⊎_elim (λ k. absurd k) (λ k. at_command (rank rule.CommandRepeated) (lit< tt) below k.0 k.1 place k.2.0) h
   place_inside rule.DylibId place below h = ⊎_elim (λ k. absurd k) (λ k. let at = k.2.0 in let most = header_inside (rank rule.DylibId) (lit< tt) below in omega arith) h
   place_inside rule.Name place below h = ⊎_elim (λ k. absurd k) (λ k. at_command (rank rule.Name) (lit< tt) below k.0 k.1 place k.2.0) h
-  place_inside rule.SegmentAddress place below h = ⊎_elim (λ k. absurd k) (λ k. at_kind (rank rule.SegmentAddress) (lit< tt) below k.0 k.1 loader.LC_SEGMENT_64 place k.2.0) h
-  place_inside rule.SegmentSize place below h = ⊎_elim (λ k. absurd k) (λ k. at_kind (rank rule.SegmentSize) (lit< tt) below k.0 k.1 loader.LC_SEGMENT_64 place k.2.0) h
-  place_inside rule.SegmentFile place below h = ⊎_elim (λ k. absurd k) (λ k. at_kind (rank rule.SegmentFile) (lit< tt) below k.0 k.1 loader.LC_SEGMENT_64 place k.2.0) h
-  place_inside rule.SegmentOverlap place below h = ⊎_elim (λ k. absurd k) (λ k. at_kind (rank rule.SegmentOverlap) (lit< tt) below k.0 k.1 loader.LC_SEGMENT_64 place k.2.0) h
+  place_inside rule.SegmentAddress place below h = ⊎_elim (λ k. absurd k) (λ k. at_cmd (rank rule.SegmentAddress) (lit< tt) below k.0 k.1 loader.LC_SEGMENT_64 place k.2.0) h
+  place_inside rule.SegmentSize place below h = ⊎_elim (λ k. absurd k) (λ k. at_cmd (rank rule.SegmentSize) (lit< tt) below k.0 k.1 loader.LC_SEGMENT_64 place k.2.0) h
+  place_inside rule.SegmentFile place below h = ⊎_elim (λ k. absurd k) (λ k. at_cmd (rank rule.SegmentFile) (lit< tt) below k.0 k.1 loader.LC_SEGMENT_64 place k.2.0) h
+  place_inside rule.SegmentOverlap place below h = ⊎_elim (λ k. absurd k) (λ k. at_cmd (rank rule.SegmentOverlap) (lit< tt) below k.0 k.1 loader.LC_SEGMENT_64 place k.2.0) h
   place_inside rule.SectionAddress place below h =
       ⊎_elim (λ k. absurd k) (λ k.
       let (j, segment, less, at, (has, p)) = k.2 in
@@ -151,7 +151,7 @@ module _ (image : List ℕ) (arch : Option (ℕ × ℕ)) where
       let (j, segment, less, at, (has, p)) = k.2 in
       at_section (rank rule.SectionRelocs) (lit≤ tt) below k.0 k.1 (λ _ _. place ≡ place) place (j, segment, less, at, (has, refl))) h
   place_inside rule.TableRange place below h = ⊎_elim (λ k. absurd k) (λ k. at_command (rank rule.TableRange) (lit< tt) below k.0 k.1 place k.2.0) h
-  place_inside rule.SymbolGroup place below h = ⊎_elim (λ k. absurd k) (λ k. at_kind (rank rule.SymbolGroup) (lit< tt) below k.0 k.1 loader.LC_DYSYMTAB place k.2.0) h
+  place_inside rule.SymbolGroup place below h = ⊎_elim (λ k. absurd k) (λ k. at_cmd (rank rule.SymbolGroup) (lit< tt) below k.0 k.1 loader.LC_DYSYMTAB place k.2.0) h
   place_inside rule.SymbolName place below h =
       ⊎_elim (λ k. absurd k) (λ k.
       let (j, symtab, less, at, (i, lower, is, p)) = k.2 in
@@ -164,7 +164,7 @@ module _ (image : List ℕ) (arch : Option (ℕ × ℕ)) where
       ⊎_elim (λ k. absurd k) (λ k.
       let (j, dysymtab, less, at, (i, lower, is, p)) = k.2 in
       at_indirect (rank rule.IndirectIndex) (lit< tt) below k.0 k.1 dysymtab i place (j, less, at) lower is) h
-  place_inside rule.Entry place below h = ⊎_elim (λ k. absurd k) (λ k. at_kind (rank rule.Entry) (lit< tt) below k.0 k.1 loader.LC_MAIN place k.2.0) h
+  place_inside rule.Entry place below h = ⊎_elim (λ k. absurd k) (λ k. at_cmd (rank rule.Entry) (lit< tt) below k.0 k.1 loader.LC_MAIN place k.2.0) h
 
 -- the first break of an image
 pub first_inside : (image : List ℕ) (arch : Option (ℕ × ℕ)) (b : Break) → IsLeast (BreaksImage image arch) b → b.place ≤ length image

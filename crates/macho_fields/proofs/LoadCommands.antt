@@ -51,8 +51,8 @@ name_inside structure.RpathCommand named = lit≤ tt
 name_inside other named = absurd (true≢false (sym named))
 
 -- a command that names a library is a dylib_command
-pub library_structure : (kind : ℕ) → names_library kind ≡ true → structure_of kind ≡ Some structure.DylibCommand
-library_structure kind names = of_listed (structure_of kind) names
+pub library_structure : (cmd : ℕ) → names_library cmd ≡ true → structure_of cmd ≡ Some structure.DylibCommand
+library_structure cmd names = of_listed (structure_of cmd) names
   where
     of_listed : (o : Option Structure) → option_map_or is_dylib_command o false ≡ true → o ≡ Some structure.DylibCommand
     of_listed None h = absurd (true≢false (sym h))
@@ -64,9 +64,9 @@ module _ (image : List ℕ) (command : ℕ) where
   pub records_counted : (offset : ℕ) → offset + 4 ≤ command_size image command → record_count image command offset ≡ word image (command + offset)
   records_counted offset inside = rw (le-leb (offset + 4) (command_size image command) inside) refl
 
-  -- the structure of a command, by its kind
-  pub structure_by_kind : (kind : ℕ) (o : Option Structure) → command_cmd image command ≡ kind → structure_of kind ≡ o → structure_of (command_cmd image command) ≡ o
-  structure_by_kind kind o is listed = ap structure_of is ∙ listed
+  -- the structure of a command, by its cmd
+  pub structure_by_cmd : (cmd : ℕ) (o : Option Structure) → command_cmd image command ≡ cmd → structure_of cmd ≡ o → structure_of (command_cmd image command) ≡ o
+  structure_by_cmd cmd o is listed = ap structure_of is ∙ listed
 
   pub tables_listed : (s : Structure) → structure_of (command_cmd image command) ≡ Some s → tables_of image command ≡ map (table_at image command) (table_fields s)
   tables_listed s listed = ap (λ o. option_map_or (λ t. map (table_at image command) (table_fields t)) o []) listed

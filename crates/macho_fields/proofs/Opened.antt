@@ -16,7 +16,7 @@ use Rattle.macho_fields.specs.Layers.{KeptBelow}
 use Rattle.macho_fields.specs.Rules.{BreaksImage}
 use Rattle.macho_fields.specs.declared.rule.Rule.TheVariants as rule
 use Rattle.macho_fields.proofs.Parts.{commands_exist, command_good}
-use Rattle.macho_fields.proofs.LoadCommands.{fields_inside, records_counted, structure_by_kind}
+use Rattle.macho_fields.proofs.LoadCommands.{fields_inside, records_counted, structure_by_cmd}
 use Rattle.macho_fields.proofs.Options.{some_of, of_some, some_or_not_none}
 use Rattle.macho_fields.proofs.Decided.{not_not, zero_or_none}
 
@@ -69,7 +69,7 @@ module _ (image commands : List ℕ) (opened : Keeps image) (are : AreCommands i
   pub sections_inside : (segment : ℕ) → Contains commands segment → command_cmd image segment ≡ loader.LC_SEGMENT_64
       → loader.SEGMENT_COMMAND_64_SIZE + loader.SECTION_64_SIZE * nsects image segment ≤ command_size image segment
   sections_inside segment has is =
-      let listed = structure_by_kind image segment loader.LC_SEGMENT_64 (Some SegmentCommand64) is refl in
+      let listed = structure_by_cmd image segment loader.LC_SEGMENT_64 (Some SegmentCommand64) is refl in
       let whole : 72 + 80 * record_count image segment 64 ≤ command_size image segment = structure_inside segment SegmentCommand64 has listed in
       let count : record_count image segment 64 ≡ nsects image segment = records_counted image segment 64 (omega arith) in
       omega (arith, count)

@@ -46,12 +46,12 @@ commands_good image start (x ∷ xs) m f (suc k) d h = commands_good image (x + 
 pub command_good : (image commands : List ℕ) (command : ℕ) → AreCommands image commands → Contains commands command → IsGood image command
 command_good image commands command (e, next, chain) has = All-contains (IsGood image) commands command (commands_good image 32 commands next chain) has
 
-pub with_cmd_is : (image commands : List ℕ) (kind command : ℕ) → Contains (with_cmd image kind commands) command → command_cmd image command ≡ kind
-with_cmd_is image commands kind command has =
-    let test : ℕ → Bool = λ c. command_cmd image c == kind in
-    eqb-true (command_cmd image command) kind (All-contains (λ c. test c ≡ true) (filter test commands) command (filter_passes test commands) has)
+pub with_cmd_is : (image commands : List ℕ) (cmd command : ℕ) → Contains (with_cmd image cmd commands) command → command_cmd image command ≡ cmd
+with_cmd_is image commands cmd command has =
+    let test : ℕ → Bool = λ c. command_cmd image c == cmd in
+    eqb-true (command_cmd image command) cmd (All-contains (λ c. test c ≡ true) (filter test commands) command (filter_passes test commands) has)
 
-pub with_cmd_among : (image commands : List ℕ) (kind command : ℕ) → Contains (with_cmd image kind commands) command → Contains commands command
-with_cmd_among image commands kind command has =
-    let test : ℕ → Bool = λ c. command_cmd image c == kind in
+pub with_cmd_among : (image commands : List ℕ) (cmd command : ℕ) → Contains (with_cmd image cmd commands) command → Contains commands command
+with_cmd_among image commands cmd command has =
+    let test : ℕ → Bool = λ c. command_cmd image c == cmd in
     All-contains (Contains commands) (filter test commands) command (All-filter test (Contains commands) commands (All-contains_itself commands)) has

@@ -44,14 +44,14 @@ module _ (image : List ℕ) (p : ℕ) (good : IsGood image p) (inside : commands
   word_alone : (offset : ℕ) → offset + 4 ≤ size → word bytes (0 + offset) ≡ word image (p + offset)
   word_alone offset fits = ap (word bytes) (from_start offset) ∙ word_in_part p size offset image fits
 
-  kind_alone : command_cmd bytes 0 ≡ command_cmd image p
-  kind_alone = word_alone 0 (let h = long in omega arith) ∙ ap (word image) (let e : p + 0 ≡ p = omega arith in e)
+  cmd_alone : command_cmd bytes 0 ≡ command_cmd image p
+  cmd_alone = word_alone 0 (let h = long in omega arith) ∙ ap (word image) (let e : p + 0 ≡ p = omega arith in e)
 
   size_alone : command_size bytes 0 ≡ size
   size_alone = word_alone 4 (let h = long in omega arith)
 
   pub is_alone : IsAlone (command_at image p)
-  is_alone = record { cmd = sym kind_alone; size = sym size_alone; whole = sym length_is }
+  is_alone = record { cmd = sym cmd_alone; size = sym size_alone; whole = sym length_is }
 
   count_alone : (offset : ℕ) → record_count bytes 0 offset ≡ record_count image p offset
   count_alone offset =
@@ -81,8 +81,8 @@ module _ (image : List ℕ) (p : ℕ) (good : IsGood image p) (inside : commands
   pub short_alone : IsShort bytes 0 ↔ IsShort image p
   short_alone = (
     λ h. of_structure (ShortAs bytes 0) (ShortAs image p) (structure_of (command_cmd image p)) (λ s short. let e = size_alone in let l = least_alone s in omega arith)
-        (subst (λ kind. IsSomeAnd (structure_of kind) (ShortAs bytes 0)) kind_alone h),
-    λ h. subst (λ kind. IsSomeAnd (structure_of kind) (ShortAs bytes 0)) (sym kind_alone) (of_structure (ShortAs image p) (ShortAs bytes 0) (structure_of (command_cmd image p))
+        (subst (λ cmd. IsSomeAnd (structure_of cmd) (ShortAs bytes 0)) cmd_alone h),
+    λ h. subst (λ cmd. IsSomeAnd (structure_of cmd) (ShortAs bytes 0)) (sym cmd_alone) (of_structure (ShortAs image p) (ShortAs bytes 0) (structure_of (command_cmd image p))
         (λ s short. let e = size_alone in let l = least_alone s in omega arith) h),
   )
 
@@ -111,13 +111,13 @@ module _ (image : List ℕ) (p : ℕ) (good : IsGood image p) (inside : commands
 
   pub bad_alone : ¬ IsShort image p → HasBadName bytes 0 ↔ HasBadName image p
   bad_alone whole = (
-    λ h. let (s, listed, (named, bad)) = some_of (IsBadName bytes 0) (structure_of (command_cmd image p)) (subst (λ kind. IsSomeAnd (structure_of kind) (IsBadName bytes 0)) kind_alone h) in
+    λ h. let (s, listed, (named, bad)) = some_of (IsBadName bytes 0) (structure_of (command_cmd image p)) (subst (λ cmd. IsSomeAnd (structure_of cmd) (IsBadName bytes 0)) cmd_alone h) in
         let room = has_room whole s listed named in
         of_some (IsBadName image p) (structure_of (command_cmd image p)) s listed
         (named, ⊎_elim (λ low. inl (let e = offset_alone room in omega (arith, low))) (λ none. inr (λ zero. none ((zero_alone room).1 zero))) bad),
     λ h. let (s, listed, (named, bad)) = some_of (IsBadName image p) (structure_of (command_cmd image p)) h in
         let room = has_room whole s listed named in
-        subst (λ kind. IsSomeAnd (structure_of kind) (IsBadName bytes 0)) (sym kind_alone) (of_some (IsBadName bytes 0) (structure_of (command_cmd image p)) s listed
+        subst (λ cmd. IsSomeAnd (structure_of cmd) (IsBadName bytes 0)) (sym cmd_alone) (of_some (IsBadName bytes 0) (structure_of (command_cmd image p)) s listed
         (named, ⊎_elim (λ low. inl (let e = offset_alone room in omega (arith, low))) (λ none. inr (λ zero. none ((zero_alone room).0 zero))) bad)),
   )
 

@@ -16,47 +16,47 @@ use Rattle.macho_fields.specs.declared.load_command.Structure.TheVariants.{Symta
 use Rattle.macho_fields.proofs.Lists.{none_by_test, none_in_nil, contains_first, contains_later}
 use Rattle.macho_image.specs.Command.{first_with_cmd}
 
-first_by : (image : List ℕ) (kind x : ℕ) (xs : List ℕ) → first_with_cmd image kind (x ∷ xs) ≡ cond (command_cmd image x == kind) (Some x) (first_with_cmd image kind xs)
-first_by image kind x xs = elim (cases_Bool (command_cmd image x == kind)) [ inl of_it ↦ rw of_it refl | inr other ↦ rw other refl ]
+first_by : (image : List ℕ) (cmd x : ℕ) (xs : List ℕ) → first_with_cmd image cmd (x ∷ xs) ≡ cond (command_cmd image x == cmd) (Some x) (first_with_cmd image cmd xs)
+first_by image cmd x xs = elim (cases_Bool (command_cmd image x == cmd)) [ inl of_it ↦ rw of_it refl | inr other ↦ rw other refl ]
 
 -- with one command more
-pub first_more : (image : List ℕ) (kind p : ℕ) (xs : List ℕ) → first_with_cmd image kind (xs ++ p ∷ []) ≡ option_or (first_with_cmd image kind xs) (cond (command_cmd image p == kind) (Some p) None)
-first_more image kind p [] = first_by image kind p []
-first_more image kind p (x ∷ xs) = elim (cases_Bool (command_cmd image x == kind)) [
+pub first_more : (image : List ℕ) (cmd p : ℕ) (xs : List ℕ) → first_with_cmd image cmd (xs ++ p ∷ []) ≡ option_or (first_with_cmd image cmd xs) (cond (command_cmd image p == cmd) (Some p) None)
+first_more image cmd p [] = first_by image cmd p []
+first_more image cmd p (x ∷ xs) = elim (cases_Bool (command_cmd image x == cmd)) [
   | inl of_it ↦ rw of_it refl
-  | inr other ↦ rw other (first_more image kind p xs)
+  | inr other ↦ rw other (first_more image cmd p xs)
 ]
 
 -- a command of another kind changes nothing
-first_other : (image : List ℕ) (kind p : ℕ) (xs : List ℕ) → ¬ (command_cmd image p ≡ kind) → first_with_cmd image kind (xs ++ p ∷ []) ≡ first_with_cmd image kind xs
-first_other image kind p xs other =
-    first_more image kind p xs ∙ (ap (λ b. option_or (first_with_cmd image kind xs) (cond b (Some p) None)) (ne_eqb (command_cmd image p) kind other) ∙ kept (first_with_cmd image kind xs))
+first_other : (image : List ℕ) (cmd p : ℕ) (xs : List ℕ) → ¬ (command_cmd image p ≡ cmd) → first_with_cmd image cmd (xs ++ p ∷ []) ≡ first_with_cmd image cmd xs
+first_other image cmd p xs other =
+    first_more image cmd p xs ∙ (ap (λ b. option_or (first_with_cmd image cmd xs) (cond b (Some p) None)) (ne_eqb (command_cmd image p) cmd other) ∙ kept (first_with_cmd image cmd xs))
   where
     kept : (o : Option ℕ) → option_or o None ≡ o
     kept None = refl
     kept (Some x) = refl
 
 -- the first of a kind is of the kind, and one of them
-pub first_is : (image : List ℕ) (kind p : ℕ) (xs : List ℕ) → first_with_cmd image kind xs ≡ Some p → Contains xs p × (command_cmd image p ≡ kind)
-first_is image kind p [] is = absurd (cc)
-first_is image kind p (x ∷ xs) is = elim (cases_Bool (command_cmd image x == kind)) [
+pub first_is : (image : List ℕ) (cmd p : ℕ) (xs : List ℕ) → first_with_cmd image cmd xs ≡ Some p → Contains xs p × (command_cmd image p ≡ cmd)
+first_is image cmd p [] is = absurd (cc)
+first_is image cmd p (x ∷ xs) is = elim (cases_Bool (command_cmd image x == cmd)) [
   | inl of_it ↦
       let same : Some x ≡ Some p = rw of_it at is in
       let e : x ≡ p = cc in
-      (subst (λ q. Contains (x ∷ xs) q) e (contains_first x xs), subst (λ q. command_cmd image q ≡ kind) e (eqb-true (command_cmd image x) kind of_it))
+      (subst (λ q. Contains (x ∷ xs) q) e (contains_first x xs), subst (λ q. command_cmd image q ≡ cmd) e (eqb-true (command_cmd image x) cmd of_it))
   | inr other ↦
-      let rest = first_is image kind p xs (rw other at is) in
+      let rest = first_is image cmd p xs (rw other at is) in
       (contains_later x p xs rest.0, rest.1)
 ]
 
 -- where there is no first, there is none
-pub first_none : (image : List ℕ) (kind p : ℕ) (xs : List ℕ) → first_with_cmd image kind xs ≡ None → Contains xs p → ¬ (command_cmd image p ≡ kind)
-first_none image kind p [] is has same = absurd (none_in_nil p has)
-first_none image kind p (x ∷ xs) is (zero, less, at) same =
-    absurd (let found = rw (eq-eqb (command_cmd image x) kind (ap (command_cmd image) at ∙ same)) at is in cc)
-first_none image kind p (x ∷ xs) is (suc k, less, at) same = elim (cases_Bool (command_cmd image x == kind)) [
+pub first_none : (image : List ℕ) (cmd p : ℕ) (xs : List ℕ) → first_with_cmd image cmd xs ≡ None → Contains xs p → ¬ (command_cmd image p ≡ cmd)
+first_none image cmd p [] is has same = absurd (none_in_nil p has)
+first_none image cmd p (x ∷ xs) is (zero, less, at) same =
+    absurd (let found = rw (eq-eqb (command_cmd image x) cmd (ap (command_cmd image) at ∙ same)) at is in cc)
+first_none image cmd p (x ∷ xs) is (suc k, less, at) same = elim (cases_Bool (command_cmd image x == cmd)) [
   | inl of_it ↦ absurd (let found = rw of_it at is in cc)
-  | inr other ↦ first_none image kind p xs (rw other at is) (k, omega arith, at) same
+  | inr other ↦ first_none image cmd p xs (rw other at is) (k, omega arith, at) same
 ]
 
 -- A value for each item of a list
@@ -83,13 +83,13 @@ same_values f g [] same = refl
 same_values f g (k ∷ ks) same = ap₂ (λ x xs. x ∷ xs) (same k (contains_first k ks)) (same_values f g ks (λ j has. same j (contains_later k j ks has)))
 
 -- a change of the value of one of them
-set_one : {X : Type 0} (f g : ℕ → X) (kind i : ℕ) (v : X) (ks : List ℕ) → Distinct ks → i < length ks → get_or ks i kind ≡ kind → ((k : ℕ) → ¬ (k ≡ kind) → g k ≡ f k) → g kind ≡ v
+set_one : {X : Type 0} (f g : ℕ → X) (cmd i : ℕ) (v : X) (ks : List ℕ) → Distinct ks → i < length ks → get_or ks i cmd ≡ cmd → ((k : ℕ) → ¬ (k ≡ cmd) → g k ≡ f k) → g cmd ≡ v
     → set (map f ks) i v ≡ map g ks
-set_one f g kind i v [] distinct less at others is = absurd (omega arith)
-set_one f g kind zero v (k ∷ ks) distinct less at others is =
+set_one f g cmd i v [] distinct less at others is = absurd (omega arith)
+set_one f g cmd zero v (k ∷ ks) distinct less at others is =
     ap₂ (λ x xs. x ∷ xs) (sym (ap g at ∙ is)) (sym (same_values f g ks (λ j has. others j (λ same. distinct.0 (subst (Contains ks) (same ∙ sym at) has)))))
-set_one f g kind (suc i) v (k ∷ ks) distinct less at others is =
-    ap₂ (λ x xs. x ∷ xs) (sym (others k (λ same. distinct.0 (i, omega arith, subst (λ q. get_or ks i q ≡ q) (sym same) at)))) (set_one f g kind i v ks distinct.1 (omega arith) at others is)
+set_one f g cmd (suc i) v (k ∷ ks) distinct less at others is =
+    ap₂ (λ x xs. x ∷ xs) (sym (others k (λ same. distinct.0 (i, omega arith, subst (λ q. get_or ks i q ≡ q) (sym same) at)))) (set_one f g cmd i v ks distinct.1 (omega arith) at others is)
 
 -- The places of the first commands
 
@@ -97,59 +97,59 @@ abbrev no_command : LoadCommand
 no_command = record { cmd = 0; structure = SymtabCommand }
 
 -- the kind at a position
-kind_at : (kind i : ℕ) → unique_index kind ≡ Some i → (i < length unique_cmds) × (get_or unique_cmds i kind ≡ kind)
-kind_at kind i is =
-    let (less, test, before) = position-Some (λ command. command.cmd == kind) unique_commands i no_command is in
-    (less, get_or-map (λ command. command.cmd) unique_commands i no_command kind less ∙ eqb-true _ kind test)
+cmd_at : (cmd i : ℕ) → unique_index cmd ≡ Some i → (i < length unique_cmds) × (get_or unique_cmds i cmd ≡ cmd)
+cmd_at cmd i is =
+    let (less, test, before) = position-Some (λ command. command.cmd == cmd) unique_commands i no_command is in
+    (less, get_or-map (λ command. command.cmd) unique_commands i no_command cmd less ∙ eqb-true _ cmd test)
 
-no_kind_at : (kind : ℕ) → unique_index kind ≡ None → ¬ Contains unique_cmds kind
-no_kind_at kind none (i, less, at) = elim (cases_lt (position_or_len is unique_commands) (length unique_commands)) [
+no_cmd_at : (cmd : ℕ) → unique_index cmd ≡ None → ¬ Contains unique_cmds cmd
+no_cmd_at cmd none (i, less, at) = elim (cases_lt (position_or_len is unique_commands) (length unique_commands)) [
   | inl found ↦ absurd (let some : cond true (Some (position_or_len is unique_commands)) None ≡ None =
       subst (λ b. cond b (Some (position_or_len is unique_commands)) None ≡ None) (lt-ltb _ _ found) none in cc)
   | inr past ↦ false≢true (sym (fails_before_first is unique_commands i no_command (omega arith))
-      ∙ eq-eqb _ kind (sym (get_or-map (λ command. command.cmd) unique_commands i no_command kind less) ∙ at))
+      ∙ eq-eqb _ cmd (sym (get_or-map (λ command. command.cmd) unique_commands i no_command cmd less) ∙ at))
 ]
   where
     is : LoadCommand → Bool
-    is command = command.cmd == kind
+    is command = command.cmd == cmd
 
-pub index_is_unique : (kind i : ℕ) → unique_index kind ≡ Some i → IsUnique kind
-index_is_unique kind i is =
-    let (less, test, before) = position-Some (λ command. command.cmd == kind) unique_commands i no_command is in
-    list_any-from_Any (λ command. command.cmd == kind) unique_commands (i, get_or unique_commands i no_command, less, get_or_default unique_commands i _ no_command less, test)
+pub index_is_unique : (cmd i : ℕ) → unique_index cmd ≡ Some i → IsUnique cmd
+index_is_unique cmd i is =
+    let (less, test, before) = position-Some (λ command. command.cmd == cmd) unique_commands i no_command is in
+    list_any-from_Any (λ command. command.cmd == cmd) unique_commands (i, get_or unique_commands i no_command, less, get_or_default unique_commands i _ no_command less, test)
 
-pub no_index_is_unique : (kind : ℕ) → unique_index kind ≡ None → ¬ IsUnique kind
-no_index_is_unique kind none unique =
-    let (i, command, less, at, test) = Any-from_list_any (λ command. command.cmd == kind) unique_commands unique in
-    no_kind_at kind none (i, less, get_or-map (λ command. command.cmd) unique_commands i command kind less ∙ (ap (λ (c : LoadCommand). c.cmd) at ∙ eqb-true command.cmd kind test))
+pub no_index_is_unique : (cmd : ℕ) → unique_index cmd ≡ None → ¬ IsUnique cmd
+no_index_is_unique cmd none unique =
+    let (i, command, less, at, test) = Any-from_list_any (λ command. command.cmd == cmd) unique_commands unique in
+    no_cmd_at cmd none (i, less, get_or-map (λ command. command.cmd) unique_commands i command cmd less ∙ (ap (λ (c : LoadCommand). c.cmd) at ∙ eqb-true command.cmd cmd test))
 
-pub place_at : (image commands : List ℕ) (places : List (Option ℕ)) (kind i : ℕ) → unique_index kind ≡ Some i
-    → places ≡ map (λ unique. first_with_cmd image unique commands) unique_cmds → get_or places i None ≡ first_with_cmd image kind commands
-place_at image commands places kind i is first =
-    let (less, at) = kind_at kind i is in
-    ap (λ ps. get_or ps i None) first ∙ (get_or-map (λ unique. first_with_cmd image unique commands) unique_cmds i kind None less ∙ ap (λ unique. first_with_cmd image unique commands) at)
+pub place_at : (image commands : List ℕ) (places : List (Option ℕ)) (cmd i : ℕ) → unique_index cmd ≡ Some i
+    → places ≡ map (λ unique. first_with_cmd image unique commands) unique_cmds → get_or places i None ≡ first_with_cmd image cmd commands
+place_at image commands places cmd i is first =
+    let (less, at) = cmd_at cmd i is in
+    ap (λ ps. get_or ps i None) first ∙ (get_or-map (λ unique. first_with_cmd image unique commands) unique_cmds i cmd None less ∙ ap (λ unique. first_with_cmd image unique commands) at)
 
-pub note_place : (image commands : List ℕ) (places : List (Option ℕ)) (kind i p : ℕ) → unique_index kind ≡ Some i → kind ≡ command_cmd image p
+pub note_place : (image commands : List ℕ) (places : List (Option ℕ)) (cmd i p : ℕ) → unique_index cmd ≡ Some i → cmd ≡ command_cmd image p
     → places ≡ map (λ unique. first_with_cmd image unique commands) unique_cmds
     → set places i (option_or (get_or places i None) (Some p)) ≡ map (λ unique. first_with_cmd image unique (commands ++ p ∷ [])) unique_cmds
-note_place image commands places kind i p is kind_is first =
-    let (less, at) = kind_at kind i is in
-    let here = place_at image commands places kind i is first in
+note_place image commands places cmd i p is cmd_is first =
+    let (less, at) = cmd_at cmd i is in
+    let here = place_at image commands places cmd i is first in
     ap (λ ps. set ps i (option_or (get_or places i None) (Some p))) first
-    ∙ set_one (λ unique. first_with_cmd image unique commands) (λ unique. first_with_cmd image unique (commands ++ p ∷ [])) kind i (option_or (get_or places i None) (Some p)) unique_cmds
-    (distinct_by_test unique_cmds refl) less at others (first_more image kind p commands ∙ ap₂ (λ old new. option_or old new) (sym here) mine)
+    ∙ set_one (λ unique. first_with_cmd image unique commands) (λ unique. first_with_cmd image unique (commands ++ p ∷ [])) cmd i (option_or (get_or places i None) (Some p)) unique_cmds
+    (distinct_by_test unique_cmds refl) less at others (first_more image cmd p commands ∙ ap₂ (λ old new. option_or old new) (sym here) mine)
   where
-    mine : cond (command_cmd image p == kind) (Some p) None ≡ Some p
-    mine = rw (eq-eqb (command_cmd image p) kind (sym kind_is)) refl
+    mine : cond (command_cmd image p == cmd) (Some p) None ≡ Some p
+    mine = rw (eq-eqb (command_cmd image p) cmd (sym cmd_is)) refl
 
-    others : (k : ℕ) → ¬ (k ≡ kind) → first_with_cmd image k (commands ++ p ∷ []) ≡ first_with_cmd image k commands
-    others k other = first_other image k p commands (λ same. other (sym (kind_is ∙ same)))
+    others : (k : ℕ) → ¬ (k ≡ cmd) → first_with_cmd image k (commands ++ p ∷ []) ≡ first_with_cmd image k commands
+    others k other = first_other image k p commands (λ same. other (sym (cmd_is ∙ same)))
 
-pub note_other : (image commands : List ℕ) (places : List (Option ℕ)) (kind p : ℕ) → unique_index kind ≡ None → kind ≡ command_cmd image p
+pub note_other : (image commands : List ℕ) (places : List (Option ℕ)) (cmd p : ℕ) → unique_index cmd ≡ None → cmd ≡ command_cmd image p
     → places ≡ map (λ unique. first_with_cmd image unique commands) unique_cmds → places ≡ map (λ unique. first_with_cmd image unique (commands ++ p ∷ [])) unique_cmds
-note_other image commands places kind p is kind_is first =
+note_other image commands places cmd p is cmd_is first =
     first ∙ sym (same_values (λ unique. first_with_cmd image unique commands) (λ unique. first_with_cmd image unique (commands ++ p ∷ [])) unique_cmds
-    (λ k has. first_other image k p commands (λ same. no_kind_at kind is (subst (Contains unique_cmds) (sym (kind_is ∙ same)) has))))
+    (λ k has. first_other image k p commands (λ same. no_cmd_at cmd is (subst (Contains unique_cmds) (sym (cmd_is ∙ same)) has))))
 
-pub unique_or_not : (kind : ℕ) → IsUnique kind ⊎ ¬ IsUnique kind
-unique_or_not kind = elim (cases_Bool (list_any (λ command. command.cmd == kind) unique_commands)) [ inl unique ↦ inl unique | inr other ↦ inr (λ unique. false≢true (sym other ∙ unique)) ]
+pub unique_or_not : (cmd : ℕ) → IsUnique cmd ⊎ ¬ IsUnique cmd
+unique_or_not cmd = elim (cases_Bool (list_any (λ command. command.cmd == cmd) unique_commands)) [ inl unique ↦ inl unique | inr other ↦ inr (λ unique. false≢true (sym other ∙ unique)) ]

@@ -38,18 +38,18 @@ some_listed g f (Some c) found t xs is some each = each c (same_Some t (g c) (sy
 
 -- what a search for the first command of a kind finds
 abbrev pub IsFound : {B : Type 0} → (ℕ → B) → List ℕ → ℕ → Option B → Type 0
-IsFound g image kind found = found ≡ option_map g (first_with_cmd image kind (commands_of image))
+IsFound g image cmd found = found ≡ option_map g (first_with_cmd image cmd (commands_of image))
 
 -- the items of the table that the first command of a kind bounds
 abbrev pub items_of : {B : Type 0} → (ℕ → B) → (B → ℕ) → (B → ℕ) → ℕ → List ℕ → ℕ → List ℕ → List ℕ
-items_of g start count each image kind commands = option_map_or (λ c. items_inside image (start (g c)) each (count (g c))) (first_with_cmd image kind commands) []
+items_of g start count each image cmd commands = option_map_or (λ c. items_inside image (start (g c)) each (count (g c))) (first_with_cmd image cmd commands) []
 
 -- a table that was found and lies inside the image has the items of the image
-table_found : {B C : Type 0} (g : ℕ → B) (start count : B → ℕ) (item : ℕ → C) (each : ℕ) (image : List ℕ) (kind : ℕ) (found : Option B) (t : B) → IsFound g image kind found
+table_found : {B C : Type 0} (g : ℕ → B) (start count : B → ℕ) (item : ℕ → C) (each : ℕ) (image : List ℕ) (cmd : ℕ) (found : Option B) (t : B) → IsFound g image cmd found
     → found ≡ Some t → nat_le (start t + each * count t) (length image) ≡ true
-    → map item (items_from each (start t) (count t)) ≡ map item (items_of g start count each image kind (commands_of image))
-table_found {B} g start count item each image kind found t is some inside =
-    ap (map item) (sym (some_listed g _ (first_with_cmd image kind (commands_of image)) found t (items_from each (start t) (count t)) is some here))
+    → map item (items_from each (start t) (count t)) ≡ map item (items_of g start count each image cmd (commands_of image))
+table_found {B} g start count item each image cmd found t is some inside =
+    ap (map item) (sym (some_listed g _ (first_with_cmd image cmd (commands_of image)) found t (items_from each (start t) (count t)) is some here))
   where
     here : (c : ℕ) → t ≡ g c → items_inside image (start (g c)) each (count (g c)) ≡ items_from each (start t) (count t)
     here c same = subst (λ (s : B). items_inside image (start s) each (count s) ≡ items_from each (start t) (count t)) same (inside_all image (start t) each (count t) inside)

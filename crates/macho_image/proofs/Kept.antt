@@ -28,43 +28,43 @@ structure_held image command s listed opened has =
     let whole : structure_size s + records_size image command s ≤ command_size image command = structure_inside image (commands_of image) keeps are command s has listed in
     let inside : command + command_size image command ≤ length image = command_inside image (commands_of image) keeps are command has in omega arith
 
-pub held : (image : List ℕ) (kind command : ℕ) (s : Structure) → structure_of kind ≡ Some s → IsOpened image → Contains (with_cmd image kind (commands_of image)) command
+pub held : (image : List ℕ) (cmd command : ℕ) (s : Structure) → structure_of cmd ≡ Some s → IsOpened image → Contains (with_cmd image cmd (commands_of image)) command
     → command + structure_size s ≤ length image
-held image kind command s listed opened has =
-    let is : command_cmd image command ≡ kind = with_cmd_is image (commands_of image) kind command has in
-    structure_held image command s (ap structure_of is ∙ listed) opened (with_cmd_among image (commands_of image) kind command has)
+held image cmd command s listed opened has =
+    let is : command_cmd image command ≡ cmd = with_cmd_is image (commands_of image) cmd command has in
+    structure_held image command s (ap structure_of is ∙ listed) opened (with_cmd_among image (commands_of image) cmd command has)
 
 -- the commands that a view begins with are those of the image
 abbrev pub AreAll : List ℕ → List CommandView → Type 0
 AreAll image all = all ≡ map (command_at image) (commands_of image)
 
 -- those of one kind
-pub all_kept : (image : List ℕ) (all : List CommandView) (kind : ℕ) → AreAll image all → left_with_cmd kind all ≡ map (command_at image) (with_cmd image kind (commands_of image))
-all_kept image all kind is = ap (left_with_cmd kind) is ∙ left_with_cmd-map image kind (commands_of image)
+pub all_kept : (image : List ℕ) (all : List CommandView) (cmd : ℕ) → AreAll image all → left_with_cmd cmd all ≡ map (command_at image) (with_cmd image cmd (commands_of image))
+all_kept image all cmd is = ap (left_with_cmd cmd) is ∙ left_with_cmd-map image cmd (commands_of image)
 
-pub all_inside : (image : List ℕ) (all : List CommandView) (kind : ℕ) (s : Structure) → structure_of kind ≡ Some s → IsOpened image → AreAll image all
-    → LieInside image (structure_size s) (left_with_cmd kind all)
-all_inside image all kind s listed opened is =
-    let places = with_cmd image kind (commands_of image) in
-    subst (LieInside image (structure_size s)) (sym (all_kept image all kind is)) (All-map (λ c. c.place + structure_size s ≤ length image) (command_at image) places
-    (λ k d less. held image kind _ s listed opened (All-contains_itself places k d less)))
+pub all_inside : (image : List ℕ) (all : List CommandView) (cmd : ℕ) (s : Structure) → structure_of cmd ≡ Some s → IsOpened image → AreAll image all
+    → LieInside image (structure_size s) (left_with_cmd cmd all)
+all_inside image all cmd s listed opened is =
+    let places = with_cmd image cmd (commands_of image) in
+    subst (LieInside image (structure_size s)) (sym (all_kept image all cmd is)) (All-map (λ c. c.place + structure_size s ≤ length image) (command_at image) places
+    (λ k d less. held image cmd _ s listed opened (All-contains_itself places k d less)))
 
 -- what g reads of each of them
-pub all_seen : {B : Type 0} (g : ℕ → B) (image : List ℕ) (all : List CommandView) (kind : ℕ) → AreAll image all
-    → map (λ c. g c.place) (left_with_cmd kind all) ≡ map g (with_cmd image kind (commands_of image))
-all_seen g image all kind is = ap (map (λ c. g c.place)) (all_kept image all kind is) ∙ map-places g image (with_cmd image kind (commands_of image))
+pub all_seen : {B : Type 0} (g : ℕ → B) (image : List ℕ) (all : List CommandView) (cmd : ℕ) → AreAll image all
+    → map (λ c. g c.place) (left_with_cmd cmd all) ≡ map g (with_cmd image cmd (commands_of image))
+all_seen g image all cmd is = ap (map (λ c. g c.place)) (all_kept image all cmd is) ∙ map-places g image (with_cmd image cmd (commands_of image))
 
 pub got_first : (xs : List ℕ) (x : ℕ) → slice_get xs 0 ≡ Some x → Contains xs x
 got_first [] x is = absurd (cc)
 got_first (y ∷ ys) x is = (0, omega arith, same_Some y x is)
 
 -- what is yielded first of those that a view begins with is the first of the image
-pub first_yielded : (image : List ℕ) (all rest : List CommandView) (kind : ℕ) (got : Option Command) → AreAll image all → YieldsFirstBy command_of (left_with_cmd kind) all got rest
-    → option_map command_of got ≡ option_map (command_at image) (first_with_cmd image kind (commands_of image))
-first_yielded image all rest kind None is yields =
-    ap (λ (ys : List CommandView). slice_get ys 0) (sym yields.0 ∙ all_kept image all kind is) ∙ slice_get-map (command_at image) (with_cmd image kind (commands_of image)) 0
-first_yielded image all rest kind (Some c) is yields =
-    ap (λ (ys : List CommandView). slice_get ys 0) (sym yields ∙ all_kept image all kind is) ∙ slice_get-map (command_at image) (with_cmd image kind (commands_of image)) 0
+pub first_yielded : (image : List ℕ) (all rest : List CommandView) (cmd : ℕ) (got : Option Command) → AreAll image all → YieldsFirstBy command_of (left_with_cmd cmd) all got rest
+    → option_map command_of got ≡ option_map (command_at image) (first_with_cmd image cmd (commands_of image))
+first_yielded image all rest cmd None is yields =
+    ap (λ (ys : List CommandView). slice_get ys 0) (sym yields.0 ∙ all_kept image all cmd is) ∙ slice_get-map (command_at image) (with_cmd image cmd (commands_of image)) 0
+first_yielded image all rest cmd (Some c) is yields =
+    ap (λ (ys : List CommandView). slice_get ys 0) (sym yields ∙ all_kept image all cmd is) ∙ slice_get-map (command_at image) (with_cmd image cmd (commands_of image)) 0
 
 -- its place, where there is one
 pub first_place : (image : List ℕ) (first : Option ℕ) (c : CommandView) → Some c ≡ option_map (command_at image) first → first ≡ Some c.place
@@ -76,7 +76,7 @@ no_first image None is = refl
 no_first image (Some p) is = absurd (cc)
 
 -- where the structure of their kind is listed, that of the first lies inside the image
-pub first_inside : (image bytes : List ℕ) (kind place : ℕ) (s : Structure) (found : Option ℕ) → structure_of kind ≡ Some s → IsOpened image → bytes ≡ image
-    → found ≡ first_with_cmd image kind (commands_of image) → found ≡ Some place → place + structure_size s ≤ length bytes
-first_inside image bytes kind place s found listed opened same is some =
-    subst (λ b. place + structure_size s ≤ length b) (sym same) (held image kind place s listed opened (got_first (with_cmd image kind (commands_of image)) place (sym is ∙ some)))
+pub first_inside : (image bytes : List ℕ) (cmd place : ℕ) (s : Structure) (found : Option ℕ) → structure_of cmd ≡ Some s → IsOpened image → bytes ≡ image
+    → found ≡ first_with_cmd image cmd (commands_of image) → found ≡ Some place → place + structure_size s ≤ length bytes
+first_inside image bytes cmd place s found listed opened same is some =
+    subst (λ b. place + structure_size s ≤ length b) (sym same) (held image cmd place s listed opened (got_first (with_cmd image cmd (commands_of image)) place (sym is ∙ some)))

@@ -54,6 +54,6 @@ pub first_library : (image bytes : List ℕ) (place : ℕ) (found : Option ℕ) 
 first_library image bytes place found opened same is some =
     let commands = commands_of image in
     let has = got_first _ place (sym is ∙ some) in
-    let kind : command_cmd image place ≡ loader.LC_ID_DYLIB = with_cmd_is image commands loader.LC_ID_DYLIB place has in
+    let cmd : command_cmd image place ≡ loader.LC_ID_DYLIB = with_cmd_is image commands loader.LC_ID_DYLIB place has in
     let among : Contains commands place = with_cmd_among image commands loader.LC_ID_DYLIB place has in
-    subst (λ b. HoldsLibrary b place) (sym same) (held_library image place opened among (ap names_library kind))
+    subst (λ b. HoldsLibrary b place) (sym same) (held_library image place opened among (ap names_library cmd))

@@ -26,25 +26,25 @@ ended image command named opened has =
     (z, low, omega arith, within, zero_here)
 
 -- where the structure of their kind has a name, that of each is held
-held_name : (image : List ℕ) (kind command : ℕ) (s : Structure) → structure_of kind ≡ Some s → has_name s ≡ true → IsOpened image → Contains (with_cmd image kind (commands_of image)) command
+held_name : (image : List ℕ) (cmd command : ℕ) (s : Structure) → structure_of cmd ≡ Some s → has_name s ≡ true → IsOpened image → Contains (with_cmd image cmd (commands_of image)) command
     → HoldsName image command
-held_name image kind command s listed named opened has =
-    let is : command_cmd image command ≡ kind = with_cmd_is image (commands_of image) kind command has in
-    let whole : command + structure_size s ≤ length image = held image kind command s listed opened has in
+held_name image cmd command s listed named opened has =
+    let is : command_cmd image command ≡ cmd = with_cmd_is image (commands_of image) cmd command has in
+    let whole : command + structure_size s ≤ length image = held image cmd command s listed opened has in
     let room : 12 ≤ structure_size s = name_inside s named in record {
       whole = omega arith;
       ended = ended image command (of_some (λ t. has_name t ≡ true) (structure_of (command_cmd image command)) s (ap structure_of is ∙ listed) named) opened
-          (with_cmd_among image (commands_of image) kind command has);
+          (with_cmd_among image (commands_of image) cmd command has);
     }
 
-pub all_names_held : (image : List ℕ) (all : List CommandView) (kind : ℕ) (s : Structure) → structure_of kind ≡ Some s → has_name s ≡ true → IsOpened image → AreAll image all
-    → HoldNames image kind all
-all_names_held image all kind s listed named opened is =
-    let places = with_cmd image kind (commands_of image) in
-    subst (All (λ c. HoldsName image c.place)) (sym (all_kept image all kind is)) (All-map (λ c. HoldsName image c.place) (command_at image) places
-    (λ k d less. held_name image kind _ s listed named opened (All-contains_itself places k d less)))
+pub all_names_held : (image : List ℕ) (all : List CommandView) (cmd : ℕ) (s : Structure) → structure_of cmd ≡ Some s → has_name s ≡ true → IsOpened image → AreAll image all
+    → HoldNames image cmd all
+all_names_held image all cmd s listed named opened is =
+    let places = with_cmd image cmd (commands_of image) in
+    subst (All (λ c. HoldsName image c.place)) (sym (all_kept image all cmd is)) (All-map (λ c. HoldsName image c.place) (command_at image) places
+    (λ k d less. held_name image cmd _ s listed named opened (All-contains_itself places k d less)))
 
 -- that of the first of them
-pub first_name_held : (image : List ℕ) (kind place : ℕ) (s : Structure) → structure_of kind ≡ Some s → has_name s ≡ true → IsOpened image
-    → first_with_cmd image kind (commands_of image) ≡ Some place → HoldsName image place
-first_name_held image kind place s listed named opened is = held_name image kind place s listed named opened (got_first (with_cmd image kind (commands_of image)) place is)
+pub first_name_held : (image : List ℕ) (cmd place : ℕ) (s : Structure) → structure_of cmd ≡ Some s → has_name s ≡ true → IsOpened image
+    → first_with_cmd image cmd (commands_of image) ≡ Some place → HoldsName image place
+first_name_held image cmd place s listed named opened is = held_name image cmd place s listed named opened (got_first (with_cmd image cmd (commands_of image)) place is)

@@ -16,13 +16,13 @@ abbrev pub Repeats : List ℕ → ℕ → Type 0
 Repeats image p = RepeatsEarlier image (commands_of image) p
 
 -- what is found of the kind of a command among those before it
-pub record IsFirstFound (image passed : List ℕ) (kind : ℕ) (found : Option ℕ) : Type 0 where
-  pub unique : IsUnique kind → found ≡ first_with_cmd image kind passed
-  pub other : ¬ IsUnique kind → found ≡ None
+pub record IsFirstFound (image passed : List ℕ) (cmd : ℕ) (found : Option ℕ) : Type 0 where
+  pub unique : IsUnique cmd → found ≡ first_with_cmd image cmd passed
+  pub other : ¬ IsUnique cmd → found ≡ None
 
 module _ (image passed : List ℕ) (v : CommandView) (rest : List CommandView) (are : AreCommands image (commands_of image)) (nx : IsNext image passed v rest) where
-  pub kind_is : v.cmd ≡ command_cmd image v.place
-  kind_is = ap (λ (w : CommandView). w.cmd) nx.is
+  pub cmd_is : v.cmd ≡ command_cmd image v.place
+  cmd_is = ap (λ (w : CommandView). w.cmd) nx.is
 
   pub found_repeats : (found : Option ℕ) (some : Bool) → some ≡ is_some found → some ≡ true → IsFirstFound image passed v.cmd found → Repeats image v.place
   found_repeats None some is yes_it_is f = absurd (false≢true (sym is ∙ yes_it_is))
@@ -31,14 +31,14 @@ module _ (image passed : List ℕ) (v : CommandView) (rest : List CommandView) (
     | inl unique ↦
         let (has, same) = first_is image v.cmd p passed (sym (f.unique unique)) in
         let ((k, less, at), before) = passed_are_before image passed v rest are nx p has in
-        (subst IsUnique kind_is unique, (k, p, less, at, (before, same ∙ kind_is)))
+        (subst IsUnique cmd_is unique, (k, p, less, at, (before, same ∙ cmd_is)))
   ]
 
   pub none_repeats : (found : Option ℕ) (some : Bool) → some ≡ is_some found → some ≡ false → IsFirstFound image passed v.cmd found → ¬ Repeats image v.place
   none_repeats (Some p) some is not_it f repeats = absurd (false≢true (sym not_it ∙ is))
   none_repeats None some is not_it f (unique, (k, p, less, at, (before, same))) =
-      first_none image v.cmd p passed (sym (f.unique (subst IsUnique (sym kind_is) unique)))
-      (before_are_passed image passed v rest are nx p (k, less, at) before) (same ∙ sym kind_is)
+      first_none image v.cmd p passed (sym (f.unique (subst IsUnique (sym cmd_is) unique)))
+      (before_are_passed image passed v rest are nx p (k, less, at) before) (same ∙ sym cmd_is)
 
 -- the first LC_ID_DYLIB tells whether there is one
 pub has_id : (image : List ℕ) (found : Option ℕ) (some : Bool) → some ≡ is_some found → found ≡ first_with_cmd image loader.LC_ID_DYLIB (commands_of image)

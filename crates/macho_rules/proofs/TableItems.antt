@@ -25,17 +25,17 @@ use Rattle.macho_rules.proofs.OneCommand.{Has, first_is, is_with_cmd}
 use Rattle.macho_rules.proofs.Searches.{any_of, has_number, number_has, mapped_has, numbers_rise, Rising, ordered_map, Searching, search_all, AreBreaks, are_breaks_at}
 
 -- a table of a command of a kind lies inside the image, or has no items
-pub table_inside : (image : List ℕ) (kind : ℕ) (s : Structure) (command : ℕ) (fields : TableFields) (r : Rule)
-    → rank rule.TableRange < rank r → KeptBefore image r → structure_of kind ≡ Some s → Has image kind command → Contains (table_fields s) fields
+pub table_inside : (image : List ℕ) (cmd : ℕ) (s : Structure) (command : ℕ) (fields : TableFields) (r : Rule)
+    → rank rule.TableRange < rank r → KeptBefore image r → structure_of cmd ≡ Some s → Has image cmd command → Contains (table_fields s) fields
     → ¬ IsOutside image (table_at image command fields)
-table_inside image kind s command fields r late below listed has bounded outside =
-    let tables = tables_listed image command s (ap structure_of (with_cmd_is image (commands_of image) kind command has) ∙ listed) in
+table_inside image cmd s command fields r late below listed has bounded outside =
+    let tables = tables_listed image command s (ap structure_of (with_cmd_is image (commands_of image) cmd command has) ∙ listed) in
     below rule.TableRange command late
     (inr (
       commands_of image,
       opened_commands image (keeps_opened image r (omega (arith, late)) below),
       (
-        with_cmd_among image (commands_of image) kind command has,
+        with_cmd_among image (commands_of image) cmd command has,
         subst (Any (IsOutside image)) (sym tables) (any_of (IsOutside image) _ (table_at image command fields) (contains_mapped (table_at image command) (table_fields s) fields bounded) outside),
       ),
     ))
@@ -66,19 +66,19 @@ table_rises image start each n = elim (cases_Bool (nat_le (start + each * n) (le
 
 -- A kind of which an image has one command at most; its table has so many items of so many bytes
 -- each, and what is read of an item knows the item's place.
-module _ {X : Type 0} (image : List ℕ) (kind each : ℕ) (start count : ℕ → ℕ) (at : ℕ → X) (place : X → ℕ) (same_place : (p : ℕ) → place (at p) ≡ p) where
+module _ {X : Type 0} (image : List ℕ) (cmd each : ℕ) (start count : ℕ → ℕ) (at : ℕ → X) (place : X → ℕ) (same_place : (p : ℕ) → place (at p) ≡ p) where
   -- an item is at the place, and has P
   abbrev pub AtItem : (ℕ → ℕ → Type 0) → ℕ → Type 0
-  AtItem P p = Any (λ c. (k : ℕ) × (k < count c) × (p ≡ start c + each * k) × P c p) (with_cmd image kind (commands_of image))
+  AtItem P p = Any (λ c. (k : ℕ) × (k < count c) × (p ≡ start c + each * k) × P c p) (with_cmd image cmd (commands_of image))
 
   abbrev items_of : Option ℕ → List ℕ
   items_of first = option_map_or (λ c. items_inside image (start c) each (count c)) first []
 
   abbrev pub AreItems : List X → Type 0
-  AreItems all = all ≡ map at (items_of (first_with_cmd image kind (commands_of image)))
+  AreItems all = all ≡ map at (items_of (first_with_cmd image cmd (commands_of image)))
 
   pub items_search : (all : List X) → AreItems all → (Q : X → Type 0) → Searching place Q all all
-  items_search all is Q = search_all place Q all (subst (Rising place) (sym is) (ordered_map (λ x y. place x ≤ place y) at _ (rise (first_with_cmd image kind (commands_of image)))))
+  items_search all is Q = search_all place Q all (subst (Rising place) (sym is) (ordered_map (λ x y. place x ≤ place y) at _ (rise (first_with_cmd image cmd (commands_of image)))))
     where
       at_places : (ps : List ℕ) → Rising (λ p. p) ps → Rising (λ p. place (at p)) ps
       at_places [] rising = tt
@@ -93,21 +93,21 @@ module _ {X : Type 0} (image : List ℕ) (kind each : ℕ) (start count : ℕ �
   item_at all is x has =
       let (p, _, same) = mapped_has at _ x (subst (λ xs. Contains xs x) is has) in subst (λ y. y ≡ at (place y)) same (subst (λ q. at p ≡ at q) (sym (same_place p)) refl)
 
-  module _ (r : Rule) (late : rank rule.TableRange < rank r) (below : KeptBefore image r) (unique : IsUnique kind) (inside : (c : ℕ) → Has image kind c → ¬ IsOutside image (start c, count c, each))
-      (P : ℕ → ℕ → Type 0) (Q : X → Type 0) (seen : (c p : ℕ) → first_with_cmd image kind (commands_of image) ≡ Some c → Q (at p) ↔ P c p) where
+  module _ (r : Rule) (late : rank rule.TableRange < rank r) (below : KeptBefore image r) (unique : IsUnique cmd) (inside : (c : ℕ) → Has image cmd c → ¬ IsOutside image (start c, count c, each))
+      (P : ℕ → ℕ → Type 0) (Q : X → Type 0) (seen : (c p : ℕ) → first_with_cmd image cmd (commands_of image) ≡ Some c → Q (at p) ↔ P c p) where
     opened : IsOpened image
     opened = keeps_opened image r (omega (arith, late)) below
 
-    item_breaks : (p : ℕ) (first : Option ℕ) → first_with_cmd image kind (commands_of image) ≡ first → Contains (items_of first) p → Q (at p) → AtItem P p
+    item_breaks : (p : ℕ) (first : Option ℕ) → first_with_cmd image cmd (commands_of image) ≡ first → Contains (items_of first) p → Q (at p) → AtItem P p
     item_breaks p None is none here = absurd (none_in_nil p none)
-    item_breaks p (Some c) is some here = found (is_with_cmd image kind c is) (in_items image (start c) each (count c) p some)
+    item_breaks p (Some c) is some here = found (is_with_cmd image cmd c is) (in_items image (start c) each (count c) p some)
       where
-        found : Has image kind c → (k : ℕ) × (k < count c) × (p ≡ start c + each * k) → AtItem P p
+        found : Has image cmd c → (k : ℕ) × (k < count c) × (p ≡ start c + each * k) → AtItem P p
         found (i, less, at_i) (k, few, from) = (i, c, less, at_i, (k, few, from, (seen c p is).0 here))
 
-    broken_item : (p : ℕ) → AtItem P p → Contains (items_of (first_with_cmd image kind (commands_of image))) p × Q (at p)
+    broken_item : (p : ℕ) → AtItem P p → Contains (items_of (first_with_cmd image cmd (commands_of image))) p × Q (at p)
     broken_item p (i, c, less, at_i, (k, few, from, here)) =
-        let first : first_with_cmd image kind (commands_of image) ≡ Some c = first_is image kind opened unique c (i, less, at_i) in
+        let first : first_with_cmd image cmd (commands_of image) ≡ Some c = first_is image cmd opened unique c (i, less, at_i) in
         let some : Contains (items_inside image (start c) each (count c)) p = subst (Contains (items_inside image (start c) each (count c))) (sym from)
         (items_in image (start c) each (count c) k (inside c (i, less, at_i)) few) in
         (subst (λ o. Contains (items_of o) p) (sym first) some, (seen c p first).1 here)
@@ -115,6 +115,6 @@ module _ {X : Type 0} (image : List ℕ) (kind each : ℕ) (start count : ℕ �
     pub items_break : (all : List X) → AreItems all → AreBreaks (AtItem P) place Q all
     items_break all is =
         subst (AreBreaks (AtItem P) place Q) (sym is)
-        (are_breaks_at (AtItem P) place Q at (items_of (first_with_cmd image kind (commands_of image)))
+        (are_breaks_at (AtItem P) place Q at (items_of (first_with_cmd image cmd (commands_of image)))
         (λ p has here. subst (AtItem P) (sym (same_place p)) (item_breaks p _ refl has here))
         (λ p broken. let (has, here) = broken_item p broken in (p, has, here, same_place p)))

@@ -6,7 +6,7 @@ use Rattle.macho_image.specs.Command.{command_of}
 use Rattle.macho_image.specs.Scaffold.{AreFirst}
 use Rattle.macho_image.proofs.Opening.{kept_less, has_commands}
 use Rattle.macho_image.proofs.Passed.{all_left, next, pass, all_passed, left_broken, left_kept}
-use Rattle.macho_image.proofs.Repeated.{Repeats, IsFirstFound, kind_is, found_repeats, none_repeats}
+use Rattle.macho_image.proofs.Repeated.{Repeats, IsFirstFound, cmd_is, found_repeats, none_repeats}
 use Rattle.macho_image.proofs.rules.command_repeated.Goals as goal
 
 pub commands-command-items-requires : goal.commands-command-items-requires
@@ -43,7 +43,7 @@ loop-command-preserved c =
         passed ++ c.in-Some.command.place ∷ [],
         pass image (Repeats image) passed _ _ v c.in-Some.ensures.steps left
             (none_repeats image passed v _ are nx c.of.result c.is_some.result c.is_some.ensures c.if-is_some.false found),
-        c.note.ensures image passed (kind_is image passed v _ are nx) first,
+        c.note.ensures image passed (cmd_is image passed v _ are nx) first,
       ),
     )
 

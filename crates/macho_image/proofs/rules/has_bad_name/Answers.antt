@@ -12,14 +12,14 @@ use Rattle.macho_image.proofs.rules.has_bad_name.Goals as goal
 pub returns-in_default : goal.returns-in_default
 returns-in_default c =
     let bytes = c.args.command.bytes.now in
-    let none = subst (λ kind. structure_of kind ≡ None) c.requires.alone.cmd (sym c.structure_of.ensures ∙ c.in_default.is) in
+    let none = subst (λ cmd. structure_of cmd ≡ None) c.requires.alone.cmd (sym c.structure_of.ensures ∙ c.in_default.is) in
     (λ h. absurd (false≢true h), λ bad. absurd (has_no_structure bytes 0 (IsBadName bytes 0) none bad))
 
 pub is_bad_name-requires : goal.is_bad_name-requires
 is_bad_name-requires c =
     let bytes = c.args.command.bytes.now in
     let s = c.in-Some.structure in
-    let some = subst (λ kind. structure_of kind ≡ Some s) c.requires.alone.cmd (sym c.structure_of.ensures ∙ c.in-Some.is) in
+    let some = subst (λ cmd. structure_of cmd ≡ Some s) c.requires.alone.cmd (sym c.structure_of.ensures ∙ c.in-Some.is) in
     let whole : least_size bytes 0 s ≤ command_size bytes 0 = elim (cases_lt (command_size bytes 0) (least_size bytes 0 s)) [
       | inl short ↦ absurd (c.requires.whole ((has_structure bytes 0 (λ (t : Structure). command_size bytes 0 < least_size bytes 0 t) s some).1 short))
       | inr most ↦ most
@@ -33,7 +33,7 @@ pub returns-then-has_name : goal.returns-then-has_name
 returns-then-has_name c =
     let bytes = c.args.command.bytes.now in
     let s = c.in-Some.structure in
-    let some = subst (λ kind. structure_of kind ≡ Some s) c.requires.alone.cmd (sym c.structure_of.ensures ∙ c.in-Some.is) in
+    let some = subst (λ cmd. structure_of cmd ≡ Some s) c.requires.alone.cmd (sym c.structure_of.ensures ∙ c.in-Some.is) in
     let bad = has_structure bytes 0 (IsBadName bytes 0) s some in
     let start : name_offset bytes 0 ≡ 0 + name_offset bytes 0 = omega arith in
     let end : length bytes ≡ 0 + command_size bytes 0 = omega (arith, c.requires.alone.size, c.requires.alone.whole) in
@@ -45,6 +45,6 @@ returns-then-has_name c =
 pub returns-else-has_name : goal.returns-else-has_name
 returns-else-has_name c =
     let bytes = c.args.command.bytes.now in
-    let some = subst (λ kind. structure_of kind ≡ Some c.in-Some.structure) c.requires.alone.cmd (sym c.structure_of.ensures ∙ c.in-Some.is) in
+    let some = subst (λ cmd. structure_of cmd ≡ Some c.in-Some.structure) c.requires.alone.cmd (sym c.structure_of.ensures ∙ c.in-Some.is) in
     let bad = has_structure bytes 0 (IsBadName bytes 0) c.in-Some.structure some in
     (λ h. absurd (false≢true (sym c.if-has_name.false ∙ h)), λ h. c.has_name.ensures.name ∙ (bad.0 h).0)

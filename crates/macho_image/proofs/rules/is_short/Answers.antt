@@ -10,13 +10,13 @@ use Rattle.macho_image.proofs.rules.is_short.Goals as goal
 pub returns-in_default : goal.returns-in_default
 returns-in_default c =
     let bytes = c.args.command.bytes.now in
-    let none = subst (λ kind. structure_of kind ≡ None) c.requires.cmd (sym c.structure_of.ensures ∙ c.in_default.is) in
+    let none = subst (λ cmd. structure_of cmd ≡ None) c.requires.cmd (sym c.structure_of.ensures ∙ c.in_default.is) in
     (λ h. absurd (false≢true h), λ short. absurd (has_no_structure bytes 0 (λ (s : Structure). command_size bytes 0 < least_size bytes 0 s) none short))
 
 pub returns : goal.returns
 returns c =
     let bytes = c.args.command.bytes.now in
-    let some = subst (λ kind. structure_of kind ≡ Some c.in-Some.structure) c.requires.cmd (sym c.structure_of.ensures ∙ c.in-Some.is) in
+    let some = subst (λ cmd. structure_of cmd ≡ Some c.in-Some.structure) c.requires.cmd (sym c.structure_of.ensures ∙ c.in-Some.is) in
     let short = has_structure bytes 0 (λ (s : Structure). command_size bytes 0 < least_size bytes 0 s) c.in-Some.structure some in
     let size : c.from.result ≡ command_size bytes 0 = c.from.ensures ∙ c.requires.size in
     let least : c.least_size.result ≡ least_size bytes 0 c.in-Some.structure = c.least_size.ensures in (

@@ -6,7 +6,7 @@ use Rattle.macho_image.specs.Command.{command_of}
 use Rattle.macho_image.specs.Scaffold.{AreFirst}
 use Rattle.macho_image.proofs.Opening.{has_commands}
 use Rattle.macho_image.proofs.Passed.{all_left, next, pass, all_passed}
-use Rattle.macho_image.proofs.Repeated.{kind_is}
+use Rattle.macho_image.proofs.Repeated.{cmd_is}
 use Rattle.macho_image.proofs.rules.unique_places.Goals as goal
 
 pub loop-command-init : goal.loop-command-init
@@ -20,7 +20,7 @@ loop-command-preserved c =
     let v = command_of c.in-Some.command in
     let nx = next image (λ _. ⊥) passed _ _ v c.in-Some.ensures.steps left in
     let are = has_commands image c.args.opening.arch (rank rule.CommandShort) (omega arith) c.requires in
-    (tt, tt, (passed ++ c.in-Some.command.place ∷ [], pass image (λ _. ⊥) passed _ _ v c.in-Some.ensures.steps left (λ h. h), c.note.ensures image passed (kind_is image passed v _ are nx) first))
+    (tt, tt, (passed ++ c.in-Some.command.place ∷ [], pass image (λ _. ⊥) passed _ _ v c.in-Some.ensures.steps left (λ h. h), c.note.ensures image passed (cmd_is image passed v _ are nx) first))
 
 pub returns : goal.returns
 returns c =

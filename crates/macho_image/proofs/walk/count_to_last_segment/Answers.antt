@@ -8,7 +8,7 @@ use Rattle.macho_image.proofs.Opened.{opened_below}
 use Rattle.macho_image.proofs.OpenedWalk.{opened_commands}
 use Rattle.macho_image.proofs.Opening.{has_header, kept_less}
 use Rattle.macho_image.proofs.Passed.{all_left, next, pass, all_passed}
-use Rattle.macho_image.proofs.Repeated.{kind_is}
+use Rattle.macho_image.proofs.Repeated.{cmd_is}
 use Rattle.macho_image.proofs.Reached.{AreAfter, none_after, one_after, all_but_after, after_most}
 use Rattle.macho_image.proofs.walk.count_to_last_segment.Goals as goal
 
@@ -44,7 +44,7 @@ loop-command-preserved c =
     let (passed, left, after) = c.loop-command.invariant.2 in
     let v = command_of c.in-Some.command in
     let nx = next image (λ _. ⊥) passed _ _ v c.in-Some.ensures.steps left in
-    let is = kind_is image passed v _ (opened_commands image c.requires) nx in (
+    let is = cmd_is image passed v _ (opened_commands image c.requires) nx in (
       tt,
       tt,
       (
