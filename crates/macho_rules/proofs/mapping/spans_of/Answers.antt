@@ -16,3 +16,6 @@ loop-span-preserved c =
       held = rw (take_more pairs i no_pair c.loop-span-test.true) (IsPermutation-push_more (take i pairs) c.loop-span.spans.pairs c.try_insert.new.self.pairs pair c.loop-span.invariant.held added);
       sorted = c.in_ok-try_insert.ensures.sorted;
     }
+
+pub returns-clause-memory : goal.returns-clause-memory
+returns-clause-memory c = tt

@@ -19,3 +19,6 @@ invariant_of-result c =
 
 pub returns-clause-sound : goal.returns-clause-sound
 returns-clause-sound c = unbroken_is_sound c.args.file.now (subst IsUnbroken c.new-file.ensures c.in_ok-check_slices.ensures.unbroken)
+
+pub returns-clause-refused : goal.returns-clause-refused
+returns-clause-refused c = tt

@@ -1,4 +1,4 @@
-use Rattle.std.proofs.Common.{ap}
+use Rattle.std.proofs.Common.{ap, rules}
 use Rattle.std.proofs.lemmas.List.Sorted.{IsPermutation-insert}
 use Rattle.std.proofs.lemmas.Result.{err_from_is_err_and}
 use Rattle.macho_fields.specs.Spans.{SpansView}
@@ -35,3 +35,9 @@ returns-clause-added c =
 pub returns-clause-sorted : goal.returns-clause-sorted
 returns-clause-sorted c =
     rw (c.in_ok-insert.ensures.ok, c.gap_for.ensures.same) (sorted_more _ c.self.invariant c.args.span c.args.tag c.requires c.in-Some.next c.in-Some.ensures.gap.1 c.in-Some.ensures.gap.0)
+
+pub returns-clause-overlap : goal.returns-clause-overlap
+returns-clause-overlap c = search rules
+
+pub returns-clause-unchanged : goal.returns-clause-unchanged
+returns-clause-unchanged c = search rules

@@ -1,4 +1,4 @@
-use Rattle.std.proofs.Common.{◌≡◌, List, ℕ, slice_get, subst}
+use Rattle.std.proofs.Common.{◌≡◌, List, ℕ, slice_get, subst, rules}
 use Rattle.macho_fields.specs.Universal.{slices_of, slice_bytes}
 use Rattle.macho_rules.specs.Mapping.{sources, GivesSources}
 use Rattle.macho_rules.proofs.MappingItems.{some_and}
@@ -10,3 +10,6 @@ returns-clause-sources c =
     some_and (slice_get (slices_of file) c.args.index) (λ slice. c.in-Some.image ≡ slice_bytes file slice)
     (λ slice. GivesSources (slice_bytes file slice) (sources c.in_ok-mapping.mapping))
     (λ slice is. subst (λ (bytes : List ℕ). GivesSources bytes (sources c.in_ok-mapping.mapping)) is c.in_ok-mapping.ensures.sources) c.in-Some.ensures.image
+
+pub returns-clause-is_image : goal.returns-clause-is_image
+returns-clause-is_image c = search rules

@@ -1,4 +1,4 @@
-use Rattle.std.proofs.Common.{ℕ, ◌-◌, ◌<◌, length, Some, sym, ◌∙◌, ap}
+use Rattle.std.proofs.Common.{ℕ, ◌-◌, ◌<◌, length, Some, sym, ◌∙◌, ap, rules}
 use Rattle.std.specs.Option.{option_map}
 use Rattle.std.proofs.lemmas.List.{get_or_default}
 use Rattle.std.proofs.lemmas.List.Elements.{All-contains}
@@ -22,3 +22,15 @@ returns-clause-source c =
     let within = All-contains (λ (one : Span × ℕ). one.1 < length files) pairs pair c.args.self.now.indexed has in
     let file = c.index-file.ensures ∙ get_or_default files c.in_ok-memory.index c.index-file.result.now (record { fileoff = 0; filesize = 0 }) within in
     ap Some c.source.ensures ∙ (ap (λ part. Some (source_past (c.args.addr - c.in_ok-memory.memory.start) part)) file ∙ sym found)
+
+pub returns-in_err-memory-clause-counted : goal.returns-in_err-memory-clause-counted
+returns-in_err-memory-clause-counted c = search rules
+
+pub returns-in_err-memory-clause-probes : goal.returns-in_err-memory-clause-probes
+returns-in_err-memory-clause-probes c = search rules
+
+pub returns-clause-counted : goal.returns-clause-counted
+returns-clause-counted c = search rules
+
+pub returns-clause-probes : goal.returns-clause-probes
+returns-clause-probes c = search rules

@@ -1,0 +1,5 @@
+use Rattle.std.proofs.Common.{rules}
+use Rattle.macho_image.proofs.section.Section.reserved1.Goals as goal
+
+pub returns : goal.returns
+returns c = search rules
