@@ -1,4 +1,5 @@
-use Rattle.std.proofs.Common.{rules}
+use Rattle.std.proofs.Common.{rules, arith}
+use Rattle.std.proofs.lemmas.Grind.{common_steps}
 use Rattle.macho_report.proofs.StreamLemmas.{wrote_next, wrote_next_prefix, writes_fault}
 use Rattle.macho_report.proofs.transfer.write_all.Goals as goal
 
@@ -15,3 +16,9 @@ loop-written-preserved g c = record {
   untouched = search rules;
   working = search rules;
 }
+
+pub returns-clause-bytes : goal.returns-clause-bytes
+returns-clause-bytes g c = grind (arith, common_steps)
+
+pub returns-clause-stays_failed : goal.returns-clause-stays_failed
+returns-clause-stays_failed g c = grind (arith, common_steps)
