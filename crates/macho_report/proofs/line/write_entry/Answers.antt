@@ -1,3 +1,4 @@
+use Rattle.std.proofs.Common.{rules}
 use Rattle.macho_report.proofs.StreamLemmas.{writes_fault, writes_last_text, writes_next_text, wrote_prefix_first_text, wrote_prefix_next_text}
 use Rattle.macho_report.proofs.line.write_entry.Goals as goal
 
@@ -20,3 +21,6 @@ returns-clause-bytes g c =
     (writes_next_text _ _ _ _ _ _ c.in_ok-write_all.ensures.bytes
     (writes_next_text _ _ _ _ _ _ c.in_ok-write_hex.ensures.bytes
     (writes_last_text _ _ _ _ c.write_all-3.ensures.bytes)))
+
+pub returns-in_default-clause-bytes : goal.returns-in_default-clause-bytes
+returns-in_default-clause-bytes g c = search rules

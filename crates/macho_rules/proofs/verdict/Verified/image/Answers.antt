@@ -1,4 +1,4 @@
-use Rattle.std.proofs.Common.{List, ℕ, None, sym, subst}
+use Rattle.std.proofs.Common.{List, ℕ, None, sym, subst, rules}
 use Rattle.macho_fields.specs.Bytes.{bytes_of}
 use Rattle.macho_fields.specs.Image.{commands_of}
 use Rattle.macho_fields.specs.Layers.{NothingBreaks}
@@ -16,3 +16,12 @@ returns-clause-unbroken c = subst (λ (image : List ℕ). NothingBreaks (BreaksI
 pub returns-clause-sound : goal.returns-clause-sound
 returns-clause-sound c =
     subst (λ (image : List ℕ). IsSoundImage image (commands_of image)) (sym c.reopen.ensures) (unbroken_image_sound (bytes_of c.in_ok-bytes.bytes) c.in_ok-bytes.ensures.unbroken)
+
+pub returns-in_err-bytes-clause-is_image : goal.returns-in_err-bytes-clause-is_image
+returns-in_err-bytes-clause-is_image c = search rules
+
+pub returns-clause-is_image : goal.returns-clause-is_image
+returns-clause-is_image c = search rules
+
+pub returns-clause-image : goal.returns-clause-image
+returns-clause-image c = search rules

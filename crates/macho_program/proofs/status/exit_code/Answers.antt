@@ -1,0 +1,5 @@
+use Rattle.std.proofs.Common.{rules}
+use Rattle.macho_program.proofs.status.exit_code.Goals as goal
+
+pub returns : goal.returns
+returns c = search rules
