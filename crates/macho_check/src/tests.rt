@@ -51,7 +51,12 @@ fn run_on(rt: &(impl Abort + AllocGlobal), file: &[u8]) -> (Vec<u8>, u8) {
 /// Compares the whole text that is written for an accepted file.
 fn check_text(rt: &(impl Abort + AllocGlobal), file: &[u8], expected: &str) {
     let (written, status) = run_on(rt, file);
-    let text = str::from_utf8(written.as_slice()).unwrap_or("");
+    check_text_of(rt, written.as_slice(), status, expected);
+}
+
+/// Compares the whole text of an accepted file with what was written.
+fn check_text_of(rt: &impl Abort, written: &[u8], status: u8, expected: &str) {
+    let text = str::from_utf8(written).unwrap_or("");
     same(rt, &(text, status), &(expected, 0));
 }
 
@@ -59,16 +64,18 @@ fn check_text(rt: &(impl Abort + AllocGlobal), file: &[u8], expected: &str) {
 /// compared; of another it is the one line that is written.
 fn check_verdict(rt: &(impl Abort + AllocGlobal), file: &[u8], verdict: &str) {
     let (written, status) = run_on(rt, file);
-    let text = str::from_utf8(written.as_slice()).unwrap_or("");
-    if verdict == "accepted" {
-        same(
-            rt,
-            &(text.get(..17), status),
-            &(Some("accepted, slices "), 0),
-        );
+    check_line_of(rt, written.as_slice(), status, verdict);
+}
+
+/// Compares the verdict with what was written.
+fn check_line_of(rt: &impl Abort, written: &[u8], status: u8, verdict: &str) {
+    let text = str::from_utf8(written).unwrap_or("");
+    let (given, wanted) = if verdict == "accepted" {
+        ((text.get(..17), status), (Some("accepted, slices "), 0))
     } else {
-        same(rt, &(text.strip_suffix('\n'), status), &(Some(verdict), 1));
-    }
+        ((text.strip_suffix('\n'), status), (Some(verdict), 1))
+    };
+    same(rt, &given, &wanted);
 }
 
 /// Compares the verdicts on files that are written out. A line is `BYTES : VERDICT`. Each file begins

@@ -183,10 +183,16 @@ fn a_break_shows_its_place_in_hexadecimal(rt: HostRuntime) -> Result<(), Fail> {
 }
 
 #[test]
-fn a_width_applies_to_the_whole_text(rt: HostRuntime) -> Result<(), Fail> {
+fn a_width_applies_to_the_name_of_a_rule(rt: HostRuntime) -> Result<(), Fail> {
     let rule = Rule::Entry;
     let text = format!(in rt.alloc(); "{rule:>8}|{rule:-<8}|{rule:4}")?;
     same(&rt, &text.as_str(), &"   entry|entry---|entry");
+    Ok(())
+}
+
+#[test]
+fn a_width_applies_to_the_whole_text_of_a_break(rt: HostRuntime) -> Result<(), Fail> {
+    let rule = Rule::Entry;
     let broken = Break { rule, place: 0x20 };
     let text = format!(in rt.alloc(); "{broken:>16}|{broken:^15}|{broken:2}")?;
     same(
@@ -452,37 +458,71 @@ fn check_insert(
     Ok(())
 }
 
+/// Inserts spans, each with its start, its length and its tag, and compares the answers.
+fn check_inserts(
+    rt: &impl Abort,
+    spans: &mut Spans,
+    inserts: &[(u64, u64, u64, Insert)],
+) -> Result<(), Fail> {
+    for &(start, len, tag, insert) in inserts {
+        let given = span(start, len);
+        if len == 0 || given.end() > 1 << 64 {
+            return Err("a span that has no place".into());
+        }
+        check_insert(rt, spans, (given, tag), insert)?;
+    }
+    Ok(())
+}
+
+/// Spans up to the last place. The third shares places with the first two.
+const INSERTS: &[(u64, u64, u64, Insert)] = &[
+    (0, 10, 7, Insert::Added),
+    (10, 5, 8, Insert::Added),
+    (9, 2, 6, Insert::Overlap),
+    (u64::MAX, 1, 9, Insert::Added),
+];
+
+/// Places, and what is found there of these spans.
+const FINDS: &[(u64, Option<(u64, u64, u64)>)] = &[
+    (14, Some((10, 5, 8))),
+    (15, None),
+    (u64::MAX, Some((u64::MAX, 1, 9))),
+];
+
 #[test]
 fn spans_are_added_or_overlap(rt: HostRuntime) -> Result<(), Fail> {
     let mut spans = Spans::new(rt.alloc());
-    same(
-        &rt,
-        &(spans.len(), spans.find(0), spans.probes()),
-        &(0, None, 0),
-    );
-    let (second, third) = ((span(10, 5), 8), (span(u64::MAX, 1), 9));
-    check_insert(&rt, &mut spans, (span(0, 10), 7), Insert::Added)?;
-    check_insert(&rt, &mut spans, second, Insert::Added)?;
-    check_insert(&rt, &mut spans, (span(9, 2), 6), Insert::Overlap)?;
-    check_insert(&rt, &mut spans, third, Insert::Added)?;
+    let empty = (spans.len(), spans.find(0), spans.probes());
+    same(&rt, &empty, &(0, None, 0));
+    check_inserts(&rt, &mut spans, INSERTS)?;
     same(&rt, &spans.len(), &3);
-    same(&rt, &spans.find(14), &Some(second));
-    same(&rt, &spans.find(15), &None);
-    same(&rt, &spans.find(u64::MAX), &Some(third));
+    check_finds(&rt, &mut spans, FINDS);
     Ok(())
 }
+
+/// Looks for places, and compares what is found.
+fn check_finds(rt: &impl Abort, spans: &mut Spans, finds: &[(u64, Option<(u64, u64, u64)>)]) {
+    for &(place, found) in finds {
+        let wanted = found.map(|(start, len, tag)| (span(start, len), tag));
+        same(rt, &(place, spans.find(place)), &(place, wanted));
+    }
+}
+
+/// Spans on both sides of a gap, of which three overlap one or both.
+const INSERTS_AROUND: &[(u64, u64, u64, Insert)] = &[
+    (0, 100, 1, Insert::Added),
+    (200, 1, 2, Insert::Added),
+    (50, 1, 3, Insert::Overlap),
+    (150, 100, 3, Insert::Overlap),
+    (0, u64::MAX, 3, Insert::Overlap),
+    (100, 100, 3, Insert::Added),
+];
 
 #[test]
 fn a_span_is_compared_with_those_on_both_sides(rt: HostRuntime) -> Result<(), Fail> {
     let mut spans = Spans::new(rt.alloc());
-    let between = (span(100, 100), 3);
-    check_insert(&rt, &mut spans, (span(0, 100), 1), Insert::Added)?;
-    check_insert(&rt, &mut spans, (span(200, 1), 2), Insert::Added)?;
-    check_insert(&rt, &mut spans, (span(50, 1), 3), Insert::Overlap)?;
-    check_insert(&rt, &mut spans, (span(150, 100), 3), Insert::Overlap)?;
-    check_insert(&rt, &mut spans, (span(0, u64::MAX), 3), Insert::Overlap)?;
-    check_insert(&rt, &mut spans, between, Insert::Added)?;
-    same(&rt, &spans.find(199), &Some(between));
+    check_inserts(&rt, &mut spans, INSERTS_AROUND)?;
+    check_finds(&rt, &mut spans, &[(199, Some((100, 100, 3)))]);
     Ok(())
 }
 

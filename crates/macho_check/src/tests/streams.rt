@@ -109,32 +109,40 @@ fn no_write_follows_an_error_of_std(rt: HostRuntime) {
     for fault in [Fault::Error, Fault::NoBytes] {
         for fails_at in 1..8u64 {
             let mut counted = CountingWriter::new(Vec::new(rt.alloc()), fails_at, fault);
-            let mut writer = FromWrite::new(&mut counted);
-            for _ in 1..fails_at {
-                same(&rt, &writer.write(b"abcd"), &Ok(4));
-            }
-            same(&rt, &writer.failed(), &false);
-            for _ in 0..3 {
-                same(&rt, &writer.write(b"abcd"), &Err(Failed));
-                same(&rt, &writer.flush(), &Err(Failed));
-                same(&rt, &writer.failed(), &true);
-            }
-            same(&rt, &(counted.writes, counted.flushes), &(fails_at, 0));
+            check_failed_write(&rt, &mut counted, fails_at);
         }
     }
+}
+
+/// Writes until this write fails, and goes on. No call is passed on any more.
+fn check_failed_write(rt: &impl Abort, counted: &mut CountingWriter, fails_at: u64) {
+    let mut writer = FromWrite::new(counted);
+    for _ in 1..fails_at {
+        same(rt, &writer.write(b"abcd"), &Ok(4));
+    }
+    same(rt, &writer.failed(), &false);
+    for _ in 0..3 {
+        let calls = (writer.write(b"abcd"), writer.flush(), writer.failed());
+        same(rt, &calls, &(Err(Failed), Err(Failed), true));
+    }
+    same(rt, &(counted.writes, counted.flushes), &(fails_at, 0));
 }
 
 #[test]
 fn no_call_follows_a_failed_flush(rt: HostRuntime) {
     let mut counted = CountingWriter::new(Vec::new(rt.alloc()), 2, Fault::Error);
-    let mut writer = FromWrite::new(&mut counted);
-    same(&rt, &write_all(b"abcd", &mut writer).is_ok(), &true);
-    same(&rt, &write_all(b"", &mut writer).is_ok(), &true);
-    same(&rt, &writer.flush(), &Err(Failed));
-    same(&rt, &writer.flush(), &Err(Failed));
-    same(&rt, &writer.write(b"e"), &Err(Failed));
-    same(&rt, &writer.failed(), &true);
+    check_failed_flush(&rt, &mut counted);
     check_written(&rt, &counted, b"abcd", (1, 1));
+}
+
+/// Writes, and flushes, which fails. Nothing is passed on any more.
+fn check_failed_flush(rt: &impl Abort, counted: &mut CountingWriter) {
+    let mut writer = FromWrite::new(counted);
+    let all = [write_all(b"abcd", &mut writer), write_all(b"", &mut writer)];
+    same(rt, &all, &[Ok(()), Ok(())]);
+    same(rt, &[writer.flush(), writer.flush()], &[Err(Failed); 2]);
+    same(rt, &writer.write(b"e"), &Err(Failed));
+    same(rt, &writer.failed(), &true);
 }
 
 /// A header alone, which keeps every rule.
@@ -189,7 +197,6 @@ fn check_end(
     bad_write: u64,
     expected: End,
 ) {
-    let End(status, text, line, calls) = expected;
     let mut reader = CountingReader::new(BARE_HEADER, bad_read);
     let mut writer = CountingWriter::new(Vec::new(rt.alloc()), bad_write, Fault::Error);
     let mut errors = CountingWriter::new(Vec::new(rt.alloc()), 0, Fault::Error);
@@ -201,12 +208,32 @@ fn check_end(
         &mut FromWrite::new(&mut writer),
         &mut FromWrite::new(&mut errors),
     );
-    same(rt, &exit_code(&ended), &ExitCode::from(status));
-    let (reads, writes, flushes) = calls;
-    same(rt, &reader.reads, &reads);
-    check_written(rt, &writer, text.as_bytes(), (writes, flushes));
+    check_ended(
+        rt,
+        &exit_code(&ended),
+        reader.reads,
+        &writer,
+        &errors,
+        expected,
+    );
+}
+
+/// Compares the end of the program: its status, how many reads there were, and both outputs.
+fn check_ended(
+    rt: &impl Abort,
+    ended: &ExitCode,
+    reads: u64,
+    writer: &CountingWriter,
+    errors: &CountingWriter,
+    expected: End,
+) {
+    let End(status, text, line, calls) = expected;
+    same(rt, ended, &ExitCode::from(status));
+    let (wanted_reads, writes, flushes) = calls;
+    same(rt, &reads, &wanted_reads);
+    check_written(rt, writer, text.as_bytes(), (writes, flushes));
     let lines = u64::from(!line.is_empty());
-    check_written(rt, &errors, line.as_bytes(), (lines, 0));
+    check_written(rt, errors, line.as_bytes(), (lines, 0));
 }
 
 /// Compares what a writer has, and how many writes and flushes there were.
@@ -379,19 +406,30 @@ fn check_cut_off(
     fails_at: u64,
     expected: (Outcome, &str, u64),
 ) {
-    let (outcome, text, writes) = expected;
     let mut input = file;
     let mut writer = CountingWriter::new(Vec::new(rt.alloc()), fails_at, Fault::Error);
     let mut output = FromWrite::new(&mut writer);
     let ended = run(rt.alloc(), 32, &mut FromRead::new(&mut input), &mut output);
+    check_ended_run(rt, &ended, &writer, fails_at, expected);
+}
+
+/// Compares the end of such a run.
+fn check_ended_run(
+    rt: &impl Abort,
+    ended: &Result<Outcome, RunFault>,
+    writer: &CountingWriter,
+    fails_at: u64,
+    expected: (Outcome, &str, u64),
+) {
+    let (outcome, text, writes) = expected;
     if fails_at != 0 && fails_at <= writes {
-        same(rt, &ended, &Err(RunFault::Write));
+        same(rt, ended, &Err(RunFault::Write));
         same(rt, &(writer.writes, writer.flushes), &(fails_at, 0));
         let front = text.as_bytes().starts_with(writer.bytes.as_slice());
         same(rt, &(front, writer.bytes.len() < text.len()), &(true, true));
     } else {
-        same(rt, &ended, &Ok(outcome));
-        check_written(rt, &writer, text.as_bytes(), (writes, 0));
+        same(rt, ended, &Ok(outcome));
+        check_written(rt, writer, text.as_bytes(), (writes, 0));
     }
 }
 
