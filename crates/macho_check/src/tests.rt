@@ -15,12 +15,10 @@ mod transfers;
 mod views;
 mod words;
 
-use crate::notation::written_after;
 use macho_program::check_status;
 use macho_report::{FromRead, FromWrite, run};
 use std::fmt::Debug;
 use std::process::Abort;
-use std::test::Fail;
 
 /// Compares what is given with what is wanted. A call costs less proof than `assert_eq!`.
 fn same<T: PartialEq + Debug>(rt: &impl Abort, given: &T, wanted: &T) {
@@ -58,38 +56,4 @@ fn check_text(rt: &(impl Abort + AllocGlobal), file: &[u8], expected: &str) {
 fn check_text_of(rt: &impl Abort, written: &[u8], status: u8, expected: &str) {
     let text = str::from_utf8(written).unwrap_or("");
     same(rt, &(text, status), &(expected, 0));
-}
-
-/// Compares the verdict. Of an accepted file, which is `accepted`, only the front of the text is
-/// compared; of another it is the one line that is written.
-fn check_verdict(rt: &(impl Abort + AllocGlobal), file: &[u8], verdict: &str) {
-    let (written, status) = run_on(rt, file);
-    check_line_of(rt, written.as_slice(), status, verdict);
-}
-
-/// Compares the verdict with what was written.
-fn check_line_of(rt: &impl Abort, written: &[u8], status: u8, verdict: &str) {
-    let text = str::from_utf8(written).unwrap_or("");
-    let (given, wanted) = if verdict == "accepted" {
-        ((text.get(..17), status), (Some("accepted, slices "), 0))
-    } else {
-        ((text.strip_suffix('\n'), status), (Some(verdict), 1))
-    };
-    same(rt, &given, &wanted);
-}
-
-/// Compares the verdicts on files that are written out. A line is `BYTES : VERDICT`. Each file begins
-/// with the bytes of `front`.
-fn check_lines(rt: &(impl Abort + AllocGlobal), front: &str, lines: &str) -> Result<(), Fail> {
-    for line in lines.trim().lines() {
-        check_line(rt, front, line)?;
-    }
-    Ok(())
-}
-
-fn check_line(rt: &(impl Abort + AllocGlobal), front: &str, line: &str) -> Result<(), Fail> {
-    let (bytes, verdict) = line.split_once(" : ").ok_or("a line without a verdict")?;
-    let file = written_after(rt.alloc(), front, bytes)?;
-    check_verdict(rt, &file, verdict);
-    Ok(())
 }
