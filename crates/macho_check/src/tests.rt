@@ -1,5 +1,5 @@
 //! What no clause says, and that the clauses say what was meant. The verdicts are in the crate
-//! `macho_vectors`, but for the worked examples.
+//! `macho_trials`, but for the worked examples.
 
 mod address;
 mod examples;

@@ -1,0 +1,4 @@
+pub mod Digit
+pub mod Field
+pub mod Status
+pub mod Verdict

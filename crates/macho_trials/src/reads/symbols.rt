@@ -1,0 +1,65 @@
+//! Symbols by their index, their groups, and the indirect entries.
+
+use crate::reads::segments::text_of;
+use macho_verified::{VerifiedImage, VerifiedSymbol, VerifiedSymbols};
+use std::io;
+
+/// Prints each symbol by its index, the groups, and the indirect entries.
+pub(crate) fn write_symbols(rt: &impl Print, image: &VerifiedImage) -> io::Result<()> {
+    write_each(rt, image)?;
+    write_group(rt, "all", image.symbols())?;
+    write_group(rt, "local", image.local_symbols())?;
+    write_group(rt, "defined", image.defined_symbols())?;
+    write_group(rt, "undefined", image.undefined_symbols())?;
+    write_indirects(rt, image)
+}
+
+/// Prints each symbol: its index, its name, its value, and the section that it names.
+fn write_each(rt: &impl Print, image: &VerifiedImage) -> io::Result<()> {
+    for index in 0..=u64::MAX {
+        let Some(symbol) = image.symbol(index) else {
+            break;
+        };
+        let fields = symbol.symbol();
+        let value = fields.value;
+        print!(rt; "symbol {index} {} {value:#x}", name_of(&symbol))?;
+        match image.section(fields.sect) {
+            Some(section) => println!(rt; " in {}", text_of(section.section().name()))?,
+            None => println!(rt; "")?,
+        }
+    }
+    Ok(())
+}
+
+/// Prints the names of a group, on one line.
+fn write_group(rt: &impl Print, word: &str, symbols: VerifiedSymbols) -> io::Result<()> {
+    print!(rt; "{word}")?;
+    for symbol in symbols {
+        print!(rt; " {}", name_of(&symbol))?;
+    }
+    println!(rt; "")
+}
+
+/// Prints each indirect entry that is also found by its index, with the name of its symbol.
+fn write_indirects(rt: &impl Print, image: &VerifiedImage) -> io::Result<()> {
+    let mut entries = image.indirects();
+    for index in 0..=u64::MAX {
+        let Some(entry) = entries.next() else {
+            break;
+        };
+        if image.image().indirect(index) != Some(entry.indirect()) {
+            break;
+        }
+        let value = entry.indirect().value;
+        match entry.symbol() {
+            Some(symbol) => println!(rt; "indirect {value:#x} {}", name_of(&symbol))?,
+            None => println!(rt; "indirect {value:#x} none")?,
+        }
+    }
+    Ok(())
+}
+
+/// The name of a symbol as text.
+fn name_of<'a>(symbol: &VerifiedSymbol<'a>) -> &'a str {
+    text_of(symbol.name().unwrap_or(b"(none)"))
+}

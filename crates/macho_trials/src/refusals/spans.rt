@@ -1,0 +1,156 @@
+//! The calls that add spans. One that is refused is made again, and all calls after it are made too, so
+//! the answer to them all is that with ample memory. It is printed in each case.
+
+ghost use Rattle.std.specs.Prelude.{◌↔◌, IsTrue};
+ghost use Rattle.macho_fields.specs.Spans.{IsPlaced};
+
+use crate::refusals::announce;
+use crate::refusals::fault::Fault;
+use macho_fields::{Insert, Span, SpanList, Spans};
+use std::alloc::Global;
+
+/// Calls `try_insert` for each span, and prints how many are held in the end. After want of memory and
+/// in the end, what is held is compared with a plain list.
+pub(crate) fn call_try_insert(
+    rt: &(impl AllocGlobal + Print + Eprint),
+    input: &[u8],
+) -> Result<(), Fault> {
+    let all = spans_of(rt.alloc(), input)?;
+    insert_all(rt, &all)
+}
+
+/// Does so for these spans.
+fn insert_all(rt: &(impl AllocGlobal + Print + Eprint), all: &[Span]) -> Result<(), Fault> {
+    let mut pairs = Vec::with_capacity(rt.alloc(), all.len())?;
+    let mut spans = Spans::new(rt.alloc());
+    announce(rt)?;
+    let refused = insert_each(&mut spans, &mut pairs, all)?;
+    println!(rt; "{} held", spans.len())?;
+    end(refused)
+}
+
+/// Inserts each span, and compares what is held in the end. It answers whether memory was wanting.
+fn insert_each(
+    spans: &mut Spans,
+    pairs: &mut Vec<(Span, u64)>,
+    all: &[Span],
+) -> Result<bool, Fault> {
+    let mut refused = false;
+    for &span in all {
+        refused |= insert(spans, pairs, all, span)?;
+    }
+    expect_held(spans, pairs, all)?;
+    Ok(refused)
+}
+
+/// Inserts a span, a second time where memory was wanting. It answers whether it was.
+fn insert(
+    spans: &mut Spans,
+    pairs: &mut Vec<(Span, u64)>,
+    all: &[Span],
+    span: Span,
+) -> Result<bool, Fault> {
+    if !is_placed(span) {
+        return Err(Fault::NoCall);
+    }
+    let tag = pairs.len() as u64;
+    let mut inserted = spans.try_insert(span, tag);
+    let refused = inserted.is_err();
+    if refused {
+        expect_held(spans, pairs, all)?;
+        inserted = spans.try_insert(span, tag);
+    }
+    if inserted? == Insert::Added {
+        pairs.push((span, tag))?;
+    }
+    Ok(refused)
+}
+
+/// How all calls have ended: with want of memory where one of them was refused it.
+fn end(refused: bool) -> Result<(), Fault> {
+    if refused {
+        return Err(Fault::Memory);
+    }
+    Ok(())
+}
+
+/// Calls `push` for each span, and prints the index of the first that shares a place with an earlier
+/// one.
+pub(crate) fn call_push(
+    rt: &(impl AllocGlobal + Print + Eprint),
+    input: &[u8],
+) -> Result<(), Fault> {
+    let all = spans_of(rt.alloc(), input)?;
+    push_all(rt, &all)
+}
+
+/// Does so for these spans.
+fn push_all(rt: &(impl AllocGlobal + Print + Eprint), all: &[Span]) -> Result<(), Fault> {
+    let mut list = SpanList::with_capacity(rt.alloc(), 0)?;
+    announce(rt)?;
+    let refused = push_each(&mut list, all)?;
+    println!(rt; "{:?}", list.least_overlap())?;
+    end(refused)
+}
+
+/// Pushes each span, a second time where memory was wanting. It answers whether it was.
+fn push_each(list: &mut SpanList, all: &[Span]) -> Result<bool, Fault> {
+    let mut refused = false;
+    for &span in all {
+        if list.push(span).is_err() {
+            refused = true;
+            list.push(span)?;
+        }
+    }
+    Ok(refused)
+}
+
+/// The spans of the lines `START LEN`.
+fn spans_of(alloc: Global, input: &[u8]) -> Result<Vec<Span>, Fault> {
+    let mut spans = Vec::new(alloc);
+    let Ok(text) = str::from_utf8(input) else {
+        return Err(Fault::NoCall);
+    };
+    for line in text.lines() {
+        let (start, len) = line.split_once(' ').ok_or(Fault::NoCall)?;
+        let (Ok(start), Ok(len)) = (start.parse(), len.parse()) else {
+            return Err(Fault::NoCall);
+        };
+        spans.push(Span { start, len })?;
+    }
+    Ok(spans)
+}
+
+/// Whether the span is not empty, and ends at 2^64 or before.
+fn is_placed(span: Span) -> bool
+    ensures { IsTrue result ↔ IsPlaced span }
+{
+    span.len > 0 && span.end() <= 1 << 64
+}
+
+/// Compares how many pairs are held, and what is found at both ends of each span and past it, with the
+/// pairs of the list.
+fn expect_held(spans: &mut Spans, pairs: &[(Span, u64)], all: &[Span]) -> Result<(), Fault> {
+    if spans.len() != pairs.len() as u64 {
+        return Err(Fault::Changed);
+    }
+    for span in all {
+        let end = span.start.saturating_add(span.len);
+        for place in [span.start, end.saturating_sub(1), end] {
+            if spans.find(place) != pair_with(pairs, place) {
+                return Err(Fault::Changed);
+            }
+        }
+    }
+    Ok(())
+}
+
+/// The pair of the list whose span holds the place.
+fn pair_with(pairs: &[(Span, u64)], place: u64) -> Option<(Span, u64)> {
+    for &(held, tag) in pairs {
+        if held.holds(place) {
+            return Some((held, tag));
+        }
+    }
+    None
+}

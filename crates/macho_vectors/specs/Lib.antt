@@ -1,3 +1,0 @@
-pub mod Digit
-pub mod Field
-pub mod Verdict
