@@ -4,14 +4,14 @@ use Rattle.std.specs.Result.{result_err}
 use Rattle.std.proofs.lemmas.Bool.{cases_lt, cases_Bool}
 use Rattle.macho_fields.specs.Universal.{is_universal, IsImage, IsUniversal, entry_slice}
 use Rattle.macho_fields.specs.First.{rank, IsFirstBroken, IsUnbroken}
-use Rattle.macho_fields.specs.Rules.{BreaksImage}
+use Rattle.macho_fields.specs.Rules.{BreaksFile, BreaksImage}
 use Rattle.macho_fields.specs.Layers.{KeptBelow, Continues, Decides}
 use Rattle.macho_fields.specs.declared.rule.Rule.{Rule}
 use Rattle.macho_fields.specs.declared.rule.Rule.TheVariants as rule
 use Rattle.macho_fields.specs.declared.rule.Break.{Break}
 use Rattle.macho_fields.proofs.Magics.{IsForeignEntry, DecidesForeign, first_foreign, more_foreign}
 use Rattle.macho_fields.proofs.Plain.{first_in_image, unbroken_image}
-use Rattle.macho_fields.proofs.Ranks.{rank_most}
+use Rattle.macho_fields.proofs.Ranks.{rank_most, file_rule_rank}
 use Rattle.macho_rules.proofs.Verdicts.{opened_unbroken, opened_refused}
 use Rattle.macho_rules.specs.declared.refusal.Refusal.TheVariants as refusal
 
@@ -19,6 +19,11 @@ use Rattle.macho_rules.specs.declared.refusal.Refusal.TheVariants as refusal
 pub decided_last : {T : Type 0} (breaks : Rule → ℕ → Type 0) (answer : Result T Break) → Continues breaks rule.Entry answer → Decides breaks answer
 decided_last breaks (Ok x) kept = λ r place broken. kept r place (omega (arith, rank_most r)) broken
 decided_last breaks (Err b) least = least
+
+-- of the rules of a file the same
+pub decided_file : {T : Type 0} (file : List ℕ) (answer : Result T Break) → Continues (BreaksFile file) rule.FatEmpty answer → Decides (BreaksFile file) answer
+decided_file file (Ok x) kept = λ r place broken. let most = file_rule_rank file r place broken in kept r place (omega (arith, most)) broken
+decided_file file (Err b) least = least
 
 -- what is decided of an opened image is decided of its bytes
 pub decided_opened : {T : Type 0} (image : List ℕ) (arch : Option (ℕ × ℕ)) → KeptBelow (BreaksImage image arch) (rank rule.SegmentAddress) → (answer : Result T Break)

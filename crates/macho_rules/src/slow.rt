@@ -6,7 +6,7 @@ mod file;
 mod segments;
 mod symbols;
 
-ghost use Rattle.std.specs.Prelude.{◌≡◌, ◌<◌, ◌↔◌, ℕ, None, IfOk, OnOk, IfErr, IfSome};
+ghost use Rattle.std.specs.Prelude.{◌≡◌, ◌<◌, ◌↔◌, ℕ, None, OnOk, IfErr, IfSome};
 ghost use Rattle.macho_fields.specs.Bytes.{bytes_of};
 ghost use Rattle.macho_fields.specs.First.{rank, IsFirstBroken, IsUnbroken};
 ghost use Rattle.macho_fields.specs.Layers.{Decides, KeptBelow, NothingBreaks};
@@ -62,26 +62,23 @@ fn judge_universal(file: Bytes) -> Result<(), Break>
     ensures unbroken { OnOk result (IsUnbroken (bytes_of file.entry)) }
     ensures first { IfErr result (IsFirstBroken (bytes_of file.entry)) }
 {
-    let entries = judge_entries(file)?;
+    let entries = fat_truncated(file)?;
+    judge_entries(entries)?;
     judge_images(entries)
 }
 
-/// Decides the rules of a universal file after `magic`, and returns its entries.
-fn judge_entries(file: Bytes) -> Result<Entries, Break>
-    requires universal { IsUniversal (bytes_of file) }
-    requires kept { KeptBelow (BreaksFile (bytes_of file)) (rank Rule.FatTruncated) }
-    ensures decides { Decides (BreaksFile (bytes_of file.entry)) result }
-    ensures file { IfOk result (λ entries. entries.file ≡ file.entry) }
+/// Decides the rules of the entries of a universal file, in their order.
+fn judge_entries(entries: Entries) -> Result<(), Break>
+    requires { KeptBelow (BreaksFile (bytes_of entries.file)) (rank Rule.FatSliceOutside) }
+    ensures { Decides (BreaksFile (bytes_of entries.entry.file)) result }
 {
-    let entries = fat_truncated(file)?;
     fat_slice_outside(entries)?;
     fat_slice_in_table(entries)?;
     fat_align(entries)?;
     fat_overlap(entries)?;
     fat_duplicate(entries)?;
     fat_slice_magic(entries)?;
-    fat_empty(entries)?;
-    Ok(entries)
+    fat_empty(entries)
 }
 
 /// Decides the rules of each 64-bit slice, in the order of the table.

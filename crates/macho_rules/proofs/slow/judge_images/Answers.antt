@@ -3,12 +3,22 @@ use Rattle.std.proofs.lemmas.Bool.{both_ways}
 use Rattle.macho_fields.specs.Bytes.{bytes_of}
 use Rattle.macho_fields.specs.First.{IsFirstBroken}
 use Rattle.macho_fields.specs.Universal.{entry_count, entry_slice, slices_of, IsImage}
-use Rattle.macho_fields.proofs.Scopes.{KeptScopes, image_kept, other_kept, all_kept}
+use Rattle.macho_fields.specs.declared.rule.Rule.TheVariants as rule
+use Rattle.macho_fields.proofs.Scopes.{KeptScopes, file_kept, image_kept, other_kept, all_kept}
 use Rattle.macho_fields.proofs.Slices.{slice_count, slice_of_entry}
 use Rattle.macho_rules.specs.declared.refusal.Refusal.TheVariants as refusal
 use Rattle.macho_rules.proofs.Verdicts.{passed_on, slice_refused}
 use Rattle.macho_rules.proofs.slow.judge_images.Goals as goal
 use Rattle.macho_rules.proofs.slow.judge_images.Goals.{then-is_image+in_ok-judge_slice, else-is_image}
+
+pub loop-k-init : goal.loop-k-init
+loop-k-init c = file_kept (bytes_of c.args.entries.file) c.requires
+
+pub bytes-requires-clause-inside : goal.bytes-requires-clause-inside
+bytes-requires-clause-inside c = c.requires rule.FatSliceOutside
+
+pub judge_slice-requires-clause-inside : goal.judge_slice-requires-clause-inside
+judge_slice-requires-clause-inside c = c.requires rule.FatSliceOutside
 
 pub returns-in_err-judge_slice-clause-first : goal.returns-in_err-judge_slice-clause-first
 returns-in_err-judge_slice-clause-first c =
