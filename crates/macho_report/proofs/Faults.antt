@@ -6,6 +6,7 @@ use Rattle.macho_fields.specs.declared.rule.Break.{Break}
 use Rattle.macho_rules.specs.Verdict.{IsRefusal}
 use Rattle.macho_rules.specs.declared.refusal.Refusal.{Refusal}
 use Rattle.macho_rules.specs.declared.refusal.Refusal.TheVariants.{Broken}
+use Rattle.macho_report.specs.declared.outcome.RunFault.TheVariants as fault
 
 -- what a `?` returns is the fault that it makes
 pub at_fault : {T E : Type 0} (r : Result T E) (fault : E) → IsErrAnd r (λ e. e ≡ fault) → r ≡ Err fault
@@ -19,3 +20,19 @@ same_fault e f is = let same : e ≡ f = cc in ap Err same
 -- a refusal for a broken rule is for the first
 pub refused_first : (file : List ℕ) (refusal : Refusal) (b : Break) → refusal ≡ Broken b → IsRefusal file refusal → IsFirstBroken file b
 refused_first file refusal b is refused = subst (IsRefusal file) is refused
+
+-- what has an answer has no fault
+pub no_fault : {T E : Type 0} (x : T) (e : E) → ¬ IsErrOf (Ok x) e
+no_fault x e is = cc
+
+-- what has a fault has no answer
+pub no_answer : {T E : Type 0} (e : E) (x : T) → ¬ (Err e ≡ Ok x)
+no_answer e x is = cc
+
+-- the answer is another one
+pub other_answer : {T E : Type 0} (r : Result T E) (x y : T) → r ≡ Ok x → ¬ (x ≡ y) → ¬ (r ≡ Ok y)
+other_answer r x y first other second = let same : x ≡ y = cc in other same
+
+-- a fault of memory is none of writing
+pub no_write_fault : {T : Type 0} → ¬ IsErrOf {T = T} (Err fault.Memory) fault.Write
+no_write_fault is = cc

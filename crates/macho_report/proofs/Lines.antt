@@ -1,5 +1,7 @@
 -- Texts that are put together from the end, and how lines end.
-use Rattle.std.proofs.Common.{◌≡◌, ℕ, Option, Result, true, false, List, [], ◌∷◌, ◌++◌, refl, ap, subst, ◌∙◌, append_assoc, append-nil}
+use Rattle.std.proofs.Common.{◌≡◌, ℕ, Option, None, Some, Result, true, false, List, [], ◌∷◌, ◌++◌, refl, ap, subst, ◌∙◌, append_assoc, append-nil}
+use Rattle.std.proofs.lemmas.Option.{same_Some}
+use Rattle.std.specs.Option.{option_map, option_map_or}
 use Rattle.std.specs.Prelude.{codes}
 use Rattle.macho_fields.specs.Segment.{section_offset, is_zero_fill}
 use Rattle.macho_report.specs.Stream.{Writes, joined}
@@ -33,3 +35,8 @@ library_begins kind rest = ap (λ l. codes "  " ++ l) (append_assoc (library_wor
 pub library_writes : {T E : Type 0} (kind : ℕ) (rest : List (List ℕ)) (a b : Option (List ℕ)) (r : Result T E)
     → Writes a b r (joined (library_start kind ∷ rest)) → Writes a b r (joined (codes "  " ∷ library_word kind ∷ codes " " ∷ rest))
 library_writes kind rest a b r wrote = subst (Writes a b r) (library_begins kind rest) wrote
+
+-- the line of what was found
+pub found_text : {A X : Type 0} (f : X → List ℕ) (at : A → X) (o : Option A) (x : X) → Some x ≡ option_map at o → f x ≡ option_map_or (λ p. f (at p)) o []
+found_text f at None x is = absurd (cc)
+found_text f at (Some p) x is = ap f (same_Some _ _ is)

@@ -1,13 +1,16 @@
 -- What a run says of its input, from what it says of the bytes that it read.
-use Rattle.std.proofs.Common.{◌≡◌, ℕ, ◌≤◌, List, Option, Some, None, Result, Ok, Err, IfOk, length, subst}
-use Rattle.std.specs.Prelude.{◌≢◌, IfSome}
-use Rattle.macho_report.specs.Stream.{Wrote, WrotePrefix}
-use Rattle.macho_report.specs.Run.{IsVerdict, WroteVerdict, WroteVerdictPrefix}
+use Rattle.std.proofs.Common.{◌≡◌, ℕ, ◌≤◌, List, Option, Some, None, Result, Ok, Err, IfOk, IsErrOf, length, inl, inr, refl, ap, arith, subst}
+use Rattle.std.specs.Prelude.{◌≢◌, ◌⊎◌, IfErr, IfSome, OnOk}
+use Rattle.macho_report.specs.Stream.{TookAtMost, Wrote, WrotePrefix}
+use Rattle.macho_report.specs.Run.{IsVerdict, WroteVerdict, WroteVerdictPrefix, run_fault_of}
 use Rattle.macho_report.specs.Where.{IsWhere, WroteWhere, WroteWherePrefix}
 use Rattle.macho_report.specs.declared.address.WhereOutcome.{WhereOutcome}
 use Rattle.macho_report.specs.declared.address.WhereOutcome.TheVariants.{NoImage}
 use Rattle.macho_report.specs.declared.outcome.Outcome.{Outcome}
 use Rattle.macho_report.specs.declared.outcome.RunFault.{RunFault}
+use Rattle.macho_report.specs.declared.outcome.RunFault.TheVariants as fault
+use Rattle.macho_report.specs.declared.transfer.ReadFault.{ReadFault}
+use Rattle.macho_report.specs.declared.transfer.ReadFault.TheVariants.{Read, TooLong, Memory}
 
 pub input_verdict : (input old new : Option (List ℕ)) (bytes : List ℕ) (limit : ℕ) (r : Result Outcome RunFault) → IfSome input (λ all. bytes ≡ all) → length bytes ≤ limit
     → IfOk r (λ outcome. (text : List ℕ) × IsVerdict bytes outcome text × Wrote old new text) → IfOk r (λ outcome. WroteVerdict input limit outcome old new)
@@ -34,3 +37,53 @@ pub input_where_prefix : (input old new : Option (List ℕ)) (bytes : List ℕ) 
 input_where_prefix None old new bytes limit index address is within wrote = tt
 input_where_prefix (Some file) old new bytes limit index address is within wrote =
     subst (λ all. (length all ≤ limit) × ((outcome : WhereOutcome) × (text : List ℕ) × IsWhere all index address outcome text × (outcome ≢ NoImage) × WrotePrefix old new text)) is (within, wrote)
+
+-- a fault of reading, which the run returns as its own
+pub fault_passed : {T U : Type 0} (e f : ReadFault) → IsErrOf {T = T} (Err (run_fault_of e)) (run_fault_of f) → IsErrOf {T = U} (Err e) f
+fault_passed Read Read is = refl
+fault_passed Read TooLong is = absurd (cc)
+fault_passed Read Memory is = absurd (cc)
+fault_passed TooLong Read is = absurd (cc)
+fault_passed TooLong TooLong is = refl
+fault_passed TooLong Memory is = absurd (cc)
+fault_passed Memory Read is = absurd (cc)
+fault_passed Memory TooLong is = absurd (cc)
+fault_passed Memory Memory is = refl
+
+pub fault_passes : {T U : Type 0} (e f : ReadFault) → IsErrOf {T = T} (Err e) f → IsErrOf {T = U} (Err (run_fault_of e)) (run_fault_of f)
+fault_passes e f is = let same : e ≡ f = cc in ap (λ x. Err (run_fault_of x)) same
+
+pub reading_not_writing : {T : Type 0} (e : ReadFault) → ¬ IsErrOf {T = T} (Err (run_fault_of e)) fault.Write
+reading_not_writing Read is = cc
+reading_not_writing TooLong is = cc
+reading_not_writing Memory is = cc
+
+-- a fault after all was read: of writing, or of memory, where nothing was written
+abbrev AfterReading : {T : Type 0} → Result T RunFault → Type 0 → Type 0
+AfterReading r unwritten = IfErr r (λ e. (e ≡ fault.Write) ⊎ ((e ≡ fault.Memory) × unwritten))
+
+pub not_reading : {T : Type 0} (r : Result T RunFault) (unwritten : Type 0) → AfterReading r unwritten → ¬ IsErrOf r fault.Read
+not_reading (Ok x) unwritten h is = cc
+not_reading (Err e) unwritten (inl write) is = cc
+not_reading (Err e) unwritten (inr (memory, kept)) is = cc
+
+pub not_too_long : {T : Type 0} (r : Result T RunFault) (unwritten : Type 0) → AfterReading r unwritten → ¬ IsErrOf r fault.TooLong
+not_too_long (Ok x) unwritten h is = cc
+not_too_long (Err e) unwritten (inl write) is = cc
+not_too_long (Err e) unwritten (inr (memory, kept)) is = cc
+
+pub write_or_unwritten : {T : Type 0} (r : Result T RunFault) (unwritten : Type 0) → AfterReading r unwritten → IfErr r (λ e. (e ≡ fault.Write) ⊎ unwritten)
+write_or_unwritten (Ok x) unwritten h = tt
+write_or_unwritten (Err e) unwritten (inl write) = inl write
+write_or_unwritten (Err e) unwritten (inr (memory, kept)) = inr kept
+
+-- what holds anyway holds at `Ok`
+pub at_ok : {T E : Type 0} (r : Result T E) (P : Type 0) → P → OnOk r P
+at_ok (Ok x) P h = h
+at_ok (Err e) P h = tt
+
+-- all of the input is within the limit
+pub took_all : (old new : Option (List ℕ)) (bytes : List ℕ) (limit : ℕ) → IfSome old (λ all. bytes ≡ all) → length bytes ≤ limit → TookAtMost limit old new
+took_all None new bytes limit is within = tt
+took_all (Some x) None bytes limit is within = tt
+took_all (Some x) (Some y) bytes limit is within = omega (arith, ap length is)

@@ -1,8 +1,10 @@
 -- The lines of a slice.
-use Rattle.std.proofs.Common.{◌≡◌, ◌∙◌, ℕ, List, [], true, false, Option, Some, None, IsSomeAnd, Result, arith, refl, sym, ap, ap₂, subst, inl, inr}
+use Rattle.std.proofs.Common.{◌≡◌, ◌∙◌, ℕ, zero, suc, ◌<◌, List, [], ◌∷◌, length, true, false, Option, Some, None}
+use Rattle.std.proofs.Common.{IsSome, IsSomeAnd, Result, arith, refl, sym, ap, ap₂, subst, inl, inr}
 use Rattle.std.proofs.lemmas.Bool.{cases_Bool}
 use Rattle.std.proofs.lemmas.Option.{same_Some}
-use Rattle.std.specs.Option.{option_map_or}
+use Rattle.std.specs.Option.{option_map, option_map_or}
+use Rattle.std.specs.Prelude.{slice_get}
 use Rattle.macho_fields.specs.Universal.{FileSlice, IsImage, slice_bytes}
 use Rattle.macho_fields.specs.FileTypes.{FileTypeView, file_type_of}
 use Rattle.macho_fields.specs.Image.{file_type}
@@ -48,3 +50,10 @@ unread_lines file index (Some slice) written a b r is unread wrote = elim (cases
   | inl t ↦ absurd (unread (image_from _ t))
   | inr f ↦ subst (Writes a b r) (ap (unread_slice_text index) (same_Some written slice is) ∙ sym (text_unread file index slice f)) wrote
 ]
+
+-- the slice with an index that the table has is found
+pub slice_found : {A B : Type 0} (f : A → B) (o : Option A) (xs : List B) (index : ℕ) → option_map f o ≡ slice_get xs index → index < length xs → IsSome o
+slice_found f (Some x) xs index is within = refl
+slice_found f None [] index is within = absurd (omega arith)
+slice_found f None (x ∷ xs) zero is within = absurd (cc)
+slice_found f None (x ∷ xs) (suc index) is within = slice_found f None xs index is (omega arith)

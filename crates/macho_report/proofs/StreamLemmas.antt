@@ -63,9 +63,9 @@ pub writes_fault : {T E : Type 0} (a b : Option (List ℕ)) (r : Result T E) (te
 writes_fault a b (Ok x) text h p = absurd (cc)
 writes_fault a b (Err e) text h p = p
 
-pub wrote_none : (a : Option (List ℕ)) → Wrote a a (joined [])
-unfolding joined
-wrote_none a = wrote_nothing a
+-- the same text in another form
+pub writes_same : {T E : Type 0} (a b : Option (List ℕ)) (r : Result T E) (text other : List ℕ) → text ≡ other → Writes a b r text → Writes a b r other
+writes_same a b r text other same wrote = subst (Writes a b r) same wrote
 
 -- a text, and then those after it
 pub wrote_next_text : (a b c : Option (List ℕ)) (text : List ℕ) (rest : List (List ℕ)) → Wrote a b text → Wrote b c (joined rest) → Wrote a c (joined (text ∷ rest))
@@ -94,9 +94,6 @@ writes_next_text a b c (Err e) text rest first second = wrote_prefix_next_text a
 pub writes_last_text : {T E : Type 0} (a b : Option (List ℕ)) (r : Result T E) (text : List ℕ) → Writes a b r text → Writes a b r (joined (text ∷ []))
 writes_last_text a b (Ok x) text h = wrote_last_text a b text h
 writes_last_text a b (Err e) text h = wrote_prefix_first_text a b text [] h
-
--- what composes functions that write one text after the other
-pub ruleset writing = (wrote_none, wrote_last_text, wrote_next_text, wrote_prefix_first_text, wrote_prefix_next_text, writes_fault, writes_last_text, writes_next_text)
 
 -- What a loop has written of a text, and the texts that are left.
 pub record Writing (old new : Option (List ℕ)) (whole : List ℕ) (left : List (List ℕ)) : Type 0 where

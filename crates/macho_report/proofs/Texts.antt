@@ -1,7 +1,10 @@
 -- The texts of the elements of a list, which a loop writes.
-use Rattle.std.proofs.Common.{◌≡◌, ℕ, ◌+◌, ◌-◌, ◌<◌, ◌≤◌, zero, suc, List, [], ◌∷◌, ◌++◌, Option, length, map, take, drop, get_or, arith, refl, ap, ◌∙◌, sym, subst, append_assoc, IsTrue}
+use Rattle.std.proofs.Common.{◌≡◌, ℕ, ◌+◌, ◌-◌, ◌<◌, ◌≤◌, zero, suc, List, [], ◌∷◌, ◌++◌, Option, length}
+use Rattle.std.proofs.Common.{map, take, drop, get_or, false, arith, refl, ap, ◌∙◌, sym, subst, append_assoc, IsTrue}
 use Rattle.std.proofs.lemmas.List.{drop_more, drop_all}
+use Rattle.std.specs.Prelude.{codes}
 use Rattle.macho_report.specs.Stream.{Wrote, WrotePrefix, joined}
+use Rattle.macho_report.specs.Number.{byte_hex}
 use Rattle.macho_report.specs.Name.{is_plain, escaped}
 use Rattle.macho_report.proofs.StreamLemmas.{Writing, writing_ends, wrote_then, wrote_prefix_then, wrote_prefix_more, rest_is}
 use Rattle.macho_report.proofs.Loops.{item_wrote, item_failed, items_end}
@@ -46,6 +49,10 @@ writing_fails_part a b c whole text before after is h wrote =
 
 escaped_plain : (byte : ℕ) → IsTrue (is_plain byte) → escaped byte ≡ byte ∷ []
 escaped_plain byte plain = grind arith
+
+-- any other byte is written as its digits
+pub escaped_other : (byte : ℕ) → is_plain byte ≡ false → escaped byte ≡ joined (codes "\\x" ∷ byte_hex byte ∷ [])
+escaped_other byte other = rw other refl
 
 -- plain bytes are written as they are
 pub escaped_run : (n : ℕ) (bytes : List ℕ) → n ≤ length bytes → ((k : ℕ) → k < n → IsTrue (is_plain (get_or bytes k 0)))

@@ -42,7 +42,6 @@ fn arch_name(arch: (u32, u32)) -> Option<&'static str>
 }
 
 // Writes both numbers of an architecture.
-#[tactic(auto, using(crate::proofs::StreamLemmas::writing))]
 fn write_numbers<W: Output>(arch: (u32, u32), writer: &mut W) -> Result<(), WriteFault>
     ensures bytes { Writes (W.contents writer.old) (W.contents writer.new) result
         (numbers_text arch) }

@@ -26,7 +26,6 @@ use macho_rules::Verified;
 
 /// Writes the layout of an accepted file as text: how many slices it has, a line for each, and the
 /// parts of each slice that is read. It takes no memory, and does not flush.
-#[tactic(auto, using(crate::proofs::StreamLemmas::writing))]
 pub fn write_layout<W: Output>(verified: &Verified, writer: &mut W) -> Result<(), WriteFault>
     ensures bytes { Writes (W.contents writer.old) (W.contents writer.new) result
         (layout_text verified.now) }
@@ -93,7 +92,6 @@ fn write_image_slice<W: Output>(
 }
 
 // Writes the lines of an image.
-#[tactic(auto, using(crate::proofs::StreamLemmas::writing))]
 fn write_image<W: Output>(image: &Image, writer: &mut W) -> Result<(), WriteFault>
     ensures bytes { Writes (W.contents writer.old) (W.contents writer.new) result
         (image_text image.now) }
@@ -157,7 +155,6 @@ fn write_segments<W: Output>(image: &Image, writer: &mut W) -> Result<(), WriteF
 }
 
 // Writes a segment, and its sections.
-#[tactic(auto, using(crate::proofs::StreamLemmas::writing))]
 fn write_segment_lines<W: Output>(segment: &Segment, writer: &mut W) -> Result<(), WriteFault>
     ensures bytes { Writes (W.contents writer.old) (W.contents writer.new) result
         (segment_text segment.now.image segment.now.place) }

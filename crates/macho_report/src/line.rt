@@ -30,7 +30,6 @@ use macho_image::{Build, Dylib, Section, Segment};
 use macho_rules::Source;
 
 /// Writes the line of a broken rule, as `refused: segment-file at 0x1e8`.
-#[tactic(auto, using(crate::proofs::StreamLemmas::writing))]
 pub fn write_break<W: Output>(broken: &Break, writer: &mut W) -> Result<(), WriteFault>
     ensures bytes { Writes (W.contents writer.old) (W.contents writer.new) result
         (break_text broken.now) }
@@ -45,7 +44,6 @@ pub fn write_break<W: Output>(broken: &Break, writer: &mut W) -> Result<(), Writ
 }
 
 /// Writes the line of a slice: its index, its architecture, its part of the file, and its kind.
-#[tactic(auto, using(crate::proofs::StreamLemmas::writing))]
 pub(crate) fn write_slice<W: Output>(
     index: u64,
     arch: Option<(u32, u32)>,
@@ -100,7 +98,6 @@ fn write_extent<W: Output>(
 }
 
 /// Writes the line of a UUID, its bytes in groups of 4, 2, 2, 2 and 6.
-#[tactic(auto, using(crate::proofs::StreamLemmas::writing))]
 pub(crate) fn write_uuid<W: Output>(uuid: &[u8; 16], writer: &mut W) -> Result<(), WriteFault>
     ensures bytes { Writes (W.contents writer.old) (W.contents writer.new) result
         (uuid_line uuid.now) }
@@ -125,7 +122,6 @@ fn write_group<W: Output>(text: &[u8], bytes: &[u8], writer: &mut W) -> Result<(
 }
 
 /// Writes the line of a build: its platform and two versions.
-#[tactic(auto, using(crate::proofs::StreamLemmas::writing))]
 pub(crate) fn write_build<W: Output>(build: &Build, writer: &mut W) -> Result<(), WriteFault>
     ensures bytes { Writes (W.contents writer.old) (W.contents writer.new) result
         (build_line build.now.platform build.now.minos build.now.sdk) }
@@ -141,7 +137,6 @@ pub(crate) fn write_build<W: Output>(build: &Build, writer: &mut W) -> Result<()
 }
 
 /// Writes the line of a segment: its name, its memory, its bytes in the image, and its protection.
-#[tactic(auto, using(crate::proofs::StreamLemmas::writing))]
 pub(crate) fn write_segment<W: Output>(segment: &Segment, writer: &mut W) -> Result<(), WriteFault>
     ensures bytes { Writes (W.contents writer.old) (W.contents writer.new) result
         (segment_line segment.now.image segment.now.place) }
@@ -179,7 +174,6 @@ fn letter(bits: u64, bit: u32, set: u8) -> u8
 }
 
 /// Writes the line of a section: its name, its memory, and where its bytes begin in the image.
-#[tactic(auto, using(crate::proofs::StreamLemmas::writing))]
 pub(crate) fn write_section<W: Output>(section: &Section, writer: &mut W) -> Result<(), WriteFault>
     ensures bytes { Writes (W.contents writer.old) (W.contents writer.new) result
         (section_line section.now.image section.now.place) }
@@ -192,7 +186,6 @@ pub(crate) fn write_section<W: Output>(section: &Section, writer: &mut W) -> Res
 }
 
 // Writes where the bytes of a section begin in the image, or that they are zeros, and ends the line.
-#[tactic(auto, using(crate::proofs::StreamLemmas::writing))]
 fn write_contents<W: Output>(section: &Section, writer: &mut W) -> Result<(), WriteFault>
     ensures bytes { Writes (W.contents writer.old) (W.contents writer.new) result
         (contents_end section.now.image section.now.place) }
@@ -209,7 +202,6 @@ fn write_contents<W: Output>(section: &Section, writer: &mut W) -> Result<(), Wr
 }
 
 /// Writes the line of a library: the word of its command, its name, and two versions.
-#[tactic(auto, using(crate::proofs::StreamLemmas::writing))]
 pub(crate) fn write_library<W: Output>(library: &Dylib, writer: &mut W) -> Result<(), WriteFault>
     ensures bytes { Writes (W.contents writer.old) (W.contents writer.new) result
         (library_line library.now.cmd library.now.name.now library.now.current
@@ -252,7 +244,6 @@ fn library_start(cmd: u32) -> &'static str
 }
 
 /// Writes the line that counts the symbols.
-#[tactic(auto, using(crate::proofs::StreamLemmas::writing))]
 pub(crate) fn write_symbols<W: Output>(nsyms: u64, writer: &mut W) -> Result<(), WriteFault>
     ensures bytes { Writes (W.contents writer.old) (W.contents writer.new) result
         (symbols_line nsyms) }
@@ -264,7 +255,6 @@ pub(crate) fn write_symbols<W: Output>(nsyms: u64, writer: &mut W) -> Result<(),
 }
 
 /// Writes the line of the entry point: its address, or that there is none.
-#[tactic(auto, using(crate::proofs::StreamLemmas::writing))]
 pub(crate) fn write_entry<W: Output>(entry: Option<u64>, writer: &mut W) -> Result<(), WriteFault>
     ensures bytes { Writes (W.contents writer.old) (W.contents writer.new) result
         (entry_line entry) }
@@ -279,7 +269,6 @@ pub(crate) fn write_entry<W: Output>(entry: Option<u64>, writer: &mut W) -> Resu
 }
 
 /// Writes the line of what is at an address: a place of the slice, a zero, or nothing.
-#[tactic(auto, using(crate::proofs::StreamLemmas::writing))]
 pub(crate) fn write_source<W: Output>(
     source: Option<Source>,
     writer: &mut W,
@@ -296,7 +285,6 @@ pub(crate) fn write_source<W: Output>(
 }
 
 // Writes the line of a place of the slice.
-#[tactic(auto, using(crate::proofs::StreamLemmas::writing))]
 fn write_file_place<W: Output>(place: u64, writer: &mut W) -> Result<(), WriteFault>
     ensures bytes { Writes (W.contents writer.old) (W.contents writer.new) result
         (where_text (Some (File place))) }

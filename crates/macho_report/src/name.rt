@@ -10,7 +10,6 @@ use crate::transfer::{WriteFault, write_all};
 
 /// Writes a name in double quotes. A double quote, a backslash and every byte that is not printable
 /// ASCII are written as `\x` and two lower-case digits in base 16.
-#[tactic(auto, using(crate::proofs::StreamLemmas::writing))]
 pub(crate) fn write_quoted<W: Output>(name: &[u8], writer: &mut W) -> Result<(), WriteFault>
     ensures bytes { Writes (W.contents writer.old) (W.contents writer.new) result (quoted name.now) }
     ensures failed { FailsAtFault (W.has_failed writer.old) (W.has_failed writer.new) result }
@@ -63,7 +62,6 @@ fn is_plain(byte: u8) -> bool
 }
 
 // Writes a byte as `\x` and two digits.
-#[tactic(auto, using(crate::proofs::StreamLemmas::writing))]
 fn write_escape<W: Output>(byte: u8, writer: &mut W) -> Result<(), WriteFault>
     requires { is_plain byte ≡ false }
     ensures bytes { Writes (W.contents writer.old) (W.contents writer.new) result (escaped byte) }

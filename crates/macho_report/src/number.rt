@@ -102,7 +102,6 @@ fn put_part(part: u8, end: usize, places: &mut [u8; PLACES]) -> usize
 }
 
 /// Writes a number in base 10.
-#[tactic(auto, using(crate::proofs::StreamLemmas::writing))]
 pub(crate) fn write_decimal<W: Output>(number: u64, writer: &mut W) -> Result<(), WriteFault>
     ensures bytes { Writes (W.contents writer.old) (W.contents writer.new) result (decimal number) }
     ensures failed { FailsAtFault (W.has_failed writer.old) (W.has_failed writer.new) result }
@@ -114,7 +113,6 @@ pub(crate) fn write_decimal<W: Output>(number: u64, writer: &mut W) -> Result<()
 }
 
 /// Writes a number in base 16, as `0x1e8`.
-#[tactic(auto, using(crate::proofs::StreamLemmas::writing))]
 pub(crate) fn write_hex<W: Output>(number: u64, writer: &mut W) -> Result<(), WriteFault>
     ensures bytes { Writes (W.contents writer.old) (W.contents writer.new) result
         (prefixed_hex number) }

@@ -1,5 +1,6 @@
-use Rattle.std.proofs.Common.{◌≡◌, true, false, refl}
-use Rattle.macho_report.proofs.Slices.{read_lines, unread_lines}
+use Rattle.std.proofs.Common.{refl}
+use Rattle.std.proofs.lemmas.Bool.{false≢true}
+use Rattle.macho_report.proofs.Slices.{read_lines, slice_found, unread_lines}
 use Rattle.macho_report.proofs.layout.write_slice_lines.Goals as goal
 
 pub returns-in-Some-clause-bytes : goal.returns-in-Some-clause-bytes
@@ -10,10 +11,13 @@ returns-in-Some-clause-bytes g c =
 pub returns-in-None-clause-bytes : goal.returns-in-None-clause-bytes
 returns-in-None-clause-bytes g c =
     unread_lines c.args.verified.now c.args.index _ _ _ _ _ (rw c.unwrap-slice.ensures at c.slice.ensures.slice)
-    (λ image. let bad : false ≡ true = c.in-None.ensures.is_image.1 image in cc) c.write_slice.ensures.bytes
+    (λ image. false≢true (c.in-None.ensures.is_image.1 image)) c.write_slice.ensures.bytes
 
 pub returns-in-Some-clause-failed : goal.returns-in-Some-clause-failed
 returns-in-Some-clause-failed g c = c.write_image_slice.ensures.failed
 
 pub returns-in-None-clause-failed : goal.returns-in-None-clause-failed
 returns-in-None-clause-failed g c = c.write_slice.ensures.failed
+
+pub unwrap-slice-requires : goal.unwrap-slice-requires
+unwrap-slice-requires g c = slice_found _ _ _ _ c.slice.ensures.slice c.requires

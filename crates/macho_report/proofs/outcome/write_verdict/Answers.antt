@@ -1,6 +1,6 @@
 use Rattle.std.proofs.Common.{refl, inl}
 use Rattle.macho_report.specs.declared.outcome.Outcome.TheVariants.{Accepted, Refused}
-use Rattle.macho_report.proofs.Faults.{at_fault, same_fault}
+use Rattle.macho_report.proofs.Faults.{at_fault, no_fault, same_fault}
 use Rattle.macho_report.proofs.outcome.write_verdict.Goals as goal
 
 pub returns-in_err-verified : goal.returns-in_err-verified
@@ -15,8 +15,8 @@ pub returns-in_default : goal.returns-in_default
 returns-in_default g c =
     let (b, is, wrote) = rw c.in_default.is at c.in_ok-verified.ensures.refused in record {
       verdict = (_, (b, is, refl), wrote);
-      write = λ e. absurd (cc);
-      prefix = λ e. absurd (cc);
+      write = λ e. absurd (no_fault _ _ e);
+      prefix = λ e. absurd (no_fault _ _ e);
       faults = tt;
     }
 
@@ -34,7 +34,7 @@ pub returns : goal.returns
 returns g c =
     let (same, unbroken, unwritten) = rw c.in-Some.is at c.in_ok-verified.ensures.accepted in record {
       verdict = (_, (unbroken, refl), (rw (same, unwritten) at c.in_ok-write_layout.ensures.bytes));
-      write = λ e. absurd (cc);
-      prefix = λ e. absurd (cc);
+      write = λ e. absurd (no_fault _ _ e);
+      prefix = λ e. absurd (no_fault _ _ e);
       faults = tt;
     }
