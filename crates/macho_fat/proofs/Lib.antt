@@ -1,3 +1,4 @@
+pub mod Faults
 pub mod Listed
 pub mod Magics
 pub mod Sharing

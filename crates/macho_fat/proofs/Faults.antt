@@ -1,0 +1,28 @@
+-- The fault of a rule is the fault of the file, whose bytes the table stands for.
+use Rattle.std.proofs.Common.{◌≡◌, ℕ, ◌≤◌, List, Result, Ok, Err, IfErr, IsErrAnd, sym, subst, arith}
+use Rattle.macho_fields.specs.First.{rank}
+use Rattle.macho_fields.specs.Layers.{IsLeast}
+use Rattle.macho_fields.specs.Rules.{BreaksFile}
+use Rattle.macho_fields.specs.declared.rule.Rule.{Rule}
+use Rattle.macho_fields.specs.declared.rule.Rule.TheVariants as rule
+use Rattle.macho_fields.specs.declared.rule.Break.{Break}
+use Rattle.macho_fat.specs.declared.fault.FatFault.{FatFault}
+use Rattle.macho_fat.specs.declared.fault.FatFault.TheVariants as fault
+use Rattle.macho_fat.specs.Scaffold.{IsRuleFault}
+use Rattle.macho_fat.specs.Slices.{IsFatFault}
+
+-- a fault of the table is passed on as one of the file
+pub fault_passed : {T : Type 0} (table file : List ℕ) → table ≡ file → (answer : Result T FatFault) (found : FatFault) → IsErrAnd answer (λ given. given ≡ found)
+    → IsFatFault table found → IfErr answer (IsFatFault file)
+fault_passed table file same (Ok x) found is known = absurd is
+fault_passed table file same (Err given) found is known = subst (IsFatFault file) (sym is) (subst (λ bytes. IsFatFault bytes found) same known)
+
+-- so is a break
+pub break_passed : {T : Type 0} (table file : List ℕ) → table ≡ file → (answer : Result T FatFault) (b : Break) → IsErrAnd answer (λ given. given ≡ fault.Broken b)
+    → IsLeast (BreaksFile table) b → IfErr answer (IsFatFault file)
+break_passed table file same answer b = fault_passed table file same answer (fault.Broken b)
+
+-- memory may run out for each rule from fat-overlap on
+pub rule_fault : (file : List ℕ) (r : Rule) (found : FatFault) → rank rule.FatOverlap ≤ rank r → IsRuleFault (BreaksFile file) r found → IsFatFault file found
+rule_fault file r (fault.Broken b) late least = least
+rule_fault file r fault.Memory late kept = λ other place less. kept other place (omega arith)
