@@ -23,6 +23,10 @@ pub record AreSpans (returns : Entry → Span → Type 0) (file : List ℕ) (k :
   pub each : (i : ℕ) → i < k → IsSpanOf returns file i (span_at spans i)
 
 module _ (returns : Entry → Span → Type 0) (file : List ℕ) where
+  -- before the first entry
+  pub no_spans : (spans : List Span) → spans ≡ [] → AreSpans returns file 0 spans
+  no_spans spans is = subst (AreSpans returns file 0) (sym is) (record { count = refl; each = λ i less. absurd (omega (arith, less)) })
+
   -- one span more
   pub spans_more : (k : ℕ) (spans next : List Span) (span : Span) → AreSpans returns file k spans → IsSpanOf returns file k span → next ≡ spans ++ span ∷ []
       → AreSpans returns file (k + 1) next
