@@ -2,8 +2,9 @@
 
 ghost use Rattle.std.specs.Prelude.{◌≡◌, map, option_map, IfOk, false};
 ghost use Rattle.clap.specs.Words.{app_of, first_of, found_of, kind_of, rows_of, rule_of};
+ghost use Rattle.clap.specs.declared.builder.command.Command.TheViews.{out-Command as fields_of};
 ghost use Rattle.macho_program.specs.Text.{word_fault_line};
-ghost use Rattle.macho_program.specs.Words.{Answers, asked, asked_by, asked_in, check_asked, file_of, program_command, required, where_asked, word_fault_of};
+ghost use Rattle.macho_program.specs.Words.{Answers, asked, asked_by, asked_in, bare_command, check_asked, check_command, file_of, program_command, required, where_asked, where_command, word_fault_of};
 ghost use Rattle.macho_program.specs.declared.words.WordFault.TheVariants.{Memory};
 
 use crate::number::read_number;
@@ -114,18 +115,39 @@ pub fn parse_words<'a, S: AsStr>(alloc: Global, words: &'a [S]) -> Result<Reques
 fn command<'a>(alloc: Global) -> Result<Command<'a>, AllocError>
     ensures { IfOk result (λ command. app_of command ≡ program_command) }
 {
-    let check = Command::new(alloc, "check").arg(argument(alloc, "FILE"))?;
-    let place = Command::new(alloc, "where")
-        .arg(argument(alloc, "FILE"))?
-        .arg(argument(alloc, "SLICE"))?
-        .arg(argument(alloc, "ADDRESS"))?;
+    let check = check_command(alloc)?;
+    let place = where_command(alloc)?;
+    bare_command(alloc).subcommand(check)?.subcommand(place)
+}
+
+// The command without its subcommands. Of clap's own it takes none.
+fn bare_command<'a>(alloc: Global) -> Command<'a>
+    ensures { app_of result ≡ bare_command }
+{
     Command::new(alloc, "macho-check")
         .no_binary_name(true)
         .subcommand_required(true)
         .disable_help_flag(true)
         .disable_help_subcommand(true)
-        .subcommand(check)?
-        .subcommand(place)
+}
+
+// `check FILE`
+fn check_command<'a>(alloc: Global) -> Result<Command<'a>, AllocError>
+    ensures shape { IfOk result (λ command. app_of command ≡ check_command) }
+    ensures local { IfOk result (λ command. (fields_of command).has_globals ≡ false) }
+{
+    Command::new(alloc, "check").arg(argument(alloc, "FILE"))
+}
+
+// `where FILE SLICE ADDRESS`
+fn where_command<'a>(alloc: Global) -> Result<Command<'a>, AllocError>
+    ensures shape { IfOk result (λ command. app_of command ≡ where_command) }
+    ensures local { IfOk result (λ command. (fields_of command).has_globals ≡ false) }
+{
+    Command::new(alloc, "where")
+        .arg(argument(alloc, "FILE"))?
+        .arg(argument(alloc, "SLICE"))?
+        .arg(argument(alloc, "ADDRESS"))
 }
 
 // A positional argument that has to be there, taken as text.
