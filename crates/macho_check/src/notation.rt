@@ -41,10 +41,15 @@ fn append_zeros(bytes: &mut Vec<u8>, count: u32) -> Result<(), Fail> {
 
 fn append_pairs(bytes: &mut Vec<u8>, digits: &str) -> Result<(), Fail> {
     for pair in digits.as_bytes().chunks(2) {
-        let digits = str::from_utf8(pair)?;
-        bytes.push(u8::from_str_radix(digits, 16)?)?;
+        bytes.push(byte(pair)?)?;
     }
     Ok(())
+}
+
+/// The byte of a pair of hexadecimal digits.
+fn byte(pair: &[u8]) -> Result<u8, Fail> {
+    let digits = str::from_utf8(pair)?;
+    Ok(u8::from_str_radix(digits, 16)?)
 }
 
 /// An executable with segments, symbols, a library, versions and an entry: 0x202c bytes.
