@@ -7,7 +7,6 @@ mod fields;
 mod layers;
 mod layout;
 mod mapping;
-mod overlaps;
 mod real;
 mod report;
 mod streams;
@@ -23,14 +22,6 @@ use std::process::Abort;
 /// Compares what is given with what is wanted. A call costs less proof than `assert_eq!`.
 fn same<T: PartialEq + Debug>(rt: &impl Abort, given: &T, wanted: &T) {
     assert_eq!(rt; *given, *wanted);
-}
-
-/// The next of a fixed sequence of numbers that look random.
-fn next(number: &mut u64) -> u64 {
-    *number = number
-        .wrapping_mul(6_364_136_223_846_793_005)
-        .wrapping_add(1_442_695_040_888_963_407);
-    *number >> 24
 }
 
 /// Runs on the file, and returns what is written and the status.

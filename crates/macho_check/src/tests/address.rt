@@ -2,7 +2,7 @@
 
 use super::same;
 use crate::notation::{executable, three_slices};
-use macho_report::{FromRead, FromWrite, WhereOutcome, run_where};
+use macho_report::{FromRead, FromWrite, RunFault, WhereOutcome, run_where};
 use std::process::Abort;
 use std::test::Fail;
 
@@ -13,19 +13,40 @@ fn check_addresses(
     outcome: WhereOutcome,
     cases: &[(u64, u64, &str)],
 ) {
-    for &(slice, address, text) in cases {
-        let (mut input, mut told) = (file, Vec::new(rt.alloc()));
-        let ended = run_where(
-            rt.alloc(),
-            1 << 32,
-            slice,
-            address,
-            &mut FromRead::new(&mut input),
-            &mut FromWrite::new(&mut told),
-        );
-        same(rt, &(slice, address, ended), &(slice, address, Ok(outcome)));
-        same(rt, &told.as_slice(), &text.as_bytes());
+    for &case in cases {
+        check_address(rt, file, outcome, case);
     }
+}
+
+/// Compares what is written of an address.
+fn check_address(
+    rt: &(impl Abort + AllocGlobal),
+    file: &[u8],
+    outcome: WhereOutcome,
+    case: (u64, u64, &str),
+) {
+    let (mut input, mut told) = (file, Vec::new(rt.alloc()));
+    let ended = run_where(
+        rt.alloc(),
+        1 << 32,
+        case.0,
+        case.1,
+        &mut FromRead::new(&mut input),
+        &mut FromWrite::new(&mut told),
+    );
+    check_told(rt, ended, &told, outcome, case);
+}
+
+/// Compares how a run has ended, and what it has written.
+fn check_told(
+    rt: &impl Abort,
+    ended: Result<WhereOutcome, RunFault>,
+    told: &[u8],
+    outcome: WhereOutcome,
+    case: (u64, u64, &str),
+) {
+    let told = str::from_utf8(told).unwrap_or("");
+    same(rt, &(case, ended, told), &(case, Ok(outcome), case.2));
 }
 
 /// What is told of addresses of the executable.

@@ -3,7 +3,7 @@
 ghost use Rattle.std.specs.Prelude.{◌≡◌, ◌+◌, ◌≤◌, ◌<◌, ◌^◌};
 ghost use Rattle.macho_fields.specs.Spans.{IsPlaced};
 
-use super::{next, same};
+use super::same;
 use macho_fields::{
     Break, Bytes, Insert, Kind, Order, Records, Rule, Span, SpanList, Spans, Structure,
     TableFields, Width, file_type_of, names_library, structure_of, unique_index,
@@ -403,47 +403,6 @@ fn the_first_span_that_shares_with_an_earlier_one_is_found(rt: HostRuntime) -> R
     Ok(())
 }
 
-/// The index of the first span that shares a place with an earlier one, by comparing all pairs.
-fn least_by_pairs(spans: &[(u64, u64)]) -> Option<u64> {
-    for later in 0..spans.len() {
-        for earlier in 0..later {
-            let ((a, a_len), (b, b_len)) = (spans[earlier], spans[later]);
-            if a.max(b) < a.saturating_add(a_len).min(b.saturating_add(b_len)) {
-                return Some(later as u64);
-            }
-        }
-    }
-    None
-}
-
-/// Some spans that look random, of starts below 200 and lengths below 12.
-fn random_spans(
-    alloc: Global,
-    number: &mut u64,
-    count: u64,
-) -> Result<Vec<(u64, u64)>, AllocError> {
-    let mut spans = Vec::new(alloc);
-    for _ in 0..count {
-        let random = next(number);
-        spans.push((random % 200, (random >> 16) % 12))?;
-    }
-    Ok(spans)
-}
-
-#[test]
-fn random_spans_are_judged_as_all_pairs_are(rt: HostRuntime) -> Result<(), Fail> {
-    let (mut number, mut overlaps) = (1, 0u64);
-    for round in 0..10_000u64 {
-        let spans = random_spans(rt.alloc(), &mut number, round % 12)?;
-        let wanted = least_by_pairs(&spans);
-        let found = list_of(rt.alloc(), &spans)?.least_overlap();
-        same(&rt, &(spans.as_slice(), found), &(spans.as_slice(), wanted));
-        overlaps = overlaps.saturating_add(u64::from(wanted.is_some()));
-    }
-    same(&rt, &(1_000 < overlaps && overlaps < 9_000), &true);
-    Ok(())
-}
-
 /// Inserts a span, and compares the answer.
 fn check_insert(
     rt: &impl Abort,
@@ -523,51 +482,6 @@ fn a_span_is_compared_with_those_on_both_sides(rt: HostRuntime) -> Result<(), Fa
     let mut spans = Spans::new(rt.alloc());
     check_inserts(&rt, &mut spans, INSERTS_AROUND)?;
     check_finds(&rt, &mut spans, &[(199, Some((100, 100, 3)))]);
-    Ok(())
-}
-
-/// A span of 1 to 256 places, of which the first is below 2^16.
-fn placed_span(number: &mut u64) -> Span
-    ensures { IsPlaced result }
-{
-    let random = next(number);
-    span(random % 65_536, (random >> 16) % 256 + 1)
-}
-
-/// The pair of a list whose span holds the place.
-fn holding(pairs: &[(Span, u64)], place: u64) -> Option<(Span, u64)> {
-    pairs.iter().copied().find(|(held, _)| held.holds(place))
-}
-
-/// Inserts a thousand spans, and returns a plain list of those that were added.
-fn insert_thousand(
-    rt: &(impl Abort + AllocGlobal),
-    spans: &mut Spans,
-) -> Result<Vec<(Span, u64)>, Fail> {
-    let (mut list, mut number) = (Vec::new(rt.alloc()), 1);
-    for tag in 0..1000 {
-        let span = placed_span(&mut number);
-        let overlaps = list
-            .iter()
-            .any(|(held, _): &(Span, u64)| held.shares(&span));
-        let insert = spans.try_insert(span, tag)?;
-        same(rt, &(tag, insert == Insert::Overlap), &(tag, overlaps));
-        if !overlaps {
-            list.push((span, tag))?;
-        }
-    }
-    Ok(list)
-}
-
-#[test]
-fn a_thousand_spans_are_those_of_a_plain_list(rt: HostRuntime) -> Result<(), Fail> {
-    let mut spans = Spans::new(rt.alloc());
-    let list = insert_thousand(&rt, &mut spans)?;
-    same(&rt, &spans.len(), &(list.len() as u64));
-    for place in 0..70_000 {
-        let found = (place, spans.find(place));
-        same(&rt, &found, &(place, holding(&list, place)));
-    }
     Ok(())
 }
 

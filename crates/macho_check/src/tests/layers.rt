@@ -1,13 +1,13 @@
 //! The calls of single layers, and what a verified file gives.
 
+use super::mapping::has_mapping;
 use super::same;
 use crate::notation::{executable, written};
 use macho_fat::{FatFault, Slice, slices};
 use macho_fields::header::machine::{CPU_TYPE_ARM64, CPU_TYPE_X86_64};
 use macho_fields::{Break, Bytes, Rule, Span};
 use macho_image::Image;
-use macho_rules::{Mapping, Refusal, Verified, check_image, verify};
-use std::alloc::{AllocError, Global};
+use macho_rules::{Refusal, Verified, check_image, verify};
 use std::process::Abort;
 use std::test::Fail;
 
@@ -55,11 +55,6 @@ fn check_verified(
         check_past(rt, verified, index)?;
     }
     Ok(())
-}
-
-/// Whether the image of a slice has a mapping.
-fn has_mapping(alloc: Global, verified: &Verified, index: u64) -> Result<bool, AllocError> {
-    Ok(Mapping::of(alloc, verified, index)?.is_some())
 }
 
 /// Looks for a slice past the last.

@@ -3,7 +3,7 @@
 use super::same;
 use crate::notation::{append, executable, three_slices, written};
 use macho_rules::{Mapping, Source, Verified, verify};
-use std::alloc::Global;
+use std::alloc::{AllocError, Global};
 use std::process::Abort;
 use std::test::Fail;
 
@@ -39,11 +39,20 @@ fn check_no_mapping(
     slices: &[u64],
 ) -> Result<(), Fail> {
     let verified = verify(rt.alloc(), file)?;
-    for index in slices {
-        let mapping = Mapping::of(rt.alloc(), &verified, *index)?;
-        same(rt, &mapping.is_none(), &true);
+    for &index in slices {
+        let found = has_mapping(rt.alloc(), &verified, index)?;
+        same(rt, &(index, found), &(index, false));
     }
     Ok(())
+}
+
+/// Whether the image of a slice has a mapping.
+pub(super) fn has_mapping(
+    alloc: Global,
+    verified: &Verified,
+    index: u64,
+) -> Result<bool, AllocError> {
+    Ok(Mapping::of(alloc, verified, index)?.is_some())
 }
 
 /// What is at addresses of the executable.

@@ -53,10 +53,10 @@ fn each_read_is_one_of_std(rt: HostRuntime) {
     for size in 0..65_537 {
         let mut counted = CountingReader::new(&bytes, 0);
         let mut reader = FromRead::new(&mut counted);
-        same(&rt, &reader.read(&mut piece[..size]), &Ok(size));
-        same(&rt, &reader.failed(), &false);
-        same(&rt, &counted.reads, &1);
-        same(&rt, &counted.bytes.len(), &(65_536 - size));
+        let read = reader.read(&mut piece[..size]);
+        same(&rt, &(read, reader.failed()), &(Ok(size), false));
+        let left = (counted.reads, counted.bytes.len());
+        same(&rt, &left, &(1, 65_536 - size));
     }
 }
 

@@ -12,15 +12,6 @@ use macho_rules::verify;
 
 const TEXT: &[u8; 32] = b"abcdefghijklmnopqrstuvwxyz012345";
 
-#[test]
-fn reads_one_byte_at_a_time(rt: HostRuntime) {
-    let mut reader = SlowReader::new(TEXT);
-    let read = read_all(rt.alloc(), 32, &mut reader).expect(&rt, "32 bytes at limit 32");
-    same(&rt, &read.as_slice(), &TEXT.as_slice());
-    same(&rt, &reader.reads, &33);
-    same(&rt, &reader.failed(), &false);
-}
-
 /// A limit, and a text that is longer.
 const TOO_LONG: &[(u64, &[u8])] = &[(31, TEXT), (0, b"a"), (2, b"abc")];
 
@@ -40,7 +31,7 @@ fn stops_at_the_limit(rt: HostRuntime) {
 }
 
 /// A limit, and a text that is not longer.
-const SHORT_ENOUGH: &[(u64, &[u8])] = &[(0, b""), (u64::MAX, TEXT), (33, TEXT)];
+const SHORT_ENOUGH: &[(u64, &[u8])] = &[(0, b""), (u64::MAX, TEXT), (33, TEXT), (32, TEXT)];
 
 #[test]
 fn reads_within_the_limit(rt: HostRuntime) {
@@ -48,6 +39,8 @@ fn reads_within_the_limit(rt: HostRuntime) {
         let mut reader = SlowReader::new(text);
         let read = read_all(rt.alloc(), limit, &mut reader).expect(&rt, "within the limit");
         same(&rt, &read.as_slice(), &text);
+        let calls = text.len() as u64 + 1;
+        same(&rt, &(reader.reads, reader.failed()), &(calls, false));
     }
 }
 
@@ -63,15 +56,6 @@ fn answers_a_failed_read(rt: HostRuntime) {
         let again = read_all(rt.alloc(), 32, &mut reader).err();
         same(&rt, &again, &Some(ReadFault::Read));
     }
-}
-
-#[test]
-fn writes_the_whole_text(rt: HostRuntime) {
-    let mut writer = SlowWriter::new(Vec::new(rt.alloc()), 100);
-    same(&rt, &write_all(TEXT, &mut writer).is_ok(), &true);
-    same(&rt, &write_all(b"", &mut writer).is_ok(), &true);
-    same(&rt, &writer.failed(), &false);
-    same(&rt, &writer.bytes.as_slice(), &TEXT.as_slice());
 }
 
 #[test]

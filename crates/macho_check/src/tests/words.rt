@@ -2,7 +2,6 @@
 
 use super::same;
 use macho_program::{Request, WordFault, parse_words, read_number};
-use std::alloc::{AllocError, Global};
 use std::process::Abort;
 use std::test::Fail;
 
@@ -30,17 +29,52 @@ fn numbers_of_words(rt: HostRuntime) {
     }
 }
 
-/// Words that are no numbers, with a bar between them. The first is empty; then come 2^64 and more, 21
-/// decimal digits, and 17 hexadecimal ones.
-const NO_NUMBERS: &str = "\
-    |18446744073709551616|18446744073709551620|99999999999999999999|184467440737095516150\
-    |000000000000000000007|0x00000000000000007|0x10000000000000000\
-    |0x|0X1|x1|00x1|0x0x1|0xg|1f|a|/|:|0x@|0x`|+5|-5|+|-|0x+5|0x-5|+0x5| 5|5 |0x 5|1_000|1.0|1e3\
-    |0b1|0o7|5\n|5\0|\u{665}";
+/// Words that are no numbers. After an empty one come 2^64 and more, 21 decimal digits, and 17
+/// hexadecimal ones.
+const NO_NUMBERS: &[&str] = &[
+    "",
+    "18446744073709551616",
+    "18446744073709551620",
+    "99999999999999999999",
+    "184467440737095516150",
+    "000000000000000000007",
+    "0x00000000000000007",
+    "0x10000000000000000",
+    "0x",
+    "0X1",
+    "x1",
+    "00x1",
+    "0x0x1",
+    "0xg",
+    "1f",
+    "a",
+    "/",
+    ":",
+    "0x@",
+    "0x`",
+    "+5",
+    "-5",
+    "+",
+    "-",
+    "0x+5",
+    "0x-5",
+    "+0x5",
+    " 5",
+    "5 ",
+    "0x 5",
+    "1_000",
+    "1.0",
+    "1e3",
+    "0b1",
+    "0o7",
+    "5\n",
+    "5\0",
+    "\u{665}",
+];
 
 #[test]
 fn words_that_are_no_numbers(rt: HostRuntime) {
-    for word in NO_NUMBERS.split('|') {
+    for &word in NO_NUMBERS {
         same(&rt, &(word, read_number(word)), &(word, None));
     }
 }
@@ -107,48 +141,68 @@ fn check_request(rt: &(impl Abort + AllocGlobal), words: &[&str], request: Reque
     same(rt, &parse_words(rt.alloc(), words), &Ok(request));
 }
 
-/// Compares the fault of each line of words. A bar stands between two lines, a comma between two words.
-fn check_faults(
-    rt: &(impl Abort + AllocGlobal),
-    lines: &str,
-    expected: WordFault,
-) -> Result<(), Fail> {
-    for line in lines.split('|') {
-        let fault = fault_of(rt.alloc(), line)?;
-        same(rt, &(line, fault), &(line, Some(expected)));
+/// Compares the fault of each of these lists of words.
+fn check_faults(rt: &(impl Abort + AllocGlobal), lists: &[&[&str]], expected: WordFault) {
+    for &words in lists {
+        let fault = parse_words(rt.alloc(), words).err();
+        same(rt, &(words, fault), &(words, Some(expected)));
     }
-    Ok(())
 }
 
-/// The fault of a line of words, with a comma between two.
-fn fault_of(alloc: Global, line: &str) -> Result<Option<WordFault>, AllocError> {
-    let mut words = Vec::new(alloc);
-    for word in line.split(',') {
-        words.push(word)?;
-    }
-    Ok(parse_words(alloc, words.as_slice()).err())
-}
+/// Words that are not those of the program.
+const REFUSED: &[&[&str]] = &[
+    &["check"],
+    &["where"],
+    &["look", "a"],
+    &["a"],
+    &[""],
+    &["-"],
+    &["--"],
+    &["--", "check", "a"],
+    &["help"],
+    &["help", "check"],
+    &["--help"],
+    &["-h"],
+    &["--version"],
+    &["-V"],
+    &["Check", "a"],
+    &["chec", "a"],
+    &["check", "a", "b"],
+    &["check", "-a"],
+    &["check", "--a"],
+    &["check", "--help"],
+    &["check", "-h"],
+    &["where", "a"],
+    &["where", "a", "0"],
+    &["where", "a", "0", "0", "0"],
+    &["where", "a", "-1", "0"],
+    &["where", "a", "0", "-1"],
+    &["where", "--help"],
+];
 
 #[test]
-fn words_that_are_refused(rt: HostRuntime) -> Result<(), Fail> {
-    // The fifth is a single empty word.
-    check_faults(
-        &rt,
-        "check|where|look,a|a||-|--|--,check,a|help|help,check|--help|-h|--version|-V|Check,a|chec,a\
-            |check,a,b|check,-a|check,--a|check,--help|check,-h|where,a|where,a,0|where,a,0,0,0\
-            |where,a,-1,0|where,a,0,-1|where,--help",
-        WordFault::Usage,
-    )
+fn words_that_are_refused(rt: HostRuntime) {
+    check_faults(&rt, REFUSED, WordFault::Usage);
 }
 
+/// Words of which one should be a number, and is none.
+const BAD_NUMBERS: &[&[&str]] = &[
+    &["where", "a", "0", "0x"],
+    &["where", "a", "18446744073709551616", "0"],
+    &["where", "a", "0", "18446744073709551616"],
+    &["where", "a", "0X1", "0"],
+    &["where", "a", "0", "0X1"],
+    &["where", "a", "", "0"],
+    &["where", "a", "0", ""],
+    &["where", "a", "+5", "0"],
+    &["where", "a", "0", " 5"],
+    &["where", "a", "-", "0"],
+    &["where", "a", "x", "y"],
+];
+
 #[test]
-fn words_with_bad_numbers(rt: HostRuntime) -> Result<(), Fail> {
-    check_faults(
-        &rt,
-        "where,a,0,0x|where,a,18446744073709551616,0|where,a,0,18446744073709551616|where,a,0X1,0\
-            |where,a,0,0X1|where,a,,0|where,a,0,|where,a,+5,0|where,a,0, 5|where,a,-,0|where,a,x,y",
-        WordFault::BadNumber,
-    )
+fn words_with_bad_numbers(rt: HostRuntime) {
+    check_faults(&rt, BAD_NUMBERS, WordFault::BadNumber);
 }
 
 /// The faults, each with its line.
