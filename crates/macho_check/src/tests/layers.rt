@@ -63,9 +63,13 @@ fn check_past(
     verified: &Verified,
     index: u64,
 ) -> Result<(), Fail> {
-    same(rt, &verified.slice(index), &None);
-    same(rt, &verified.image(index).is_none(), &true);
-    same(rt, &has_mapping(rt.alloc(), verified, index)?, &false);
+    let mapped = has_mapping(rt.alloc(), verified, index)?;
+    let given = (
+        verified.slice(index),
+        mapped,
+        verified.image(index).is_some(),
+    );
+    same(rt, &given, &(None, false, false));
     Ok(())
 }
 
@@ -76,15 +80,22 @@ fn check_slice(
     index: u64,
     slice: &Slice,
 ) -> Result<(), Fail> {
-    same(rt, &verified.slice(index), &Some(slice));
-    same(rt, &has_mapping(rt.alloc(), verified, index)?, &slice.read);
-    let image = verified.image(index);
-    same(rt, &image.is_some(), &slice.read);
-    if let Some(image) = image {
-        same(rt, &image.bytes().len(), &slice.span.len);
-        same(rt, &image.arch(), &slice.arch.unwrap_or(image.arch()));
+    let mapped = has_mapping(rt.alloc(), verified, index)?;
+    let given = (verified.slice(index), mapped);
+    same(rt, &given, &(Some(slice), slice.read));
+    match verified.image(index) {
+        Some(image) => check_image_of(rt, &image, slice),
+        None => same(rt, &slice.read, &false),
     }
     Ok(())
+}
+
+/// Compares the image of a slice that is read.
+fn check_image_of(rt: &impl Abort, image: &Image, slice: &Slice) {
+    let arch = image.arch();
+    let given = (image.bytes().len(), arch, slice.read);
+    let wanted = (slice.span.len, slice.arch.unwrap_or(arch), true);
+    same(rt, &given, &wanted);
 }
 
 /// Compares the slices of a file that is written out, and keeps all rules.

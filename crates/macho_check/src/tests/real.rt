@@ -121,12 +121,22 @@ fn check_views(rt: &(impl Abort + AllocGlobal), file: &[u8], views: &[&str]) -> 
     let verified = verify(rt.alloc(), file)?;
     let mut count = 0u64;
     for lines in views {
-        let image = verified.image(count).ok_or("no image")?;
-        check_layout(rt, &image, lines)?;
+        check_views_of(rt, &verified, count, lines)?;
         count = count.saturating_add(1);
     }
     same(rt, &verified.slice_count(), &count);
     Ok(())
+}
+
+/// Compares the views of the image of a slice.
+fn check_views_of(
+    rt: &(impl Abort + AllocGlobal),
+    verified: &Verified,
+    index: u64,
+    lines: &str,
+) -> Result<(), Fail> {
+    let image = verified.image(index).ok_or("no image")?;
+    check_layout(rt, &image, lines)
 }
 
 const PROGRAM_VIEWS: &str = "
