@@ -1,7 +1,8 @@
 -- Texts that are written one after the other.
-use Rattle.std.proofs.Common.{◌≡◌, ℕ, ◌+◌, ◌-◌, arith, Result, Ok, Err, IsErr, List, [], ◌∷◌, ◌++◌, Option, Some, None, OnErr}
+use Rattle.std.proofs.Common.{◌≡◌, ◌≢◌, ℕ, ◌+◌, ◌-◌, ◌<◌, ◌≤◌, arith, Result, Ok, Err, IsErr, List, [], ◌∷◌, ◌++◌, Option, Some, None, OnErr}
 use Rattle.std.proofs.Common.{length, take, drop, refl, sym, ap, ◌∙◌, append_assoc, append-nil, take-append-drop, subst}
 use Rattle.std.proofs.lemmas.Grind.{common_steps}
+use Rattle.std.proofs.lemmas.List.{take_all}
 use Rattle.std.proofs.Math.Seq.{take-add, take-append-add, take-append_seam}
 use Rattle.std.proofs.KnownBytes.{Appends-nil, Appends-trans}
 use Rattle.std.specs.Io.KnownBytes.{Keeps}
@@ -36,6 +37,14 @@ wrote_prefix_more a b xs ys h = record {
 -- `&text[i..]`, with the length of the slice
 pub rest_is : (n i : ℕ) (text : List ℕ) → length text ≡ n → take (n - i) (drop i text) ≡ drop i text
 rest_is n i text e = grind (arith, common_steps)
+
+-- what a loop has written of a text, where it has come to the end
+pub wrote_all : (a b : Option (List ℕ)) (i : ℕ) (text : List ℕ) → length text ≤ i → Wrote a b (take i text) → Wrote a b text
+wrote_all a b i text end wrote = subst (Wrote a b) (take_all i text end) wrote
+
+pub some_bytes : (text : List ℕ) → text ≢ [] → 0 < length text
+some_bytes [] some = absurd (some refl)
+some_bytes (byte ∷ rest) some = omega arith
 
 -- what a loop has written of a text, and then a part of the rest
 pub wrote_next : (a b c : Option (List ℕ)) (i n : ℕ) (text : List ℕ) → Wrote a b (take i text)

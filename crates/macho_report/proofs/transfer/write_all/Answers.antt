@@ -1,6 +1,5 @@
-use Rattle.std.proofs.Common.{rules, arith}
-use Rattle.std.proofs.lemmas.Grind.{common_steps}
-use Rattle.macho_report.proofs.StreamLemmas.{wrote_next, wrote_next_prefix, writes_fault}
+use Rattle.std.proofs.Common.{◌<◌, length, rules, arith}
+use Rattle.macho_report.proofs.StreamLemmas.{some_bytes, wrote_all, wrote_next, wrote_next_prefix, writes_fault}
 use Rattle.macho_report.proofs.transfer.write_all.Goals as goal
 
 pub returns-in_err-written-clause-bytes : goal.returns-in_err-written-clause-bytes
@@ -18,7 +17,9 @@ loop-written-preserved g c = record {
 }
 
 pub returns-clause-bytes : goal.returns-clause-bytes
-returns-clause-bytes g c = grind (arith, common_steps)
+returns-clause-bytes g c = wrote_all _ _ c.loop-written.written c.args.text.now (omega arith) c.loop-written.invariant.wrote
 
 pub returns-clause-stays_failed : goal.returns-clause-stays_failed
-returns-clause-stays_failed g c = grind (arith, common_steps)
+returns-clause-stays_failed g c failed some =
+    let bytes : 0 < length c.args.text.now = some_bytes c.args.text.now some in
+    absurd (c.loop-written.invariant.working (omega (arith, bytes)) failed)
