@@ -63,13 +63,9 @@ fn check_past(
     verified: &Verified,
     index: u64,
 ) -> Result<(), Fail> {
-    let mapped = has_mapping(rt.alloc(), verified, index)?;
-    let given = (
-        verified.slice(index),
-        mapped,
-        verified.image(index).is_some(),
-    );
-    same(rt, &given, &(None, false, false));
+    same(rt, &verified.slice(index), &None);
+    same(rt, &verified.image(index).is_none(), &true);
+    same(rt, &has_mapping(rt.alloc(), verified, index)?, &false);
     Ok(())
 }
 
