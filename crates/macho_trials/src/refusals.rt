@@ -64,19 +64,36 @@ fn call_named<R: Input, W: Output>(
     writer: &mut W,
 ) -> Result<(), Fault> {
     match name {
-        "run" => {
-            announce(rt)?;
-            run(rt.alloc(), limit, reader, writer)?;
-        }
-        "run_where" => {
-            announce(rt)?;
-            run_where(rt.alloc(), limit, 0, ADDRESS, reader, writer)?;
-        }
+        "run" => call_run(rt, limit, reader, writer),
+        "run_where" => call_run_where(rt, limit, reader, writer),
         name => {
             let input = read_all(rt.alloc(), limit, reader).map_err(RunFault::from)?;
-            call_on(rt, name, &input, writer)?;
+            call_on(rt, name, &input, writer)
         }
     }
+}
+
+/// Calls `run`.
+fn call_run<R: Input, W: Output>(
+    rt: &(impl AllocGlobal + Eprint),
+    limit: u64,
+    reader: &mut R,
+    writer: &mut W,
+) -> Result<(), Fault> {
+    announce(rt)?;
+    run(rt.alloc(), limit, reader, writer)?;
+    Ok(())
+}
+
+/// Calls `run_where`.
+fn call_run_where<R: Input, W: Output>(
+    rt: &(impl AllocGlobal + Eprint),
+    limit: u64,
+    reader: &mut R,
+    writer: &mut W,
+) -> Result<(), Fault> {
+    announce(rt)?;
+    run_where(rt.alloc(), limit, 0, ADDRESS, reader, writer)?;
     Ok(())
 }
 

@@ -1,7 +1,7 @@
 //! Symbols by their index, their groups, and the indirect entries.
 
 use crate::reads::segments::text_of;
-use macho_verified::{VerifiedImage, VerifiedSymbol, VerifiedSymbols};
+use macho_verified::{VerifiedImage, VerifiedIndirect, VerifiedSymbol, VerifiedSymbols};
 use std::io;
 
 /// Prints each symbol by its index, the groups, and the indirect entries.
@@ -20,15 +20,25 @@ fn write_each(rt: &impl Print, image: &VerifiedImage) -> io::Result<()> {
         let Some(symbol) = image.symbol(index) else {
             break;
         };
-        let fields = symbol.symbol();
-        let value = fields.value;
-        print!(rt; "symbol {index} {} {value:#x}", name_of(&symbol))?;
-        match image.section(fields.sect) {
-            Some(section) => println!(rt; " in {}", text_of(section.section().name()))?,
-            None => println!(rt; "")?,
-        }
+        write_symbol(rt, image, index, &symbol)?;
     }
     Ok(())
+}
+
+/// Prints a symbol.
+fn write_symbol(
+    rt: &impl Print,
+    image: &VerifiedImage,
+    index: u64,
+    symbol: &VerifiedSymbol,
+) -> io::Result<()> {
+    let fields = symbol.symbol();
+    let value = fields.value;
+    print!(rt; "symbol {index} {} {value:#x}", name_of(symbol))?;
+    match image.section(fields.sect) {
+        Some(section) => println!(rt; " in {}", text_of(section.section().name())),
+        None => println!(rt; ""),
+    }
 }
 
 /// Prints the names of a group, on one line.
@@ -50,13 +60,18 @@ fn write_indirects(rt: &impl Print, image: &VerifiedImage) -> io::Result<()> {
         if image.image().indirect(index) != Some(entry.indirect()) {
             break;
         }
-        let value = entry.indirect().value;
-        match entry.symbol() {
-            Some(symbol) => println!(rt; "indirect {value:#x} {}", name_of(&symbol))?,
-            None => println!(rt; "indirect {value:#x} none")?,
-        }
+        write_indirect(rt, &entry)?;
     }
     Ok(())
+}
+
+/// Prints an indirect entry.
+fn write_indirect(rt: &impl Print, entry: &VerifiedIndirect) -> io::Result<()> {
+    let value = entry.indirect().value;
+    match entry.symbol() {
+        Some(symbol) => println!(rt; "indirect {value:#x} {}", name_of(&symbol)),
+        None => println!(rt; "indirect {value:#x} none"),
+    }
 }
 
 /// The name of a symbol as text.

@@ -107,18 +107,23 @@ fn push_each(list: &mut SpanList, all: &[Span]) -> Result<bool, Fault> {
 
 /// The spans of the lines `START LEN`.
 fn spans_of(alloc: Global, input: &[u8]) -> Result<Vec<Span>, Fault> {
-    let mut spans = Vec::new(alloc);
     let Ok(text) = str::from_utf8(input) else {
         return Err(Fault::NoCall);
     };
+    let mut spans = Vec::new(alloc);
     for line in text.lines() {
-        let (start, len) = line.split_once(' ').ok_or(Fault::NoCall)?;
-        let (Ok(start), Ok(len)) = (start.parse(), len.parse()) else {
-            return Err(Fault::NoCall);
-        };
-        spans.push(Span { start, len })?;
+        spans.push(span_of(line)?)?;
     }
     Ok(spans)
+}
+
+/// The span of a line.
+fn span_of(line: &str) -> Result<Span, Fault> {
+    let (start, len) = line.split_once(' ').ok_or(Fault::NoCall)?;
+    match (start.parse(), len.parse()) {
+        (Ok(start), Ok(len)) => Ok(Span { start, len }),
+        _ => Err(Fault::NoCall),
+    }
 }
 
 /// Whether the span is not empty, and ends at 2^64 or before.
