@@ -1,4 +1,4 @@
-use Rattle.std.proofs.Common.{◌≡◌, List, ℕ, length, slice_get, subst, rules}
+use Rattle.std.proofs.Common.{◌≡◌, List, ℕ, length, slice_get, subst}
 use Rattle.macho_fields.specs.Universal.{slices_of, slice_bytes}
 use Rattle.macho_rules.specs.Mapping.{mapped_segments, segment_count, sources, GivesSources}
 use Rattle.macho_rules.proofs.MappingItems.{some_and}
@@ -19,4 +19,4 @@ returns-clause-segments c =
     (λ slice is. subst (λ (bytes : List ℕ). segment_count c.in_ok-mapping.mapping ≡ length (mapped_segments bytes)) is c.in_ok-mapping.ensures.segments) c.in-Some.ensures.image
 
 pub returns-clause-is_image : goal.returns-clause-is_image
-returns-clause-is_image c = search rules
+returns-clause-is_image c = c.in-Some.ensures.is_image

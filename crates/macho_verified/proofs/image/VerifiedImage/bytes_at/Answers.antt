@@ -1,4 +1,4 @@
-use Rattle.std.proofs.Common.{◌≡◌, ◌∙◌, refl}
+use Rattle.std.proofs.Common.{◌≡◌, ◌∙◌, refl, rules}
 use Rattle.std.proofs.lemmas.Bool.{false≢true}
 use Rattle.macho_rules.proofs.Searches.{search_all, first_among, search_next, none_left}
 use Rattle.macho_rules.proofs.SegmentItems.{some_segment, of_segment}
@@ -33,3 +33,6 @@ returns-clause-held c = (
       of_segment c.args.self.now _ (c.into_iter-segment-iterator.ensures.into_iter_gives ∙ c.segments-segment-items.ensures) (λ image. HasBytesAt image c.args.address c.args.len) any in
       absurd (none_left _ _ _ _ c.in-None.ensures.steps.0 c.loop-segment.invariant s has here),
 )
+
+pub returns-in-Some-bytes_at-clause-whole : goal.returns-in-Some-bytes_at-clause-whole
+returns-in-Some-bytes_at-clause-whole c = search rules

@@ -1,4 +1,4 @@
-use Rattle.std.proofs.Common.{◌≡◌, ◌∙◌, ◌-◌, ℕ, List, map, Some, slice_get, sym, ap, subst}
+use Rattle.std.proofs.Common.{◌≡◌, ◌∙◌, ◌-◌, ℕ, List, map, Some, slice_get, sym, ap, subst, rules}
 use Rattle.std.proofs.lemmas.Iterator.Consumers.{nth_from_yields_List, YieldsList-from_first}
 use Rattle.macho_fields.specs.Image.{commands_of}
 use Rattle.macho_image.specs.Segment.{SectionView, section_at, sections_of}
@@ -33,3 +33,6 @@ returns-clause-section c some =
     (YieldsList-from_first (λ (x : SectionView). x) (λ (left : List SectionView). left) all c.sections.ensures.sections)) in
     subst (λ (i : List ℕ). Some c.in_ok-section.section ≡ slice_get (map (section_at i) (sections_of i (commands_of i))) (c.args.number - 1)) c.self.view_is
     (sym c.in_ok-section.was ∙ (got ∙ ap (slice_get all) (c.in_ok-index.ensures.1 ∙ ap (λ n. n - 1) c.from.ensures)))
+
+pub returns-clause-none : goal.returns-clause-none
+returns-clause-none c = search rules

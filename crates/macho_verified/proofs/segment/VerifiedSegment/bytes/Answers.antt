@@ -1,4 +1,4 @@
-use Rattle.std.proofs.Common.{◌≡◌, ◌∙◌, length, ap, subst}
+use Rattle.std.proofs.Common.{◌≡◌, ◌∙◌, length, ap, subst, rules}
 use Rattle.macho_fields.specs.Bytes.{bytes_of}
 use Rattle.macho_fields.specs.Field.{part}
 use Rattle.macho_fields.specs.Segment.{fileoff, filesize}
@@ -27,3 +27,6 @@ returns-clause-whole c =
     subst (λ (v : SegmentView). length c.unwrap.result.now ≡ filesize v.image v.place) c.self.view_is
     (ap length found ∙ (length_part c.fileoff.result c.filesize.result image
     (segment_fits image view c.self.invariant c.fileoff.result c.filesize.result c.fileoff.ensures c.filesize.ensures c.if-span-eq0.false) ∙ c.filesize.ensures))
+
+pub returns-then-span-eq0-clause-whole : goal.returns-then-span-eq0-clause-whole
+returns-then-span-eq0-clause-whole c = search rules

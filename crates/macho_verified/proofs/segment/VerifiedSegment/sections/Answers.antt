@@ -1,4 +1,4 @@
-use Rattle.std.proofs.Common.{All, sym, subst}
+use Rattle.std.proofs.Common.{All, sym, subst, rules}
 use Rattle.macho_fields.specs.Bytes.{bytes_of}
 use Rattle.macho_verified.specs.Scaffold.{IsVerifiedSection}
 use Rattle.macho_verified.proofs.Accepted.{sections_hold}
@@ -7,3 +7,6 @@ use Rattle.macho_verified.proofs.segment.VerifiedSegment.sections.Goals as goal
 pub invariant_of-result : goal.invariant_of-result
 invariant_of-result c =
     subst (All (IsVerifiedSection (bytes_of c.self.inside.image))) (sym c.sections.ensures) (sections_hold (bytes_of c.self.inside.image) c.self.inside.segment c.self.invariant)
+
+pub returns : goal.returns
+returns c = search rules
