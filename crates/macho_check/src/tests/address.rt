@@ -25,12 +25,13 @@ fn check_address(
     outcome: WhereOutcome,
     case: (u64, u64, &str),
 ) {
+    let (slice, address, _) = case;
     let (mut input, mut told) = (file, Vec::new(rt.alloc()));
     let ended = run_where(
         rt.alloc(),
         1 << 32,
-        case.0,
-        case.1,
+        slice,
+        address,
         &mut FromRead::new(&mut input),
         &mut FromWrite::new(&mut told),
     );
@@ -45,8 +46,9 @@ fn check_told(
     outcome: WhereOutcome,
     case: (u64, u64, &str),
 ) {
+    let (_, _, wanted) = case;
     let told = str::from_utf8(told).unwrap_or("");
-    same(rt, &(case, ended, told), &(case, Ok(outcome), case.2));
+    same(rt, &(case, ended, told), &(case, Ok(outcome), wanted));
 }
 
 /// What is told of addresses of the executable.

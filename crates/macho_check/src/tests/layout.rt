@@ -206,7 +206,9 @@ fn builds(text: &mut String, alloc: Global, image: &Image) -> Result<(), AllocEr
 /// The bytes of the uuid.
 fn uuid(text: &mut String, alloc: Global, image: &Image) -> Result<(), AllocError> {
     match image.uuid() {
-        Some(uuid) => line(text, alloc, "uuid", b"", &uuid.map(u64::from)),
+        Some(uuid) => {
+            text.push_str(&format!(in alloc; "uuid {:032x}\n", u128::from_be_bytes(uuid))?)
+        }
         None => Ok(()),
     }
 }

@@ -7,6 +7,7 @@ use crate::doubles::{CountingReader, CountingWriter, Fault};
 use macho_program::{
     Open, ProgramFault, WordFault, check_status, exit_code, run_program, where_status,
 };
+use macho_report::transfer::read_all;
 use macho_report::{
     Failed, Flush, FromRead, FromWrite, Input, Outcome, Output, RunFault, WhereOutcome, run,
     write_all,
@@ -22,8 +23,8 @@ fn reads_a_reader_of_std(rt: HostRuntime) -> Result<(), Fail> {
     let long = long_text(rt.alloc())?;
     let mut counted = CountingReader::new(long.as_slice(), 0);
     let mut reader = FromRead::new(&mut counted);
-    let ended = run_to_text(rt.alloc(), &mut reader);
-    same(&rt, &ended, &Ok(Outcome::Refused));
+    let read = read_all(rt.alloc(), 1 << 32, &mut reader);
+    same(&rt, &read.as_deref(), &Ok(long.as_slice()));
     same(&rt, &reader.failed(), &false);
     // 16 pieces of 65,536 bytes, one of a single byte, and the end.
     same(&rt, &counted.reads, &18);
@@ -37,12 +38,6 @@ fn long_text(alloc: Global) -> Result<Vec<u8>, AllocError> {
         long.push((i % 251) as u8)?;
     }
     Ok(long)
-}
-
-/// How a run on this input ends, whose text is dropped.
-fn run_to_text(alloc: Global, reader: &mut impl Input) -> Result<Outcome, RunFault> {
-    let mut text = Vec::new(alloc);
-    run(alloc, 1 << 32, reader, &mut FromWrite::new(&mut text))
 }
 
 #[test]
