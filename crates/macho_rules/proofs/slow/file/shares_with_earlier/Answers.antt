@@ -1,9 +1,25 @@
-use Rattle.std.proofs.Common.{arith}
+use Rattle.std.proofs.Common.{refl, arith}
 use Rattle.std.proofs.lemmas.Bool.{false≢true, both_ways}
 use Rattle.macho_fields.specs.Bytes.{bytes_of}
 use Rattle.macho_fields.specs.Universal.{SharePlace, entry_slice}
 use Rattle.macho_fields.proofs.Entries.{none_more, sharing_entries}
 use Rattle.macho_rules.proofs.slow.file.shares_with_earlier.Goals as goal
+
+pub span-span-requires : goal.span-span-requires
+span-span-requires c = c.requires
+
+pub loop-k-init : goal.loop-k-init
+loop-k-init c = λ i less h. absurd (omega arith)
+
+pub span-requires : goal.span-requires
+span-requires c = omega (arith, c.requires)
+
+pub returns-then-shares : goal.returns-then-shares
+returns-then-shares c =
+    let (place, (first, within), (second, inside)) = c.shares.ensures.0 c.if-shares.true in
+    (λ h. (c.loop-k.k, omega arith, (place,
+    (omega (arith, first, c.span.ensures.start), omega (arith, within, c.span.ensures.start, c.span.ensures.len)),
+    (omega (arith, second, c.span-span.ensures.start), omega (arith, inside, c.span-span.ensures.start, c.span-span.ensures.len)))), λ h. refl)
 
 pub loop-k-preserved : goal.loop-k-preserved
 loop-k-preserved c =
