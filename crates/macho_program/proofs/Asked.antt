@@ -1,6 +1,6 @@
 -- What the words ask for, from what `clap` says of its matches.
 use Rattle.std.proofs.Common.{◌≡◌, ◌⊎◌, ◌∙◌, ◌<◌, ◌==◌, Bool, true, false, map, length, List, [], ◌∷◌}
-use Rattle.std.proofs.Common.{arith, refl, sym, ap, subst, inl, inr, Option, Some, None, Result, Ok, Err, option_map}
+use Rattle.std.proofs.Common.{arith, refl, sym, ap, subst, inl, inr, codes, Option, Some, None, Result, Ok, Err, option_map}
 use Rattle.std.specs.Prelude.{IsErrAnd}
 use Rattle.std.proofs.lemmas.Option.{same_Some}
 use Rattle.clap.specs.Words.{IsAmong, Kinds, Row, Text, fault_of, is_simple, is_simple_and_free, subcommand_of}
@@ -9,7 +9,7 @@ use Rattle.clap.specs.declared.error.kind.ErrorKind.TheVariants.{OutOfMemory}
 use Rattle.macho_program.specs.declared.words.Request.{Request}
 use Rattle.macho_program.specs.declared.words.WordFault.{WordFault}
 use Rattle.macho_program.specs.declared.words.WordFault.TheVariants.{Usage, Memory}
-use Rattle.macho_program.specs.Words.{Answers, asked, asked_in, asked_unless, program_command, word_fault_of}
+use Rattle.macho_program.specs.Words.{Answers, asked, asked_in, asked_unless, verdict, program_command, word_fault_of}
 
 pub command_is_simple : is_simple program_command ≡ true
 command_is_simple = refl
@@ -20,6 +20,18 @@ command_is_free = refl
 pub some_words : {X : Type 0} (text : X → Text) (words : List X) (empty : Bool) → empty ≡ (length words == 0) → empty ≡ false → 0 < length (map text words)
 some_words text [] empty is not = let bad : true ≡ false = sym is ∙ not in cc
 some_words text (word ∷ words) empty is not = omega arith
+
+-- no words ask for a check of standard input
+no_words : {X : Type 0} (text : X → Text) (words : List X) (empty : Bool) → empty ≡ (length words == 0) → empty ≡ true → map text words ≡ []
+no_words text [] empty is holds = refl
+no_words text (word ∷ words) empty is holds = grind (arith, is, holds)
+
+asked_of_none : (words : List Text) (name : Text) → words ≡ [] → name ≡ codes "-" → asked words ≡ Ok (verdict name)
+asked_of_none words name none is = rw (none, is) refl
+
+pub asked_where_empty : {X : Type 0} (text : X → Text) (words : List X) (empty : Bool) (name : Text) → empty ≡ (length words == 0) → empty ≡ true → name ≡ codes "-"
+    → asked (map text words) ≡ Ok (verdict name)
+asked_where_empty text words empty name is holds name_is = asked_of_none (map text words) name (no_words text words empty is holds) name_is
 
 -- a subcommand, by its name and by its rows
 pub subcommand_met : {X : Type 0} (o : Option X) (f : X → Text × List Row) (name : Text) (rows : List Row)

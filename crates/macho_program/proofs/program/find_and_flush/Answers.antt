@@ -46,3 +46,12 @@ pub returns-in-Err-clause-prefix : goal.returns-in-Err-clause-prefix
 returns-in-Err-clause-prefix g c =
     let some : c.in_ok-found.found ≢ found.Where NoImage = search rules in
     λ _. found_then_kept _ _ _ _ _ c.in_ok-found.found some c.in_ok-found.ensures.found c.in-Err.ensures.kept
+
+pub returns-in_err-found-clause-prefix : goal.returns-in_err-found-clause-prefix
+returns-in_err-found-clause-prefix g c = search rules
+
+pub returns-then-eq-clause-flushed : goal.returns-then-eq-clause-flushed
+returns-then-eq-clause-flushed g c = search rules
+
+pub returns-in-Ok-clause-flushed : goal.returns-in-Ok-clause-flushed
+returns-in-Ok-clause-flushed g c = search rules

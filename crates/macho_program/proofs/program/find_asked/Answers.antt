@@ -12,6 +12,10 @@ use Rattle.macho_program.proofs.program.find_asked.Goals as goal
 same_Err : (e f : ProgramFault) → IsErrOf {T = Found} (Err e) f → e ≡ f
 same_Err e f same = cc
 
+same_fault : (end : Result Found ProgramFault) (f k : RunFault) → IsErrAnd end (λ e. e ≡ program.Run f) → IsErrOf end (program.Run k) → IsErrOf {T = Found} (Err f) k
+same_fault (Ok found) f k is of = absurd is
+same_fault (Err e) f k is of = let same : program.Run f ≡ program.Run k = sym is ∙ same_Err e (program.Run k) of in cc
+
 -- what is said of a failed read of the run, as said of the program
 abbrev ReadIs : Result Asked ProgramFault → Result Found ProgramFault → Type 0 → Type 0
 ReadIs asked end failed = IfOk asked (λ request. file_of request ≡ codes "-" → end ≢ Err (program.Words words.Memory) → IsErrOf end (program.Run run.Read) ↔ failed)
@@ -34,3 +38,24 @@ returns-in_err-find_in_file-clause-read g c =
 
 pub returns-clause-read : goal.returns-clause-read
 returns-clause-read g c = no_failed_read _ _ _ _ c.in_ok-request.ensures c.in_ok-find_in_file.ensures.read
+
+pub returns-clause-found : goal.returns-clause-found
+returns-clause-found g c = rw c.in_ok-request.ensures c.in_ok-find_in_file.ensures.found
+
+pub returns-clause-at_end : goal.returns-clause-at_end
+returns-clause-at_end g c = rw c.in_ok-request.ensures c.in_ok-find_in_file.ensures.at_end
+
+pub returns-in_err-find_in_file-clause-memory : goal.returns-in_err-find_in_file-clause-memory
+returns-in_err-find_in_file-clause-memory g c =
+    rw c.in_ok-request.ensures (λ standard of. c.in_err-find_in_file.ensures.memory standard (same_fault _ _ _ c.from_residual-in_err-find_in_file.ensures.1 of))
+
+pub returns-in_err-find_in_file-clause-too_long : goal.returns-in_err-find_in_file-clause-too_long
+returns-in_err-find_in_file-clause-too_long g c =
+    λ of. rw c.in_ok-request.ensures (c.in_err-find_in_file.ensures.too_long (same_fault _ _ _ c.from_residual-in_err-find_in_file.ensures.1 of))
+
+pub returns-in_err-find_in_file-clause-write : goal.returns-in_err-find_in_file-clause-write
+returns-in_err-find_in_file-clause-write g c = λ of. c.in_err-find_in_file.ensures.write (same_fault _ _ _ c.from_residual-in_err-find_in_file.ensures.1 of)
+
+pub returns-in_err-find_in_file-clause-prefix : goal.returns-in_err-find_in_file-clause-prefix
+returns-in_err-find_in_file-clause-prefix g c =
+    λ of. rw c.in_ok-request.ensures (c.in_err-find_in_file.ensures.prefix (same_fault _ _ _ c.from_residual-in_err-find_in_file.ensures.1 of))

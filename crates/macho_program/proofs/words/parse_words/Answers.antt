@@ -3,8 +3,12 @@ use Rattle.std.specs.Box.{box_value}
 use Rattle.clap.specs.Words.{App, HasKind, Text, app_of, found_of, fault_of, is_simple, is_simple_and_free, kind_of, rows_of, subcommand_of, subcommand_rows_of}
 use Rattle.clap.specs.declared.parser.matches.ArgMatches.TheViews.{out-ArgMatches, out-SubCommand}
 use Rattle.macho_program.specs.Words.{program_command}
-use Rattle.macho_program.proofs.Asked.{asked_and_refused, asked_and_taken, command_is_free, command_is_simple, some_words, subcommand_met}
+use Rattle.macho_program.proofs.Asked.{asked_and_refused, asked_and_taken, asked_where_empty, command_is_free, command_is_simple, some_words, subcommand_met}
 use Rattle.macho_program.proofs.words.parse_words.Goals as goal
+
+pub returns-then-is_empty : goal.returns-then-is_empty
+returns-then-is_empty g c =
+    asked_where_empty g.S.AsStr.text c.args.words.now c.is_empty.result _ c.is_empty.ensures c.if-is_empty.true c.in_ok-file.ensures.ok
 
 -- src/words.rt:71:19
 pub returns-in_err-matches : goal.returns-in_err-matches
