@@ -16,10 +16,18 @@ span-requires c = omega (arith, c.requires)
 
 pub returns-then-shares : goal.returns-then-shares
 returns-then-shares c =
-    let (place, (first, within), (second, inside)) = c.shares.ensures.0 c.if-shares.true in
-    (λ h. (c.loop-k.k, omega arith, (place,
-    (omega (arith, first, c.span.ensures.start), omega (arith, within, c.span.ensures.start, c.span.ensures.len)),
-    (omega (arith, second, c.span-span.ensures.start), omega (arith, inside, c.span-span.ensures.start, c.span-span.ensures.len)))), λ h. refl)
+    let (place, (first, within), (second, inside)) = c.shares.ensures.0 c.if-shares.true in (
+      λ h. (
+        c.loop-k.k,
+        omega arith,
+        (
+          place,
+          (omega (arith, first, c.span.ensures.start), omega (arith, within, c.span.ensures.start, c.span.ensures.len)),
+          (omega (arith, second, c.span-span.ensures.start), omega (arith, inside, c.span-span.ensures.start, c.span-span.ensures.len)),
+        ),
+      ),
+      λ h. refl,
+    )
 
 pub loop-k-preserved : goal.loop-k-preserved
 loop-k-preserved c =
