@@ -45,9 +45,6 @@ returns-in_err-fat_overlap-clause-refused c =
     fault_passed table (bytes_of c.args.file) c.in_ok-table-in-Universal.ensures.table c.from_residual-in_err-fat_overlap.result found c.from_residual-in_err-fat_overlap.ensures.1
     (rule_fault table rule.FatOverlap found (lit≤ tt) c.in_err-fat_overlap.ensures)
 
-pub fat_duplicate-requires : goal.fat_duplicate-requires
-fat_duplicate-requires c = c.in_ok-fat_overlap.ensures
-
 pub returns-in_err-fat_duplicate-clause-refused : goal.returns-in_err-fat_duplicate-clause-refused
 returns-in_err-fat_duplicate-clause-refused c =
     let table = c.in_ok-table-in-Universal.table in
