@@ -1,74 +1,43 @@
 //! Worked examples: verdicts that were worked out by hand from the rules.
 
 use super::{run_on, same};
-use crate::notation::{executable, written, written_after};
+use crate::notation::{append, executable, written};
 use std::alloc::Global;
 use std::process::Abort;
 use std::test::Fail;
 
-/// Examples: what each is of, the bytes that its files begin with, and a line `BYTES : VERDICT` for
-/// each file.
-const EXAMPLES: &[(&str, &str, &str)] = &[
-    (
-        "bare header",
-        "cffaedfe 07000001 03000000 02000000",
-        ".16 : accepted",
-    ),
-    (
-        "cut header",
-        "cffaedfe 07000001 03000000 02000000",
-        ".15 : refused: header-truncated at 0x0",
-    ),
-    (
-        "no magic",
-        "",
-        "
+/// Examples, as lines: `NAME = BYTES` says what an example is of and what its files begin with,
+/// and each line `BYTES : VERDICT` after it is a file.
+const EXAMPLES: &str = "
+    bare header = cffaedfe 07000001 03000000 02000000
+        .16 : accepted
+    cut header = cffaedfe 07000001 03000000 02000000
+        .15 : refused: header-truncated at 0x0
+    no magic =
         .0 : refused: magic at 0x0
         cafeba : refused: magic at 0x0
         feedfacf .4 : refused: magic at 0x0
-        ",
-    ),
-    (
-        "bundle",
-        "cffaedfe 07000001 03000000",
-        "
+    bundle = cffaedfe 07000001 03000000
         08000000 .16 : accepted
         08000000 02000000 60000000 .8 19000000 48000000 5f5f5445 58540000 .8 00100000 .4 \
-            00100000 .12 80000000 .4 05000000 05000000 .8 28000080 18000000 7f000000 .12 : accepted
+            00100000 .12 80000000 .4 05000000 05000000 .8 28000080 18000000 7f000000 .12 \
+            : accepted
         08000000 01000000 20000000 .8 0d000000 20000000 18000000 02000000 00000100 00000100 \
             2f612e64796c0000 : refused: dylib-id at 0xc
         01000000 .16 : refused: file-type at 0xc
         09000000 .16 : refused: file-type at 0xc
         00000000 .16 : refused: file-type at 0xc
-        ",
-    ),
-    (
-        "command of no size",
-        "cffaedfe 07000001 03000000 02000000 01000000 08000000 .8",
-        "99000000 00000000 : refused: command-walk at 0x20",
-    ),
-    (
-        "command past the end",
-        "cffaedfe 07000001 03000000 02000000",
-        "
+    command of no size = cffaedfe 07000001 03000000 02000000 01000000 08000000 .8
+        99000000 00000000 : refused: command-walk at 0x20
+    command past the end = cffaedfe 07000001 03000000 02000000
         02000000 08000000 .8 99000000 08000000 : refused: command-walk at 0x28
         01000000 08000000 .8 99000000 08000000 : accepted
         00000000 08000000 .8 99000000 08000000 : accepted
-        ",
-    ),
-    (
-        "short commands",
-        "cffaedfe 07000001 03000000 02000000 01000000",
-        "
+    short commands = cffaedfe 07000001 03000000 02000000 01000000
         08000000 .8 1b000000 08000000 : refused: command-short at 0x20
         20000000 .8 1b000000 20000000 .24 : accepted
         48000000 .8 19000000 48000000 .56 ffffffff .4 : refused: command-short at 0x20
-        ",
-    ),
-    (
-        "library id",
-        "cffaedfe 07000001 03000000",
-        "
+    library id = cffaedfe 07000001 03000000
         06000000 .16 : refused: dylib-id at 0xc
         06000000 01000000 20000000 .8 0d000000 20000000 18000000 02000000 00000100 00000100 \
             2f612e64796c0000 : accepted
@@ -79,69 +48,38 @@ const EXAMPLES: &[(&str, &str, &str)] = &[
             2f612e64796c0000 : refused: command-repeated at 0x40
         02000000 01000000 20000000 .8 0d000000 20000000 18000000 02000000 00000100 00000100 \
             2f612e64796c0000 : refused: dylib-id at 0xc
-        ",
-    ),
-    (
-        "high segment",
-        "cffaedfe 07000001 03000000 02000000 01000000 48000000 .8 19000000 48000000 5f5f4849 \
-            47480000",
-        "
+    high segment = cffaedfe 07000001 03000000 02000000 01000000 48000000 .8 19000000 48000000 \
+        5f5f4849 47480000
         .8 00f0ffff ffffffff 00100000 .36 : accepted
         .8 00f0ffff ffffffff 01100000 .36 : refused: segment-address at 0x20
         .16 02000000 .4 ffffffff ffffffff 02000000 .20 : refused: segment-file at 0x20
         .16 01000000 .12 02000000 .20 : refused: segment-size at 0x20
-        ",
-    ),
-    // The third segment begins in the first.
-    (
-        "overlapping segments",
-        "cffaedfe 07000001 03000000 02000000 03000000 d8000000 .8",
-        "
+    a third segment that begins in the first = cffaedfe 07000001 03000000 02000000 03000000 \
+        d8000000 .8
         19000000 48000000 41000000 .12 00100000 .4 00300000 .36 19000000 48000000 42000000 .12 \
             00800000 .4 00100000 .36 19000000 48000000 43000000 .12 00200000 .4 00100000 .36 \
             : refused: segment-overlap at 0xb0
-        ",
-    ),
-    // 64 bytes of debugging data, 65; and a relocation at 248, or 240.
-    (
-        "unmapped debug segment",
-        "cffaedfe 07000001 03000000 02000000 01000000 98000000 .8 19000000 98000000 5f5f4457 \
-            41524600 .24 b8000000 .4 40000000 .12 01000000 .4 5f5f6465 6275675f 696e666f .4 \
-            5f5f4457 41524600",
-        "
+    64 or 65 bytes of debugging data, or a relocation at 248 or 240 = cffaedfe 07000001 03000000 \
+        02000000 01000000 98000000 .8 19000000 98000000 5f5f4457 41524600 .24 b8000000 .4 \
+        40000000 .12 01000000 .4 5f5f6465 6275675f 696e666f .4 5f5f4457 41524600
         .16 40000000 .4 b8000000 .92 : accepted
         .16 41000000 .4 b8000000 .92 : refused: section-file at 0x68
         .16 40000000 .4 b8000000 .4 f8000000 01000000 .80 : refused: section-relocs at 0x68
         .16 40000000 .4 b8000000 .4 f0000000 01000000 .80 : accepted
-        ",
-    ),
-    (
-        "section places",
-        "cffaedfe 07000001 03000000 02000000 01000000 98000000 .8 19000000 98000000 5f5f4441 \
-            54410000 .8 00100000 .4 00100000 .12 b8000000 .4 03000000 03000000 01000000 .4 \
-            5f5f7800 .12 5f5f4441 54410000 .8 b0100000",
-        "
+    section places = cffaedfe 07000001 03000000 02000000 01000000 98000000 .8 19000000 98000000 \
+        5f5f4441 54410000 .8 00100000 .4 00100000 .12 b8000000 .4 03000000 03000000 01000000 .4 \
+        5f5f7800 .12 5f5f4441 54410000 .8 b0100000
         .4 09000000 .4 b0000000 .28 : refused: section-file at 0x68
         .4 08000000 .4 b0000000 .28 : accepted
         .4 09000000 .4 b0000000 .12 01000000 .12 : accepted
         .4 08000000 .4 b1000000 .28 : refused: section-file at 0x68
         .4 510f0000 .4 b0000000 .28 : refused: section-address at 0x68
         .4 ffffffff ffffffff b0000000 .28 : refused: section-address at 0x68
-        ",
-    ),
-    (
-        "signature range",
-        "cffaedfe 07000001 03000000 02000000 01000000 10000000 .8 1d000000 10000000",
-        "
+    signature range = cffaedfe 07000001 03000000 02000000 01000000 10000000 .8 1d000000 10000000
         30000000 01000000 : refused: table-range at 0x20
         ffffffff .4 : accepted
-        ",
-    ),
-    // The fifth pair of LC_DYLD_INFO_ONLY; groups of one symbol.
-    (
-        "table ranges",
-        "cffaedfe 07000001 03000000 02000000",
-        "
+    the fifth pair of LC_DYLD_INFO_ONLY, or groups of one symbol = cffaedfe 07000001 03000000 \
+        02000000
         01000000 30000000 .8 22000080 30000000 .32 50000000 01000000 \
             : refused: table-range at 0x20
         01000000 30000000 .8 22000080 30000000 .32 4f000000 01000000 : accepted
@@ -153,12 +91,7 @@ const EXAMPLES: &[(&str, &str, &str)] = &[
             01000000 .80 : refused: symbol-group at 0x38
         02000000 68000000 .8 02000000 18000000 88000000 01000000 .8 0b000000 50000000 .4 \
             01000000 .8 05000000 .68 : accepted
-        ",
-    ),
-    (
-        "encryption and notes",
-        "cffaedfe 07000001 03000000 02000000 01000000",
-        "
+    encryption and notes = cffaedfe 07000001 03000000 02000000 01000000
         18000000 .8 2c000000 18000000 38000000 01000000 .8 : refused: table-range at 0x20
         18000000 .8 2c000000 18000000 37000000 01000000 .8 : accepted
         18000000 .8 2c000000 18000000 ffffffff .12 : accepted
@@ -169,56 +102,29 @@ const EXAMPLES: &[(&str, &str, &str)] = &[
         28000000 .8 31000000 28000000 .24 48000000 .4 : accepted
         28000000 .8 31000000 28000000 .24 49000000 .4 : refused: table-range at 0x20
         20000000 .8 31000000 20000000 .24 : refused: command-short at 0x20
-        ",
-    ),
-    (
-        "symbol groups",
-        "cffaedfe 07000001 03000000 02000000 01000000 50000000 .8 0b000000 50000000",
-        "
+    symbol groups = cffaedfe 07000001 03000000 02000000 01000000 50000000 .8 0b000000 50000000
         .4 01000000 .64 : refused: symbol-group at 0x20
         .48 70000000 02000000 .16 00000080 .4 : refused: indirect-index at 0x74
-        ",
-    ),
-    // Names at 1, 0, 2, 3 and 4 of the strings 00 61 00 62.
-    (
-        "symbol names",
-        "cffaedfe 07000001 03000000 02000000 01000000 18000000 .8 02000000 18000000 38000000 \
-            01000000 48000000 04000000",
-        "
+    names at 1, 0, 2, 3 and 4 of the strings 00 61 00 62 = cffaedfe 07000001 03000000 02000000 \
+        01000000 18000000 .8 02000000 18000000 38000000 01000000 48000000 04000000
         01000000 01000000 .8 00610062 .1 : accepted
         .4 01000000 .8 00610062 .1 : accepted
         02000000 01000000 .8 00610062 .1 : accepted
         03000000 01000000 .8 00610062 .1 : refused: symbol-name at 0x38
         04000000 01000000 .8 00610062 .1 : refused: symbol-name at 0x38
-        ",
-    ),
-    // The strings are 61 62, or there are none.
-    (
-        "strings with no end",
-        "cffaedfe 07000001 03000000 02000000 01000000 18000000 .8 02000000 18000000 38000000 \
-            01000000",
-        "
+    the strings 61 62, or none = cffaedfe 07000001 03000000 02000000 01000000 18000000 .8 \
+        02000000 18000000 38000000 01000000
         48000000 02000000 .4 01000000 .8 6162 : accepted
         48000000 02000000 01000000 01000000 .8 6162 : refused: symbol-name at 0x38
         48000000 02000000 02000000 01000000 .8 6162 : refused: symbol-name at 0x38
         48000000 02000000 ffffffff 01000000 .8 6162 : refused: symbol-name at 0x38
         .12 01000000 .8 : accepted
         .8 01000000 01000000 .8 : refused: symbol-name at 0x38
-        ",
-    ),
-    (
-        "symbol sections",
-        "cffaedfe 07000001 03000000 02000000 01000000 18000000 .8 02000000 18000000 38000000 \
-            01000000 48000000 04000000 01000000",
-        "
+    symbol sections = cffaedfe 07000001 03000000 02000000 01000000 18000000 .8 02000000 18000000 \
+        38000000 01000000 48000000 04000000 01000000
         0f000000 .8 00610062 .1 : refused: symbol-section at 0x38
         2e000000 .8 00610062 .1 : accepted
-        ",
-    ),
-    (
-        "entry places",
-        "cffaedfe 07000001 03000000 02000000",
-        "
+    entry places = cffaedfe 07000001 03000000 02000000
         02000000 60000000 .8 19000000 48000000 5f5f5445 58540000 .8 00100000 .4 00100000 .12 \
             80000000 .4 05000000 05000000 .8 28000080 18000000 7f000000 .12 : accepted
         02000000 60000000 .8 19000000 48000000 5f5f5445 58540000 .8 00100000 .4 00100000 .12 \
@@ -231,12 +137,7 @@ const EXAMPLES: &[(&str, &str, &str)] = &[
             80000000 .4 01000000 01000000 .8 28000080 18000000 7f000000 .12 \
             : refused: entry at 0x68
         01000000 18000000 .8 28000080 18000000 .16 : refused: entry at 0x20
-        ",
-    ),
-    (
-        "twin architectures",
-        "cafebabe 00000002 0100000c .4 00000040 00000020 .4 0100000c",
-        "
+    twin architectures = cafebabe 00000002 0100000c .4 00000040 00000020 .4 0100000c
         80000000 00000060 00000020 .20 cffaedfe 0c000001 .4 02000000 .16 cffaedfe 0c000001 .4 \
             02000000 .16 : refused: fat-duplicate at 0x1c
         80000000 0000005f 00000020 .20 cffaedfe 0c000001 .4 02000000 .16 cffaedfe 0c000001 .4 \
@@ -245,25 +146,15 @@ const EXAMPLES: &[(&str, &str, &str)] = &[
             02000000 .16 : refused: arch-mismatch at 0x64
         00000002 00000060 00000020 .20 cffaedfe 0c000001 .4 02000000 .16 cffaedfe 0c000001 \
             02000000 02000000 .16 : accepted
-        ",
-    ),
-    (
-        "unread slice",
-        "cafebabe",
-        "
+    unread slice = cafebabe
         00000002 01000007 00000003 00000040 00000020 .4 00000007 00000003 00000060 00000004 .20 \
             cffaedfe 07000001 03000000 02000000 .16 cefaedfe : accepted
-        00000001 00000007 00000003 00000060 00000004 .40 cffaedfe 07000001 03000000 02000000 \
-            .16 cefaedfe : refused: fat-empty at 0x4
+        00000001 00000007 00000003 00000060 00000004 .40 cffaedfe 07000001 03000000 02000000 .16 \
+            cefaedfe : refused: fat-empty at 0x4
         00000002 01000007 00000003 00000040 00000020 .4 00000007 00000003 00000060 00000004 .20 \
             cffaedfe 07000001 03000000 02000000 .16 213c6172 : refused: fat-slice-magic at 0x60
         .4 : refused: fat-empty at 0x4
-        ",
-    ),
-    (
-        "wide universal",
-        "cafebabf",
-        "
+    wide universal = cafebabf
         00000001 01000007 00000003 80000000 .4 80000000 .12 : refused: fat-slice-outside at 0x8
         00000001 01000007 00000003 .4 00000028 .4 00000020 00000003 .4 cffaedfe 07000001 \
             03000000 02000000 .16 : accepted
@@ -278,12 +169,7 @@ const EXAMPLES: &[(&str, &str, &str)] = &[
         00000001 01000007 00000003 .4 00000028 .4 00000020 00000003 .3 \
             : refused: fat-truncated at 0x4
         .3 : refused: fat-truncated at 0x4
-        ",
-    ),
-    (
-        "order of slices",
-        "cafebabe 00000002",
-        "
+    order of slices = cafebabe 00000002
         00000007 00000003 00000044 00000004 .4 0100000c .4 00000040 00000004 .28 \
             : refused: fat-slice-magic at 0x40
         01000007 00000003 00000040 00000020 .4 00000007 00000003 00000046 .24 cffaedfe 07000001 \
@@ -293,40 +179,27 @@ const EXAMPLES: &[(&str, &str, &str)] = &[
         01000007 00000003 00000060 00000020 .4 0100000c .4 00000040 00000020 .20 cffaedfe \
             0c000001 .4 01000000 .16 cffaedfe 07000001 03000000 01000000 .16 \
             : refused: file-type at 0x6c
-        ",
-    ),
-];
+";
 
 #[test]
 fn worked_examples(rt: HostRuntime) -> Result<(), Fail> {
-    for &(name, front, lines) in EXAMPLES {
-        check_lines(&rt, name, front, lines)?;
+    let mut front = Vec::new(rt.alloc());
+    for line in EXAMPLES.trim().lines() {
+        match line.split_once(" =") {
+            Some((_, bytes)) => front = written(rt.alloc(), bytes)?,
+            None => check_line(&rt, &front, line)?,
+        }
     }
     Ok(())
 }
 
-/// Compares the verdicts on the files of an example.
-fn check_lines(
-    rt: &(impl Abort + AllocGlobal),
-    name: &str,
-    front: &str,
-    lines: &str,
-) -> Result<(), Fail> {
-    for line in lines.trim().lines() {
-        check_line(rt, name, front, line)?;
-    }
-    Ok(())
-}
-
-fn check_line(
-    rt: &(impl Abort + AllocGlobal),
-    name: &str,
-    front: &str,
-    line: &str,
-) -> Result<(), Fail> {
+/// Compares the verdict on a file of an example, which begins with these bytes.
+fn check_line(rt: &(impl Abort + AllocGlobal), front: &[u8], line: &str) -> Result<(), Fail> {
     let (bytes, verdict) = line.split_once(" : ").ok_or("a line without a verdict")?;
-    let file = written_after(rt.alloc(), front, bytes)?;
-    check_verdict(rt, name, &file, verdict);
+    let mut file = Vec::new(rt.alloc());
+    file.extend_from_slice(front)?;
+    append(&mut file, bytes)?;
+    check_verdict(rt, line, &file, verdict);
     Ok(())
 }
 

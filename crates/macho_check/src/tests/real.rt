@@ -4,7 +4,7 @@
 //! `llvm-objdump --macho --private-headers --indirect-symbols` and `llvm-nm -p -x`.
 
 use super::layout::check_layout;
-use super::{check_text, same};
+use super::same;
 use crate::notation::written;
 use macho_fat::Slice;
 use macho_fields::Span;
@@ -91,28 +91,9 @@ fn library_file(alloc: Global) -> Result<Vec<u8>, Fail> {
     written(alloc, LIBRARY)
 }
 
-const PROGRAM_REPORT: &str = r#"accepted, slices 1
-slice 0 x86_64 at 0x0 size 0x30f0 execute
-  uuid 4C4C4435-5555-3144-A1CE-E5F04E5E6C2C
-  build platform 1 min 11.0.0 sdk 11.0.0
-  segment "__PAGEZERO" addr 0x0 size 0x100000000 file 0x0 size 0x0 ---
-  segment "__TEXT" addr 0x100000000 size 0x1000 file 0x0 size 0x1000 r-x
-    section "__text" addr 0x100000440 size 0x1b file 0x440
-  segment "__DATA_CONST" addr 0x100001000 size 0x1000 file 0x1000 size 0x1000 rw-
-    section "__got" addr 0x100001000 size 0x8 file 0x1000
-  segment "__DATA" addr 0x100002000 size 0x1000 file 0x2000 size 0x1000 rw-
-    section "__data" addr 0x100002000 size 0x4 file 0x2000
-    section "__common" addr 0x100002010 size 0x10 zero
-  segment "__LINKEDIT" addr 0x100003000 size 0xf0 file 0x3000 size 0xf0 r--
-  load "/usr/lib/libdemo.dylib" current 1.2.3 compatible 1.2.0
-  symbols 5
-  entry 0x100000440
-"#;
-
 #[test]
 fn program(rt: HostRuntime) -> Result<(), Fail> {
     let file = program_file(rt.alloc())?;
-    check_text(&rt, &file, PROGRAM_REPORT);
     check_views(&rt, &file, &[PROGRAM_VIEWS])
 }
 
@@ -243,33 +224,9 @@ const LIBRARY_ARM64: &str = "
         base  0x0
 ";
 
-const LIBRARY_REPORT: &str = r#"accepted, slices 2
-slice 0 x86_64 at 0x30 size 0x1058 dylib
-  id "/usr/lib/libdemo.dylib" current 1.2.3 compatible 1.2.0
-  uuid 4C4C4497-5555-3144-A1FB-002FEFB95AB3
-  build platform 1 min 11.0.0 sdk 11.0.0
-  segment "__TEXT" addr 0x0 size 0x1000 file 0x0 size 0x1000 r-x
-    section "__text" addr 0x290 size 0x9 file 0x290
-    section "__const" addr 0x29c size 0x4 file 0x29c
-  segment "__LINKEDIT" addr 0x1000 size 0x58 file 0x1000 size 0x58 r--
-  symbols 2
-  entry none
-slice 1 arm64 at 0x1090 size 0x4180 dylib
-  id "/usr/lib/libdemo.dylib" current 1.2.3 compatible 1.2.0
-  uuid 4C4C4471-5555-3144-A1A3-CB547D9BF742
-  build platform 1 min 11.0.0 sdk 11.0.0
-  segment "__TEXT" addr 0x0 size 0x4000 file 0x0 size 0x4000 r-x
-    section "__text" addr 0x2a0 size 0x8 file 0x2a0
-    section "__const" addr 0x2a8 size 0x4 file 0x2a8
-  segment "__LINKEDIT" addr 0x4000 size 0x180 file 0x4000 size 0x180 r--
-  symbols 2
-  entry none
-"#;
-
 #[test]
 fn library(rt: HostRuntime) -> Result<(), Fail> {
     let file = library_file(rt.alloc())?;
-    check_text(&rt, &file, LIBRARY_REPORT);
     check_slices_of_library(&rt, &file)?;
     check_views(&rt, &file, &[LIBRARY_X86_64, LIBRARY_ARM64])
 }

@@ -8,13 +8,6 @@ use macho_image::Image;
 use std::process::Abort;
 use std::test::Fail;
 
-/// Compares the views of a file that is written out.
-fn check_written(rt: &(impl Abort + AllocGlobal), bytes: &str, lines: &str) -> Result<(), Fail> {
-    let file = written(rt.alloc(), bytes)?;
-    let image = Image::open(Bytes::new(&file), None)?;
-    check_layout(rt, &image, lines)
-}
-
 #[test]
 fn whole_executable(rt: HostRuntime) -> Result<(), Fail> {
     let file = executable(rt.alloc())?;
@@ -54,106 +47,94 @@ fn whole_executable(rt: HostRuntime) -> Result<(), Fail> {
     )
 }
 
-#[test]
-fn libraries(rt: HostRuntime) -> Result<(), Fail> {
-    check_written(
-        &rt,
-        "cffaedfe 0c000001 02000080 06000000 06000000 c0000000 .8
-        0c000000 20000000 18000000 .4 01000000 02000000 2f612e64796c0000
-        18000080 20000000 18000000 .4 03000000 04000000 2f622e64796c0000
-        0d000000 20000000 18000000 .4 05000000 06000000 2f632e64796c0000
-        1f000080 20000000 19000000 .4 07000000 08000000 2f642e64796c0000
-        20000000 20000000 1f000000 .4 09000000 0a000000 2f652e64796c0000
-        23000080 20000000 18000000 .4 0b000000 0c000000 2f00662e64796c00",
-        "
-        dylib  0xe0 0x100000c 0x2 0x0
-        command  0x20 0xc 0x20 0x20
-        command  0x40 0x80000018 0x20 0x20
-        command  0x60 0xd 0x20 0x20
-        command  0x80 0x8000001f 0x20 0x20
-        command  0xa0 0x20 0x20 0x20
-        command  0xc0 0x80000023 0x20 0x20
-        dylib /a.dyl 0x20 0xc 0x1 0x2
-        dylib /b.dyl 0x40 0x80000018 0x3 0x4
-        dylib /c.dyl 0x60 0xd 0x5 0x6
-        dylib d.dyl 0x80 0x8000001f 0x7 0x8
-        dylib  0xa0 0x20 0x9 0xa
-        dylib / 0xc0 0x80000023 0xb 0xc
-        ",
-    )
-}
+/// Files and the views of their images: the bytes, an empty line, and the lines.
+const VIEWS: &[&str] = &[
+    // The name of the fourth library begins a byte later, that of the fifth is empty, and the last
+    // ends at a zero byte in its middle.
+    "
+cffaedfe 0c000001 02000080 06000000 06000000 c0000000 .8
+0c000000 20000000 18000000 .4 01000000 02000000 2f612e64796c0000
+18000080 20000000 18000000 .4 03000000 04000000 2f622e64796c0000
+0d000000 20000000 18000000 .4 05000000 06000000 2f632e64796c0000
+1f000080 20000000 19000000 .4 07000000 08000000 2f642e64796c0000
+20000000 20000000 1f000000 .4 09000000 0a000000 2f652e64796c0000
+23000080 20000000 18000000 .4 0b000000 0c000000 2f00662e64796c00
+
+dylib  0xe0 0x100000c 0x2 0x0
+command  0x20 0xc 0x20 0x20
+command  0x40 0x80000018 0x20 0x20
+command  0x60 0xd 0x20 0x20
+command  0x80 0x8000001f 0x20 0x20
+command  0xa0 0x20 0x20 0x20
+command  0xc0 0x80000023 0x20 0x20
+dylib /a.dyl 0x20 0xc 0x1 0x2
+dylib /b.dyl 0x40 0x80000018 0x3 0x4
+dylib /c.dyl 0x60 0xd 0x5 0x6
+dylib d.dyl 0x80 0x8000001f 0x7 0x8
+dylib  0xa0 0x20 0x9 0xa
+dylib / 0xc0 0x80000023 0xb 0xc
+",
+    // An entry without a base.
+    "
+cffaedfe 07000001 03000000 02000000 01000000 18000000 .8
+28000080 18000000 0700000000000000 0900000000000000
+
+executable  0x38 0x1000007 0x3 0x0
+command  0x20 0x80000028 0x18 0x18
+main  0x20 0x7 0x9
+",
+    // A base without an entry: its sum with the entry's offset is 2^64.
+    "
+cffaedfe 07000001 03000000 02000000 02000000 60000000 .8
+19000000 48000000 41424344454647484142434445464748
+0010000000000000 0100000000000000 .8 0100000000000000 07000000 05000000 .8
+28000080 18000000 00f0ffffffffffff .8
+
+executable  0x80 0x1000007 0x3 0x0
+command  0x20 0x19 0x48 0x48
+command  0x68 0x80000028 0x18 0x18
+segment ABCDEFGHABCDEFGH 0x20 0x1000 0x1 0x0 0x1 0x5 0x0
+main  0x68 0xfffffffffffff000 0x0
+base  0x1000
+",
+    // The words of the groups.
+    "
+cffaedfe 07000001 03000000 02000000 01000000 50000000 .8 0b000000 50000000
+01000000 02000000 03000000 04000000 05000000 06000000
+07000000 08000000 09000000 0a000000 0b000000 0c000000
+70000000 02000000 0d000000 0e000000 0f000000 10000000 00000080 05000000
+
+executable  0x78 0x1000007 0x3 0x0
+command  0x20 0xb 0x50 0x50
+Dysymtab { place: 32, ilocalsym: 1, nlocalsym: 2, iextdefsym: 3, nextdefsym: 4, \
+    iundefsym: 5, nundefsym: 6, tocoff: 7, ntoc: 8, modtaboff: 9, nmodtab: 10, \
+    extrefsymoff: 11, nextrefsyms: 12, indirectsymoff: 112, nindirectsyms: 2, \
+    extreloff: 13, nextrel: 14, locreloff: 15, nlocrel: 16 }
+indirect  0x70 0x80000000
+indirect  0x74 0x5
+",
+    // Of the two entries of the indirect table one byte is missing.
+    "
+cffaedfe 07000001 03000000 02000000 01000000 50000000 .8 0b000000 50000000
+.48 70000000 02000000 .16 .7
+
+executable  0x77 0x1000007 0x3 0x0
+command  0x20 0xb 0x50 0x50
+Dysymtab { place: 32, ilocalsym: 0, nlocalsym: 0, iextdefsym: 0, nextdefsym: 0, \
+    iundefsym: 0, nundefsym: 0, tocoff: 0, ntoc: 0, modtaboff: 0, nmodtab: 0, \
+    extrefsymoff: 0, nextrefsyms: 0, indirectsymoff: 112, nindirectsyms: 2, extreloff: \
+    0, nextrel: 0, locreloff: 0, nlocrel: 0 }
+",
+];
 
 #[test]
-fn entry_without_a_base(rt: HostRuntime) -> Result<(), Fail> {
-    check_written(
-        &rt,
-        "cffaedfe 07000001 03000000 02000000 01000000 18000000 .8
-        28000080 18000000 0700000000000000 0900000000000000",
-        "
-        executable  0x38 0x1000007 0x3 0x0
-        command  0x20 0x80000028 0x18 0x18
-        main  0x20 0x7 0x9
-        ",
-    )
-}
-
-#[test]
-fn base_without_an_entry(rt: HostRuntime) -> Result<(), Fail> {
-    // The sum of the base and the entry's offset is 2^64.
-    check_written(
-        &rt,
-        "cffaedfe 07000001 03000000 02000000 02000000 60000000 .8
-        19000000 48000000 41424344454647484142434445464748
-        0010000000000000 0100000000000000 .8 0100000000000000 07000000 05000000 .8
-        28000080 18000000 00f0ffffffffffff .8",
-        "
-        executable  0x80 0x1000007 0x3 0x0
-        command  0x20 0x19 0x48 0x48
-        command  0x68 0x80000028 0x18 0x18
-        segment ABCDEFGHABCDEFGH 0x20 0x1000 0x1 0x0 0x1 0x5 0x0
-        main  0x68 0xfffffffffffff000 0x0
-        base  0x1000
-        ",
-    )
-}
-
-#[test]
-fn words_of_the_groups(rt: HostRuntime) -> Result<(), Fail> {
-    check_written(
-        &rt,
-        "cffaedfe 07000001 03000000 02000000 01000000 50000000 .8 0b000000 50000000
-        01000000 02000000 03000000 04000000 05000000 06000000
-        07000000 08000000 09000000 0a000000 0b000000 0c000000
-        70000000 02000000 0d000000 0e000000 0f000000 10000000 00000080 05000000",
-        "
-        executable  0x78 0x1000007 0x3 0x0
-        command  0x20 0xb 0x50 0x50
-        Dysymtab { place: 32, ilocalsym: 1, nlocalsym: 2, iextdefsym: 3, nextdefsym: 4, \
-            iundefsym: 5, nundefsym: 6, tocoff: 7, ntoc: 8, modtaboff: 9, nmodtab: 10, \
-            extrefsymoff: 11, nextrefsyms: 12, indirectsymoff: 112, nindirectsyms: 2, \
-            extreloff: 13, nextrel: 14, locreloff: 15, nlocrel: 16 }
-        indirect  0x70 0x80000000
-        indirect  0x74 0x5
-        ",
-    )
-}
-
-#[test]
-fn cut_indirect_table(rt: HostRuntime) -> Result<(), Fail> {
-    // Of the table's two entries one byte is missing.
-    check_written(
-        &rt,
-        "cffaedfe 07000001 03000000 02000000 01000000 50000000 .8 0b000000 50000000
-        .48 70000000 02000000 .16 .7",
-        "
-        executable  0x77 0x1000007 0x3 0x0
-        command  0x20 0xb 0x50 0x50
-        Dysymtab { place: 32, ilocalsym: 0, nlocalsym: 0, iextdefsym: 0, nextdefsym: 0, \
-            iundefsym: 0, nundefsym: 0, tocoff: 0, ntoc: 0, modtaboff: 0, nmodtab: 0, \
-            extrefsymoff: 0, nextrefsyms: 0, indirectsymoff: 112, nindirectsyms: 2, extreloff: \
-            0, nextrel: 0, locreloff: 0, nlocrel: 0 }
-        ",
-    )
+fn views(rt: HostRuntime) -> Result<(), Fail> {
+    for case in VIEWS {
+        let (bytes, lines) = case.split_once("\n\n").ok_or("bytes without lines")?;
+        let file = written(rt.alloc(), bytes)?;
+        check_layout(&rt, &Image::open(Bytes::new(&file), None)?, lines)?;
+    }
+    Ok(())
 }
 
 /// The names at these offsets in the string table of a file.
