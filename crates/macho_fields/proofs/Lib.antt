@@ -23,6 +23,7 @@ pub mod Scopes
 pub mod Texts
 pub mod InFile
 pub mod FirstExists
+pub mod FirstPlaces
 pub mod Overlaps
 pub mod SortedSpans
 pub mod Digits

@@ -14,6 +14,7 @@ pub mod Segment
 pub mod Symbol
 pub mod Rules
 pub mod First
+pub mod FirstPlace
 pub mod Layers
 pub mod Loader
 pub mod Scaffold

@@ -4,6 +4,7 @@
 
 pub mod bytes;
 pub mod file_type;
+pub mod first_place;
 pub mod header;
 pub mod law;
 pub mod load_command;
@@ -14,6 +15,7 @@ pub mod spans;
 
 pub use bytes::{Bytes, Order};
 pub use file_type::{FileType, Kind, file_type_of};
+pub use first_place::FirstPlace;
 pub use load_command::{
     LoadCommand, Records, Structure, TableFields, UNIQUE_COUNT, Width, names_library, structure_of,
     unique_index,

@@ -1,0 +1,51 @@
+//! Where a rule is first broken, as a walk finds it.
+
+use crate::rule::{Break, Rule};
+use std::marker::Model;
+
+/// The first of the places that a walk has noted: those at which one rule is broken.
+#[derive(Clone, Copy, Debug)]
+pub struct FirstPlace {
+    place: Option<u64>,
+}
+
+impl Model for FirstPlace {
+    ghost use Rattle.std.specs.Prelude.{Option, ℕ};
+
+    ghost Value = { Option ℕ };
+
+    ghost view = { λ first. first.place };
+
+    ghost inverse = { λ place. record { place = place } };
+}
+
+impl FirstPlace {
+    ghost use Rattle.std.specs.Prelude.{◌≡◌, None, Some, unwrap_or, IsOk, IsErrAnd, MatchOption};
+
+    /// No place is noted.
+    pub const fn none() -> FirstPlace
+        ensures { result ≡ None }
+    {
+        FirstPlace { place: None }
+    }
+
+    /// Notes a place that comes after those noted before.
+    pub fn note(&mut self, place: u64)
+        ensures { self.new ≡ Some (unwrap_or self.old place) }
+    {
+        if self.place.is_none() {
+            self.place = Some(place);
+        }
+    }
+
+    /// The answer of the rule: its break at the first place, if one is noted.
+    pub fn judge(self, rule: Rule) -> Result<(), Break>
+        ensures { MatchOption self (IsOk result)
+            (λ place. IsErrAnd result (λ b. (b.rule ≡ rule) × (b.place ≡ place))) }
+    {
+        match self.place {
+            Some(place) => Err(Break::at(rule, place)),
+            None => Ok(()),
+        }
+    }
+}
