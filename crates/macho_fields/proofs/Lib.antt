@@ -25,6 +25,7 @@ pub mod InFile
 pub mod FirstExists
 pub mod FirstPlaces
 pub mod Overlaps
+pub mod SpanOrders
 pub mod SortedSpans
 pub mod Digits
 pub mod Kept

@@ -4,6 +4,7 @@ pub mod Bytes
 pub mod Span
 pub mod Spans
 pub mod Overlap
+pub mod SpanOrder
 pub mod RuleNames
 pub mod Universal
 pub mod Image

@@ -11,6 +11,7 @@ pub mod load_command;
 pub mod overlap;
 pub mod rule;
 pub mod span;
+pub mod span_order;
 pub mod spans;
 
 pub use bytes::{Bytes, Order};
@@ -23,4 +24,5 @@ pub use load_command::{
 pub use overlap::SpanList;
 pub use rule::{Break, Rule};
 pub use span::Span;
+pub use span_order::{Sharing, SpanOrder};
 pub use spans::{Insert, Spans};
