@@ -4,22 +4,17 @@ use Rattle.std.specs.Prelude.{nat_le}
 use Rattle.std.specs.Option.{option_map_or}
 use Rattle.std.proofs.lemmas.Bool.{cases_lt, lt-leb}
 use Rattle.macho_fields.specs.Field.{part, HasZero}
-use Rattle.macho_fields.specs.Image.{word, command_cmd, command_size, commands_end, commands_of, IsGood}
+use Rattle.macho_fields.specs.Image.{word, command_cmd, command_size, commands_end, IsGood}
 use Rattle.macho_fields.specs.Command.{record_count, least_size, name_offset, name_start, IsShort, IsBadName, HasBadName}
 use Rattle.macho_fields.specs.LoadCommands.{structure_of, structure_size, records_of, has_name}
-use Rattle.macho_fields.specs.First.{rank}
 use Rattle.macho_fields.specs.declared.load_command.Records.{Records}
 use Rattle.macho_fields.specs.declared.load_command.Structure.{Structure}
-use Rattle.macho_fields.specs.declared.rule.Rule.TheVariants as rule
 use Rattle.macho_fields.proofs.LoadCommands.{name_inside}
 use Rattle.macho_fields.proofs.Options.{some_of, of_some}
-use Rattle.macho_fields.proofs.Parts.{command_good}
-use Rattle.macho_image.specs.Command.{CommandView, command_at}
+use Rattle.macho_image.specs.Command.{command_at}
 use Rattle.macho_image.specs.Scaffold.{IsAlone}
 use Rattle.macho_image.proofs.Names.{part_at}
 use Rattle.macho_image.proofs.ReadParts.{word_in_part, length-part}
-use Rattle.macho_image.proofs.Opening.{Kept, commands_inside, has_commands, none_short}
-use Rattle.macho_image.proofs.Passed.{IsNext, next_among}
 
 module _ (image : List ℕ) (p : ℕ) (good : IsGood image p) (inside : commands_end image ≤ length image) where
   abbrev size : ℕ
@@ -120,28 +115,3 @@ module _ (image : List ℕ) (p : ℕ) (good : IsGood image p) (inside : commands
         subst (λ cmd. IsSomeAnd (structure_of cmd) (IsBadName bytes 0)) (sym cmd_alone) (of_some (IsBadName bytes 0) (structure_of (command_cmd image p)) s listed
         (named, ⊎_elim (λ low. inl (let e = offset_alone room in omega (arith, low))) (λ none. inr (λ zero. none ((zero_alone room).0 zero))) bad)),
   )
-
--- The same, of the first of those that are left
-module _ (image : List ℕ) (arch : Option (ℕ × ℕ)) (n : ℕ) (late : rank rule.CommandWalk < n) (below : Kept image arch n) (passed : List ℕ) (v : CommandView) (rest : List CommandView)
-    (nx : IsNext image passed v rest) where
-  inside : commands_end image ≤ length image
-  inside = commands_inside image arch n (omega arith) below
-
-  good : IsGood image v.place
-  good = command_good image (commands_of image) v.place (has_commands image arch n late below) (next_among image passed v rest nx)
-
-  pub next_alone : IsAlone v
-  next_alone = subst IsAlone (sym nx.is) (is_alone image v.place good inside)
-
-  pub next_short : IsShort v.bytes 0 ↔ IsShort image v.place
-  next_short = subst (λ bs. IsShort bs 0 ↔ IsShort image v.place) (sym (ap (λ (w : CommandView). w.bytes) nx.is)) (short_alone image v.place good inside)
-
-  module _ (later : rank rule.CommandShort < n) where
-    whole : ¬ IsShort image v.place
-    whole = none_short image arch n later below v.place (next_among image passed v rest nx)
-
-    pub next_whole : ¬ IsShort v.bytes 0
-    next_whole short = whole (next_short.0 short)
-
-    pub next_bad : HasBadName v.bytes 0 ↔ HasBadName image v.place
-    next_bad = subst (λ bs. HasBadName bs 0 ↔ HasBadName image v.place) (sym (ap (λ (w : CommandView). w.bytes) nx.is)) (bad_alone image v.place good inside whole)

@@ -1,20 +1,23 @@
 -- The first command of each unique kind.
 use Rattle.std.proofs.Common.{◌≡◌, ◌==◌, ◌&&◌, ℕ, suc, zero, ◌<◌, ◌⊎◌, List, [], ◌∷◌, ◌++◌, Bool, true, false, not, cond}
-use Rattle.std.proofs.Common.{map, length, set, get_or, Contains, Option, Some, None, refl, sym, ap, ap₂, ◌∙◌, subst, arith, inl, inr}
+use Rattle.std.proofs.Common.{map, length, set, get_or, Contains, find, Option, Some, None, refl, sym, ap, ap₂, ◌∙◌, subst, arith, inl, inr}
 use Rattle.std.specs.Prelude.{⊤}
 use Rattle.std.specs.List.{list_any, position_or_len}
-use Rattle.std.specs.Option.{option_or}
+use Rattle.std.specs.Option.{option_map, option_or}
 use Rattle.std.proofs.lemmas.List.Quantifiers.{position-Some}
 use Rattle.std.proofs.lemmas.Bool.{cases_Bool, cases_lt, lt-ltb, false≢true, and_parts, not-true, eqb-true, eq-eqb, ne_eqb}
 use Rattle.std.proofs.lemmas.List.{get_or-map, get_or_default}
 use Rattle.std.proofs.lemmas.List.Folds.{Any-from_list_any, list_any-from_Any}
 use Rattle.std.proofs.lemmas.List.Sums.{fails_before_first}
 use Rattle.macho_fields.specs.Image.{command_cmd}
-use Rattle.macho_fields.specs.LoadCommands.{unique_commands, unique_cmds, unique_index, IsUnique}
+use Rattle.macho_fields.specs.LoadCommands.{structure_of, unique_commands, unique_cmds, unique_index, IsUnique}
+use Rattle.macho_fields.specs.declared.header.loader.TheConstants as loader
 use Rattle.macho_fields.specs.declared.load_command.LoadCommand.{LoadCommand}
 use Rattle.macho_fields.specs.declared.load_command.Structure.TheVariants.{SymtabCommand}
 use Rattle.macho_fields.proofs.Lists.{none_by_test, none_in_nil, contains_first, contains_later}
 use Rattle.macho_image.specs.Command.{first_with_cmd}
+use Rattle.macho_image.specs.Scaffold.{AreFirst}
+use Rattle.macho_image.specs.declared.unique.UniquePlaces.{UniquePlaces}
 
 first_by : (image : List ℕ) (cmd x : ℕ) (xs : List ℕ) → first_with_cmd image cmd (x ∷ xs) ≡ cond (command_cmd image x == cmd) (Some x) (first_with_cmd image cmd xs)
 first_by image cmd x xs = elim (cases_Bool (command_cmd image x == cmd)) [ inl of_it ↦ rw of_it refl | inr other ↦ rw other refl ]
@@ -153,3 +156,37 @@ note_other image commands places cmd p is cmd_is first =
 
 pub unique_or_not : (cmd : ℕ) → IsUnique cmd ⊎ ¬ IsUnique cmd
 unique_or_not cmd = elim (cases_Bool (list_any (λ command. command.cmd == cmd) unique_commands)) [ inl unique ↦ inl unique | inr other ↦ inr (λ unique. false≢true (sym other ∙ unique)) ]
+
+-- A command of which an image has any number changes no place
+
+no_index : (cmd : ℕ) → ¬ IsUnique cmd → unique_index cmd ≡ None
+no_index cmd other = by (unique_index cmd) refl
+  where
+    by : (o : Option ℕ) → unique_index cmd ≡ o → o ≡ None
+    by None is = refl
+    by (Some i) is = absurd (other (index_is_unique cmd i is))
+
+pub first_kept : (image commands : List ℕ) (unique : UniquePlaces) (cmd p : ℕ) → ¬ IsUnique cmd → cmd ≡ command_cmd image p → AreFirst image commands unique
+    → AreFirst image (commands ++ p ∷ []) unique
+first_kept image commands unique cmd p other is first = record { places = note_other image commands unique.places cmd p (no_index cmd other) is first.places }
+
+none_found : {X : Type 0} (test : X → Bool) (xs : List X) → find test xs ≡ None → list_any test xs ≡ false
+none_found test [] none = refl
+none_found test (x ∷ xs) none = elim (cases_Bool (test x)) [
+  | inl passes ↦ absurd (let some = rw passes at none in cc)
+  | inr fails ↦ rw fails (none_found test xs (rw fails at none))
+]
+
+-- an unlisted command is none of which an image has at most one, and no segment
+pub unlisted_is_not_unique : (cmd : ℕ) → structure_of cmd ≡ None → ¬ IsUnique cmd
+unlisted_is_not_unique cmd none unique = false≢true (sym (none_found (λ command. command.cmd == cmd) unique_commands (first_is_none _ _ none)) ∙ unique)
+  where
+    first_is_none : (a b : Option LoadCommand) → option_map (λ command. command.structure) (option_or a b) ≡ None → a ≡ None
+    first_is_none None b is = refl
+    first_is_none (Some x) b is = absurd (cc)
+
+pub unlisted_is_no_segment : (cmd : ℕ) → structure_of cmd ≡ None → ¬ (cmd ≡ loader.LC_SEGMENT_64)
+unlisted_is_no_segment cmd none same = let some = subst (λ n. structure_of n ≡ None) same none in absurd (cc)
+
+pub segment_is_not_unique : (cmd : ℕ) → cmd ≡ loader.LC_SEGMENT_64 → ¬ IsUnique cmd
+segment_is_not_unique cmd same unique = false≢true (subst IsUnique same unique)

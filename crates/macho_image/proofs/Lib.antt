@@ -6,13 +6,13 @@ pub mod OpenedWalk
 pub mod WithOneCmd
 pub mod Kept
 pub mod HeldSegments
-pub mod Reached
+pub mod Noted
 pub mod Entries
 pub mod Names
 pub mod Named
 pub mod Libraries
 pub mod Places
-pub mod Passed
+pub mod Surveyed
 pub mod ReadParts
 pub mod Alone
 pub mod FirstWithCmd

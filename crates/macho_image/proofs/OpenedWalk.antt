@@ -1,7 +1,7 @@
 -- The walk over the commands of an opened image.
-use Rattle.std.proofs.Common.{◌≡◌, ℕ, List, Option, None, sym, subst, arith}
+use Rattle.std.proofs.Common.{◌≡◌, ℕ, ◌≤◌, List, length, Option, None, sym, subst, arith}
 use Rattle.std.proofs.lemmas.List.Elements.{All-contains_itself}
-use Rattle.macho_fields.specs.Image.{command_count, commands_of, AreCommands}
+use Rattle.macho_fields.specs.Image.{command_count, commands_end, commands_of, AreCommands}
 use Rattle.macho_fields.specs.Layers.{KeptBelow}
 use Rattle.macho_fields.specs.Rules.{BreaksImage}
 use Rattle.macho_fields.specs.First.{rank}
@@ -15,6 +15,9 @@ use Rattle.macho_image.proofs.Opening.{commands_inside, has_commands}
 -- an opened image has its commands
 pub opened_commands : (image : List ℕ) → IsOpened image → AreCommands image (commands_of image)
 opened_commands image opened = has_commands image None (rank rule.SegmentAddress) (omega arith) (opened_below image opened)
+
+pub opened_inside : (image : List ℕ) → IsOpened image → commands_end image ≤ length image
+opened_inside image opened = commands_inside image None (rank rule.SegmentAddress) (omega arith) (opened_below image opened)
 
 -- where the walk does not break, all commands can be gone over
 pub can_walk : (image : List ℕ) (arch : Option (ℕ × ℕ)) (left : ℕ) → left ≡ command_count image → KeptBelow (BreaksImage image arch) (rank rule.CommandShort) → CanWalk image 32 left

@@ -1,16 +1,11 @@
 -- The walk that finds the commands of an image, one place after another.
-use Rattle.std.proofs.Common.{◌≡◌, ℕ, ◌+◌, ◌≤◌, ◌<◌, List, [], ◌∷◌, ◌++◌, length, Option, refl, ◌∙◌, arith, length-append}
-use Rattle.macho_fields.specs.Image.{command_count, command_size, IsGood, IsChain}
+use Rattle.std.proofs.Common.{◌≡◌, ℕ, ◌+◌, ◌≤◌, ◌<◌, List, [], ◌∷◌, ◌++◌, Option, refl, ◌∙◌, arith, length-append}
+use Rattle.macho_fields.specs.Image.{command_count, command_size, IsGood}
 use Rattle.macho_fields.specs.Rules.{BreaksHeader}
 use Rattle.macho_fields.specs.declared.rule.Rule.TheVariants as rule
 use Rattle.macho_fields.proofs.Parts.{follow_more}
 use Rattle.macho_fields.proofs.Walks.{walk_breaks_once, commands_keep_walk}
-
--- there are so many commands before the place
-pub record IsAt (image : List ℕ) (walked place : ℕ) : Type 0 where
-  pub places : List ℕ
-  pub count : length places ≡ walked
-  pub chain : IsChain image places place
+use Rattle.macho_image.specs.Scaffold.{IsAt}
 
 pub at_first : (image : List ℕ) → IsAt image 0 32
 at_first image = record { places = []; count = refl; chain = refl }

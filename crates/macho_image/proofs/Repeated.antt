@@ -1,46 +1,38 @@
 -- The rules on the commands of which an image has at most one.
-use Rattle.std.proofs.Common.{◌≡◌, ℕ, ◌↔◌, ◌⊎◌, Bool, IsTrue, true, false, not, List, Option, Some, None, refl, sym, ap, ◌∙◌, subst, inl, inr}
+use Rattle.std.proofs.Common.{◌≡◌, ℕ, ◌↔◌, ◌⊎◌, Bool, IsTrue, true, false, not, List, Option, Some, None, refl, sym, ◌∙◌, subst, inl, inr}
 use Rattle.std.proofs.lemmas.Bool.{false≢true, true≢false}
+use Rattle.std.specs.Prelude.{IsSome}
 use Rattle.std.specs.Option.{is_some}
 use mathlib.Core.Bool.{beq}
-use Rattle.macho_fields.specs.Command.{RepeatsEarlier, HasDylibId}
+use Rattle.macho_fields.specs.Command.{HasDylibId}
+use Rattle.macho_fields.proofs.Options.{some_or_not_none}
 use Rattle.macho_fields.specs.LoadCommands.{IsUnique}
-use Rattle.macho_fields.specs.Image.{command_cmd, commands_of, AreCommands}
+use Rattle.macho_fields.specs.Image.{command_cmd, commands_of}
 use Rattle.macho_fields.specs.declared.header.loader.TheConstants as loader
-use Rattle.macho_image.specs.Command.{CommandView, first_with_cmd}
-use Rattle.macho_image.proofs.FirstWithCmd.{first_is, first_none, unique_or_not}
-use Rattle.macho_image.proofs.Passed.{IsNext, passed_are_before, before_are_passed}
+use Rattle.macho_image.specs.Command.{first_with_cmd}
+use Rattle.macho_image.specs.Scaffold.{IsAt, Repeats, first_commands}
+use Rattle.macho_image.proofs.FirstWithCmd.{first_is, first_none}
+use Rattle.macho_image.proofs.Noted.{passed_before}
 
--- the command repeats an earlier one of the image
-abbrev pub Repeats : List ℕ → ℕ → Type 0
-Repeats image p = RepeatsEarlier image (commands_of image) p
+-- a command of a kind that was noted before repeats an earlier one
+module _ (image : List ℕ) (walked place cmd : ℕ) (at : IsAt image walked place) (is : cmd ≡ command_cmd image place) where
+  repeats_found : (found : Option ℕ) → found ≡ first_with_cmd image cmd (first_commands image walked) → IsUnique cmd → IsSome found → Repeats image walked place
+  repeats_found None none unique some = absurd (false≢true some)
+  repeats_found (Some p) found unique some =
+      let ((k, less, here), same) = first_is image cmd p (first_commands image walked) (sym found) in
+      (subst IsUnique is unique, (k, p, less, here, (passed_before image walked place at p (k, less, here), same ∙ is)))
 
--- what is found of the kind of a command among those before it
-pub record IsFirstFound (image passed : List ℕ) (cmd : ℕ) (found : Option ℕ) : Type 0 where
-  pub unique : IsUnique cmd → found ≡ first_with_cmd image cmd passed
-  pub other : ¬ IsUnique cmd → found ≡ None
+  pub repeats_second : (second : Bool) → (IsTrue second ↔ IsUnique cmd × IsSome (first_with_cmd image cmd (first_commands image walked))) → IsTrue second ↔ Repeats image walked place
+  repeats_second second means = (
+    λ h. let (unique, some) = means.0 h in repeats_found _ refl unique some,
+    λ (unique, (k, p, less, here, (before, same))).
+        means.1 (subst IsUnique (sym is) unique, some_or_not_none _ (λ none. first_none image cmd p (first_commands image walked) none (k, less, here) (same ∙ sym is))),
+  )
 
-module _ (image passed : List ℕ) (v : CommandView) (rest : List CommandView) (are : AreCommands image (commands_of image)) (nx : IsNext image passed v rest) where
-  pub cmd_is : v.cmd ≡ command_cmd image v.place
-  cmd_is = ap (λ (w : CommandView). w.cmd) nx.is
+  pub repeats_none : ¬ IsUnique cmd → ¬ Repeats image walked place
+  repeats_none other (unique, earlier) = other (subst IsUnique (sym is) unique)
 
-  pub found_repeats : (found : Option ℕ) (some : Bool) → some ≡ is_some found → some ≡ true → IsFirstFound image passed v.cmd found → Repeats image v.place
-  found_repeats None some is yes_it_is f = absurd (false≢true (sym is ∙ yes_it_is))
-  found_repeats (Some p) some is yes_it_is f = elim (unique_or_not v.cmd) [
-    | inr not_unique ↦ absurd (let none = f.other not_unique in cc)
-    | inl unique ↦
-        let (has, same) = first_is image v.cmd p passed (sym (f.unique unique)) in
-        let ((k, less, at), before) = passed_are_before image passed v rest are nx p has in
-        (subst IsUnique cmd_is unique, (k, p, less, at, (before, same ∙ cmd_is)))
-  ]
-
-  pub none_repeats : (found : Option ℕ) (some : Bool) → some ≡ is_some found → some ≡ false → IsFirstFound image passed v.cmd found → ¬ Repeats image v.place
-  none_repeats (Some p) some is not_it f repeats = absurd (false≢true (sym not_it ∙ is))
-  none_repeats None some is not_it f (unique, (k, p, less, at, (before, same))) =
-      first_none image v.cmd p passed (sym (f.unique (subst IsUnique (sym cmd_is) unique)))
-      (before_are_passed image passed v rest are nx p (k, less, at) before) (same ∙ sym cmd_is)
-
--- the first LC_ID_DYLIB tells whether there is one
+-- the first LC_ID_DYLIB shows whether there is one
 pub has_id : (image : List ℕ) (found : Option ℕ) (some : Bool) → some ≡ is_some found → found ≡ first_with_cmd image loader.LC_ID_DYLIB (commands_of image)
     → IsTrue some ↔ HasDylibId image (commands_of image)
 has_id image None some is none = (

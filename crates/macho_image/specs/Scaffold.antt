@@ -3,9 +3,10 @@ use Rattle.std.specs.Prelude.{◌≡◌, ℕ, zero, suc, ◌+◌, ◌*◌, ◌�
 use Rattle.std.specs.Prelude.{map, filter, flat_map}
 use Rattle.std.specs.Prelude.{length, All}
 use Rattle.macho_fields.specs.Bytes.{bytes_of}
-use Rattle.macho_fields.specs.Command.{name_start}
+use Rattle.macho_fields.specs.Command.{name_start, IsShort, HasBadName, RepeatsEarlier}
 use Rattle.macho_fields.specs.Field.{HasZero}
-use Rattle.macho_fields.specs.Image.{command_cmd, command_size, command_count, commands_end, commands_of, IsGood, places_from}
+use Rattle.macho_fields.specs.Image.{command_cmd, command_size, command_count, commands_end, commands_of, IsGood, IsChain, places_from}
+use Rattle.macho_fields.specs.FirstPlace.{IsFirstOf}
 use Rattle.macho_fields.specs.LoadCommands.{structure_size, names_library, unique_cmds}
 use Rattle.macho_fields.specs.Rules.{BreaksImage}
 use Rattle.macho_fields.specs.Segment.{nsects, segments_of}
@@ -22,6 +23,9 @@ use Rattle.macho_image.specs.Segment.{SegmentView, SectionView, segment_at, sect
 use Rattle.macho_image.specs.Symbol.{symbol_at, indirect_at}
 use Rattle.macho_image.specs.declared.build.Build.{Build}
 use Rattle.macho_image.specs.declared.indirect.Indirect.{Indirect}
+use Rattle.macho_image.specs.declared.landmarks.Landmarks.{Landmarks}
+use Rattle.macho_image.specs.declared.landmarks.SegmentRange.{SegmentRange}
+use Rattle.macho_image.specs.declared.survey.Survey.{Survey}
 use Rattle.macho_image.specs.declared.symbol.Symbol.{Symbol}
 use Rattle.macho_image.specs.declared.unique.UniquePlaces.{UniquePlaces}
 use Rattle.macho_image.specs.declared.walk.Opening.{Opening}
@@ -36,17 +40,60 @@ breaks_of opening = BreaksImage (bytes_of opening.bytes) opening.arch
 pub record AreFirst (image commands : List ℕ) (unique : UniquePlaces) : Type 0 where
   pub places : unique.places ≡ map (λ cmd. first_with_cmd image cmd commands) unique_cmds
 
--- the first commands, so many of them, have all segments
-pub record ReachesSegments (image : List ℕ) (count : ℕ) : Type 0 where
-  pub most : count ≤ command_count image
-  pub all : segments_of image (places_from image loader.MACH_HEADER_64_SIZE count)
-      ≡ segments_of image (commands_of image)
+-- the command is long enough for its structure, and has a bad name
+abbrev pub IsWholeAndMisnamed : List ℕ → ℕ → Type 0
+IsWholeAndMisnamed image command = (¬ IsShort image command) × HasBadName image command
+
+-- so many good commands stand before the place, one after another from the end of the header on
+pub record IsAt (image : List ℕ) (walked place : ℕ) : Type 0 where
+  pub places : List ℕ
+  pub count : length places ≡ walked
+  pub chain : IsChain image places place
+
+-- the first commands of an image, so many of them
+abbrev pub first_commands : List ℕ → ℕ → List ℕ
+first_commands image walked = places_from image loader.MACH_HEADER_64_SIZE walked
+
+-- the command is a second one of which an image has at most one, after so many commands
+abbrev pub Repeats : List ℕ → ℕ → ℕ → Type 0
+Repeats image walked command = RepeatsEarlier image (first_commands image walked) command
+
+-- the range has the segments among the first commands
+pub record AreSegments (image : List ℕ) (walked : ℕ) (range : SegmentRange) : Type 0 where
+  pub most : range.before + range.count ≤ walked
+  pub start : IsAt image range.before range.place
+  pub none_before : segments_of image (first_commands image range.before) ≡ []
+  pub none_after : segments_of image (first_commands image (range.before + range.count))
+      ≡ segments_of image (first_commands image walked)
+
+-- where those of the first commands are that views look for
+pub record AreLandmarks (image : List ℕ) (walked : ℕ) (landmarks : Landmarks) : Type 0 where
+  pub first : AreFirst image (first_commands image walked) landmarks.unique
+  pub segments : AreSegments image walked landmarks.segments
 
 -- what is known of an opened image
-pub record IsKnown (image : List ℕ) (unique : UniquePlaces) (reach : ℕ) : Type 0 where
+pub record IsKnown (image : List ℕ) (landmarks : Landmarks) : Type 0 where
   pub opened : IsOpened image
-  pub first : AreFirst image (commands_of image) unique
-  pub segments : ReachesSegments image reach
+  pub all : AreLandmarks image (command_count image) landmarks
+
+-- the next command, after so many, is at the place
+pub record CanPass (survey : Survey) (walked place : ℕ) : Type 0 where
+  pub at : IsAt (bytes_of survey.opening.bytes) walked place
+  pub good : IsGood (bytes_of survey.opening.bytes) place
+  pub inside : commands_end (bytes_of survey.opening.bytes) ≤ length (bytes_of survey.opening.bytes)
+
+-- of the first commands, so many of them, the first that breaks each rule is noted
+pub record HasPassed (survey : Survey) (walked : ℕ) : Type 0 where
+  pub landmarks : AreLandmarks (bytes_of survey.opening.bytes) walked survey.landmarks
+  pub short : IsFirstOf (λ command. command) (IsShort (bytes_of survey.opening.bytes))
+      (first_commands (bytes_of survey.opening.bytes) walked) survey.command_short
+  pub repeated : IsFirstOf (λ command. command) (Repeats (bytes_of survey.opening.bytes) walked)
+      (first_commands (bytes_of survey.opening.bytes) walked) survey.command_repeated
+  pub name : IsFirstOf (λ command. command) (IsWholeAndMisnamed (bytes_of survey.opening.bytes))
+      (first_commands (bytes_of survey.opening.bytes) walked) survey.name
+
+abbrev pub HasPassedAll : Survey → Type 0
+HasPassedAll survey = HasPassed survey (command_count (bytes_of survey.opening.bytes))
 
 -- The walk over the commands
 

@@ -84,7 +84,7 @@ impl<'a> Commands<'a> {
 }
 
 /// The command at `place`.
-fn command_from(image: Bytes, place: u64) -> Command
+pub(crate) fn command_from(image: Bytes, place: u64) -> Command
     requires good { IsGood (bytes_of image) place }
     requires inside { commands_end (bytes_of image) ≤ length (bytes_of image) }
     ensures { command_of result ≡ command_at (bytes_of image.entry) place }

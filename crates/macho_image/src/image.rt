@@ -1,13 +1,12 @@
 //! An opened image. (`mach-o/loader.h`: `mach_header_64`)
 
 use crate::command::{Command, Commands, word_at};
-use crate::rules::{command_repeated, command_short, dylib_id, name, unique_places};
-use crate::unique::UniquePlaces;
+use crate::landmarks::Landmarks;
+use crate::rules::dylib_id;
+use crate::survey::Survey;
 use crate::walk::{
-    FILETYPE, Opening, arch_mismatch, arch_of, command_walk, commands_outside,
-    count_to_last_segment, file_type, header_truncated,
+    FILETYPE, Opening, arch_mismatch, arch_of, commands_outside, file_type, header_truncated,
 };
-use macho_fields::header::loader::MACH_HEADER_64_SIZE;
 use macho_fields::{Break, Bytes, file_type_of};
 pub use macho_fields::{FileType, Kind};
 use std::marker::Model;
@@ -16,9 +15,7 @@ use std::marker::Model;
 #[derive(Drop)]
 pub struct Image<'a> {
     bytes: Bytes<'a>,
-    unique: UniquePlaces,
-    /// How many commands there are up to the last segment. No search for segments goes past it.
-    reach: u32,
+    landmarks: Landmarks,
 }
 
 impl<'a> Model for Image<'a> {
@@ -30,7 +27,7 @@ impl<'a> Model for Image<'a> {
 
     ghost view = { λ image. bytes_of image.bytes };
 
-    ghost invariant = { λ image. IsKnown (bytes_of image.bytes) image.unique image.reach };
+    ghost invariant = { λ image. IsKnown (bytes_of image.bytes) image.landmarks };
 }
 
 impl<'a> Image<'a> {
@@ -47,7 +44,7 @@ impl<'a> Image<'a> {
     ghost use Rattle.macho_image.specs.Command.{command_of, command_at, first_with_cmd};
     ghost use Rattle.macho_image.specs.Header.{IsKind};
     ghost use Rattle.macho_image.specs.Opened.{IsOpened};
-    ghost use Rattle.macho_image.specs.Scaffold.{AreFirst, HaveSegments};
+    ghost use Rattle.macho_image.specs.Scaffold.{HaveSegments};
 
     /// Opens `bytes` as a 64-bit image. `arch` is the `cputype` and the `cpusubtype` that a
     /// universal file gives for it, or `None` where the image is a file of its own. The magic
@@ -64,12 +61,16 @@ impl<'a> Image<'a> {
         arch_mismatch(opening)?;
         file_type(opening)?;
         commands_outside(opening)?;
-        command_walk(opening)?;
-        command_short(opening)?;
-        let unique = command_repeated(opening)?;
-        dylib_id(opening, unique)?;
-        name(opening)?;
-        Ok(Image::known(bytes, unique))
+        let mut survey = Survey::new(opening);
+        survey.command_walk()?;
+        survey.command_short()?;
+        survey.command_repeated()?;
+        dylib_id(opening, survey.landmarks.unique)?;
+        survey.name()?;
+        Ok(Image {
+            bytes,
+            landmarks: survey.landmarks,
+        })
     }
 
     /// The image of bytes that break no rule of [`Image::open`], as it found before. They are not
@@ -78,21 +79,9 @@ impl<'a> Image<'a> {
         requires { IsOpened (bytes_of bytes) }
         ensures { result ≡ bytes_of bytes.entry }
     {
-        let unique = unique_places(Opening { bytes, arch: None });
-        Image::known(bytes, unique)
-    }
-
-    /// The opened image in which the unique commands are at these places.
-    fn known(bytes: Bytes<'a>, unique: UniquePlaces) -> Image<'a>
-        requires opened { IsOpened (bytes_of bytes) }
-        requires first { AreFirst (bytes_of bytes) (commands_of (bytes_of bytes)) unique }
-        ensures { result ≡ bytes_of bytes.entry }
-    {
-        let reach = count_to_last_segment(bytes);
         Image {
             bytes,
-            unique,
-            reach,
+            landmarks: Landmarks::of(bytes),
         }
     }
 
@@ -148,15 +137,15 @@ impl<'a> Image<'a> {
         self.commands().next_with_cmd(cmd)
     }
 
-    /// The commands up to the last segment.
-    pub(crate) fn commands_to_last_segment(&self) -> Commands<'a>
+    /// The commands from the first segment to the last. No search for segments goes past them.
+    pub(crate) fn commands_with_segments(&self) -> Commands<'a>
         ensures segments { HaveSegments self.now result }
         ensures opened { IsOpened self.now }
     {
         Commands {
             image: self.bytes,
-            place: MACH_HEADER_64_SIZE,
-            left: self.reach,
+            place: self.landmarks.segments.place,
+            left: self.landmarks.segments.count,
         }
     }
 
@@ -165,6 +154,6 @@ impl<'a> Image<'a> {
         requires { IsUnique cmd }
         ensures { result ≡ first_with_cmd self.now cmd (commands_of self.now) }
     {
-        self.unique.of(cmd)
+        self.landmarks.unique.of(cmd)
     }
 }

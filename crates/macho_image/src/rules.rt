@@ -1,13 +1,13 @@
 //! The rules of the load commands of an image. (`mach-o/loader.h`)
 
-ghost use Rattle.std.specs.Prelude.{◌≡◌, ◌≤◌, ◌<◌, ◌⊎◌, ◌↔◌, length, true, IsTrue, IfOk};
+ghost use Rattle.std.specs.Prelude.{◌≡◌, ◌≤◌, ◌<◌, ◌⊎◌, ◌↔◌, length, true, IsTrue, Some};
 ghost use Rattle.macho_fields.specs.Bytes.{bytes_of};
 ghost use Rattle.macho_fields.specs.Command.{record_count, least_size, name_offset};
 ghost use Rattle.macho_fields.specs.Command.{IsShort, HasBadName};
 ghost use Rattle.macho_fields.specs.Field.{HasZero};
 ghost use Rattle.macho_fields.specs.First.{rank};
 ghost use Rattle.macho_fields.specs.Image.{commands_of};
-ghost use Rattle.macho_fields.specs.LoadCommands.{has_name, structure_size};
+ghost use Rattle.macho_fields.specs.LoadCommands.{has_name, structure_of, structure_size};
 ghost use Rattle.macho_fields.specs.Layers.{KeptBelow, Continues};
 ghost use Rattle.macho_fields.specs.declared.rule.Rule.{Rule};
 ghost use Rattle.macho_image.specs.Command.{command_of};
@@ -17,30 +17,15 @@ use crate::command::{Command, word_at};
 use crate::unique::UniquePlaces;
 use crate::walk::{FILETYPE, Opening};
 use macho_fields::header::loader::{LC_ID_DYLIB, LC_STR_OFFSET};
-use macho_fields::{Break, Bytes, Order, Rule, Span, Structure, file_type_of, structure_of};
+use macho_fields::{Break, Bytes, Order, Rule, Span, Structure, file_type_of};
 
-/// The rule `command-short`: no listed command is shorter than its structure and the records after
+/// Whether the command, which has this structure, is shorter than the structure and the records after
 /// it.
-pub(crate) fn command_short(opening: Opening) -> Result<(), Break>
-    requires { KeptBelow (breaks_of opening) (rank Rule.CommandShort) }
-    ensures { Continues (breaks_of opening.entry) Rule.CommandShort result }
-{
-    for command in opening.commands() {
-        if is_short(command) {
-            return Err(Break::at(Rule::CommandShort, command.place));
-        }
-    }
-    Ok(())
-}
-
-/// Whether the command is listed, and shorter than its structure and the records after it.
-fn is_short(command: Command) -> bool
-    requires { IsAlone (command_of command) }
+pub(crate) fn is_short(command: Command, structure: Structure) -> bool
+    requires alone { IsAlone (command_of command) }
+    requires listed { structure_of command.cmd ≡ Some structure }
     ensures { IsTrue result ↔ IsShort command.entry.bytes.now 0 }
 {
-    let Some(structure) = structure_of(command.cmd) else {
-        return false;
-    };
     u64::from(command.size) < least_size(command, structure)
 }
 
@@ -64,37 +49,6 @@ fn record_count(command: Command, offset: u64) -> u32
     bytes.u32_at(Order::Little, offset).unwrap_or(0)
 }
 
-/// The rule `command-repeated`: no command of which an image has at most one is a second one. The places
-/// of the first ones are returned.
-pub(crate) fn command_repeated(opening: Opening) -> Result<UniquePlaces, Break>
-    requires { KeptBelow (breaks_of opening) (rank Rule.CommandRepeated) }
-    ensures decides { Continues (breaks_of opening.entry) Rule.CommandRepeated result }
-    ensures first { IfOk result (AreFirst (bytes_of opening.entry.bytes)
-        (commands_of (bytes_of opening.entry.bytes))) }
-{
-    let mut unique = UniquePlaces::new();
-    for command in opening.commands() {
-        if unique.of(command.cmd).is_some() {
-            return Err(Break::at(Rule::CommandRepeated, command.place));
-        }
-        unique.note(command);
-    }
-    Ok(unique)
-}
-
-/// The places of the commands of which an image has at most one, where that was judged before.
-pub(crate) fn unique_places(opening: Opening) -> UniquePlaces
-    requires { KeptBelow (breaks_of opening) (rank Rule.CommandShort) }
-    ensures { AreFirst (bytes_of opening.entry.bytes) (commands_of (bytes_of opening.entry.bytes))
-        result }
-{
-    let mut unique = UniquePlaces::new();
-    for command in opening.commands() {
-        unique.note(command);
-    }
-    unique
-}
-
 /// The rule `dylib-id`: an image that names itself has an `LC_ID_DYLIB`, and no other has one.
 pub(crate) fn dylib_id(opening: Opening, unique: UniquePlaces) -> Result<(), Break>
     requires before { KeptBelow (breaks_of opening) (rank Rule.DylibId) }
@@ -109,28 +63,14 @@ pub(crate) fn dylib_id(opening: Opening, unique: UniquePlaces) -> Result<(), Bre
     Ok(())
 }
 
-/// The rule `name`: each name begins after the structure of its command, and ends in the command.
-pub(crate) fn name(opening: Opening) -> Result<(), Break>
-    requires { KeptBelow (breaks_of opening) (rank Rule.Name) }
-    ensures { Continues (breaks_of opening.entry) Rule.Name result }
-{
-    for command in opening.commands() {
-        if has_bad_name(command) {
-            return Err(Break::at(Rule::Name, command.place));
-        }
-    }
-    Ok(())
-}
-
-/// Whether the command has a name that begins in its structure, or does not end in the command.
-fn has_bad_name(command: Command) -> bool
+/// Whether the command, which has this structure, has a name that begins in its structure, or does
+/// not end in the command.
+pub(crate) fn has_bad_name(command: Command, structure: Structure) -> bool
     requires alone { IsAlone (command_of command) }
+    requires listed { structure_of command.cmd ≡ Some structure }
     requires whole { ¬ IsShort command.bytes.now 0 }
     ensures { IsTrue result ↔ HasBadName command.entry.bytes.now 0 }
 {
-    let Some(structure) = structure_of(command.cmd) else {
-        return false;
-    };
     structure.has_name() && is_bad_name(Bytes::new(command.bytes), structure)
 }
 

@@ -166,7 +166,7 @@ impl<'a> Image<'a> {
     {
         Segments {
             image: self.bytes(),
-            commands: self.commands_to_last_segment(),
+            commands: self.commands_with_segments(),
         }
     }
 

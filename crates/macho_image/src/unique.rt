@@ -11,7 +11,7 @@ pub(crate) struct UniquePlaces {
 }
 
 impl UniquePlaces {
-    ghost use Rattle.std.specs.Prelude.{◌≡◌, ◌∷◌, ◌++◌, [], ℕ, List, None};
+    ghost use Rattle.std.specs.Prelude.{◌≡◌, ◌∷◌, ◌++◌, ◌↔◌, [], ℕ, List, None, IsTrue, IsSome};
     ghost use Rattle.macho_fields.specs.Image.{command_cmd};
     ghost use Rattle.macho_fields.specs.LoadCommands.{IsUnique};
     ghost use Rattle.macho_image.specs.Command.{first_with_cmd};
@@ -36,14 +36,22 @@ impl UniquePlaces {
         self.places[index]
     }
 
-    /// Notes a command that comes after those noted before.
-    pub(crate) fn note(&mut self, command: Command)
-        ensures { (image commands : List ℕ) → command.entry.cmd ≡ command_cmd image command.entry.place
+    /// Notes a command that comes after those noted before. Returns whether it is a second one of
+    /// which an image has at most one.
+    pub(crate) fn note(&mut self, command: Command) -> bool
+        ensures first { (image commands : List ℕ)
+            → command.entry.cmd ≡ command_cmd image command.entry.place
             → AreFirst image commands self.old
             → AreFirst image (commands ++ command.entry.place ∷ []) self.new }
+        ensures second { (image commands : List ℕ) → AreFirst image commands self.old
+            → (IsTrue result ↔ IsUnique command.entry.cmd
+            × IsSome (first_with_cmd image command.entry.cmd commands)) }
     {
-        if let Some(index) = unique_index(command.cmd) {
-            self.places[index] = self.places[index].or(Some(command.place));
-        }
+        let Some(index) = unique_index(command.cmd) else {
+            return false;
+        };
+        let is_second = self.places[index].is_some();
+        self.places[index] = self.places[index].or(Some(command.place));
+        is_second
     }
 }

@@ -1,4 +1,4 @@
-//! The rules of the header of an image, and of the walk over its load commands.
+//! The rules of the header of an image, and a step of the walk over its load commands.
 //! (`mach-o/loader.h`: `mach_header_64`, `load_command`)
 
 ghost use Rattle.std.specs.Prelude.{◌≡◌, ◌+◌, ◌^◌, ◌≤◌, ◌<◌, ◌↔◌, length, IsTrue, IsSome, IfSome};
@@ -8,11 +8,10 @@ ghost use Rattle.macho_fields.specs.Image.{cpu_type, cpu_subtype, commands_end, 
 ghost use Rattle.macho_fields.specs.Layers.{KeptBelow, Continues};
 ghost use Rattle.macho_fields.specs.Universal.{masked};
 ghost use Rattle.macho_fields.specs.declared.rule.Rule.{Rule};
-ghost use Rattle.macho_image.specs.Opened.{IsOpened};
-ghost use Rattle.macho_image.specs.Scaffold.{breaks_of, ReachesSegments};
+ghost use Rattle.macho_image.specs.Scaffold.{breaks_of};
 
 use crate::command::{CMDSIZE, Commands, word_at};
-use macho_fields::header::loader::{LC_SEGMENT_64, LOAD_COMMAND_SIZE, MACH_HEADER_64_SIZE};
+use macho_fields::header::loader::{LOAD_COMMAND_SIZE, MACH_HEADER_64_SIZE};
 use macho_fields::header::machine::CPU_SUBTYPE_MASK;
 use macho_fields::{Break, Bytes, Rule, file_type_of};
 
@@ -23,7 +22,7 @@ const CPUSUBTYPE: u64 = 8;
 
 pub(crate) const FILETYPE: u64 = 12;
 
-const NCMDS: u64 = 16;
+pub(crate) const NCMDS: u64 = 16;
 
 const SIZEOFCMDS: u64 = 20;
 
@@ -57,28 +56,6 @@ impl<'a> Opening<'a> {
             left: word_at(self.bytes, NCMDS),
         }
     }
-}
-
-/// How many commands there are up to the last segment, itself included: all but those after it. The
-/// contract says only that no segment comes after them.
-pub(crate) fn count_to_last_segment(image: Bytes) -> u32
-    requires { IsOpened (bytes_of image) }
-    ensures { ReachesSegments (bytes_of image.entry) result }
-{
-    let opening = Opening {
-        bytes: image,
-        arch: None,
-    };
-    let all = word_at(image, NCMDS);
-    let mut after = 0;
-    for command in opening.commands() {
-        if command.cmd == LC_SEGMENT_64 {
-            after = 0;
-        } else {
-            after += 1;
-        }
-    }
-    all - after
 }
 
 /// The rule `header-truncated`: the bytes hold a `mach_header_64`.
@@ -150,7 +127,7 @@ pub(crate) fn commands_outside(opening: Opening) -> Result<(), Break>
 }
 
 /// The offset just past the `sizeofcmds` bytes of the commands.
-fn end_of_commands(image: Bytes) -> u64
+pub(crate) fn end_of_commands(image: Bytes) -> u64
     requires { MACH_HEADER_64_SIZE ≤ length (bytes_of image) }
     ensures end { result ≡ commands_end (bytes_of image.entry) }
     ensures near { result < 2 ^ 33 }
@@ -158,27 +135,8 @@ fn end_of_commands(image: Bytes) -> u64
     MACH_HEADER_64_SIZE + u64::from(word_at(image, SIZEOFCMDS))
 }
 
-/// The rule `command-walk`: `ncmds` commands follow one another within the `sizeofcmds` bytes.
-pub(crate) fn command_walk(opening: Opening) -> Result<(), Break>
-    requires { KeptBelow (breaks_of opening) (rank Rule.CommandWalk) }
-    ensures { Continues (breaks_of opening.entry) Rule.CommandWalk result }
-{
-    let image = opening.bytes;
-    let end = end_of_commands(image);
-    let mut place = MACH_HEADER_64_SIZE;
-    let mut left = word_at(image, NCMDS);
-    while left > 0 {
-        let Some(next) = next_command(image, place, end) else {
-            return Err(Break::at(Rule::CommandWalk, place));
-        };
-        place = next;
-        left -= 1;
-    }
-    Ok(())
-}
-
 /// The offset just past the command at `place`, or `None` where no command can be there.
-fn next_command(image: Bytes, place: u64, end: u64) -> Option<u64>
+pub(crate) fn next_command(image: Bytes, place: u64, end: u64) -> Option<u64>
     requires end { end ≡ commands_end (bytes_of image) }
     requires inside { end ≤ length (bytes_of image) }
     requires place { place ≤ end }

@@ -1,4 +1,4 @@
-use Rattle.std.proofs.Common.{◌≡◌, ◌+◌, ◌≤◌, ◌<◌, ◌⊎◌, ◌↔◌, IsTrue, None, Some, sym, ap, ◌∙◌, subst, arith, length, inl, inr}
+use Rattle.std.proofs.Common.{◌≡◌, ◌+◌, ◌≤◌, ◌<◌, ◌⊎◌, ◌↔◌, IsTrue, Some, sym, ap, ◌∙◌, subst, arith, length, inl, inr}
 use Rattle.std.proofs.lemmas.Bool.{false≢true, cases_lt}
 use Rattle.macho_fields.specs.Bytes.{bytes_of}
 use Rattle.macho_fields.specs.Command.{least_size, name_offset, IsBadName}
@@ -6,20 +6,14 @@ use Rattle.macho_fields.specs.Field.{HasZero}
 use Rattle.macho_fields.specs.Image.{command_size}
 use Rattle.macho_fields.specs.LoadCommands.{structure_of, structure_size}
 use Rattle.macho_fields.specs.declared.load_command.Structure.{Structure}
-use Rattle.macho_fields.proofs.LoadCommands.{has_structure, has_no_structure}
+use Rattle.macho_fields.proofs.LoadCommands.{has_structure}
 use Rattle.macho_image.proofs.rules.has_bad_name.Goals as goal
-
-pub returns-in_default : goal.returns-in_default
-returns-in_default c =
-    let bytes = c.args.command.bytes.now in
-    let none = subst (λ cmd. structure_of cmd ≡ None) c.requires.alone.cmd (sym c.structure_of.ensures ∙ c.in_default.is) in
-    (λ h. absurd (false≢true h), λ bad. absurd (has_no_structure bytes 0 (IsBadName bytes 0) none bad))
 
 pub is_bad_name-requires : goal.is_bad_name-requires
 is_bad_name-requires c =
     let bytes = c.args.command.bytes.now in
-    let s = c.in-Some.structure in
-    let some = subst (λ cmd. structure_of cmd ≡ Some s) c.requires.alone.cmd (sym c.structure_of.ensures ∙ c.in-Some.is) in
+    let s = c.args.structure in
+    let some = subst (λ cmd. structure_of cmd ≡ Some s) c.requires.alone.cmd c.requires.listed in
     let whole : least_size bytes 0 s ≤ command_size bytes 0 = elim (cases_lt (command_size bytes 0) (least_size bytes 0 s)) [
       | inl short ↦ absurd (c.requires.whole ((has_structure bytes 0 (λ (t : Structure). command_size bytes 0 < least_size bytes 0 t) s some).1 short))
       | inr most ↦ most
@@ -32,8 +26,8 @@ is_bad_name-requires c =
 pub returns-then-has_name : goal.returns-then-has_name
 returns-then-has_name c =
     let bytes = c.args.command.bytes.now in
-    let s = c.in-Some.structure in
-    let some = subst (λ cmd. structure_of cmd ≡ Some s) c.requires.alone.cmd (sym c.structure_of.ensures ∙ c.in-Some.is) in
+    let s = c.args.structure in
+    let some = subst (λ cmd. structure_of cmd ≡ Some s) c.requires.alone.cmd c.requires.listed in
     let bad = has_structure bytes 0 (IsBadName bytes 0) s some in
     let start : name_offset bytes 0 ≡ 0 + name_offset bytes 0 = omega arith in
     let end : length bytes ≡ 0 + command_size bytes 0 = omega (arith, c.requires.alone.size, c.requires.alone.whole) in
@@ -45,6 +39,6 @@ returns-then-has_name c =
 pub returns-else-has_name : goal.returns-else-has_name
 returns-else-has_name c =
     let bytes = c.args.command.bytes.now in
-    let some = subst (λ cmd. structure_of cmd ≡ Some c.in-Some.structure) c.requires.alone.cmd (sym c.structure_of.ensures ∙ c.in-Some.is) in
-    let bad = has_structure bytes 0 (IsBadName bytes 0) c.in-Some.structure some in
+    let some = subst (λ cmd. structure_of cmd ≡ Some c.args.structure) c.requires.alone.cmd c.requires.listed in
+    let bad = has_structure bytes 0 (IsBadName bytes 0) c.args.structure some in
     (λ h. absurd (false≢true (sym c.if-has_name.false ∙ h)), λ h. c.has_name.ensures.name ∙ (bad.0 h).0)
