@@ -41,7 +41,7 @@ impl Model for Spans {
 }
 
 impl Spans {
-    ghost use Rattle.std.specs.Prelude.{◌≡◌, ◌↔◌, ℕ, [], ◌∷◌, ◌++◌, List, length};
+    ghost use Rattle.std.specs.Prelude.{◌≡◌, ◌<◌, ◌↔◌, ℕ, [], ◌∷◌, ◌++◌, List, length};
     ghost use Rattle.std.specs.Prelude.{Contains, IsPermutation, IfOk, OnOk, OnErr, MatchOption};
     ghost use Rattle.macho_fields.specs.Span.{Holds};
     ghost use Rattle.macho_fields.specs.Spans.{AreKept, AreSorted, HoldsInOne, IsPlaced};
@@ -57,6 +57,16 @@ impl Spans {
         Spans {
             held: Held::new(alloc),
         }
+    }
+
+    /// No spans, with room for so many. It takes no memory for none.
+    pub fn with_capacity(alloc: Global, count: usize) -> Result<Spans, AllocError>
+        ensures none { IfOk result (λ spans. spans.pairs ≡ []) }
+        ensures probes { IfOk result (λ spans. spans.probes ≡ 0) }
+        ensures memory { OnErr result (0 < count) }
+    {
+        let held = Held::with_capacity(alloc, count)?;
+        Ok(Spans { held })
     }
 
     /// How many spans are held.

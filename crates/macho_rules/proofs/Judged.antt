@@ -1,5 +1,5 @@
 -- A rule of an opened image that a search decides, where the rules before it are unbroken.
-use Rattle.std.proofs.Common.{◌≡◌, ℕ, ◌+◌, ◌≤◌, List, [], ◌∷◌, None, subst, sym, arith, inl, inr}
+use Rattle.std.proofs.Common.{◌≡◌, ℕ, ◌+◌, ◌≤◌, List, [], ◌∷◌, Option, None, Some, MatchOption, Result, IsOk, IsErrAnd, subst, sym, arith, inl, inr}
 use Rattle.macho_fields.specs.Image.{commands_of, AreCommands}
 use Rattle.macho_fields.specs.Rules.{BreaksCommands, BreaksImage}
 use Rattle.macho_fields.specs.First.{rank}
@@ -12,8 +12,10 @@ use Rattle.macho_fields.proofs.Layers.{kept_more, least_at}
 use Rattle.macho_fields.proofs.Opened.{Keeps, keeps_rules}
 use Rattle.macho_fields.proofs.Ranks.{header_rule_rank}
 use Rattle.macho_image.specs.Opened.{IsOpened}
-use Rattle.macho_rules.specs.Check.{KeptBefore}
-use Rattle.macho_rules.proofs.Searches.{Searching, AreBreaks, search_found, search_ended}
+use Rattle.macho_rules.specs.Check.{KeptBefore, JudgesUpTo, IsLeastPlace}
+use Rattle.macho_fields.specs.FirstPlace.{IsFirstOf}
+use Rattle.macho_fields.proofs.FirstPlaces.{AreBreaks, first_breaks, first_judged}
+use Rattle.macho_rules.proofs.Searches.{Searching, search_found, search_ended}
 
 -- an opened image keeps the rules before those of segments, and only such an image does
 pub opened_keeps : (image : List ℕ) → IsOpened image → KeptBefore image rule.SegmentAddress
@@ -63,3 +65,18 @@ module _ (image : List ℕ) (r : Rule) (late : rank rule.SegmentAddress ≤ rank
     -- where no item is left, the rule is kept
     pub judged_ended : left ≡ [] → KeptBelow (BreaksImage image None) (rank r + 1)
     judged_ended is = judged_kept (search_ended (BreaksCommands image (commands_of image) r) place P all left is breaking search)
+
+-- of an opened image, the first item that breaks the rule has its least place
+pub least_place : {X : Type 0} (image : List ℕ) (opened : IsOpened image) (r : Rule) (late : rank rule.SegmentAddress ≤ rank r) (place : X → ℕ) (P : X → Type 0) (all : List X)
+    → AreBreaks (BreaksCommands image (commands_of image) r) place P all → (found : Option ℕ) → IsFirstOf place P all found → IsLeastPlace image r found
+least_place image opened r late place P all breaking None first =
+    let none = first_breaks (BreaksCommands image (commands_of image) r) place P all None breaking first in λ p broken. none p (by_commands image r p late broken)
+least_place image opened r late place P all breaking (Some found) first =
+    let (broken, least) = first_breaks (BreaksCommands image (commands_of image) r) place P all (Some found) breaking first in
+    (inr (commands_of image, opened_commands image opened, broken), λ p other. least p (by_commands image r p late other))
+
+-- what a survey answers of a rule, where it is of the image
+pub judged_first : {T : Type 0} (surveyed image : List ℕ) → surveyed ≡ image → (r : Rule) → KeptBefore image r → (found : Option ℕ) → IsLeastPlace surveyed r found → (answer : Result T Break)
+    → MatchOption found (IsOk answer) (λ place. IsErrAnd answer (λ b. (b.rule ≡ r) × (b.place ≡ place))) → JudgesUpTo image r answer
+judged_first surveyed image same r below found least answer is =
+    first_judged (BreaksImage image None) r found answer below (subst (λ (bytes : List ℕ). IsLeastPlace bytes r found) same least) is

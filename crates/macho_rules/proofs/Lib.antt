@@ -14,3 +14,4 @@ pub mod SymbolItems
 pub mod TableRange
 pub mod Verdicts
 pub mod Second
+pub mod Surveys

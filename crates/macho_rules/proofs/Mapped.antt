@@ -10,8 +10,7 @@ use Rattle.macho_fields.specs.declared.span.Span.{Span}
 use Rattle.macho_fields.proofs.Chains.{places_rise}
 use Rattle.macho_image.specs.Opened.{IsOpened}
 use Rattle.macho_image.specs.Segment.{SegmentView, segment_at}
-use Rattle.macho_rules.specs.Mapping.{mapped_segments}
-use Rattle.macho_rules.specs.Scaffold.{memory_at}
+use Rattle.macho_rules.specs.Mapped.{mapped_segments, memory_at}
 use Rattle.macho_rules.specs.Verdict.{HasMapped}
 use Rattle.macho_rules.proofs.Judged.{opened_commands}
 use Rattle.macho_rules.proofs.Searches.{Ordered, ordered_filter, unfiltered, any_of}
@@ -53,7 +52,7 @@ filtered test (y ∷ ys) x (suc k, less, at) is =
     elim (cases_Bool (test y)) [ inl t ↦ rw t (contains_later y x (filter test ys) rest) | inr f ↦ rw f rest ]
 
 -- a span is its start and its length
-span_is : (span : Span) (start len : ℕ) → span.start ≡ start → span.len ≡ len → ◌≡◌ {A = Span} span (record { start = start; len = len })
+pub span_is : (span : Span) (start len : ℕ) → span.start ≡ start → span.len ≡ len → ◌≡◌ {A = Span} span (record { start = start; len = len })
 span_is span start len first count = ap (λ n. record span { start = n }) first ∙ ap (λ n. record { start = start; len = n }) count
 
 module _ (image : List ℕ) where

@@ -1,10 +1,10 @@
 -- What a mapping says of the addresses of an unbroken image.
 use Rattle.std.proofs.Common.{◌≡◌, ℕ, suc, zero, ◌+◌, ◌-◌, ◌^◌, ◌<◌, ◌++◌, List, [], ◌∷◌, length, map, take, get_or, All, Contains}
-use Rattle.std.proofs.Common.{false, eqb, Option, None, Some, IsSomeAnd, Result, Ok, Err, OnErr, refl, sym, ap, ◌∙◌, subst, arith, inl, inr}
+use Rattle.std.proofs.Common.{false, eqb, Option, None, Some, IsSomeAnd, Result, Ok, Err, IsOk, IfOk, OnErr, refl, sym, ap, ◌∙◌, subst, arith, inl, inr}
 use Rattle.std.specs.Prelude.{AllPairs, IsPermutation}
 use Rattle.std.specs.List.{IsDistinct}
 use Rattle.std.specs.Option.{option_map}
-use Rattle.std.proofs.lemmas.Bool.{cases_lt}
+use Rattle.std.proofs.lemmas.Bool.{cases_lt, false≢true}
 use Rattle.std.proofs.lemmas.Bool.Decides.{nat_tests}
 use Rattle.std.proofs.lemmas.List.{length-map, get_or-map, get_or_default, get_or-take, length-take-le}
 use Rattle.std.proofs.lemmas.List.Elements.{All-map, All-same, Contains-get_or}
@@ -22,8 +22,9 @@ use Rattle.macho_fields.specs.declared.span.Span.{Span}
 use Rattle.macho_fields.specs.declared.spans.Insert.{Insert}
 use Rattle.macho_fields.specs.declared.spans.Insert.TheVariants.{Added, Overlap}
 use Rattle.macho_image.specs.Opened.{IsOpened}
-use Rattle.macho_rules.specs.Mapping.{mapped_segments, source_past, source_from, sources_in, GivesSources}
-use Rattle.macho_rules.specs.Scaffold.{memory_at, numbered_memory, file_at, FitsFile}
+use Rattle.macho_rules.specs.Mapped.{mapped_segments, memory_at}
+use Rattle.macho_rules.specs.Mapping.{source_past, source_from, sources_in, GivesSources}
+use Rattle.macho_rules.specs.Scaffold.{numbered_memory, file_at, FitsFile}
 use Rattle.macho_rules.specs.declared.mapping.FilePart.{FilePart}
 use Rattle.macho_rules.proofs.Judged.{opened_commands}
 use Rattle.macho_rules.proofs.Mapped.{mapped_rise, mapped_among, among_mapped, mapped_positive, ordered_at}
@@ -73,8 +74,8 @@ module _ (image : List ℕ) where
       ∙ (ap (λ (one : Span). numbered_memory image 0 seen ++ (one, tag) ∷ []) is
       ∙ (ap (λ (n : ℕ). numbered_memory image 0 seen ++ (memory_at image p, n) ∷ []) (omega (arith, count)) ∙ sym (numbered_push 0 seen p)))
 
-  pub files_counted : (seen : List ℕ) (files : List FilePart) → files ≡ map (file_at image) seen → length files ≡ length seen
-  files_counted seen files are = ap length are ∙ length-map seen (file_at image)
+  pub pairs_counted : (seen : List ℕ) (pairs : List (Span × ℕ)) → pairs ≡ numbered_memory image 0 seen → length pairs ≡ length seen
+  pairs_counted seen pairs are = ap length are ∙ length_numbered 0 seen
 
   -- each pair is that of a segment, at its index
   numbered_of : (k : ℕ) (ps : List ℕ) (pair : Span × ℕ) → Contains (numbered_memory image k ps) pair → (i : ℕ) × (i < length ps) × (pair ≡ (memory_at image (get_or ps i 0), k + i))
@@ -222,3 +223,18 @@ some_and (Some x) P Q to h = to x h
 pub on_err : {T E P : Type 0} (answer : Result T E) → P → OnErr answer P
 on_err (Ok x) p = tt
 on_err (Err e) p = p
+
+-- room that is not found was asked for
+pub no_room : {T E : Type 0} {count : ℕ} {e : E} (answer : Result T E) → (count ≡ 0 → IsOk answer) → answer ≡ Err e → 0 < count
+no_room {count = count} answer succeeds is = elim (cases_lt 0 count) [
+  | inl more ↦ more
+  | inr none ↦ absurd (false≢true (subst IsOk is (succeeds (omega arith))))
+]
+
+pub ok_for : {T E : Type 0} (P Q : T → Type 0) → ((x : T) → P x → Q x) → (answer : Result T E) → IfOk answer P → IfOk answer Q
+ok_for P Q to (Ok x) p = to x p
+ok_for P Q to (Err e) p = tt
+
+pub err_for : {T E P Q : Type 0} → (P → Q) → (answer : Result T E) → OnErr answer P → OnErr answer Q
+err_for to (Ok x) p = tt
+err_for to (Err e) p = to p

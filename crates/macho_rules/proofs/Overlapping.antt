@@ -1,23 +1,24 @@
 -- Segments that share addresses, by their index among the mapped ones.
-use Rattle.std.proofs.Common.{◌≡◌, ℕ, ◌≤◌, ◌<◌, List, length, map, get_or, Contains, slice_get, Some, None, Result, Ok, Err, IsErrAnd, sym, ap, ◌∙◌, subst, arith, inl, inr}
+use Rattle.std.proofs.Common.{◌≡◌, ℕ, ◌≤◌, ◌<◌, List, [], ◌∷◌, length, map, get_or, Contains, slice_get, Some, None, Result, Ok, Err, IsErrAnd, refl, sym, ap, ◌∙◌, subst, arith, inl, inr}
 use Rattle.std.proofs.lemmas.Bool.{cases_lt, cases_eq}
 use Rattle.std.proofs.lemmas.List.{get_or_default, get_or-map, length-map}
 use Rattle.std.proofs.lemmas.List.Elements.{Contains-get_or}
 use Rattle.std.proofs.lemmas.Option.{get_or_from_slice_get}
 use Rattle.macho_fields.specs.Image.{commands_of}
-use Rattle.macho_fields.specs.Overlap.{SharesEarlier, IsLeastSharing, span_at}
+use Rattle.macho_fields.specs.Overlap.{SharesEarlier, IsLeastSharing, span_at, IsAscending, IsDescending}
 use Rattle.macho_fields.specs.Segment.{segments_of, Supplies}
 use Rattle.macho_fields.specs.Span.{Shares}
+use Rattle.macho_fields.specs.SpanOrder.{IsSharingOf, spans_in, tags_in}
+use Rattle.macho_fields.specs.declared.span_order.Sharing.TheVariants as sharing
 use Rattle.macho_fields.specs.declared.rule.Rule.TheVariants as rule
 use Rattle.macho_fields.specs.declared.span.Span.{Span}
 use Rattle.macho_image.specs.Opened.{IsOpened}
 use Rattle.macho_rules.specs.Check.{KeptBefore, RefusesUpTo}
-use Rattle.macho_rules.specs.Mapping.{mapped_segments}
-use Rattle.macho_rules.specs.Scaffold.{memory_at}
+use Rattle.macho_rules.specs.Mapped.{mapped_segments, memory_at, mapped_memory, tagged_memory, IsUnordered}
 use Rattle.macho_rules.specs.Verdict.{HasMapped, IsImageRefusal}
 use Rattle.macho_rules.specs.declared.refusal.Refusal.{Refusal}
 use Rattle.macho_rules.specs.declared.refusal.Refusal.TheVariants as refusal
-use Rattle.macho_rules.proofs.Mapped.{mapped_rise, mapped_among, among_mapped, ordered_at}
+use Rattle.macho_rules.proofs.Mapped.{mapped_rise, mapped_among, among_mapped, mapped_some, ordered_at}
 use Rattle.macho_rules.proofs.Searches.{any_of}
 use Rattle.macho_rules.proofs.SegmentItems.{Overlaps}
 
@@ -113,17 +114,48 @@ module _ (image : List ℕ) (opened : IsOpened image) where
       let (j, within, here, shares) = at_index p broken in
       none j (subst (λ those. SharesEarlier those j) (sym are) shares)
 
-  -- where fewer than two segments are mapped, no segment does
-  pub few_overlapping : length (mapped_segments image) < 2 → (p : ℕ) → ¬ IsOverlapping p
-  few_overlapping few p broken =
-      let (j, within, here, (inside, (i, less, both))) = at_index p broken in absurd (omega (arith, few, within, less))
-
   -- a span that shares a place with an earlier one has its segment
   pub overlapping_index : (j : ℕ) (all : List Span) → all ≡ map (memory_at image) (mapped_segments image) → IsLeastSharing all j → j < length (mapped_segments image)
   overlapping_index j all are given = let sharing = subst (λ those. IsLeastSharing those j) are given in omega (arith, sharing.0.0, length-map mapped (memory_at image))
 
--- an answer that there is no memory, where a segment is mapped
-pub without_memory : {T : Type 0} (image : List ℕ) → KeptBefore image rule.SegmentOverlap → HasMapped image → (answer : Result T Refusal) → IsErrAnd answer (λ given. given ≡ refusal.Memory)
+  -- What the order of the mapped segments shows
+
+  spans_tagged : spans_in (tagged_memory image) ≡ mapped_memory image
+  spans_tagged = spans_of (mapped_segments image)
+    where
+      spans_of : (ps : List ℕ) → map (λ (pair : Span × ℕ). pair.0) (map (λ p. (memory_at image p, p)) ps) ≡ map (memory_at image) ps
+      spans_of [] = refl
+      spans_of (p ∷ ps) = ap (λ rest. memory_at image p ∷ rest) (spans_of ps)
+
+  tags_tagged : tags_in (tagged_memory image) ≡ mapped_segments image
+  tags_tagged = tags_of (mapped_segments image)
+    where
+      tags_of : (ps : List ℕ) → map (λ (pair : Span × ℕ). pair.1) (map (λ p. (memory_at image p, p)) ps) ≡ ps
+      tags_of [] = refl
+      tags_of (p ∷ ps) = ap (λ rest. p ∷ rest) (tags_of ps)
+
+  pub none_shown : IsSharingOf (tagged_memory image) sharing.None → (p : ℕ) → ¬ IsOverlapping p
+  none_shown none = none_overlapping (spans_in (tagged_memory image)) spans_tagged none
+
+  pub first_shown : (place : ℕ) → IsSharingOf (tagged_memory image) (sharing.First place) → IsOverlapping place × ((q : ℕ) → IsOverlapping q → place ≤ q)
+  first_shown place (j, least, at) = least_overlapping j place (subst (λ ps. slice_get ps j ≡ Some place) tags_tagged at) (spans_in (tagged_memory image)) spans_tagged least
+
+  pub unordered_shown : IsSharingOf (tagged_memory image) sharing.Unknown → IsUnordered image
+  unordered_shown shown = subst (λ all. (¬ IsAscending all) × (¬ IsDescending all)) spans_tagged shown
+
+-- no spans ascend, so some segment is mapped where the mapped ones do not
+unordered_some : (image : List ℕ) → IsUnordered image → HasMapped image
+unordered_some image (not_ascending, _) = elim (cases_lt 0 (length (mapped_segments image))) [
+  | inl more ↦ mapped_some image more
+  | inr none ↦ absurd (not_ascending (ascend_none (mapped_memory image) (omega (arith, none, length-map (mapped_segments image) (memory_at image)))))
+]
+  where
+    ascend_none : (all : List Span) → length all ≡ 0 → IsAscending all
+    ascend_none [] none = λ i j less filled also. absurd (omega arith)
+    ascend_none (span ∷ all) none = absurd (omega arith)
+
+-- an answer that there is no memory, where the mapped segments are in no order
+pub without_memory : {T : Type 0} (image : List ℕ) → KeptBefore image rule.SegmentOverlap → IsUnordered image → (answer : Result T Refusal) → IsErrAnd answer (λ given. given ≡ refusal.Memory)
     → RefusesUpTo image rule.SegmentOverlap answer
-without_memory image kept some (Ok x) is = absurd is
-without_memory image kept some (Err given) is = subst (IsImageRefusal image None) (sym is) (kept, some)
+without_memory image kept unordered (Ok x) is = absurd is
+without_memory image kept unordered (Err given) is = subst (IsImageRefusal image None) (sym is) (kept, unordered_some image unordered, unordered)

@@ -4,6 +4,7 @@ use Rattle.std.specs.Prelude.{⊤}
 use Rattle.std.specs.List.{range_with_len}
 use Rattle.std.proofs.lemmas.Bool.{cases_Bool, cases_eq}
 use Rattle.std.proofs.lemmas.List.Elements.{Contains-append_cases, All-contains, All-filter, All-contains_itself}
+use Rattle.macho_fields.proofs.FirstPlaces.{AreBreaks}
 use Rattle.macho_fields.proofs.Lists.{none_in_nil, contains_first, contains_later, contains_mapped, first_or_later}
 
 -- each item and each later one have R
@@ -71,11 +72,6 @@ module _ {X : Type 0} (place : X → ℕ) (P : X → Type 0) (all left rest : Li
 
 pub none_left : {X : Type 0} (place : X → ℕ) (P : X → Type 0) (all left : List X) → left ≡ [] → Searching place P all left → (x : X) → Contains all x → ¬ P x
 none_left place P all left is search x has broken = none_in_nil x (subst (λ ys. Contains ys x) is (search.ahead x has broken))
-
--- the breaks of a rule are the places of the items with P
-pub record AreBreaks {X : Type 0} (breaks : ℕ → Type 0) (place : X → ℕ) (P : X → Type 0) (all : List X) : Type 0 where
-  pub broken : (x : X) → Contains all x → P x → breaks (place x)
-  pub only : (p : ℕ) → breaks p → (x : X) × Contains all x × P x × (place x ≡ p)
 
 -- the first item with P has the least place
 pub search_found : {X : Type 0} (breaks : ℕ → Type 0) (place : X → ℕ) (P : X → Type 0) (all left rest : List X) (x : X) → left ≡ x ∷ rest → AreBreaks breaks place P all

@@ -11,7 +11,8 @@ use Rattle.macho_fields.proofs.Parts.{with_cmd_is, with_cmd_among}
 use Rattle.macho_image.specs.Opened.{IsOpened}
 use Rattle.macho_image.specs.Segment.{SectionView, section_at, sections_with, sections_of}
 use Rattle.macho_rules.proofs.Searches.{mapped_has, has_number, numbers_rise, Ordered}
-use Rattle.macho_rules.proofs.Searches.{ordered_append, ordered_map, Rising, Searching, search_all, first_among, AreBreaks, are_breaks_at, any_of, one_of}
+use Rattle.macho_fields.proofs.FirstPlaces.{AreBreaks}
+use Rattle.macho_rules.proofs.Searches.{ordered_append, ordered_map, Rising, Searching, search_all, first_among, are_breaks_at, any_of, one_of}
 use Rattle.macho_rules.proofs.Judged.{opened_facts, opened_commands}
 use Rattle.macho_rules.proofs.SegmentItems.{EndsBefore, segments_spread}
 
@@ -19,25 +20,33 @@ use Rattle.macho_rules.proofs.SegmentItems.{EndsBefore, segments_spread}
 numbered : (image : List ℕ) (segment place : ℕ) → Contains (sections_in image segment) place → (k : ℕ) × (k < nsects image segment) × (place ≡ segment + 72 + 80 * k)
 numbered image segment place has = let (k, low, high, at) = has_number (λ k. segment + 72 + 80 * k) 0 (nsects image segment) place has in (k, omega arith, sym at)
 
+-- the sections of a segment come after its command begins
+pub after_segment : (image : List ℕ) (segment place : ℕ) → Contains (sections_in image segment) place → segment ≤ place
+after_segment image segment place has = let (k, _, at) = numbered image segment place has in omega arith
+
+pub sections_rise : (image : List ℕ) (segment : ℕ) → Ordered (λ (a b : ℕ × ℕ). a.1 ≤ b.1) (sections_with image segment)
+sections_rise image segment =
+    ordered_map (λ (a b : ℕ × ℕ). a.1 ≤ b.1) (λ section. (segment, section)) (sections_in image segment) (numbers_rise (λ k. segment + 72 + 80 * k) (λ i k less. omega arith) 0 (nsects image segment))
+
+pub with_segment : (image : List ℕ) (segment : ℕ) (pair : ℕ × ℕ) → Contains (sections_with image segment) pair → (pair.0 ≡ segment) × Contains (sections_in image segment) pair.1
+with_segment image segment pair has =
+    let (p, among, at) = mapped_has (λ section. (segment, section)) (sections_in image segment) pair has in
+    (ap (λ (q : ℕ × ℕ). q.0) (sym at), subst (λ (q : ℕ × ℕ). Contains (sections_in image segment) q.1) at among)
+
 module _ (image : List ℕ) (opened : IsOpened image) where
-  -- the sections of an earlier segment come before those of a later one
-  sections_before : (a b p q : ℕ) → Contains (segments_of image (commands_of image)) a → EndsBefore image a b → Contains (sections_in image a) p → Contains (sections_in image b) q → p ≤ q
-  sections_before a b p q has apart in_a in_b =
+  -- the sections of a segment come before a later segment
+  pub section_before : (a b p : ℕ) → Contains (segments_of image (commands_of image)) a → EndsBefore image a b → Contains (sections_in image a) p → p ≤ b
+  section_before a b p has apart in_a =
       let (i, within, at_p) = numbered image a p in_a in
-      let (j, _, at_q) = numbered image b q in_b in
       let holds = sections_inside image (commands_of image) (opened_facts image opened) (opened_commands image opened) a (with_cmd_among image (commands_of image) loader.LC_SEGMENT_64 a has)
       (with_cmd_is image (commands_of image) loader.LC_SEGMENT_64 a has) in
-      omega (arith, within, at_p, at_q, holds, apart)
-
-  with_segment : (segment : ℕ) (pair : ℕ × ℕ) → Contains (sections_with image segment) pair → (pair.0 ≡ segment) × Contains (sections_in image segment) pair.1
-  with_segment segment pair has = let (p, among, at) = mapped_has (λ section. (segment, section)) (sections_in image segment) pair has in
-      (ap (λ (q : ℕ × ℕ). q.0) (sym at), subst (λ (q : ℕ × ℕ). Contains (sections_in image segment) q.1) at among)
+      omega (arith, within, at_p, holds, apart)
 
   from_segments : (segments : List ℕ) (pair : ℕ × ℕ) → Contains (flat_map (sections_with image) segments) pair → Contains segments pair.0 × Contains (sections_in image pair.0) pair.1
   from_segments [] pair has = absurd (none_in_nil pair has)
   from_segments (x ∷ xs) pair has =
       elim (Contains-append_cases (sections_with image x) (flat_map (sections_with image) xs) pair has) [
-        | inl here ↦ (let (same, among) = with_segment x pair here in
+        | inl here ↦ (let (same, among) = with_segment image x pair here in
             (subst (Contains (x ∷ xs)) (sym same) (contains_first x xs), subst (λ s. Contains (sections_in image s) pair.1) (sym same) among))
         | inr later ↦ (let (has_segment, among) = from_segments xs pair later in (contains_later x pair.0 xs has_segment, among))
       ]
@@ -57,12 +66,13 @@ module _ (image : List ℕ) (opened : IsOpened image) where
   rise_from [] order among = tt
   rise_from (x ∷ xs) (first, rest) among =
       ordered_append (λ (a b : ℕ × ℕ). a.1 ≤ b.1) (sections_with image x) (flat_map (sections_with image) xs)
-      (ordered_map (λ (a b : ℕ × ℕ). a.1 ≤ b.1) (λ section. (x, section)) (sections_in image x) (numbers_rise (λ k. x + 72 + 80 * k) (λ i k less. omega arith) 0 (nsects image x)))
+      (sections_rise image x)
       (rise_from xs rest (λ s has. among s (contains_later x s xs has)))
       (λ a b has_a has_b.
-      let (same, in_x) = with_segment x a has_a in
+      let (same, in_x) = with_segment image x a has_a in
       let (later, in_b) = from_segments xs b has_b in
-      sections_before x b.0 a.1 b.1 (among x (contains_first x xs)) (first b.0 later) in_x in_b)
+      let before : a.1 ≤ b.0 = section_before x b.0 a.1 (among x (contains_first x xs)) (first b.0 later) in_x in
+      let after : b.0 ≤ b.1 = after_segment image b.0 b.1 in_b in omega (arith, before, after))
 
 -- the sections of the image
 abbrev pub AreSections : List ℕ → List SectionView → Type 0

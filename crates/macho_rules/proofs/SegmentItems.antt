@@ -8,7 +8,8 @@ use Rattle.macho_fields.proofs.Chains.{places_above}
 use Rattle.macho_image.specs.Opened.{IsOpened}
 use Rattle.macho_image.specs.Segment.{SegmentView, segment_at}
 use Rattle.macho_rules.proofs.Searches.{mapped_has, Ordered, ordered_weaken, ordered_filter, ordered_map, Rising}
-use Rattle.macho_rules.proofs.Searches.{Searching, search_all, first_among, AreBreaks, are_breaks_at, any_of, one_of}
+use Rattle.macho_fields.proofs.FirstPlaces.{AreBreaks}
+use Rattle.macho_rules.proofs.Searches.{Searching, search_all, first_among, are_breaks_at, any_of, one_of}
 use Rattle.macho_rules.proofs.Judged.{opened_commands}
 
 -- a command ends before each later one begins

@@ -6,7 +6,7 @@ use Rattle.std.proofs.lemmas.Option.{same_Some}
 use Rattle.macho_fields.specs.First.{rank}
 use Rattle.macho_fields.specs.Image.{word, commands_of}
 use Rattle.macho_fields.specs.Segment.{section_count}
-use Rattle.macho_fields.specs.Symbol.{symbol_count, symoff, nsyms, stroff, strsize, indirectsymoff, nindirectsyms, AtSymbol, IsOutside, HasEndlessName, IsInNoSection, NamesNoSymbol}
+use Rattle.macho_fields.specs.Symbol.{symbol_count, symoff, nsyms, stroff, strsize, indirectsymoff, nindirectsyms, n_strx, AtSymbol, IsOutside, HasEndlessName, IsInNoSection, NamesNoSymbol}
 use Rattle.macho_fields.specs.LoadCommands.{symbol_table, string_table, indirect_table}
 use Rattle.macho_fields.specs.declared.load_command.Structure.TheVariants.{SymtabCommand, DysymtabCommand}
 use Rattle.macho_fields.specs.declared.header.loader.TheConstants as loader
@@ -19,8 +19,10 @@ use Rattle.macho_image.specs.declared.indirect.Indirect.{Indirect}
 use Rattle.macho_image.specs.declared.symbol.Symbol.{Symbol}
 use Rattle.macho_image.specs.declared.symtab.Symtab.{Symtab}
 use Rattle.macho_rules.specs.Check.{KeptBefore}
+use Rattle.macho_rules.specs.Survey.{IsNameLimit, BeginsPast, LacksSection}
 use Rattle.macho_rules.proofs.OneCommand.{first_at, is_with_cmd}
-use Rattle.macho_rules.proofs.Searches.{Searching, first_among, AreBreaks}
+use Rattle.macho_fields.proofs.FirstPlaces.{AreBreaks}
+use Rattle.macho_rules.proofs.Searches.{Searching, first_among}
 use Rattle.macho_rules.proofs.TableItems.{table_inside, AtItem, items_search, item_at, items_break}
 
 -- Indirect entries
@@ -64,10 +66,15 @@ module _ (image : List ℕ) (all : List Symbol) (are : AreSymbols image all) whe
         (λ c has. table_inside image loader.LC_SYMTAB SymtabCommand c symbol_table r late below refl has symbols_listed) P Q seen all are
 
     pub numbers_break : (count : ℕ) → count ≡ section_count image (commands_of image)
-        → AreBreaks (AtSymbol image (commands_of image) (λ symtab. IsInNoSection image (section_count image (commands_of image)))) (λ s. s.place) (λ s. IsInNoSection image count s.place) all
+        → AreBreaks (AtSymbol image (commands_of image) (λ symtab. IsInNoSection image (section_count image (commands_of image)))) (λ s. s.place) (LacksSection count) all
     numbers_break count number =
-        symbols_break (λ symtab. IsInNoSection image (section_count image (commands_of image))) (λ s. IsInNoSection image count s.place)
+        symbols_break (λ symtab. IsInNoSection image (section_count image (commands_of image))) (LacksSection count)
         (λ c p first. (λ here. subst (λ n. IsInNoSection image n p) number here, λ here. subst (λ n. IsInNoSection image n p) (sym number) here))
+
+    pub limit_breaks : (limit : ℕ) → IsNameLimit image limit → AreBreaks (AtSymbol image (commands_of image) (HasEndlessName image)) (λ s. s.place) (BeginsPast limit) all
+    limit_breaks limit ends =
+        symbols_break (HasEndlessName image) (BeginsPast limit)
+        (λ c p first. let past = ends c first (n_strx image p) in (λ (named, begins). (named, past.1 begins), λ (named, endless). (named, past.0 endless)))
 
     pub names_break : (symtab : ℕ) → first_with_cmd image loader.LC_SYMTAB (commands_of image) ≡ Some symtab
         → AreBreaks (AtSymbol image (commands_of image) (HasEndlessName image)) (λ s. s.place) (λ s. HasEndlessName image symtab s.place) all

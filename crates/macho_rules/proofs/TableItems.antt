@@ -22,7 +22,8 @@ use Rattle.macho_image.specs.Symbol.{items_inside}
 use Rattle.macho_rules.specs.Check.{KeptBefore}
 use Rattle.macho_rules.proofs.Judged.{keeps_opened, opened_commands}
 use Rattle.macho_rules.proofs.OneCommand.{Has, first_is, is_with_cmd}
-use Rattle.macho_rules.proofs.Searches.{any_of, has_number, number_has, mapped_has, numbers_rise, Rising, ordered_map, Searching, search_all, AreBreaks, are_breaks_at}
+use Rattle.macho_fields.proofs.FirstPlaces.{AreBreaks}
+use Rattle.macho_rules.proofs.Searches.{any_of, has_number, number_has, mapped_has, numbers_rise, Rising, ordered_map, Searching, search_all, are_breaks_at}
 
 -- a table of a command of a kind lies inside the image, or has no items
 pub table_inside : (image : List ℕ) (cmd : ℕ) (s : Structure) (command : ℕ) (fields : TableFields) (r : Rule)

@@ -13,7 +13,8 @@ use Rattle.macho_fields.proofs.Opened.{table_fields_inside}
 use Rattle.macho_image.specs.Command.{CommandView, command_at}
 use Rattle.macho_image.specs.Opened.{IsOpened}
 use Rattle.macho_rules.proofs.Judged.{opened_facts, opened_commands}
-use Rattle.macho_rules.proofs.Searches.{mapped_has, any_of, one_of, Rising, ordered_map, Searching, search_all, first_among, AreBreaks, are_breaks_at}
+use Rattle.macho_fields.proofs.FirstPlaces.{AreBreaks}
+use Rattle.macho_rules.proofs.Searches.{mapped_has, any_of, one_of, Rising, ordered_map, Searching, search_all, first_among, are_breaks_at}
 use Rattle.macho_rules.proofs.SegmentItems.{commands_rise}
 
 -- Tables of a command

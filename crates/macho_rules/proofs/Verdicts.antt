@@ -48,7 +48,7 @@ module _ (image : List ℕ) (arch : Option (ℕ × ℕ)) (opening : KeptBelow (B
 
   pub opened_refused : (refused : Refusal) → IsImageRefusal image None refused → IsImageRefusal image arch refused
   opened_refused (refusal.Broken b) (here, least) = (image_alone image arch b.rule b.place here, λ r place broken. least r place (alone r place broken))
-  opened_refused refusal.Memory (below, mapped) = (λ r place early broken. below r place early (alone r place broken), mapped)
+  opened_refused refusal.Memory (below, mapped, unordered) = (λ r place early broken. below r place early (alone r place broken), mapped, unordered)
 
 -- what refuses one thing refuses another
 pub refused_for : {T E : Type 0} (P Q : E → Type 0) → ((e : E) → P e → Q e) → (answer : Result T E) → IfErr answer P → IfErr answer Q

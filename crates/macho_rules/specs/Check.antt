@@ -1,5 +1,5 @@
 -- The order of judgment of an image: its rules come one after the other.
-use Rattle.std.specs.Prelude.{ℕ, ◌+◌, List, None, Result, MatchResult}
+use Rattle.std.specs.Prelude.{ℕ, ◌+◌, ◌≤◌, List, Option, None, MatchOption, Result, MatchResult}
 use Rattle.macho_fields.specs.Rules.{BreaksImage}
 use Rattle.macho_fields.specs.First.{rank}
 use Rattle.macho_fields.specs.Layers.{KeptBelow, Continues}
@@ -20,3 +20,10 @@ JudgesUpTo image r answer = Continues (BreaksImage image None) r answer
 abbrev pub RefusesUpTo : {T : Type 0} → List ℕ → Rule → Result T Refusal → Type 0
 RefusesUpTo image r answer =
     MatchResult answer (λ _. KeptBelow (BreaksImage image None) (rank r + 1)) (IsImageRefusal image None)
+
+-- the least place at which an image breaks a rule, and none where it keeps the rule
+abbrev pub IsLeastPlace : List ℕ → Rule → Option ℕ → Type 0
+IsLeastPlace image r found =
+    MatchOption found ((place : ℕ) → ¬ BreaksImage image None r place)
+    (λ first. BreaksImage image None r first
+    × ((place : ℕ) → BreaksImage image None r place → first ≤ place))

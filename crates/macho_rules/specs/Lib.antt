@@ -1,4 +1,6 @@
+pub mod Mapped
 pub mod Check
+pub mod Survey
 pub mod Verdict
 pub mod Source
 pub mod Mapping

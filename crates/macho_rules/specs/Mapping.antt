@@ -1,11 +1,11 @@
 -- What is at the addresses of a loaded image.
-use Rattle.std.specs.Prelude.{◌&&◌, ℕ, ◌+◌, ◌-◌, List, length, filter, find, nat_le, nat_lt, Bool, Option, slice_index_or, if◌then◌else◌}
+use Rattle.std.specs.Prelude.{◌&&◌, ℕ, ◌+◌, ◌-◌, List, length, find, nat_le, nat_lt, Bool, Option, slice_index_or, if◌then◌else◌}
 use Rattle.std.specs.Option.{option_map}
-use Rattle.macho_fields.specs.Image.{commands_of}
-use Rattle.macho_fields.specs.Segment.{Source, File, Zero, IsAtAddress, segments_of, vmsize}
+use Rattle.macho_fields.specs.Segment.{Source, File, Zero, IsAtAddress}
 use Rattle.macho_fields.specs.declared.span.Span.{Span}
 use Rattle.macho_rules.specs.declared.mapping.FilePart.{FilePart}
 use Rattle.macho_rules.specs.declared.mapping.Mapping.{Mapping}
+pub use Rattle.macho_rules.specs.Mapped.{mapped_segments}
 
 -- the addresses of a segment have the address
 abbrev pub holds : ℕ → Span × ℕ → Bool
@@ -41,11 +41,6 @@ probe_count mapping = mapping.probes
 -- how many probes the last search of its spans made
 abbrev pub search_count : Mapping → ℕ
 search_count mapping = mapping.memory.probes
-
--- the segments of an image that have addresses
-abbrev pub mapped_segments : List ℕ → List ℕ
-mapped_segments image =
-    filter (λ segment. nat_lt 0 (vmsize image segment)) (segments_of image (commands_of image))
 
 -- each address of an image is given what is there
 abbrev pub GivesSources : List ℕ → (ℕ → Option Source) → Type 0

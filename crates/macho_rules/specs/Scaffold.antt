@@ -1,17 +1,14 @@
 -- What only proofs need: what is known of values between the functions of this crate. No public
 -- contract cites any of it.
 use Rattle.std.specs.Prelude.{ℕ, ◌+◌, ◌^◌, ◌<◌, List, [], ◌∷◌}
-use Rattle.macho_fields.specs.Segment.{vmaddr, vmsize, fileoff, filesize}
+use Rattle.macho_fields.specs.Segment.{fileoff, filesize}
 use Rattle.macho_fields.specs.Universal.{FileSlice}
 use Rattle.macho_fields.specs.declared.rule.Break.{Break}
 use Rattle.macho_fields.specs.declared.span.Span.{Span}
+use Rattle.macho_rules.specs.Mapped.{memory_at}
 use Rattle.macho_rules.specs.Verdict.{IsSliceRefusal}
 use Rattle.macho_rules.specs.declared.mapping.FilePart.{FilePart}
 use Rattle.macho_rules.specs.declared.refusal.Refusal.TheVariants as refusal
-
--- the addresses of the segment whose command is at the place
-abbrev pub memory_at : List ℕ → ℕ → Span
-memory_at image segment = record { start = vmaddr image segment; len = vmsize image segment }
 
 -- the addresses of each segment, with its index, counted from k on
 abbrev pub numbered_memory : List ℕ → ℕ → List ℕ → List (Span × ℕ)

@@ -12,6 +12,7 @@ use Rattle.macho_fat.specs.Slices.{AreSlices}
 use Rattle.macho_fat.specs.declared.slice.Slice.{Slice}
 use Rattle.macho_fat.specs.declared.fault.FatFault.{FatFault}
 use Rattle.macho_fat.specs.declared.fault.FatFault.TheVariants as fault
+use Rattle.macho_rules.specs.Mapped.{IsUnordered}
 use Rattle.macho_rules.specs.declared.refusal.Refusal.{Refusal}
 use Rattle.macho_rules.specs.declared.refusal.Refusal.TheVariants as refusal
 
@@ -21,11 +22,13 @@ HasMapped image =
     Any (λ segment. 0 < vmsize image segment) (segments_of image (commands_of image))
 
 -- A refusal of an image is its first broken rule, or that there was no memory. That is answered only
--- where a segment is mapped, and the rules before segment-overlap are unbroken.
+-- where the rules before segment-overlap are unbroken, and the addresses of the mapped segments, of
+-- which there are some, neither ascend nor descend.
 abbrev pub IsImageRefusal : List ℕ → Option (ℕ × ℕ) → Refusal → Type 0
 IsImageRefusal image arch (refusal.Broken b) = IsLeast (BreaksImage image arch) b
 IsImageRefusal image arch refusal.Memory =
     KeptBelow (BreaksImage image arch) (rank rule.SegmentOverlap) × HasMapped image
+    × IsUnordered image
 
 -- A refusal of a slice is one of its image, with the place of the break in the file.
 abbrev pub IsSliceRefusal : List ℕ → FileSlice → Refusal → Type 0

@@ -7,9 +7,9 @@ ghost use Rattle.macho_rules.specs.Verdict.{IsImageRefusal};
 
 use crate::entry::entry;
 use crate::refusal::Refusal;
-use crate::sections::{section_address, section_file, section_relocs};
-use crate::segments::{segment_address, segment_file, segment_overlap, segment_size};
-use crate::symbols::{indirect_index, symbol_name, symbol_section};
+use crate::segments::segment_overlap;
+use crate::survey::Survey;
+use crate::symbols::{SymbolSurvey, indirect_index};
 use crate::tables::{symbol_group, table_range};
 use macho_image::Image;
 use std::alloc::Global;
@@ -17,25 +17,30 @@ use std::alloc::Global;
 /// Decides the rules of an opened image, in their order: those of its segments, its sections, its
 /// tables, its symbols and its entry. It returns the first broken one, with its place in the image.
 ///
-/// `Memory` is returned only where the rules up to `segment-file` are kept and a segment is mapped.
-/// It takes memory for `segment-overlap` alone, where two or more segments are mapped: 24 bytes for
-/// each of them.
+/// One walk over the segments and their sections, and one over the symbols, note where each of their
+/// rules is first broken. The list below reads what they noted.
+///
+/// `Memory` is returned only where the rules up to `segment-file` are kept, and the addresses of the
+/// mapped segments neither ascend nor descend in the order of the commands. It takes memory for
+/// `segment-overlap` alone, and only there: 24 bytes for each mapped segment.
 pub fn check_image(alloc: Global, image: &Image) -> Result<(), Refusal>
     ensures unbroken { OnOk result (NothingBreaks (BreaksImage image.now None)) }
     ensures refused { IfErr result (IsImageRefusal image.now None) }
 {
-    segment_address(image)?;
-    segment_size(image)?;
-    segment_file(image)?;
-    segment_overlap(alloc, image)?;
-    section_address(image)?;
-    section_file(image)?;
-    section_relocs(image)?;
+    let survey = Survey::of(image);
+    survey.segment_address()?;
+    survey.segment_size()?;
+    survey.segment_file()?;
+    segment_overlap(alloc, image, &survey)?;
+    survey.section_address()?;
+    survey.section_file()?;
+    survey.section_relocs()?;
     table_range(image)?;
     symbol_group(image)?;
-    symbol_name(image)?;
-    symbol_section(image)?;
+    let symbols = SymbolSurvey::of(image, survey.section_count());
+    symbols.symbol_name()?;
+    symbols.symbol_section()?;
     indirect_index(image)?;
-    entry(image)?;
+    entry(image, survey.base())?;
     Ok(())
 }

@@ -2,7 +2,7 @@
 
 ghost use Rattle.std.specs.Prelude.{◌≡◌, ◌↔◌, IsTrue};
 ghost use Rattle.macho_fields.specs.Image.{commands_of};
-ghost use Rattle.macho_fields.specs.Segment.{IsExecutable, HasNoEntry, RunsAt};
+ghost use Rattle.macho_fields.specs.Segment.{base_of, IsExecutable, HasNoEntry, RunsAt};
 ghost use Rattle.macho_fields.specs.declared.rule.Rule.{Rule};
 ghost use Rattle.macho_image.specs.Single.{main_command_at};
 ghost use Rattle.macho_rules.specs.Check.{KeptBefore, JudgesUpTo};
@@ -11,26 +11,29 @@ use macho_fields::header::vm_prot::VM_PROT_EXECUTE;
 use macho_fields::{Break, Rule};
 use macho_image::{Image, MainCommand, Segment};
 
-/// The entry is at a byte of the file, in memory that may be executed.
-pub(crate) fn entry(image: &Image) -> Result<(), Break>
-    requires { KeptBefore image.now Rule.Entry }
+/// The entry is at a byte of the file, in memory that may be executed. `base` is the base address of
+/// the image.
+pub(crate) fn entry(image: &Image, base: Option<u64>) -> Result<(), Break>
+    requires kept { KeptBefore image.now Rule.Entry }
+    requires base { base ≡ base_of image.now (commands_of image.now) }
     ensures { JudgesUpTo image.now Rule.Entry result }
 {
     let Some(main) = image.main_command() else {
         return Ok(());
     };
-    if has_no_entry(image, main) {
+    if has_no_entry(image, base, main) {
         return Err(Break::at(Rule::Entry, main.place));
     }
     Ok(())
 }
 
 /// Whether there is no base, or no segment runs at the address that `main` names.
-fn has_no_entry(image: &Image, main: MainCommand) -> bool
-    requires { main ≡ main_command_at image.now main.place }
+fn has_no_entry(image: &Image, base: Option<u64>, main: MainCommand) -> bool
+    requires base { base ≡ base_of image.now (commands_of image.now) }
+    requires main { main ≡ main_command_at image.now main.place }
     ensures { IsTrue result ↔ HasNoEntry image.now (commands_of image.now) main.place }
 {
-    let Some(base) = image.base() else {
+    let Some(base) = base else {
         return true;
     };
     !is_executable(image, u128::from(base) + u128::from(main.entryoff))

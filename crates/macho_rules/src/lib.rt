@@ -9,6 +9,7 @@ pub mod refusal;
 mod sections;
 mod segments;
 pub mod slow;
+mod survey;
 mod symbols;
 mod tables;
 pub mod verdict;

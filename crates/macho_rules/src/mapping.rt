@@ -1,11 +1,16 @@
 //! What is at the addresses of a loaded image. (`mach-o/loader.h`: `segment_command_64`)
 
-ghost use Rattle.std.specs.Prelude.{◌<◌, length, All, AllPairs, IsPermutation, IfOk, OnErr};
+ghost use Rattle.std.specs.Prelude.{◌≡◌, ◌<◌, ◌-◌, ◌^◌, min, length, map, All, AllPairs};
+ghost use Rattle.std.specs.Prelude.{IsPermutation, IfOk, OnErr, None};
+ghost use Rattle.macho_fields.specs.Layers.{NothingBreaks};
+ghost use Rattle.macho_fields.specs.Rules.{BreaksImage};
 ghost use Rattle.macho_fields.specs.Span.{Shares};
 ghost use Rattle.macho_fields.specs.Spans.{AreSorted, IsPlaced};
-ghost use Rattle.macho_rules.specs.Scaffold.{FitsFile};
+ghost use Rattle.macho_rules.specs.Mapped.{mapped_segments};
+ghost use Rattle.macho_rules.specs.Scaffold.{file_at, numbered_memory, FitsFile};
+ghost use Rattle.macho_rules.specs.Verdict.{HasMapped};
 
-use crate::segments::memory;
+use crate::segments::{mapped_count, memory};
 use crate::verdict::Verified;
 use macho_fields::{Span, Spans};
 use macho_image::{Image, Segment};
@@ -49,7 +54,8 @@ impl Mapping {
     ghost use Rattle.macho_fields.specs.Spans.{IsProbeCount};
     ghost use Rattle.macho_fields.specs.Universal.{slices_of, slice_bytes, IsImage, HasImage};
     ghost use Rattle.macho_rules.specs.Mapping.{sources, segment_count, probe_count, search_count};
-    ghost use Rattle.macho_rules.specs.Mapping.{mapped_segments, GivesSources};
+    ghost use Rattle.macho_rules.specs.Mapped.{mapped_segments};
+    ghost use Rattle.macho_rules.specs.Mapping.{GivesSources};
     ghost use Rattle.macho_rules.specs.Source.{source_of};
     ghost use Rattle.macho_rules.specs.Verdict.{HasMapped};
 
@@ -90,12 +96,12 @@ impl Mapping {
     {
         // No file part passes the image, so the end of each is below 2^64.
         prove!(image.bytes().len() <= u64::MAX);
-        let mut mapped = MappedSegments::of(alloc, image)?;
-        mapped.addresses.sort_unstable_by_key(|pair| pair.0.start);
-        let memory = spans_of(alloc, &mapped.addresses)?;
+        let count = mapped_count(image);
+        let memory = mapped_spans(alloc, image, count)?;
+        let files = file_parts(alloc, image, count)?;
         Ok(Mapping {
             memory,
-            files: mapped.files,
+            files,
             probes: 0,
         })
     }
@@ -124,39 +130,60 @@ impl Mapping {
     }
 }
 
-/// The mapped segments of an image, in the order of the commands.
-#[derive(Drop)]
-struct MappedSegments {
-    /// The addresses of each, with its index in `files`. One takes 24 bytes.
-    addresses: Vec<(Span, u64)>,
-    files: Vec<FilePart>,
+/// The addresses of the `count` mapped segments of an image that breaks no rule, each with its index
+/// among them. The list that is sorted is let go.
+fn mapped_spans(alloc: Global, image: &Image, count: usize) -> Result<Spans, AllocError>
+    requires unbroken { NothingBreaks (BreaksImage image.now None) }
+    requires count { count ≡ min (length (mapped_segments image.now)) (2 ^ 64 - 1) }
+    ensures held { IfOk result (λ spans. IsPermutation
+        (numbered_memory image.now 0 (mapped_segments image.now)) spans.pairs) }
+    ensures sorted { IfOk result (λ spans. AreSorted spans.pairs) }
+    ensures memory { OnErr result (HasMapped image.now) }
+{
+    let mut pairs = numbered_spans(alloc, image, count)?;
+    pairs.sort_unstable_by_key(|pair| pair.0.start);
+    spans_of(alloc, &pairs)
 }
 
-impl MappedSegments {
-    ghost use Rattle.std.specs.Prelude.{◌≡◌, map, IfOk, OnErr};
-    ghost use Rattle.macho_rules.specs.Mapping.{mapped_segments};
-    ghost use Rattle.macho_rules.specs.Scaffold.{file_at, numbered_memory};
-    ghost use Rattle.macho_rules.specs.Verdict.{HasMapped};
-
-    /// The mapped segments of the image. It takes no memory where there are none.
-    fn of(alloc: Global, image: &Image) -> Result<MappedSegments, AllocError>
-        ensures addresses { IfOk result (λ mapped.
-            mapped.addresses.items ≡ numbered_memory image.now 0 (mapped_segments image.now)) }
-        ensures files { IfOk result (λ mapped.
-            mapped.files.items ≡ map (file_at image.now) (mapped_segments image.now)) }
-        ensures memory { OnErr result (HasMapped image.now) }
-    {
-        let mut addresses = Vec::new(alloc);
-        let mut files = Vec::new(alloc);
-        for segment in image.segments() {
-            if segment.vmsize() == 0 {
-                continue;
-            }
-            addresses.push((memory(&segment), files.len() as u64))?;
-            files.push(FilePart::new(&segment))?;
+/// The addresses of the `count` mapped segments, each with its index, in the order of the commands. One
+/// takes 24 bytes.
+fn numbered_spans(
+    alloc: Global,
+    image: &Image,
+    count: usize,
+) -> Result<Vec<(Span, u64)>, AllocError>
+    requires { count ≡ min (length (mapped_segments image.now)) (2 ^ 64 - 1) }
+    ensures pairs { IfOk result (λ pairs.
+        pairs.items ≡ numbered_memory image.now 0 (mapped_segments image.now)) }
+    ensures memory { OnErr result (HasMapped image.now) }
+{
+    let mut pairs = Vec::with_capacity(alloc, count)?;
+    for segment in image.segments() {
+        if segment.vmsize() == 0 {
+            continue;
         }
-        Ok(MappedSegments { addresses, files })
+        let index = pairs.len() as u64;
+        pairs.push((memory(&segment), index))?;
     }
+    Ok(pairs)
+}
+
+/// Where the bytes of each of the `count` mapped segments lie, in the order of the commands. One takes
+/// 16 bytes.
+fn file_parts(alloc: Global, image: &Image, count: usize) -> Result<Vec<FilePart>, AllocError>
+    requires { count ≡ min (length (mapped_segments image.now)) (2 ^ 64 - 1) }
+    ensures files { IfOk result (λ files.
+        files.items ≡ map (file_at image.now) (mapped_segments image.now)) }
+    ensures memory { OnErr result (HasMapped image.now) }
+{
+    let mut files = Vec::with_capacity(alloc, count)?;
+    for segment in image.segments() {
+        if segment.vmsize() == 0 {
+            continue;
+        }
+        files.push(FilePart::new(&segment))?;
+    }
+    Ok(files)
 }
 
 /// The spans with their tags. Where they come in ascending order, no insertion moves a pair.
@@ -167,7 +194,7 @@ fn spans_of(alloc: Global, pairs: &[(Span, u64)]) -> Result<Spans, AllocError>
     ensures sorted { IfOk result (λ spans. AreSorted spans.pairs) }
     ensures memory { OnErr result (0 < length pairs.now) }
 {
-    let mut spans = Spans::new(alloc);
+    let mut spans = Spans::with_capacity(alloc, pairs.len())?;
     for &(span, tag) in pairs {
         spans.try_insert(span, tag)?;
     }

@@ -12,21 +12,8 @@ use macho_fields::header::reloc::RELOCATION_INFO_SIZE;
 use macho_fields::{Break, Bytes, Rule, Span};
 use macho_image::{Image, Section};
 
-/// Each section of a mapped segment lies within the addresses of the segment.
-pub(crate) fn section_address(image: &Image) -> Result<(), Break>
-    requires { KeptBefore image.now Rule.SectionAddress }
-    ensures { JudgesUpTo image.now Rule.SectionAddress result }
-{
-    for section in image.sections() {
-        if is_outside_memory(&section) {
-            return Err(Break::at(Rule::SectionAddress, section.place()));
-        }
-    }
-    Ok(())
-}
-
 /// Whether the segment of the section is mapped, and the section has an address outside of it.
-fn is_outside_memory(section: &Section) -> bool
+pub(crate) fn is_outside_memory(section: &Section) -> bool
     ensures { IsTrue result
         ↔ IsOutsideMemory section.now.image section.now.segment section.now.place }
 {
@@ -38,22 +25,8 @@ fn is_outside_memory(section: &Section) -> bool
     segment.vmsize() > 0 && section.size() > 0 && !addresses.inside(&memory(&segment))
 }
 
-/// The bytes of each section are where its mapped segment puts them, or inside the image.
-pub(crate) fn section_file(image: &Image) -> Result<(), Break>
-    requires { KeptBefore image.now Rule.SectionFile }
-    ensures { JudgesUpTo image.now Rule.SectionFile result }
-{
-    let bytes = image.bytes();
-    for section in image.sections() {
-        if is_misplaced(bytes, &section) {
-            return Err(Break::at(Rule::SectionFile, section.place()));
-        }
-    }
-    Ok(())
-}
-
 /// Whether the section has bytes, and they are not where its segment puts them.
-fn is_misplaced(image: Bytes, section: &Section) -> bool
+pub(crate) fn is_misplaced(image: Bytes, section: &Section) -> bool
     requires { bytes_of image ≡ section.now.image }
     ensures { IsTrue result ↔ IsMisplaced section.now.image section.now.segment section.now.place }
 {
@@ -94,22 +67,8 @@ fn file_part(section: &Section) -> Span
     }
 }
 
-/// The relocations of each section, also of an empty one, lie inside the image.
-pub(crate) fn section_relocs(image: &Image) -> Result<(), Break>
-    requires { KeptBefore image.now Rule.SectionRelocs }
-    ensures { JudgesUpTo image.now Rule.SectionRelocs result }
-{
-    let bytes = image.bytes();
-    for section in image.sections() {
-        if has_relocs_outside(bytes, &section) {
-            return Err(Break::at(Rule::SectionRelocs, section.place()));
-        }
-    }
-    Ok(())
-}
-
 /// Whether the section has relocations, and they end past the image.
-fn has_relocs_outside(image: Bytes, section: &Section) -> bool
+pub(crate) fn has_relocs_outside(image: Bytes, section: &Section) -> bool
     requires { bytes_of image ≡ section.now.image }
     ensures { IsTrue result ↔ HasRelocsOutside section.now.image section.now.place }
 {

@@ -5,73 +5,34 @@ ghost use Rattle.macho_fields.specs.Bytes.{bytes_of};
 ghost use Rattle.macho_fields.specs.Segment.{vmaddr, vmsize, fileoff, filesize};
 ghost use Rattle.macho_fields.specs.Segment.{PassesLastAddress, IsLongerInFile, PassesImage};
 ghost use Rattle.macho_fields.specs.declared.rule.Rule.{Rule};
-ghost use Rattle.macho_rules.specs.Check.{KeptBefore, JudgesUpTo, RefusesUpTo};
-ghost use Rattle.macho_rules.specs.Mapping.{mapped_segments};
-ghost use Rattle.macho_rules.specs.Scaffold.{memory_at};
+ghost use Rattle.macho_rules.specs.Check.{KeptBefore, RefusesUpTo};
+ghost use Rattle.macho_rules.specs.Mapped.{mapped_segments, memory_at, IsUnordered};
 
 use crate::refusal::Refusal;
-use macho_fields::{Break, Bytes, Rule, Span, SpanList};
+use crate::survey::Survey;
+use macho_fields::{Break, Bytes, Rule, Sharing, Span, SpanList};
 use macho_image::{Image, Segment};
 use std::alloc::{AllocError, Global};
 
 /// One past the last address.
 const ADDRESS_END: u128 = 1 << 64;
 
-/// No segment passes the last address. The rules before this one are unbroken in each opened image.
-pub(crate) fn segment_address(image: &Image) -> Result<(), Break>
-    ensures { JudgesUpTo image.now Rule.SegmentAddress result }
-{
-    for segment in image.segments() {
-        if passes_last_address(&segment) {
-            return Err(Break::at(Rule::SegmentAddress, segment.place()));
-        }
-    }
-    Ok(())
-}
-
 /// Whether the addresses of the segment end past 2^64.
-fn passes_last_address(segment: &Segment) -> bool
+pub(crate) fn passes_last_address(segment: &Segment) -> bool
     ensures { IsTrue result ↔ PassesLastAddress segment.now.image segment.now.place }
 {
     memory(segment).end() > ADDRESS_END
 }
 
-/// No mapped segment has more bytes in the file than in memory.
-pub(crate) fn segment_size(image: &Image) -> Result<(), Break>
-    requires { KeptBefore image.now Rule.SegmentSize }
-    ensures { JudgesUpTo image.now Rule.SegmentSize result }
-{
-    for segment in image.segments() {
-        if is_longer_in_file(&segment) {
-            return Err(Break::at(Rule::SegmentSize, segment.place()));
-        }
-    }
-    Ok(())
-}
-
 /// Whether the segment is mapped, and has more bytes in the file than in memory.
-fn is_longer_in_file(segment: &Segment) -> bool
+pub(crate) fn is_longer_in_file(segment: &Segment) -> bool
     ensures { IsTrue result ↔ IsLongerInFile segment.now.image segment.now.place }
 {
     segment.vmsize() > 0 && segment.filesize() > segment.vmsize()
 }
 
-/// The bytes of each segment lie inside the image.
-pub(crate) fn segment_file(image: &Image) -> Result<(), Break>
-    requires { KeptBefore image.now Rule.SegmentFile }
-    ensures { JudgesUpTo image.now Rule.SegmentFile result }
-{
-    let bytes = image.bytes();
-    for segment in image.segments() {
-        if passes_image(bytes, &segment) {
-            return Err(Break::at(Rule::SegmentFile, segment.place()));
-        }
-    }
-    Ok(())
-}
-
 /// Whether the segment has bytes in the file, and they end past the image.
-fn passes_image(image: Bytes, segment: &Segment) -> bool
+pub(crate) fn passes_image(image: Bytes, segment: &Segment) -> bool
     requires { bytes_of image ≡ segment.now.image }
     ensures { IsTrue result ↔ PassesImage segment.now.image segment.now.place }
 {
@@ -80,16 +41,26 @@ fn passes_image(image: Bytes, segment: &Segment) -> bool
 
 /// No mapped segment has an address in common with an earlier one.
 ///
-/// For n mapped segments it takes time in the order of n log n, and, where there are two or more, 24
-/// bytes of memory for each.
-pub(crate) fn segment_overlap(alloc: Global, image: &Image) -> Result<(), Refusal>
-    requires { KeptBefore image.now Rule.SegmentOverlap }
+/// For n mapped segments that ascend or descend it takes no time past the survey, and no memory. For
+/// others it may take time in the order of n log n, and 24 bytes of memory for each.
+pub(crate) fn segment_overlap(alloc: Global, image: &Image, survey: &Survey) -> Result<(), Refusal>
+    requires survey { survey.now ≡ image.now }
+    requires kept { KeptBefore image.now Rule.SegmentOverlap }
     ensures { RefusesUpTo image.now Rule.SegmentOverlap result }
 {
-    let count = mapped_count(image);
-    if count < 2 {
-        return Ok(());
+    match survey.sharing() {
+        Sharing::None => Ok(()),
+        Sharing::First(place) => Err(Refusal::Broken(Break::at(Rule::SegmentOverlap, place))),
+        Sharing::Unknown => sorted_overlap(alloc, image, survey.mapped_count()),
     }
+}
+
+/// The same for `count` mapped segments that are in no order: they are sorted.
+fn sorted_overlap(alloc: Global, image: &Image, count: usize) -> Result<(), Refusal>
+    requires kept { KeptBefore image.now Rule.SegmentOverlap }
+    requires unordered { IsUnordered image.now }
+    ensures { RefusesUpTo image.now Rule.SegmentOverlap result }
+{
     let spans = mapped_memory(alloc, image, count)?;
     let Some(index) = spans.least_overlap() else {
         return Ok(());
@@ -99,7 +70,7 @@ pub(crate) fn segment_overlap(alloc: Global, image: &Image) -> Result<(), Refusa
 }
 
 /// How many segments are mapped, or the largest `usize` where there are more.
-fn mapped_count(image: &Image) -> usize
+pub(crate) fn mapped_count(image: &Image) -> usize
     ensures { result ≡ min (length (mapped_segments image.now)) (2 ^ 64 - 1) }
 {
     let mut count: usize = 0;

@@ -1,8 +1,11 @@
-//! A second verdict, without memory. It decides the rules of the file, `segment-overlap` and
-//! `symbol-name` by functions of its own; the others are decided as in the first verdict.
+//! A second verdict, without memory. Each rule of the file, of segments, of sections and of symbols has
+//! a loop of its own here, which shares no walk with the first verdict; `segment-overlap` and
+//! `symbol-name` are decided in another way too. What is tested of one segment, section or symbol is
+//! the same in both, and so are the other rules of an opened image.
 
 mod entries;
 mod file;
+mod sections;
 mod segments;
 mod symbols;
 
@@ -16,9 +19,7 @@ ghost use Rattle.macho_fields.specs.declared.rule.Rule.{Rule};
 ghost use Rattle.macho_rules.specs.Scaffold.{IsSliceBreak};
 
 use crate::entry::entry;
-use crate::sections::{section_address, section_file, section_relocs};
-use crate::segments::{segment_address, segment_file, segment_size};
-use crate::symbols::{indirect_index, symbol_section};
+use crate::symbols::indirect_index;
 use crate::tables::{symbol_group, table_range};
 use entries::Entries;
 use file::{
@@ -27,14 +28,16 @@ use file::{
 };
 use macho_fields::{Break, Bytes};
 use macho_image::Image;
-use segments::segment_overlap;
-use symbols::symbol_name;
+use sections::{section_address, section_file, section_relocs};
+use segments::{segment_address, segment_file, segment_overlap, segment_size};
+use symbols::{symbol_name, symbol_section};
 
 /// The first broken rule of a file, with its place in the file, or `None` where no rule is broken.
 ///
 /// It takes no memory, and compares all pairs: for n slices or segments it takes time in the order of
 /// n^2, and for each symbol with a name it searches the strings. It is there to be compared with
-/// [`verify`](crate::verify), of which it uses neither the slices nor anything that is sorted.
+/// [`verify`](crate::verify), of which it uses neither the slices, nor what a walk notes of several
+/// rules at once, nor anything that is sorted.
 pub fn slow_first(file: &[u8]) -> Option<Break>
     ensures unbroken { (result ≡ None) ↔ IsUnbroken file.now }
     ensures first { IfSome result (IsFirstBroken file.now) }
@@ -138,5 +141,5 @@ fn judge_opened(image: &Image) -> Result<(), Break>
     symbol_name(image)?;
     symbol_section(image)?;
     indirect_index(image)?;
-    entry(image)
+    entry(image, image.base())
 }

@@ -1,35 +1,101 @@
 //! The rules of the symbols of an image, and of its indirect entries. (`mach-o/nlist.h`:
 //! `nlist_64`)
 
-ghost use Rattle.std.specs.Prelude.{◌≡◌, ◌≢◌, ◌+◌, ◌<◌, ◌↔◌, ℕ, List, Some, slice_get};
-ghost use Rattle.std.specs.Prelude.{IsTrue, IsSome, IfSome};
+ghost use Rattle.std.specs.Prelude.{◌≡◌, ◌+◌, ◌↔◌, Some, slice_get, IsTrue, IsSome, IfSome};
 ghost use Rattle.macho_fields.specs.Bytes.{bytes_of};
 ghost use Rattle.macho_fields.specs.Field.{Covers, HasZero};
 ghost use Rattle.macho_fields.specs.Image.{commands_of};
-ghost use Rattle.macho_fields.specs.Symbol.{symbol_count, IsInNoSection, NamesNoSymbol};
+ghost use Rattle.macho_fields.specs.Symbol.{symbol_count, NamesNoSymbol};
 ghost use Rattle.macho_fields.specs.declared.rule.Rule.{Rule};
-ghost use Rattle.macho_image.specs.Symbol.{symbol_at};
 ghost use Rattle.macho_rules.specs.Check.{KeptBefore, JudgesUpTo};
+ghost use Rattle.macho_rules.specs.Survey.{IsNameLimit, BeginsPast, LacksSection};
 
-use macho_fields::{Break, Bytes, Rule, Span};
+use crate::survey::note_if;
+use macho_fields::{Break, Bytes, FirstPlace, Rule, Span};
 use macho_image::{Image, Indirect, Symbol, Symtab};
+use std::marker::Model;
 
-/// Each symbol that has a name has one that ends in the strings: it begins at their last zero byte,
-/// or before it.
-pub(crate) fn symbol_name(image: &Image) -> Result<(), Break>
-    requires { KeptBefore image.now Rule.SymbolName }
-    ensures { JudgesUpTo image.now Rule.SymbolName result }
-{
-    let Some(symtab) = image.symtab() else {
-        return Ok(());
-    };
-    let last = last_end(image.bytes(), symtab);
-    for symbol in image.symbols() {
-        if has_endless_name(symbol, symtab.stroff, last) {
-            return Err(Break::at(Rule::SymbolName, symbol.place));
+/// What one walk over the symbols of an image finds: where each of their rules is first broken.
+#[derive(Drop)]
+pub(crate) struct SymbolSurvey<'a> {
+    image: Bytes<'a>,
+    name: FirstPlace,
+    section: FirstPlace,
+}
+
+impl<'a> Model for SymbolSurvey<'a> {
+    ghost use Rattle.std.specs.Prelude.{List, ℕ};
+    ghost use Rattle.macho_fields.specs.Bytes.{bytes_of};
+    ghost use Rattle.macho_fields.specs.declared.rule.Rule.TheVariants as rule;
+    ghost use Rattle.macho_rules.specs.Check.{IsLeastPlace};
+
+    ghost Value = { List ℕ };
+
+    ghost view = { λ survey. bytes_of survey.image };
+
+    ghost invariant = { λ survey. IsLeastPlace (bytes_of survey.image) rule.SymbolName survey.name
+        × IsLeastPlace (bytes_of survey.image) rule.SymbolSection survey.section };
+}
+
+impl<'a> SymbolSurvey<'a> {
+    ghost use Rattle.std.specs.Prelude.{◌≡◌};
+    ghost use Rattle.macho_fields.specs.Image.{commands_of};
+    ghost use Rattle.macho_fields.specs.Segment.{section_count};
+    ghost use Rattle.macho_fields.specs.declared.rule.Rule.{Rule};
+    ghost use Rattle.macho_rules.specs.Check.{KeptBefore, JudgesUpTo};
+
+    /// Goes over the symbols of the image, whose segments have `sections` sections in all.
+    pub(crate) fn of(image: &Image<'a>, sections: u64) -> SymbolSurvey<'a>
+        requires kept { KeptBefore image.now Rule.SymbolName }
+        requires sections { sections ≡ section_count image.now (commands_of image.now) }
+        ensures { result ≡ image.now }
+    {
+        let limit = name_limit(image);
+        let mut name = FirstPlace::none();
+        let mut section = FirstPlace::none();
+        for symbol in image.symbols() {
+            note_if(&mut name, has_endless_name(symbol, limit), symbol.place);
+            note_if(
+                &mut section,
+                is_in_no_section(symbol, sections),
+                symbol.place,
+            );
+        }
+        SymbolSurvey {
+            image: image.bytes(),
+            name,
+            section,
         }
     }
-    Ok(())
+
+    /// Each symbol that has a name has one that ends in the strings.
+    pub(crate) fn symbol_name(&self) -> Result<(), Break>
+        requires { KeptBefore self.now Rule.SymbolName }
+        ensures { JudgesUpTo self.now Rule.SymbolName result }
+    {
+        self.name.judge(Rule::SymbolName)
+    }
+
+    /// Each symbol that is defined in a section has the number of one.
+    pub(crate) fn symbol_section(&self) -> Result<(), Break>
+        requires { KeptBefore self.now Rule.SymbolSection }
+        ensures { JudgesUpTo self.now Rule.SymbolSection result }
+    {
+        self.section.judge(Rule::SymbolSection)
+    }
+}
+
+/// The first offset in the strings from which on no name ends: the one after their last zero byte.
+fn name_limit(image: &Image) -> u64
+    ensures { IsNameLimit image.now result }
+{
+    let Some(symtab) = image.symtab() else {
+        return 0;
+    };
+    match last_end(image.bytes(), symtab) {
+        Some(place) => place - symtab.stroff + 1,
+        None => 0,
+    }
 }
 
 /// Where the last string ends: the place of the last zero byte of the strings of `symtab`.
@@ -47,34 +113,16 @@ fn last_end(image: Bytes, symtab: Symtab) -> Option<u64>
     })
 }
 
-/// Whether the symbol has a name, and it begins past `last`, where the last string ends, or no
-/// string ends. The strings begin at `stroff`.
-fn has_endless_name(symbol: Symbol, stroff: u64, last: Option<u64>) -> bool
-    ensures { IsTrue result
-        ↔ ((symbol.strx ≢ 0) × IfSome last (λ place. place < stroff + symbol.strx)) }
+/// Whether the symbol has a name, and it begins at `limit` or past it.
+fn has_endless_name(symbol: Symbol, limit: u64) -> bool
+    ensures { IsTrue result ↔ BeginsPast limit symbol }
 {
-    let start = u128::from(stroff) + u128::from(symbol.strx);
-    symbol.strx != 0 && last.is_none_or(|end| u128::from(end) < start)
-}
-
-/// Each symbol that is defined in a section has the number of one.
-pub(crate) fn symbol_section(image: &Image) -> Result<(), Break>
-    requires { KeptBefore image.now Rule.SymbolSection }
-    ensures { JudgesUpTo image.now Rule.SymbolSection result }
-{
-    let count = image.section_count();
-    for symbol in image.symbols() {
-        if is_in_no_section(symbol, count) {
-            return Err(Break::at(Rule::SymbolSection, symbol.place));
-        }
-    }
-    Ok(())
+    symbol.strx != 0 && u64::from(symbol.strx) >= limit
 }
 
 /// Whether the symbol is defined in a section, and none of `count` sections has its number.
-fn is_in_no_section(symbol: Symbol, count: u64) -> bool
-    ensures { (image : List ℕ) → symbol ≡ symbol_at image symbol.place
-        → (IsTrue result ↔ IsInNoSection image count symbol.place) }
+pub(crate) fn is_in_no_section(symbol: Symbol, count: u64) -> bool
+    ensures { IsTrue result ↔ LacksSection count symbol }
 {
     symbol.names_section() && (symbol.sect == 0 || u64::from(symbol.sect) > count)
 }

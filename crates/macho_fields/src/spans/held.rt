@@ -15,7 +15,7 @@ pub(super) struct Held {
 
 impl Held {
     ghost use Rattle.std.specs.Prelude.{◌≡◌, ◌↔◌, ◌+◌, ◌≤◌, ◌<◌, ◌^◌, [], length};
-    ghost use Rattle.std.specs.Prelude.{IsTrue, MatchOption, OnOk, OnErr};
+    ghost use Rattle.std.specs.Prelude.{IsTrue, MatchOption, IfOk, OnOk, OnErr};
     ghost use Rattle.std.specs.List.{HoldsAt, insert};
     ghost use Rattle.macho_fields.specs.Scaffold.{StartBy};
     ghost use Rattle.macho_fields.specs.Span.{Holds, Shares};
@@ -30,6 +30,20 @@ impl Held {
             probes: 0,
             tests: 0,
         }
+    }
+
+    /// None, with room for so many.
+    pub(super) fn with_capacity(alloc: Global, count: usize) -> Result<Held, AllocError>
+        ensures none { IfOk result (λ held. held.pairs.items ≡ []) }
+        ensures probes { IfOk result (λ held. held.probes ≡ 0) }
+        ensures memory { OnErr result (0 < count) }
+    {
+        let pairs = Vec::with_capacity(alloc, count)?;
+        Ok(Held {
+            pairs,
+            probes: 0,
+            tests: 0,
+        })
     }
 
     /// How many pairs there are.

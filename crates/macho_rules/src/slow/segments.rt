@@ -1,4 +1,4 @@
-//! The rule of the addresses of segments, with a comparison of each two.
+//! The rules of the segments of an image, each with a loop of its own. Each two segments are compared.
 
 ghost use Rattle.std.specs.Prelude.{◌≡◌, ◌↔◌, IsTrue};
 ghost use Rattle.macho_fields.specs.Image.{commands_of};
@@ -6,9 +6,48 @@ ghost use Rattle.macho_fields.specs.Segment.{OverlapsEarlier};
 ghost use Rattle.macho_fields.specs.declared.rule.Rule.{Rule};
 ghost use Rattle.macho_rules.specs.Check.{KeptBefore, JudgesUpTo};
 
-use crate::segments::memory;
+use crate::segments::{is_longer_in_file, memory, passes_image, passes_last_address};
 use macho_fields::{Break, Rule};
 use macho_image::{Image, Segment};
+
+/// No segment passes the last address. The rules before this one are unbroken in each opened image.
+pub(super) fn segment_address(image: &Image) -> Result<(), Break>
+    ensures { JudgesUpTo image.now Rule.SegmentAddress result }
+{
+    for segment in image.segments() {
+        if passes_last_address(&segment) {
+            return Err(Break::at(Rule::SegmentAddress, segment.place()));
+        }
+    }
+    Ok(())
+}
+
+/// No mapped segment has more bytes in the file than in memory.
+pub(super) fn segment_size(image: &Image) -> Result<(), Break>
+    requires { KeptBefore image.now Rule.SegmentSize }
+    ensures { JudgesUpTo image.now Rule.SegmentSize result }
+{
+    for segment in image.segments() {
+        if is_longer_in_file(&segment) {
+            return Err(Break::at(Rule::SegmentSize, segment.place()));
+        }
+    }
+    Ok(())
+}
+
+/// The bytes of each segment lie inside the image.
+pub(super) fn segment_file(image: &Image) -> Result<(), Break>
+    requires { KeptBefore image.now Rule.SegmentFile }
+    ensures { JudgesUpTo image.now Rule.SegmentFile result }
+{
+    let bytes = image.bytes();
+    for segment in image.segments() {
+        if passes_image(bytes, &segment) {
+            return Err(Break::at(Rule::SegmentFile, segment.place()));
+        }
+    }
+    Ok(())
+}
 
 /// No mapped segment has an address in common with an earlier one. Each is compared with all earlier
 /// ones, which takes time in the order of n^2 for n segments.

@@ -1,4 +1,5 @@
-//! The rule of the names of symbols, with a search of the strings for each name.
+//! The rules of the symbols of an image, each with a loop of its own. The strings are searched for each
+//! name.
 
 ghost use Rattle.std.specs.Prelude.{◌≡◌, ◌+◌, ◌≤◌, ◌<◌, ◌↔◌, length, IsTrue};
 ghost use Rattle.macho_fields.specs.Bytes.{bytes_of};
@@ -7,6 +8,7 @@ ghost use Rattle.macho_fields.specs.declared.rule.Rule.{Rule};
 ghost use Rattle.macho_image.specs.Symbol.{symtab_at, symbol_at};
 ghost use Rattle.macho_rules.specs.Check.{KeptBefore, JudgesUpTo};
 
+use crate::symbols::is_in_no_section;
 use macho_fields::{Break, Bytes, Rule, Span};
 use macho_image::{Image, Symbol, Symtab};
 
@@ -48,4 +50,18 @@ fn has_endless_name(image: Bytes, symtab: Symtab, symbol: Symbol) -> bool
         len: symtab.strsize - strx,
     };
     image.first_zero(rest).is_none()
+}
+
+/// Each symbol that is defined in a section has the number of one.
+pub(super) fn symbol_section(image: &Image) -> Result<(), Break>
+    requires { KeptBefore image.now Rule.SymbolSection }
+    ensures { JudgesUpTo image.now Rule.SymbolSection result }
+{
+    let count = image.section_count();
+    for symbol in image.symbols() {
+        if is_in_no_section(symbol, count) {
+            return Err(Break::at(Rule::SymbolSection, symbol.place));
+        }
+    }
+    Ok(())
 }

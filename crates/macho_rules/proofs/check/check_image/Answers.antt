@@ -1,9 +1,87 @@
-use Rattle.std.proofs.Common.{arith, rules}
+use Rattle.std.proofs.Common.{List, ℕ, None, ◌∙◌, ap, sym, subst, arith}
+use Rattle.macho_fields.specs.Image.{commands_of}
+use Rattle.macho_fields.specs.Layers.{IsLeast}
+use Rattle.macho_fields.specs.Rules.{BreaksImage}
+use Rattle.macho_fields.specs.Segment.{base_of, section_count}
+use Rattle.macho_fields.specs.declared.rule.Rule.TheVariants as rule
 use Rattle.macho_fields.proofs.Ranks.{rank_most}
+use Rattle.macho_rules.specs.Check.{KeptBefore}
+use Rattle.macho_rules.specs.Verdict.{IsImageRefusal}
+use Rattle.macho_rules.specs.declared.refusal.Refusal.TheVariants as refusal
+use Rattle.macho_rules.proofs.Verdicts.{passed_on}
 use Rattle.macho_rules.proofs.check.check_image.Goals as goal
 
+pub returns-in_err-segment_address-clause-refused : goal.returns-in_err-segment_address-clause-refused
+returns-in_err-segment_address-clause-refused c =
+    let b = c.in_err-segment_address.field-0.0 in
+    passed_on (IsImageRefusal c.args.image.now None) c.from_residual.result (refusal.Broken b) c.from_residual.ensures.1
+    (subst (λ (image : List ℕ). IsLeast (BreaksImage image None) b) c.of-survey.ensures c.in_err-segment_address.ensures)
+
+pub returns-in_err-segment_size-clause-refused : goal.returns-in_err-segment_size-clause-refused
+returns-in_err-segment_size-clause-refused c =
+    let b = c.in_err-segment_size.field-0.0 in
+    passed_on (IsImageRefusal c.args.image.now None) c.from_residual-in_err-segment_size.result (refusal.Broken b) c.from_residual-in_err-segment_size.ensures.1
+    (subst (λ (image : List ℕ). IsLeast (BreaksImage image None) b) c.of-survey.ensures c.in_err-segment_size.ensures)
+
+pub returns-in_err-segment_file-clause-refused : goal.returns-in_err-segment_file-clause-refused
+returns-in_err-segment_file-clause-refused c =
+    let b = c.in_err-segment_file.field-0.0 in
+    passed_on (IsImageRefusal c.args.image.now None) c.from_residual-in_err-segment_file.result (refusal.Broken b) c.from_residual-in_err-segment_file.ensures.1
+    (subst (λ (image : List ℕ). IsLeast (BreaksImage image None) b) c.of-survey.ensures c.in_err-segment_file.ensures)
+
 pub segment_size-requires : goal.segment_size-requires
-segment_size-requires c = search (rules, c.requires)
+segment_size-requires c = c.in_ok-segment_address.ensures
+
+pub segment_overlap-requires-clause-kept : goal.segment_overlap-requires-clause-kept
+segment_overlap-requires-clause-kept c = subst (λ (image : List ℕ). KeptBefore image rule.SegmentOverlap) c.of-survey.ensures c.in_ok-segment_file.ensures
+
+pub section_address-requires : goal.section_address-requires
+section_address-requires c = subst (λ (image : List ℕ). KeptBefore image rule.SectionAddress) (sym c.of-survey.ensures) c.in_ok-segment_overlap.ensures
+
+pub returns-in_err-section_address-clause-refused : goal.returns-in_err-section_address-clause-refused
+returns-in_err-section_address-clause-refused c =
+    let b = c.in_err-section_address.field-0.0 in
+    passed_on (IsImageRefusal c.args.image.now None) c.from_residual-in_err-section_address.result (refusal.Broken b) c.from_residual-in_err-section_address.ensures.1
+    (subst (λ (image : List ℕ). IsLeast (BreaksImage image None) b) c.of-survey.ensures c.in_err-section_address.ensures)
+
+pub returns-in_err-section_file-clause-refused : goal.returns-in_err-section_file-clause-refused
+returns-in_err-section_file-clause-refused c =
+    let b = c.in_err-section_file.field-0.0 in
+    passed_on (IsImageRefusal c.args.image.now None) c.from_residual-in_err-section_file.result (refusal.Broken b) c.from_residual-in_err-section_file.ensures.1
+    (subst (λ (image : List ℕ). IsLeast (BreaksImage image None) b) c.of-survey.ensures c.in_err-section_file.ensures)
+
+pub returns-in_err-section_relocs-clause-refused : goal.returns-in_err-section_relocs-clause-refused
+returns-in_err-section_relocs-clause-refused c =
+    let b = c.in_err-section_relocs.field-0.0 in
+    passed_on (IsImageRefusal c.args.image.now None) c.from_residual-in_err-section_relocs.result (refusal.Broken b) c.from_residual-in_err-section_relocs.ensures.1
+    (subst (λ (image : List ℕ). IsLeast (BreaksImage image None) b) c.of-survey.ensures c.in_err-section_relocs.ensures)
+
+pub table_range-requires : goal.table_range-requires
+table_range-requires c = subst (λ (image : List ℕ). KeptBefore image rule.TableRange) c.of-survey.ensures c.in_ok-section_relocs.ensures
+
+pub of-symbols-requires-clause-sections : goal.of-symbols-requires-clause-sections
+of-symbols-requires-clause-sections c = c.section_count.ensures ∙ ap (λ (image : List ℕ). section_count image (commands_of image)) c.of-survey.ensures
+
+pub symbol_name-requires : goal.symbol_name-requires
+symbol_name-requires c = subst (λ (image : List ℕ). KeptBefore image rule.SymbolName) (sym c.of-symbols.ensures) c.in_ok-symbol_group.ensures
+
+pub returns-in_err-symbol_name-clause-refused : goal.returns-in_err-symbol_name-clause-refused
+returns-in_err-symbol_name-clause-refused c =
+    let b = c.in_err-symbol_name.field-0.0 in
+    passed_on (IsImageRefusal c.args.image.now None) c.from_residual-in_err-symbol_name.result (refusal.Broken b) c.from_residual-in_err-symbol_name.ensures.1
+    (subst (λ (image : List ℕ). IsLeast (BreaksImage image None) b) c.of-symbols.ensures c.in_err-symbol_name.ensures)
+
+pub returns-in_err-symbol_section-clause-refused : goal.returns-in_err-symbol_section-clause-refused
+returns-in_err-symbol_section-clause-refused c =
+    let b = c.in_err-symbol_section.field-0.0 in
+    passed_on (IsImageRefusal c.args.image.now None) c.from_residual-in_err-symbol_section.result (refusal.Broken b) c.from_residual-in_err-symbol_section.ensures.1
+    (subst (λ (image : List ℕ). IsLeast (BreaksImage image None) b) c.of-symbols.ensures c.in_err-symbol_section.ensures)
+
+pub indirect_index-requires : goal.indirect_index-requires
+indirect_index-requires c = subst (λ (image : List ℕ). KeptBefore image rule.IndirectIndex) c.of-symbols.ensures c.in_ok-symbol_section.ensures
+
+pub entry-requires-clause-base : goal.entry-requires-clause-base
+entry-requires-clause-base c = c.base.ensures ∙ ap (λ (image : List ℕ). base_of image (commands_of image)) c.of-survey.ensures
 
 pub returns-clause-unbroken : goal.returns-clause-unbroken
 returns-clause-unbroken c r place broken = c.in_ok-entry.ensures r place (omega (arith, rank_most r)) broken

@@ -12,7 +12,7 @@ use Rattle.macho_rules.proofs.entry.entry.Goals as goal
 pub returns-in_default : goal.returns-in_default
 returns-in_default c =
     let image = c.args.image.now in
-    none_kept image rule.Entry (lit≤ tt) c.requires loader.LC_MAIN (HasNoEntry image (commands_of image)) (λ p broken. broken)
+    none_kept image rule.Entry (lit≤ tt) c.requires.kept loader.LC_MAIN (HasNoEntry image (commands_of image)) (λ p broken. broken)
     (no_first (main_command_at image) _ (sym c.in_default.is ∙ c.main_command.ensures))
 
 pub returns-then-has_no_entry : goal.returns-then-has_no_entry
@@ -20,7 +20,7 @@ returns-then-has_no_entry c =
     let image = c.args.image.now in
     let (d, first, same) = first_at (main_command_at image) _ c.in-Some.main (sym c.in-Some.is ∙ c.main_command.ensures) in
     let at = ap (λ (m : MainCommand). m.place) same in
-    one_broken image rule.Entry (lit≤ tt) c.requires loader.LC_MAIN (HasNoEntry image (commands_of image)) (λ p broken. broken) refl (λ p broken. broken) d first
+    one_broken image rule.Entry (lit≤ tt) c.requires.kept loader.LC_MAIN (HasNoEntry image (commands_of image)) (λ p broken. broken) refl (λ p broken. broken) d first
     (subst (HasNoEntry image (commands_of image)) at (c.has_no_entry.ensures.0 c.if-has_no_entry.true)) c.at.result c.at.ensures.rule (c.at.ensures.place ∙ at)
 
 pub returns : goal.returns
@@ -28,5 +28,5 @@ returns c =
     let image = c.args.image.now in
     let (d, first, same) = first_at (main_command_at image) _ c.in-Some.main (sym c.in-Some.is ∙ c.main_command.ensures) in
     let at = ap (λ (m : MainCommand). m.place) same in
-    one_kept image rule.Entry (lit≤ tt) c.requires loader.LC_MAIN (HasNoEntry image (commands_of image)) (λ p broken. broken) refl d first
+    one_kept image rule.Entry (lit≤ tt) c.requires.kept loader.LC_MAIN (HasNoEntry image (commands_of image)) (λ p broken. broken) refl d first
     (λ none. both_ways c.has_no_entry.result c.if-has_no_entry.false (c.has_no_entry.ensures.1 (subst (HasNoEntry image (commands_of image)) (sym at) none)))

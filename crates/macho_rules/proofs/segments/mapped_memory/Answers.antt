@@ -1,7 +1,7 @@
 use Rattle.std.proofs.Common.{◌++◌, [], ◌∷◌, map, sym, ap, ◌∙◌, arith}
 use Rattle.std.proofs.lemmas.List.{map-append}
 use Rattle.macho_fields.specs.declared.span.Span.{Span}
-use Rattle.macho_rules.specs.Scaffold.{memory_at}
+use Rattle.macho_rules.specs.Mapped.{memory_at}
 use Rattle.macho_rules.proofs.Mapped.{passed_one, passed_over, passed_all, passing_memory}
 use Rattle.macho_rules.proofs.segments.mapped_memory.Goals as goal
 

@@ -1,5 +1,5 @@
 use Rattle.std.proofs.Common.{◌≡◌, ℕ, List, map}
-use Rattle.macho_rules.specs.Scaffold.{memory_at}
+use Rattle.macho_rules.specs.Mapped.{memory_at}
 use Rattle.macho_rules.proofs.Mapped.{ArePassed}
 use Rattle.macho_rules.proofs.segments.mapped_memory.Given as goal
 

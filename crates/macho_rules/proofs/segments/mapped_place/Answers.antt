@@ -1,6 +1,6 @@
 use Rattle.std.proofs.Common.{◌++◌, [], ◌∷◌, ◌≡◌, length, slice_get, Some, sym, ap, ◌∙◌, arith, length-append}
 use Rattle.std.proofs.lemmas.Option.{slice_get_past}
-use Rattle.macho_rules.specs.Mapping.{mapped_segments}
+use Rattle.macho_rules.specs.Mapped.{mapped_segments}
 use Rattle.macho_rules.proofs.Mapped.{passed_one, passed_over, passed_all, mapped_split, get_after}
 use Rattle.macho_rules.proofs.segments.mapped_place.Goals as goal
 

@@ -1,40 +1,29 @@
-use Rattle.std.proofs.Common.{◌≡◌, Some, slice_get, refl, sym, ◌∙◌, subst, arith, lit≤}
-use Rattle.std.specs.Option.{IsSome}
-use Rattle.std.proofs.lemmas.Option.{slice_get-get_or}
+use Rattle.std.proofs.Common.{List, ℕ, subst, lit≤}
+use Rattle.macho_fields.specs.SpanOrder.{IsSharingOf}
 use Rattle.macho_fields.specs.declared.rule.Rule.TheVariants as rule
-use Rattle.macho_rules.specs.Mapping.{mapped_segments}
+use Rattle.macho_rules.specs.Mapped.{tagged_memory}
 use Rattle.macho_rules.proofs.Judged.{keeps_opened, judged_broken, judged_kept}
-use Rattle.macho_rules.proofs.Mapped.{mapped_some}
-use Rattle.macho_rules.proofs.Overlapping.{few_overlapping, none_overlapping, least_overlapping, overlapping_index, without_memory}
+use Rattle.macho_rules.proofs.Overlapping.{none_shown, first_shown, unordered_shown}
 use Rattle.macho_rules.proofs.segments.segment_overlap.Goals as goal
 
-pub returns-then-count-lt2 : goal.returns-then-count-lt2
-returns-then-count-lt2 c =
+pub returns-in-None : goal.returns-in-None
+returns-in-None c =
     let image = c.args.image.now in
-    let opened = keeps_opened image rule.SegmentOverlap (lit≤ tt) c.requires in
-    judged_kept image rule.SegmentOverlap (lit≤ tt) c.requires (few_overlapping image opened (omega (arith, c.if-count-lt2.true, c.mapped_count-count.ensures)))
+    let opened = keeps_opened image rule.SegmentOverlap (lit≤ tt) c.requires.kept in
+    let shown = subst (IsSharingOf (tagged_memory image)) c.in-None.is (subst (λ (bytes : List ℕ). IsSharingOf (tagged_memory bytes) c.sharing.result) c.requires.survey c.sharing.ensures) in
+    judged_kept image rule.SegmentOverlap (lit≤ tt) c.requires.kept (none_shown image opened shown)
 
-pub returns-in_err-spans : goal.returns-in_err-spans
-returns-in_err-spans c =
-    without_memory c.args.image.now c.requires (mapped_some c.args.image.now (omega (arith, c.if-count-lt2.false, c.mapped_count-count.ensures))) c.from_residual.result c.from_residual.ensures.1
-
-pub returns-in_default : goal.returns-in_default
-returns-in_default c =
+pub returns-in-First : goal.returns-in-First
+returns-in-First c =
     let image = c.args.image.now in
-    let opened = keeps_opened image rule.SegmentOverlap (lit≤ tt) c.requires in
-    judged_kept image rule.SegmentOverlap (lit≤ tt) c.requires (none_overlapping image opened c.in_ok-spans.spans c.in_ok-spans.ensures c.in_default.ensures)
+    let opened = keeps_opened image rule.SegmentOverlap (lit≤ tt) c.requires.kept in
+    let shown = subst (IsSharingOf (tagged_memory image)) c.in-First.is (subst (λ (bytes : List ℕ). IsSharingOf (tagged_memory bytes) c.sharing.result) c.requires.survey c.sharing.ensures) in
+    let found = first_shown image opened c.in-First.place shown in
+    judged_broken image rule.SegmentOverlap (lit≤ tt) c.requires.kept c.at.result c.in-First.place c.at.ensures.rule c.at.ensures.place found.0 found.1
 
-pub unwrap-place-requires : goal.unwrap-place-requires
-unwrap-place-requires c =
+pub sorted_overlap-requires-clause-unordered : goal.sorted_overlap-requires-clause-unordered
+sorted_overlap-requires-clause-unordered c =
     let image = c.args.image.now in
-    let opened = keeps_opened image rule.SegmentOverlap (lit≤ tt) c.requires in
-    let less = overlapping_index image opened c.in-Some.index c.in_ok-spans.spans c.in_ok-spans.ensures c.in-Some.ensures in
-    subst IsSome (sym (c.mapped_place.ensures ∙ slice_get-get_or (mapped_segments image) c.in-Some.index 0 less)) refl
-
-pub returns : goal.returns
-returns c =
-    let image = c.args.image.now in
-    let opened = keeps_opened image rule.SegmentOverlap (lit≤ tt) c.requires in
-    let place : slice_get (mapped_segments image) c.in-Some.index ≡ Some c.unwrap-place.result = sym c.mapped_place.ensures ∙ c.unwrap-place.ensures in
-    let found = least_overlapping image opened c.in-Some.index c.unwrap-place.result place c.in_ok-spans.spans c.in_ok-spans.ensures c.in-Some.ensures in
-    judged_broken image rule.SegmentOverlap (lit≤ tt) c.requires c.at.result c.unwrap-place.result c.at.ensures.rule c.at.ensures.place found.0 found.1
+    let opened = keeps_opened image rule.SegmentOverlap (lit≤ tt) c.requires.kept in
+    let shown = subst (IsSharingOf (tagged_memory image)) c.in-Unknown.is (subst (λ (bytes : List ℕ). IsSharingOf (tagged_memory bytes) c.sharing.result) c.requires.survey c.sharing.ensures) in
+    unordered_shown image opened shown

@@ -1,6 +1,7 @@
 use Rattle.std.proofs.Common.{◌≡◌, List, ℕ, length, slice_get, subst}
 use Rattle.macho_fields.specs.Universal.{slices_of, slice_bytes}
-use Rattle.macho_rules.specs.Mapping.{mapped_segments, segment_count, sources, GivesSources}
+use Rattle.macho_rules.specs.Mapped.{mapped_segments}
+use Rattle.macho_rules.specs.Mapping.{segment_count, sources, GivesSources}
 use Rattle.macho_rules.proofs.MappingItems.{some_and}
 use Rattle.macho_rules.proofs.mapping.Mapping.of.Goals as goal
 

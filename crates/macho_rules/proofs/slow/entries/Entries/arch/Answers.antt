@@ -1,4 +1,4 @@
-use Rattle.std.proofs.Common.{◌%◌, ◌^◌, ◌+◌, Some, bit_and, ap, refl, rules, ◌∙◌}
+use Rattle.std.proofs.Common.{◌+◌, Some, bit_and, ap, refl, rules, ◌∙◌}
 use Rattle.std.proofs.lemmas.Grind.{and_numeral}
 use Rattle.macho_fields.specs.Bytes.{bytes_of}
 use Rattle.macho_fields.specs.Field.{number}

@@ -1,0 +1,46 @@
+use Rattle.std.proofs.Common.{◌≡◌, ◌++◌, [], ◌∷◌, ◌<◌, ◌^◌, List, ℕ, length, sym, ap, ◌∙◌, subst, arith}
+use Rattle.macho_rules.specs.Survey.{AreFirstSections, IsSurveyOf, sections_among}
+use Rattle.macho_rules.proofs.Surveys.{walked, walked_on, walked_all, walked_image, segments_end_by, all_end_by, segments_noted, sections_append, counted_more, survey_found}
+use Rattle.macho_rules.proofs.survey.Survey.of.Goals as goal
+
+pub note-requires : goal.note-requires
+note-requires c =
+    let are = c.into_iter-segment-iterator.ensures.into_iter_gives ∙ c.segments-segment-items.ensures.segments in
+    let (seen, reached, _, _, _, _) = c.loop-segment.invariant in
+    let here = walked _ seen _ c.in-Some.segment _ reached c.in-Some.ensures.steps in
+    c.bytes-bytes.ensures.bytes ∙ sym (walked_image c.args.image.now c.segments-segment-items.ensures.opened _ are seen c.in-Some.segment _ here)
+
+pub note_all-requires : goal.note_all-requires
+note_all-requires c =
+    let are = c.into_iter-segment-iterator.ensures.into_iter_gives ∙ c.segments-segment-items.ensures.segments in
+    let (seen, reached, _, _, _, _) = c.loop-segment.invariant in
+    let here = walked _ seen _ c.in-Some.segment _ reached c.in-Some.ensures.steps in
+    c.bytes-bytes.ensures.bytes ∙ sym (walked_image c.args.image.now c.segments-segment-items.ensures.opened _ are seen c.in-Some.segment _ here)
+
+pub loop-segment-preserved : goal.loop-segment-preserved
+loop-segment-preserved c =
+    let image = c.args.image.now in
+    let opened = c.segments-segment-items.ensures.opened in
+    let are = c.into_iter-segment-iterator.ensures.into_iter_gives ∙ c.segments-segment-items.ensures.segments in
+    let (seen, reached, segments, sections, mapped, count) = c.loop-segment.invariant in
+    let s = c.in-Some.segment in
+    let here = walked _ seen _ s _ reached c.in-Some.ensures.steps in (
+      seen ++ s ∷ [],
+      walked_on _ seen _ s _ reached c.in-Some.ensures.steps,
+      segments_noted seen s c.loop-segment.segments c.note.new.self (segments_end_by image opened _ are seen s _ here) c.note.ensures.address c.note.ensures.size c.note.ensures.file segments,
+      subst (λ xs. AreFirstSections xs c.note_all.new.self) (sym (sections_append seen s)) (c.note_all.ensures (sections_among seen) (all_end_by image opened _ are seen s _ here) sections),
+      c.note-in-loop-segment.ensures seen mapped,
+      counted_more seen s c.loop-segment.section_count c.nsects.result c.saturating_add-section_count.result (omega (arith, c.saturating_add-section_count.ensures)) c.nsects.ensures count,
+    )
+
+pub invariant_of-result : goal.invariant_of-result
+invariant_of-result c =
+    let image = c.args.image.now in
+    let opened = c.segments-segment-items.ensures.opened in
+    let are = c.into_iter-segment-iterator.ensures.into_iter_gives ∙ c.segments-segment-items.ensures.segments in
+    let (seen, reached, segments, sections, mapped, count) = c.loop-segment.invariant in
+    let all = sym (walked_all _ seen _ reached c.in-None.ensures.steps.0) ∙ are in
+    let size : c.len.result ≡ length image = c.len.ensures ∙ ap length c.bytes-bytes.ensures.bytes in
+    let short : length image < 2 ^ 64 = omega (arith, size, c.len.type_inv) in
+    subst (λ (bytes : List ℕ). IsSurveyOf bytes c.loop-segment.segments c.loop-segment.sections c.loop-segment.mapped c.loop-segment.section_count) (sym c.bytes-bytes.ensures.bytes)
+    (survey_found image opened seen all c.loop-segment.segments c.loop-segment.sections c.loop-segment.mapped c.loop-segment.section_count short segments sections mapped count)

@@ -1,0 +1,28 @@
+-- The mapped segments of an image, and their addresses.
+use Rattle.std.specs.Prelude.{ℕ, List, map, filter, nat_lt}
+use Rattle.macho_fields.specs.Image.{commands_of}
+use Rattle.macho_fields.specs.Overlap.{IsAscending, IsDescending}
+use Rattle.macho_fields.specs.Segment.{segments_of, vmaddr, vmsize}
+use Rattle.macho_fields.specs.declared.span.Span.{Span}
+
+-- the segments of an image that have addresses
+abbrev pub mapped_segments : List ℕ → List ℕ
+mapped_segments image =
+    filter (λ segment. nat_lt 0 (vmsize image segment)) (segments_of image (commands_of image))
+
+-- the addresses of the segment whose command is at the place
+abbrev pub memory_at : List ℕ → ℕ → Span
+memory_at image segment = record { start = vmaddr image segment; len = vmsize image segment }
+
+-- the addresses of the mapped segments, in the order of the commands
+abbrev pub mapped_memory : List ℕ → List Span
+mapped_memory image = map (memory_at image) (mapped_segments image)
+
+-- the same, each with the place of its command
+abbrev pub tagged_memory : List ℕ → List (Span × ℕ)
+tagged_memory image = map (λ segment. (memory_at image segment, segment)) (mapped_segments image)
+
+-- their addresses neither ascend nor descend from one to the next
+abbrev pub IsUnordered : List ℕ → Type 0
+IsUnordered image =
+    (¬ IsAscending (mapped_memory image)) × (¬ IsDescending (mapped_memory image))
