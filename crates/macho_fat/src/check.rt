@@ -8,17 +8,15 @@ ghost use Rattle.macho_fields.specs.Universal.{is_universal, IsImage};
 ghost use Rattle.macho_fat.specs.Slices.{IsFatFault};
 
 use crate::fault::FatFault;
-use crate::rules::{
-    Format, fat_align, fat_duplicate, fat_empty, fat_overlap, fat_slice_in_table, fat_slice_magic,
-    fat_slice_outside, fat_truncated, magic,
-};
+use crate::rules::{Format, Magics, fat_truncated, magic};
+use crate::survey::Survey;
 use crate::table::Table;
 use macho_fields::Bytes;
 use std::alloc::Global;
 
 /// Decides the rules of a file, from `magic` to `fat-empty`, and returns the first broken one,
-/// otherwise the table of a universal file. A file that is one image has none. Memory is taken for
-/// `fat-overlap` and `fat-duplicate` alone.
+/// otherwise the table of a universal file. A file that is one image has none. Memory is taken only
+/// for `fat-overlap` and `fat-duplicate`, where the entries are in no order.
 pub(crate) fn check_file<'a>(alloc: Global, file: Bytes<'a>) -> Result<Option<Table<'a>>, FatFault>
     ensures unbroken { OnOk result (NothingBreaks (BreaksFile (bytes_of file.entry))) }
     ensures refused { IfErr result (IsFatFault (bytes_of file.entry)) }
@@ -30,12 +28,14 @@ pub(crate) fn check_file<'a>(alloc: Global, file: Bytes<'a>) -> Result<Option<Ta
         Format::Image => return Ok(None),
         Format::Universal => fat_truncated(file)?,
     };
-    fat_slice_outside(&table)?;
-    fat_slice_in_table(&table)?;
-    fat_align(&table)?;
-    fat_overlap(alloc, &table)?;
-    fat_duplicate(alloc, &table)?;
-    fat_slice_magic(&table)?;
-    fat_empty(&table)?;
+    let survey = Survey::of(&table);
+    survey.fat_slice_outside()?;
+    survey.fat_slice_in_table()?;
+    survey.fat_align()?;
+    survey.fat_overlap(alloc)?;
+    survey.fat_duplicate(alloc)?;
+    let magics = Magics::of(&table);
+    magics.fat_slice_magic()?;
+    magics.fat_empty()?;
     Ok(Some(table))
 }

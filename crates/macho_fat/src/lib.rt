@@ -4,7 +4,9 @@
 mod check;
 pub mod fault;
 mod rules;
+mod sharing;
 pub mod slice;
+mod survey;
 mod table;
 
 pub use fault::FatFault;

@@ -1,21 +1,20 @@
-//! The rules of a file, one a function: each takes over where the rules before it are unbroken.
-//! (`mach-o/fat.h`)
+//! The rules of the header of a file, and of the magic numbers of its slices, one a function: each
+//! takes over where the rules before it are unbroken. (`mach-o/fat.h`)
 
-ghost use Rattle.std.specs.Prelude.{◌≡◌, ◌≤◌, ◌<◌, ◌↔◌, ℕ, IsTrue, IfOk, OnErr, MatchOption};
+ghost use Rattle.std.specs.Prelude.{◌≡◌, ◌↔◌, IsTrue, IfOk};
 ghost use Rattle.macho_fields.specs.Bytes.{bytes_of};
 ghost use Rattle.macho_fields.specs.First.{rank};
 ghost use Rattle.macho_fields.specs.Layers.{KeptBelow, Continues};
 ghost use Rattle.macho_fields.specs.Rules.{BreaksFile};
-ghost use Rattle.macho_fields.specs.Universal.{IsUniversal, IsImage, IsUnreadImage, IsForeign, IsMultiple, entry_count, entry_slice, slice_bytes};
+ghost use Rattle.macho_fields.specs.Universal.{IsUniversal, IsImage, IsUnreadImage};
 ghost use Rattle.macho_fields.specs.declared.rule.Rule.{Rule};
-ghost use Rattle.macho_fat.specs.Scaffold.{ContinuesWithMemory, HasTable, IsFormat, FindsFirstSharing, lesser_of};
+ghost use Rattle.macho_fat.specs.Scaffold.{IsFormat};
 
-use crate::fault::FatFault;
-use crate::table::{Entry, NFAT_ARCH, Table, entry_size};
+use crate::table::{NFAT_ARCH, Table, entry_size};
 use macho_fields::header::fat::{FAT_HEADER_SIZE, FAT_MAGIC, FAT_MAGIC_64};
 use macho_fields::header::loader::{MH_MAGIC, MH_MAGIC_64};
-use macho_fields::{Break, Bytes, Order, Rule, Span, SpanList};
-use std::alloc::{AllocError, Global};
+use macho_fields::{Break, Bytes, Order, Rule};
+use std::marker::Model;
 
 /// What a file is, by the magic number with which it begins.
 #[derive(Clone, Copy)]
@@ -56,162 +55,79 @@ pub(crate) fn fat_truncated(file: Bytes) -> Result<Table, Break>
     Ok(Table::new(file, wide, count))
 }
 
-/// Each slice lies inside the file.
-pub(crate) fn fat_slice_outside(table: &Table) -> Result<(), Break>
-    requires { KeptBelow (BreaksFile table.now) (rank Rule.FatSliceOutside) }
-    ensures { Continues (BreaksFile table.now) Rule.FatSliceOutside result }
-{
-    for k in 0..table.count() {
-        let entry = table.entry(k);
-        if !table.contains(entry.span) {
-            return Err(entry.breaks(Rule::FatSliceOutside));
+/// A table, and what a walk over its slices has found of the magic numbers with which they begin.
+#[derive(Drop)]
+pub(crate) struct Magics<'t, 'a> {
+    table: &'t Table<'a>,
+    /// The least place of a slice that begins with the magic number of no image.
+    foreign: Option<u64>,
+    /// Whether some slice is a 64-bit little-endian image.
+    has_image: bool,
+}
+
+impl<'t, 'a> Model for Magics<'t, 'a> {
+    ghost use Rattle.std.specs.Prelude.{List, ℕ};
+    ghost use Rattle.macho_fat.specs.Scaffold.{AreMagics};
+
+    ghost Value = { List ℕ };
+
+    ghost view = { λ magics. magics.table.now };
+
+    ghost invariant = { λ magics. AreMagics magics.table.now magics.foreign magics.has_image };
+}
+
+impl<'t, 'a> Magics<'t, 'a> {
+    ghost use Rattle.std.specs.Prelude.{◌≡◌, ℕ};
+    ghost use Rattle.macho_fields.specs.First.{rank};
+    ghost use Rattle.macho_fields.specs.Layers.{KeptBelow, Continues};
+    ghost use Rattle.macho_fields.specs.Rules.{BreaksFile};
+    ghost use Rattle.macho_fields.specs.declared.rule.Rule.{Rule};
+
+    /// Goes over the slices of a table once, all of which lie inside the file.
+    pub(crate) fn of(table: &'t Table<'a>) -> Magics<'t, 'a>
+        requires { (place : ℕ) → ¬ BreaksFile table.now Rule.FatSliceOutside place }
+        ensures { result ≡ table.now }
+    {
+        let mut foreign = None;
+        let mut has_image = false;
+        for k in 0..table.count() {
+            let bytes = table.slice_bytes(k);
+            if is_image(bytes) {
+                has_image = true;
+            } else if !is_unread_image(bytes) {
+                let start = table.entry(k).span.start;
+                foreign = Some(foreign.unwrap_or(start).min(start));
+            }
+        }
+        Magics {
+            table,
+            foreign,
+            has_image,
         }
     }
-    Ok(())
-}
 
-/// Each slice begins after the table.
-pub(crate) fn fat_slice_in_table(table: &Table) -> Result<(), Break>
-    requires { KeptBelow (BreaksFile table.now) (rank Rule.FatSliceInTable) }
-    ensures { Continues (BreaksFile table.now) Rule.FatSliceInTable result }
-{
-    for k in 0..table.count() {
-        let entry = table.entry(k);
-        if entry.span.start < table.end() {
-            return Err(entry.breaks(Rule::FatSliceInTable));
+    /// Each slice begins with the magic number of an image, which may be one that is not read.
+    pub(crate) fn fat_slice_magic(&self) -> Result<(), Break>
+        requires { KeptBelow (BreaksFile self.now) (rank Rule.FatSliceMagic) }
+        ensures { Continues (BreaksFile self.now) Rule.FatSliceMagic result }
+    {
+        match self.foreign {
+            Some(place) => Err(Break::at(Rule::FatSliceMagic, place)),
+            None => Ok(()),
         }
     }
-    Ok(())
-}
 
-/// The offset of each slice is a multiple of its alignment.
-pub(crate) fn fat_align(table: &Table) -> Result<(), Break>
-    requires { KeptBelow (BreaksFile table.now) (rank Rule.FatAlign) }
-    ensures { Continues (BreaksFile table.now) Rule.FatAlign result }
-{
-    for k in 0..table.count() {
-        let entry = table.entry(k);
-        if !is_aligned(entry.span.start, entry.align) {
-            return Err(entry.breaks(Rule::FatAlign));
+    /// Some slice is a 64-bit little-endian image.
+    pub(crate) fn fat_empty(&self) -> Result<(), Break>
+        requires { KeptBelow (BreaksFile self.now) (rank Rule.FatEmpty) }
+        ensures { Continues (BreaksFile self.now) Rule.FatEmpty result }
+    {
+        if self.has_image {
+            Ok(())
+        } else {
+            Err(Break::at(Rule::FatEmpty, NFAT_ARCH))
         }
     }
-    Ok(())
-}
-
-/// Whether 2 to the power of `align` divides an offset, which no power past the 63rd does.
-fn is_aligned(offset: u64, align: u32) -> bool
-    requires { 0 < offset }
-    ensures { IsTrue result ↔ IsMultiple align offset }
-{
-    match 1u64.checked_shl(align) {
-        Some(alignment) => offset % alignment == 0,
-        None => false,
-    }
-}
-
-/// No slice has a byte in common with an earlier one. Memory is taken for the spans of the slices,
-/// where there are two.
-pub(crate) fn fat_overlap(alloc: Global, table: &Table) -> Result<(), FatFault>
-    requires { KeptBelow (BreaksFile table.now) (rank Rule.FatOverlap) }
-    ensures { ContinuesWithMemory (BreaksFile table.now) Rule.FatOverlap result }
-{
-    match first_sharing(alloc, table, |entry| entry.span)? {
-        Some(entry) => Err(FatFault::Broken(entry.breaks(Rule::FatOverlap))),
-        None => Ok(()),
-    }
-}
-
-/// No slice has the architecture of an earlier one. Memory is taken for spans that stand for the
-/// architectures, where there are two.
-pub(crate) fn fat_duplicate(alloc: Global, table: &Table) -> Result<(), FatFault>
-    requires { KeptBelow (BreaksFile table.now) (rank Rule.FatDuplicate) }
-    ensures { ContinuesWithMemory (BreaksFile table.now) Rule.FatDuplicate result }
-{
-    match first_sharing(alloc, table, Entry::arch_span)? {
-        Some(entry) => Err(FatFault::Broken(entry.breaks(Rule::FatDuplicate))),
-        None => Ok(()),
-    }
-}
-
-/// The first entry whose span, as `span_of` returns it, shares a place with that of an earlier entry.
-/// This takes time in the order of n log n for n entries, and 24 bytes an entry. Fewer than two
-/// entries take no memory.
-fn first_sharing<F: Fn(Entry) -> Span>(
-    alloc: Global,
-    table: &Table,
-    span_of: F,
-) -> Result<Option<Entry>, AllocError>
-    requires { F.IsAlwaysCallable span_of }
-    ensures first { IfOk result (FindsFirstSharing (F.post span_of) table.now) }
-    ensures memory { OnErr result (2 ≤ entry_count table.now) }
-    ensures table { HasTable table.now }
-{
-    if table.count() < 2 {
-        return Ok(None);
-    }
-    let mut spans = SpanList::with_capacity(alloc, table.count() as usize)?;
-    for k in 0..table.count() {
-        spans.push(span_of(table.entry(k)))?;
-    }
-    let Some(k) = spans.least_overlap() else {
-        return Ok(None);
-    };
-    Ok(Some(table.entry(k as u32)))
-}
-
-/// Each slice begins with the magic number of an image, which may be one that is not read.
-pub(crate) fn fat_slice_magic(table: &Table) -> Result<(), Break>
-    requires { KeptBelow (BreaksFile table.now) (rank Rule.FatSliceMagic) }
-    ensures { Continues (BreaksFile table.now) Rule.FatSliceMagic result }
-{
-    let mut least = None;
-    for k in 0..table.count() {
-        least = lesser(least, foreign_place(table, k));
-    }
-    match least {
-        Some(place) => Err(Break::at(Rule::FatSliceMagic, place)),
-        None => Ok(()),
-    }
-}
-
-/// Where the slice of entry `k` begins, if it does so with the magic number of no image.
-fn foreign_place(table: &Table, k: u32) -> Option<u64>
-    requires entry { k < entry_count table.now }
-    requires inside { (place : ℕ) → ¬ BreaksFile table.now Rule.FatSliceOutside place }
-    ensures { let slice = entry_slice table.now k in
-        MatchOption result (¬ IsForeign (slice_bytes table.now slice))
-        (λ place. (place ≡ slice.start) × IsForeign (slice_bytes table.now slice)) }
-{
-    let bytes = table.slice_bytes(k);
-    if is_image(bytes) || is_unread_image(bytes) {
-        None
-    } else {
-        Some(table.entry(k).span.start)
-    }
-}
-
-/// The lesser of two places, either of which may be missing.
-fn lesser(a: Option<u64>, b: Option<u64>) -> Option<u64>
-    ensures { result ≡ lesser_of a b }
-{
-    match (a, b) {
-        (Some(a), Some(b)) => Some(a.min(b)),
-        (a, None) => a,
-        (None, b) => b,
-    }
-}
-
-/// Some slice is a 64-bit little-endian image.
-pub(crate) fn fat_empty(table: &Table) -> Result<(), Break>
-    requires { KeptBelow (BreaksFile table.now) (rank Rule.FatEmpty) }
-    ensures { Continues (BreaksFile table.now) Rule.FatEmpty result }
-{
-    for k in 0..table.count() {
-        if is_image(table.slice_bytes(k)) {
-            return Ok(());
-        }
-    }
-    Err(Break::at(Rule::FatEmpty, NFAT_ARCH))
 }
 
 /// Whether the bytes begin with the magic number of a 64-bit little-endian image.

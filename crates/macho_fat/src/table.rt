@@ -5,7 +5,7 @@ ghost use Rattle.std.specs.Prelude.{◌≡◌, if◌then◌else◌};
 
 use macho_fields::header::fat::{FAT_ARCH_64_SIZE, FAT_ARCH_SIZE, FAT_HEADER_SIZE};
 use macho_fields::header::machine::CPU_SUBTYPE_MASK;
-use macho_fields::{Break, Bytes, Order, Rule, Span};
+use macho_fields::{Bytes, Order, Span};
 use std::marker::Model;
 
 /// `fat_header.nfat_arch`
@@ -101,14 +101,6 @@ impl Entry {
             len: 1,
         }
     }
-
-    /// The break of a rule at this entry.
-    pub(crate) fn breaks(self, rule: Rule) -> Break
-        ensures rule { result.rule ≡ rule }
-        ensures place { result.place ≡ self.place }
-    {
-        Break::at(rule, self.place)
-    }
 }
 
 impl<'a> Table<'a> {
@@ -180,7 +172,7 @@ impl<'a> Table<'a> {
         requires inside { (place : ℕ) → ¬ BreaksFile self.now Rule.FatSliceOutside place }
         ensures { bytes_of result ≡ slice_bytes self.now (entry_slice self.now k) }
     {
-        Bytes::new(self.file.part(self.entry(k).span).unwrap())
+        Bytes::new(self.file.read_part(self.entry(k).span))
     }
 
     /// A field that has 64 bits in a `fat_arch_64`, and 32 bits in a `fat_arch`.
@@ -200,13 +192,13 @@ impl<'a> Table<'a> {
         requires { place + 4 ≤ length self.now }
         ensures { result ≡ number Order.Big 4 self.now place }
     {
-        self.file.u32_at(Order::Big, place).unwrap()
+        self.file.read_u32(Order::Big, place)
     }
 
     fn long_at(&self, place: u64) -> u64
         requires { place + 8 ≤ length self.now }
         ensures { result ≡ number Order.Big 8 self.now place }
     {
-        self.file.u64_at(Order::Big, place).unwrap()
+        self.file.read_u64(Order::Big, place)
     }
 }
