@@ -301,11 +301,14 @@ struct span {
 // What is known of spans that come one after another. Those that ascend or descend share no number.
 struct order {
     uint64_t count;
-    uint64_t start, last; // of the latest
     bool ascends, descends;
+    uint64_t start, last; // of the latest, where there is one
 };
 
-static const struct order no_spans = {.ascends = true, .descends = true};
+static inline void begin_order(struct order *order) {
+    order->count = 0;
+    order->ascends = order->descends = true;
+}
 
 static inline void follow(struct order *order, uint64_t start, uint64_t last) {
     if (order->count != 0) {
@@ -530,7 +533,9 @@ static void judge_fat_duplicate(const struct universal *file, struct breaks *bre
 
 // The rules of the entries, up to fat-duplicate.
 static void judge_entries(const struct universal *file, struct breaks *breaks) {
-    struct order bytes = no_spans, archs = no_spans;
+    struct order bytes, archs;
+    begin_order(&bytes);
+    begin_order(&archs);
     for (uint64_t k = 0; k < file->nfat_arch; k++) {
         struct entry entry = read_entry(file, k);
         if (breaks_fat_slice_outside(file, &entry)) {
@@ -558,7 +563,8 @@ static void judge_entries(const struct universal *file, struct breaks *breaks) {
 
 // Images
 
-// The places of the first and the last command of a kind; 0 where there is none, since commands begin after the header.
+// The places of the first and the last command of a kind. The first is 0 where there is none, and the last nothing then;
+// commands begin after the header.
 struct range {
     uint64_t first, last;
 };
@@ -574,11 +580,11 @@ struct image {
     uint64_t commands_end;
     // The places of commands that stand once; 0 where there is none.
     uint64_t symtab, dysymtab, id_dylib, uuid, main;
-    struct range builds, segments, libraries;
-    struct order addresses; // of the mapped segments
-    uint64_t section_count;
     bool has_base;
     uint64_t base;
+    struct range builds, segments, libraries;
+    uint64_t section_count;
+    struct order addresses; // of the mapped segments
 };
 
 static void note_in(const struct image *image, enum rule rule, uint64_t place) {
@@ -1097,13 +1103,25 @@ static void walk(struct image *image) {
 
 // The judgment
 
-// The rules up to table-range, but for segment-overlap. The slice lies in the file; `entry` has the architecture of its
-// entry, and is NULL where the file is not universal.
-static void survey(struct image *image, const struct file *file, uint64_t start, uint64_t size,
-                   const struct arch *entry, struct breaks *breaks) {
-    const uint8_t *header = file->bytes + start;
-    *image = (struct image){.breaks = breaks, .bytes = header, .size = size, .start = start, .addresses = no_spans};
-    if (breaks_header_truncated(size)) {
+// An image in which nothing is found yet. Its slice lies in the file.
+static inline void begin_image(struct image *image, const struct file *file, uint64_t start, uint64_t size,
+                               struct breaks *breaks) {
+    image->breaks = breaks;
+    image->bytes = file->bytes + start;
+    image->size = size;
+    image->start = start;
+    image->symtab = image->dysymtab = image->id_dylib = image->uuid = image->main = 0;
+    image->has_base = false;
+    image->builds.first = image->segments.first = image->libraries.first = 0;
+    image->section_count = 0;
+    begin_order(&image->addresses);
+}
+
+// The rules up to table-range, but for segment-overlap. `entry` has the architecture of the slice's entry, and is NULL
+// where the file is not universal.
+static void survey(struct image *image, const struct arch *entry) {
+    const uint8_t *header = image->bytes;
+    if (breaks_header_truncated(image->size)) {
         note_in(image, HEADER_TRUNCATED, 0);
         return;
     }
@@ -1162,7 +1180,8 @@ static void judge_slices(const struct file *file, const struct universal *univer
         } else if (is_read(universal, &entry)) {
             is_empty = false;
             if (breaks->broken == 0) {
-                survey(&image, file, entry.offset, entry.size, &entry.arch, breaks);
+                begin_image(&image, file, entry.offset, entry.size, breaks);
+                survey(&image, &entry.arch);
                 judge_surveyed(&image);
             }
         }
@@ -1471,7 +1490,8 @@ static void print_universal(const struct file *file, const struct universal *uni
     for (uint64_t k = 0; k < universal->nfat_arch; k++) {
         struct entry entry = read_entry(universal, k);
         if (is_read(universal, &entry)) {
-            survey(&image, file, entry.offset, entry.size, &entry.arch, breaks);
+            begin_image(&image, file, entry.offset, entry.size, breaks);
+            survey(&image, &entry.arch);
             print_image(k, &image);
         } else {
             print_slice(k, &entry.arch, entry.offset, entry.size, "not read");
@@ -1508,7 +1528,8 @@ static struct file read_input(void) {
 // Judges a file that is an image, and prints its layout where it breaks no rule.
 static void check_image(const struct file *file, struct breaks *breaks) {
     struct image image;
-    survey(&image, file, 0, file->size, NULL, breaks);
+    begin_image(&image, file, 0, file->size, breaks);
+    survey(&image, NULL);
     judge_surveyed(&image);
     if (breaks->broken == 0) {
         print_accepted(1);
