@@ -3,11 +3,11 @@
 //
 //     cc -std=c99 -O2 -o floor bench/floor.c && ./floor <FILE
 //
-// It shows how fast C can be at this. bench/speed runs it beside the program, and tests/floor tries its answers. Nothing
-// is walked twice without need: one walk over the load commands judges each command, segment and section, and notes the
-// least place at which each rule is broken; one loop judges the symbols. Ranges are sorted only where they neither
-// ascend nor descend. The file is read as bench/speed reads it: standard input has to be a file, of 4 GiB at most.
-// Where it cannot be read, or there is no memory, or writing fails, there is no verdict (status 3, 4 and 3).
+// It shows how fast C can be at this. bench/speed runs it beside the program, and tests/floor tries its answers.
+// Nothing is walked twice without need: one walk over the load commands judges each command, segment and section, and
+// notes the least place at which each rule is broken; one loop judges the symbols. Ranges are sorted only where they
+// neither ascend nor descend. The file is read as bench/speed reads it: standard input has to be a file, of 4 GiB at
+// most. Where it cannot be read, or there is no memory, or writing fails, there is no verdict (status 3, 4 and 3).
 //
 // Structures and constants have their public names. The rules stand in the order of docs/RULES.md, a function for each:
 // of the file, of the header and the load commands, of segments and sections, of tables and symbols, and of the entry.
@@ -255,14 +255,37 @@ enum rule {
 };
 
 static const char *const rule_names[RULE_COUNT] = {
-    "magic", "fat-truncated", "fat-slice-outside", "fat-slice-in-table", "fat-align", "fat-overlap", "fat-duplicate",
-    "fat-slice-magic", "fat-empty",
-    "header-truncated", "arch-mismatch", "file-type", "commands-outside", "command-walk", "command-short",
-    "command-repeated", "dylib-id", "name",
-    "segment-address", "segment-size", "segment-file", "segment-overlap", "section-address", "section-file",
-    "section-relocs",
-    "table-range", "symbol-group", "symbol-name", "symbol-section", "indirect-index",
-    "entry",
+    [MAGIC] = "magic",
+    [FAT_TRUNCATED] = "fat-truncated",
+    [FAT_SLICE_OUTSIDE] = "fat-slice-outside",
+    [FAT_SLICE_IN_TABLE] = "fat-slice-in-table",
+    [FAT_ALIGN] = "fat-align",
+    [FAT_OVERLAP] = "fat-overlap",
+    [FAT_DUPLICATE] = "fat-duplicate",
+    [FAT_SLICE_MAGIC] = "fat-slice-magic",
+    [FAT_EMPTY] = "fat-empty",
+    [HEADER_TRUNCATED] = "header-truncated",
+    [ARCH_MISMATCH] = "arch-mismatch",
+    [FILE_TYPE] = "file-type",
+    [COMMANDS_OUTSIDE] = "commands-outside",
+    [COMMAND_WALK] = "command-walk",
+    [COMMAND_SHORT] = "command-short",
+    [COMMAND_REPEATED] = "command-repeated",
+    [DYLIB_ID] = "dylib-id",
+    [NAME] = "name",
+    [SEGMENT_ADDRESS] = "segment-address",
+    [SEGMENT_SIZE] = "segment-size",
+    [SEGMENT_FILE] = "segment-file",
+    [SEGMENT_OVERLAP] = "segment-overlap",
+    [SECTION_ADDRESS] = "section-address",
+    [SECTION_FILE] = "section-file",
+    [SECTION_RELOCS] = "section-relocs",
+    [TABLE_RANGE] = "table-range",
+    [SYMBOL_GROUP] = "symbol-group",
+    [SYMBOL_NAME] = "symbol-name",
+    [SYMBOL_SECTION] = "symbol-section",
+    [INDIRECT_INDEX] = "indirect-index",
+    [ENTRY] = "entry",
 };
 
 // The rules that were found broken, a bit for each, and the least place in the file at which each of these is. The
@@ -298,31 +321,40 @@ struct span {
     uint64_t start, last, place;
 };
 
-// What is known of spans that come one after another. Those that ascend or descend share no number.
+#define NOWHERE UINT64_MAX
+
+// What is known of spans that come one after another, by ascending places. As long as they ascend or descend, no two
+// share a number. Where the first that breaks this order shares one with the latest before it, its place is the least
+// of those that share one with an earlier span, and nothing has to be sorted.
 struct order {
     uint64_t count;
     bool ascends, descends;
+    uint64_t shared; // that place, or NOWHERE
     uint64_t start, last; // of the latest, where there is one
 };
 
 static inline void begin_order(struct order *order) {
     order->count = 0;
     order->ascends = order->descends = true;
+    order->shared = NOWHERE;
 }
 
-static inline void follow(struct order *order, uint64_t start, uint64_t last) {
-    if (order->count != 0) {
-        order->ascends = order->ascends && start > order->last;
-        order->descends = order->descends && last < order->start;
+static inline bool is_in_order(const struct order *order) {
+    return order->ascends || order->descends;
+}
+
+static inline void follow(struct order *order, uint64_t start, uint64_t last, uint64_t place) {
+    if (order->count != 0 && is_in_order(order)) {
+        bool is_above = start > order->last, is_below = last < order->start;
+        order->ascends = order->ascends && is_above;
+        order->descends = order->descends && is_below;
+        if (!is_above && !is_below) {
+            order->shared = place;
+        }
     }
     order->count++;
     order->start = start;
     order->last = last;
-}
-
-// Whether the spans have to be sorted to see which of them share a number.
-static bool needs_sorting(const struct order *order) {
-    return !order->ascends && !order->descends;
 }
 
 enum { DIGIT_BITS = 11, DIGIT_COUNT = 1 << DIGIT_BITS };
@@ -366,8 +398,6 @@ static struct span *sort(struct span *spans, size_t count) {
     return spans;
 }
 
-#define NOWHERE UINT64_MAX
-
 // The least place of a span that shares a number with one of a lesser place; NOWHERE where no two share one. The
 // spans are sorted by their starts. Of two that share a number the one of the greater place is that place's candidate,
 // and is left out of what follows, as is each span of a place past it: they can give no lesser one. So the spans that
@@ -401,7 +431,7 @@ static struct span *room_for(uint64_t count) {
 }
 
 // Notes the rule at the least place of a span that shares a number with an earlier one, and gives the room back.
-static void judge_shared(struct breaks *breaks, enum rule rule, struct span *spans, size_t count) {
+static void judge_spans(struct breaks *breaks, enum rule rule, struct span *spans, size_t count) {
     uint64_t place = least_shared(sort(spans, count), count);
     if (place != NOWHERE) {
         note(breaks, rule, place);
@@ -504,7 +534,7 @@ static inline bool breaks_fat_slice_magic(const struct universal *file, const st
 }
 
 // An empty slice shares no byte.
-static void judge_fat_overlap(const struct universal *file, uint64_t filled, struct breaks *breaks) {
+static void sort_slices(const struct universal *file, uint64_t filled, struct breaks *breaks) {
     struct span *spans = room_for(filled);
     size_t count = 0;
     for (uint64_t k = 0; k < file->nfat_arch; k++) {
@@ -513,7 +543,15 @@ static void judge_fat_overlap(const struct universal *file, uint64_t filled, str
             spans[count++] = (struct span){entry.offset, entry.offset + (entry.size - 1), entry_place(file, k)};
         }
     }
-    judge_shared(breaks, FAT_OVERLAP, spans, count);
+    judge_spans(breaks, FAT_OVERLAP, spans, count);
+}
+
+static void judge_fat_overlap(const struct universal *file, const struct order *bytes, struct breaks *breaks) {
+    if (bytes->shared != NOWHERE) {
+        note(breaks, FAT_OVERLAP, bytes->shared);
+    } else if (!is_in_order(bytes)) {
+        sort_slices(file, bytes->count, breaks);
+    }
 }
 
 // An architecture as one number.
@@ -521,14 +559,22 @@ static inline uint64_t arch_number(const struct arch *arch) {
     return arch->cputype << 24 | arch->cpusubtype;
 }
 
-static void judge_fat_duplicate(const struct universal *file, struct breaks *breaks) {
+static void sort_archs(const struct universal *file, struct breaks *breaks) {
     struct span *spans = room_for(file->nfat_arch);
     for (uint64_t k = 0; k < file->nfat_arch; k++) {
         struct entry entry = read_entry(file, k);
         uint64_t number = arch_number(&entry.arch);
         spans[k] = (struct span){number, number, entry_place(file, k)};
     }
-    judge_shared(breaks, FAT_DUPLICATE, spans, file->nfat_arch);
+    judge_spans(breaks, FAT_DUPLICATE, spans, file->nfat_arch);
+}
+
+static void judge_fat_duplicate(const struct universal *file, const struct order *archs, struct breaks *breaks) {
+    if (archs->shared != NOWHERE) {
+        note(breaks, FAT_DUPLICATE, archs->shared);
+    } else if (!is_in_order(archs)) {
+        sort_archs(file, breaks);
+    }
 }
 
 // The rules of the entries, up to fat-duplicate.
@@ -538,33 +584,33 @@ static void judge_entries(const struct universal *file, struct breaks *breaks) {
     begin_order(&archs);
     for (uint64_t k = 0; k < file->nfat_arch; k++) {
         struct entry entry = read_entry(file, k);
+        uint64_t place = entry_place(file, k), arch = arch_number(&entry.arch);
         if (breaks_fat_slice_outside(file, &entry)) {
-            note(breaks, FAT_SLICE_OUTSIDE, entry_place(file, k));
+            note(breaks, FAT_SLICE_OUTSIDE, place);
         }
         if (breaks_fat_slice_in_table(file, &entry)) {
-            note(breaks, FAT_SLICE_IN_TABLE, entry_place(file, k));
+            note(breaks, FAT_SLICE_IN_TABLE, place);
         }
         if (breaks_fat_align(&entry)) {
-            note(breaks, FAT_ALIGN, entry_place(file, k));
+            note(breaks, FAT_ALIGN, place);
         }
         if (entry.size != 0) {
-            follow(&bytes, entry.offset, entry.offset + (entry.size - 1));
+            follow(&bytes, entry.offset, entry.offset + (entry.size - 1), place);
         }
-        uint64_t number = arch_number(&entry.arch);
-        follow(&archs, number, number);
+        follow(&archs, arch, arch, place);
     }
-    if (needs_sorting(&bytes) && is_kept_below(breaks, FAT_OVERLAP)) {
-        judge_fat_overlap(file, bytes.count, breaks);
+    if (breaks->broken == 0) {
+        judge_fat_overlap(file, &bytes, breaks);
     }
-    if (needs_sorting(&archs) && is_kept_below(breaks, FAT_DUPLICATE)) {
-        judge_fat_duplicate(file, breaks);
+    if (breaks->broken == 0) {
+        judge_fat_duplicate(file, &archs, breaks);
     }
 }
 
 // Images
 
-// The places of the first and the last command of a kind. The first is 0 where there is none, and the last nothing then;
-// commands begin after the header.
+// The places of the first and the last command of a kind. Where there is none, the first is 0, which is in the header,
+// and the last has no value.
 struct range {
     uint64_t first, last;
 };
@@ -706,7 +752,7 @@ static inline bool breaks_segment_file(const struct segment *segment, uint64_t s
     return segment->filesize != 0 && !fits(segment->fileoff, segment->filesize, slice_size);
 }
 
-static void judge_segment_overlap(const struct image *image) {
+static void sort_segments(const struct image *image) {
     struct span *spans = room_for(image->addresses.count);
     size_t count = 0;
     const struct range *segments = &image->segments;
@@ -719,7 +765,15 @@ static void judge_segment_overlap(const struct image *image) {
             spans[count++] = (struct span){segment.vmaddr, last_address(&segment), image->start + place};
         }
     }
-    judge_shared(image->breaks, SEGMENT_OVERLAP, spans, count);
+    judge_spans(image->breaks, SEGMENT_OVERLAP, spans, count);
+}
+
+static void judge_segment_overlap(const struct image *image) {
+    if (image->addresses.shared != NOWHERE) {
+        note(image->breaks, SEGMENT_OVERLAP, image->addresses.shared);
+    } else if (!is_in_order(&image->addresses)) {
+        sort_segments(image);
+    }
 }
 
 struct section {
@@ -995,7 +1049,7 @@ static inline void judge_segment(struct image *image, uint64_t place) {
         note_in(image, SEGMENT_FILE, place);
     }
     if (is_mapped(&segment)) {
-        follow(&image->addresses, segment.vmaddr, last_address(&segment));
+        follow(&image->addresses, segment.vmaddr, last_address(&segment), image->start + place);
         if (!image->has_base && segment.fileoff == 0 && segment.filesize != 0) {
             image->has_base = true;
             image->base = segment.vmaddr;
@@ -1145,7 +1199,7 @@ static void survey(struct image *image, const struct arch *entry) {
 
 // The rules that are left after the survey. From symbol-group on each is about tables that lie in the slice.
 static void judge_surveyed(const struct image *image) {
-    if (needs_sorting(&image->addresses) && is_kept_below(image->breaks, SEGMENT_OVERLAP)) {
+    if (is_kept_below(image->breaks, SEGMENT_OVERLAP)) {
         judge_segment_overlap(image);
     }
     if (image->breaks->broken != 0) {
@@ -1221,15 +1275,21 @@ static inline void put_byte(uint8_t byte) {
     output[output_used++] = byte;
 }
 
-static inline void put_text(const char *text) {
-    size_t size = strlen(text);
-    memcpy(output + output_used, text, size);
+static inline void put_bytes(const char *bytes, size_t size) {
+    memcpy(output + output_used, bytes, size);
     output_used += size;
+}
+
+// A text that is written out here, and a word of one of the tables.
+#define PUT(text) put_bytes(text, sizeof(text) - 1)
+
+static void put_word(const char *word) {
+    put_bytes(word, strlen(word));
 }
 
 static inline void put_hex(uint64_t number) {
     size_t digits = number == 0 ? 1 : (size_t)(67 - __builtin_clzll(number)) / 4;
-    put_text("0x");
+    PUT("0x");
     for (size_t k = digits; k-- > 0; number >>= 4) {
         output[output_used + k] = (uint8_t)"0123456789abcdef"[number & 0xf];
     }
@@ -1237,41 +1297,44 @@ static inline void put_hex(uint64_t number) {
 }
 
 static inline void put_decimal(uint64_t number) {
-    uint8_t digits[20];
-    size_t first = sizeof digits;
-    do {
-        digits[--first] = (uint8_t)('0' + number % 10);
-        number /= 10;
-    } while (number != 0);
-    memcpy(output + output_used, digits + first, sizeof digits - first);
-    output_used += sizeof digits - first;
+    size_t digits = 1;
+    for (uint64_t rest = number / 10; rest != 0; rest /= 10) {
+        digits++;
+    }
+    for (size_t k = digits; k-- > 0; number /= 10) {
+        output[output_used + k] = (uint8_t)('0' + number % 10);
+    }
+    output_used += digits;
 }
 
 // A version of 16, 8 and 8 bits.
 static void put_version(uint64_t version) {
     put_decimal(version >> 16);
-    put_text(".");
+    PUT(".");
     put_decimal(version >> 8 & 0xff);
-    put_text(".");
+    PUT(".");
     put_decimal(version & 0xff);
 }
 
-// A name in double quotes, of any length, with room for a line after it.
+// A name in double quotes, of any length, with room for a line after it. Of each 64 bytes there may be four times as
+// many, which are no more than a line.
 static void put_name(const uint8_t *name, size_t size) {
-    put_text("\"");
+    PUT("\"");
     for (size_t k = 0; k < size; k++) {
         uint8_t byte = name[k];
-        make_room(LINE_SIZE);
+        if (k % 64 == 0) {
+            make_room(LINE_SIZE);
+        }
         if (byte >= ' ' && byte <= '~' && byte != '"' && byte != '\\') {
             put_byte(byte);
         } else {
-            put_text("\\x");
+            PUT("\\x");
             put_byte((uint8_t)"0123456789abcdef"[byte >> 4]);
             put_byte((uint8_t)"0123456789abcdef"[byte & 0xf]);
         }
     }
     make_room(LINE_SIZE);
-    put_text("\"");
+    PUT("\"");
 }
 
 // The name of a segment or section, in 16 bytes.
@@ -1279,10 +1342,7 @@ static void put_name_of_16(const uint8_t *name) {
     put_name(name, strnlen((const char *)name, 16));
 }
 
-static void put_labelled(const char *label, uint64_t number) {
-    put_text(label);
-    put_hex(number);
-}
+#define PUT_LABELLED(label, number) (PUT(label), put_hex(number))
 
 static const char *arch_name(const struct arch *arch) {
     if (arch->cputype == CPU_TYPE_X86_64) {
@@ -1320,102 +1380,102 @@ static const char *library_word(uint64_t cmd) {
 
 static void print_break(const struct breaks *breaks) {
     int first = __builtin_ctz(breaks->broken);
-    put_text("refused: ");
-    put_text(rule_names[first]);
-    put_labelled(" at ", breaks->places[first]);
-    put_text("\n");
+    PUT("refused: ");
+    put_word(rule_names[first]);
+    PUT_LABELLED(" at ", breaks->places[first]);
+    PUT("\n");
 }
 
 static void print_accepted(uint64_t slices) {
-    put_text("accepted, slices ");
+    PUT("accepted, slices ");
     put_decimal(slices);
-    put_text("\n");
+    PUT("\n");
 }
 
 static void print_slice(uint64_t index, const struct arch *arch, uint64_t start, uint64_t size, const char *kind) {
     make_room(LINE_SIZE);
-    put_text("slice ");
+    PUT("slice ");
     put_decimal(index);
-    put_text(" ");
+    PUT(" ");
     if (arch_name(arch) != NULL) {
-        put_text(arch_name(arch));
+        put_word(arch_name(arch));
     } else {
         put_hex(arch->cputype);
-        put_labelled("/", arch->cpusubtype);
+        PUT_LABELLED("/", arch->cpusubtype);
     }
-    put_labelled(" at ", start);
-    put_labelled(" size ", size);
-    put_text(" ");
-    put_text(kind);
-    put_text("\n");
+    PUT_LABELLED(" at ", start);
+    PUT_LABELLED(" size ", size);
+    PUT(" ");
+    put_word(kind);
+    PUT("\n");
 }
 
 static void print_library(const uint8_t *command, const char *word) {
     const uint8_t *name = command + FIELD(command, dylib_command, name);
     make_room(LINE_SIZE);
-    put_text("  ");
-    put_text(word);
+    PUT("  ");
+    put_word(word);
     put_name(name, strlen((const char *)name));
-    put_text(" current ");
+    PUT(" current ");
     put_version(FIELD(command, dylib_command, current_version));
-    put_text(" compatible ");
+    PUT(" compatible ");
     put_version(FIELD(command, dylib_command, compatibility_version));
-    put_text("\n");
+    PUT("\n");
 }
 
 static void print_uuid(const uint8_t *command) {
     const uint8_t *uuid = command + offsetof(struct uuid_command, uuid);
     make_room(LINE_SIZE);
-    put_text("  uuid ");
+    PUT("  uuid ");
     for (size_t k = 0; k < WIDTH(uuid_command, uuid); k++) {
         if (k == 4 || k == 6 || k == 8 || k == 10) {
-            put_text("-");
+            PUT("-");
         }
         put_byte((uint8_t)"0123456789ABCDEF"[uuid[k] >> 4]);
         put_byte((uint8_t)"0123456789ABCDEF"[uuid[k] & 0xf]);
     }
-    put_text("\n");
+    PUT("\n");
 }
 
 static void print_build(const uint8_t *command) {
     make_room(LINE_SIZE);
-    put_text("  build platform ");
+    PUT("  build platform ");
     put_decimal(FIELD(command, build_version_command, platform));
-    put_text(" min ");
+    PUT(" min ");
     put_version(FIELD(command, build_version_command, minos));
-    put_text(" sdk ");
+    PUT(" sdk ");
     put_version(FIELD(command, build_version_command, sdk));
-    put_text("\n");
+    PUT("\n");
 }
 
 static void print_section(const uint8_t *section) {
     make_room(LINE_SIZE);
-    put_text("    section ");
+    PUT("    section ");
     put_name_of_16(section + offsetof(struct section_64, sectname));
-    put_labelled(" addr ", FIELD(section, section_64, addr));
-    put_labelled(" size ", FIELD(section, section_64, size));
+    PUT_LABELLED(" addr ", FIELD(section, section_64, addr));
+    PUT_LABELLED(" size ", FIELD(section, section_64, size));
     if (is_zero_fill(FIELD(section, section_64, flags))) {
-        put_text(" zero");
+        PUT(" zero");
     } else {
-        put_labelled(" file ", FIELD(section, section_64, offset));
+        PUT_LABELLED(" file ", FIELD(section, section_64, offset));
     }
-    put_text("\n");
+    PUT("\n");
 }
 
 static void print_segment(const uint8_t *command) {
     uint64_t initprot = FIELD(command, segment_command_64, initprot);
     make_room(LINE_SIZE);
-    put_text("  segment ");
+    PUT("  segment ");
     put_name_of_16(command + offsetof(struct segment_command_64, segname));
-    put_labelled(" addr ", FIELD(command, segment_command_64, vmaddr));
-    put_labelled(" size ", FIELD(command, segment_command_64, vmsize));
-    put_labelled(" file ", FIELD(command, segment_command_64, fileoff));
-    put_labelled(" size ", FIELD(command, segment_command_64, filesize));
-    put_text(" ");
+    PUT_LABELLED(" addr ", FIELD(command, segment_command_64, vmaddr));
+    PUT_LABELLED(" size ", FIELD(command, segment_command_64, vmsize));
+    PUT_LABELLED(" file ", FIELD(command, segment_command_64, fileoff));
+    PUT_LABELLED(" size ", FIELD(command, segment_command_64, filesize));
+    PUT(" ");
     put_byte(initprot & VM_PROT_READ ? 'r' : '-');
     put_byte(initprot & VM_PROT_WRITE ? 'w' : '-');
     put_byte(initprot & VM_PROT_EXECUTE ? 'x' : '-');
-    put_text("\n");
+    PUT("\n");
     const uint8_t *sections = command + sizeof(struct segment_command_64);
     for (uint64_t k = 0; k < FIELD(command, segment_command_64, nsects); k++) {
         print_section(sections + sizeof(struct section_64) * k);
@@ -1454,12 +1514,12 @@ static void print_libraries(const struct image *image) {
 static void print_entry(const struct image *image) {
     make_room(LINE_SIZE);
     if (image->main == 0) {
-        put_text("  entry none\n");
+        PUT("  entry none\n");
         return;
     }
     uint64_t entryoff = FIELD(image->bytes + image->main, entry_point_command, entryoff);
-    put_labelled("  entry ", image->base + entryoff);
-    put_text("\n");
+    PUT_LABELLED("  entry ", image->base + entryoff);
+    PUT("\n");
 }
 
 // The lines of an accepted image.
@@ -1476,9 +1536,9 @@ static void print_image(uint64_t index, const struct image *image) {
     print_libraries(image);
     if (image->symtab != 0) {
         make_room(LINE_SIZE);
-        put_text("  symbols ");
+        PUT("  symbols ");
         put_decimal(symbol_count(image));
-        put_text("\n");
+        PUT("\n");
     }
     print_entry(image);
 }
