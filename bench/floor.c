@@ -399,9 +399,9 @@ static struct span *sort(struct span *spans, size_t count) {
 }
 
 // The least place of a span that shares a number with one of a lesser place; NOWHERE where no two share one. The
-// spans are sorted by their starts. Of two that share a number the one of the greater place is that place's candidate,
-// and is left out of what follows, as is each span of a place past it: they can give no lesser one. So the spans that
-// are left share no number, and only the latest of them can reach the next.
+// spans are sorted by their starts. Where two share a number, the greater of their places is the least found by then.
+// Its span is left out from there on, as is each of a greater place: none of them can give a lesser one. The spans that
+// are left share no number, so only the latest of them can reach the next.
 static uint64_t least_shared(const struct span *sorted, size_t count) {
     uint64_t least = NOWHERE;
     const struct span *latest = sorted;
@@ -439,6 +439,7 @@ static void judge_spans(struct breaks *breaks, enum rule rule, struct span *span
     free(spans);
 }
 
+// Files
 
 struct file {
     uint8_t *bytes;
@@ -494,9 +495,11 @@ static bool is_fat_magic(uint64_t magic) {
 }
 
 static bool breaks_magic(const struct file *file) {
-    return file->size < sizeof(uint32_t) ||
-        !(read_little(file->bytes, sizeof(uint32_t)) == MH_MAGIC_64 ||
-            is_fat_magic(read_big(file->bytes, sizeof(uint32_t))));
+    if (file->size < sizeof(uint32_t)) {
+        return true;
+    }
+    return read_little(file->bytes, sizeof(uint32_t)) != MH_MAGIC_64 &&
+        !is_fat_magic(read_big(file->bytes, sizeof(uint32_t)));
 }
 
 // The file is a universal one. `read` is set where the rule is unbroken.
@@ -709,7 +712,7 @@ static bool breaks_dylib_id(const struct image *image) {
     return (image->filetype == MH_DYLIB) != (image->id_dylib != 0);
 }
 
-// `least` is the size of the command's structure, at whose end the name begins or later.
+// `least` is the size of the command's structure. The name begins at its end or later.
 static inline bool breaks_name(const uint8_t *command, uint64_t size, uint64_t least) {
     uint64_t name = FIELD(command, name_command, name);
     return name < least || name >= size || memchr(command + name, 0, size - name) == NULL;
@@ -1063,6 +1066,12 @@ static inline void judge_segment(struct image *image, uint64_t place) {
     }
 }
 
+static inline void judge_name(const struct image *image, uint64_t place, uint64_t size, uint64_t least) {
+    if (breaks_name(image->bytes + place, size, least)) {
+        note_in(image, NAME, place);
+    }
+}
+
 static void judge_tables(const struct image *image, uint64_t place, const struct table *tables, size_t count) {
     for (size_t k = 0; k < count; k++) {
         if (breaks_table_range(image->bytes + place, &tables[k], image->size)) {
@@ -1075,7 +1084,6 @@ static void judge_tables(const struct image *image, uint64_t place, const struct
 
 // A listed command that is not too short.
 static inline void judge_command(struct image *image, uint64_t place, uint64_t size, struct listed listed) {
-    const uint8_t *command = image->bytes + place;
     switch (listed.kind) {
     case SYMBOLS:
         judge_command_repeated(image, &image->symtab, place);
@@ -1087,20 +1095,14 @@ static inline void judge_command(struct image *image, uint64_t place, uint64_t s
         break;
     case LIBRARY_ID:
         judge_command_repeated(image, &image->id_dylib, place);
-        if (breaks_name(command, size, listed.least)) {
-            note_in(image, NAME, place);
-        }
+        judge_name(image, place, size, listed.least);
         break;
     case LIBRARY:
         extend(&image->libraries, place);
-        if (breaks_name(command, size, listed.least)) {
-            note_in(image, NAME, place);
-        }
+        judge_name(image, place, size, listed.least);
         break;
     case NAMED:
-        if (breaks_name(command, size, listed.least)) {
-            note_in(image, NAME, place);
-        }
+        judge_name(image, place, size, listed.least);
         break;
     case SEGMENT:
         judge_segment(image, place);
@@ -1118,7 +1120,7 @@ static inline void judge_command(struct image *image, uint64_t place, uint64_t s
         JUDGE_TABLES(image, place, encryption_info_tables);
         break;
     case DATA_NOTE:
-        if (breaks_table_range_of_note(command, image->size)) {
+        if (breaks_table_range_of_note(image->bytes + place, image->size)) {
             note_in(image, TABLE_RANGE, place);
         }
         break;
