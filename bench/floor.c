@@ -1,0 +1,1635 @@
+// Decides what macho-check decides of standard input, and prints the same text with the same status: the layout of a
+// file that breaks no rule of docs/RULES.md (status 0), or the first rule that is broken and its place (status 1).
+//
+//     cc -std=c99 -O2 -o floor bench/floor.c && ./floor <FILE
+//
+// It shows how fast C can be at this. bench/speed runs it beside the program, and tests/floor tries its answers.
+// Nothing is walked twice without need: one walk over the load commands judges each command, segment and section, and
+// notes the least place at which each rule is broken; one loop judges the symbols. Ranges are sorted only where they
+// neither ascend nor descend. The file is read as bench/speed reads it: standard input has to be a file, of 4 GiB at
+// most. Where it cannot be read, or there is no memory, or writing fails, there is no verdict (status 3, 4 and 3).
+//
+// Structures and constants have their public names. The rules stand in the order of docs/RULES.md, a function for each:
+// of the file, of the header and the load commands, of segments and sections, of tables and symbols, and of the entry.
+// After them stand the walk and the judgment, which call them, and the report.
+
+#define _GNU_SOURCE // memrchr
+#include <stdbool.h>
+#include <stddef.h>
+#include <stdint.h>
+#include <stdio.h>
+#include <stdlib.h>
+#include <string.h>
+#include <sys/stat.h>
+#include <unistd.h>
+
+#if SIZE_MAX < UINT64_MAX || __BYTE_ORDER__ != __ORDER_LITTLE_ENDIAN__
+#error "this program is for 64-bit little-endian machines"
+#endif
+
+// How long a file may be, and how many bytes of output are gathered before they are written.
+#define INPUT_LIMIT ((uint64_t)1 << 32)
+#define OUTPUT_SIZE ((size_t)1 << 16)
+
+enum { ACCEPTED = 0, REFUSED = 1, NOT_READ_OR_WRITTEN = 3, NO_MEMORY = 4 };
+
+// mach-o/fat.h
+
+#define FAT_MAGIC 0xcafebabeu
+#define FAT_MAGIC_64 0xcafebabfu
+
+struct fat_header {
+    uint32_t magic, nfat_arch;
+};
+
+struct fat_arch {
+    uint32_t cputype, cpusubtype, offset, size, align;
+};
+
+struct fat_arch_64 {
+    uint32_t cputype, cpusubtype;
+    uint64_t offset, size;
+    uint32_t align, reserved;
+};
+
+// mach/machine.h, mach/vm_prot.h
+
+#define CPU_TYPE_X86_64 0x01000007u
+#define CPU_TYPE_ARM64 0x0100000cu
+#define CPU_SUBTYPE_MASK 0xff000000u
+#define CPU_SUBTYPE_X86_64_ALL 3u
+#define CPU_SUBTYPE_X86_64_H 8u
+#define CPU_SUBTYPE_ARM64_ALL 0u
+#define CPU_SUBTYPE_ARM64E 2u
+
+#define VM_PROT_READ 1u
+#define VM_PROT_WRITE 2u
+#define VM_PROT_EXECUTE 4u
+
+// mach-o/loader.h. A magic number of big-endian order is a CIGAM to a little-endian reader.
+
+#define MH_MAGIC 0xfeedfaceu
+#define MH_CIGAM 0xcefaedfeu
+#define MH_MAGIC_64 0xfeedfacfu
+#define MH_CIGAM_64 0xcffaedfeu
+
+#define MH_EXECUTE 2u
+#define MH_DYLIB 6u
+#define MH_BUNDLE 8u
+
+struct mach_header_64 {
+    uint32_t magic, cputype, cpusubtype, filetype, ncmds, sizeofcmds, flags, reserved;
+};
+
+#define LC_REQ_DYLD 0x80000000u
+#define LC_SYMTAB 0x2u
+#define LC_DYSYMTAB 0xbu
+#define LC_LOAD_DYLIB 0xcu
+#define LC_ID_DYLIB 0xdu
+#define LC_LOAD_DYLINKER 0xeu
+#define LC_ID_DYLINKER 0xfu
+#define LC_SEGMENT_64 0x19u
+#define LC_UUID 0x1bu
+#define LC_CODE_SIGNATURE 0x1du
+#define LC_SEGMENT_SPLIT_INFO 0x1eu
+#define LC_LAZY_LOAD_DYLIB 0x20u
+#define LC_DYLD_INFO 0x22u
+#define LC_FUNCTION_STARTS 0x26u
+#define LC_DYLD_ENVIRONMENT 0x27u
+#define LC_DATA_IN_CODE 0x29u
+#define LC_DYLIB_CODE_SIGN_DRS 0x2bu
+#define LC_ENCRYPTION_INFO_64 0x2cu
+#define LC_LINKER_OPTIMIZATION_HINT 0x2eu
+#define LC_NOTE 0x31u
+#define LC_BUILD_VERSION 0x32u
+#define LC_LOAD_WEAK_DYLIB (0x18u | LC_REQ_DYLD)
+#define LC_RPATH (0x1cu | LC_REQ_DYLD)
+#define LC_REEXPORT_DYLIB (0x1fu | LC_REQ_DYLD)
+#define LC_DYLD_INFO_ONLY (0x22u | LC_REQ_DYLD)
+#define LC_LOAD_UPWARD_DYLIB (0x23u | LC_REQ_DYLD)
+#define LC_MAIN (0x28u | LC_REQ_DYLD)
+#define LC_DYLD_EXPORTS_TRIE (0x33u | LC_REQ_DYLD)
+#define LC_DYLD_CHAINED_FIXUPS (0x34u | LC_REQ_DYLD)
+
+struct load_command {
+    uint32_t cmd, cmdsize;
+};
+
+struct segment_command_64 {
+    uint32_t cmd, cmdsize;
+    char segname[16];
+    uint64_t vmaddr, vmsize, fileoff, filesize;
+    uint32_t maxprot, initprot, nsects, flags;
+};
+
+#define SECTION_TYPE 0xffu
+#define S_ZEROFILL 0x1u
+#define S_GB_ZEROFILL 0xcu
+#define S_THREAD_LOCAL_ZEROFILL 0x12u
+
+struct section_64 {
+    char sectname[16], segname[16];
+    uint64_t addr, size;
+    uint32_t offset, align, reloff, nreloc, flags, reserved1, reserved2, reserved3;
+};
+
+// The name is an lc_str: how far from the start of the command it begins.
+struct dylib_command {
+    uint32_t cmd, cmdsize, name, timestamp, current_version, compatibility_version;
+};
+
+// dylinker_command and rpath_command, which are alike.
+struct name_command {
+    uint32_t cmd, cmdsize, name;
+};
+
+struct symtab_command {
+    uint32_t cmd, cmdsize, symoff, nsyms, stroff, strsize;
+};
+
+#define INDIRECT_SYMBOL_LOCAL 0x80000000u
+#define INDIRECT_SYMBOL_ABS 0x40000000u
+
+struct dysymtab_command {
+    uint32_t cmd, cmdsize, ilocalsym, nlocalsym, iextdefsym, nextdefsym, iundefsym, nundefsym, tocoff, ntoc, modtaboff,
+        nmodtab, extrefsymoff, nextrefsyms, indirectsymoff, nindirectsyms, extreloff, nextrel, locreloff, nlocrel;
+};
+
+struct uuid_command {
+    uint32_t cmd, cmdsize;
+    uint8_t uuid[16];
+};
+
+struct linkedit_data_command {
+    uint32_t cmd, cmdsize, dataoff, datasize;
+};
+
+struct dyld_info_command {
+    uint32_t cmd, cmdsize, rebase_off, rebase_size, bind_off, bind_size, weak_bind_off, weak_bind_size, lazy_bind_off,
+        lazy_bind_size, export_off, export_size;
+};
+
+struct encryption_info_command_64 {
+    uint32_t cmd, cmdsize, cryptoff, cryptsize, cryptid, pad;
+};
+
+struct note_command {
+    uint32_t cmd, cmdsize;
+    char data_owner[16];
+    uint64_t offset, size;
+};
+
+struct build_version_command {
+    uint32_t cmd, cmdsize, platform, minos, sdk, ntools;
+};
+
+struct entry_point_command {
+    uint32_t cmd, cmdsize;
+    uint64_t entryoff, stacksize;
+};
+
+#define BUILD_TOOL_VERSION_SIZE 8u
+#define DYLIB_TABLE_OF_CONTENTS_SIZE 8u
+#define DYLIB_MODULE_64_SIZE 56u
+#define DYLIB_REFERENCE_SIZE 4u
+#define INDIRECT_ENTRY_SIZE 4u
+
+// mach-o/nlist.h, mach-o/reloc.h
+
+#define N_STAB 0xe0u
+#define N_TYPE 0x0eu
+#define N_SECT 0x0eu
+
+struct nlist_64 {
+    uint32_t n_strx;
+    uint8_t n_type, n_sect;
+    uint16_t n_desc;
+    uint64_t n_value;
+};
+
+#define RELOCATION_INFO_SIZE 8u
+
+// Numbers. Every field is read as 64 bits, so that no sum or product of fields of 32 bits wraps.
+
+static inline uint64_t read_little(const uint8_t *at, size_t width) {
+    uint64_t wide;
+    uint32_t narrow;
+    if (width == sizeof wide) {
+        memcpy(&wide, at, sizeof wide);
+        return wide;
+    }
+    if (width == sizeof narrow) {
+        memcpy(&narrow, at, sizeof narrow);
+        return narrow;
+    }
+    return *at;
+}
+
+static inline uint64_t read_big(const uint8_t *at, size_t width) {
+    uint64_t number = read_little(at, width);
+    return width == sizeof number ? __builtin_bswap64(number) : __builtin_bswap32((uint32_t)number);
+}
+
+#define WIDTH(type, field) sizeof(((struct type *)0)->field)
+
+// A field of the structure of an image at this place, and one of a universal header or its table.
+#define FIELD(at, type, field) read_little((at) + offsetof(struct type, field), WIDTH(type, field))
+#define FAT_FIELD(at, type, field) read_big((at) + offsetof(struct type, field), WIDTH(type, field))
+
+// Whether `size` bytes from `start` end at the limit or before it. There is no sum, so none wraps.
+static inline bool fits(uint64_t start, uint64_t size, uint64_t limit) {
+    return start <= limit && size <= limit - start;
+}
+
+// The rules, in the order in which they are judged.
+
+enum rule {
+    MAGIC, FAT_TRUNCATED, FAT_SLICE_OUTSIDE, FAT_SLICE_IN_TABLE, FAT_ALIGN, FAT_OVERLAP, FAT_DUPLICATE, FAT_SLICE_MAGIC,
+    FAT_EMPTY,
+    HEADER_TRUNCATED, ARCH_MISMATCH, FILE_TYPE, COMMANDS_OUTSIDE, COMMAND_WALK, COMMAND_SHORT, COMMAND_REPEATED,
+    DYLIB_ID, NAME,
+    SEGMENT_ADDRESS, SEGMENT_SIZE, SEGMENT_FILE, SEGMENT_OVERLAP, SECTION_ADDRESS, SECTION_FILE, SECTION_RELOCS,
+    TABLE_RANGE, SYMBOL_GROUP, SYMBOL_NAME, SYMBOL_SECTION, INDIRECT_INDEX,
+    ENTRY,
+    RULE_COUNT
+};
+
+static const char *const rule_names[RULE_COUNT] = {
+    [MAGIC] = "magic",
+    [FAT_TRUNCATED] = "fat-truncated",
+    [FAT_SLICE_OUTSIDE] = "fat-slice-outside",
+    [FAT_SLICE_IN_TABLE] = "fat-slice-in-table",
+    [FAT_ALIGN] = "fat-align",
+    [FAT_OVERLAP] = "fat-overlap",
+    [FAT_DUPLICATE] = "fat-duplicate",
+    [FAT_SLICE_MAGIC] = "fat-slice-magic",
+    [FAT_EMPTY] = "fat-empty",
+    [HEADER_TRUNCATED] = "header-truncated",
+    [ARCH_MISMATCH] = "arch-mismatch",
+    [FILE_TYPE] = "file-type",
+    [COMMANDS_OUTSIDE] = "commands-outside",
+    [COMMAND_WALK] = "command-walk",
+    [COMMAND_SHORT] = "command-short",
+    [COMMAND_REPEATED] = "command-repeated",
+    [DYLIB_ID] = "dylib-id",
+    [NAME] = "name",
+    [SEGMENT_ADDRESS] = "segment-address",
+    [SEGMENT_SIZE] = "segment-size",
+    [SEGMENT_FILE] = "segment-file",
+    [SEGMENT_OVERLAP] = "segment-overlap",
+    [SECTION_ADDRESS] = "section-address",
+    [SECTION_FILE] = "section-file",
+    [SECTION_RELOCS] = "section-relocs",
+    [TABLE_RANGE] = "table-range",
+    [SYMBOL_GROUP] = "symbol-group",
+    [SYMBOL_NAME] = "symbol-name",
+    [SYMBOL_SECTION] = "symbol-section",
+    [INDIRECT_INDEX] = "indirect-index",
+    [ENTRY] = "entry",
+};
+
+// The rules that were found broken, a bit for each, and the least place in the file at which each of these is. The
+// first broken rule is that of the least bit, once all rules before it have been judged.
+struct breaks {
+    uint32_t broken;
+    uint64_t places[RULE_COUNT];
+};
+
+__attribute__((cold, noinline)) static void note(struct breaks *breaks, enum rule rule, uint64_t place) {
+    uint32_t bit = (uint32_t)1 << rule;
+    if ((breaks->broken & bit) == 0 || place < breaks->places[rule]) {
+        breaks->places[rule] = place;
+    }
+    breaks->broken |= bit;
+}
+
+// Whether no rule before this one was found broken.
+static bool is_kept_below(const struct breaks *breaks, enum rule rule) {
+    return (breaks->broken & (((uint32_t)1 << rule) - 1)) == 0;
+}
+
+// Ends the program without a verdict.
+__attribute__((cold, noreturn)) static void stop(int status, const char *why) {
+    fprintf(stderr, "floor: %s\n", why);
+    exit(status);
+}
+
+// Ranges: the addresses of segments, the bytes of slices, and architectures as ranges of one number.
+
+// The numbers from `start` to `last`, of the structure at a place. No range is empty.
+struct span {
+    uint64_t start, last, place;
+};
+
+#define NOWHERE UINT64_MAX
+
+// What is known of spans that come one after another, by ascending places. As long as they ascend or descend, no two
+// share a number. Where the first that breaks this order shares one with the latest before it, its place is the least
+// of those that share one with an earlier span, and nothing has to be sorted.
+struct order {
+    uint64_t count;
+    bool ascends, descends;
+    uint64_t shared; // that place, or NOWHERE
+    uint64_t start, last; // of the latest, where there is one
+};
+
+static inline void begin_order(struct order *order) {
+    order->count = 0;
+    order->ascends = order->descends = true;
+    order->shared = NOWHERE;
+}
+
+static inline bool is_in_order(const struct order *order) {
+    return order->ascends || order->descends;
+}
+
+static inline void follow(struct order *order, uint64_t start, uint64_t last, uint64_t place) {
+    if (order->count != 0 && is_in_order(order)) {
+        bool is_above = start > order->last, is_below = last < order->start;
+        order->ascends = order->ascends && is_above;
+        order->descends = order->descends && is_below;
+        if (!is_above && !is_below) {
+            order->shared = place;
+        }
+    }
+    order->count++;
+    order->start = start;
+    order->last = last;
+}
+
+enum { DIGIT_BITS = 11, DIGIT_COUNT = 1 << DIGIT_BITS };
+
+static inline size_t digit(uint64_t number, unsigned shift) {
+    return number >> shift & (DIGIT_COUNT - 1);
+}
+
+// Moves the spans to `other`, sorted by one digit of their starts. Those with the same digit stay in their order.
+static void move_by_digit(const struct span *spans, struct span *other, size_t count, unsigned shift) {
+    size_t ends[DIGIT_COUNT] = {0};
+    for (size_t k = 0; k < count; k++) {
+        ends[digit(spans[k].start, shift)]++;
+    }
+    size_t begin = 0;
+    for (size_t k = 0; k < DIGIT_COUNT; k++) {
+        size_t here = ends[k];
+        ends[k] = begin;
+        begin += here;
+    }
+    for (size_t k = 0; k < count; k++) {
+        other[ends[digit(spans[k].start, shift)]++] = spans[k];
+    }
+}
+
+// Sorts the spans by their starts, digit by digit from the lowest bit in which any two differ. The room of as many
+// spans after them is used as well; returns which of the two rooms has the result.
+static struct span *sort(struct span *spans, size_t count) {
+    struct span *other = spans + count;
+    uint64_t differing = 0;
+    for (size_t k = 1; k < count; k++) {
+        differing |= spans[k].start ^ spans[0].start;
+    }
+    for (unsigned shift = 0; shift < 64 && differing >> shift != 0; shift += DIGIT_BITS) {
+        shift += (unsigned)__builtin_ctzll(differing >> shift);
+        move_by_digit(spans, other, count, shift);
+        struct span *sorted = other;
+        other = spans;
+        spans = sorted;
+    }
+    return spans;
+}
+
+// The least place of a span that shares a number with one of a lesser place; NOWHERE where no two share one. The
+// spans are sorted by their starts. Where two share a number, the greater of their places is the least found by then.
+// Its span is left out from there on, as is each of a greater place: none of them can give a lesser one. The spans that
+// are left share no number, so only the latest of them can reach the next.
+static uint64_t least_shared(const struct span *sorted, size_t count) {
+    uint64_t least = NOWHERE;
+    const struct span *latest = sorted;
+    for (const struct span *next = sorted + 1; next < sorted + count; next++) {
+        if (next->place >= least) {
+            continue;
+        }
+        if (next->start > latest->last) {
+            latest = next;
+        } else if (next->place > latest->place) {
+            least = next->place;
+        } else {
+            least = latest->place;
+            latest = next;
+        }
+    }
+    return least;
+}
+
+// Room for so many spans, and as many to sort them.
+static struct span *room_for(uint64_t count) {
+    struct span *spans = calloc(count, 2 * sizeof *spans);
+    if (spans == NULL) {
+        stop(NO_MEMORY, "out of memory");
+    }
+    return spans;
+}
+
+// Notes the rule at the least place of a span that shares a number with an earlier one, and gives the room back.
+static void judge_spans(struct breaks *breaks, enum rule rule, struct span *spans, size_t count) {
+    uint64_t place = least_shared(sort(spans, count), count);
+    if (place != NOWHERE) {
+        note(breaks, rule, place);
+    }
+    free(spans);
+}
+
+// Files
+
+struct file {
+    uint8_t *bytes;
+    uint64_t size;
+};
+
+struct arch {
+    uint64_t cputype, cpusubtype; // the subtype without its capability byte
+};
+
+static inline struct arch masked(uint64_t cputype, uint64_t cpusubtype) {
+    return (struct arch){cputype, cpusubtype & ~(uint64_t)CPU_SUBTYPE_MASK};
+}
+
+// Universal files
+
+struct universal {
+    const uint8_t *bytes;
+    uint64_t size;
+    uint64_t nfat_arch;
+    uint64_t entry_size;
+};
+
+struct entry {
+    struct arch arch;
+    uint64_t offset, size, align;
+};
+
+static inline uint64_t entry_place(const struct universal *file, uint64_t index) {
+    return sizeof(struct fat_header) + file->entry_size * index;
+}
+
+static inline struct entry read_entry(const struct universal *file, uint64_t index) {
+    const uint8_t *at = file->bytes + entry_place(file, index);
+    struct entry entry;
+    entry.arch = masked(FAT_FIELD(at, fat_arch, cputype), FAT_FIELD(at, fat_arch, cpusubtype));
+    if (file->entry_size == sizeof(struct fat_arch)) {
+        entry.offset = FAT_FIELD(at, fat_arch, offset);
+        entry.size = FAT_FIELD(at, fat_arch, size);
+        entry.align = FAT_FIELD(at, fat_arch, align);
+    } else {
+        entry.offset = FAT_FIELD(at, fat_arch_64, offset);
+        entry.size = FAT_FIELD(at, fat_arch_64, size);
+        entry.align = FAT_FIELD(at, fat_arch_64, align);
+    }
+    return entry;
+}
+
+// Rules of the file
+
+static bool is_fat_magic(uint64_t magic) {
+    return magic == FAT_MAGIC || magic == FAT_MAGIC_64;
+}
+
+static bool breaks_magic(const struct file *file) {
+    if (file->size < sizeof(uint32_t)) {
+        return true;
+    }
+    return read_little(file->bytes, sizeof(uint32_t)) != MH_MAGIC_64 &&
+        !is_fat_magic(read_big(file->bytes, sizeof(uint32_t)));
+}
+
+// The file is a universal one. `read` is set where the rule is unbroken.
+static bool breaks_fat_truncated(const struct file *file, struct universal *read) {
+    if (file->size < sizeof(struct fat_header)) {
+        return true;
+    }
+    bool is_wide = FAT_FIELD(file->bytes, fat_header, magic) == FAT_MAGIC_64;
+    read->bytes = file->bytes;
+    read->size = file->size;
+    read->nfat_arch = FAT_FIELD(file->bytes, fat_header, nfat_arch);
+    read->entry_size = is_wide ? sizeof(struct fat_arch_64) : sizeof(struct fat_arch);
+    return entry_place(read, read->nfat_arch) > file->size;
+}
+
+static inline bool breaks_fat_slice_outside(const struct universal *file, const struct entry *entry) {
+    return !fits(entry->offset, entry->size, file->size);
+}
+
+static inline bool breaks_fat_slice_in_table(const struct universal *file, const struct entry *entry) {
+    return entry->offset < entry_place(file, file->nfat_arch);
+}
+
+// The offset is not 0 where fat-slice-in-table is unbroken, so no power of two from 2^64 on divides it.
+static inline bool breaks_fat_align(const struct entry *entry) {
+    return entry->align >= 64 || (entry->offset & (((uint64_t)1 << entry->align) - 1)) != 0;
+}
+
+static inline bool breaks_fat_slice_magic(const struct universal *file, const struct entry *entry) {
+    if (entry->size < sizeof(uint32_t)) {
+        return true;
+    }
+    uint64_t magic = read_little(file->bytes + entry->offset, sizeof(uint32_t));
+    return magic != MH_MAGIC_64 && magic != MH_CIGAM_64 && magic != MH_MAGIC && magic != MH_CIGAM;
+}
+
+// An empty slice shares no byte.
+static void sort_slices(const struct universal *file, uint64_t filled, struct breaks *breaks) {
+    struct span *spans = room_for(filled);
+    size_t count = 0;
+    for (uint64_t k = 0; k < file->nfat_arch; k++) {
+        struct entry entry = read_entry(file, k);
+        if (entry.size != 0) {
+            spans[count++] = (struct span){entry.offset, entry.offset + (entry.size - 1), entry_place(file, k)};
+        }
+    }
+    judge_spans(breaks, FAT_OVERLAP, spans, count);
+}
+
+static void judge_fat_overlap(const struct universal *file, const struct order *bytes, struct breaks *breaks) {
+    if (bytes->shared != NOWHERE) {
+        note(breaks, FAT_OVERLAP, bytes->shared);
+    } else if (!is_in_order(bytes)) {
+        sort_slices(file, bytes->count, breaks);
+    }
+}
+
+// An architecture as one number.
+static inline uint64_t arch_number(const struct arch *arch) {
+    return arch->cputype << 24 | arch->cpusubtype;
+}
+
+static void sort_archs(const struct universal *file, struct breaks *breaks) {
+    struct span *spans = room_for(file->nfat_arch);
+    for (uint64_t k = 0; k < file->nfat_arch; k++) {
+        struct entry entry = read_entry(file, k);
+        uint64_t number = arch_number(&entry.arch);
+        spans[k] = (struct span){number, number, entry_place(file, k)};
+    }
+    judge_spans(breaks, FAT_DUPLICATE, spans, file->nfat_arch);
+}
+
+static void judge_fat_duplicate(const struct universal *file, const struct order *archs, struct breaks *breaks) {
+    if (archs->shared != NOWHERE) {
+        note(breaks, FAT_DUPLICATE, archs->shared);
+    } else if (!is_in_order(archs)) {
+        sort_archs(file, breaks);
+    }
+}
+
+// The rules of the entries, up to fat-duplicate.
+static void judge_entries(const struct universal *file, struct breaks *breaks) {
+    struct order bytes, archs;
+    begin_order(&bytes);
+    begin_order(&archs);
+    for (uint64_t k = 0; k < file->nfat_arch; k++) {
+        struct entry entry = read_entry(file, k);
+        uint64_t place = entry_place(file, k), arch = arch_number(&entry.arch);
+        if (breaks_fat_slice_outside(file, &entry)) {
+            note(breaks, FAT_SLICE_OUTSIDE, place);
+        }
+        if (breaks_fat_slice_in_table(file, &entry)) {
+            note(breaks, FAT_SLICE_IN_TABLE, place);
+        }
+        if (breaks_fat_align(&entry)) {
+            note(breaks, FAT_ALIGN, place);
+        }
+        if (entry.size != 0) {
+            follow(&bytes, entry.offset, entry.offset + (entry.size - 1), place);
+        }
+        follow(&archs, arch, arch, place);
+    }
+    if (breaks->broken == 0) {
+        judge_fat_overlap(file, &bytes, breaks);
+    }
+    if (breaks->broken == 0) {
+        judge_fat_duplicate(file, &archs, breaks);
+    }
+}
+
+// Images
+
+// The places of the first and the last command of a kind. Where there is none, the first is 0, which is in the header,
+// and the last has no value.
+struct range {
+    uint64_t first, last;
+};
+
+// A slice, and what is found in it. Places are counted from its start.
+struct image {
+    struct breaks *breaks;
+    const uint8_t *bytes;
+    uint64_t size;
+    uint64_t start; // in the file
+    struct arch arch;
+    uint64_t filetype, ncmds;
+    uint64_t commands_end;
+    // The places of commands that stand once; 0 where there is none.
+    uint64_t symtab, dysymtab, id_dylib, uuid, main;
+    bool has_base;
+    uint64_t base;
+    struct range builds, segments, libraries;
+    uint64_t section_count;
+    struct order addresses; // of the mapped segments
+};
+
+static void note_in(const struct image *image, enum rule rule, uint64_t place) {
+    note(image->breaks, rule, image->start + place);
+}
+
+static inline void extend(struct range *range, uint64_t place) {
+    if (range->first == 0) {
+        range->first = place;
+    }
+    range->last = place;
+}
+
+// The place of the command after this one, and 0 after the last of the range.
+static inline uint64_t next_place(const struct image *image, const struct range *range, uint64_t place) {
+    return place == range->last ? 0 : place + FIELD(image->bytes + place, load_command, cmdsize);
+}
+
+static inline bool is_command(const struct image *image, uint64_t place, uint64_t cmd) {
+    return FIELD(image->bytes + place, load_command, cmd) == cmd;
+}
+
+// Rules of the header and the load commands
+
+static bool breaks_header_truncated(uint64_t slice_size) {
+    return slice_size < sizeof(struct mach_header_64);
+}
+
+// The entry's architecture is NULL where the file is not universal.
+static bool breaks_arch_mismatch(const struct image *image, const struct arch *entry) {
+    return entry != NULL && arch_number(&image->arch) != arch_number(entry);
+}
+
+static bool breaks_file_type(uint64_t filetype) {
+    return filetype != MH_EXECUTE && filetype != MH_DYLIB && filetype != MH_BUNDLE;
+}
+
+static bool breaks_commands_outside(const struct image *image) {
+    return image->commands_end > image->size;
+}
+
+// `left` is how many bytes there are from the command to the end of all. Returns its size, and 0 where it is broken.
+static inline uint64_t walk_over(const uint8_t *command, uint64_t left) {
+    if (left < sizeof(struct load_command)) {
+        return 0;
+    }
+    uint64_t size = FIELD(command, load_command, cmdsize);
+    return size < sizeof(struct load_command) || size % 8 != 0 || size > left ? 0 : size;
+}
+
+// `least` is the size of the command's structure. Its records count where their number lies inside the command.
+static inline bool breaks_command_short(const uint8_t *command, uint64_t size, uint64_t least) {
+    if (size < least) {
+        return true;
+    }
+    switch (FIELD(command, load_command, cmd)) {
+    case LC_SEGMENT_64:
+        return size - least < sizeof(struct section_64) * FIELD(command, segment_command_64, nsects);
+    case LC_BUILD_VERSION:
+        return size - least < BUILD_TOOL_VERSION_SIZE * FIELD(command, build_version_command, ntools);
+    default:
+        return false;
+    }
+}
+
+// `first` has the place of the first command of this kind, or is 0 and gets this one.
+static void judge_command_repeated(const struct image *image, uint64_t *first, uint64_t place) {
+    if (*first == 0) {
+        *first = place;
+    } else {
+        note_in(image, COMMAND_REPEATED, place);
+    }
+}
+
+static bool breaks_dylib_id(const struct image *image) {
+    return (image->filetype == MH_DYLIB) != (image->id_dylib != 0);
+}
+
+// `least` is the size of the command's structure. The name begins at its end or later.
+static inline bool breaks_name(const uint8_t *command, uint64_t size, uint64_t least) {
+    uint64_t name = FIELD(command, name_command, name);
+    return name < least || name >= size || memchr(command + name, 0, size - name) == NULL;
+}
+
+// Rules of segments and sections
+
+struct segment {
+    uint64_t vmaddr, vmsize, fileoff, filesize, nsects;
+};
+
+static inline struct segment read_segment(const uint8_t *command) {
+    return (struct segment){
+        .vmaddr = FIELD(command, segment_command_64, vmaddr),
+        .vmsize = FIELD(command, segment_command_64, vmsize),
+        .fileoff = FIELD(command, segment_command_64, fileoff),
+        .filesize = FIELD(command, segment_command_64, filesize),
+        .nsects = FIELD(command, segment_command_64, nsects),
+    };
+}
+
+static inline bool is_mapped(const struct segment *segment) {
+    return segment->vmsize != 0;
+}
+
+// The last address of a mapped segment. It wraps where segment-address is broken.
+static inline uint64_t last_address(const struct segment *segment) {
+    return segment->vmaddr + (segment->vmsize - 1);
+}
+
+static inline bool breaks_segment_address(const struct segment *segment) {
+    return is_mapped(segment) && last_address(segment) < segment->vmaddr;
+}
+
+static inline bool breaks_segment_size(const struct segment *segment) {
+    return is_mapped(segment) && segment->filesize > segment->vmsize;
+}
+
+static inline bool breaks_segment_file(const struct segment *segment, uint64_t slice_size) {
+    return segment->filesize != 0 && !fits(segment->fileoff, segment->filesize, slice_size);
+}
+
+static void sort_segments(const struct image *image) {
+    struct span *spans = room_for(image->addresses.count);
+    size_t count = 0;
+    const struct range *segments = &image->segments;
+    for (uint64_t place = segments->first; place != 0; place = next_place(image, segments, place)) {
+        if (!is_command(image, place, LC_SEGMENT_64)) {
+            continue;
+        }
+        struct segment segment = read_segment(image->bytes + place);
+        if (is_mapped(&segment)) {
+            spans[count++] = (struct span){segment.vmaddr, last_address(&segment), image->start + place};
+        }
+    }
+    judge_spans(image->breaks, SEGMENT_OVERLAP, spans, count);
+}
+
+static void judge_segment_overlap(const struct image *image) {
+    if (image->addresses.shared != NOWHERE) {
+        note(image->breaks, SEGMENT_OVERLAP, image->addresses.shared);
+    } else if (!is_in_order(&image->addresses)) {
+        sort_segments(image);
+    }
+}
+
+struct section {
+    uint64_t addr, size, offset, reloff, nreloc;
+    bool is_zero_fill;
+};
+
+static inline bool is_zero_fill(uint64_t flags) {
+    uint64_t type = flags & SECTION_TYPE;
+    return type == S_ZEROFILL || type == S_GB_ZEROFILL || type == S_THREAD_LOCAL_ZEROFILL;
+}
+
+static inline struct section read_section(const uint8_t *section) {
+    return (struct section){
+        .addr = FIELD(section, section_64, addr),
+        .size = FIELD(section, section_64, size),
+        .offset = FIELD(section, section_64, offset),
+        .reloff = FIELD(section, section_64, reloff),
+        .nreloc = FIELD(section, section_64, nreloc),
+        .is_zero_fill = is_zero_fill(FIELD(section, section_64, flags)),
+    };
+}
+
+static inline bool breaks_section_address(const struct segment *segment, const struct section *section) {
+    return is_mapped(segment) && section->size != 0 &&
+        (section->addr < segment->vmaddr || !fits(section->addr - segment->vmaddr, section->size, segment->vmsize));
+}
+
+// `past` is not negative where section-address is unbroken.
+static inline bool breaks_section_file(const struct segment *segment, const struct section *section,
+                                       uint64_t slice_size) {
+    if (section->size == 0 || section->is_zero_fill) {
+        return false;
+    }
+    if (!is_mapped(segment)) {
+        return !fits(section->offset, section->size, slice_size);
+    }
+    uint64_t past = section->addr - segment->vmaddr;
+    return section->offset < segment->fileoff || section->offset - segment->fileoff != past ||
+        !fits(past, section->size, segment->filesize);
+}
+
+static inline bool breaks_section_relocs(const struct section *section, uint64_t slice_size) {
+    return section->nreloc != 0 && !fits(section->reloff, RELOCATION_INFO_SIZE * section->nreloc, slice_size);
+}
+
+// Rules of tables and symbols
+
+// A bounded table: the offsets of its start and count in the command, and the bytes per entry.
+struct table {
+    uint8_t start, count, entry;
+};
+
+#define TABLE(type, start, count, entry) {offsetof(struct type, start), offsetof(struct type, count), entry}
+
+static const struct table symtab_tables[] = {
+    TABLE(symtab_command, symoff, nsyms, sizeof(struct nlist_64)),
+    TABLE(symtab_command, stroff, strsize, 1),
+};
+
+static const struct table dysymtab_tables[] = {
+    TABLE(dysymtab_command, tocoff, ntoc, DYLIB_TABLE_OF_CONTENTS_SIZE),
+    TABLE(dysymtab_command, modtaboff, nmodtab, DYLIB_MODULE_64_SIZE),
+    TABLE(dysymtab_command, extrefsymoff, nextrefsyms, DYLIB_REFERENCE_SIZE),
+    TABLE(dysymtab_command, indirectsymoff, nindirectsyms, INDIRECT_ENTRY_SIZE),
+    TABLE(dysymtab_command, extreloff, nextrel, RELOCATION_INFO_SIZE),
+    TABLE(dysymtab_command, locreloff, nlocrel, RELOCATION_INFO_SIZE),
+};
+
+static const struct table linkedit_data_tables[] = {
+    TABLE(linkedit_data_command, dataoff, datasize, 1),
+};
+
+static const struct table dyld_info_tables[] = {
+    TABLE(dyld_info_command, rebase_off, rebase_size, 1),
+    TABLE(dyld_info_command, bind_off, bind_size, 1),
+    TABLE(dyld_info_command, weak_bind_off, weak_bind_size, 1),
+    TABLE(dyld_info_command, lazy_bind_off, lazy_bind_size, 1),
+    TABLE(dyld_info_command, export_off, export_size, 1),
+};
+
+static const struct table encryption_info_tables[] = {
+    TABLE(encryption_info_command_64, cryptoff, cryptsize, 1),
+};
+
+static bool breaks_table_range(const uint8_t *command, const struct table *table, uint64_t slice_size) {
+    uint64_t start = read_little(command + table->start, sizeof(uint32_t));
+    uint64_t count = read_little(command + table->count, sizeof(uint32_t));
+    return count != 0 && !fits(start, count * table->entry, slice_size);
+}
+
+// LC_NOTE alone has fields of 64 bits.
+static bool breaks_table_range_of_note(const uint8_t *command, uint64_t slice_size) {
+    uint64_t size = FIELD(command, note_command, size);
+    return size != 0 && !fits(FIELD(command, note_command, offset), size, slice_size);
+}
+
+static uint64_t symbol_count(const struct image *image) {
+    return image->symtab == 0 ? 0 : FIELD(image->bytes + image->symtab, symtab_command, nsyms);
+}
+
+// Each group is two fields, of which the first index is the first.
+static bool breaks_symbol_group(const struct image *image) {
+    static const uint8_t groups[] = {
+        offsetof(struct dysymtab_command, ilocalsym),
+        offsetof(struct dysymtab_command, iextdefsym),
+        offsetof(struct dysymtab_command, iundefsym),
+    };
+    const uint8_t *command = image->bytes + image->dysymtab;
+    for (size_t k = 0; k < sizeof groups; k++) {
+        uint64_t first = read_little(command + groups[k], sizeof(uint32_t));
+        uint64_t count = read_little(command + groups[k] + sizeof(uint32_t), sizeof(uint32_t));
+        if (count != 0 && !fits(first, count, symbol_count(image))) {
+            return true;
+        }
+    }
+    return false;
+}
+
+// The least n_strx that breaks symbol-name: the one past the last zero byte of the string table. 0 never breaks it.
+static uint64_t names_end(const struct image *image) {
+    const uint8_t *command = image->bytes + image->symtab;
+    uint64_t strsize = FIELD(command, symtab_command, strsize);
+    if (strsize == 0) {
+        return 1;
+    }
+    const uint8_t *strings = image->bytes + FIELD(command, symtab_command, stroff);
+    const uint8_t *zero = memrchr(strings, 0, strsize);
+    return zero == NULL ? 1 : (uint64_t)(zero - strings) + 1;
+}
+
+static inline bool breaks_symbol_section(const uint8_t *symbol, uint64_t section_count) {
+    uint64_t type = FIELD(symbol, nlist_64, n_type), section = FIELD(symbol, nlist_64, n_sect);
+    return (type & (N_STAB | N_TYPE)) == N_SECT && (section == 0 || section > section_count);
+}
+
+// symbol-name and symbol-section
+static void judge_symbols(const struct image *image) {
+    uint64_t count = symbol_count(image);
+    if (count == 0) {
+        return;
+    }
+    uint64_t symoff = FIELD(image->bytes + image->symtab, symtab_command, symoff);
+    uint64_t end = names_end(image);
+    const uint8_t *symbol = image->bytes + symoff;
+    for (uint64_t k = 0; k < count; k++, symbol += sizeof(struct nlist_64)) {
+        if (FIELD(symbol, nlist_64, n_strx) >= end) {
+            note_in(image, SYMBOL_NAME, symoff + sizeof(struct nlist_64) * k);
+            return;
+        }
+        if (breaks_symbol_section(symbol, image->section_count)) {
+            note_in(image, SYMBOL_SECTION, symoff + sizeof(struct nlist_64) * k);
+        }
+    }
+}
+
+static inline bool breaks_indirect_index(uint64_t entry, uint64_t symbols) {
+    return (entry & (INDIRECT_SYMBOL_LOCAL | INDIRECT_SYMBOL_ABS)) == 0 && entry >= symbols;
+}
+
+static void judge_indirect_index(const struct image *image) {
+    const uint8_t *command = image->bytes + image->dysymtab;
+    uint64_t count = FIELD(command, dysymtab_command, nindirectsyms);
+    uint64_t indirectsymoff = FIELD(command, dysymtab_command, indirectsymoff);
+    uint64_t symbols = symbol_count(image);
+    for (uint64_t k = 0; k < count; k++) {
+        uint64_t place = indirectsymoff + INDIRECT_ENTRY_SIZE * k;
+        if (breaks_indirect_index(read_little(image->bytes + place, INDIRECT_ENTRY_SIZE), symbols)) {
+            note_in(image, INDIRECT_INDEX, place);
+            return;
+        }
+    }
+}
+
+// Rule of the entry
+
+// Whether the address is in the file part of a mapped segment that is executable.
+static bool is_executable(const struct image *image, uint64_t address) {
+    const struct range *segments = &image->segments;
+    for (uint64_t place = segments->first; place != 0; place = next_place(image, segments, place)) {
+        const uint8_t *command = image->bytes + place;
+        if (!is_command(image, place, LC_SEGMENT_64)) {
+            continue;
+        }
+        struct segment segment = read_segment(command);
+        if (is_mapped(&segment) && address >= segment.vmaddr && address - segment.vmaddr < segment.filesize &&
+            (FIELD(command, segment_command_64, initprot) & VM_PROT_EXECUTE) != 0) {
+            return true;
+        }
+    }
+    return false;
+}
+
+// There is an LC_MAIN.
+static bool breaks_entry(const struct image *image) {
+    uint64_t entryoff = FIELD(image->bytes + image->main, entry_point_command, entryoff);
+    return !image->has_base || entryoff > UINT64_MAX - image->base || !is_executable(image, image->base + entryoff);
+}
+
+// The walk over the load commands
+
+// What is judged in a listed command, past its size.
+enum kind {
+    NOT_LISTED, SYMBOLS, GROUPS, LIBRARY, LIBRARY_ID, NAMED, SEGMENT, IDENTITY, LINKEDIT_DATA, DYLD_INFO,
+    ENCRYPTION_INFO, DATA_NOTE, BUILD, MAIN
+};
+
+struct listed {
+    uint8_t kind, least; // the size of the command's structure
+};
+
+// A number below 128 for a `cmd` whose other bits are 0. All listed commands have such a one.
+#define SLOT(cmd) (((cmd) & 0x3fu) | (cmd) >> 31 << 6)
+#define SLOT_BITS (0x3fu | LC_REQ_DYLD)
+
+static const struct listed listed_commands[128] = {
+    [SLOT(LC_SYMTAB)] = {SYMBOLS, sizeof(struct symtab_command)},
+    [SLOT(LC_DYSYMTAB)] = {GROUPS, sizeof(struct dysymtab_command)},
+    [SLOT(LC_LOAD_DYLIB)] = {LIBRARY, sizeof(struct dylib_command)},
+    [SLOT(LC_ID_DYLIB)] = {LIBRARY_ID, sizeof(struct dylib_command)},
+    [SLOT(LC_LOAD_DYLINKER)] = {NAMED, sizeof(struct name_command)},
+    [SLOT(LC_ID_DYLINKER)] = {NAMED, sizeof(struct name_command)},
+    [SLOT(LC_SEGMENT_64)] = {SEGMENT, sizeof(struct segment_command_64)},
+    [SLOT(LC_UUID)] = {IDENTITY, sizeof(struct uuid_command)},
+    [SLOT(LC_CODE_SIGNATURE)] = {LINKEDIT_DATA, sizeof(struct linkedit_data_command)},
+    [SLOT(LC_SEGMENT_SPLIT_INFO)] = {LINKEDIT_DATA, sizeof(struct linkedit_data_command)},
+    [SLOT(LC_LAZY_LOAD_DYLIB)] = {LIBRARY, sizeof(struct dylib_command)},
+    [SLOT(LC_DYLD_INFO)] = {DYLD_INFO, sizeof(struct dyld_info_command)},
+    [SLOT(LC_FUNCTION_STARTS)] = {LINKEDIT_DATA, sizeof(struct linkedit_data_command)},
+    [SLOT(LC_DYLD_ENVIRONMENT)] = {NAMED, sizeof(struct name_command)},
+    [SLOT(LC_DATA_IN_CODE)] = {LINKEDIT_DATA, sizeof(struct linkedit_data_command)},
+    [SLOT(LC_DYLIB_CODE_SIGN_DRS)] = {LINKEDIT_DATA, sizeof(struct linkedit_data_command)},
+    [SLOT(LC_ENCRYPTION_INFO_64)] = {ENCRYPTION_INFO, sizeof(struct encryption_info_command_64)},
+    [SLOT(LC_LINKER_OPTIMIZATION_HINT)] = {LINKEDIT_DATA, sizeof(struct linkedit_data_command)},
+    [SLOT(LC_NOTE)] = {DATA_NOTE, sizeof(struct note_command)},
+    [SLOT(LC_BUILD_VERSION)] = {BUILD, sizeof(struct build_version_command)},
+    [SLOT(LC_LOAD_WEAK_DYLIB)] = {LIBRARY, sizeof(struct dylib_command)},
+    [SLOT(LC_RPATH)] = {NAMED, sizeof(struct name_command)},
+    [SLOT(LC_REEXPORT_DYLIB)] = {LIBRARY, sizeof(struct dylib_command)},
+    [SLOT(LC_DYLD_INFO_ONLY)] = {DYLD_INFO, sizeof(struct dyld_info_command)},
+    [SLOT(LC_LOAD_UPWARD_DYLIB)] = {LIBRARY, sizeof(struct dylib_command)},
+    [SLOT(LC_MAIN)] = {MAIN, sizeof(struct entry_point_command)},
+    [SLOT(LC_DYLD_EXPORTS_TRIE)] = {LINKEDIT_DATA, sizeof(struct linkedit_data_command)},
+    [SLOT(LC_DYLD_CHAINED_FIXUPS)] = {LINKEDIT_DATA, sizeof(struct linkedit_data_command)},
+};
+
+static inline struct listed listed_command(uint64_t cmd) {
+    return (cmd & ~(uint64_t)SLOT_BITS) == 0 ? listed_commands[SLOT(cmd)] : (struct listed){NOT_LISTED, 0};
+}
+
+static inline void judge_section(const struct image *image, const struct segment *segment, uint64_t place) {
+    struct section section = read_section(image->bytes + place);
+    if (breaks_section_address(segment, &section)) {
+        note_in(image, SECTION_ADDRESS, place);
+    }
+    if (breaks_section_file(segment, &section, image->size)) {
+        note_in(image, SECTION_FILE, place);
+    }
+    if (breaks_section_relocs(&section, image->size)) {
+        note_in(image, SECTION_RELOCS, place);
+    }
+}
+
+static inline void judge_segment(struct image *image, uint64_t place) {
+    struct segment segment = read_segment(image->bytes + place);
+    if (breaks_segment_address(&segment)) {
+        note_in(image, SEGMENT_ADDRESS, place);
+    }
+    if (breaks_segment_size(&segment)) {
+        note_in(image, SEGMENT_SIZE, place);
+    }
+    if (breaks_segment_file(&segment, image->size)) {
+        note_in(image, SEGMENT_FILE, place);
+    }
+    if (is_mapped(&segment)) {
+        follow(&image->addresses, segment.vmaddr, last_address(&segment), image->start + place);
+        if (!image->has_base && segment.fileoff == 0 && segment.filesize != 0) {
+            image->has_base = true;
+            image->base = segment.vmaddr;
+        }
+    }
+    extend(&image->segments, place);
+    image->section_count += segment.nsects;
+    uint64_t sections = place + sizeof(struct segment_command_64);
+    for (uint64_t k = 0; k < segment.nsects; k++) {
+        judge_section(image, &segment, sections + sizeof(struct section_64) * k);
+    }
+}
+
+static inline void judge_name(const struct image *image, uint64_t place, uint64_t size, uint64_t least) {
+    if (breaks_name(image->bytes + place, size, least)) {
+        note_in(image, NAME, place);
+    }
+}
+
+static void judge_tables(const struct image *image, uint64_t place, const struct table *tables, size_t count) {
+    for (size_t k = 0; k < count; k++) {
+        if (breaks_table_range(image->bytes + place, &tables[k], image->size)) {
+            note_in(image, TABLE_RANGE, place);
+        }
+    }
+}
+
+#define JUDGE_TABLES(image, place, tables) judge_tables(image, place, tables, sizeof(tables) / sizeof((tables)[0]))
+
+// A listed command that is not too short.
+static inline void judge_command(struct image *image, uint64_t place, uint64_t size, struct listed listed) {
+    switch (listed.kind) {
+    case SYMBOLS:
+        judge_command_repeated(image, &image->symtab, place);
+        JUDGE_TABLES(image, place, symtab_tables);
+        break;
+    case GROUPS:
+        judge_command_repeated(image, &image->dysymtab, place);
+        JUDGE_TABLES(image, place, dysymtab_tables);
+        break;
+    case LIBRARY_ID:
+        judge_command_repeated(image, &image->id_dylib, place);
+        judge_name(image, place, size, listed.least);
+        break;
+    case LIBRARY:
+        extend(&image->libraries, place);
+        judge_name(image, place, size, listed.least);
+        break;
+    case NAMED:
+        judge_name(image, place, size, listed.least);
+        break;
+    case SEGMENT:
+        judge_segment(image, place);
+        break;
+    case IDENTITY:
+        judge_command_repeated(image, &image->uuid, place);
+        break;
+    case LINKEDIT_DATA:
+        JUDGE_TABLES(image, place, linkedit_data_tables);
+        break;
+    case DYLD_INFO:
+        JUDGE_TABLES(image, place, dyld_info_tables);
+        break;
+    case ENCRYPTION_INFO:
+        JUDGE_TABLES(image, place, encryption_info_tables);
+        break;
+    case DATA_NOTE:
+        if (breaks_table_range_of_note(image->bytes + place, image->size)) {
+            note_in(image, TABLE_RANGE, place);
+        }
+        break;
+    case BUILD:
+        extend(&image->builds, place);
+        break;
+    case MAIN:
+        judge_command_repeated(image, &image->main, place);
+        break;
+    default:
+        break;
+    }
+}
+
+// The rules from command-walk to table-range, but for dylib-id and segment-overlap. A short command is not read.
+static void walk(struct image *image) {
+    uint64_t place = sizeof(struct mach_header_64);
+    for (uint64_t k = 0; k < image->ncmds; k++) {
+        const uint8_t *command = image->bytes + place;
+        uint64_t size = walk_over(command, image->commands_end - place);
+        if (size == 0) {
+            note_in(image, COMMAND_WALK, place);
+            return;
+        }
+        struct listed listed = listed_command(FIELD(command, load_command, cmd));
+        if (listed.kind != NOT_LISTED) {
+            if (breaks_command_short(command, size, listed.least)) {
+                note_in(image, COMMAND_SHORT, place);
+            } else {
+                judge_command(image, place, size, listed);
+            }
+        }
+        place += size;
+    }
+}
+
+// The judgment
+
+// An image in which nothing is found yet. Its slice lies in the file.
+static inline void begin_image(struct image *image, const struct file *file, uint64_t start, uint64_t size,
+                               struct breaks *breaks) {
+    image->breaks = breaks;
+    image->bytes = file->bytes + start;
+    image->size = size;
+    image->start = start;
+    image->symtab = image->dysymtab = image->id_dylib = image->uuid = image->main = 0;
+    image->has_base = false;
+    image->builds.first = image->segments.first = image->libraries.first = 0;
+    image->section_count = 0;
+    begin_order(&image->addresses);
+}
+
+// The rules up to table-range, but for segment-overlap. `entry` has the architecture of the slice's entry, and is NULL
+// where the file is not universal.
+static void survey(struct image *image, const struct arch *entry) {
+    const uint8_t *header = image->bytes;
+    if (breaks_header_truncated(image->size)) {
+        note_in(image, HEADER_TRUNCATED, 0);
+        return;
+    }
+    image->arch = masked(FIELD(header, mach_header_64, cputype), FIELD(header, mach_header_64, cpusubtype));
+    image->filetype = FIELD(header, mach_header_64, filetype);
+    image->ncmds = FIELD(header, mach_header_64, ncmds);
+    image->commands_end = sizeof(struct mach_header_64) + FIELD(header, mach_header_64, sizeofcmds);
+    if (breaks_arch_mismatch(image, entry)) {
+        note_in(image, ARCH_MISMATCH, offsetof(struct mach_header_64, cputype));
+    } else if (breaks_file_type(image->filetype)) {
+        note_in(image, FILE_TYPE, offsetof(struct mach_header_64, filetype));
+    } else if (breaks_commands_outside(image)) {
+        note_in(image, COMMANDS_OUTSIDE, offsetof(struct mach_header_64, sizeofcmds));
+    } else {
+        walk(image);
+        if (breaks_dylib_id(image)) {
+            note_in(image, DYLIB_ID, offsetof(struct mach_header_64, filetype));
+        }
+    }
+}
+
+// The rules that are left after the survey. From symbol-group on each is about tables that lie in the slice.
+static void judge_surveyed(const struct image *image) {
+    if (is_kept_below(image->breaks, SEGMENT_OVERLAP)) {
+        judge_segment_overlap(image);
+    }
+    if (image->breaks->broken != 0) {
+        return;
+    }
+    if (image->dysymtab != 0 && breaks_symbol_group(image)) {
+        note_in(image, SYMBOL_GROUP, image->dysymtab);
+    }
+    judge_symbols(image);
+    if (image->dysymtab != 0) {
+        judge_indirect_index(image);
+    }
+    if (image->main != 0 && breaks_entry(image)) {
+        note_in(image, ENTRY, image->main);
+    }
+}
+
+// Whether the slice is one of 64 bits in little-endian order, which is read.
+static bool is_read(const struct universal *file, const struct entry *entry) {
+    return read_little(file->bytes + entry->offset, sizeof(uint32_t)) == MH_MAGIC_64;
+}
+
+// The slices, which lie in the file: fat-slice-magic, fat-empty, and the rules of an image up to the first slice that
+// breaks one. fat-slice-magic comes first of these, so it goes on over all of them.
+static void judge_slices(const struct file *file, const struct universal *universal, struct breaks *breaks) {
+    struct image image;
+    bool is_empty = true;
+    for (uint64_t k = 0; k < universal->nfat_arch; k++) {
+        struct entry entry = read_entry(universal, k);
+        if (breaks_fat_slice_magic(universal, &entry)) {
+            note(breaks, FAT_SLICE_MAGIC, entry.offset);
+        } else if (is_read(universal, &entry)) {
+            is_empty = false;
+            if (breaks->broken == 0) {
+                begin_image(&image, file, entry.offset, entry.size, breaks);
+                survey(&image, &entry.arch);
+                judge_surveyed(&image);
+            }
+        }
+    }
+    if (is_empty) {
+        note(breaks, FAT_EMPTY, offsetof(struct fat_header, nfat_arch));
+    }
+}
+
+// The report, as README.md has its lines
+
+// The most bytes of a line, but for the name of a library.
+#define LINE_SIZE ((size_t)512)
+
+static uint8_t output[OUTPUT_SIZE];
+static size_t output_used;
+
+static void flush_output(void) {
+    for (size_t written = 0; written < output_used;) {
+        ssize_t count = write(STDOUT_FILENO, output + written, output_used - written);
+        if (count <= 0) {
+            stop(NOT_READ_OR_WRITTEN, "write failed");
+        }
+        written += (size_t)count;
+    }
+    output_used = 0;
+}
+
+// Makes room for so many bytes, which all that is put has to have.
+static inline void make_room(size_t size) {
+    if (OUTPUT_SIZE - output_used < size) {
+        flush_output();
+    }
+}
+
+static inline void put_byte(uint8_t byte) {
+    output[output_used++] = byte;
+}
+
+static inline void put_bytes(const char *bytes, size_t size) {
+    memcpy(output + output_used, bytes, size);
+    output_used += size;
+}
+
+// A text that is written out here, and a word of one of the tables.
+#define PUT(text) put_bytes(text, sizeof(text) - 1)
+
+static void put_word(const char *word) {
+    put_bytes(word, strlen(word));
+}
+
+static inline void put_hex(uint64_t number) {
+    size_t digits = number == 0 ? 1 : (size_t)(67 - __builtin_clzll(number)) / 4;
+    PUT("0x");
+    for (size_t k = digits; k-- > 0; number >>= 4) {
+        output[output_used + k] = (uint8_t)"0123456789abcdef"[number & 0xf];
+    }
+    output_used += digits;
+}
+
+static inline void put_decimal(uint64_t number) {
+    size_t digits = 1;
+    for (uint64_t rest = number / 10; rest != 0; rest /= 10) {
+        digits++;
+    }
+    for (size_t k = digits; k-- > 0; number /= 10) {
+        output[output_used + k] = (uint8_t)('0' + number % 10);
+    }
+    output_used += digits;
+}
+
+// A version of 16, 8 and 8 bits.
+static void put_version(uint64_t version) {
+    put_decimal(version >> 16);
+    PUT(".");
+    put_decimal(version >> 8 & 0xff);
+    PUT(".");
+    put_decimal(version & 0xff);
+}
+
+// A name in double quotes, of any length, with room for a line after it. Of each 64 bytes there may be four times as
+// many, which are no more than a line.
+static void put_name(const uint8_t *name, size_t size) {
+    PUT("\"");
+    for (size_t k = 0; k < size; k++) {
+        uint8_t byte = name[k];
+        if (k % 64 == 0) {
+            make_room(LINE_SIZE);
+        }
+        if (byte >= ' ' && byte <= '~' && byte != '"' && byte != '\\') {
+            put_byte(byte);
+        } else {
+            PUT("\\x");
+            put_byte((uint8_t)"0123456789abcdef"[byte >> 4]);
+            put_byte((uint8_t)"0123456789abcdef"[byte & 0xf]);
+        }
+    }
+    make_room(LINE_SIZE);
+    PUT("\"");
+}
+
+// The name of a segment or section, in 16 bytes.
+static void put_name_of_16(const uint8_t *name) {
+    put_name(name, strnlen((const char *)name, 16));
+}
+
+#define PUT_LABELLED(label, number) (PUT(label), put_hex(number))
+
+static const char *arch_name(const struct arch *arch) {
+    if (arch->cputype == CPU_TYPE_X86_64) {
+        return arch->cpusubtype == CPU_SUBTYPE_X86_64_ALL ? "x86_64" :
+            arch->cpusubtype == CPU_SUBTYPE_X86_64_H ? "x86_64h" : NULL;
+    }
+    if (arch->cputype == CPU_TYPE_ARM64) {
+        return arch->cpusubtype == CPU_SUBTYPE_ARM64_ALL ? "arm64" :
+            arch->cpusubtype == CPU_SUBTYPE_ARM64E ? "arm64e" : NULL;
+    }
+    return NULL;
+}
+
+static const char *filetype_word(uint64_t filetype) {
+    return filetype == MH_EXECUTE ? "execute" : filetype == MH_DYLIB ? "dylib" : "bundle";
+}
+
+// The word of a library that the image loads, and NULL of any other command.
+static const char *library_word(uint64_t cmd) {
+    switch (cmd) {
+    case LC_LOAD_DYLIB:
+        return "load ";
+    case LC_LOAD_WEAK_DYLIB:
+        return "weak ";
+    case LC_REEXPORT_DYLIB:
+        return "reexport ";
+    case LC_LAZY_LOAD_DYLIB:
+        return "lazy ";
+    case LC_LOAD_UPWARD_DYLIB:
+        return "upward ";
+    default:
+        return NULL;
+    }
+}
+
+static void print_break(const struct breaks *breaks) {
+    int first = __builtin_ctz(breaks->broken);
+    PUT("refused: ");
+    put_word(rule_names[first]);
+    PUT_LABELLED(" at ", breaks->places[first]);
+    PUT("\n");
+}
+
+static void print_accepted(uint64_t slices) {
+    PUT("accepted, slices ");
+    put_decimal(slices);
+    PUT("\n");
+}
+
+static void print_slice(uint64_t index, const struct arch *arch, uint64_t start, uint64_t size, const char *kind) {
+    make_room(LINE_SIZE);
+    PUT("slice ");
+    put_decimal(index);
+    PUT(" ");
+    if (arch_name(arch) != NULL) {
+        put_word(arch_name(arch));
+    } else {
+        put_hex(arch->cputype);
+        PUT_LABELLED("/", arch->cpusubtype);
+    }
+    PUT_LABELLED(" at ", start);
+    PUT_LABELLED(" size ", size);
+    PUT(" ");
+    put_word(kind);
+    PUT("\n");
+}
+
+static void print_library(const uint8_t *command, const char *word) {
+    const uint8_t *name = command + FIELD(command, dylib_command, name);
+    make_room(LINE_SIZE);
+    PUT("  ");
+    put_word(word);
+    put_name(name, strlen((const char *)name));
+    PUT(" current ");
+    put_version(FIELD(command, dylib_command, current_version));
+    PUT(" compatible ");
+    put_version(FIELD(command, dylib_command, compatibility_version));
+    PUT("\n");
+}
+
+static void print_uuid(const uint8_t *command) {
+    const uint8_t *uuid = command + offsetof(struct uuid_command, uuid);
+    make_room(LINE_SIZE);
+    PUT("  uuid ");
+    for (size_t k = 0; k < WIDTH(uuid_command, uuid); k++) {
+        if (k == 4 || k == 6 || k == 8 || k == 10) {
+            PUT("-");
+        }
+        put_byte((uint8_t)"0123456789ABCDEF"[uuid[k] >> 4]);
+        put_byte((uint8_t)"0123456789ABCDEF"[uuid[k] & 0xf]);
+    }
+    PUT("\n");
+}
+
+static void print_build(const uint8_t *command) {
+    make_room(LINE_SIZE);
+    PUT("  build platform ");
+    put_decimal(FIELD(command, build_version_command, platform));
+    PUT(" min ");
+    put_version(FIELD(command, build_version_command, minos));
+    PUT(" sdk ");
+    put_version(FIELD(command, build_version_command, sdk));
+    PUT("\n");
+}
+
+static void print_section(const uint8_t *section) {
+    make_room(LINE_SIZE);
+    PUT("    section ");
+    put_name_of_16(section + offsetof(struct section_64, sectname));
+    PUT_LABELLED(" addr ", FIELD(section, section_64, addr));
+    PUT_LABELLED(" size ", FIELD(section, section_64, size));
+    if (is_zero_fill(FIELD(section, section_64, flags))) {
+        PUT(" zero");
+    } else {
+        PUT_LABELLED(" file ", FIELD(section, section_64, offset));
+    }
+    PUT("\n");
+}
+
+static void print_segment(const uint8_t *command) {
+    uint64_t initprot = FIELD(command, segment_command_64, initprot);
+    make_room(LINE_SIZE);
+    PUT("  segment ");
+    put_name_of_16(command + offsetof(struct segment_command_64, segname));
+    PUT_LABELLED(" addr ", FIELD(command, segment_command_64, vmaddr));
+    PUT_LABELLED(" size ", FIELD(command, segment_command_64, vmsize));
+    PUT_LABELLED(" file ", FIELD(command, segment_command_64, fileoff));
+    PUT_LABELLED(" size ", FIELD(command, segment_command_64, filesize));
+    PUT(" ");
+    put_byte(initprot & VM_PROT_READ ? 'r' : '-');
+    put_byte(initprot & VM_PROT_WRITE ? 'w' : '-');
+    put_byte(initprot & VM_PROT_EXECUTE ? 'x' : '-');
+    PUT("\n");
+    const uint8_t *sections = command + sizeof(struct segment_command_64);
+    for (uint64_t k = 0; k < FIELD(command, segment_command_64, nsects); k++) {
+        print_section(sections + sizeof(struct section_64) * k);
+    }
+}
+
+static void print_builds(const struct image *image) {
+    const struct range *builds = &image->builds;
+    for (uint64_t place = builds->first; place != 0; place = next_place(image, builds, place)) {
+        if (is_command(image, place, LC_BUILD_VERSION)) {
+            print_build(image->bytes + place);
+        }
+    }
+}
+
+static void print_segments(const struct image *image) {
+    const struct range *segments = &image->segments;
+    for (uint64_t place = segments->first; place != 0; place = next_place(image, segments, place)) {
+        if (is_command(image, place, LC_SEGMENT_64)) {
+            print_segment(image->bytes + place);
+        }
+    }
+}
+
+static void print_libraries(const struct image *image) {
+    const struct range *libraries = &image->libraries;
+    for (uint64_t place = libraries->first; place != 0; place = next_place(image, libraries, place)) {
+        const uint8_t *command = image->bytes + place;
+        const char *word = library_word(FIELD(command, load_command, cmd));
+        if (word != NULL) {
+            print_library(command, word);
+        }
+    }
+}
+
+static void print_entry(const struct image *image) {
+    make_room(LINE_SIZE);
+    if (image->main == 0) {
+        PUT("  entry none\n");
+        return;
+    }
+    uint64_t entryoff = FIELD(image->bytes + image->main, entry_point_command, entryoff);
+    PUT_LABELLED("  entry ", image->base + entryoff);
+    PUT("\n");
+}
+
+// The lines of an accepted image.
+static void print_image(uint64_t index, const struct image *image) {
+    print_slice(index, &image->arch, image->start, image->size, filetype_word(image->filetype));
+    if (image->id_dylib != 0) {
+        print_library(image->bytes + image->id_dylib, "id ");
+    }
+    if (image->uuid != 0) {
+        print_uuid(image->bytes + image->uuid);
+    }
+    print_builds(image);
+    print_segments(image);
+    print_libraries(image);
+    if (image->symtab != 0) {
+        make_room(LINE_SIZE);
+        PUT("  symbols ");
+        put_decimal(symbol_count(image));
+        PUT("\n");
+    }
+    print_entry(image);
+}
+
+// The lines of an accepted universal file. No image is kept while the others are judged, so each is surveyed again.
+static void print_universal(const struct file *file, const struct universal *universal, struct breaks *breaks) {
+    struct image image;
+    print_accepted(universal->nfat_arch);
+    for (uint64_t k = 0; k < universal->nfat_arch; k++) {
+        struct entry entry = read_entry(universal, k);
+        if (is_read(universal, &entry)) {
+            begin_image(&image, file, entry.offset, entry.size, breaks);
+            survey(&image, &entry.arch);
+            print_image(k, &image);
+        } else {
+            print_slice(k, &entry.arch, entry.offset, entry.size, "not read");
+        }
+    }
+}
+
+// The program
+
+// Standard input in one block of memory.
+static struct file read_input(void) {
+    struct stat input;
+    if (fstat(STDIN_FILENO, &input) != 0 || !S_ISREG(input.st_mode)) {
+        stop(NOT_READ_OR_WRITTEN, "read failed");
+    }
+    uint64_t size = (uint64_t)input.st_size;
+    if (size > INPUT_LIMIT) {
+        stop(NOT_READ_OR_WRITTEN, "more than 4294967296 bytes");
+    }
+    struct file file = {malloc(size == 0 ? 1 : size), 0};
+    if (file.bytes == NULL) {
+        stop(NO_MEMORY, "out of memory");
+    }
+    while (file.size < size) {
+        ssize_t count = read(STDIN_FILENO, file.bytes + file.size, size - file.size);
+        if (count <= 0) {
+            stop(NOT_READ_OR_WRITTEN, "read failed");
+        }
+        file.size += (uint64_t)count;
+    }
+    return file;
+}
+
+// Judges a file that is an image, and prints its layout where it breaks no rule.
+static void check_image(const struct file *file, struct breaks *breaks) {
+    struct image image;
+    begin_image(&image, file, 0, file->size, breaks);
+    survey(&image, NULL);
+    judge_surveyed(&image);
+    if (breaks->broken == 0) {
+        print_accepted(1);
+        print_image(0, &image);
+    }
+}
+
+// The same of a universal file.
+static void check_universal(const struct file *file, struct breaks *breaks) {
+    struct universal universal;
+    if (breaks_fat_truncated(file, &universal)) {
+        note(breaks, FAT_TRUNCATED, offsetof(struct fat_header, nfat_arch));
+        return;
+    }
+    judge_entries(&universal, breaks);
+    if (breaks->broken != 0) {
+        return;
+    }
+    judge_slices(file, &universal, breaks);
+    if (breaks->broken == 0) {
+        print_universal(file, &universal, breaks);
+    }
+}
+
+int main(void) {
+    struct file file = read_input();
+    struct breaks breaks = {.broken = 0};
+    if (breaks_magic(&file)) {
+        note(&breaks, MAGIC, 0);
+    } else if (is_fat_magic(read_big(file.bytes, sizeof(uint32_t)))) {
+        check_universal(&file, &breaks);
+    } else {
+        check_image(&file, &breaks);
+    }
+    if (breaks.broken != 0) {
+        print_break(&breaks);
+    }
+    flush_output();
+    free(file.bytes);
+    return breaks.broken == 0 ? ACCEPTED : REFUSED;
+}
