@@ -1,12 +1,11 @@
 -- A number's digits, one at a time from the last.
-use Rattle.std.proofs.Common.{◌≡◌, ℕ, ◌+◌, ◌-◌, ◌*◌, ◌/◌, ◌%◌, ◌^◌, ◌<◌, ◌≤◌, ◌≢◌, ◌==◌, zero, suc, false, List, [], ◌∷◌, ◌++◌, length, take, drop, arith, refl, ap, ◌∙◌, sym, inl, inr, append_assoc}
-use Rattle.std.proofs.Math.Nat.{div-lt_iff_lt-mul, pow-suc, pow-zero, pow-le-pow_right}
+use Rattle.std.proofs.Common.{◌≡◌, ℕ, ◌+◌, ◌-◌, ◌*◌, ◌/◌, ◌%◌, ◌^◌, ◌<◌, ◌≤◌, ◌==◌, zero, suc, false, List, [], ◌∷◌, ◌++◌, length, drop, arith, refl, ap, ◌∙◌, sym, inl, inr, append_assoc, append-nil}
+use Rattle.std.proofs.Math.Nat.{div-lt_iff_lt-mul, pow-suc, pow-zero, pow-le-pow_left}
 use Rattle.std.proofs.lemmas.Bool.{cases_Bool, cases_eq}
 use Rattle.std.proofs.lemmas.Grind.{common_steps}
-use Rattle.std.proofs.lemmas.List.{length-drop, length-append}
+use Rattle.std.proofs.lemmas.List.{length-drop, drop_all}
 use Rattle.std.specs.Prelude.{slice_set}
 use Rattle.std.specs.Fmt.{digits, digits_onto, digit_glyph}
-use Rattle.macho_report.proofs.StreamLemmas.{rest_is}
 
 -- the digits of n, at most so many, before those in `after`
 pub digits_before : ℕ → ℕ → ℕ → List ℕ → List ℕ
@@ -53,16 +52,19 @@ pub all_put : (j m k i base n digit : ℕ) (digits all : List ℕ) → j ≡ suc
 all_put j m k i base n digit digits all fewer e h none is before =
     digit_put k i digit digits e h ∙ ap (λ d. d ∷ drop k digits) is ∙ sym (before ∙ last_digit j m base n (drop k digits) fewer none)
 
--- how long the digits are
-pub long : (start end size : ℕ) (digits old new : List ℕ) → length old ≡ size → length new ≡ size → start ≤ end → end ≤ size
-    → drop start new ≡ digits ++ drop end old → start + length digits ≡ end
-long start end size digits old new a b within in_array e =
-    omega (arith, simp (length-drop, length-append) at (ap length e))
+-- how long the digits at the end of an array are
+pub long : (start size : ℕ) (digits places : List ℕ) → length places ≡ size → start ≤ size → drop start places ≡ digits → start + length digits ≡ size
+long start size digits places e within is = omega (arith, simp length-drop at (ap length is))
 
--- what fits in some places fits in more
-pub fits_more : (base n k end : ℕ) → 0 < base → n < base ^ k → k ≤ end → n < base ^ end
-fits_more base n k end some h more =
-    let power : base ^ k ≤ base ^ end = pow-le-pow_right some more in
+-- before the first digit is put
+pub digits_begin : (base n : ℕ) (places : List ℕ) → length places ≡ 20 → digits base false n ≡ digits_before (64 - (20 - 20)) base n (drop 20 places)
+digits_begin base n places e =
+    rw (drop_all 20 places (omega arith)) (sym (append-nil (digits base false n)) ∙ digits_are (64 - (20 - 20)) base n [] refl)
+
+-- a number of 64 bits fits in 20 places
+pub fits_array : (base n : ℕ) → 10 ≤ base → n < 2 ^ 64 → n < base ^ 20
+fits_array base n low h =
+    let power : 10 ^ 20 ≤ base ^ 20 = pow-le-pow_left low 20 in
     omega arith
 
 power_more : (k i : ℕ) → k ≡ i + 1 → k ≡ suc i
@@ -99,12 +101,3 @@ fits_digits (suc most) k base n after some one fits = elim (cases_eq (n / base) 
 pub short : (base n k : ℕ) → 0 < base → 0 < k → n < base ^ k → length (digits base false n) ≤ k
 unfolding digits digits_before
 short base n k some one fits = omega (arith, fits_digits 64 k base n [] some one fits)
-
--- what is written of the array: the text at its end
-pub written_places : (start : ℕ) (text places : List ℕ) → length places ≡ 48 → drop start places ≡ text → take (48 - start) (drop start places) ≡ text
-written_places start text places e is = rest_is 48 start places e ∙ is
-
-pub some_places : (start : ℕ) (places : List ℕ) → length places ≡ 48 → start < 48 → take (48 - start) (drop start places) ≢ []
-some_places start places e h none =
-    let rest : drop start places ≡ [] = sym (rest_is 48 start places e) ∙ none in
-    absurd (omega (arith, simp length-drop at (ap length rest)))

@@ -1,6 +1,8 @@
 pub mod StreamLemmas
 pub mod Digits
 pub mod Lines
+pub mod Holding
+pub mod Puts
 pub mod Texts
 pub mod Loops
 pub mod Slices

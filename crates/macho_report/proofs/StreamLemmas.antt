@@ -7,9 +7,13 @@ use Rattle.std.proofs.Math.Seq.{take-add, take-append-add, take-append_seam}
 use Rattle.std.proofs.KnownBytes.{Appends-nil, Appends-trans}
 use Rattle.std.specs.Io.KnownBytes.{Keeps}
 use Rattle.macho_report.specs.Stream.{Wrote, WrotePrefix, Writes, joined}
+use Rattle.macho_report.specs.Parts.{Writing}
 
 pub wrote_nothing : (a : Option (List ℕ)) → Wrote a a []
 wrote_nothing a = record { appended = Appends-nil a }
+
+pub wrote_no_more : (a : Option (List ℕ)) (text : List ℕ) → WrotePrefix a a text
+wrote_no_more a text = record { count = 0; appended = Appends-nil a }
 
 pub wrote_then : (a b c : Option (List ℕ)) (xs ys : List ℕ) → Wrote a b xs → Wrote b c ys → Wrote a c (xs ++ ys)
 wrote_then a b c xs ys first second =
@@ -104,12 +108,7 @@ pub writes_last_text : {T E : Type 0} (a b : Option (List ℕ)) (r : Result T E)
 writes_last_text a b (Ok x) text h = wrote_last_text a b text h
 writes_last_text a b (Err e) text h = wrote_prefix_first_text a b text [] h
 
--- What a loop has written of a text, and the texts that are left.
-pub record Writing (old new : Option (List ℕ)) (whole : List ℕ) (left : List (List ℕ)) : Type 0 where
-  pub done : List ℕ
-  pub wrote : Wrote old new done
-  pub rest : done ++ joined left ≡ whole
-
+-- What a loop has written of a text.
 pub writing_begins : (a : Option (List ℕ)) (texts : List (List ℕ)) → Writing a a (joined texts) texts
 writing_begins a texts = record { done = []; wrote = wrote_nothing a; rest = refl }
 

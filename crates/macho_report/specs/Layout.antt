@@ -2,7 +2,6 @@
 use Rattle.std.specs.Prelude.{◌&&◌, ℕ, ◌==◌, not, nat_le, List, [], ◌∷◌, length, map, filter, codes, Bool, if◌then◌else◌}
 use Rattle.std.specs.List.{enumerate_from}
 use Rattle.std.specs.Option.{option_map_or}
-use Rattle.std.specs.Fmt.{decimal}
 use Rattle.macho_fields.specs.Field.{number}
 use Rattle.macho_fields.specs.FileTypes.{file_type_of}
 use Rattle.macho_fields.specs.Image.{cpu_type, cpu_subtype, file_type, command_cmd, commands_of, with_cmd}
@@ -18,7 +17,7 @@ use Rattle.macho_image.specs.Library.{libraries, dylib_at}
 use Rattle.macho_image.specs.Single.{uuid_at}
 use Rattle.macho_report.specs.Stream.{joined}
 use Rattle.macho_report.specs.Arch.{arch_text}
-use Rattle.macho_report.specs.Line.{slice_line, uuid_line, build_line, segment_line, section_line, library_line, symbols_line, entry_line}
+use Rattle.macho_report.specs.Line.{count_line, slice_line, uuid_line, build_line, segment_line, section_line, library_line, symbols_line, entry_line}
 
 -- The lines of an image, which stand in this order; those of one kind in the order of the commands
 
@@ -108,5 +107,5 @@ slice_text file indexed =
 -- the layout of a file: how many slices it has, and the lines of each, in the order of the table
 abbrev pub layout_text : List ℕ → List ℕ
 layout_text file =
-    joined (codes "accepted, slices " ∷ decimal (length (slices_of file)) ∷ codes "\n"
+    joined (count_line (length (slices_of file))
     ∷ joined (map (slice_text file) (enumerate_from 0 (slices_of file))) ∷ [])

@@ -3,6 +3,7 @@ pub mod Number
 pub mod Name
 pub mod Arch
 pub mod Line
+pub mod Parts
 pub mod Layout
 pub mod Text
 pub mod Run

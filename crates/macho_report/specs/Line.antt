@@ -1,7 +1,6 @@
 -- The lines of a layout. Each ends with one line feed.
 use Rattle.std.specs.Prelude.{ℕ, ◌==◌, List, [], ◌∷◌, codes, map, take, drop, Option, Some, None, bit_and, if◌then◌else◌}
 use Rattle.std.specs.Fmt.{decimal}
-use Rattle.macho_fields.specs.Image.{word}
 use Rattle.macho_fields.specs.Segment.{vmaddr, vmsize, fileoff, filesize, initprot}
 use Rattle.macho_fields.specs.Segment.{section_address, section_size, section_offset, is_zero_fill}
 use Rattle.macho_fields.specs.declared.header.loader.TheConstants as loader
@@ -11,27 +10,29 @@ use Rattle.macho_report.specs.Stream.{joined}
 use Rattle.macho_report.specs.Number.{prefixed_hex, upper_byte_hex, version_text}
 use Rattle.macho_report.specs.Name.{quoted}
 
--- a part of the file or of memory: its first place, and its size
-abbrev pub extent_text : List ℕ → ℕ → ℕ → List ℕ
-extent_text word start size =
-    joined (word ∷ prefixed_hex start ∷ codes " size " ∷ prefixed_hex size ∷ [])
+-- the first line: how many slices there are
+abbrev pub count_line : ℕ → List ℕ
+count_line slices = joined (codes "accepted, slices " ∷ decimal slices ∷ codes "\n" ∷ [])
 
 -- a slice: its index from 0, its architecture, its first place and its size in the file, and the
 -- word of its kind
 abbrev pub slice_line : ℕ → List ℕ → ℕ → ℕ → List ℕ → List ℕ
 slice_line index arch start size kind =
-    joined (codes "slice " ∷ decimal index ∷ codes " " ∷ arch ∷ extent_text (codes " at ") start size
-    ∷ codes " " ∷ kind ∷ codes "\n" ∷ [])
+    joined (codes "slice " ∷ decimal index ∷ codes " " ∷ arch ∷ codes " at " ∷ prefixed_hex start
+    ∷ codes " size " ∷ prefixed_hex size ∷ codes " " ∷ kind ∷ codes "\n" ∷ [])
 
--- LC_UUID: the bytes of the uuid, in groups of 4, 2, 2, 2 and 6, each after a text
-abbrev pub uuid_group : List ℕ → List ℕ → ℕ → ℕ → List ℕ
-uuid_group text uuid start count = joined (text ∷ map upper_byte_hex (take count (drop start uuid)))
+-- the bytes of a uuid, in groups of 4, 2, 2, 2 and 6
+abbrev pub group : List ℕ → ℕ → ℕ → List ℕ
+group uuid start count = joined (map upper_byte_hex (take count (drop start uuid)))
 
+abbrev pub grouped : List ℕ → List ℕ
+grouped uuid =
+    joined (group uuid 0 4 ∷ codes "-" ∷ group uuid 4 2 ∷ codes "-" ∷ group uuid 6 2 ∷ codes "-"
+    ∷ group uuid 8 2 ∷ codes "-" ∷ group uuid 10 6 ∷ [])
+
+-- LC_UUID: the uuid
 abbrev pub uuid_line : List ℕ → List ℕ
-uuid_line uuid =
-    joined (uuid_group (codes "  uuid ") uuid 0 4 ∷ uuid_group (codes "-") uuid 4 2
-    ∷ uuid_group (codes "-") uuid 6 2 ∷ uuid_group (codes "-") uuid 8 2
-    ∷ uuid_group (codes "-") uuid 10 6 ∷ codes "\n" ∷ [])
+uuid_line uuid = joined (codes "  uuid " ∷ grouped uuid ∷ codes "\n" ∷ [])
 
 -- LC_BUILD_VERSION: the platform, and the versions minos and sdk
 abbrev pub build_line : ℕ → ℕ → ℕ → List ℕ
@@ -53,22 +54,28 @@ protection_text protection =
 abbrev pub segment_line : List ℕ → ℕ → List ℕ
 segment_line image segment =
     joined (codes "  segment " ∷ quoted (segment_name image segment)
-    ∷ extent_text (codes " addr ") (vmaddr image segment) (vmsize image segment)
-    ∷ extent_text (codes " file ") (fileoff image segment) (filesize image segment)
+    ∷ codes " addr " ∷ prefixed_hex (vmaddr image segment)
+    ∷ codes " size " ∷ prefixed_hex (vmsize image segment)
+    ∷ codes " file " ∷ prefixed_hex (fileoff image segment)
+    ∷ codes " size " ∷ prefixed_hex (filesize image segment)
     ∷ codes " " ∷ protection_text (initprot image segment) ∷ codes "\n" ∷ [])
 
--- where the bytes of a section are: nowhere, or from a place of the image on
-abbrev pub contents_text : List ℕ → ℕ → List ℕ
-contents_text image section =
-    if is_zero_fill image section then codes "zero"
-    else joined (codes "file " ∷ prefixed_hex (section_offset image section) ∷ [])
+-- where the bytes of a section begin in the image, if it has any there
+abbrev pub contents_of : List ℕ → ℕ → Option ℕ
+contents_of image section =
+    if is_zero_fill image section then None else Some (section_offset image section)
+
+abbrev pub contents_text : Option ℕ → List ℕ
+contents_text (Some place) = joined (codes "file " ∷ prefixed_hex place ∷ [])
+contents_text None = codes "zero"
 
 -- a section: its name, its part of memory, where its bytes are
 abbrev pub section_line : List ℕ → ℕ → List ℕ
 section_line image section =
     joined (codes "    section " ∷ quoted (section_name image section)
-    ∷ extent_text (codes " addr ") (section_address image section) (section_size image section)
-    ∷ codes " " ∷ contents_text image section ∷ codes "\n" ∷ [])
+    ∷ codes " addr " ∷ prefixed_hex (section_address image section)
+    ∷ codes " size " ∷ prefixed_hex (section_size image section)
+    ∷ codes " " ∷ contents_text (contents_of image section) ∷ codes "\n" ∷ [])
 
 -- the word of a command that names a library, by its cmd
 abbrev pub library_word : ℕ → List ℕ

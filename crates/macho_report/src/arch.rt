@@ -1,28 +1,30 @@
 //! Architectures as text. (`mach/machine.h`)
 
-ghost use Rattle.std.specs.Prelude.{◌≡◌, ◌≢◌, [], IfSome, IsErr, IsTrue};
-ghost use Rattle.std.specs.Option.{option_map};
-ghost use Rattle.macho_report.specs.Stream.{Writes, FailsAtFault};
+ghost use Rattle.std.specs.Prelude.{◌≡◌, ◌+◌, ◌≤◌, [], ◌++◌, length, take, IfSome};
+ghost use Rattle.std.specs.Option.{option_map, option_map_or};
 ghost use Rattle.macho_report.specs.Arch.{named_arch, numbers_text, arch_text};
 
-use crate::number::write_hex;
-use crate::stream::Output;
-use crate::transfer::{WriteFault, write_all};
+use crate::number::{PLACES, put_hex, put_text};
 use macho_fields::header::machine::{
     CPU_SUBTYPE_ARM64_ALL, CPU_SUBTYPE_ARM64E, CPU_SUBTYPE_X86_64_ALL, CPU_SUBTYPE_X86_64_H,
     CPU_TYPE_ARM64, CPU_TYPE_X86_64,
 };
 
-/// Writes the name of an architecture, a `cputype` and a `cpusubtype` without its capability bits.
-/// Where it has no name, both numbers are written, as `0x7/0x3`.
-pub(crate) fn write_arch<W: Output>(arch: (u32, u32), writer: &mut W) -> Result<(), WriteFault>
-    ensures bytes { Writes (W.contents writer.old) (W.contents writer.new) result (arch_text arch) }
-    ensures failed { FailsAtFault (W.has_failed writer.old) (W.has_failed writer.new) result }
-    ensures stays_failed { IsTrue (W.has_failed writer.old) → IsErr result }
+/// Puts the name of the architecture of a slice, a `cputype` and a `cpusubtype` without its capability
+/// bits, and returns where it ends. Where it has no name, both numbers are put, as `0x7/0x3`. In an
+/// accepted file each slice has an architecture.
+pub(crate) fn put_arch(arch: Option<(u32, u32)>, len: usize, places: &mut [u8; PLACES]) -> usize
+    requires room { len + 37 ≤ PLACES }
+    ensures end { result ≤ PLACES }
+    ensures text { take result places.new
+        ≡ take len places.old ++ option_map_or arch_text arch [] }
 {
+    let Some(arch) = arch else {
+        return len;
+    };
     match arch_name(arch) {
-        Some(name) => write_all(name.as_bytes(), writer),
-        None => write_numbers(arch, writer),
+        Some(name) => put_text(name.as_bytes(), len, places),
+        None => put_numbers(arch, len, places),
     }
 }
 
@@ -30,7 +32,7 @@ pub(crate) fn write_arch<W: Output>(arch: (u32, u32), writer: &mut W) -> Result<
 fn arch_name(arch: (u32, u32)) -> Option<&'static str>
     ensures name { option_map (λ name. name.now) result
         ≡ option_map (λ known. known.name) (named_arch arch) }
-    ensures some_text { IfSome result (λ name. name.now ≢ []) }
+    ensures short { IfSome result (λ name. length name.now ≤ 7) }
 {
     match arch {
         (CPU_TYPE_X86_64, CPU_SUBTYPE_X86_64_ALL) => Some("x86_64"),
@@ -41,14 +43,13 @@ fn arch_name(arch: (u32, u32)) -> Option<&'static str>
     }
 }
 
-// Writes both numbers of an architecture.
-fn write_numbers<W: Output>(arch: (u32, u32), writer: &mut W) -> Result<(), WriteFault>
-    ensures bytes { Writes (W.contents writer.old) (W.contents writer.new) result
-        (numbers_text arch) }
-    ensures failed { FailsAtFault (W.has_failed writer.old) (W.has_failed writer.new) result }
-    ensures stays_failed { IsTrue (W.has_failed writer.old) → IsErr result }
+// Puts both numbers of an architecture, and returns where they end.
+fn put_numbers(arch: (u32, u32), len: usize, places: &mut [u8; PLACES]) -> usize
+    requires room { len + 37 ≤ PLACES }
+    ensures end { result ≤ PLACES }
+    ensures text { take result places.new ≡ take len places.old ++ numbers_text arch }
 {
-    write_hex(u64::from(arch.0), writer)?;
-    write_all(b"/", writer)?;
-    write_hex(u64::from(arch.1), writer)
+    let cpu_type = put_hex(u64::from(arch.0), len, places);
+    let slash = put_text(b"/", cpu_type, places);
+    put_hex(u64::from(arch.1), slash, places)
 }

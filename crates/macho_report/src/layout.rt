@@ -13,12 +13,11 @@ ghost use Rattle.macho_report.specs.Layout.{layout_text, slice_text, image_slice
 ghost use Rattle.macho_report.specs.Line.{section_line};
 
 use crate::line::{
-    write_build, write_entry, write_library, write_section, write_segment, write_slice,
-    write_symbols, write_uuid,
+    write_build, write_count, write_entry, write_library, write_section, write_segment,
+    write_slice, write_symbols, write_uuid,
 };
-use crate::number::write_decimal;
 use crate::stream::Output;
-use crate::transfer::{WriteFault, write_all};
+use crate::transfer::WriteFault;
 use macho_fat::Slice;
 use macho_fields::header::loader::LC_ID_DYLIB;
 use macho_image::{Dylib, Image, Segment};
@@ -32,9 +31,7 @@ pub fn write_layout<W: Output>(verified: &Verified, writer: &mut W) -> Result<()
     ensures failed { FailsAtFault (W.has_failed writer.old) (W.has_failed writer.new) result }
     ensures stays_failed { IsTrue (W.has_failed writer.old) → IsErr result }
 {
-    write_all(b"accepted, slices ", writer)?;
-    write_decimal(verified.slice_count(), writer)?;
-    write_all(b"\n", writer)?;
+    write_count(verified.slice_count(), writer)?;
     write_slices(verified, writer)
 }
 

@@ -6,11 +6,13 @@ pub mod address;
 mod arch;
 pub mod from_read;
 pub mod from_write;
+mod held;
 pub mod layout;
 mod line;
 mod name;
 mod number;
 pub mod outcome;
+mod parts;
 pub mod stream;
 pub mod transfer;
 

@@ -1,43 +1,60 @@
 //! Names as text.
 
-ghost use Rattle.std.specs.Prelude.{◌≡◌, ℕ, ◌<◌, ◌≤◌, false, length, map, slice_index, IsErr, IsTrue};
-ghost use Rattle.macho_report.specs.Stream.{Writes, FailsAtFault, joined};
+ghost use Rattle.std.specs.Prelude.{◌≡◌, ℕ, ◌<◌, ◌≤◌, ◌++◌, false, length, map, slice_index, take, IfOk, IsTrue};
+ghost use Rattle.macho_report.specs.Stream.{FailsAtFault, joined};
 ghost use Rattle.macho_report.specs.Name.{is_plain, escaped, quoted};
+ghost use Rattle.macho_report.specs.Parts.{Holding};
 
-use crate::number::byte_digits;
+use crate::held::hold_text;
+use crate::number::{PLACES, byte_digits};
 use crate::stream::Output;
-use crate::transfer::{WriteFault, write_all};
+use crate::transfer::WriteFault;
 
-/// Writes a name in double quotes. A double quote, a backslash and every byte that is not printable
-/// ASCII are written as `\x` and two lower-case digits in base 16.
-pub(crate) fn write_quoted<W: Output>(name: &[u8], writer: &mut W) -> Result<(), WriteFault>
-    ensures bytes { Writes (W.contents writer.old) (W.contents writer.new) result (quoted name.now) }
+/// Holds a name in double quotes, and returns how many bytes are held then. A double quote, a backslash
+/// and every byte that is not printable ASCII are written as `\x` and two lower-case digits in base 16.
+pub(crate) fn hold_quoted<W: Output>(
+    name: &[u8],
+    len: usize,
+    places: &mut [u8; PLACES],
+    writer: &mut W,
+) -> Result<usize, WriteFault>
+    requires { len ≤ PLACES }
+    ensures in_array { IfOk result (λ held. held ≤ PLACES) }
+    ensures bytes { Holding (W.contents writer.old) (W.contents writer.new) result places.new
+        (take len places.old ++ quoted name.now) }
     ensures failed { FailsAtFault (W.has_failed writer.old) (W.has_failed writer.new) result }
-    ensures stays_failed { IsTrue (W.has_failed writer.old) → IsErr result }
 {
-    write_all(b"\"", writer)?;
-    write_escaped(name, writer)?;
-    write_all(b"\"", writer)
+    let opened = hold_text(b"\"", len, places, writer)?;
+    let escaped = hold_escaped(name, opened, places, writer)?;
+    hold_text(b"\"", escaped, places, writer)
 }
 
-// Writes each run of plain bytes as it is, and every other byte escaped.
-fn write_escaped<W: Output>(name: &[u8], writer: &mut W) -> Result<(), WriteFault>
-    ensures bytes { Writes (W.contents writer.old) (W.contents writer.new) result
-        (joined (map escaped name.now)) }
+// Holds each run of plain bytes as it is, and every other byte escaped.
+fn hold_escaped<W: Output>(
+    name: &[u8],
+    len: usize,
+    places: &mut [u8; PLACES],
+    writer: &mut W,
+) -> Result<usize, WriteFault>
+    requires { len ≤ PLACES }
+    ensures in_array { IfOk result (λ held. held ≤ PLACES) }
+    ensures bytes { Holding (W.contents writer.old) (W.contents writer.new) result places.new
+        (take len places.old ++ joined (map escaped name.now)) }
     ensures failed { FailsAtFault (W.has_failed writer.old) (W.has_failed writer.new) result }
 {
+    let mut held = len;
     let mut rest = name;
     while let Some((&first, after)) = rest.split_first() {
         let plain = count_plain(rest);
         if plain == 0 {
-            write_escape(first, writer)?;
+            held = hold_text(&escape(first), held, places, writer)?;
             rest = after;
         } else {
-            write_all(&rest[..plain], writer)?;
+            held = hold_text(&rest[..plain], held, places, writer)?;
             rest = &rest[plain..];
         }
     }
-    Ok(())
+    Ok(held)
 }
 
 // How many bytes at the front are plain.
@@ -61,12 +78,11 @@ fn is_plain(byte: u8) -> bool
     matches!(byte, b' '..=b'~') && byte != b'"' && byte != b'\\'
 }
 
-// Writes a byte as `\x` and two digits.
-fn write_escape<W: Output>(byte: u8, writer: &mut W) -> Result<(), WriteFault>
+// A byte that is not plain as `\x` and two digits.
+fn escape(byte: u8) -> [u8; 4]
     requires { is_plain byte ≡ false }
-    ensures bytes { Writes (W.contents writer.old) (W.contents writer.new) result (escaped byte) }
-    ensures failed { FailsAtFault (W.has_failed writer.old) (W.has_failed writer.new) result }
+    ensures { result ≡ escaped byte }
 {
-    write_all(b"\\x", writer)?;
-    write_all(&byte_digits(byte, false), writer)
+    let [high, low] = byte_digits(byte, false);
+    [b'\\', b'x', high, low]
 }

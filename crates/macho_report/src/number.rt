@@ -1,17 +1,15 @@
-//! Numbers as text.
+//! Numbers as text, and how a text is put into an array.
 
-ghost use Rattle.std.specs.Prelude.{◌≡◌, ◌+◌, ◌/◌, ◌%◌, ◌^◌, ◌<◌, ◌≤◌, [], ◌∷◌, ◌++◌, false, codes, drop, length, map, IsErr, IsTrue};
+ghost use Rattle.std.specs.Prelude.{◌≡◌, ◌+◌, ◌*◌, ◌/◌, ◌%◌, ◌<◌, ◌≤◌, [], ◌∷◌, ◌++◌, false, codes, drop, length, map, take};
 ghost use Rattle.std.specs.Fmt.{decimal, digits, digit_glyph};
-ghost use Rattle.macho_report.specs.Stream.{Writes, FailsAtFault, joined};
+ghost use Rattle.macho_report.specs.Stream.{joined};
 ghost use Rattle.macho_report.specs.Number.{prefixed_hex, upper_byte_hex, version_text};
 
-use crate::stream::Output;
-use crate::transfer::{WriteFault, write_all};
+/// How many bytes of a line are held in an array before they are written.
+pub(crate) const PLACES: usize = 256;
 
-/// How many bytes an array has in which a text is put together from its end, to be written at once. The
-/// longest are the two versions of a library, of 9, 13, 12, 13 and 1 bytes, and a part of memory, of 6,
-/// 18, 6 and 18.
-pub(crate) const PLACES: usize = 48;
+/// How many digits a number of 64 bits has at most, in base 10.
+const DIGITS: usize = 20;
 
 // The digit of a value below 16.
 fn digit(value: u8, upper: bool) -> u8
@@ -27,19 +25,15 @@ fn digit(value: u8, upper: bool) -> u8
     }
 }
 
-// Puts a number's digits in a base from 10 to 16 before a place of the array, and returns where they
-// begin.
-fn put_digits<const BASE: u64>(number: u64, end: usize, places: &mut [u8; PLACES]) -> usize
+// Puts a number's digits in a base from 10 to 16 at the end of the array, and returns where they begin.
+fn put_digits<const BASE: u64>(number: u64, places: &mut [u8; DIGITS]) -> usize
     requires low { 10 ≤ BASE }
     requires high { BASE ≤ 16 }
-    requires room { number < BASE ^ end }
-    requires some_place { 0 < end }
-    requires in_array { end ≤ PLACES }
-    ensures start { result + length (digits BASE false number) ≡ end }
-    ensures digits { drop result places.new ≡ digits BASE false number ++ drop end places.old }
+    ensures start { result + length (digits BASE false number) ≡ DIGITS }
+    ensures digits { drop result places.new ≡ digits BASE false number }
 {
     let mut rest = number;
-    let mut start = end;
+    let mut start = DIGITS;
     loop {
         start -= 1;
         places[start] = digit((rest % BASE) as u8, false);
@@ -50,78 +44,69 @@ fn put_digits<const BASE: u64>(number: u64, end: usize, places: &mut [u8; PLACES
     }
 }
 
-/// Puts a text before a place of the array, and returns where it begins.
-pub(crate) fn put_text(text: &[u8], end: usize, places: &mut [u8; PLACES]) -> usize
-    requires room { length text.now ≤ end }
-    requires in_array { end ≤ PLACES }
-    ensures start { result + length text.now ≡ end }
-    ensures text { drop result places.new ≡ text.now ++ drop end places.old }
+/// Puts a text after the first `len` bytes of the array, and returns where it ends.
+pub(crate) fn put_text(text: &[u8], len: usize, places: &mut [u8; PLACES]) -> usize
+    requires room { len + length text.now ≤ PLACES }
+    ensures end { result ≡ len + length text.now }
+    ensures text { take result places.new ≡ take len places.old ++ text.now }
 {
-    let start = end - text.len();
-    places[start..end].copy_from_slice(text);
-    start
+    let end = len + text.len();
+    places[len..end].copy_from_slice(text);
+    end
 }
 
-/// Puts a number in base 16, as `0x1e8`, before a place of the array, and returns where it begins.
-pub(crate) fn put_hex(number: u64, end: usize, places: &mut [u8; PLACES]) -> usize
-    requires room { 18 ≤ end }
-    requires in_array { end ≤ PLACES }
-    ensures start { result < end }
-    ensures short { end ≤ result + 18 }
-    ensures text { drop result places.new ≡ prefixed_hex number ++ drop end places.old }
+// Puts the digits of a number in a base from 10 to 16.
+fn put_number<const BASE: u64>(number: u64, len: usize, places: &mut [u8; PLACES]) -> usize
+    requires low { 10 ≤ BASE }
+    requires high { BASE ≤ 16 }
+    requires room { len + length (digits BASE false number) ≤ PLACES }
+    ensures end { result ≡ len + length (digits BASE false number) }
+    ensures text { take result places.new ≡ take len places.old ++ digits BASE false number }
 {
-    let digits = put_digits::<16>(number, end, places);
-    put_text(b"0x", digits, places)
+    let mut digits = [0u8; DIGITS];
+    let start = put_digits::<BASE>(number, &mut digits);
+    put_text(&digits[start..], len, places)
 }
 
-/// Puts a version X.Y.Z that has the form `xxxx.yy.zz`, 16, 8 and 8 bits, before a place of the array,
-/// and returns where it begins.
-pub(crate) fn put_version(version: u32, end: usize, places: &mut [u8; PLACES]) -> usize
-    requires room { 13 ≤ end }
-    requires in_array { end ≤ PLACES }
-    ensures start { result < end }
-    ensures short { end ≤ result + 13 }
-    ensures text { drop result places.new ≡ version_text version ++ drop end places.old }
+/// Puts a number in base 10, and returns where it ends.
+pub(crate) fn put_decimal(number: u64, len: usize, places: &mut [u8; PLACES]) -> usize
+    requires room { len + 20 ≤ PLACES }
+    ensures end { result ≤ len + 20 }
+    ensures text { take result places.new ≡ take len places.old ++ decimal number }
+{
+    put_number::<10>(number, len, places)
+}
+
+/// Puts a number in base 16, as `0x1e8`, and returns where it ends.
+pub(crate) fn put_hex(number: u64, len: usize, places: &mut [u8; PLACES]) -> usize
+    requires room { len + 18 ≤ PLACES }
+    ensures end { result ≤ len + 18 }
+    ensures text { take result places.new ≡ take len places.old ++ prefixed_hex number }
+{
+    let prefix_end = put_text(b"0x", len, places);
+    put_number::<16>(number, prefix_end, places)
+}
+
+/// Puts a version X.Y.Z that has the form `xxxx.yy.zz`, 16, 8 and 8 bits, and returns where it ends.
+pub(crate) fn put_version(version: u32, len: usize, places: &mut [u8; PLACES]) -> usize
+    requires room { len + 13 ≤ PLACES }
+    ensures end { result ≤ len + 13 }
+    ensures text { take result places.new ≡ take len places.old ++ version_text version }
 {
     let [patch, minor, _, _] = version.to_le_bytes();
-    let patch_start = put_part(patch, end, places);
-    let minor_start = put_part(minor, patch_start, places);
-    put_digits::<10>(u64::from(version >> 16), minor_start, places)
+    let major_end = put_number::<10>(u64::from(version >> 16), len, places);
+    let minor_end = put_part(minor, major_end, places);
+    put_part(patch, minor_end, places)
 }
 
-// Puts a point and a part of a version before a place of the array, and returns where they begin.
-fn put_part(part: u8, end: usize, places: &mut [u8; PLACES]) -> usize
-    requires room { 4 ≤ end }
-    requires in_array { end ≤ PLACES }
-    ensures start { result < end }
-    ensures short { end ≤ result + 4 }
-    ensures text { drop result places.new ≡ codes "." ++ decimal part ++ drop end places.old }
+// Puts a point and a part of a version, and returns where they end.
+fn put_part(part: u8, len: usize, places: &mut [u8; PLACES]) -> usize
+    requires room { len + 4 ≤ PLACES }
+    ensures end { result ≤ len + 4 }
+    ensures text { take result places.new ≡ take len places.old ++ codes "." ++ decimal part }
 {
-    let digits = put_digits::<10>(u64::from(part), end, places);
-    put_text(b".", digits, places)
-}
-
-/// Writes a number in base 10.
-pub(crate) fn write_decimal<W: Output>(number: u64, writer: &mut W) -> Result<(), WriteFault>
-    ensures bytes { Writes (W.contents writer.old) (W.contents writer.new) result (decimal number) }
-    ensures failed { FailsAtFault (W.has_failed writer.old) (W.has_failed writer.new) result }
-    ensures stays_failed { IsTrue (W.has_failed writer.old) → IsErr result }
-{
-    let mut places = [0u8; PLACES];
-    let start = put_digits::<10>(number, PLACES, &mut places);
-    write_all(&places[start..], writer)
-}
-
-/// Writes a number in base 16, as `0x1e8`.
-pub(crate) fn write_hex<W: Output>(number: u64, writer: &mut W) -> Result<(), WriteFault>
-    ensures bytes { Writes (W.contents writer.old) (W.contents writer.new) result
-        (prefixed_hex number) }
-    ensures failed { FailsAtFault (W.has_failed writer.old) (W.has_failed writer.new) result }
-    ensures stays_failed { IsTrue (W.has_failed writer.old) → IsErr result }
-{
-    let mut places = [0u8; PLACES];
-    let start = put_hex(number, PLACES, &mut places);
-    write_all(&places[start..], writer)
+    let point_end = put_text(b".", len, places);
+    put_number::<10>(u64::from(part), point_end, places)
 }
 
 /// The two digits of a byte in base 16.
@@ -131,26 +116,16 @@ pub(crate) fn byte_digits(byte: u8, upper: bool) -> [u8; 2]
     [digit(byte >> 4, upper), digit(byte & 0xf, upper)]
 }
 
-/// Writes each byte as two upper-case digits in base 16.
-pub(crate) fn write_upper_bytes<W: Output>(bytes: &[u8], writer: &mut W) -> Result<(), WriteFault>
-    ensures bytes { Writes (W.contents writer.old) (W.contents writer.new) result
-        (joined (map upper_byte_hex bytes.now)) }
-    ensures failed { FailsAtFault (W.has_failed writer.old) (W.has_failed writer.new) result }
+/// Puts each byte as two upper-case digits in base 16, and returns where they end.
+pub(crate) fn put_upper_bytes(bytes: &[u8], len: usize, places: &mut [u8; PLACES]) -> usize
+    requires room { len + 2 * length bytes.now ≤ PLACES }
+    ensures end { result ≡ len + 2 * length bytes.now }
+    ensures text { take result places.new
+        ≡ take len places.old ++ joined (map upper_byte_hex bytes.now) }
 {
+    let mut end = len;
     for &byte in bytes {
-        write_all(&byte_digits(byte, true), writer)?;
+        end = put_text(&byte_digits(byte, true), end, places);
     }
-    Ok(())
-}
-
-/// Writes a version.
-pub(crate) fn write_version<W: Output>(version: u32, writer: &mut W) -> Result<(), WriteFault>
-    ensures bytes { Writes (W.contents writer.old) (W.contents writer.new) result
-        (version_text version) }
-    ensures failed { FailsAtFault (W.has_failed writer.old) (W.has_failed writer.new) result }
-    ensures stays_failed { IsTrue (W.has_failed writer.old) → IsErr result }
-{
-    let mut places = [0u8; PLACES];
-    let start = put_version(version, PLACES, &mut places);
-    write_all(&places[start..], writer)
+    end
 }

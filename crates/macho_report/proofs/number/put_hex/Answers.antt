@@ -1,21 +1,14 @@
-use Rattle.std.proofs.Common.{◌<◌, ◌^◌, ◌∷◌, ◌++◌, drop, false, lit≤, arith, ap, sym, ◌∙◌, append-nil}
-use Rattle.std.specs.Fmt.{digits}
-use Rattle.macho_report.proofs.Digits.{fits_more, short}
-use Rattle.macho_report.specs.Stream.{joined}
+use Rattle.std.proofs.Common.{lit≤, arith}
+use Rattle.macho_report.proofs.Digits.{short}
+use Rattle.macho_report.proofs.Puts.{put_next, put_last}
 use Rattle.macho_report.proofs.number.put_hex.Goals as goal
 
-pub put_digits-digits-requires-clause-room : goal.put_digits-digits-requires-clause-room
-put_digits-digits-requires-clause-room c =
-    let fits : c.args.number < 16 ^ 16 = omega arith in
-    fits_more 16 c.args.number 16 c.args.end (lit≤ tt) fits (omega arith)
+pub put_number-requires-clause-room : goal.put_number-requires-clause-room
+put_number-requires-clause-room c = omega (arith, short 16 c.args.number 16 (lit≤ tt) (lit≤ tt) (omega arith))
 
-pub put_text-requires-clause-room : goal.put_text-requires-clause-room
-put_text-requires-clause-room c = omega (arith, short 16 c.args.number 16 (lit≤ tt) (lit≤ tt) (omega arith))
-
-pub returns-clause-short : goal.returns-clause-short
-returns-clause-short c = omega (arith, short 16 c.args.number 16 (lit≤ tt) (lit≤ tt) (omega arith))
+pub returns-clause-end : goal.returns-clause-end
+returns-clause-end c = omega (arith, short 16 c.args.number 16 (lit≤ tt) (lit≤ tt) (omega arith))
 
 pub returns-clause-text : goal.returns-clause-text
-unfolding joined
 returns-clause-text c =
-    c.put_text.ensures.text ∙ ap (λ l. 48 ∷ 120 ∷ l) (c.put_digits-digits.ensures.digits ∙ ap (λ d. d ++ drop c.args.end c.args.places.now) (sym (append-nil (digits 16 false c.args.number))))
+    put_next _ _ _ _ _ c.put_text-prefix_end.ensures.text (put_next _ _ _ _ _ c.put_number.ensures.text (put_last _))

@@ -1,0 +1,17 @@
+use Rattle.std.proofs.Common.{◌≡◌, ◌≤◌, ◌∷◌, ◌++◌, length, map, take}
+use Rattle.macho_report.specs.Stream.{joined}
+use Rattle.macho_report.specs.Parts.{Writing}
+use Rattle.macho_report.specs.Name.{escaped}
+use Rattle.macho_report.proofs.name.hold_escaped.Given as goal
+
+-- the texts of the rest are left
+abbrev pub invariant-loop-first : goal.invariant-loop-first
+invariant-loop-first g l = record {
+  in_array : l.held ≤ 256;
+  writing : Writing (g.W.Output.contents l.initial.writer) (g.W.Output.contents l.writer)
+      (take l.fn.len l.initial.places ++ joined (map escaped l.initial.name)) (take l.held l.places ∷ map escaped l.rest);
+  same : g.W.Output.has_failed l.writer ≡ g.W.Output.has_failed l.initial.writer;
+}
+
+abbrev pub decreases-loop-first : goal.decreases-loop-first
+decreases-loop-first g l = length l.rest
