@@ -1,4 +1,5 @@
 pub mod Faults
+pub mod FirstEntries
 pub mod Listed
 pub mod Magics
 pub mod Sharing

@@ -1,16 +1,19 @@
 -- What only proofs need: what is known of values between the functions of this crate. No public
 -- contract cites any of it.
 use Rattle.std.specs.Prelude.{◌≡◌, ℕ, ◌+◌, ◌≤◌, ◌<◌, List, length, Option, Some, None, MatchOption, Result, MatchResult, false, min}
+use Rattle.std.specs.List.{range_with_len}
 use Rattle.macho_fields.specs.First.{rank}
+use Rattle.macho_fields.specs.FirstPlace.{IsFirstOf}
 use Rattle.macho_fields.specs.Layers.{IsLeast, KeptBelow}
 use Rattle.macho_fields.specs.Span.{Shares}
-use Rattle.macho_fields.specs.Universal.{is_universal, IsUniversal, IsImage, entry_count, entry_place, entry_align, entry_slice, table_end}
+use Rattle.macho_fields.specs.Universal.{is_universal, IsUniversal, IsImage, entry_count, entry_place, entry_align, entry_slice, table_end, IsSliceOutside, IsSliceInTable, IsSliceMisaligned}
 use Rattle.macho_fields.specs.declared.rule.Rule.{Rule}
 use Rattle.macho_fields.specs.declared.span.Span.{Span}
 use Rattle.macho_fat.specs.declared.fault.FatFault.{FatFault}
 use Rattle.macho_fat.specs.declared.fault.FatFault.TheVariants as fault
 use Rattle.macho_fat.specs.declared.rules.Format.{Format}
 use Rattle.macho_fat.specs.declared.rules.Format.TheVariants as format
+use Rattle.macho_fat.specs.declared.survey.Notes.{Notes}
 use Rattle.macho_fat.specs.declared.table.Entry.{Entry}
 
 -- the magic number of the file is that of the format, and of no other
@@ -30,6 +33,25 @@ pub record IsEntry (file : List ℕ) (k : ℕ) (entry : Entry) : Type 0 where
   pub size : entry.span.len ≡ (entry_slice file k).size
   pub arch : Some entry.arch ≡ (entry_slice file k).arch
   pub align : entry.align ≡ entry_align file k
+
+-- what is found is the place of the first of the first n entries that has P
+abbrev pub IsFirstEntry : List ℕ → (ℕ → Type 0) → ℕ → Option ℕ → Type 0
+IsFirstEntry file P n found = IsFirstOf (entry_place file) P (range_with_len 0 n) found
+
+-- the notes have where the first n entries first break each of the rules of a single entry
+pub record AreFirstBreaks (file : List ℕ) (n : ℕ) (notes : Notes) : Type 0 where
+  pub outside : IsFirstEntry file (IsSliceOutside file) n notes.outside
+  pub in_table : IsFirstEntry file (IsSliceInTable file) n notes.in_table
+  pub misaligned : IsFirstEntry file (IsSliceMisaligned file) n notes.misaligned
+
+-- the notes are those of the first n entries
+pub record AreNotes (file : List ℕ) (n : ℕ) (notes : Notes) : Type 0 where
+  pub breaks : AreFirstBreaks file n notes
+
+-- the notes are those of a whole table
+pub record IsSurvey (file : List ℕ) (notes : Notes) : Type 0 where
+  pub table : HasTable file
+  pub whole : AreNotes file (entry_count file) notes
 
 -- the lesser of two places, either of which may be missing
 abbrev pub lesser_of : Option ℕ → Option ℕ → Option ℕ

@@ -9,9 +9,9 @@ ghost use Rattle.macho_fat.specs.Slices.{IsFatFault};
 
 use crate::fault::FatFault;
 use crate::rules::{
-    Format, fat_align, fat_duplicate, fat_empty, fat_overlap, fat_slice_in_table, fat_slice_magic,
-    fat_slice_outside, fat_truncated, magic,
+    Format, fat_duplicate, fat_empty, fat_overlap, fat_slice_magic, fat_truncated, magic,
 };
+use crate::survey::Survey;
 use crate::table::Table;
 use macho_fields::Bytes;
 use std::alloc::Global;
@@ -30,9 +30,10 @@ pub(crate) fn check_file<'a>(alloc: Global, file: Bytes<'a>) -> Result<Option<Ta
         Format::Image => return Ok(None),
         Format::Universal => fat_truncated(file)?,
     };
-    fat_slice_outside(&table)?;
-    fat_slice_in_table(&table)?;
-    fat_align(&table)?;
+    let survey = Survey::of(&table);
+    survey.fat_slice_outside()?;
+    survey.fat_slice_in_table()?;
+    survey.fat_align()?;
     fat_overlap(alloc, &table)?;
     fat_duplicate(alloc, &table)?;
     fat_slice_magic(&table)?;

@@ -5,6 +5,7 @@ mod check;
 pub mod fault;
 mod rules;
 pub mod slice;
+mod survey;
 mod table;
 
 pub use fault::FatFault;

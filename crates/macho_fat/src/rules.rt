@@ -6,7 +6,7 @@ ghost use Rattle.macho_fields.specs.Bytes.{bytes_of};
 ghost use Rattle.macho_fields.specs.First.{rank};
 ghost use Rattle.macho_fields.specs.Layers.{KeptBelow, Continues};
 ghost use Rattle.macho_fields.specs.Rules.{BreaksFile};
-ghost use Rattle.macho_fields.specs.Universal.{IsUniversal, IsImage, IsUnreadImage, IsForeign, IsMultiple, entry_count, entry_slice, slice_bytes};
+ghost use Rattle.macho_fields.specs.Universal.{IsUniversal, IsImage, IsUnreadImage, IsForeign, entry_count, entry_slice, slice_bytes};
 ghost use Rattle.macho_fields.specs.declared.rule.Rule.{Rule};
 ghost use Rattle.macho_fat.specs.Scaffold.{ContinuesWithMemory, HasTable, IsFormat, FindsFirstSharing, lesser_of};
 
@@ -54,59 +54,6 @@ pub(crate) fn fat_truncated(file: Bytes) -> Result<Table, Break>
         return Err(truncated);
     }
     Ok(Table::new(file, wide, count))
-}
-
-/// Each slice lies inside the file.
-pub(crate) fn fat_slice_outside(table: &Table) -> Result<(), Break>
-    requires { KeptBelow (BreaksFile table.now) (rank Rule.FatSliceOutside) }
-    ensures { Continues (BreaksFile table.now) Rule.FatSliceOutside result }
-{
-    for k in 0..table.count() {
-        let entry = table.entry(k);
-        if !table.contains(entry.span) {
-            return Err(entry.breaks(Rule::FatSliceOutside));
-        }
-    }
-    Ok(())
-}
-
-/// Each slice begins after the table.
-pub(crate) fn fat_slice_in_table(table: &Table) -> Result<(), Break>
-    requires { KeptBelow (BreaksFile table.now) (rank Rule.FatSliceInTable) }
-    ensures { Continues (BreaksFile table.now) Rule.FatSliceInTable result }
-{
-    for k in 0..table.count() {
-        let entry = table.entry(k);
-        if entry.span.start < table.end() {
-            return Err(entry.breaks(Rule::FatSliceInTable));
-        }
-    }
-    Ok(())
-}
-
-/// The offset of each slice is a multiple of its alignment.
-pub(crate) fn fat_align(table: &Table) -> Result<(), Break>
-    requires { KeptBelow (BreaksFile table.now) (rank Rule.FatAlign) }
-    ensures { Continues (BreaksFile table.now) Rule.FatAlign result }
-{
-    for k in 0..table.count() {
-        let entry = table.entry(k);
-        if !is_aligned(entry.span.start, entry.align) {
-            return Err(entry.breaks(Rule::FatAlign));
-        }
-    }
-    Ok(())
-}
-
-/// Whether 2 to the power of `align` divides an offset, which no power past the 63rd does.
-fn is_aligned(offset: u64, align: u32) -> bool
-    requires { 0 < offset }
-    ensures { IsTrue result ↔ IsMultiple align offset }
-{
-    match 1u64.checked_shl(align) {
-        Some(alignment) => offset % alignment == 0,
-        None => false,
-    }
 }
 
 /// No slice has a byte in common with an earlier one. Memory is taken for the spans of the slices,

@@ -1,4 +1,4 @@
-use Rattle.std.proofs.Common.{List, ℕ, refl, sym, subst, arith, lit≤}
+use Rattle.std.proofs.Common.{List, ℕ, refl, sym, ◌∙◌, subst, arith, lit≤}
 use Rattle.macho_fields.specs.Bytes.{bytes_of}
 use Rattle.macho_fields.specs.First.{rank}
 use Rattle.macho_fields.specs.Layers.{KeptBelow}
@@ -21,22 +21,26 @@ returns-in_err-table-in-Universal-clause-refused c =
 
 pub fat_slice_outside-requires : goal.fat_slice_outside-requires
 fat_slice_outside-requires c =
-    subst (λ (file : List ℕ). KeptBelow (BreaksFile file) (rank rule.FatSliceOutside)) (sym c.in_ok-table-in-Universal.ensures.table) c.in_ok-table-in-Universal.ensures.continues
+    subst (λ (file : List ℕ). KeptBelow (BreaksFile file) (rank rule.FatSliceOutside)) (sym (c.of-survey.ensures ∙ c.in_ok-table-in-Universal.ensures.table))
+    c.in_ok-table-in-Universal.ensures.continues
 
 pub returns-in_err-fat_slice_outside-clause-refused : goal.returns-in_err-fat_slice_outside-clause-refused
 returns-in_err-fat_slice_outside-clause-refused c =
-    break_passed c.in_ok-table-in-Universal.table (bytes_of c.args.file) c.in_ok-table-in-Universal.ensures.table c.from_residual-in_err-fat_slice_outside.result
+    break_passed c.of-survey.result (bytes_of c.args.file) (c.of-survey.ensures ∙ c.in_ok-table-in-Universal.ensures.table) c.from_residual-in_err-fat_slice_outside.result
     c.in_err-fat_slice_outside.field-0.0 c.from_residual-in_err-fat_slice_outside.ensures.1 c.in_err-fat_slice_outside.ensures
 
 pub returns-in_err-fat_slice_in_table-clause-refused : goal.returns-in_err-fat_slice_in_table-clause-refused
 returns-in_err-fat_slice_in_table-clause-refused c =
-    break_passed c.in_ok-table-in-Universal.table (bytes_of c.args.file) c.in_ok-table-in-Universal.ensures.table c.from_residual-in_err-fat_slice_in_table.result
+    break_passed c.of-survey.result (bytes_of c.args.file) (c.of-survey.ensures ∙ c.in_ok-table-in-Universal.ensures.table) c.from_residual-in_err-fat_slice_in_table.result
     c.in_err-fat_slice_in_table.field-0.0 c.from_residual-in_err-fat_slice_in_table.ensures.1 c.in_err-fat_slice_in_table.ensures
 
 pub returns-in_err-fat_align-clause-refused : goal.returns-in_err-fat_align-clause-refused
 returns-in_err-fat_align-clause-refused c =
-    break_passed c.in_ok-table-in-Universal.table (bytes_of c.args.file) c.in_ok-table-in-Universal.ensures.table c.from_residual-in_err-fat_align.result
+    break_passed c.of-survey.result (bytes_of c.args.file) (c.of-survey.ensures ∙ c.in_ok-table-in-Universal.ensures.table) c.from_residual-in_err-fat_align.result
     c.in_err-fat_align.field-0.0 c.from_residual-in_err-fat_align.ensures.1 c.in_err-fat_align.ensures
+
+pub fat_overlap-requires : goal.fat_overlap-requires
+fat_overlap-requires c = subst (λ (file : List ℕ). KeptBelow (BreaksFile file) (rank rule.FatOverlap)) c.of-survey.ensures c.in_ok-fat_align.ensures
 
 pub returns-in_err-fat_overlap-clause-refused : goal.returns-in_err-fat_overlap-clause-refused
 returns-in_err-fat_overlap-clause-refused c =

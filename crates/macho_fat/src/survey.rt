@@ -1,0 +1,163 @@
+//! What one walk over the entries of a table finds, and the rules that are decided by it, one a
+//! function. (`mach-o/fat.h`)
+
+ghost use Rattle.std.specs.Prelude.{◌≡◌, ◌↔◌, ℕ, List, Some, IsTrue, unwrap_or, if◌then◌else◌};
+ghost use Rattle.macho_fields.specs.Universal.{IsMultiple, IsSliceOutside, IsSliceInTable, IsSliceMisaligned};
+ghost use Rattle.macho_fat.specs.Scaffold.{IsEntry};
+
+use crate::table::{Entry, Table};
+use macho_fields::{Break, FirstPlace, Rule};
+use std::marker::Model;
+
+/// A table, and what a walk over its entries has found.
+#[derive(Drop)]
+pub(crate) struct Survey<'t, 'a> {
+    table: &'t Table<'a>,
+    notes: Notes,
+}
+
+impl<'t, 'a> Model for Survey<'t, 'a> {
+    ghost use Rattle.std.specs.Prelude.{List, ℕ};
+    ghost use Rattle.macho_fat.specs.Scaffold.{IsSurvey};
+
+    ghost Value = { List ℕ };
+
+    ghost view = { λ survey. survey.table.now };
+
+    ghost invariant = { λ survey. IsSurvey survey.table.now survey.notes };
+}
+
+impl<'t, 'a> Survey<'t, 'a> {
+    ghost use Rattle.std.specs.Prelude.{◌≡◌};
+    ghost use Rattle.macho_fields.specs.First.{rank};
+    ghost use Rattle.macho_fields.specs.Layers.{KeptBelow, Continues};
+    ghost use Rattle.macho_fields.specs.Rules.{BreaksFile};
+    ghost use Rattle.macho_fields.specs.declared.rule.Rule.{Rule};
+
+    /// Goes over the entries of a table once.
+    pub(crate) fn of(table: &'t Table<'a>) -> Survey<'t, 'a>
+        ensures { result ≡ table.now }
+    {
+        let mut notes = Notes::none();
+        for k in 0..table.count() {
+            notes.note(table, k);
+        }
+        Survey { table, notes }
+    }
+
+    /// Each slice lies inside the file.
+    pub(crate) fn fat_slice_outside(&self) -> Result<(), Break>
+        requires { KeptBelow (BreaksFile self.now) (rank Rule.FatSliceOutside) }
+        ensures { Continues (BreaksFile self.now) Rule.FatSliceOutside result }
+    {
+        self.notes.outside.judge(Rule::FatSliceOutside)
+    }
+
+    /// Each slice begins after the table.
+    pub(crate) fn fat_slice_in_table(&self) -> Result<(), Break>
+        requires { KeptBelow (BreaksFile self.now) (rank Rule.FatSliceInTable) }
+        ensures { Continues (BreaksFile self.now) Rule.FatSliceInTable result }
+    {
+        self.notes.in_table.judge(Rule::FatSliceInTable)
+    }
+
+    /// The offset of each slice is a multiple of its alignment.
+    pub(crate) fn fat_align(&self) -> Result<(), Break>
+        requires { KeptBelow (BreaksFile self.now) (rank Rule.FatAlign) }
+        ensures { Continues (BreaksFile self.now) Rule.FatAlign result }
+    {
+        self.notes.misaligned.judge(Rule::FatAlign)
+    }
+}
+
+/// What a walk has found of the entries that it has passed.
+#[derive(Clone, Copy)]
+struct Notes {
+    /// The first slice that ends past the file.
+    outside: FirstPlace,
+    /// The first slice that begins before the table ends.
+    in_table: FirstPlace,
+    /// The first slice whose offset is no multiple of its alignment.
+    misaligned: FirstPlace,
+}
+
+impl Notes {
+    ghost use Rattle.std.specs.Prelude.{List, ℕ, ◌+◌, ◌<◌};
+    ghost use Rattle.macho_fields.specs.Universal.{entry_count};
+    ghost use Rattle.macho_fat.specs.Scaffold.{IsEntry, AreNotes, AreFirstBreaks};
+
+    /// No entry is passed. The table may be any.
+    fn none() -> Notes
+        ensures { (file : List ℕ) → AreNotes file 0 result }
+    {
+        Notes {
+            outside: FirstPlace::none(),
+            in_table: FirstPlace::none(),
+            misaligned: FirstPlace::none(),
+        }
+    }
+
+    /// Notes entry `k`, after those before it.
+    fn note(&mut self, table: &Table, k: u32)
+        requires { k < entry_count table.now }
+        ensures { AreNotes table.now k self.old → AreNotes table.now (k + 1) self.new }
+    {
+        let entry = table.entry(k);
+        if is_outside(table, entry) || is_in_table(table, entry) || is_misaligned(entry) {
+            self.note_broken(table, entry);
+        }
+    }
+
+    /// Notes an entry that breaks one of the rules of a single entry, or several.
+    #[cold]
+    #[inline(never)]
+    fn note_broken(&mut self, table: &Table, entry: Entry)
+        ensures { (k : ℕ) → IsEntry table.now k entry → AreFirstBreaks table.now k self.old
+            → AreFirstBreaks table.now (k + 1) self.new }
+    {
+        note_if(&mut self.outside, is_outside(table, entry), entry.place);
+        note_if(&mut self.in_table, is_in_table(table, entry), entry.place);
+        note_if(&mut self.misaligned, is_misaligned(entry), entry.place);
+    }
+}
+
+/// Notes a place where a rule is broken, and nothing otherwise.
+fn note_if(first: &mut FirstPlace, is_broken: bool, place: u64)
+    ensures { first.new ≡ (if is_broken then Some (unwrap_or first.old place) else first.old) }
+{
+    if is_broken {
+        first.note(place);
+    }
+}
+
+/// Whether the slice of an entry ends past the file.
+fn is_outside(table: &Table, entry: Entry) -> bool
+    ensures { (k : ℕ) → IsEntry table.now k entry → IsTrue result ↔ IsSliceOutside table.now k }
+{
+    !table.contains(entry.span)
+}
+
+/// Whether the slice of an entry begins before the table ends.
+fn is_in_table(table: &Table, entry: Entry) -> bool
+    ensures { (k : ℕ) → IsEntry table.now k entry → IsTrue result ↔ IsSliceInTable table.now k }
+{
+    entry.span.start < table.end()
+}
+
+/// Whether the offset of an entry is no multiple of its alignment.
+fn is_misaligned(entry: Entry) -> bool
+    ensures { (file : List ℕ) (k : ℕ) → IsEntry file k entry
+        → IsTrue result ↔ IsSliceMisaligned file k }
+{
+    !is_aligned(entry.span.start, entry.align)
+}
+
+/// Whether 2 to the power of `align` divides an offset. A power past the 63rd divides only 0.
+fn is_aligned(offset: u64, align: u32) -> bool
+    ensures { IsTrue result ↔ IsMultiple align offset }
+{
+    match 1u64.checked_shl(align) {
+        Some(alignment) => offset % alignment == 0,
+        None => offset == 0,
+    }
+}
