@@ -1,14 +1,14 @@
 -- The fault of a rule is the fault of the file, whose bytes the table stands for.
 use Rattle.std.proofs.Common.{◌≡◌, ℕ, ◌≤◌, List, Result, Ok, Err, IfErr, IsErrAnd, sym, subst, arith}
 use Rattle.macho_fields.specs.First.{rank}
-use Rattle.macho_fields.specs.Layers.{IsLeast}
+use Rattle.macho_fields.specs.Layers.{IsLeast, KeptBelow}
 use Rattle.macho_fields.specs.Rules.{BreaksFile}
 use Rattle.macho_fields.specs.declared.rule.Rule.{Rule}
 use Rattle.macho_fields.specs.declared.rule.Rule.TheVariants as rule
 use Rattle.macho_fields.specs.declared.rule.Break.{Break}
 use Rattle.macho_fat.specs.declared.fault.FatFault.{FatFault}
 use Rattle.macho_fat.specs.declared.fault.FatFault.TheVariants as fault
-use Rattle.macho_fat.specs.Scaffold.{IsRuleFault}
+use Rattle.macho_fat.specs.Scaffold.{IsRuleFault, ContinuesWithMemory}
 use Rattle.macho_fat.specs.Slices.{IsFatFault}
 
 -- a fault of the table is passed on as one of the file
@@ -23,6 +23,12 @@ pub break_passed : {T : Type 0} (table file : List ℕ) → table ≡ file → (
 break_passed table file same answer b = fault_passed table file same answer (fault.Broken b)
 
 -- memory may run out for each rule from fat-overlap on
-pub rule_fault : (file : List ℕ) (r : Rule) (found : FatFault) → rank rule.FatOverlap ≤ rank r → IsRuleFault (BreaksFile file) r found → IsFatFault file found
-rule_fault file r (fault.Broken b) late least = least
-rule_fault file r fault.Memory late kept = λ other place less. kept other place (omega arith)
+pub rule_fault : (file : List ℕ) (r : Rule) (P : Type 0) (found : FatFault) → rank rule.FatOverlap ≤ rank r → IsRuleFault (BreaksFile file) r P found → IsFatFault file found
+rule_fault file r P (fault.Broken b) late least = least
+rule_fault file r P fault.Memory late (kept, where_asked) = λ other place less. kept other place (omega arith)
+
+-- want of memory, where the rules before this one are unbroken and memory is asked for
+pub memory_passed : {T : Type 0} (breaks : Rule → ℕ → Type 0) (r : Rule) (P : Type 0) (answer : Result T FatFault) → IsErrAnd answer (λ given. given ≡ fault.Memory) → KeptBelow breaks (rank r) → P
+    → ContinuesWithMemory breaks r P answer
+memory_passed breaks r P (Ok x) is kept asked = absurd is
+memory_passed breaks r P (Err given) is kept asked = subst (IsRuleFault breaks r P) (sym is) (kept, asked)

@@ -1,13 +1,14 @@
 -- What a walk over the entries of a table finds of a rule of a single entry, entry by entry.
-use Rattle.std.proofs.Common.{◌≡◌, ℕ, ◌+◌, ◌≤◌, ◌<◌, List, [], ◌∷◌, ◌++◌, Contains, Option, None, Some, unwrap_or, Bool, true, false, IsTrue, ◌↔◌, if◌then◌else◌, refl, sym, ap, ◌∙◌, subst, arith, mul-le-mul_right}
+use Rattle.std.proofs.Common.{◌≡◌, ℕ, ◌+◌, ◌≤◌, ◌<◌, List, [], ◌∷◌, ◌++◌, Contains, Option, None, Some, unwrap_or, Bool, true, false, IsTrue, ◌↔◌, if◌then◌else◌, refl, sym, ap, ◌∙◌, subst, arith, inl, inr, mul-le-mul_right}
 use Rattle.std.specs.List.{range_with_len}
 use Rattle.std.proofs.lemmas.List.FromFn.{length-range_with_len, get_or-range_with_len, map-range_with_len_more}
 use Rattle.std.proofs.lemmas.List.{map-id}
 use Rattle.std.proofs.lemmas.Bool.{false≢true, both_ways}
-use Rattle.macho_fields.specs.Universal.{IsUniversal, entry_count, entry_size, entry_place}
+use Rattle.macho_fields.specs.Universal.{IsUniversal, IsSliceOutside, IsSliceInTable, IsSliceMisaligned, entry_count, entry_size, entry_place}
 use Rattle.macho_fields.proofs.Entries.{Breaks}
 use Rattle.macho_fields.proofs.FirstPlaces.{first_of_none, first_of_kept, first_of_broken, IsLeastBreak, first_breaks}
-use Rattle.macho_fat.specs.Scaffold.{IsFirstEntry}
+use Rattle.macho_fat.specs.Scaffold.{IsFirstEntry, BreaksAlone, AreFirstBreaks}
+use Rattle.macho_fat.specs.declared.survey.Notes.{Notes}
 
 -- the first n entries are those below n
 entry_below : (n k : ℕ) → Contains (range_with_len 0 n) k → k < n
@@ -45,13 +46,20 @@ module _ (file : List ℕ) (P : ℕ → Type 0) where
   entry_tested k place false old new at is exactly first =
       subst (IsFirstEntry file P (k + 1)) (sym is) (entry_kept k old (λ broken. false≢true (exactly.1 broken)) first)
 
-  -- the test fails
-  pub entry_passed : (k : ℕ) (is_broken : Bool) (found : Option ℕ) → is_broken ≡ false → IsTrue is_broken ↔ P k → IsFirstEntry file P k found → IsFirstEntry file P (k + 1) found
-  entry_passed k is_broken found fails exactly first = entry_kept k found (λ broken. both_ways is_broken fails (exactly.1 broken)) first
-
   -- what is found of all entries is the least place of the rule
   pub first_entry_breaks : (found : Option ℕ) → IsUniversal file → IsFirstEntry file P (entry_count file) found → IsLeastBreak (Breaks file P) found
   first_entry_breaks found universal = first_breaks (Breaks file P) (entry_place file) P (range_with_len 0 (entry_count file)) found (record {
     broken = λ k has here. (universal, (k, entry_below (entry_count file) k has, refl, here));
     only = λ place (u, (k, less, at, here)). (k, below_contained (entry_count file) k less, here, sym at);
   })
+
+-- one entry more, which breaks none of the rules of a single entry
+pub none_broken : (file : List ℕ) (k : ℕ) (notes : Notes) (is_broken : Bool) → is_broken ≡ false → IsTrue is_broken ↔ BreaksAlone file k → AreFirstBreaks file k notes → AreFirstBreaks file (k + 1) notes
+none_broken file k notes is_broken fails exactly first = record {
+  outside = entry_kept file (IsSliceOutside file) k notes.outside (λ broken. kept (inl broken)) first.outside;
+  in_table = entry_kept file (IsSliceInTable file) k notes.in_table (λ broken. kept (inr (inl broken))) first.in_table;
+  misaligned = entry_kept file (IsSliceMisaligned file) k notes.misaligned (λ broken. kept (inr (inr broken))) first.misaligned;
+}
+  where
+    kept : ¬ BreaksAlone file k
+    kept broken = both_ways is_broken fails (exactly.1 broken)

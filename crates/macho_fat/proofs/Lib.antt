@@ -2,4 +2,4 @@ pub mod Faults
 pub mod FirstEntries
 pub mod Listed
 pub mod Magics
-pub mod Sharing
+pub mod SharedSpans

@@ -1,12 +1,15 @@
 -- What only proofs need: what is known of values between the functions of this crate. No public
 -- contract cites any of it.
-use Rattle.std.specs.Prelude.{◌≡◌, ℕ, ◌+◌, ◌≤◌, ◌<◌, List, length, Option, Some, None, MatchOption, Result, MatchResult, false, min}
+use Rattle.std.specs.Prelude.{◌≡◌, ◌⊎◌, ℕ, ◌+◌, ◌*◌, ◌^◌, ◌≤◌, List, length, map, Option, Some, None, MatchOption, Result, MatchResult, false, min}
 use Rattle.std.specs.List.{range_with_len}
+use Rattle.macho_fields.specs.Field.{number}
 use Rattle.macho_fields.specs.First.{rank}
 use Rattle.macho_fields.specs.FirstPlace.{IsFirstOf}
 use Rattle.macho_fields.specs.Layers.{IsLeast, KeptBelow}
-use Rattle.macho_fields.specs.Span.{Shares}
-use Rattle.macho_fields.specs.Universal.{is_universal, IsUniversal, IsImage, entry_count, entry_place, entry_align, entry_slice, table_end, IsSliceOutside, IsSliceInTable, IsSliceMisaligned}
+use Rattle.macho_fields.specs.Overlap.{SharesEarlier, IsLeastSharing, IsAscending, IsDescending}
+use Rattle.macho_fields.specs.SpanOrder.{IsOrderOf}
+use Rattle.macho_fields.specs.Universal.{is_universal, masked, IsUniversal, IsImage, entry_count, entry_place, entry_align, entry_slice, table_end, IsSliceOutside, IsSliceInTable, IsSliceMisaligned}
+use Rattle.macho_fields.specs.declared.bytes.Order.TheVariants.{Big}
 use Rattle.macho_fields.specs.declared.rule.Rule.{Rule}
 use Rattle.macho_fields.specs.declared.span.Span.{Span}
 use Rattle.macho_fat.specs.declared.fault.FatFault.{FatFault}
@@ -34,6 +37,49 @@ pub record IsEntry (file : List ℕ) (k : ℕ) (entry : Entry) : Type 0 where
   pub arch : Some entry.arch ≡ (entry_slice file k).arch
   pub align : entry.align ≡ entry_align file k
 
+-- The spans by which two entries are compared
+
+-- the span of the slice of entry k
+abbrev pub slice_span : List ℕ → ℕ → Span
+slice_span file k =
+    record { start = (entry_slice file k).start; len = (entry_slice file k).size }
+
+-- the span of the one place that numbers the architecture of entry k
+abbrev pub arch_span : List ℕ → ℕ → Span
+arch_span file k =
+    let place = entry_place file k in
+    record { start = number Big 4 file place * 2 ^ 24 + masked (number Big 4 file (place + 4)); len = 1 }
+
+-- the spans of the entries, in order
+abbrev pub entry_spans : List ℕ → (ℕ → Span) → List Span
+entry_spans file span = map span (range_with_len 0 (entry_count file))
+
+-- the spans of the first n entries, each with the place of its entry
+abbrev pub placed_spans : List ℕ → (ℕ → Span) → ℕ → List (Span × ℕ)
+placed_spans file span n = map (λ k. (span k, entry_place file k)) (range_with_len 0 n)
+
+-- a function returns of each entry its span
+abbrev pub ReturnsSpans : (Entry → Span → Type 0) → List ℕ → (ℕ → Span) → Type 0
+ReturnsSpans returns file span =
+    (k : ℕ) (entry : Entry) (given : Span) → IsEntry file k entry → returns entry given → given ≡ span k
+
+-- the answer is the place of the first entry whose span shares a place with that of an earlier one,
+-- and None where there is none
+abbrev pub FindsFirstSharing : List ℕ → (ℕ → Span) → Option ℕ → Type 0
+FindsFirstSharing file span found =
+    MatchOption found ((j : ℕ) → ¬ SharesEarlier (entry_spans file span) j)
+    (λ place. (j : ℕ) × IsLeastSharing (entry_spans file span) j × (place ≡ entry_place file j))
+
+-- they neither ascend nor descend
+abbrev pub IsUnordered : List Span → Type 0
+IsUnordered spans = (¬ IsAscending spans) × (¬ IsDescending spans)
+
+-- What a walk over the entries notes
+
+-- entry k breaks one of the rules of a single entry
+abbrev pub BreaksAlone : List ℕ → ℕ → Type 0
+BreaksAlone file k = IsSliceOutside file k ⊎ IsSliceInTable file k ⊎ IsSliceMisaligned file k
+
 -- what is found is the place of the first of the first n entries that has P
 abbrev pub IsFirstEntry : List ℕ → (ℕ → Type 0) → ℕ → Option ℕ → Type 0
 IsFirstEntry file P n found = IsFirstOf (entry_place file) P (range_with_len 0 n) found
@@ -47,6 +93,8 @@ pub record AreFirstBreaks (file : List ℕ) (n : ℕ) (notes : Notes) : Type 0 w
 -- the notes are those of the first n entries
 pub record AreNotes (file : List ℕ) (n : ℕ) (notes : Notes) : Type 0 where
   pub breaks : AreFirstBreaks file n notes
+  pub spans : IsOrderOf (placed_spans file (slice_span file) n) notes.spans
+  pub archs : IsOrderOf (placed_spans file (arch_span file) n) notes.archs
 
 -- the notes are those of a whole table
 pub record IsSurvey (file : List ℕ) (notes : Notes) : Type 0 where
@@ -59,44 +107,13 @@ lesser_of None b = b
 lesser_of (Some a) None = Some a
 lesser_of (Some a) (Some b) = Some (min a b)
 
--- a fault of rule r, which takes memory: what is broken first of all, or that memory ran out, which
--- says only that the rules before r are unbroken
-abbrev pub IsRuleFault : (Rule → ℕ → Type 0) → Rule → FatFault → Type 0
-IsRuleFault breaks r (fault.Broken b) = IsLeast breaks b
-IsRuleFault breaks r fault.Memory = KeptBelow breaks (rank r)
+-- a fault of rule r, which takes memory where P holds: what is broken first of all, or that memory
+-- ran out, which says only that the rules before r are unbroken
+abbrev pub IsRuleFault : (Rule → ℕ → Type 0) → Rule → Type 0 → FatFault → Type 0
+IsRuleFault breaks r P (fault.Broken b) = IsLeast breaks b
+IsRuleFault breaks r P fault.Memory = KeptBelow breaks (rank r) × P
 
 -- an answer reports that the rules up to r are unbroken, and otherwise a fault of r
-abbrev pub ContinuesWithMemory : {T : Type 0} → (Rule → ℕ → Type 0) → Rule → Result T FatFault → Type 0
-ContinuesWithMemory breaks r answer =
-    MatchResult answer (λ _. KeptBelow breaks (rank r + 1)) (IsRuleFault breaks r)
-
--- the span is one that a function returns of entry k
-pub record IsSpanOf (returns : Entry → Span → Type 0) (file : List ℕ) (k : ℕ) (span : Span) : Type 0 where
-  pub entry : Entry
-  pub read : IsEntry file k entry
-  pub returned : returns entry span
-
--- the spans that a function returns of the entries i and j share a place
-abbrev pub SpansShare : (Entry → Span → Type 0) → List ℕ → ℕ → ℕ → Type 0
-SpansShare returns file i j =
-    (a : Span) × (b : Span) × IsSpanOf returns file i a × IsSpanOf returns file j b × Shares a b
-
--- they share none
-abbrev pub SpansApart : (Entry → Span → Type 0) → List ℕ → ℕ → ℕ → Type 0
-SpansApart returns file i j =
-    (a : Span) × (b : Span) × IsSpanOf returns file i a × IsSpanOf returns file j b × ¬ Shares a b
-
--- the spans of no two of the first n entries share a place
-abbrev pub AreApart : (Entry → Span → Type 0) → List ℕ → ℕ → Type 0
-AreApart returns file n = (i j : ℕ) → i < j → j < n → SpansApart returns file i j
-
--- the entry is the first whose span shares a place with that of an earlier entry
-abbrev pub IsFirstSharing : (Entry → Span → Type 0) → List ℕ → Entry → Type 0
-IsFirstSharing returns file entry =
-    (k : ℕ) × (k < entry_count file) × IsEntry file k entry
-    × ((i : ℕ) × (i < k) × SpansShare returns file i k) × AreApart returns file k
-
--- an answer is that entry, and none where there is none
-abbrev pub FindsFirstSharing : (Entry → Span → Type 0) → List ℕ → Option Entry → Type 0
-FindsFirstSharing returns file found =
-    MatchOption found (AreApart returns file (entry_count file)) (IsFirstSharing returns file)
+abbrev pub ContinuesWithMemory : {T : Type 0} → (Rule → ℕ → Type 0) → Rule → Type 0 → Result T FatFault → Type 0
+ContinuesWithMemory breaks r P answer =
+    MatchResult answer (λ _. KeptBelow breaks (rank r + 1)) (IsRuleFault breaks r P)

@@ -4,6 +4,7 @@
 mod check;
 pub mod fault;
 mod rules;
+mod sharing;
 pub mod slice;
 mod survey;
 mod table;

@@ -1,21 +1,19 @@
 //! The rules of a file, one a function: each takes over where the rules before it are unbroken.
 //! (`mach-o/fat.h`)
 
-ghost use Rattle.std.specs.Prelude.{◌≡◌, ◌≤◌, ◌<◌, ◌↔◌, ℕ, IsTrue, IfOk, OnErr, MatchOption};
+ghost use Rattle.std.specs.Prelude.{◌≡◌, ◌<◌, ◌↔◌, ℕ, IsTrue, IfOk, MatchOption};
 ghost use Rattle.macho_fields.specs.Bytes.{bytes_of};
 ghost use Rattle.macho_fields.specs.First.{rank};
 ghost use Rattle.macho_fields.specs.Layers.{KeptBelow, Continues};
 ghost use Rattle.macho_fields.specs.Rules.{BreaksFile};
 ghost use Rattle.macho_fields.specs.Universal.{IsUniversal, IsImage, IsUnreadImage, IsForeign, entry_count, entry_slice, slice_bytes};
 ghost use Rattle.macho_fields.specs.declared.rule.Rule.{Rule};
-ghost use Rattle.macho_fat.specs.Scaffold.{ContinuesWithMemory, HasTable, IsFormat, FindsFirstSharing, lesser_of};
+ghost use Rattle.macho_fat.specs.Scaffold.{IsFormat, lesser_of};
 
-use crate::fault::FatFault;
-use crate::table::{Entry, NFAT_ARCH, Table, entry_size};
+use crate::table::{NFAT_ARCH, Table, entry_size};
 use macho_fields::header::fat::{FAT_HEADER_SIZE, FAT_MAGIC, FAT_MAGIC_64};
 use macho_fields::header::loader::{MH_MAGIC, MH_MAGIC_64};
-use macho_fields::{Break, Bytes, Order, Rule, Span, SpanList};
-use std::alloc::{AllocError, Global};
+use macho_fields::{Break, Bytes, Order, Rule};
 
 /// What a file is, by the magic number with which it begins.
 #[derive(Clone, Copy)]
@@ -54,56 +52,6 @@ pub(crate) fn fat_truncated(file: Bytes) -> Result<Table, Break>
         return Err(truncated);
     }
     Ok(Table::new(file, wide, count))
-}
-
-/// No slice has a byte in common with an earlier one. Memory is taken for the spans of the slices,
-/// where there are two.
-pub(crate) fn fat_overlap(alloc: Global, table: &Table) -> Result<(), FatFault>
-    requires { KeptBelow (BreaksFile table.now) (rank Rule.FatOverlap) }
-    ensures { ContinuesWithMemory (BreaksFile table.now) Rule.FatOverlap result }
-{
-    match first_sharing(alloc, table, |entry| entry.span)? {
-        Some(entry) => Err(FatFault::Broken(entry.breaks(Rule::FatOverlap))),
-        None => Ok(()),
-    }
-}
-
-/// No slice has the architecture of an earlier one. Memory is taken for spans that stand for the
-/// architectures, where there are two.
-pub(crate) fn fat_duplicate(alloc: Global, table: &Table) -> Result<(), FatFault>
-    requires { KeptBelow (BreaksFile table.now) (rank Rule.FatDuplicate) }
-    ensures { ContinuesWithMemory (BreaksFile table.now) Rule.FatDuplicate result }
-{
-    match first_sharing(alloc, table, Entry::arch_span)? {
-        Some(entry) => Err(FatFault::Broken(entry.breaks(Rule::FatDuplicate))),
-        None => Ok(()),
-    }
-}
-
-/// The first entry whose span, as `span_of` returns it, shares a place with that of an earlier entry.
-/// This takes time in the order of n log n for n entries, and 24 bytes an entry. Fewer than two
-/// entries take no memory.
-fn first_sharing<F: Fn(Entry) -> Span>(
-    alloc: Global,
-    table: &Table,
-    span_of: F,
-) -> Result<Option<Entry>, AllocError>
-    requires { F.IsAlwaysCallable span_of }
-    ensures first { IfOk result (FindsFirstSharing (F.post span_of) table.now) }
-    ensures memory { OnErr result (2 ≤ entry_count table.now) }
-    ensures table { HasTable table.now }
-{
-    if table.count() < 2 {
-        return Ok(None);
-    }
-    let mut spans = SpanList::with_capacity(alloc, table.count() as usize)?;
-    for k in 0..table.count() {
-        spans.push(span_of(table.entry(k)))?;
-    }
-    let Some(k) = spans.least_overlap() else {
-        return Ok(None);
-    };
-    Ok(Some(table.entry(k as u32)))
 }
 
 /// Each slice begins with the magic number of an image, which may be one that is not read.

@@ -3,10 +3,13 @@
 
 ghost use Rattle.std.specs.Prelude.{◌≡◌, ◌↔◌, ℕ, List, Some, IsTrue, unwrap_or, if◌then◌else◌};
 ghost use Rattle.macho_fields.specs.Universal.{IsMultiple, IsSliceOutside, IsSliceInTable, IsSliceMisaligned};
-ghost use Rattle.macho_fat.specs.Scaffold.{IsEntry};
+ghost use Rattle.macho_fat.specs.Scaffold.{IsEntry, BreaksAlone};
 
+use crate::fault::FatFault;
+use crate::sharing::first_sharing;
 use crate::table::{Entry, Table};
-use macho_fields::{Break, FirstPlace, Rule};
+use macho_fields::{Break, FirstPlace, Rule, SpanOrder};
+use std::alloc::Global;
 use std::marker::Model;
 
 /// A table, and what a walk over its entries has found.
@@ -33,6 +36,8 @@ impl<'t, 'a> Survey<'t, 'a> {
     ghost use Rattle.macho_fields.specs.Layers.{KeptBelow, Continues};
     ghost use Rattle.macho_fields.specs.Rules.{BreaksFile};
     ghost use Rattle.macho_fields.specs.declared.rule.Rule.{Rule};
+    ghost use Rattle.macho_fat.specs.Scaffold.{ContinuesWithMemory, IsUnordered};
+    ghost use Rattle.macho_fat.specs.Scaffold.{entry_spans, slice_span, arch_span};
 
     /// Goes over the entries of a table once.
     pub(crate) fn of(table: &'t Table<'a>) -> Survey<'t, 'a>
@@ -68,6 +73,42 @@ impl<'t, 'a> Survey<'t, 'a> {
     {
         self.notes.misaligned.judge(Rule::FatAlign)
     }
+
+    /// No slice has a byte in common with an earlier one. Memory is taken only where the slices
+    /// neither ascend nor descend.
+    pub(crate) fn fat_overlap(&self, alloc: Global) -> Result<(), FatFault>
+        requires { KeptBelow (BreaksFile self.now) (rank Rule.FatOverlap) }
+        ensures { ContinuesWithMemory (BreaksFile self.now) Rule.FatOverlap
+            (IsUnordered (entry_spans self.now (slice_span self.now))) result }
+    {
+        match first_sharing(
+            alloc,
+            self.table,
+            self.notes.spans.sharing(),
+            |entry| entry.span,
+        )? {
+            Some(place) => Err(FatFault::Broken(Break::at(Rule::FatOverlap, place))),
+            None => Ok(()),
+        }
+    }
+
+    /// No slice has the architecture of an earlier one. Memory is taken only where the numbers of the
+    /// architectures neither ascend nor descend.
+    pub(crate) fn fat_duplicate(&self, alloc: Global) -> Result<(), FatFault>
+        requires { KeptBelow (BreaksFile self.now) (rank Rule.FatDuplicate) }
+        ensures { ContinuesWithMemory (BreaksFile self.now) Rule.FatDuplicate
+            (IsUnordered (entry_spans self.now (arch_span self.now))) result }
+    {
+        match first_sharing(
+            alloc,
+            self.table,
+            self.notes.archs.sharing(),
+            Entry::arch_span,
+        )? {
+            Some(place) => Err(FatFault::Broken(Break::at(Rule::FatDuplicate, place))),
+            None => Ok(()),
+        }
+    }
 }
 
 /// What a walk has found of the entries that it has passed.
@@ -79,6 +120,10 @@ struct Notes {
     in_table: FirstPlace,
     /// The first slice whose offset is no multiple of its alignment.
     misaligned: FirstPlace,
+    /// The order of the slices.
+    spans: SpanOrder,
+    /// The order of the architectures, by their numbers.
+    archs: SpanOrder,
 }
 
 impl Notes {
@@ -94,6 +139,8 @@ impl Notes {
             outside: FirstPlace::none(),
             in_table: FirstPlace::none(),
             misaligned: FirstPlace::none(),
+            spans: SpanOrder::new(),
+            archs: SpanOrder::new(),
         }
     }
 
@@ -103,17 +150,21 @@ impl Notes {
         ensures { AreNotes table.now k self.old → AreNotes table.now (k + 1) self.new }
     {
         let entry = table.entry(k);
-        if is_outside(table, entry) || is_in_table(table, entry) || is_misaligned(entry) {
+        self.spans.note(entry.span, entry.place);
+        self.archs.note(entry.arch_span(), entry.place);
+        if is_broken(table, entry) {
             self.note_broken(table, entry);
         }
     }
 
-    /// Notes an entry that breaks one of the rules of a single entry, or several.
+    /// Notes which of the rules of a single entry an entry breaks.
     #[cold]
     #[inline(never)]
     fn note_broken(&mut self, table: &Table, entry: Entry)
-        ensures { (k : ℕ) → IsEntry table.now k entry → AreFirstBreaks table.now k self.old
+        ensures breaks { (k : ℕ) → IsEntry table.now k entry → AreFirstBreaks table.now k self.old
             → AreFirstBreaks table.now (k + 1) self.new }
+        ensures spans { self.new.spans ≡ self.old.spans }
+        ensures archs { self.new.archs ≡ self.old.archs }
     {
         note_if(&mut self.outside, is_outside(table, entry), entry.place);
         note_if(&mut self.in_table, is_in_table(table, entry), entry.place);
@@ -128,6 +179,13 @@ fn note_if(first: &mut FirstPlace, is_broken: bool, place: u64)
     if is_broken {
         first.note(place);
     }
+}
+
+/// Whether an entry breaks one of the rules of a single entry.
+fn is_broken(table: &Table, entry: Entry) -> bool
+    ensures { (k : ℕ) → IsEntry table.now k entry → IsTrue result ↔ BreaksAlone table.now k }
+{
+    is_outside(table, entry) || is_in_table(table, entry) || is_misaligned(entry)
 }
 
 /// Whether the slice of an entry ends past the file.

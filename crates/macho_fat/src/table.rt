@@ -5,7 +5,7 @@ ghost use Rattle.std.specs.Prelude.{◌≡◌, if◌then◌else◌};
 
 use macho_fields::header::fat::{FAT_ARCH_64_SIZE, FAT_ARCH_SIZE, FAT_HEADER_SIZE};
 use macho_fields::header::machine::CPU_SUBTYPE_MASK;
-use macho_fields::{Break, Bytes, Order, Rule, Span};
+use macho_fields::{Bytes, Order, Span};
 use std::marker::Model;
 
 /// `fat_header.nfat_arch`
@@ -100,14 +100,6 @@ impl Entry {
             start: (u64::from(cputype) << CPU_SUBTYPE_BITS) + u64::from(cpusubtype),
             len: 1,
         }
-    }
-
-    /// The break of a rule at this entry.
-    pub(crate) fn breaks(self, rule: Rule) -> Break
-        ensures rule { result.rule ≡ rule }
-        ensures place { result.place ≡ self.place }
-    {
-        Break::at(rule, self.place)
     }
 }
 

@@ -39,22 +39,19 @@ returns-in_err-fat_align-clause-refused c =
     break_passed c.of-survey.result (bytes_of c.args.file) (c.of-survey.ensures ∙ c.in_ok-table-in-Universal.ensures.table) c.from_residual-in_err-fat_align.result
     c.in_err-fat_align.field-0.0 c.from_residual-in_err-fat_align.ensures.1 c.in_err-fat_align.ensures
 
-pub fat_overlap-requires : goal.fat_overlap-requires
-fat_overlap-requires c = subst (λ (file : List ℕ). KeptBelow (BreaksFile file) (rank rule.FatOverlap)) c.of-survey.ensures c.in_ok-fat_align.ensures
-
 pub returns-in_err-fat_overlap-clause-refused : goal.returns-in_err-fat_overlap-clause-refused
 returns-in_err-fat_overlap-clause-refused c =
-    let table = c.in_ok-table-in-Universal.table in
+    let table = c.of-survey.result in
     let found = c.in_err-fat_overlap.field-0.0 in
-    fault_passed table (bytes_of c.args.file) c.in_ok-table-in-Universal.ensures.table c.from_residual-in_err-fat_overlap.result found c.from_residual-in_err-fat_overlap.ensures.1
-    (rule_fault table rule.FatOverlap found (lit≤ tt) c.in_err-fat_overlap.ensures)
+    fault_passed table (bytes_of c.args.file) (c.of-survey.ensures ∙ c.in_ok-table-in-Universal.ensures.table) c.from_residual-in_err-fat_overlap.result found
+    c.from_residual-in_err-fat_overlap.ensures.1 (rule_fault table rule.FatOverlap _ found (lit≤ tt) c.in_err-fat_overlap.ensures)
 
 pub returns-in_err-fat_duplicate-clause-refused : goal.returns-in_err-fat_duplicate-clause-refused
 returns-in_err-fat_duplicate-clause-refused c =
-    let table = c.in_ok-table-in-Universal.table in
+    let table = c.of-survey.result in
     let found = c.in_err-fat_duplicate.field-0.0 in
-    fault_passed table (bytes_of c.args.file) c.in_ok-table-in-Universal.ensures.table c.from_residual-in_err-fat_duplicate.result found c.from_residual-in_err-fat_duplicate.ensures.1
-    (rule_fault table rule.FatDuplicate found (lit≤ tt) c.in_err-fat_duplicate.ensures)
+    fault_passed table (bytes_of c.args.file) (c.of-survey.ensures ∙ c.in_ok-table-in-Universal.ensures.table) c.from_residual-in_err-fat_duplicate.result found
+    c.from_residual-in_err-fat_duplicate.ensures.1 (rule_fault table rule.FatDuplicate _ found (lit≤ tt) c.in_err-fat_duplicate.ensures)
 
 pub returns-in_err-fat_slice_magic-clause-refused : goal.returns-in_err-fat_slice_magic-clause-refused
 returns-in_err-fat_slice_magic-clause-refused c =

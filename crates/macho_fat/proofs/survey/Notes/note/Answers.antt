@@ -1,17 +1,35 @@
-use Rattle.macho_fields.specs.Universal.{IsSliceOutside, IsSliceInTable, IsSliceMisaligned}
-use Rattle.macho_fat.proofs.FirstEntries.{entry_passed}
+use Rattle.std.proofs.Common.{◌+◌, sym, subst}
+use Rattle.macho_fields.specs.SpanOrder.{IsOrderOf}
+use Rattle.macho_fat.specs.Scaffold.{placed_spans, slice_span, arch_span}
+use Rattle.macho_fat.proofs.FirstEntries.{none_broken}
+use Rattle.macho_fat.proofs.SharedSpans.{slice_read, arch_read, order_more}
 use Rattle.macho_fat.proofs.survey.Notes.note.Goals as goal
 
-pub returns-else-is_misaligned : goal.returns-else-is_misaligned
-returns-else-is_misaligned c = λ before.
+pub returns-then-is_broken : goal.returns-then-is_broken
+returns-then-is_broken c = λ before.
     let file = c.args.table.now in
     let k = c.args.k in
-    let notes = c.args.self.now in
+    let entry = c.entry-entry.result in
     let is = c.entry-entry.ensures in
+    let spans = order_more file (slice_span file) k entry.place entry.span c.args.self.now.spans c.note.new.self (slice_read file k entry is) is.place c.note.ensures before.spans in
+    let archs = order_more file (arch_span file) k entry.place c.arch_span.result c.args.self.now.archs c.note-2.new.self
+    (arch_read file k entry c.arch_span.result is (c.arch_span.ensures.start, c.arch_span.ensures.len)) is.place c.note-2.ensures before.archs in
     record {
-      breaks = record {
-        outside = entry_passed file (IsSliceOutside file) k c.is_outside.result notes.outside c.if-is_outside.false (c.is_outside.ensures k is) before.breaks.outside;
-        in_table = entry_passed file (IsSliceInTable file) k c.is_in_table.result notes.in_table c.if-is_in_table.false (c.is_in_table.ensures k is) before.breaks.in_table;
-        misaligned = entry_passed file (IsSliceMisaligned file) k c.is_misaligned.result notes.misaligned c.if-is_misaligned.false (c.is_misaligned.ensures file k is) before.breaks.misaligned;
-      };
+      breaks = c.note_broken.ensures.breaks k is (record { outside = before.breaks.outside; in_table = before.breaks.in_table; misaligned = before.breaks.misaligned });
+      spans = subst (IsOrderOf (placed_spans file (slice_span file) (k + 1))) (sym c.note_broken.ensures.spans) spans;
+      archs = subst (IsOrderOf (placed_spans file (arch_span file) (k + 1))) (sym c.note_broken.ensures.archs) archs;
+    }
+
+pub returns-else-is_broken : goal.returns-else-is_broken
+returns-else-is_broken c = λ before.
+    let file = c.args.table.now in
+    let k = c.args.k in
+    let entry = c.entry-entry.result in
+    let is = c.entry-entry.ensures in
+    let breaks = none_broken file k c.args.self.now c.is_broken.result c.if-is_broken.false (c.is_broken.ensures k is) before.breaks in
+    record {
+      breaks = record { outside = breaks.outside; in_table = breaks.in_table; misaligned = breaks.misaligned };
+      spans = order_more file (slice_span file) k entry.place entry.span c.args.self.now.spans c.note.new.self (slice_read file k entry is) is.place c.note.ensures before.spans;
+      archs = order_more file (arch_span file) k entry.place c.arch_span.result c.args.self.now.archs c.note-2.new.self
+          (arch_read file k entry c.arch_span.result is (c.arch_span.ensures.start, c.arch_span.ensures.len)) is.place c.note-2.ensures before.archs;
     }

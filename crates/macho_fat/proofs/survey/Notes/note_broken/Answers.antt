@@ -2,8 +2,8 @@ use Rattle.macho_fields.specs.Universal.{IsSliceOutside, IsSliceInTable, IsSlice
 use Rattle.macho_fat.proofs.FirstEntries.{entry_tested}
 use Rattle.macho_fat.proofs.survey.Notes.note_broken.Goals as goal
 
-pub returns : goal.returns
-returns c = λ k is before.
+pub returns-clause-breaks : goal.returns-clause-breaks
+returns-clause-breaks c = λ k is before.
     let file = c.args.table.now in
     let place = c.args.entry.place in
     record {

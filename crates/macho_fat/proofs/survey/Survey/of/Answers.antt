@@ -3,6 +3,9 @@ use Rattle.macho_fields.specs.Universal.{entry_count}
 use Rattle.macho_fat.specs.Scaffold.{AreNotes}
 use Rattle.macho_fat.proofs.survey.Survey.of.Goals as goal
 
+pub loop-k-init : goal.loop-k-init
+loop-k-init c = c.none-notes.ensures c.args.table.now
+
 pub invariant_of-result : goal.invariant_of-result
 invariant_of-result c =
     let all : c.loop-k.k ≡ entry_count c.args.table.now = omega (arith, c.count-k-end.ensures.count) in

@@ -1,0 +1,197 @@
+-- The first entry whose span shares a place with that of an earlier one, and which rule it breaks.
+use Rattle.std.proofs.Common.{◌≡◌, ℕ, ◌+◌, ◌*◌, ◌^◌, ◌<◌, ◌↔◌, List, length, [], ◌∷◌, ◌++◌, map, slice_get, Option, Some, None, refl, sym, ap, ap₂, ◌∙◌, subst, arith, inl, inr, mul-le-mul_right, length-append}
+use Rattle.std.proofs.lemmas.Bool.{cases_lt}
+use Rattle.std.specs.List.{range_with_len}
+use Rattle.std.proofs.lemmas.List.FromFn.{length-map-range_with_len, get_or-map-range_with_len, map-range_with_len_more}
+use Rattle.std.proofs.lemmas.Option.{slice_get-get_or}
+use Rattle.std.proofs.lemmas.Simd.{map-map}
+use Rattle.macho_fields.specs.Field.{number}
+use Rattle.macho_fields.specs.declared.bytes.Order.TheVariants.{Big}
+use Rattle.macho_fields.specs.Overlap.{span_at, SharesEarlier, IsLeastSharing}
+use Rattle.macho_fields.specs.Rules.{BreaksFile}
+use Rattle.macho_fields.specs.Span.{Shares}
+use Rattle.macho_fields.specs.SpanOrder.{spans_in, tags_in, IsOrderOf, IsSharingOf}
+use Rattle.macho_fields.specs.declared.span_order.SpanOrder.{SpanOrder}
+use Rattle.macho_fields.specs.Universal.{IsUniversal, masked, entry_count, entry_size, entry_place, entry_slice, WithEarlier, SharePlace}
+use Rattle.macho_fields.specs.declared.rule.Rule.TheVariants as rule
+use Rattle.macho_fields.specs.declared.span.Span.{Span}
+use Rattle.macho_fields.specs.declared.span_order.Sharing.{Sharing}
+use Rattle.macho_fields.specs.declared.span_order.Sharing.TheVariants as sharing
+use Rattle.macho_fields.proofs.Entries.{Breaks}
+use Rattle.macho_fields.proofs.FirstPlaces.{IsLeastBreak}
+use Rattle.macho_fat.specs.Scaffold.{IsEntry, entry_spans, placed_spans, slice_span, arch_span, ReturnsSpans, FindsFirstSharing, IsUnordered}
+use Rattle.macho_fat.specs.declared.table.Entry.{Entry}
+
+module _ (file : List ℕ) (span : ℕ → Span) where
+  spans_of_placed : spans_in (placed_spans file span (entry_count file)) ≡ entry_spans file span
+  spans_of_placed = map-map (λ (pair : Span × ℕ). pair.0) (λ k. (span k, entry_place file k)) (range_with_len 0 (entry_count file))
+
+  places_of_placed : tags_in (placed_spans file span (entry_count file)) ≡ map (entry_place file) (range_with_len 0 (entry_count file))
+  places_of_placed = map-map (λ (pair : Span × ℕ). pair.1) (λ k. (span k, entry_place file k)) (range_with_len 0 (entry_count file))
+
+  -- one span more
+  pub placed_more : (n : ℕ) → placed_spans file span (n + 1) ≡ placed_spans file span n ++ (span n, entry_place file n) ∷ []
+  placed_more n = map-range_with_len_more (λ k. (span k, entry_place file k)) 0 n n (omega arith)
+
+  span_count : length (entry_spans file span) ≡ entry_count file
+  span_count = length-map-range_with_len span 0 (entry_count file)
+
+  entry_span : (k : ℕ) → k < entry_count file → span_at (entry_spans file span) k ≡ span k
+  entry_span k less = get_or-map-range_with_len span 0 (entry_count file) k k (record { start = 0; len = 0 }) less (omega arith)
+
+  -- what the order shows
+  pub none_shown : IsSharingOf (placed_spans file span (entry_count file)) sharing.None → FindsFirstSharing file span None
+  none_shown none = subst (λ spans. (j : ℕ) → ¬ SharesEarlier spans j) spans_of_placed none
+
+  pub first_shown : (place : ℕ) → IsSharingOf (placed_spans file span (entry_count file)) (sharing.First place) → FindsFirstSharing file span (Some place)
+  first_shown place (j, least, at) = (j, first, same)
+    where
+      first : IsLeastSharing (entry_spans file span) j
+      first = subst (λ spans. IsLeastSharing spans j) spans_of_placed least
+
+      same : place ≡ entry_place file j
+      same =
+          let less : j < entry_count file = omega (arith, first.0.0, span_count) in
+          let places = map (entry_place file) (range_with_len 0 (entry_count file)) in
+          let here = get_or-map-range_with_len (entry_place file) 0 (entry_count file) j j 0 less (omega arith) in
+          let there = slice_get-get_or places j 0 (omega (arith, less, length-map-range_with_len (entry_place file) 0 (entry_count file))) in
+          let both : Some place ≡ Some (entry_place file j) = sym at ∙ (ap (λ places. slice_get places j) places_of_placed ∙ (there ∙ ap Some here)) in
+          cc
+
+  -- the order shows nothing only of spans that neither ascend nor descend
+  pub unordered : (shown : Sharing) → shown ≡ sharing.Unknown → IsSharingOf (placed_spans file span (entry_count file)) shown → IsUnordered (entry_spans file span)
+  unordered shown unknown is = subst IsUnordered spans_of_placed (subst (IsSharingOf (placed_spans file span (entry_count file))) unknown is)
+
+-- where the spans of two entries share a place exactly where the entries have R
+module _ (file : List ℕ) (span : ℕ → Span) (R : ℕ → ℕ → Type 0) (exactly : (i j : ℕ) → Shares (span i) (span j) ↔ R i j) where
+  shares_earlier : (j : ℕ) → j < entry_count file → WithEarlier R j → SharesEarlier (entry_spans file span) j
+  shares_earlier j less (i, lower, both) =
+      let known : i < entry_count file = omega arith in
+      let shares = (exactly i j).1 both in (
+        omega (arith, less, span_count file span),
+        (
+          i,
+          lower,
+          subst (λ s. Shares s (span_at (entry_spans file span) j)) (sym (entry_span file span i known))
+              (subst (Shares (span i)) (sym (entry_span file span j less)) shares),
+        ),
+      )
+
+  below_count : (j : ℕ) → SharesEarlier (entry_spans file span) j → j < entry_count file
+  below_count j (less, any) = omega (arith, less, span_count file span)
+
+  has_earlier : (j : ℕ) → SharesEarlier (entry_spans file span) j → WithEarlier R j
+  has_earlier j (less, (i, lower, shares)) =
+      let known : j < entry_count file = omega (arith, less, span_count file span) in
+      let before : i < entry_count file = omega arith in (
+        i,
+        lower,
+        (exactly i j).0 (subst (λ s. Shares s (span j)) (entry_span file span i before)
+            (subst (Shares (span_at (entry_spans file span) i)) (entry_span file span j known) shares)),
+      )
+
+  -- what is found is the least place at which an entry has R with an earlier one
+  pub sharing_breaks : (found : Option ℕ) → IsUniversal file → FindsFirstSharing file span found → IsLeastBreak (Breaks file (WithEarlier R)) found
+  sharing_breaks None universal none = λ place (u, (j, less, at, here)). none j (shares_earlier j less here)
+  sharing_breaks (Some place) universal (j, (shares, least), at) =
+      subst (λ p. IsLeastBreak (Breaks file (WithEarlier R)) (Some p)) (sym at) (
+        (universal, (j, below_count j shares, refl, has_earlier j shares)),
+        λ other (u, (i, less, there, here)). elim (cases_lt i j) [
+          | inl lower ↦ absurd (least i lower (shares_earlier i less here))
+          | inr most ↦ (let rises = mul-le-mul_right (entry_size file) most in omega (arith, rises, there))
+        ],
+      )
+
+-- fat-overlap: the spans of two slices share a place exactly where the slices do
+pub overlap_breaks : (file : List ℕ) (found : Option ℕ) → IsUniversal file → FindsFirstSharing file (slice_span file) found → IsLeastBreak (BreaksFile file rule.FatOverlap) found
+overlap_breaks file = sharing_breaks file (slice_span file) (λ i j. SharePlace (entry_slice file i) (entry_slice file j)) (λ i j. (λ shares. shares, λ shares. shares))
+
+first_of : Option (ℕ × ℕ) → ℕ
+first_of None = 0
+first_of (Some pair) = pair.0
+
+second_of : Option (ℕ × ℕ) → ℕ
+second_of None = 0
+second_of (Some pair) = pair.1
+
+-- the one place that numbers an architecture
+abbrev number_span : ℕ → ℕ → Span
+number_span type subtype = record { start = type * 2 ^ 24 + masked subtype; len = 1 }
+
+abbrev arch_of : ℕ → ℕ → Option (ℕ × ℕ)
+arch_of type subtype = Some (type, masked subtype)
+
+-- two of them are the same exactly where the architectures are
+number_spans_share : (t m u n : ℕ) → Shares (number_span t m) (number_span u n) ↔ (arch_of t m ≡ arch_of u n)
+unfolding first_of second_of
+number_spans_share t m u n = (to, from)
+  where
+    to : Shares (number_span t m) (number_span u n) → arch_of t m ≡ arch_of u n
+    to (place, (first, within), (second, inside)) =
+        let types : t ≡ u = omega (arith, first, within, second, inside) in
+        let subtypes : masked m ≡ masked n = omega (arith, first, within, second, inside) in
+        ap Some (ap₂ (λ x y. (x, y)) types subtypes)
+
+    from : arch_of t m ≡ arch_of u n → Shares (number_span t m) (number_span u n)
+    from same =
+        let types : t ≡ u = ap first_of same in
+        let subtypes : masked m ≡ masked n = ap second_of same in
+        (t * 2 ^ 24 + masked m, (omega arith, omega arith), (omega (arith, types, subtypes), omega (arith, types, subtypes)))
+
+arch_spans_share : (file : List ℕ) (i j : ℕ) → Shares (arch_span file i) (arch_span file j) ↔ ((entry_slice file i).arch ≡ (entry_slice file j).arch)
+arch_spans_share file i j =
+    let type : ℕ → ℕ = λ k. number Big 4 file (entry_place file k) in
+    let subtype : ℕ → ℕ = λ k. number Big 4 file (entry_place file k + 4) in
+    number_spans_share (type i) (subtype i) (type j) (subtype j)
+
+-- fat-duplicate, by the numbers of the architectures
+pub duplicate_breaks : (file : List ℕ) (found : Option ℕ) → IsUniversal file → FindsFirstSharing file (arch_span file) found → IsLeastBreak (BreaksFile file rule.FatDuplicate) found
+duplicate_breaks file = sharing_breaks file (arch_span file) (λ i j. (entry_slice file i).arch ≡ (entry_slice file j).arch) (arch_spans_share file)
+
+-- the spans of what was read of an entry
+
+span_of : ℕ → ℕ → Span
+span_of start len = record { start = start; len = len }
+
+pub slice_read : (file : List ℕ) (k : ℕ) (entry : Entry) → IsEntry file k entry → entry.span ≡ slice_span file k
+unfolding span_of
+slice_read file k entry is = ap₂ span_of is.start is.size
+
+pub arch_read : (file : List ℕ) (k : ℕ) (entry : Entry) (given : Span) → IsEntry file k entry → (given.start ≡ entry.arch.0 * 2 ^ 24 + entry.arch.1) × (given.len ≡ 1) → given ≡ arch_span file k
+unfolding first_of second_of span_of
+arch_read file k entry given is (start, len) =
+    let types : entry.arch.0 ≡ number Big 4 file (entry_place file k) = ap first_of is.arch in
+    let subtypes : entry.arch.1 ≡ masked (number Big 4 file (entry_place file k + 4)) = ap second_of is.arch in
+    ap₂ span_of (start ∙ ap₂ (λ t m. t * 2 ^ 24 + m) types subtypes) len
+
+-- one span more is noted
+pub order_more : (file : List ℕ) (span : ℕ → Span) (n place : ℕ) (given : Span) (old new : SpanOrder) → given ≡ span n → place ≡ entry_place file n
+    → ((spans : List (Span × ℕ)) → IsOrderOf spans old → IsOrderOf (spans ++ (given, place) ∷ []) new) → IsOrderOf (placed_spans file span n) old → IsOrderOf (placed_spans file span (n + 1)) new
+order_more file span n place given old new same at noted before =
+    subst (λ spans. IsOrderOf spans new) (ap₂ (λ s p. placed_spans file span n ++ (s, p) ∷ []) same at ∙ sym (placed_more file span n)) (noted (placed_spans file span n) before)
+
+-- the spans are those that a function returns of the first n entries
+pub record AreReturned (returns : Entry → Span → Type 0) (file : List ℕ) (n : ℕ) (spans : List Span) : Type 0 where
+  pub count : length spans ≡ n
+  pub each : (span : ℕ → Span) → ReturnsSpans returns file span → spans ≡ map span (range_with_len 0 n)
+
+module _ (returns : Entry → Span → Type 0) (file : List ℕ) where
+  pub none_returned : (spans : List Span) → spans ≡ [] → AreReturned returns file 0 spans
+  none_returned spans is = record { count = ap length is; each = λ span of. is }
+
+  pub returned_more : (n : ℕ) (spans next : List Span) (entry : Entry) (given : Span) → AreReturned returns file n spans → IsEntry file n entry → returns entry given
+      → next ≡ spans ++ given ∷ [] → AreReturned returns file (n + 1) next
+  returned_more n spans next entry given are is returned more = record {
+    count = omega (arith, ap length more, length-append spans (given ∷ []), are.count);
+    each = λ span of. more ∙ (ap₂ (λ xs x. xs ++ x ∷ []) (are.each span of) (of n entry given is returned) ∙ sym (map-range_with_len_more span 0 n n (omega arith)));
+  }
+
+  module _ (n : ℕ) (spans : List Span) (all : n ≡ entry_count file) (are : AreReturned returns file n spans) (span : ℕ → Span) (of : ReturnsSpans returns file span) where
+    same_spans : spans ≡ entry_spans file span
+    same_spans = are.each span of ∙ ap (λ n. map span (range_with_len 0 n)) all
+
+    pub none_sorted : ((j : ℕ) → ¬ SharesEarlier spans j) → FindsFirstSharing file span None
+    none_sorted none = subst (λ spans. (j : ℕ) → ¬ SharesEarlier spans j) same_spans none
+
+    pub first_found : (j : ℕ) (entry : Entry) → IsLeastSharing spans j → IsEntry file j entry → FindsFirstSharing file span (Some entry.place)
+    first_found j entry least is = (j, subst (λ spans. IsLeastSharing spans j) same_spans least, is.place)

@@ -1,0 +1,55 @@
+//! The first entry whose span shares a place with that of an earlier one.
+
+ghost use Rattle.std.specs.Prelude.{◌≡◌, ℕ, IfOk, OnErr};
+ghost use Rattle.macho_fields.specs.SpanOrder.{IsSharingOf};
+ghost use Rattle.macho_fields.specs.Universal.{entry_count};
+ghost use Rattle.macho_fields.specs.declared.span.Span.{Span};
+ghost use Rattle.macho_fields.specs.declared.span_order.Sharing.{Sharing};
+ghost use Rattle.macho_fat.specs.Scaffold.{ReturnsSpans, placed_spans, FindsFirstSharing};
+
+use crate::table::{Entry, Table};
+use macho_fields::{Sharing, Span, SpanList};
+use std::alloc::{AllocError, Global};
+
+/// The place of the first entry whose span, as `span_of` returns it, shares a place with that of an
+/// earlier entry. `sharing` is what the order of the spans shows of it. Where it shows nothing, the
+/// spans are sorted.
+pub(crate) fn first_sharing<F: Fn(Entry) -> Span>(
+    alloc: Global,
+    table: &Table,
+    sharing: Sharing,
+    span_of: F,
+) -> Result<Option<u64>, AllocError>
+    requires { F.IsAlwaysCallable span_of }
+    ensures first { (span : ℕ → Span) → ReturnsSpans (F.post span_of) table.now span
+        → IsSharingOf (placed_spans table.now span (entry_count table.now)) sharing
+        → IfOk result (FindsFirstSharing table.now span) }
+    ensures memory { OnErr result (sharing ≡ Sharing.Unknown) }
+{
+    match sharing {
+        Sharing::None => Ok(None),
+        Sharing::First(place) => Ok(Some(place)),
+        Sharing::Unknown => first_sorted(alloc, table, span_of),
+    }
+}
+
+/// The same, whatever the order of the spans. This takes time in the order of n log n for n entries,
+/// and 24 bytes an entry.
+fn first_sorted<F: Fn(Entry) -> Span>(
+    alloc: Global,
+    table: &Table,
+    span_of: F,
+) -> Result<Option<u64>, AllocError>
+    requires { F.IsAlwaysCallable span_of }
+    ensures { (span : ℕ → Span) → ReturnsSpans (F.post span_of) table.now span
+        → IfOk result (FindsFirstSharing table.now span) }
+{
+    let mut spans = SpanList::with_capacity(alloc, table.count() as usize)?;
+    for k in 0..table.count() {
+        spans.push(span_of(table.entry(k)))?;
+    }
+    let Some(k) = spans.least_overlap() else {
+        return Ok(None);
+    };
+    Ok(Some(table.entry(k as u32).place))
+}
