@@ -1,16 +1,18 @@
 -- What only proofs need: what is known of values between the functions of this crate. No public
 -- contract cites any of it.
-use Rattle.std.specs.Prelude.{◌≡◌, ◌⊎◌, ℕ, ◌+◌, ◌*◌, ◌^◌, ◌≤◌, List, length, map, Option, Some, None, MatchOption, Result, MatchResult, false, min}
+use Rattle.std.specs.Prelude.{◌≡◌, ◌⊎◌, ◌↔◌, ℕ, ◌+◌, ◌*◌, ◌^◌, ◌≤◌, ◌<◌, List, length, map, Option, Some, MatchOption, Result, MatchResult, Bool, false, IsTrue}
 use Rattle.std.specs.List.{range_with_len}
 use Rattle.macho_fields.specs.Field.{number}
 use Rattle.macho_fields.specs.First.{rank}
 use Rattle.macho_fields.specs.FirstPlace.{IsFirstOf}
 use Rattle.macho_fields.specs.Layers.{IsLeast, KeptBelow}
 use Rattle.macho_fields.specs.Overlap.{SharesEarlier, IsLeastSharing, IsAscending, IsDescending}
+use Rattle.macho_fields.specs.Rules.{BreaksFile}
 use Rattle.macho_fields.specs.SpanOrder.{IsOrderOf}
-use Rattle.macho_fields.specs.Universal.{is_universal, masked, IsUniversal, IsImage, entry_count, entry_place, entry_align, entry_slice, table_end, IsSliceOutside, IsSliceInTable, IsSliceMisaligned}
+use Rattle.macho_fields.specs.Universal.{is_universal, masked, IsUniversal, IsImage, entry_count, entry_place, entry_align, entry_slice, slice_bytes, table_end, IsSliceOutside, IsSliceInTable, IsSliceMisaligned}
 use Rattle.macho_fields.specs.declared.bytes.Order.TheVariants.{Big}
 use Rattle.macho_fields.specs.declared.rule.Rule.{Rule}
+use Rattle.macho_fields.specs.declared.rule.Rule.TheVariants as rule
 use Rattle.macho_fields.specs.declared.span.Span.{Span}
 use Rattle.macho_fat.specs.declared.fault.FatFault.{FatFault}
 use Rattle.macho_fat.specs.declared.fault.FatFault.TheVariants as fault
@@ -101,11 +103,22 @@ pub record IsSurvey (file : List ℕ) (notes : Notes) : Type 0 where
   pub table : HasTable file
   pub whole : AreNotes file (entry_count file) notes
 
--- the lesser of two places, either of which may be missing
-abbrev pub lesser_of : Option ℕ → Option ℕ → Option ℕ
-lesser_of None b = b
-lesser_of (Some a) None = Some a
-lesser_of (Some a) (Some b) = Some (min a b)
+-- what is found is the least place at which a rule is broken, and None where it is broken nowhere
+abbrev pub IsLeastPlace : (ℕ → Type 0) → Option ℕ → Type 0
+IsLeastPlace breaks found =
+    MatchOption found ((place : ℕ) → ¬ breaks place)
+    (λ least. breaks least × ((place : ℕ) → breaks place → least ≤ place))
+
+-- one of the first n entries has a 64-bit little-endian image
+abbrev pub HasImageBelow : List ℕ → ℕ → Type 0
+HasImageBelow file n =
+    (k : ℕ) × (k < n) × IsImage (slice_bytes file (entry_slice file k))
+
+-- what a walk over the slices of the table finds of their magic numbers
+pub record AreMagics (file : List ℕ) (foreign : Option ℕ) (has_image : Bool) : Type 0 where
+  pub universal : IsUniversal file
+  pub least : IsLeastPlace (BreaksFile file rule.FatSliceMagic) foreign
+  pub image : IsTrue has_image ↔ HasImageBelow file (entry_count file)
 
 -- a fault of rule r, which takes memory where P holds: what is broken first of all, or that memory
 -- ran out, which says only that the rules before r are unbroken

@@ -8,7 +8,7 @@ ghost use Rattle.macho_fields.specs.Universal.{is_universal, IsImage};
 ghost use Rattle.macho_fat.specs.Slices.{IsFatFault};
 
 use crate::fault::FatFault;
-use crate::rules::{Format, fat_empty, fat_slice_magic, fat_truncated, magic};
+use crate::rules::{Format, Magics, fat_truncated, magic};
 use crate::survey::Survey;
 use crate::table::Table;
 use macho_fields::Bytes;
@@ -34,7 +34,8 @@ pub(crate) fn check_file<'a>(alloc: Global, file: Bytes<'a>) -> Result<Option<Ta
     survey.fat_align()?;
     survey.fat_overlap(alloc)?;
     survey.fat_duplicate(alloc)?;
-    fat_slice_magic(&table)?;
-    fat_empty(&table)?;
+    let magics = Magics::of(&table);
+    magics.fat_slice_magic()?;
+    magics.fat_empty()?;
     Ok(Some(table))
 }

@@ -1,19 +1,20 @@
 //! The rules of a file, one a function: each takes over where the rules before it are unbroken.
 //! (`mach-o/fat.h`)
 
-ghost use Rattle.std.specs.Prelude.{◌≡◌, ◌<◌, ◌↔◌, ℕ, IsTrue, IfOk, MatchOption};
+ghost use Rattle.std.specs.Prelude.{◌≡◌, ◌↔◌, IsTrue, IfOk};
 ghost use Rattle.macho_fields.specs.Bytes.{bytes_of};
 ghost use Rattle.macho_fields.specs.First.{rank};
 ghost use Rattle.macho_fields.specs.Layers.{KeptBelow, Continues};
 ghost use Rattle.macho_fields.specs.Rules.{BreaksFile};
-ghost use Rattle.macho_fields.specs.Universal.{IsUniversal, IsImage, IsUnreadImage, IsForeign, entry_count, entry_slice, slice_bytes};
+ghost use Rattle.macho_fields.specs.Universal.{IsUniversal, IsImage, IsUnreadImage};
 ghost use Rattle.macho_fields.specs.declared.rule.Rule.{Rule};
-ghost use Rattle.macho_fat.specs.Scaffold.{IsFormat, lesser_of};
+ghost use Rattle.macho_fat.specs.Scaffold.{IsFormat};
 
 use crate::table::{NFAT_ARCH, Table, entry_size};
 use macho_fields::header::fat::{FAT_HEADER_SIZE, FAT_MAGIC, FAT_MAGIC_64};
 use macho_fields::header::loader::{MH_MAGIC, MH_MAGIC_64};
 use macho_fields::{Break, Bytes, Order, Rule};
+use std::marker::Model;
 
 /// What a file is, by the magic number with which it begins.
 #[derive(Clone, Copy)]
@@ -54,59 +55,79 @@ pub(crate) fn fat_truncated(file: Bytes) -> Result<Table, Break>
     Ok(Table::new(file, wide, count))
 }
 
-/// Each slice begins with the magic number of an image, which may be one that is not read.
-pub(crate) fn fat_slice_magic(table: &Table) -> Result<(), Break>
-    requires { KeptBelow (BreaksFile table.now) (rank Rule.FatSliceMagic) }
-    ensures { Continues (BreaksFile table.now) Rule.FatSliceMagic result }
-{
-    let mut least = None;
-    for k in 0..table.count() {
-        least = lesser(least, foreign_place(table, k));
-    }
-    match least {
-        Some(place) => Err(Break::at(Rule::FatSliceMagic, place)),
-        None => Ok(()),
-    }
+/// A table, and what a walk over its slices has found of the magic numbers with which they begin.
+#[derive(Drop)]
+pub(crate) struct Magics<'t, 'a> {
+    table: &'t Table<'a>,
+    /// The least place of a slice that begins with the magic number of no image.
+    foreign: Option<u64>,
+    /// Whether some slice is a 64-bit little-endian image.
+    has_image: bool,
 }
 
-/// Where the slice of entry `k` begins, if it does so with the magic number of no image.
-fn foreign_place(table: &Table, k: u32) -> Option<u64>
-    requires entry { k < entry_count table.now }
-    requires inside { (place : ℕ) → ¬ BreaksFile table.now Rule.FatSliceOutside place }
-    ensures { let slice = entry_slice table.now k in
-        MatchOption result (¬ IsForeign (slice_bytes table.now slice))
-        (λ place. (place ≡ slice.start) × IsForeign (slice_bytes table.now slice)) }
-{
-    let bytes = table.slice_bytes(k);
-    if is_image(bytes) || is_unread_image(bytes) {
-        None
-    } else {
-        Some(table.entry(k).span.start)
-    }
+impl<'t, 'a> Model for Magics<'t, 'a> {
+    ghost use Rattle.std.specs.Prelude.{List, ℕ};
+    ghost use Rattle.macho_fat.specs.Scaffold.{AreMagics};
+
+    ghost Value = { List ℕ };
+
+    ghost view = { λ magics. magics.table.now };
+
+    ghost invariant = { λ magics. AreMagics magics.table.now magics.foreign magics.has_image };
 }
 
-/// The lesser of two places, either of which may be missing.
-fn lesser(a: Option<u64>, b: Option<u64>) -> Option<u64>
-    ensures { result ≡ lesser_of a b }
-{
-    match (a, b) {
-        (Some(a), Some(b)) => Some(a.min(b)),
-        (a, None) => a,
-        (None, b) => b,
-    }
-}
+impl<'t, 'a> Magics<'t, 'a> {
+    ghost use Rattle.std.specs.Prelude.{◌≡◌, ℕ};
+    ghost use Rattle.macho_fields.specs.First.{rank};
+    ghost use Rattle.macho_fields.specs.Layers.{KeptBelow, Continues};
+    ghost use Rattle.macho_fields.specs.Rules.{BreaksFile};
+    ghost use Rattle.macho_fields.specs.declared.rule.Rule.{Rule};
 
-/// Some slice is a 64-bit little-endian image.
-pub(crate) fn fat_empty(table: &Table) -> Result<(), Break>
-    requires { KeptBelow (BreaksFile table.now) (rank Rule.FatEmpty) }
-    ensures { Continues (BreaksFile table.now) Rule.FatEmpty result }
-{
-    for k in 0..table.count() {
-        if is_image(table.slice_bytes(k)) {
-            return Ok(());
+    /// Goes over the slices of a table once, all of which lie inside the file.
+    pub(crate) fn of(table: &'t Table<'a>) -> Magics<'t, 'a>
+        requires { (place : ℕ) → ¬ BreaksFile table.now Rule.FatSliceOutside place }
+        ensures { result ≡ table.now }
+    {
+        let mut foreign = None;
+        let mut has_image = false;
+        for k in 0..table.count() {
+            let bytes = table.slice_bytes(k);
+            if is_image(bytes) {
+                has_image = true;
+            } else if !is_unread_image(bytes) {
+                let start = table.entry(k).span.start;
+                foreign = Some(foreign.unwrap_or(start).min(start));
+            }
+        }
+        Magics {
+            table,
+            foreign,
+            has_image,
         }
     }
-    Err(Break::at(Rule::FatEmpty, NFAT_ARCH))
+
+    /// Each slice begins with the magic number of an image, which may be one that is not read.
+    pub(crate) fn fat_slice_magic(&self) -> Result<(), Break>
+        requires { KeptBelow (BreaksFile self.now) (rank Rule.FatSliceMagic) }
+        ensures { Continues (BreaksFile self.now) Rule.FatSliceMagic result }
+    {
+        match self.foreign {
+            Some(place) => Err(Break::at(Rule::FatSliceMagic, place)),
+            None => Ok(()),
+        }
+    }
+
+    /// Some slice is a 64-bit little-endian image.
+    pub(crate) fn fat_empty(&self) -> Result<(), Break>
+        requires { KeptBelow (BreaksFile self.now) (rank Rule.FatEmpty) }
+        ensures { Continues (BreaksFile self.now) Rule.FatEmpty result }
+    {
+        if self.has_image {
+            Ok(())
+        } else {
+            Err(Break::at(Rule::FatEmpty, NFAT_ARCH))
+        }
+    }
 }
 
 /// Whether the bytes begin with the magic number of a 64-bit little-endian image.

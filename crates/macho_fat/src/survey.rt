@@ -81,12 +81,8 @@ impl<'t, 'a> Survey<'t, 'a> {
         ensures { ContinuesWithMemory (BreaksFile self.now) Rule.FatOverlap
             (IsUnordered (entry_spans self.now (slice_span self.now))) result }
     {
-        match first_sharing(
-            alloc,
-            self.table,
-            self.notes.spans.sharing(),
-            |entry| entry.span,
-        )? {
+        let sharing = self.notes.spans.sharing();
+        match first_sharing(alloc, self.table, sharing, |entry| entry.span)? {
             Some(place) => Err(FatFault::Broken(Break::at(Rule::FatOverlap, place))),
             None => Ok(()),
         }
@@ -99,12 +95,8 @@ impl<'t, 'a> Survey<'t, 'a> {
         ensures { ContinuesWithMemory (BreaksFile self.now) Rule.FatDuplicate
             (IsUnordered (entry_spans self.now (arch_span self.now))) result }
     {
-        match first_sharing(
-            alloc,
-            self.table,
-            self.notes.archs.sharing(),
-            Entry::arch_span,
-        )? {
+        let sharing = self.notes.archs.sharing();
+        match first_sharing(alloc, self.table, sharing, Entry::arch_span)? {
             Some(place) => Err(FatFault::Broken(Break::at(Rule::FatDuplicate, place))),
             None => Ok(()),
         }

@@ -1,4 +1,4 @@
-use Rattle.std.proofs.Common.{List, ℕ, refl, sym, ◌∙◌, subst, arith, lit≤}
+use Rattle.std.proofs.Common.{List, ℕ, refl, sym, ◌∙◌, subst, arith, lit≤, lit<}
 use Rattle.macho_fields.specs.Bytes.{bytes_of}
 use Rattle.macho_fields.specs.First.{rank}
 use Rattle.macho_fields.specs.Layers.{KeptBelow}
@@ -53,21 +53,29 @@ returns-in_err-fat_duplicate-clause-refused c =
     fault_passed table (bytes_of c.args.file) (c.of-survey.ensures ∙ c.in_ok-table-in-Universal.ensures.table) c.from_residual-in_err-fat_duplicate.result found
     c.from_residual-in_err-fat_duplicate.ensures.1 (rule_fault table rule.FatDuplicate _ found (lit≤ tt) c.in_err-fat_duplicate.ensures)
 
+pub of-magics-requires : goal.of-magics-requires
+of-magics-requires c place broken =
+    c.in_ok-fat_duplicate.ensures rule.FatSliceOutside place (lit< tt) (subst (λ (file : List ℕ). BreaksFile file rule.FatSliceOutside place) (sym c.of-survey.ensures) broken)
+
+pub fat_slice_magic-requires : goal.fat_slice_magic-requires
+fat_slice_magic-requires c =
+    subst (λ (file : List ℕ). KeptBelow (BreaksFile file) (rank rule.FatSliceMagic)) (c.of-survey.ensures ∙ sym c.of-magics.ensures) c.in_ok-fat_duplicate.ensures
+
 pub returns-in_err-fat_slice_magic-clause-refused : goal.returns-in_err-fat_slice_magic-clause-refused
 returns-in_err-fat_slice_magic-clause-refused c =
-    break_passed c.in_ok-table-in-Universal.table (bytes_of c.args.file) c.in_ok-table-in-Universal.ensures.table c.from_residual-in_err-fat_slice_magic.result
+    break_passed c.of-magics.result (bytes_of c.args.file) (c.of-magics.ensures ∙ c.in_ok-table-in-Universal.ensures.table) c.from_residual-in_err-fat_slice_magic.result
     c.in_err-fat_slice_magic.field-0.0 c.from_residual-in_err-fat_slice_magic.ensures.1 c.in_err-fat_slice_magic.ensures
 
 pub returns-in_err-fat_empty-clause-refused : goal.returns-in_err-fat_empty-clause-refused
 returns-in_err-fat_empty-clause-refused c =
-    break_passed c.in_ok-table-in-Universal.table (bytes_of c.args.file) c.in_ok-table-in-Universal.ensures.table c.from_residual-in_err-fat_empty.result
+    break_passed c.of-magics.result (bytes_of c.args.file) (c.of-magics.ensures ∙ c.in_ok-table-in-Universal.ensures.table) c.from_residual-in_err-fat_empty.result
     c.in_err-fat_empty.field-0.0 c.from_residual-in_err-fat_empty.ensures.1 c.in_err-fat_empty.ensures
 
 pub returns-clause-unbroken : goal.returns-clause-unbroken
 returns-clause-unbroken c r place broken =
-    let of_table = subst (λ (file : List ℕ). BreaksFile file r place) (sym c.in_ok-table-in-Universal.ensures.table) broken in
-    let most = file_rule_rank c.in_ok-table-in-Universal.table r place of_table in
-    c.in_ok-fat_empty.ensures r place (omega (arith, most)) of_table
+    let seen = subst (λ (file : List ℕ). BreaksFile file r place) (sym (c.of-magics.ensures ∙ c.in_ok-table-in-Universal.ensures.table)) broken in
+    let most = file_rule_rank c.of-magics.result r place seen in
+    c.in_ok-fat_empty.ensures r place (omega (arith, most)) seen
 
 pub returns-clause-table : goal.returns-clause-table
 returns-clause-table c = c.in_ok-table-in-Universal.ensures.table

@@ -13,7 +13,7 @@ returns-in_err-place c =
     let file = c.args.self.now in
     let known = subst (λ (file : List ℕ). IsSurvey file c.self.inside.notes) c.self.view_is c.self.invariant in
     memory_passed (BreaksFile file) rule.FatOverlap (IsUnordered (entry_spans file (slice_span file))) c.from_residual.result c.from_residual.ensures.1 c.requires
-    (unordered file (slice_span file) c.sharing.result c.in_err-place.ensures.memory (c.sharing.ensures (placed_spans file (slice_span file) (entry_count file)) known.whole.spans))
+    (unordered file (slice_span file) c.sharing-sharing.result c.in_err-place.ensures.memory (c.sharing-sharing.ensures (placed_spans file (slice_span file) (entry_count file)) known.whole.spans))
 
 pub returns-in-Some : goal.returns-in-Some
 returns-in-Some c =
@@ -21,7 +21,7 @@ returns-in-Some c =
     let file = c.args.self.now in
     let known = subst (λ (file : List ℕ). IsSurvey file c.self.inside.notes) c.self.view_is c.self.invariant in
     let first = c.in_ok-place.ensures.first (slice_span seen) (λ k entry given is returned. let same : given ≡ entry.span = search rules in same ∙ slice_read seen k entry is)
-    (c.sharing.ensures (placed_spans seen (slice_span seen) (entry_count seen)) c.self.invariant.whole.spans) in
+    (c.sharing-sharing.ensures (placed_spans seen (slice_span seen) (entry_count seen)) c.self.invariant.whole.spans) in
     let found = subst (λ (file : List ℕ). FindsFirstSharing file (slice_span file) c.in_ok-place.field-0) c.self.view_is first in
     first_judged {T = Unit {0}} (BreaksFile file) rule.FatOverlap (Some c.in-Some.place) (Err c.at.result) c.requires
     (overlap_breaks file (Some c.in-Some.place) known.table.universal (subst (FindsFirstSharing file (slice_span file)) c.in-Some.is found)) (c.at.ensures.rule, c.at.ensures.place)
@@ -32,7 +32,7 @@ returns-in-None c =
     let file = c.args.self.now in
     let known = subst (λ (file : List ℕ). IsSurvey file c.self.inside.notes) c.self.view_is c.self.invariant in
     let first = c.in_ok-place.ensures.first (slice_span seen) (λ k entry given is returned. let same : given ≡ entry.span = search rules in same ∙ slice_read seen k entry is)
-    (c.sharing.ensures (placed_spans seen (slice_span seen) (entry_count seen)) c.self.invariant.whole.spans) in
+    (c.sharing-sharing.ensures (placed_spans seen (slice_span seen) (entry_count seen)) c.self.invariant.whole.spans) in
     let found = subst (λ (file : List ℕ). FindsFirstSharing file (slice_span file) c.in_ok-place.field-0) c.self.view_is first in
     first_judged {T = Unit {0}} (BreaksFile file) rule.FatOverlap None (Ok tt) c.requires
     (overlap_breaks file None known.table.universal (subst (FindsFirstSharing file (slice_span file)) c.in-None.is found)) refl
