@@ -72,7 +72,7 @@ FindsFirstSharing file span found =
     MatchOption found ((j : ℕ) → ¬ SharesEarlier (entry_spans file span) j)
     (λ place. (j : ℕ) × IsLeastSharing (entry_spans file span) j × (place ≡ entry_place file j))
 
--- they neither ascend nor descend
+-- the spans neither ascend nor descend
 abbrev pub IsUnordered : List Span → Type 0
 IsUnordered spans = (¬ IsAscending spans) × (¬ IsDescending spans)
 

@@ -1,5 +1,5 @@
-//! The rules of a file, one a function: each takes over where the rules before it are unbroken.
-//! (`mach-o/fat.h`)
+//! The rules of the header of a file, and of the magic numbers of its slices, one a function: each
+//! takes over where the rules before it are unbroken. (`mach-o/fat.h`)
 
 ghost use Rattle.std.specs.Prelude.{◌≡◌, ◌↔◌, IsTrue, IfOk};
 ghost use Rattle.macho_fields.specs.Bytes.{bytes_of};

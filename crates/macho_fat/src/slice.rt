@@ -32,9 +32,9 @@ pub struct Slice {
 /// entry of the table, in order. Where one of the rules of the file, from `magic` to `fat-empty`,
 /// is broken, it returns the first broken one. The list has room for its slices and no more.
 ///
-/// Memory is asked for only where the rules from `magic` to `fat-align` are unbroken. For a table of
-/// two entries or more, `fat-overlap` and `fat-duplicate` each take 24 bytes an entry, to sort what
-/// they compare, and free them. The list is made last.
+/// Memory is asked for only where the rules from `magic` to `fat-align` are unbroken. `fat-overlap` and
+/// `fat-duplicate` take it only where the slices, or the numbers of the architectures, neither ascend
+/// nor descend: 24 bytes an entry, to sort them, which they free. The list is made last.
 pub fn slices(alloc: Global, file: Bytes) -> Result<Vec<Slice>, FatFault>
     ensures slices { IfOk result (λ slices.
         map slice_of slices.items ≡ slices_of (bytes_of file.entry)) }

@@ -172,7 +172,7 @@ impl<'a> Table<'a> {
         requires inside { (place : ℕ) → ¬ BreaksFile self.now Rule.FatSliceOutside place }
         ensures { bytes_of result ≡ slice_bytes self.now (entry_slice self.now k) }
     {
-        Bytes::new(self.file.part(self.entry(k).span).unwrap())
+        Bytes::new(self.file.read_part(self.entry(k).span))
     }
 
     /// A field that has 64 bits in a `fat_arch_64`, and 32 bits in a `fat_arch`.
@@ -192,13 +192,13 @@ impl<'a> Table<'a> {
         requires { place + 4 ≤ length self.now }
         ensures { result ≡ number Order.Big 4 self.now place }
     {
-        self.file.u32_at(Order::Big, place).unwrap()
+        self.file.read_u32(Order::Big, place)
     }
 
     fn long_at(&self, place: u64) -> u64
         requires { place + 8 ≤ length self.now }
         ensures { result ≡ number Order.Big 8 self.now place }
     {
-        self.file.u64_at(Order::Big, place).unwrap()
+        self.file.read_u64(Order::Big, place)
     }
 }
