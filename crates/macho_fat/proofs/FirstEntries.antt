@@ -1,12 +1,12 @@
 -- What a walk over the entries of a table finds of a rule of a single entry, entry by entry.
-use Rattle.std.proofs.Common.{◌≡◌, ℕ, ◌+◌, ◌≤◌, ◌<◌, List, [], ◌∷◌, ◌++◌, Contains, Option, None, Some, unwrap_or, Bool, true, false, IsTrue, ◌↔◌, if◌then◌else◌, refl, sym, ap, ◌∙◌, subst, arith, inl, inr, mul-le-mul_right}
+use Rattle.std.proofs.Common.{◌≡◌, ℕ, ◌+◌, ◌≤◌, ◌<◌, List, [], ◌∷◌, ◌++◌, Contains, Option, Some, unwrap_or, Bool, true, false, IsTrue, ◌↔◌, if◌then◌else◌, refl, sym, ap, ◌∙◌, subst, arith, inl, inr, mul-le-mul_right}
 use Rattle.std.specs.List.{range_with_len}
 use Rattle.std.proofs.lemmas.List.FromFn.{length-range_with_len, get_or-range_with_len, map-range_with_len_more}
 use Rattle.std.proofs.lemmas.List.{map-id}
 use Rattle.std.proofs.lemmas.Bool.{false≢true, both_ways}
 use Rattle.macho_fields.specs.Universal.{IsUniversal, IsSliceOutside, IsSliceInTable, IsSliceMisaligned, entry_count, entry_size, entry_place}
 use Rattle.macho_fields.proofs.Entries.{Breaks}
-use Rattle.macho_fields.proofs.FirstPlaces.{first_of_none, first_of_kept, first_of_broken, IsLeastBreak, first_breaks}
+use Rattle.macho_fields.proofs.FirstPlaces.{first_of_kept, first_of_broken, IsLeastBreak, first_breaks}
 use Rattle.macho_fat.specs.Scaffold.{IsFirstEntry, BreaksAlone, AreFirstBreaks}
 use Rattle.macho_fat.specs.declared.survey.Notes.{Notes}
 
@@ -22,22 +22,19 @@ below_contained n k less = (k, omega (arith, less, length-range_with_len 0 n), o
 range_more : (n : ℕ) → range_with_len 0 (n + 1) ≡ range_with_len 0 n ++ n ∷ []
 range_more n = sym (map-id (range_with_len 0 (n + 1))) ∙ (map-range_with_len_more (λ k. k) 0 n n (omega arith) ∙ ap (λ ks. ks ++ n ∷ []) (map-id (range_with_len 0 n)))
 
-module _ (file : List ℕ) (P : ℕ → Type 0) where
-  pub none_passed : IsFirstEntry file P 0 None
-  none_passed = first_of_none (entry_place file) P
+pub place_rises : (file : List ℕ) (i k : ℕ) → i ≤ k → entry_place file i ≤ entry_place file k
+place_rises file i k most = let wide = mul-le-mul_right (entry_size file) most in omega (arith, wide)
 
+module _ (file : List ℕ) (P : ℕ → Type 0) where
   -- one entry more, which has not P
   pub entry_kept : (k : ℕ) (found : Option ℕ) → ¬ P k → IsFirstEntry file P k found → IsFirstEntry file P (k + 1) found
   entry_kept k found kept first = rw range_more (first_of_kept (entry_place file) P (range_with_len 0 k) k found kept first)
-
-  place_rises : (i k : ℕ) → i < k → entry_place file i ≤ entry_place file k
-  place_rises i k less = let most : i ≤ k = omega arith in let wide = mul-le-mul_right (entry_size file) most in omega (arith, wide)
 
   -- one entry more, which has P
   pub entry_noted : (k place : ℕ) (old new : Option ℕ) → place ≡ entry_place file k → new ≡ Some (unwrap_or old place) → P k → IsFirstEntry file P k old → IsFirstEntry file P (k + 1) new
   entry_noted k place old new at is broken first =
       subst (IsFirstEntry file P (k + 1)) (sym (is ∙ ap (λ p. Some (unwrap_or old p)) at))
-      (rw range_more (first_of_broken (entry_place file) P (range_with_len 0 k) k old (λ i has. place_rises i k (entry_below k i has)) broken first))
+      (rw range_more (first_of_broken (entry_place file) P (range_with_len 0 k) k old (λ i has. let less : i < k = entry_below k i has in place_rises file i k (omega arith)) broken first))
 
   -- one entry more, by a test of it
   pub entry_tested : (k place : ℕ) (is_broken : Bool) (old new : Option ℕ) → place ≡ entry_place file k → new ≡ (if is_broken then Some (unwrap_or old place) else old)

@@ -1,5 +1,5 @@
 -- The first entry whose span shares a place with that of an earlier one, and which rule it breaks.
-use Rattle.std.proofs.Common.{◌≡◌, ℕ, ◌+◌, ◌*◌, ◌^◌, ◌<◌, ◌↔◌, List, length, [], ◌∷◌, ◌++◌, map, slice_get, Option, Some, None, refl, sym, ap, ap₂, ◌∙◌, subst, arith, inl, inr, mul-le-mul_right, length-append}
+use Rattle.std.proofs.Common.{◌≡◌, ℕ, ◌+◌, ◌*◌, ◌^◌, ◌<◌, ◌↔◌, List, length, [], ◌∷◌, ◌++◌, map, slice_get, Option, Some, None, refl, sym, ap, ap₂, ◌∙◌, subst, arith, inl, inr, length-append}
 use Rattle.std.proofs.lemmas.Bool.{cases_lt}
 use Rattle.std.specs.List.{range_with_len}
 use Rattle.std.proofs.lemmas.List.FromFn.{length-map-range_with_len, get_or-map-range_with_len, map-range_with_len_more}
@@ -12,13 +12,14 @@ use Rattle.macho_fields.specs.Rules.{BreaksFile}
 use Rattle.macho_fields.specs.Span.{Shares}
 use Rattle.macho_fields.specs.SpanOrder.{spans_in, tags_in, IsOrderOf, IsSharingOf}
 use Rattle.macho_fields.specs.declared.span_order.SpanOrder.{SpanOrder}
-use Rattle.macho_fields.specs.Universal.{IsUniversal, masked, entry_count, entry_size, entry_place, entry_slice, WithEarlier, SharePlace}
+use Rattle.macho_fields.specs.Universal.{IsUniversal, masked, entry_count, entry_place, entry_slice, WithEarlier, SharePlace}
 use Rattle.macho_fields.specs.declared.rule.Rule.TheVariants as rule
 use Rattle.macho_fields.specs.declared.span.Span.{Span}
 use Rattle.macho_fields.specs.declared.span_order.Sharing.{Sharing}
 use Rattle.macho_fields.specs.declared.span_order.Sharing.TheVariants as sharing
 use Rattle.macho_fields.proofs.Entries.{Breaks}
 use Rattle.macho_fields.proofs.FirstPlaces.{IsLeastBreak}
+use Rattle.macho_fat.proofs.FirstEntries.{place_rises}
 use Rattle.macho_fat.specs.Scaffold.{IsEntry, entry_spans, placed_spans, slice_span, arch_span, ReturnsSpans, FindsFirstSharing, IsUnordered}
 use Rattle.macho_fat.specs.declared.table.Entry.{Entry}
 
@@ -98,7 +99,7 @@ module _ (file : List ℕ) (span : ℕ → Span) (R : ℕ → ℕ → Type 0) (e
         (universal, (j, below_count j shares, refl, has_earlier j shares)),
         λ other (u, (i, less, there, here)). elim (cases_lt i j) [
           | inl lower ↦ absurd (least i lower (shares_earlier i less here))
-          | inr most ↦ (let rises = mul-le-mul_right (entry_size file) most in omega (arith, rises, there))
+          | inr most ↦ (let rises = place_rises file j i most in omega (arith, rises, there))
         ],
       )
 

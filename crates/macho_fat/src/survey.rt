@@ -123,7 +123,7 @@ impl Notes {
     ghost use Rattle.macho_fields.specs.Universal.{entry_count};
     ghost use Rattle.macho_fat.specs.Scaffold.{IsEntry, AreNotes, AreFirstBreaks};
 
-    /// No entry is passed. The table may be any.
+    /// The notes before the first entry, of any table.
     fn none() -> Notes
         ensures { (file : List ℕ) → AreNotes file 0 result }
     {
