@@ -8,7 +8,7 @@ use crate::number::{PLACES, put_text};
 use crate::stream::Output;
 use crate::transfer::{WriteFault, write_all};
 
-/// How many bytes any part of a line takes at most, but for a text or a name.
+/// How many bytes a value in a line takes at most, if it is neither a word nor a name.
 pub(crate) const ROOM: usize = 48;
 
 /// Holds a text after the first `len` bytes of the array, and returns how many are held then. Where it
@@ -54,7 +54,8 @@ fn hold_anew<W: Output>(
     Ok(0)
 }
 
-/// Writes what is held where there is little room after it, and returns how many bytes are held then.
+/// Writes the bytes that are held where fewer places than `ROOM` are left, and returns how many are held
+/// then.
 pub(crate) fn make_room<W: Output>(
     len: usize,
     places: &[u8; PLACES],
