@@ -1,6 +1,6 @@
 -- A number's digits, one at a time from the last.
-use Rattle.std.proofs.Common.{◌≡◌, ℕ, ◌+◌, ◌-◌, ◌*◌, ◌/◌, ◌%◌, ◌^◌, ◌<◌, ◌≤◌, ◌==◌, zero, suc, false, List, [], ◌∷◌, ◌++◌, length, drop, arith, refl, ap, ◌∙◌, sym, inl, inr, append_assoc, append-nil}
-use Rattle.std.proofs.Math.Nat.{div-lt_iff_lt-mul, pow-suc, pow-zero, pow-le-pow_left}
+use Rattle.std.proofs.Common.{◌≡◌, ℕ, ◌+◌, ◌-◌, ◌*◌, ◌/◌, ◌%◌, ◌^◌, ◌<◌, ◌≤◌, ◌==◌, zero, suc, false, List, [], ◌∷◌, ◌++◌, length, take, drop, arith, refl, ap, ◌∙◌, sym, inl, inr, append_assoc, append-nil}
+use Rattle.std.proofs.Math.Nat.{div-eq_of_lt, div-lt_iff_lt-mul, mod-eq_of_lt, pow-suc, pow-zero, pow-le-pow_left}
 use Rattle.std.proofs.lemmas.Bool.{cases_Bool, cases_eq}
 use Rattle.std.proofs.lemmas.Grind.{common_steps}
 use Rattle.std.proofs.lemmas.List.{length-drop, drop_all}
@@ -51,6 +51,14 @@ pub all_put : (j m k i base n digit : ℕ) (digits all : List ℕ) → j ≡ suc
     → all ≡ digits_before j base n (drop k digits) → drop i (slice_set digits i digit) ≡ all
 all_put j m k i base n digit digits all fewer e h none is before =
     digit_put k i digit digits e h ∙ ap (λ d. d ∷ drop k digits) is ∙ sym (before ∙ last_digit j m base n (drop k digits) fewer none)
+
+-- a number below the base has one digit
+pub one_digit : (base n : ℕ) → n < base → digits base false n ≡ digit_glyph false n ∷ []
+one_digit base n small =
+    sym (append-nil (digits base false n)) ∙ digits_are 64 base n [] refl ∙ last_digit 64 63 base n [] refl (div-eq_of_lt small) ∙ ap (λ v. digit_glyph false v ∷ []) (mod-eq_of_lt small)
+
+pub digit_last : (k digit : ℕ) (places : List ℕ) → k < length places → take (k + 1) (slice_set places k digit) ≡ take k places ++ (digit ∷ [])
+digit_last k digit places h = grind (arith, common_steps)
 
 -- how long the digits at the end of an array are
 pub long : (start size : ℕ) (digits places : List ℕ) → length places ≡ size → start ≤ size → drop start places ≡ digits → start + length digits ≡ size

@@ -1,7 +1,9 @@
 -- Texts that are held in an array, and written later.
 use Rattle.std.proofs.Common.{◌≡◌, ℕ, List, [], ◌∷◌, ◌++◌, Option, Result, Ok, Err, IsErr, map, refl, sym, ap, ◌∙◌, append_assoc, append-nil, subst}
+use Rattle.std.specs.Prelude.{codes}
 use Rattle.macho_report.specs.Stream.{Wrote, WrotePrefix, Writes, joined}
-use Rattle.macho_report.specs.Parts.{Writing, Holding}
+use Rattle.macho_report.specs.Parts.{Writing, Holding, line_texts, value_text}
+use Rattle.macho_report.specs.declared.parts.Part.{Part}
 use Rattle.macho_report.proofs.StreamLemmas.{wrote_nothing, wrote_then, wrote_prefix_then, wrote_prefix_more, writing_begins, writing_next, writing_ends, writing_fails}
 
 -- all of a text is held
@@ -80,10 +82,15 @@ module _ (a b c : Option (List ℕ)) (whole held : List ℕ) where
       → Writing a b whole (held ∷ map f items) → WrotePrefix b c (held ++ f x) → WrotePrefix a c whole
   held_fails_item f items rest x is h failed = held_fails (f x) (map f rest) (subst (λ xs. Writing a b whole (held ∷ map f xs)) is h) failed
 
--- no item is left
-pub held_items_end : {X : Type 0} (a b : Option (List ℕ)) (whole held : List ℕ) (f : X → List ℕ) (items : List X) → items ≡ []
-    → Writing a b whole (held ∷ map f items) → Writing a b whole (held ∷ [])
-held_items_end a b whole held f items none h = subst (λ xs. Writing a b whole (held ∷ map f xs)) none h
+-- the texts of the next part of a line
+pub part_next : (a b : Option (List ℕ)) (whole held : List ℕ) (parts rest : List Part) (part : Part) → parts ≡ part ∷ rest
+    → Writing a b whole (held ∷ line_texts parts) → Writing a b whole (held ∷ part.0.now ∷ value_text part.1 ∷ line_texts rest)
+part_next a b whole held parts rest part is h = subst (λ ps. Writing a b whole (held ∷ line_texts ps)) is h
+
+-- no part is left
+pub parts_end : (a b : Option (List ℕ)) (whole held : List ℕ) (parts : List Part) → parts ≡ []
+    → Writing a b whole (held ∷ line_texts parts) → Writing a b whole (held ∷ codes "\n" ∷ [])
+parts_end a b whole held parts none h = subst (λ ps. Writing a b whole (held ∷ line_texts ps)) none h
 
 -- the last text joins what is held
 pub holding_last : {E : Type 0} (a b c : Option (List ℕ)) (whole held text places : List ℕ) (r : Result ℕ E)

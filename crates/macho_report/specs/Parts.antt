@@ -1,5 +1,5 @@
 -- The parts of a line as text, and what is held of them before it is written.
-use Rattle.std.specs.Prelude.{◌≡◌, ℕ, List, [], ◌∷◌, ◌++◌, take, Option, Result, MatchResult}
+use Rattle.std.specs.Prelude.{◌≡◌, ℕ, List, [], ◌∷◌, ◌++◌, codes, take, Option, Result, MatchResult}
 use Rattle.std.specs.Option.{option_map_or}
 use Rattle.std.specs.Fmt.{decimal}
 use Rattle.macho_report.specs.Stream.{Wrote, WrotePrefix, joined}
@@ -8,19 +8,25 @@ use Rattle.macho_report.specs.Name.{quoted}
 use Rattle.macho_report.specs.Arch.{arch_text}
 use Rattle.macho_report.specs.Line.{grouped, protection_text, contents_text}
 use Rattle.macho_report.specs.declared.parts.Part.{Part}
-use Rattle.macho_report.specs.declared.parts.Part.TheVariants as part
+use Rattle.macho_report.specs.declared.parts.Value.{Value}
+use Rattle.macho_report.specs.declared.parts.Value.TheVariants as value
 
--- the text of a part
-abbrev pub part_text : Part → List ℕ
-part_text (part.Text text) = text.now
-part_text (part.Name name) = quoted name.now
-part_text (part.Decimal number) = decimal number
-part_text (part.Hex number) = prefixed_hex number
-part_text (part.Version version) = version_text version
-part_text (part.Arch arch) = option_map_or arch_text arch []
-part_text (part.Uuid uuid) = grouped uuid.now
-part_text (part.Protection bits) = protection_text bits
-part_text (part.Contents place) = contents_text place
+-- the text of a value
+abbrev pub value_text : Value → List ℕ
+value_text (value.Word word) = word.now
+value_text (value.Name name) = quoted name.now
+value_text (value.Decimal number) = decimal number
+value_text (value.Hex number) = prefixed_hex number
+value_text (value.Version version) = version_text version
+value_text (value.Arch arch) = option_map_or arch_text arch []
+value_text (value.Uuid uuid) = grouped uuid.now
+value_text (value.Protection bits) = protection_text bits
+value_text (value.Contents place) = contents_text place
+
+-- the texts of a line of these parts
+abbrev pub line_texts : List Part → List (List ℕ)
+line_texts [] = codes "\n" ∷ []
+line_texts (part ∷ rest) = part.0.now ∷ value_text part.1 ∷ line_texts rest
 
 -- The stream's bytes grew by the first part of a text, and these texts are left of it.
 pub record Writing (old new : Option (List ℕ)) (whole : List ℕ) (left : List (List ℕ)) : Type 0 where

@@ -10,7 +10,7 @@ ghost use Rattle.macho_report.specs.Text.{break_text};
 ghost use Rattle.macho_report.specs.Where.{where_text};
 ghost use Rattle.macho_report.specs.Scaffold.{library_start};
 
-use crate::parts::{Part, write_parts};
+use crate::parts::{Part, Value, write_line};
 use crate::stream::Output;
 use crate::transfer::{WriteFault, write_all};
 use macho_fields::header::loader::{
@@ -29,13 +29,10 @@ pub fn write_break<W: Output>(broken: &Break, writer: &mut W) -> Result<(), Writ
     ensures stays_failed { IsTrue (W.has_failed writer.old) → IsErr result }
 {
     let parts = [
-        Part::Text(b"refused: "),
-        Part::Text(broken.rule.name().as_bytes()),
-        Part::Text(b" at "),
-        Part::Hex(broken.place),
-        Part::Text(b"\n"),
+        Part(b"refused: ", Value::Word(broken.rule.name().as_bytes())),
+        Part(b" at ", Value::Hex(broken.place)),
     ];
-    write_parts(&parts, writer)
+    write_line(&parts, writer)
 }
 
 /// Writes the first line of a layout: how many slices there are.
@@ -45,12 +42,8 @@ pub(crate) fn write_count<W: Output>(slices: u64, writer: &mut W) -> Result<(), 
     ensures failed { FailsAtFault (W.has_failed writer.old) (W.has_failed writer.new) result }
     ensures stays_failed { IsTrue (W.has_failed writer.old) → IsErr result }
 {
-    let parts = [
-        Part::Text(b"accepted, slices "),
-        Part::Decimal(slices),
-        Part::Text(b"\n"),
-    ];
-    write_parts(&parts, writer)
+    let parts = [Part(b"accepted, slices ", Value::Decimal(slices))];
+    write_line(&parts, writer)
 }
 
 /// Writes the line of a slice: its index, its architecture, its part of the file, and its kind.
@@ -66,19 +59,13 @@ pub(crate) fn write_slice<W: Output>(
     ensures failed { FailsAtFault (W.has_failed writer.old) (W.has_failed writer.new) result }
 {
     let parts = [
-        Part::Text(b"slice "),
-        Part::Decimal(index),
-        Part::Text(b" "),
-        Part::Arch(arch),
-        Part::Text(b" at "),
-        Part::Hex(span.start),
-        Part::Text(b" size "),
-        Part::Hex(span.len),
-        Part::Text(b" "),
-        Part::Text(kind.as_bytes()),
-        Part::Text(b"\n"),
+        Part(b"slice ", Value::Decimal(index)),
+        Part(b" ", Value::Arch(arch)),
+        Part(b" at ", Value::Hex(span.start)),
+        Part(b" size ", Value::Hex(span.len)),
+        Part(b" ", Value::Word(kind.as_bytes())),
     ];
-    write_parts(&parts, writer)
+    write_line(&parts, writer)
 }
 
 /// Writes the line of a UUID.
@@ -87,8 +74,8 @@ pub(crate) fn write_uuid<W: Output>(uuid: &[u8; 16], writer: &mut W) -> Result<(
         (uuid_line uuid.now) }
     ensures failed { FailsAtFault (W.has_failed writer.old) (W.has_failed writer.new) result }
 {
-    let parts = [Part::Text(b"  uuid "), Part::Uuid(uuid), Part::Text(b"\n")];
-    write_parts(&parts, writer)
+    let parts = [Part(b"  uuid ", Value::Uuid(uuid))];
+    write_line(&parts, writer)
 }
 
 /// Writes the line of a build: its platform and two versions.
@@ -98,15 +85,14 @@ pub(crate) fn write_build<W: Output>(build: &Build, writer: &mut W) -> Result<()
     ensures failed { FailsAtFault (W.has_failed writer.old) (W.has_failed writer.new) result }
 {
     let parts = [
-        Part::Text(b"  build platform "),
-        Part::Decimal(u64::from(build.platform)),
-        Part::Text(b" min "),
-        Part::Version(build.minos),
-        Part::Text(b" sdk "),
-        Part::Version(build.sdk),
-        Part::Text(b"\n"),
+        Part(
+            b"  build platform ",
+            Value::Decimal(u64::from(build.platform)),
+        ),
+        Part(b" min ", Value::Version(build.minos)),
+        Part(b" sdk ", Value::Version(build.sdk)),
     ];
-    write_parts(&parts, writer)
+    write_line(&parts, writer)
 }
 
 /// Writes the line of a segment: its name, its memory, its bytes in the image, and its protection.
@@ -116,21 +102,14 @@ pub(crate) fn write_segment<W: Output>(segment: &Segment, writer: &mut W) -> Res
     ensures failed { FailsAtFault (W.has_failed writer.old) (W.has_failed writer.new) result }
 {
     let parts = [
-        Part::Text(b"  segment "),
-        Part::Name(segment.name()),
-        Part::Text(b" addr "),
-        Part::Hex(segment.vmaddr()),
-        Part::Text(b" size "),
-        Part::Hex(segment.vmsize()),
-        Part::Text(b" file "),
-        Part::Hex(segment.fileoff()),
-        Part::Text(b" size "),
-        Part::Hex(segment.filesize()),
-        Part::Text(b" "),
-        Part::Protection(segment.initprot()),
-        Part::Text(b"\n"),
+        Part(b"  segment ", Value::Name(segment.name())),
+        Part(b" addr ", Value::Hex(segment.vmaddr())),
+        Part(b" size ", Value::Hex(segment.vmsize())),
+        Part(b" file ", Value::Hex(segment.fileoff())),
+        Part(b" size ", Value::Hex(segment.filesize())),
+        Part(b" ", Value::Protection(segment.initprot())),
     ];
-    write_parts(&parts, writer)
+    write_line(&parts, writer)
 }
 
 /// Writes the line of a section: its name, its memory, and where its bytes begin in the image.
@@ -140,17 +119,12 @@ pub(crate) fn write_section<W: Output>(section: &Section, writer: &mut W) -> Res
     ensures failed { FailsAtFault (W.has_failed writer.old) (W.has_failed writer.new) result }
 {
     let parts = [
-        Part::Text(b"    section "),
-        Part::Name(section.name()),
-        Part::Text(b" addr "),
-        Part::Hex(section.addr()),
-        Part::Text(b" size "),
-        Part::Hex(section.size()),
-        Part::Text(b" "),
-        Part::Contents(contents_of(section)),
-        Part::Text(b"\n"),
+        Part(b"    section ", Value::Name(section.name())),
+        Part(b" addr ", Value::Hex(section.addr())),
+        Part(b" size ", Value::Hex(section.size())),
+        Part(b" ", Value::Contents(contents_of(section))),
     ];
-    write_parts(&parts, writer)
+    write_line(&parts, writer)
 }
 
 // Where the bytes of a section begin in the image, if it has any there.
@@ -172,15 +146,14 @@ pub(crate) fn write_library<W: Output>(library: &Dylib, writer: &mut W) -> Resul
     ensures failed { FailsAtFault (W.has_failed writer.old) (W.has_failed writer.new) result }
 {
     let parts = [
-        Part::Text(library_start(library.cmd).as_bytes()),
-        Part::Name(library.name),
-        Part::Text(b" current "),
-        Part::Version(library.current),
-        Part::Text(b" compatible "),
-        Part::Version(library.compatible),
-        Part::Text(b"\n"),
+        Part(
+            library_start(library.cmd).as_bytes(),
+            Value::Name(library.name),
+        ),
+        Part(b" current ", Value::Version(library.current)),
+        Part(b" compatible ", Value::Version(library.compatible)),
     ];
-    write_parts(&parts, writer)
+    write_line(&parts, writer)
 }
 
 // How the line of a library begins: the word of its command, with the blanks around it.
@@ -204,12 +177,8 @@ pub(crate) fn write_symbols<W: Output>(nsyms: u64, writer: &mut W) -> Result<(),
         (symbols_line nsyms) }
     ensures failed { FailsAtFault (W.has_failed writer.old) (W.has_failed writer.new) result }
 {
-    let parts = [
-        Part::Text(b"  symbols "),
-        Part::Decimal(nsyms),
-        Part::Text(b"\n"),
-    ];
-    write_parts(&parts, writer)
+    let parts = [Part(b"  symbols ", Value::Decimal(nsyms))];
+    write_line(&parts, writer)
 }
 
 /// Writes the line of the entry point: its address, or that there is none.
@@ -221,12 +190,8 @@ pub(crate) fn write_entry<W: Output>(entry: Option<u64>, writer: &mut W) -> Resu
     let Some(address) = entry else {
         return write_all(b"  entry none\n", writer);
     };
-    let parts = [
-        Part::Text(b"  entry "),
-        Part::Hex(address),
-        Part::Text(b"\n"),
-    ];
-    write_parts(&parts, writer)
+    let parts = [Part(b"  entry ", Value::Hex(address))];
+    write_line(&parts, writer)
 }
 
 /// Writes the line of what is at an address: a place of the slice, a zero, or nothing.
@@ -243,6 +208,6 @@ pub(crate) fn write_source<W: Output>(
         Some(Source::Zero) => return write_all(b"zero\n", writer),
         None => return write_all(b"unmapped\n", writer),
     };
-    let parts = [Part::Text(b"file "), Part::Hex(place), Part::Text(b"\n")];
-    write_parts(&parts, writer)
+    let parts = [Part(b"file ", Value::Hex(place))];
+    write_line(&parts, writer)
 }

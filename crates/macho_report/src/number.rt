@@ -11,17 +11,19 @@ pub(crate) const PLACES: usize = 256;
 /// How many digits a number of 64 bits has at most, in base 10.
 const DIGITS: usize = 20;
 
+static LOWER_DIGITS: [u8; 16] = *b"0123456789abcdef";
+
+static UPPER_DIGITS: [u8; 16] = *b"0123456789ABCDEF";
+
 // The digit of a value below 16.
 fn digit(value: u8, upper: bool) -> u8
     requires { value < 16 }
     ensures { result ≡ digit_glyph upper value }
 {
-    if value < 10 {
-        b'0' + value
-    } else if upper {
-        b'A' + (value - 10)
+    if upper {
+        UPPER_DIGITS[value as usize]
     } else {
-        b'a' + (value - 10)
+        LOWER_DIGITS[value as usize]
     }
 }
 
@@ -63,6 +65,10 @@ fn put_number<const BASE: u64>(number: u64, len: usize, places: &mut [u8; PLACES
     ensures end { result ≡ len + length (digits BASE false number) }
     ensures text { take result places.new ≡ take len places.old ++ digits BASE false number }
 {
+    if number < BASE {
+        places[len] = digit(number as u8, false);
+        return len + 1;
+    }
     let mut digits = [0u8; DIGITS];
     let start = put_digits::<BASE>(number, &mut digits);
     put_text(&digits[start..], len, places)

@@ -4,7 +4,7 @@ ghost use Rattle.std.specs.Prelude.{◌≡◌, ◌+◌, ◌*◌, ◌≤◌, [], 
 ghost use Rattle.macho_report.specs.Line.{contents_text, grouped, letter, protection_text};
 ghost use Rattle.macho_report.specs.Number.{upper_byte_hex};
 ghost use Rattle.macho_report.specs.Stream.{Writes, FailsAtFault, joined};
-ghost use Rattle.macho_report.specs.Parts.{Holding, part_text};
+ghost use Rattle.macho_report.specs.Parts.{Holding, line_texts, value_text};
 
 use crate::arch::put_arch;
 use crate::held::{ROOM, hold_text, make_room};
@@ -14,11 +14,15 @@ use crate::stream::Output;
 use crate::transfer::{WriteFault, write_all};
 use macho_fields::header::vm_prot::{VM_PROT_EXECUTE, VM_PROT_READ, VM_PROT_WRITE};
 
-/// A part of a line.
+/// A part of a line: a text, and the value after it.
 #[derive(Clone, Copy)]
-pub(crate) enum Part<'a> {
+pub(crate) struct Part<'a>(pub(crate) &'a [u8], pub(crate) Value<'a>);
+
+/// A value in a line.
+#[derive(Clone, Copy)]
+pub(crate) enum Value<'a> {
     /// These bytes, as they are.
-    Text(&'a [u8]),
+    Word(&'a [u8]),
     /// A name in double quotes.
     Name(&'a [u8]),
     /// A number in base 10.
@@ -37,10 +41,11 @@ pub(crate) enum Part<'a> {
     Contents(Option<u64>),
 }
 
-/// Writes the parts, one after the other: all at once, unless they are very long.
-pub(crate) fn write_parts<W: Output>(parts: &[Part], writer: &mut W) -> Result<(), WriteFault>
+/// Writes a line: its parts, one after the other, and a line feed. All of it is one write, unless it is
+/// very long.
+pub(crate) fn write_line<W: Output>(parts: &[Part], writer: &mut W) -> Result<(), WriteFault>
     ensures bytes { Writes (W.contents writer.old) (W.contents writer.new) result
-        (joined (map part_text parts.now)) }
+        (joined (line_texts parts.now)) }
     ensures failed { FailsAtFault (W.has_failed writer.old) (W.has_failed writer.new) result }
     ensures stays_failed { IsTrue (W.has_failed writer.old) → IsErr result }
 {
@@ -50,15 +55,17 @@ pub(crate) fn write_parts<W: Output>(parts: &[Part], writer: &mut W) -> Result<(
     let mut places = [0u8; PLACES];
     let mut len = 0;
     for &part in parts {
+        len = hold_text(part.0, len, &mut places, writer)?;
         len = make_room(len, &places, writer)?;
-        len = hold_part(part, len, &mut places, writer)?;
+        len = hold_value(part.1, len, &mut places, writer)?;
     }
+    len = hold_text(b"\n", len, &mut places, writer)?;
     write_all(&places[..len], writer)
 }
 
-// Holds a part after the first `len` bytes of the array, and returns how many are held then.
-fn hold_part<W: Output>(
-    part: Part,
+// Holds a value after the first `len` bytes of the array, and returns how many are held then.
+fn hold_value<W: Output>(
+    value: Value,
     len: usize,
     places: &mut [u8; PLACES],
     writer: &mut W,
@@ -66,19 +73,19 @@ fn hold_part<W: Output>(
     requires { len + ROOM ≤ PLACES }
     ensures in_array { IfOk result (λ held. held ≤ PLACES) }
     ensures bytes { Holding (W.contents writer.old) (W.contents writer.new) result places.new
-        (take len places.old ++ part_text part.entry) }
+        (take len places.old ++ value_text value.entry) }
     ensures failed { FailsAtFault (W.has_failed writer.old) (W.has_failed writer.new) result }
 {
-    match part {
-        Part::Text(text) => hold_text(text, len, places, writer),
-        Part::Name(name) => hold_quoted(name, len, places, writer),
-        Part::Decimal(number) => Ok(put_decimal(number, len, places)),
-        Part::Hex(number) => Ok(put_hex(number, len, places)),
-        Part::Version(version) => Ok(put_version(version, len, places)),
-        Part::Arch(arch) => Ok(put_arch(arch, len, places)),
-        Part::Uuid(uuid) => Ok(put_uuid(uuid, len, places)),
-        Part::Protection(bits) => Ok(put_text(&protection_letters(bits), len, places)),
-        Part::Contents(place) => Ok(put_contents(place, len, places)),
+    match value {
+        Value::Word(word) => hold_text(word, len, places, writer),
+        Value::Name(name) => hold_quoted(name, len, places, writer),
+        Value::Decimal(number) => Ok(put_decimal(number, len, places)),
+        Value::Hex(number) => Ok(put_hex(number, len, places)),
+        Value::Version(version) => Ok(put_version(version, len, places)),
+        Value::Arch(arch) => Ok(put_arch(arch, len, places)),
+        Value::Uuid(uuid) => Ok(put_uuid(uuid, len, places)),
+        Value::Protection(bits) => Ok(put_text(&protection_letters(bits), len, places)),
+        Value::Contents(place) => Ok(put_contents(place, len, places)),
     }
 }
 

@@ -144,7 +144,7 @@ fn check_failed_flush(rt: &impl Abort, counted: &mut CountingWriter) {
 const BARE_HEADER: &[u8; 32] =
     b"\xcf\xfa\xed\xfe\x07\0\0\x01\x03\0\0\0\x02\0\0\0\0\0\0\0\0\0\0\0\0\0\0\0\0\0\0\0";
 
-/// What is written of the header, in 12 writes: the first line in three, the second in eight.
+/// What is written of the header, in 3 writes, one for each line.
 const REPORT: &str = "\
 accepted, slices 1
 slice 0 x86_64 at 0x0 size 0x20 execute
@@ -239,8 +239,8 @@ fn check_written(rt: &impl Abort, writer: &CountingWriter, text: &[u8], calls: (
 
 /// The words of the program, the read and the call of the writer that fail, and the end.
 const ENDS: &[(Option<&[&str]>, u64, u64, End)] = &[
-    (UNNAMED, 0, 0, End(0, REPORT, "", (2, 12, 1))),
-    (Some(&[]), 0, 0, End(0, REPORT, "", (2, 12, 1))),
+    (UNNAMED, 0, 0, End(0, REPORT, "", (2, 3, 1))),
+    (Some(&[]), 0, 0, End(0, REPORT, "", (2, 3, 1))),
     (UNNAMED, 1, 0, End(3, "", READ_LINE, (1, 0, 0))),
     (UNNAMED, 2, 0, End(3, "", READ_LINE, (2, 0, 0))),
     (UNNAMED, 0, 1, End(3, "", WRITE_LINE, (2, 1, 0))),
@@ -248,9 +248,9 @@ const ENDS: &[(Option<&[&str]>, u64, u64, End)] = &[
         UNNAMED,
         0,
         2,
-        End(3, "accepted, slices ", WRITE_LINE, (2, 2, 0)),
+        End(3, "accepted, slices 1\n", WRITE_LINE, (2, 2, 0)),
     ),
-    (UNNAMED, 0, 13, End(3, REPORT, WRITE_LINE, (2, 12, 1))),
+    (UNNAMED, 0, 4, End(3, REPORT, WRITE_LINE, (2, 3, 1))),
     (None, 0, 0, End(3, "", READ_LINE, (0, 0, 0))),
     // Nothing is written or flushed where there is no image.
     (
@@ -272,11 +272,11 @@ fn ends_of_the_program(rt: HostRuntime) {
 
 /// The words behind the program's name, and the end.
 const ENDS_WITH_WORDS: &[(&[&str], End)] = &[
-    (&["check", "-"], End(0, REPORT, "", (2, 12, 1))),
-    (&["check", "header"], End(0, REPORT, "", (0, 12, 1))),
+    (&["check", "-"], End(0, REPORT, "", (2, 3, 1))),
+    (&["check", "header"], End(0, REPORT, "", (0, 3, 1))),
     (
         &["check", "empty"],
-        End(1, "refused: magic at 0x0\n", "", (0, 5, 1)),
+        End(1, "refused: magic at 0x0\n", "", (0, 1, 1)),
     ),
     (&["check", "none"], End(3, "", READ_LINE, (0, 0, 0))),
     (&["check", ""], End(3, "", READ_LINE, (0, 0, 0))),
@@ -309,7 +309,7 @@ const ENDS_WITH_WORDS: &[(&[&str], End)] = &[
     ),
     (
         &["where", "empty", "1", "0"],
-        End(1, "refused: magic at 0x0\n", "", (0, 5, 1)),
+        End(1, "refused: magic at 0x0\n", "", (0, 1, 1)),
     ),
 ];
 
@@ -384,9 +384,9 @@ fn reports_that_are_cut_off(rt: HostRuntime) {
             b"a".as_slice(),
             Outcome::Refused,
             "refused: magic at 0x0\n",
-            5,
+            1,
         ),
-        (BARE_HEADER.as_slice(), Outcome::Accepted, REPORT, 12),
+        (BARE_HEADER.as_slice(), Outcome::Accepted, REPORT, 3),
     ] {
         for fails_at in 0..20 {
             check_cut_off(&rt, input, fails_at, (outcome, text, writes));

@@ -1,5 +1,5 @@
 use Rattle.macho_report.proofs.Holding.{all_held}
-use Rattle.macho_report.proofs.parts.hold_part.Goals as goal
+use Rattle.macho_report.proofs.parts.hold_value.Goals as goal
 
 pub returns-in-Decimal-clause-bytes : goal.returns-in-Decimal-clause-bytes
 returns-in-Decimal-clause-bytes g c = rw c.in-Decimal.is (all_held _ _ _ c.put_decimal.ensures.text)
