@@ -1,5 +1,5 @@
 -- The first command of each unique kind.
-use Rattle.std.proofs.Common.{◌≡◌, ◌==◌, ◌&&◌, ℕ, suc, zero, ◌<◌, ◌⊎◌, List, [], ◌∷◌, ◌++◌, Bool, true, false, not, cond}
+use Rattle.std.proofs.Common.{◌≡◌, ◌==◌, ◌&&◌, ℕ, suc, zero, ◌<◌, List, [], ◌∷◌, ◌++◌, Bool, true, false, not, cond}
 use Rattle.std.proofs.Common.{map, length, set, get_or, Contains, find, Option, Some, None, refl, sym, ap, ap₂, ◌∙◌, subst, arith, inl, inr}
 use Rattle.std.specs.Prelude.{⊤}
 use Rattle.std.specs.List.{list_any, position_or_len}
@@ -153,9 +153,6 @@ pub note_other : (image commands : List ℕ) (places : List (Option ℕ)) (cmd p
 note_other image commands places cmd p is cmd_is first =
     first ∙ sym (same_values (λ unique. first_with_cmd image unique commands) (λ unique. first_with_cmd image unique (commands ++ p ∷ [])) unique_cmds
     (λ k has. first_other image k p commands (λ same. no_cmd_at cmd is (subst (Contains unique_cmds) (sym (cmd_is ∙ same)) has))))
-
-pub unique_or_not : (cmd : ℕ) → IsUnique cmd ⊎ ¬ IsUnique cmd
-unique_or_not cmd = elim (cases_Bool (list_any (λ command. command.cmd == cmd) unique_commands)) [ inl unique ↦ inl unique | inr other ↦ inr (λ unique. false≢true (sym other ∙ unique)) ]
 
 -- A command of which an image has any number changes no place
 
