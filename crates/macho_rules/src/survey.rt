@@ -16,10 +16,12 @@ use std::marker::Model;
 /// What one walk over the segments of an image and their sections finds.
 #[derive(Drop)]
 pub(crate) struct Survey<'a> {
+    /// The image that was gone over.
     image: Bytes<'a>,
     segments: SegmentBreaks,
     sections: SectionBreaks,
     mapped: Mapped,
+    /// How many sections there are.
     section_count: u64,
 }
 

@@ -18,6 +18,7 @@ use std::marker::Model;
 /// What one walk over the symbols of an image finds: where each of their rules is first broken.
 #[derive(Drop)]
 pub(crate) struct SymbolSurvey<'a> {
+    /// The image that was gone over.
     image: Bytes<'a>,
     name: FirstPlace,
     section: FirstPlace,
