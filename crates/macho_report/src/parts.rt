@@ -54,10 +54,10 @@ pub(crate) fn write_line<W: Output>(parts: &[Part], writer: &mut W) -> Result<()
     }
     let mut places = [0u8; PLACES];
     let mut len = 0;
-    for &part in parts {
+    for part in parts {
         len = hold_text(part.0, len, &mut places, writer)?;
         len = make_room(len, &places, writer)?;
-        len = hold_value(part.1, len, &mut places, writer)?;
+        len = hold_value(&part.1, len, &mut places, writer)?;
     }
     len = hold_text(b"\n", len, &mut places, writer)?;
     write_all(&places[..len], writer)
@@ -65,7 +65,7 @@ pub(crate) fn write_line<W: Output>(parts: &[Part], writer: &mut W) -> Result<()
 
 // Holds a value after the first `len` bytes of the array, and returns how many are held then.
 fn hold_value<W: Output>(
-    value: Value,
+    value: &Value,
     len: usize,
     places: &mut [u8; PLACES],
     writer: &mut W,
@@ -73,10 +73,10 @@ fn hold_value<W: Output>(
     requires { len + ROOM ≤ PLACES }
     ensures in_array { IfOk result (λ held. held ≤ PLACES) }
     ensures bytes { Holding (W.contents writer.old) (W.contents writer.new) result places.new
-        (take len places.old ++ value_text value.entry) }
+        (take len places.old ++ value_text value.now) }
     ensures failed { FailsAtFault (W.has_failed writer.old) (W.has_failed writer.new) result }
 {
-    match value {
+    match *value {
         Value::Word(word) => hold_text(word, len, places, writer),
         Value::Name(name) => hold_quoted(name, len, places, writer),
         Value::Decimal(number) => Ok(put_decimal(number, len, places)),
