@@ -1,0 +1,792 @@
+#!/usr/bin/env python3
+"""A second verifier of the layout of Mach-O files. It was written from docs/RULES.md, and from README.md for what is
+printed. Nothing was taken from the sources of the first one. tests/oracle compares the two.
+
+    tests/oracle.py FILE                        prints what `macho-check check FILE` prints, and ends with its status
+    tests/oracle.py where FILE SLICE ADDRESS    the same of `macho-check where FILE SLICE ADDRESS`
+
+It is written to be read beside docs/RULES.md, and has the same order. A rule is a function with its name. It yields
+each place at which the rule is broken. `first_broken` takes the rules one after the other, and of the first one that
+is broken it takes the least place. A rule may take for granted that all rules before it are unbroken. All numbers are
+whole numbers without a limit, so no sum wraps. Offsets and widths are in bytes.
+"""
+
+import bisect
+import re
+import sys
+from functools import cached_property
+from types import SimpleNamespace
+
+# Structures: their fields in order, each with its width. A name or a UUID of 16 bytes stays bytes.
+
+STRUCTURES = {
+    # mach-o/fat.h. Big-endian.
+    "fat_header": "u32 magic  u32 nfat_arch",
+    "fat_arch": "u32 cputype  u32 cpusubtype  u32 offset  u32 size  u32 align",
+    "fat_arch_64": "u32 cputype  u32 cpusubtype  u64 offset  u64 size  u32 align  u32 reserved",
+    # mach-o/loader.h. Little-endian, as all that follow.
+    "mach_header_64": "u32 magic  u32 cputype  u32 cpusubtype  u32 filetype  u32 ncmds  u32 sizeofcmds  u32 flags"
+                      "  u32 reserved",
+    "load_command": "u32 cmd  u32 cmdsize",
+    "segment_command_64": "u32 cmd  u32 cmdsize  16bytes segname  u64 vmaddr  u64 vmsize  u64 fileoff  u64 filesize"
+                          "  u32 maxprot  u32 initprot  u32 nsects  u32 flags",
+    "section_64": "16bytes sectname  16bytes segname  u64 addr  u64 size  u32 offset  u32 align  u32 reloff"
+                  "  u32 nreloc  u32 flags  u32 reserved1  u32 reserved2  u32 reserved3",
+    "symtab_command": "u32 cmd  u32 cmdsize  u32 symoff  u32 nsyms  u32 stroff  u32 strsize",
+    "dysymtab_command": "u32 cmd  u32 cmdsize  u32 ilocalsym  u32 nlocalsym  u32 iextdefsym  u32 nextdefsym"
+                        "  u32 iundefsym  u32 nundefsym  u32 tocoff  u32 ntoc  u32 modtaboff  u32 nmodtab"
+                        "  u32 extrefsymoff  u32 nextrefsyms  u32 indirectsymoff  u32 nindirectsyms  u32 extreloff"
+                        "  u32 nextrel  u32 locreloff  u32 nlocrel",
+    "dylib_command": "u32 cmd  u32 cmdsize  u32 name  u32 timestamp  u32 current_version  u32 compatibility_version",
+    "dylinker_command": "u32 cmd  u32 cmdsize  u32 name",
+    "rpath_command": "u32 cmd  u32 cmdsize  u32 path",
+    "uuid_command": "u32 cmd  u32 cmdsize  16bytes uuid",
+    "linkedit_data_command": "u32 cmd  u32 cmdsize  u32 dataoff  u32 datasize",
+    "dyld_info_command": "u32 cmd  u32 cmdsize  u32 rebase_off  u32 rebase_size  u32 bind_off  u32 bind_size"
+                         "  u32 weak_bind_off  u32 weak_bind_size  u32 lazy_bind_off  u32 lazy_bind_size"
+                         "  u32 export_off  u32 export_size",
+    "encryption_info_command_64": "u32 cmd  u32 cmdsize  u32 cryptoff  u32 cryptsize  u32 cryptid  u32 pad",
+    "note_command": "u32 cmd  u32 cmdsize  16bytes data_owner  u64 offset  u64 size",
+    "build_version_command": "u32 cmd  u32 cmdsize  u32 platform  u32 minos  u32 sdk  u32 ntools",
+    "entry_point_command": "u32 cmd  u32 cmdsize  u64 entryoff  u64 stacksize",
+    # mach-o/nlist.h
+    "nlist_64": "u32 n_strx  u8 n_type  u8 n_sect  u16 n_desc  u64 n_value",
+}
+WIDTHS = {"u8": 1, "u16": 2, "u32": 4, "u64": 8, "16bytes": 16}
+
+# mach-o/fat.h and mach-o/loader.h: the first four bytes, as they stand in the file.
+FAT_MAGIC = bytes.fromhex("cafebabe")
+FAT_MAGIC_64 = bytes.fromhex("cafebabf")
+MH_MAGIC_64 = bytes.fromhex("cffaedfe")
+MH_MAGIC_64_BIG = bytes.fromhex("feedfacf")
+MH_MAGIC = bytes.fromhex("cefaedfe")
+MH_MAGIC_BIG = bytes.fromhex("feedface")
+
+# mach/machine.h
+CPU_SUBTYPE_MASK = 0xff000000
+CPU_TYPE_X86_64 = 0x01000007
+CPU_TYPE_ARM64 = 0x0100000c
+ARCHITECTURES = {
+    (CPU_TYPE_X86_64, 3): "x86_64",
+    (CPU_TYPE_X86_64, 8): "x86_64h",
+    (CPU_TYPE_ARM64, 0): "arm64",
+    (CPU_TYPE_ARM64, 2): "arm64e",
+}
+
+# mach-o/loader.h
+MH_EXECUTE, MH_DYLIB, MH_BUNDLE = 2, 6, 8
+KINDS = {MH_EXECUTE: "execute", MH_DYLIB: "dylib", MH_BUNDLE: "bundle"}
+SECTION_TYPE = 0x000000ff
+S_ZEROFILL, S_GB_ZEROFILL, S_THREAD_LOCAL_ZEROFILL = 0x1, 0xc, 0x12
+INDIRECT_SYMBOL_LOCAL, INDIRECT_SYMBOL_ABS = 0x80000000, 0x40000000
+# mach-o/nlist.h
+N_STAB, N_TYPE, N_SECT = 0xe0, 0x0e, 0x0e
+# mach/vm_prot.h
+VM_PROT_READ, VM_PROT_WRITE, VM_PROT_EXECUTE = 1, 2, 4
+
+# The commands that are looked for by name.
+LC_SYMTAB, LC_DYSYMTAB, LC_ID_DYLIB, LC_SEGMENT_64 = 0x2, 0xb, 0xd, 0x19
+LC_UUID, LC_BUILD_VERSION, LC_MAIN = 0x1b, 0x32, 0x80000028
+
+# The listed commands, by `cmd`: the command, its structure, its least `cmdsize`, its least name offset.
+LISTED = {
+    0x2: ("LC_SYMTAB", "symtab_command", 24, None),
+    0xb: ("LC_DYSYMTAB", "dysymtab_command", 80, None),
+    0xc: ("LC_LOAD_DYLIB", "dylib_command", 24, 24),
+    0xd: ("LC_ID_DYLIB", "dylib_command", 24, 24),
+    0xe: ("LC_LOAD_DYLINKER", "dylinker_command", 12, 12),
+    0xf: ("LC_ID_DYLINKER", "dylinker_command", 12, 12),
+    0x19: ("LC_SEGMENT_64", "segment_command_64", 72, None),  # and 80 * nsects: see `least_size`
+    0x1b: ("LC_UUID", "uuid_command", 24, None),
+    0x1d: ("LC_CODE_SIGNATURE", "linkedit_data_command", 16, None),
+    0x1e: ("LC_SEGMENT_SPLIT_INFO", "linkedit_data_command", 16, None),
+    0x20: ("LC_LAZY_LOAD_DYLIB", "dylib_command", 24, 24),
+    0x22: ("LC_DYLD_INFO", "dyld_info_command", 48, None),
+    0x26: ("LC_FUNCTION_STARTS", "linkedit_data_command", 16, None),
+    0x27: ("LC_DYLD_ENVIRONMENT", "dylinker_command", 12, 12),
+    0x29: ("LC_DATA_IN_CODE", "linkedit_data_command", 16, None),
+    0x2b: ("LC_DYLIB_CODE_SIGN_DRS", "linkedit_data_command", 16, None),
+    0x2c: ("LC_ENCRYPTION_INFO_64", "encryption_info_command_64", 24, None),
+    0x2e: ("LC_LINKER_OPTIMIZATION_HINT", "linkedit_data_command", 16, None),
+    0x31: ("LC_NOTE", "note_command", 40, None),
+    0x32: ("LC_BUILD_VERSION", "build_version_command", 24, None),  # and 8 * ntools: see `least_size`
+    0x80000018: ("LC_LOAD_WEAK_DYLIB", "dylib_command", 24, 24),
+    0x8000001c: ("LC_RPATH", "rpath_command", 12, 12),
+    0x8000001f: ("LC_REEXPORT_DYLIB", "dylib_command", 24, 24),
+    0x80000022: ("LC_DYLD_INFO_ONLY", "dyld_info_command", 48, None),
+    0x80000023: ("LC_LOAD_UPWARD_DYLIB", "dylib_command", 24, 24),
+    0x80000028: ("LC_MAIN", "entry_point_command", 24, None),
+    0x80000033: ("LC_DYLD_EXPORTS_TRIE", "linkedit_data_command", 16, None),
+    0x80000034: ("LC_DYLD_CHAINED_FIXUPS", "linkedit_data_command", 16, None),
+}
+
+# The bounded tables of a command, by its structure: the start, the count, the bytes per entry.
+BOUNDED_TABLES = {
+    "symtab_command": [("symoff", "nsyms", 16), ("stroff", "strsize", 1)],
+    "dysymtab_command": [
+        ("tocoff", "ntoc", 8), ("modtaboff", "nmodtab", 56), ("extrefsymoff", "nextrefsyms", 4),
+        ("indirectsymoff", "nindirectsyms", 4), ("extreloff", "nextrel", 8), ("locreloff", "nlocrel", 8),
+    ],
+    "linkedit_data_command": [("dataoff", "datasize", 1)],
+    "dyld_info_command": [
+        ("rebase_off", "rebase_size", 1), ("bind_off", "bind_size", 1), ("weak_bind_off", "weak_bind_size", 1),
+        ("lazy_bind_off", "lazy_bind_size", 1), ("export_off", "export_size", 1),
+    ],
+    "encryption_info_command_64": [("cryptoff", "cryptsize", 1)],
+    "note_command": [("offset", "size", 1)],
+}
+
+# The words of the layout for the commands that load a library.
+LIBRARIES = {0xc: "load", 0x80000018: "weak", 0x8000001f: "reexport", 0x20: "lazy", 0x80000023: "upward"}
+
+
+def fields_of(text):
+    """The fields of a structure: the name, the offset and the width of each, and whether it is a number."""
+    fields = []
+    offset = 0
+    words = text.split()
+    for kind, name in zip(words[0::2], words[1::2]):
+        fields.append((name, offset, WIDTHS[kind], kind != "16bytes"))
+        offset += WIDTHS[kind]
+    return fields
+
+
+FIELDS = {name: fields_of(text) for name, text in STRUCTURES.items()}
+SIZES = {name: fields[-1][1] + fields[-1][2] for name, fields in FIELDS.items()}
+
+
+def read(data, place, structure, order="little"):
+    """Reads a structure: its fields by their names, and its place."""
+    assert place + SIZES[structure] <= len(data), "a structure is read only where it is known to lie inside"
+    fields = {"place": place}
+    for field, offset, width, is_number in FIELDS[structure]:
+        raw = data[place + offset:place + offset + width]
+        fields[field] = int.from_bytes(raw, order) if is_number else raw
+    return SimpleNamespace(**fields)
+
+
+# Words
+
+
+class File:
+    """The bytes of a file, its entries, and its slices."""
+
+    def __init__(self, data):
+        self.data = data
+        self.is_universal = data[:4] in (FAT_MAGIC, FAT_MAGIC_64)
+        self.entry_structure = "fat_arch_64" if data[:4] == FAT_MAGIC_64 else "fat_arch"
+
+    @cached_property
+    def table_end(self):
+        """Where entry `nfat_arch` would begin."""
+        return 8 + SIZES[self.entry_structure] * read(self.data, 0, "fat_header", "big").nfat_arch
+
+    @cached_property
+    def entries(self):
+        """The entries of the table. There are none where the file is not universal."""
+        if not self.is_universal:
+            return []
+        places = range(8, self.table_end, SIZES[self.entry_structure])
+        return [read(self.data, place, self.entry_structure, "big") for place in places]
+
+    @cached_property
+    def slices(self):
+        """The slices, in the order of the table. A file that is not universal is one slice, without an entry."""
+        if not self.is_universal:
+            return [Image(self.data, 0, None)]
+        return [Image(self.data[e.offset:e.offset + e.size], e.offset, e) for e in self.entries]
+
+
+class Image:
+    """A slice: its bytes, its start in the file, and its entry. All but these are asked of 64-bit slices alone."""
+
+    def __init__(self, data, start, entry):
+        self.data = data
+        self.length = len(data)
+        self.start = start
+        self.entry = entry
+        self.is_64_bit = data[:4] == MH_MAGIC_64
+
+    @cached_property
+    def header(self):
+        return read(self.data, 0, "mach_header_64")
+
+    @cached_property
+    def commands_end(self):
+        return 32 + self.header.sizeofcmds
+
+    @cached_property
+    def commands(self):
+        """The `ncmds` load commands, of which `cmd` and `cmdsize` are read. (Known after `command-walk`.)"""
+        commands = []
+        place = 32
+        for _ in range(self.header.ncmds):
+            commands.append(read(self.data, place, "load_command"))
+            place += commands[-1].cmdsize
+        return commands
+
+    @cached_property
+    def listed(self):
+        """The listed commands, with their structures. (Known after `command-short`.)"""
+        return [read(self.data, c.place, LISTED[c.cmd][1]) for c in self.commands if c.cmd in LISTED]
+
+    def only(self, cmd):
+        """The command of a kind that is not repeated, or None."""
+        found = [command for command in self.listed if command.cmd == cmd]
+        return found[0] if found else None
+
+    @cached_property
+    def segments(self):
+        """The segments, in command order, each with its sections."""
+        segments = [command for command in self.listed if command.cmd == LC_SEGMENT_64]
+        for segment in segments:
+            places = [segment.place + 72 + 80 * k for k in range(segment.nsects)]
+            segment.sections = [read(self.data, place, "section_64") for place in places]
+            for section in segment.sections:
+                section.segment = segment
+        return segments
+
+    @cached_property
+    def sections(self):
+        """The sections of all segments, in command order, each with its segment."""
+        return [section for segment in self.segments for section in segment.sections]
+
+    @cached_property
+    def symbol_count(self):
+        symtab = self.only(LC_SYMTAB)
+        return symtab.nsyms if symtab else 0
+
+    @cached_property
+    def symbols(self):
+        """The symbols. (Known after `table-range`.)"""
+        symtab = self.only(LC_SYMTAB)
+        return [read(self.data, symtab.symoff + 16 * k, "nlist_64") for k in range(self.symbol_count)]
+
+    @cached_property
+    def base(self):
+        """The `vmaddr` of the first segment with `fileoff` 0, `filesize` > 0 and `vmsize` > 0, or None."""
+        for segment in self.segments:
+            if segment.fileoff == 0 and segment.filesize > 0 and segment.vmsize > 0:
+                return segment.vmaddr
+        return None
+
+
+def masked(cpusubtype):
+    """The cpusubtype without the capability byte."""
+    return cpusubtype & ~CPU_SUBTYPE_MASK
+
+
+def is_mapped(segment):
+    return segment.vmsize > 0
+
+
+def is_in_file_part(address, segment):
+    return segment.vmaddr <= address < segment.vmaddr + segment.filesize
+
+
+def is_zero_fill(section):
+    return section.flags & SECTION_TYPE in (S_ZEROFILL, S_GB_ZEROFILL, S_THREAD_LOCAL_ZEROFILL)
+
+
+def name_offset(command):
+    """The offset of the name, the `lc_str` at 8."""
+    return command.path if hasattr(command, "path") else command.name
+
+
+def first_sharing(ranges):
+    """The index of the first range, from a start up to an end, that shares a number with an earlier one, or None.
+
+    All pairs are asked, but few are compared. The earlier ranges are kept in the order of their starts. They share
+    nothing with each other, so this is the order of their ends too. So of those that start before this one, the last
+    one reaches farthest, and of the others the first one starts least: if neither shares a number, none does.
+    """
+    earlier = []
+    for index, (start, end) in enumerate(ranges):
+        if start == end:
+            continue
+        at = bisect.bisect(earlier, (start, end))
+        if at > 0 and earlier[at - 1][1] > start:
+            return index
+        if at < len(earlier) and earlier[at][0] < end:
+            return index
+        earlier.insert(at, (start, end))
+    return None
+
+
+# Rules of the file. Places count from the start of the file.
+
+
+def magic(file):
+    """The file has fewer than 4 bytes, or its first four are none of the three magic numbers."""
+    if file.data[:4] not in (FAT_MAGIC, FAT_MAGIC_64, MH_MAGIC_64):
+        yield 0
+
+
+def fat_truncated(file):
+    """The file has fewer than 8 bytes, or the table ends past it."""
+    if len(file.data) < 8 or file.table_end > len(file.data):
+        yield 4
+
+
+def fat_slice_outside(file):
+    """`offset` + `size` is past the file."""
+    for entry in file.entries:
+        if entry.offset + entry.size > len(file.data):
+            yield entry.place
+
+
+def fat_slice_in_table(file):
+    """`offset` is below the table's end."""
+    for entry in file.entries:
+        if entry.offset < file.table_end:
+            yield entry.place
+
+
+def fat_align(file):
+    """2^`align` does not divide `offset`."""
+    for entry in file.entries:
+        # `offset` is neither 0 nor 2^64 or more, so 2^64 does not divide it, nor does any greater power.
+        if entry.offset % 2 ** min(entry.align, 64) != 0:
+            yield entry.place
+
+
+def fat_overlap(file):
+    """The entry's slice shares a byte with that of some earlier entry."""
+    index = first_sharing([(entry.offset, entry.offset + entry.size) for entry in file.entries])
+    if index is not None:
+        yield file.entries[index].place
+
+
+def fat_duplicate(file):
+    """Some earlier entry has the same `cputype` and masked cpusubtype."""
+    earlier = set()
+    for entry in file.entries:
+        architecture = (entry.cputype, masked(entry.cpusubtype))
+        if architecture in earlier:
+            yield entry.place
+        earlier.add(architecture)
+
+
+def fat_slice_magic(file):
+    """A slice has fewer than 4 bytes of its own, or begins with none of the four magic numbers of images."""
+    for image in file.slices:
+        if image.data[:4] not in (MH_MAGIC_64, MH_MAGIC_64_BIG, MH_MAGIC, MH_MAGIC_BIG):
+            yield image.start
+
+
+def fat_empty(file):
+    """There is no 64-bit slice."""
+    if not any(image.is_64_bit for image in file.slices):
+        yield 4
+
+
+# Rules of the header and the load commands. From here on places count from the start of the slice.
+
+
+def header_truncated(image):
+    """The slice has fewer than 32 bytes."""
+    if image.length < 32:
+        yield 0
+
+
+def arch_mismatch(image):
+    """The file is universal and the header's `cputype` or masked cpusubtype differs from the entry's."""
+    header, entry = image.header, image.entry
+    if entry is not None:
+        if header.cputype != entry.cputype or masked(header.cpusubtype) != masked(entry.cpusubtype):
+            yield 4
+
+
+def file_type(image):
+    """`filetype` is none of `MH_EXECUTE`, `MH_DYLIB` and `MH_BUNDLE`."""
+    if image.header.filetype not in (MH_EXECUTE, MH_DYLIB, MH_BUNDLE):
+        yield 12
+
+
+def commands_outside(image):
+    """32 + `sizeofcmds` is past the slice."""
+    if image.commands_end > image.length:
+        yield 20
+
+
+def command_walk(image):
+    """Fewer than `ncmds` good commands have been walked, and at p there is none."""
+    place = 32
+    for _ in range(image.header.ncmds):
+        if place + 8 > image.commands_end:
+            yield place
+            return
+        cmdsize = read(image.data, place, "load_command").cmdsize
+        if cmdsize < 8 or cmdsize % 8 != 0 or place + cmdsize > image.commands_end:
+            yield place
+            return
+        place += cmdsize
+
+
+def least_size(image, command):
+    """The least `cmdsize` of a listed command. `nsects` or `ntools` counts only where it lies inside the command."""
+    def number_at(offset):
+        if offset + 4 > command.cmdsize:
+            return 0
+        return int.from_bytes(image.data[command.place + offset:command.place + offset + 4], "little")
+
+    if command.cmd == LC_SEGMENT_64:
+        return 72 + 80 * number_at(64)
+    if command.cmd == LC_BUILD_VERSION:
+        return 24 + 8 * number_at(20)
+    return LISTED[command.cmd][2]
+
+
+def command_short(image):
+    """The `cmdsize` of a listed command is below its least."""
+    for command in image.commands:
+        if command.cmd in LISTED and command.cmdsize < least_size(image, command):
+            yield command.place
+
+
+def command_repeated(image):
+    """Some earlier command has the same `cmd`, and that is one of the five."""
+    earlier = set()
+    for command in image.commands:
+        if command.cmd in (LC_SYMTAB, LC_DYSYMTAB, LC_ID_DYLIB, LC_UUID, LC_MAIN):
+            if command.cmd in earlier:
+                yield command.place
+            earlier.add(command.cmd)
+
+
+def dylib_id(image):
+    """A dylib has no `LC_ID_DYLIB`, or an executable or a bundle has one."""
+    has_id = image.only(LC_ID_DYLIB) is not None
+    if has_id != (image.header.filetype == MH_DYLIB):
+        yield 12
+
+
+def name(image):
+    """The name offset is below its least, or there is no zero byte from there up to the command's end."""
+    for command in image.listed:
+        least = LISTED[command.cmd][3]
+        if least is not None:
+            offset = name_offset(command)
+            content = image.data[command.place:command.place + command.cmdsize]
+            if offset < least or 0 not in content[offset:]:
+                yield command.place
+
+
+# Rules of segments and sections
+
+
+def segment_address(image):
+    """`vmaddr` + `vmsize` > 2^64, in any segment."""
+    for segment in image.segments:
+        if segment.vmaddr + segment.vmsize > 2 ** 64:
+            yield segment.place
+
+
+def segment_size(image):
+    """The segment is mapped and `filesize` > `vmsize`."""
+    for segment in image.segments:
+        if is_mapped(segment) and segment.filesize > segment.vmsize:
+            yield segment.place
+
+
+def segment_file(image):
+    """`filesize` > 0 and `fileoff` + `filesize` is past the slice."""
+    for segment in image.segments:
+        if segment.filesize > 0 and segment.fileoff + segment.filesize > image.length:
+            yield segment.place
+
+
+def segment_overlap(image):
+    """The segment shares an address with some segment earlier in command order."""
+    index = first_sharing([(segment.vmaddr, segment.vmaddr + segment.vmsize) for segment in image.segments])
+    if index is not None:
+        yield image.segments[index].place
+
+
+def section_address(image):
+    """The segment is mapped, `size` > 0, and the section's addresses do not lie in the segment's."""
+    for section in image.sections:
+        segment = section.segment
+        if is_mapped(segment) and section.size > 0:
+            if section.addr < segment.vmaddr or section.addr + section.size > segment.vmaddr + segment.vmsize:
+                yield section.place
+
+
+def section_file(image):
+    """`size` > 0, not zero-fill, and the bytes are not where the address says; or, unmapped, are past the slice."""
+    for section in image.sections:
+        segment = section.segment
+        if section.size == 0 or is_zero_fill(section):
+            continue
+        if is_mapped(segment):
+            d = section.addr - segment.vmaddr
+            if section.offset != segment.fileoff + d or d + section.size > segment.filesize:
+                yield section.place
+        elif section.offset + section.size > image.length:
+            yield section.place
+
+
+def section_relocs(image):
+    """`nreloc` > 0 and `reloff` + 8 * `nreloc` is past the slice."""
+    for section in image.sections:
+        if section.nreloc > 0 and section.reloff + 8 * section.nreloc > image.length:
+            yield section.place
+
+
+# Rules of tables and symbols
+
+
+def table_range(image):
+    """One of the command's tables has a count that is not 0, and ends past the slice."""
+    for command in image.listed:
+        for start, count, width in BOUNDED_TABLES.get(LISTED[command.cmd][1], []):
+            entries = getattr(command, count)
+            if entries != 0 and getattr(command, start) + entries * width > image.length:
+                yield command.place
+
+
+def symbol_group(image):
+    """A group has a count that is not 0, and its first index + count is above the symbol count."""
+    dysymtab = image.only(LC_DYSYMTAB)
+    if dysymtab is not None:
+        for first, count in ((dysymtab.ilocalsym, dysymtab.nlocalsym), (dysymtab.iextdefsym, dysymtab.nextdefsym),
+                             (dysymtab.iundefsym, dysymtab.nundefsym)):
+            if count != 0 and first + count > image.symbol_count:
+                yield dysymtab.place
+
+
+def symbol_name(image):
+    """`n_strx` is not 0 and there is no zero byte from `stroff` + `n_strx` up to the end of the string table."""
+    symtab = image.only(LC_SYMTAB)
+    if symtab is not None:
+        # With no zero byte in the table this is -1, which is below each n_strx.
+        last_zero = image.data[symtab.stroff:symtab.stroff + symtab.strsize].rfind(b"\0")
+        for symbol in image.symbols:
+            if symbol.n_strx != 0 and symbol.n_strx > last_zero:
+                yield symbol.place
+
+
+def symbol_section(image):
+    """The symbol is no debugging entry, is of `N_SECT`, and `n_sect` is 0 or above the number of sections."""
+    for symbol in image.symbols:
+        if symbol.n_type & N_STAB == 0 and symbol.n_type & N_TYPE == N_SECT:
+            if symbol.n_sect == 0 or symbol.n_sect > len(image.sections):
+                yield symbol.place
+
+
+def indirect_index(image):
+    """The entry has neither of the two bits, and is not below the symbol count."""
+    dysymtab = image.only(LC_DYSYMTAB)
+    if dysymtab is not None:
+        for k in range(dysymtab.nindirectsyms):
+            place = dysymtab.indirectsymoff + 4 * k
+            index = int.from_bytes(image.data[place:place + 4], "little")
+            if index & INDIRECT_SYMBOL_LOCAL == 0 and index & INDIRECT_SYMBOL_ABS == 0 and index >= image.symbol_count:
+                yield place
+
+
+# Rule of the entry
+
+
+def entry(image):
+    """There is an `LC_MAIN`, and no base, or the entry address is in no file part that is mapped and executable."""
+    main_command = image.only(LC_MAIN)
+    if main_command is None:
+        return
+    if image.base is None:
+        yield main_command.place
+        return
+    address = image.base + main_command.entryoff
+    for segment in image.segments:
+        if is_mapped(segment) and segment.initprot & VM_PROT_EXECUTE and is_in_file_part(address, segment):
+            return
+    yield main_command.place
+
+
+# Order of judgment
+
+RULES_OF_THE_FILE = [
+    magic, fat_truncated, fat_slice_outside, fat_slice_in_table, fat_align, fat_overlap, fat_duplicate,
+    fat_slice_magic, fat_empty,
+]
+RULES_OF_AN_IMAGE = [
+    header_truncated, arch_mismatch, file_type, commands_outside, command_walk, command_short, command_repeated,
+    dylib_id, name, segment_address, segment_size, segment_file, segment_overlap, section_address, section_file,
+    section_relocs, table_range, symbol_group, symbol_name, symbol_section, indirect_index, entry,
+]
+
+
+def first_broken(file):
+    """The first broken rule, by name, and the least place in the file at which it is broken; or None."""
+    for rule in RULES_OF_THE_FILE if file.is_universal else [magic]:
+        places = list(rule(file))
+        if places:
+            return rule.__name__.replace("_", "-"), min(places)
+    for image in file.slices:
+        if image.is_64_bit:
+            for rule in RULES_OF_AN_IMAGE:
+                places = list(rule(image))
+                if places:
+                    return rule.__name__.replace("_", "-"), image.start + min(places)
+    return None
+
+
+# The layout, as README.md has its lines
+
+
+def quoted(characters):
+    """A name in double quotes. A quote, a backslash and a byte that is not printable ASCII are written as numbers."""
+    text = ""
+    for byte in characters:
+        is_plain = 0x20 <= byte <= 0x7e and byte not in b'"\\'
+        text += chr(byte) if is_plain else "\\x%02x" % byte
+    return '"' + text + '"'
+
+
+def up_to_zero(characters):
+    return characters.split(b"\0")[0]
+
+
+def version(number):
+    return "%d.%d.%d" % (number >> 16, number >> 8 & 0xff, number & 0xff)
+
+
+def protection(initprot):
+    letters = ((VM_PROT_READ, "r"), (VM_PROT_WRITE, "w"), (VM_PROT_EXECUTE, "x"))
+    return "".join(letter if initprot & bit else "-" for bit, letter in letters)
+
+
+def architecture(cputype, cpusubtype):
+    other = "0x%x/0x%x" % (cputype, masked(cpusubtype))
+    return ARCHITECTURES.get((cputype, masked(cpusubtype)), other)
+
+
+def library_line(image, word, command):
+    characters = up_to_zero(image.data[command.place + name_offset(command):command.place + command.cmdsize])
+    versions = (version(command.current_version), version(command.compatibility_version))
+    return "  %s %s current %s compatible %s" % ((word, quoted(characters)) + versions)
+
+
+def uuid_line(uuid):
+    digits = uuid.hex().upper()
+    return "  uuid " + "-".join((digits[:8], digits[8:12], digits[12:16], digits[16:20], digits[20:]))
+
+
+def section_line(section):
+    text = "    section %s addr 0x%x size 0x%x" % (quoted(up_to_zero(section.sectname)), section.addr, section.size)
+    return text + (" zero" if is_zero_fill(section) else " file 0x%x" % section.offset)
+
+
+def segment_line(segment):
+    numbers = (segment.vmaddr, segment.vmsize, segment.fileoff, segment.filesize)
+    text = "  segment %s addr 0x%x size 0x%x file 0x%x size 0x%x %s"
+    return text % ((quoted(up_to_zero(segment.segname)),) + numbers + (protection(segment.initprot),))
+
+
+def slice_line(index, image):
+    """The architecture is that of the image's header, or of the entry where the slice is not read."""
+    source = image.header if image.is_64_bit else image.entry
+    kind = KINDS[image.header.filetype] if image.is_64_bit else "not read"
+    numbers = (image.start, image.length)
+    return "slice %d %s at 0x%x size 0x%x %s" % (
+        (index, architecture(source.cputype, source.cpusubtype)) + numbers + (kind,))
+
+
+def image_lines(image):
+    """The lines of an image, below that of its slice."""
+    for command in image.listed:
+        if command.cmd == LC_ID_DYLIB:
+            yield library_line(image, "id", command)
+    for command in image.listed:
+        if command.cmd == LC_UUID:
+            yield uuid_line(command.uuid)
+    for command in image.listed:
+        if command.cmd == LC_BUILD_VERSION:
+            yield "  build platform %d min %s sdk %s" % (command.platform, version(command.minos), version(command.sdk))
+    for segment in image.segments:
+        yield segment_line(segment)
+        for section in segment.sections:
+            yield section_line(section)
+    for command in image.listed:
+        if command.cmd in LIBRARIES:
+            yield library_line(image, LIBRARIES[command.cmd], command)
+    if image.only(LC_SYMTAB) is not None:
+        yield "  symbols %d" % image.symbol_count
+    main_command = image.only(LC_MAIN)
+    yield "  entry none" if main_command is None else "  entry 0x%x" % (image.base + main_command.entryoff)
+
+
+def layout(file):
+    yield "accepted, slices %d" % len(file.slices)
+    for index, image in enumerate(file.slices):
+        yield slice_line(index, image)
+        if image.is_64_bit:
+            yield from image_lines(image)
+
+
+# The answers: a status, what is written to standard output, and what is written to standard error
+
+
+def check(data):
+    file = File(data)
+    broken = first_broken(file)
+    if broken is not None:
+        return 1, "refused: %s at 0x%x\n" % broken, ""
+    return 0, "".join(line + "\n" for line in layout(file)), ""
+
+
+def at_address(image, address):
+    """What is at an address: at most one segment of an image that breaks no rule has it."""
+    for segment in image.segments:
+        if segment.vmaddr <= address < segment.vmaddr + segment.vmsize:
+            if is_in_file_part(address, segment):
+                return "file 0x%x\n" % (segment.fileoff + address - segment.vmaddr)
+            return "zero\n"
+    return "unmapped\n"
+
+
+def where(data, index, address):
+    file = File(data)
+    if first_broken(file) is not None:
+        return check(data)
+    if index >= len(file.slices) or not file.slices[index].is_64_bit:
+        return 2, "", "macho-check: no such image\n"
+    return 0, at_address(file.slices[index], address), ""
+
+
+def number(word):
+    """1 to 20 decimal digits, below 2^64, or `0x` and 1 to 16 hexadecimal digits of either case; otherwise None."""
+    if re.fullmatch("0x[0-9a-fA-F]{1,16}", word):
+        return int(word[2:], 16)
+    if re.fullmatch("[0-9]{1,20}", word) and int(word) < 2 ** 64:
+        return int(word)
+    return None
+
+
+def answer(words):
+    """The answer to the words of a call: FILE, or `where` FILE SLICE ADDRESS."""
+    is_where = len(words) == 4 and words[0] == "where"
+    if not is_where and len(words) != 1:
+        return 2, "", "usage: oracle.py FILE | where FILE SLICE ADDRESS\n"
+    if is_where and (number(words[2]) is None or number(words[3]) is None):
+        return 2, "", "macho-check: bad number\n"
+    path = words[1] if is_where else words[0]
+    try:
+        with sys.stdin.buffer if path == "-" else open(path, "rb") as stream:
+            data = stream.read()
+    except OSError:
+        return 3, "", "macho-check: read failed\n"
+    if len(data) > 2 ** 32:
+        return 3, "", "macho-check: more than 4294967296 bytes\n"
+    return where(data, number(words[2]), number(words[3])) if is_where else check(data)
+
+
+def main():
+    status, out, err = answer(sys.argv[1:])
+    sys.stdout.write(out)
+    sys.stderr.write(err)
+    return status
+
+
+if __name__ == "__main__":
+    sys.exit(main())

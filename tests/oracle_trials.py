@@ -1,0 +1,581 @@
+#!/usr/bin/env python3
+"""Compares the answers of tests/oracle.py with those of the built program. tests/oracle calls it, and says how.
+
+It judges the vectors of crates/macho_trials/data, the files of tests/real, those of folders that are named, and mutants
+of all these. Mutant N of a seed is always the same. For each case it prints a line of three texts with tabs between
+them: the case, what was found, and what is wanted. Of each disagreement it prints both answers on standard error, and
+keeps the file.
+"""
+
+import argparse
+import importlib.util
+import multiprocessing
+import os
+import random
+import re
+import subprocess
+import sys
+import tempfile
+from collections import Counter, namedtuple
+
+TOP = os.path.dirname(os.path.dirname(os.path.abspath(__file__)))
+DATA = os.path.join(TOP, "crates", "macho_trials", "data")
+REAL = os.path.join(TOP, "tests", "real")
+BATCH = 250
+SHOWN = 20
+
+# What is asked of a file: its name in the reports, its bytes, and the words before and after its path.
+Question = namedtuple("Question", "name data before after")
+Difference = namedtuple("Difference", "question oracle program")
+
+# Vectors, in the notation that crates/macho_trials/data/README.md explains.
+
+
+def word_bytes(word, pieces):
+    if "*" in word and not word.startswith('"'):
+        times, word = word.split("*", 1)
+        return int(times) * word_bytes(word, pieces)
+    if word.startswith("."):
+        return bytes(int(word[1:]))
+    if word.startswith("$"):
+        return pieces[word[1:]]
+    if word.startswith('"'):
+        return word[1:-1].encode("ascii")
+    return bytes.fromhex(word)
+
+
+def all_bytes(words, pieces):
+    return b"".join(word_bytes(word, pieces) for word in words.split())
+
+
+def choices(words):
+    """The words, once for each of the choices in parentheses."""
+    if "(" not in words:
+        return [words]
+    before, rest = words.split("(")
+    inside, after = rest.split(")")
+    return [before + choice + after for choice in inside.split("|")]
+
+
+def read_vectors(path):
+    """The vectors of a file: the name, the bytes and the verdict of each. `cut` and `field` make none."""
+    lines = []
+    with open(path, encoding="ascii") as file:
+        for line in file:
+            line = line.split("#")[0].rstrip()
+            if line.startswith(" ") and lines:
+                lines[-1] += line
+            else:
+                lines.append(line)
+    pieces = {}
+    vectors = []
+    for line in lines:
+        if line.startswith("let "):
+            name, words = line[4:].split("=", 1)
+            pieces[name.strip()] = all_bytes(words, pieces)
+        elif line and line != "cut" and not line.startswith("field "):
+            # A name may have colons, but none with a space before and after it.
+            name, words, verdict = line.split(" : ", 2)
+            for chosen in choices(words):
+                vectors.append((name, all_bytes(chosen, pieces), verdict))
+    return vectors
+
+
+# Mutants. Nothing of the oracle is used here, so that a mistake in it does not hide itself.
+
+NUMBERS = [0, 1, 2, 3, 4, 5, 6, 7, 8, 11, 12, 16, 20, 23, 24, 32, 40, 48, 63, 64, 65, 72, 80, 152, 0x7f, 0x80, 0xff,
+           0x100, 0x0e, 0x0f, 0x1e, 0xe0, 0x101, 0x1000, 0xfff, 0x4000, 0xffff, 0x10000, 0x20000000, 0x40000000,
+           0x7fffffff, 0x80000000, 0xc0000000, 0xfffffff8, 0xffffffff, 0x100000000, 0x7fffffffffffffff,
+           0x8000000000000000, 0xfffffffffffff000, 0xfffffffffffffff8, 0xffffffffffffffff]
+COMMANDS = [0x1, 0x2, 0x5, 0xb, 0xc, 0xd, 0xe, 0xf, 0x18, 0x19, 0x1b, 0x1c, 0x1d, 0x1e, 0x1f, 0x20, 0x22, 0x24, 0x26,
+            0x27, 0x29, 0x2b, 0x2c, 0x2e, 0x31, 0x32, 0x33, 0x34, 0x80000018, 0x8000001c, 0x8000001f, 0x80000022,
+            0x80000023, 0x80000028, 0x80000033, 0x80000034, 0x80000035, 0x80000019]
+MAGICS = [bytes.fromhex(digits) for digits in ("cafebabe", "cafebabf", "cffaedfe", "feedfacf", "cefaedfe", "feedface")]
+
+
+def number_at(data, place, width, order="little"):
+    return int.from_bytes(data[place:place + width], order)
+
+
+def images(data):
+    """Where images seem to begin: wherever their magic number stands, the first eight of them."""
+    starts = []
+    at = data.find(MAGICS[2])
+    while at >= 0 and len(starts) < 8:
+        starts.append(at)
+        at = data.find(MAGICS[2], at + 1)
+    return starts
+
+
+def commands(data, start):
+    """The place and the length of each command of an image, up to the first impossible one."""
+    found = []
+    place = start + 32
+    for _ in range(min(number_at(data, start + 16, 4), 2000)):
+        size = number_at(data, place + 4, 4)
+        if size < 8 or place + size > len(data):
+            break
+        found.append((place, size))
+        place += size
+    return found
+
+
+def table_end(data):
+    if data[:4] not in MAGICS[:2]:
+        return 0
+    return min(8 + number_at(data, 4, 4, "big") * (32 if data[:4] == MAGICS[1] else 20), len(data))
+
+
+def some_image(rng, data):
+    """Where an image and its commands begin and end."""
+    starts = images(data)
+    if not starts:
+        return 0, len(data)
+    start = rng.choice(starts)
+    return start, max(min(start + 32 + number_at(data, start + 20, 4), len(data)), start + 4)
+
+
+def some_place(rng, data, width):
+    """The place of a field: in the table, in a command, past the commands where a byte is not zero, in the header, or
+    anywhere. In a command it is rarely in the first 8 bytes: most files that differ in these are refused at once."""
+    start, end = some_image(rng, data)
+    found = commands(data, start)
+    way = rng.random()
+    if table_end(data) and way < 0.3:
+        start, place = 0, rng.randrange(table_end(data))
+    elif found and way < 0.75:
+        place, size = rng.choice(found)
+        place += rng.randrange(8, size) if size > 8 and rng.random() < 0.9 else rng.randrange(8)
+    elif way < 0.9:
+        byte = re.compile(rb"[^\0]").search(data, rng.randrange(end if end < len(data) else 0, len(data)))
+        place = byte.start() if byte else rng.randrange(len(data))
+    elif way < 0.95:
+        place = min(start + rng.randrange(32), len(data) - 1)
+    else:
+        place = rng.randrange(len(data))
+    if rng.random() < 0.9:
+        place -= (place - start) % min(width, 4)
+    return place
+
+
+def some_number(rng, data, place, width, order):
+    """A number that a rule may turn on: a special one, one beside what stands there, or one beside a sum or a
+    difference of other numbers of the file and the length of the image."""
+    start, end = some_image(rng, data)
+    near = rng.choice((-1, 0, 0, 0, 1, rng.choice((-16, -8, -4, -2, 2, 4, 8, 16))))
+    way = rng.randrange(8)
+    if way == 0:
+        return rng.choice(NUMBERS)
+    if way == 1:
+        return rng.choice(COMMANDS if rng.random() < 0.7 else NUMBERS)
+    if way == 2:
+        return number_at(data, place, width, order) + (near or rng.choice((-1, 1)))
+    if way == 3:
+        return number_at(data, place, width, order) ^ (1 << rng.randrange(8 * width))
+    if way == 4:
+        return (1 << rng.randrange(65)) + near
+
+    def other():
+        at = start + 4 * rng.randrange(max((end - start) // 4, 1))
+        return number_at(data, at, rng.choice((4, 8)), order)
+
+    length = len(data) - (start if rng.random() < 0.7 else 0)
+    return near + rng.choice((
+        length - other(), (length - other()) // rng.choice((4, 8, 16, 56)), length, other(), other() + other(),
+        other() - other(), end - start))
+
+
+def set_field(rng, data, _):
+    """A field of 1, 2, 4 or 8 bytes is set to a number."""
+    if not data:
+        return b"\0"
+    width = rng.choice((1, 2, 4, 4, 4, 4, 8, 8))
+    place = some_place(rng, data, width)
+    order = "big" if place < table_end(data) else "little"
+    value = some_number(rng, data, place, width, order) % 2 ** (8 * width)
+    return (data[:place] + value.to_bytes(width, order) + data[place + width:])[:max(len(data), place + 1)]
+
+
+def cut(rng, data, _):
+    """The file is cut."""
+    way = rng.random()
+    if way < 0.5:
+        return data[:max(len(data) - rng.choice((1, 1, 2, 4, 7, 8, 16)), 0)]
+    if way < 0.75:
+        return data[:some_image(rng, data)[1] + rng.choice((-8, -1, 0, 1))]
+    return data[:rng.randrange(len(data) + 1)]
+
+
+def splice(rng, data, corpus):
+    """Bytes of another file stand in the place of some, or between them."""
+    other = rng.choice(corpus)
+    size = rng.choice((1, 4, 8, 16, 20, 24, 32, 72, 80, 152, rng.randrange(1, 400)))
+    source = rng.randrange(len(other) + 1)
+    if rng.random() < 0.6 and images(other):
+        source = rng.choice([place for place, _ in commands(other, images(other)[0])] or [0])
+    piece = other[source:source + size]
+    place = some_place(rng, data, 4) if data else 0
+    return data[:place] + piece + data[place + (0 if rng.random() < 0.3 else len(piece)):]
+
+
+def exchange(rng, data, _):
+    """Two commands of an image are exchanged."""
+    found = commands(data, some_image(rng, data)[0])
+    if len(found) < 2:
+        return data
+    (one, one_size), (two, two_size) = sorted(rng.sample(found, 2))
+    middle = data[one + one_size:two]
+    return data[:one] + data[two:two + two_size] + middle + data[one:one + one_size] + data[two + two_size:]
+
+
+def add_command(rng, data, corpus):
+    """A command of this file or of another is set between two commands or after them, and is counted."""
+    other = data if rng.random() < 0.3 else rng.choice(corpus)
+    found = commands(other, some_image(rng, other)[0])
+    start = some_image(rng, data)[0]
+    if not found or len(data) < start + 32:
+        return data
+    source, size = rng.choice(found)
+    piece = other[source:source + size]
+    places = [place for place, _ in commands(data, start)] or [start + 32]
+    end = min(start + 32 + number_at(data, start + 20, 4), len(data))
+    place = end if rng.random() < 0.5 else rng.choice(places)
+    counts = (number_at(data, start + 16, 4) + 1, number_at(data, start + 20, 4) + size)
+    header = data[start:start + 16] + b"".join((n % 2 ** 32).to_bytes(4, "little") for n in counts)
+    # Zeros after the commands make room, where there are as many.
+    has_room = place == end and not any(data[end:end + size])
+    after = data[place + size if has_room else place:]
+    return data[:start] + header + data[start + 24:place] + piece + after
+
+
+def wrap(rng, data, corpus):
+    """The file becomes a slice of a universal file, alone or beside another one."""
+    slices = [data] + [rng.choice(corpus) for _ in range(rng.choice((0, 1, 1, 2)))]
+    rng.shuffle(slices)
+    is_wide = rng.random() < 0.5
+    align = rng.choice((0, 2, 5, 6))
+    end = 8 + len(slices) * (32 if is_wide else 20)
+    order = list(range(len(slices)))
+    if rng.random() < 0.3:
+        rng.shuffle(order)
+    entries = {}
+    body = b""
+    for index in order:
+        body += bytes(-(end + len(body)) % 2 ** align)
+        architecture = [slices[index][4:8][::-1].rjust(4, b"\0"), slices[index][8:12][::-1].rjust(4, b"\0")]
+        if rng.random() < 0.5:
+            # An architecture that no other has; the header's is the same then.
+            architecture[1] = bytes((rng.choice((0, 0x80)), 0, 0, index + 3))
+            slices[index] = slices[index][:8] + bytes((index + 3, 0, 0, 0)) + slices[index][12:]
+        width = 8 if is_wide else 4
+        numbers = [(end + len(body)).to_bytes(width, "big"), len(slices[index]).to_bytes(width, "big")]
+        entries[index] = b"".join(architecture + numbers) + align.to_bytes(4, "big") + bytes(4 if is_wide else 0)
+        body += slices[index]
+    head = MAGICS[1 if is_wide else 0] + len(slices).to_bytes(4, "big")
+    return head + b"".join(entries[index] for index in range(len(slices))) + body
+
+
+def set_magic(rng, data, _):
+    """The first bytes of the file or of an image are those of some kind."""
+    start = rng.choice([0] + images(data))
+    return data[:start] + rng.choice(MAGICS) + data[start + 4:]
+
+
+WAYS = [(set_field, 70), (cut, 5), (splice, 8), (exchange, 6), (add_command, 8), (wrap, 6), (set_magic, 1)]
+
+
+def weight(data, is_accepted):
+    """How often a file is changed. An accepted one says more then, and so does one with many commands. A long file with
+    hundreds of them takes long, and says no more."""
+    if len(data) > 50000:
+        return 1
+    return (8 if is_accepted else 1) * (1 + sum(min(len(commands(data, start)), 20) for start in images(data)))
+
+
+def mutant(seed, number, corpus, weights):
+    """Mutant NUMBER of a seed: a file of the corpus, changed up to five times. And the random numbers that follow."""
+    rng = random.Random("%d %d" % (seed, number))
+    data = rng.choices(corpus, weights)[0]
+    for _ in range(rng.choice((1, 1, 1, 2, 2, 3, 5))):
+        way = rng.choices([way for way, _ in WAYS], [chance for _, chance in WAYS])[0]
+        data = way(rng, data, corpus)
+    return data, rng
+
+
+def some_address(rng, data):
+    """An address near where a segment, or its part in the file, begins or ends."""
+    places = [place for start in images(data) for place, size in commands(data, start)
+              if number_at(data, place, 4) == 0x19 and size >= 72]
+    if not places or rng.random() < 0.1:
+        return rng.choice((0, 2 ** 64 - 1, rng.randrange(2 ** 64)))
+    place = rng.choice(places)
+    vmaddr, vmsize, filesize = (number_at(data, place + offset, 8) for offset in (24, 32, 48))
+    inside = rng.choice((0, vmsize, filesize, filesize, rng.randrange(vmsize + 1)))
+    return (vmaddr + inside + rng.choice((-1, 0, 0, 1))) % 2 ** 64
+
+
+def written(rng, number):
+    """A number as a word."""
+    return rng.choice(("%d", "0x%x", "0x%X", "0x%016x", "%020d")) % number
+
+
+# The two answers
+
+
+def load(path):
+    spec = importlib.util.spec_from_file_location("oracle", path)
+    module = importlib.util.module_from_spec(spec)
+    sys.dont_write_bytecode = True
+    spec.loader.exec_module(module)
+    return module
+
+
+def oracle_answer(oracle, question):
+    """The status and the text of the oracle. That it fails is an answer too, which is never that of the program."""
+    try:
+        if question.before == "check":
+            status, out, err = oracle.check(question.data)
+        else:
+            numbers = [oracle.number(word) for word in question.after]
+            if None in numbers:
+                return 2, b"macho-check: bad number\n"
+            status, out, err = oracle.where(question.data, *numbers)
+        return status, (out + err).encode("ascii")
+    except Exception as failure:  # pylint: disable=broad-except
+        return None, ("the oracle failed: %r" % failure).encode()
+
+
+def program_answers(program, questions):
+    """The status and the text of the program, of each question, by one script that makes all calls."""
+    with tempfile.TemporaryDirectory() as room:
+        lines = []
+        files = {}
+        for index, question in enumerate(questions):
+            if question.data not in files:
+                files[question.data] = "file-%d" % index
+                with open(os.path.join(room, files[question.data]), "wb") as file:
+                    file.write(question.data)
+            words = " ".join("'%s'" % word for word in (question.before, files[question.data]) + question.after)
+            lines.append('"$program" %s >said-%d 2>&1; echo $?\n' % (words, index))
+        statuses = subprocess.run(
+            ["sh"], input="".join(lines).encode(), stdout=subprocess.PIPE, cwd=room, check=True,
+            env=dict(os.environ, program=program)).stdout.split()
+        answers = []
+        for index in range(len(questions)):
+            with open(os.path.join(room, "said-%d" % index), "rb") as file:
+                answers.append((int(statuses[index]), file.read()))
+        return answers
+
+
+def compare(oracle, program, questions):
+    """The differences, and how often the oracle gave each kind of answer."""
+    differences = []
+    kinds = Counter()
+    for question, program_says in zip(questions, program_answers(program, questions)):
+        oracle_says = oracle_answer(oracle, question)
+        kinds[kind_of(oracle_says)] += 1
+        if oracle_says != program_says:
+            differences.append(Difference(question, oracle_says, program_says))
+    return differences, kinds
+
+
+def kind_of(says):
+    """A rule, `accepted`, or what `where` tells, without its numbers."""
+    found = re.match(rb"refused: ([a-z-]+) at|(accepted|file|zero|unmapped|macho-check: [a-z ]*)", says[1])
+    return found.group(1 if found.group(1) else 2).decode() if found else "other"
+
+
+def batch(bounds):
+    """Makes and compares the mutants from a number up to another."""
+    questions = []
+    for number in range(*bounds):
+        data, rng = mutant(work.seed, number, work.corpus, work.weights)
+        name = "mutant %d of seed %d" % (number, work.seed)
+        questions.append(Question(name, data, "check", ()))
+        for _ in range(2 if rng.random() < 0.4 else 0):
+            last = max(len(images(data)) - 1, 0)
+            words = (written(rng, rng.choice((0, rng.randint(0, last), last, last + 1))),
+                     written(rng, some_address(rng, data)))
+            questions.append(Question(name, data, "where", words))
+    differences, kinds = compare(work.oracle, work.program, questions)
+    return len(questions), differences, kinds
+
+
+# What is set before the processes begin, and is the same in all of them.
+work = None
+
+
+class Report:
+    """Prints the cases, and the differences with their files."""
+
+    def __init__(self, keep):
+        self.keep = keep
+        self.shown = 0
+        self.kinds = Counter()
+
+    def case(self, name, found, wanted):
+        print("%s\t%s\t%s" % (name, found, wanted), flush=True)
+
+    def agreeing(self, name, differences, count, of_what):
+        for difference in differences:
+            self.show(difference)
+        self.case(name, "%d of %d %s agree" % (count - len(differences), count, of_what),
+                  "%d of %d %s agree" % (count, count, of_what))
+
+    def show(self, difference):
+        self.shown += 1
+        if self.shown > SHOWN:
+            return
+        question = difference.question
+        os.makedirs(self.keep, exist_ok=True)
+        path = os.path.join(self.keep, re.sub("[^A-Za-z0-9.]+", "-", question.name))
+        with open(path, "wb") as file:
+            file.write(question.data)
+        print("%s: %s\n  oracle:  %s\n  program: %s" % (
+            question.name, " ".join((question.before, path) + question.after),
+            self.text(difference.oracle, difference.program), self.text(difference.program, difference.oracle)),
+            file=sys.stderr)
+
+    @staticmethod
+    def text(says, other):
+        """The status and the lines that the other answer does not have in this place."""
+        lines, others = says[1].decode("ascii", "replace").split("\n"), other[1].decode("ascii", "replace").split("\n")
+        own = [line for line, theirs in zip(lines, others + [None] * len(lines)) if line != theirs]
+        return "status %s, %s" % (says[0], " | ".join(own[:5]) or "the same text or a part of it")
+
+
+def says_verdict(answer, verdict):
+    status, text = answer
+    if verdict == "accepted":
+        return status == 0 and text.startswith(b"accepted, slices ")
+    return status == 1 and text.decode() == verdict + "\n"
+
+
+def read_all_vectors():
+    """The files of vectors, by their names."""
+    names = sorted(name for name in os.listdir(DATA) if name.endswith(".txt"))
+    return [(name, read_vectors(os.path.join(DATA, name))) for name in names]
+
+
+def judge_vectors(report, oracle, program):
+    """Three are compared: what stands in the data, the oracle, and the program. The counts are those of the crate."""
+    with open(os.path.join(TOP, "crates", "macho_trials", "stdout"), encoding="ascii") as file:
+        counts = dict(re.findall(r"^(\S+\.txt): (\d+) vectors agree", file.read(), re.MULTILINE))
+    for name, vectors in read_all_vectors():
+        questions = [Question("%s: %s" % (name, vector), data, "check", ()) for vector, data, _ in vectors]
+        differences, kinds = compare(oracle, program, questions)
+        report.kinds += kinds
+        report.agreeing(name, differences, len(questions), "answers")
+        right = 0
+        for question, (_, _, verdict) in zip(questions, vectors):
+            says = oracle_answer(oracle, question)
+            if says_verdict(says, verdict):
+                right += 1
+            else:
+                report.show(Difference(question, says, (None, ("the vector says %s" % verdict).encode())))
+        report.case("%s, by hand" % name, "%d verdicts" % right, "%s verdicts" % counts.pop(name, "no"))
+    report.case("files of vectors that are missing", " ".join(counts), "")
+
+
+def read_file(folder, name):
+    with open(os.path.join(folder, name), "rb") as file:
+        return file.read()
+
+
+def read_real():
+    """The two real files, each with its layout, which was written by hand from what other tools show."""
+    return [(name, read_file(REAL, name), read_file(REAL, name + ".layout")) for name in ("program", "library")]
+
+
+def judge_real(report, oracle, program):
+    questions = []
+    for name, data, layout in read_real():
+        questions.append(Question("the real " + name, data, "check", ()))
+        is_same = oracle_answer(oracle, questions[-1]) == (0, layout)
+        report.case("the layout of the real %s, by hand" % name, "the same" if is_same else "another", "the same")
+    report.agreeing("the real files", compare(oracle, program, questions)[0], len(questions), "answers")
+
+
+def judge_numbers(report, oracle, program, data):
+    """What is a number, and what is none, in the words of `where`."""
+    words = ["0", "00000000000000000000", "000000000000000000000", "18446744073709551615", "18446744073709551616",
+             "4294967296", "99999999999999999999", "0x", "0x0", "0xffffffffffffffff", "0x0ffffffffffffffff", "0X0",
+             "0xABCDEF", "0x100000440", "0x100000FFF", "0xg", "", " 0", "0 ", "+0", "1_0", "0b1", "a", "1e3", "\u0660"]
+    questions = [Question("the number '%s'" % word, data, "where", pair)
+                 for word in words for pair in ((word, "0x100000440"), ("0", word))]
+    report.agreeing("numbers", compare(oracle, program, questions)[0], len(questions), "answers")
+
+
+def read_folder(folder):
+    names = sorted(name for name in os.listdir(folder) if os.path.isfile(os.path.join(folder, name)))
+    return [(name, read_file(folder, name)) for name in names]
+
+
+def judge_folders(report, oracle, program, folders):
+    for folder in folders:
+        questions = [Question(name, data, "check", ()) for name, data in read_folder(folder)]
+        report.agreeing(folder, compare(oracle, program, questions)[0], len(questions), "answers")
+
+
+def judge_mutants(report, count, jobs, only_first):
+    total = 0
+    differences = []
+    kinds = Counter()
+    bounds = [(first, min(first + BATCH, count)) for first in range(0, count, BATCH)]
+    with multiprocessing.get_context("fork").Pool(jobs) as pool:
+        for answers, some, seen in pool.imap(batch, bounds):
+            total += answers
+            differences += some
+            kinds += seen
+            if only_first and differences:
+                break
+    if differences:
+        print("the first difference: %s" % differences[0].question.name, file=sys.stderr)
+    report.agreeing("mutants", differences, total, "answers to %d mutants of seed %d" % (count, work.seed))
+    print("the answers to mutants: %s" % ", ".join("%d %s" % (n, kind) for kind, n in kinds.most_common()),
+          file=sys.stderr)
+    report.kinds += kinds
+
+
+def main():
+    global work  # pylint: disable=global-statement
+    parser = argparse.ArgumentParser(prog="tests/oracle")
+    parser.add_argument("--seed", type=int, default=1, help="of the mutants; 1 otherwise")
+    parser.add_argument("--count", type=int, default=3000, help="of the mutants; 3000 otherwise")
+    parser.add_argument("--jobs", type=int, default=2, help="how many processes; 2 otherwise")
+    parser.add_argument("--keep", default=os.path.join(tempfile.gettempdir(), "macho-check-differences"),
+                        help="the folder for files on which the two differ")
+    parser.add_argument("--oracle", default=os.path.join(TOP, "tests", "oracle.py"), help="another oracle")
+    parser.add_argument("--program", default=os.path.join(TOP, "crates", "macho_check", "out", "macho_check"),
+                        help="another program")
+    parser.add_argument("--first", action="store_true", help="mutants alone, up to the first difference")
+    parser.add_argument("folders", nargs="*", help="folders of other files, which are judged and mutated as well")
+    words = parser.parse_args()
+
+    oracle = load(words.oracle)
+    report = Report(words.keep)
+    vectors = [vector for _, vectors in read_all_vectors() for vector in vectors]
+    real = [data for _, data, _ in read_real()]
+    others = [data for folder in words.folders for _, data in read_folder(folder)]
+    corpus = real + others + [data for _, data, _ in vectors]
+    accepted = [True] * len(real + others) + [verdict == "accepted" for _, _, verdict in vectors]
+    weights = [weight(data, good) for data, good in zip(corpus, accepted)]
+    work = argparse.Namespace(
+        seed=words.seed, oracle=oracle, program=words.program, corpus=corpus, weights=weights)
+    if not words.first:
+        judge_vectors(report, oracle, words.program)
+        judge_real(report, oracle, words.program)
+        judge_numbers(report, oracle, words.program, real[0])
+        judge_folders(report, oracle, words.program, words.folders)
+    judge_mutants(report, words.count, words.jobs, words.first)
+    if words.first:
+        return
+
+    rules = [rule.__name__.replace("_", "-") for rule in oracle.RULES_OF_THE_FILE + oracle.RULES_OF_AN_IMAGE]
+    report.case("rules that are broken first", "%d of 31" % sum(report.kinds[rule] > 0 for rule in rules), "31 of 31")
+    told = ["file", "zero", "unmapped", "macho-check: no such image"]
+    report.case("what is at an address", ", ".join(kind for kind in told if report.kinds[kind]), ", ".join(told))
+
+
+if __name__ == "__main__":
+    main()
