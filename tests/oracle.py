@@ -96,7 +96,7 @@ LISTED = {
     0xd: ("LC_ID_DYLIB", "dylib_command", 24, 24),
     0xe: ("LC_LOAD_DYLINKER", "dylinker_command", 12, 12),
     0xf: ("LC_ID_DYLINKER", "dylinker_command", 12, 12),
-    0x19: ("LC_SEGMENT_64", "segment_command_64", 72, None),  # and 80 * nsects: see `least_size`
+    0x19: ("LC_SEGMENT_64", "segment_command_64", 72, None),  # and 80 * `nsects`
     0x1b: ("LC_UUID", "uuid_command", 24, None),
     0x1d: ("LC_CODE_SIGNATURE", "linkedit_data_command", 16, None),
     0x1e: ("LC_SEGMENT_SPLIT_INFO", "linkedit_data_command", 16, None),
@@ -109,7 +109,7 @@ LISTED = {
     0x2c: ("LC_ENCRYPTION_INFO_64", "encryption_info_command_64", 24, None),
     0x2e: ("LC_LINKER_OPTIMIZATION_HINT", "linkedit_data_command", 16, None),
     0x31: ("LC_NOTE", "note_command", 40, None),
-    0x32: ("LC_BUILD_VERSION", "build_version_command", 24, None),  # and 8 * ntools: see `least_size`
+    0x32: ("LC_BUILD_VERSION", "build_version_command", 24, None),  # and 8 * `ntools`
     0x80000018: ("LC_LOAD_WEAK_DYLIB", "dylib_command", 24, 24),
     0x8000001c: ("LC_RPATH", "rpath_command", 12, 12),
     0x8000001f: ("LC_REEXPORT_DYLIB", "dylib_command", 24, 24),
@@ -139,7 +139,6 @@ BOUNDED_TABLES = {
 # The words of the layout for the commands that load a library.
 LIBRARIES = {0xc: "load", 0x80000018: "weak", 0x8000001f: "reexport", 0x20: "lazy", 0x80000023: "upward"}
 
-
 def fields_of(text):
     """The fields of a structure: the name, the offset and the width of each, and whether it is a number."""
     fields = []
@@ -150,10 +149,8 @@ def fields_of(text):
         offset += WIDTHS[kind]
     return fields
 
-
 FIELDS = {name: fields_of(text) for name, text in STRUCTURES.items()}
 SIZES = {name: fields[-1][1] + fields[-1][2] for name, fields in FIELDS.items()}
-
 
 def read(data, place, structure, order="little"):
     """Reads a structure: its fields by their names, and its place."""
@@ -164,9 +161,7 @@ def read(data, place, structure, order="little"):
         fields[field] = int.from_bytes(raw, order) if is_number else raw
     return SimpleNamespace(**fields)
 
-
 # Words
-
 
 class File:
     """The bytes of a file, its entries, and its slices."""
@@ -195,7 +190,6 @@ class File:
         if not self.is_universal:
             return [Image(self.data, 0, None)]
         return [Image(self.data[e.offset:e.offset + e.size], e.offset, e) for e in self.entries]
-
 
 class Image:
     """A slice: its bytes, its start in the file, and its entry. All but these are asked of 64-bit slices alone."""
@@ -270,28 +264,22 @@ class Image:
                 return segment.vmaddr
         return None
 
-
 def masked(cpusubtype):
     """The cpusubtype without the capability byte."""
     return cpusubtype & ~CPU_SUBTYPE_MASK
 
-
 def is_mapped(segment):
     return segment.vmsize > 0
-
 
 def is_in_file_part(address, segment):
     return segment.vmaddr <= address < segment.vmaddr + segment.filesize
 
-
 def is_zero_fill(section):
     return section.flags & SECTION_TYPE in (S_ZEROFILL, S_GB_ZEROFILL, S_THREAD_LOCAL_ZEROFILL)
-
 
 def name_offset(command):
     """The offset of the name, the `lc_str` at 8."""
     return command.path if hasattr(command, "path") else command.name
-
 
 def first_sharing(ranges):
     """The index of the first range, from a start up to an end, that shares a number with an earlier one, or None.
@@ -312,21 +300,17 @@ def first_sharing(ranges):
         earlier.insert(at, (start, end))
     return None
 
-
 # Rules of the file. Places count from the start of the file.
-
 
 def magic(file):
     """The file has fewer than 4 bytes, or its first four are none of the three magic numbers."""
     if file.data[:4] not in (FAT_MAGIC, FAT_MAGIC_64, MH_MAGIC_64):
         yield 0
 
-
 def fat_truncated(file):
     """The file has fewer than 8 bytes, or the table ends past it."""
     if len(file.data) < 8 or file.table_end > len(file.data):
         yield 4
-
 
 def fat_slice_outside(file):
     """`offset` + `size` is past the file."""
@@ -334,13 +318,11 @@ def fat_slice_outside(file):
         if entry.offset + entry.size > len(file.data):
             yield entry.place
 
-
 def fat_slice_in_table(file):
     """`offset` is below the table's end."""
     for entry in file.entries:
         if entry.offset < file.table_end:
             yield entry.place
-
 
 def fat_align(file):
     """2^`align` does not divide `offset`."""
@@ -349,13 +331,11 @@ def fat_align(file):
         if entry.offset % 2 ** min(entry.align, 64) != 0:
             yield entry.place
 
-
 def fat_overlap(file):
     """The entry's slice shares a byte with that of some earlier entry."""
     index = first_sharing([(entry.offset, entry.offset + entry.size) for entry in file.entries])
     if index is not None:
         yield file.entries[index].place
-
 
 def fat_duplicate(file):
     """Some earlier entry has the same `cputype` and masked cpusubtype."""
@@ -366,28 +346,23 @@ def fat_duplicate(file):
             yield entry.place
         earlier.add(architecture)
 
-
 def fat_slice_magic(file):
     """A slice has fewer than 4 bytes of its own, or begins with none of the four magic numbers of images."""
     for image in file.slices:
         if image.data[:4] not in (MH_MAGIC_64, MH_MAGIC_64_BIG, MH_MAGIC, MH_MAGIC_BIG):
             yield image.start
 
-
 def fat_empty(file):
     """There is no 64-bit slice."""
     if not any(image.is_64_bit for image in file.slices):
         yield 4
 
-
 # Rules of the header and the load commands. From here on places count from the start of the slice.
-
 
 def header_truncated(image):
     """The slice has fewer than 32 bytes."""
     if image.length < 32:
         yield 0
-
 
 def arch_mismatch(image):
     """The file is universal and the header's `cputype` or masked cpusubtype differs from the entry's."""
@@ -396,18 +371,15 @@ def arch_mismatch(image):
         if header.cputype != entry.cputype or masked(header.cpusubtype) != masked(entry.cpusubtype):
             yield 4
 
-
 def file_type(image):
     """`filetype` is none of `MH_EXECUTE`, `MH_DYLIB` and `MH_BUNDLE`."""
     if image.header.filetype not in (MH_EXECUTE, MH_DYLIB, MH_BUNDLE):
         yield 12
 
-
 def commands_outside(image):
     """32 + `sizeofcmds` is past the slice."""
     if image.commands_end > image.length:
         yield 20
-
 
 def command_walk(image):
     """Fewer than `ncmds` good commands have been walked, and at p there is none."""
@@ -422,27 +394,25 @@ def command_walk(image):
             return
         place += cmdsize
 
-
 def least_size(image, command):
     """The least `cmdsize` of a listed command. `nsects` or `ntools` counts only where it lies inside the command."""
-    def number_at(offset):
+    def count_at(offset):
         if offset + 4 > command.cmdsize:
             return 0
         return int.from_bytes(image.data[command.place + offset:command.place + offset + 4], "little")
 
+    least = LISTED[command.cmd][2]
     if command.cmd == LC_SEGMENT_64:
-        return 72 + 80 * number_at(64)
+        return least + 80 * count_at(64)
     if command.cmd == LC_BUILD_VERSION:
-        return 24 + 8 * number_at(20)
-    return LISTED[command.cmd][2]
-
+        return least + 8 * count_at(20)
+    return least
 
 def command_short(image):
     """The `cmdsize` of a listed command is below its least."""
     for command in image.commands:
         if command.cmd in LISTED and command.cmdsize < least_size(image, command):
             yield command.place
-
 
 def command_repeated(image):
     """Some earlier command has the same `cmd`, and that is one of the five."""
@@ -453,13 +423,11 @@ def command_repeated(image):
                 yield command.place
             earlier.add(command.cmd)
 
-
 def dylib_id(image):
     """A dylib has no `LC_ID_DYLIB`, or an executable or a bundle has one."""
     has_id = image.only(LC_ID_DYLIB) is not None
     if has_id != (image.header.filetype == MH_DYLIB):
         yield 12
-
 
 def name(image):
     """The name offset is below its least, or there is no zero byte from there up to the command's end."""
@@ -471,9 +439,7 @@ def name(image):
             if offset < least or 0 not in content[offset:]:
                 yield command.place
 
-
 # Rules of segments and sections
-
 
 def segment_address(image):
     """`vmaddr` + `vmsize` > 2^64, in any segment."""
@@ -481,13 +447,11 @@ def segment_address(image):
         if segment.vmaddr + segment.vmsize > 2 ** 64:
             yield segment.place
 
-
 def segment_size(image):
     """The segment is mapped and `filesize` > `vmsize`."""
     for segment in image.segments:
         if is_mapped(segment) and segment.filesize > segment.vmsize:
             yield segment.place
-
 
 def segment_file(image):
     """`filesize` > 0 and `fileoff` + `filesize` is past the slice."""
@@ -495,13 +459,11 @@ def segment_file(image):
         if segment.filesize > 0 and segment.fileoff + segment.filesize > image.length:
             yield segment.place
 
-
 def segment_overlap(image):
     """The segment shares an address with some segment earlier in command order."""
     index = first_sharing([(segment.vmaddr, segment.vmaddr + segment.vmsize) for segment in image.segments])
     if index is not None:
         yield image.segments[index].place
-
 
 def section_address(image):
     """The segment is mapped, `size` > 0, and the section's addresses do not lie in the segment's."""
@@ -510,7 +472,6 @@ def section_address(image):
         if is_mapped(segment) and section.size > 0:
             if section.addr < segment.vmaddr or section.addr + section.size > segment.vmaddr + segment.vmsize:
                 yield section.place
-
 
 def section_file(image):
     """`size` > 0, not zero-fill, and the bytes are not where the address says; or, unmapped, are past the slice."""
@@ -525,16 +486,13 @@ def section_file(image):
         elif section.offset + section.size > image.length:
             yield section.place
 
-
 def section_relocs(image):
     """`nreloc` > 0 and `reloff` + 8 * `nreloc` is past the slice."""
     for section in image.sections:
         if section.nreloc > 0 and section.reloff + 8 * section.nreloc > image.length:
             yield section.place
 
-
 # Rules of tables and symbols
-
 
 def table_range(image):
     """One of the command's tables has a count that is not 0, and ends past the slice."""
@@ -544,7 +502,6 @@ def table_range(image):
             if entries != 0 and getattr(command, start) + entries * width > image.length:
                 yield command.place
 
-
 def symbol_group(image):
     """A group has a count that is not 0, and its first index + count is above the symbol count."""
     dysymtab = image.only(LC_DYSYMTAB)
@@ -553,7 +510,6 @@ def symbol_group(image):
                              (dysymtab.iundefsym, dysymtab.nundefsym)):
             if count != 0 and first + count > image.symbol_count:
                 yield dysymtab.place
-
 
 def symbol_name(image):
     """`n_strx` is not 0 and there is no zero byte from `stroff` + `n_strx` up to the end of the string table."""
@@ -565,14 +521,12 @@ def symbol_name(image):
             if symbol.n_strx != 0 and symbol.n_strx > last_zero:
                 yield symbol.place
 
-
 def symbol_section(image):
     """The symbol is no debugging entry, is of `N_SECT`, and `n_sect` is 0 or above the number of sections."""
     for symbol in image.symbols:
         if symbol.n_type & N_STAB == 0 and symbol.n_type & N_TYPE == N_SECT:
             if symbol.n_sect == 0 or symbol.n_sect > len(image.sections):
                 yield symbol.place
-
 
 def indirect_index(image):
     """The entry has neither of the two bits, and is not below the symbol count."""
@@ -584,9 +538,7 @@ def indirect_index(image):
             if index & INDIRECT_SYMBOL_LOCAL == 0 and index & INDIRECT_SYMBOL_ABS == 0 and index >= image.symbol_count:
                 yield place
 
-
 # Rule of the entry
-
 
 def entry(image):
     """There is an `LC_MAIN`, and no base, or the entry address is in no file part that is mapped and executable."""
@@ -602,7 +554,6 @@ def entry(image):
             return
     yield main_command.place
 
-
 # Order of judgment
 
 RULES_OF_THE_FILE = [
@@ -614,7 +565,6 @@ RULES_OF_AN_IMAGE = [
     dylib_id, name, segment_address, segment_size, segment_file, segment_overlap, section_address, section_file,
     section_relocs, table_range, symbol_group, symbol_name, symbol_section, indirect_index, entry,
 ]
-
 
 def first_broken(file):
     """The first broken rule, by name, and the least place in the file at which it is broken; or None."""
@@ -630,9 +580,7 @@ def first_broken(file):
                     return rule.__name__.replace("_", "-"), image.start + min(places)
     return None
 
-
 # The layout, as README.md has its lines
-
 
 def quoted(characters):
     """A name in double quotes. A quote, a backslash and a byte that is not printable ASCII are written as numbers."""
@@ -642,46 +590,37 @@ def quoted(characters):
         text += chr(byte) if is_plain else "\\x%02x" % byte
     return '"' + text + '"'
 
-
 def up_to_zero(characters):
     return characters.split(b"\0")[0]
 
-
 def version(number):
     return "%d.%d.%d" % (number >> 16, number >> 8 & 0xff, number & 0xff)
-
 
 def protection(initprot):
     letters = ((VM_PROT_READ, "r"), (VM_PROT_WRITE, "w"), (VM_PROT_EXECUTE, "x"))
     return "".join(letter if initprot & bit else "-" for bit, letter in letters)
 
-
 def architecture(cputype, cpusubtype):
     other = "0x%x/0x%x" % (cputype, masked(cpusubtype))
     return ARCHITECTURES.get((cputype, masked(cpusubtype)), other)
-
 
 def library_line(image, word, command):
     characters = up_to_zero(image.data[command.place + name_offset(command):command.place + command.cmdsize])
     versions = (version(command.current_version), version(command.compatibility_version))
     return "  %s %s current %s compatible %s" % ((word, quoted(characters)) + versions)
 
-
 def uuid_line(uuid):
     digits = uuid.hex().upper()
     return "  uuid " + "-".join((digits[:8], digits[8:12], digits[12:16], digits[16:20], digits[20:]))
-
 
 def section_line(section):
     text = "    section %s addr 0x%x size 0x%x" % (quoted(up_to_zero(section.sectname)), section.addr, section.size)
     return text + (" zero" if is_zero_fill(section) else " file 0x%x" % section.offset)
 
-
 def segment_line(segment):
     numbers = (segment.vmaddr, segment.vmsize, segment.fileoff, segment.filesize)
     text = "  segment %s addr 0x%x size 0x%x file 0x%x size 0x%x %s"
     return text % ((quoted(up_to_zero(segment.segname)),) + numbers + (protection(segment.initprot),))
-
 
 def slice_line(index, image):
     """The architecture is that of the image's header, or of the entry where the slice is not read."""
@@ -690,7 +629,6 @@ def slice_line(index, image):
     numbers = (image.start, image.length)
     return "slice %d %s at 0x%x size 0x%x %s" % (
         (index, architecture(source.cputype, source.cpusubtype)) + numbers + (kind,))
-
 
 def image_lines(image):
     """The lines of an image, below that of its slice."""
@@ -715,7 +653,6 @@ def image_lines(image):
     main_command = image.only(LC_MAIN)
     yield "  entry none" if main_command is None else "  entry 0x%x" % (image.base + main_command.entryoff)
 
-
 def layout(file):
     yield "accepted, slices %d" % len(file.slices)
     for index, image in enumerate(file.slices):
@@ -723,9 +660,7 @@ def layout(file):
         if image.is_64_bit:
             yield from image_lines(image)
 
-
 # The answers: a status, what is written to standard output, and what is written to standard error
-
 
 def check(data):
     file = File(data)
@@ -733,7 +668,6 @@ def check(data):
     if broken is not None:
         return 1, "refused: %s at 0x%x\n" % broken, ""
     return 0, "".join(line + "\n" for line in layout(file)), ""
-
 
 def at_address(image, address):
     """What is at an address: at most one segment of an image that breaks no rule has it."""
@@ -744,7 +678,6 @@ def at_address(image, address):
             return "zero\n"
     return "unmapped\n"
 
-
 def where(data, index, address):
     file = File(data)
     if first_broken(file) is not None:
@@ -753,7 +686,6 @@ def where(data, index, address):
         return 2, "", "macho-check: no such image\n"
     return 0, at_address(file.slices[index], address), ""
 
-
 def number(word):
     """1 to 20 decimal digits, below 2^64, or `0x` and 1 to 16 hexadecimal digits of either case; otherwise None."""
     if re.fullmatch("0x[0-9a-fA-F]{1,16}", word):
@@ -761,7 +693,6 @@ def number(word):
     if re.fullmatch("[0-9]{1,20}", word) and int(word) < 2 ** 64:
         return int(word)
     return None
-
 
 def answer(words):
     """The answer to the words of a call: FILE, or `where` FILE SLICE ADDRESS."""
@@ -780,13 +711,11 @@ def answer(words):
         return 3, "", "macho-check: more than 4294967296 bytes\n"
     return where(data, number(words[2]), number(words[3])) if is_where else check(data)
 
-
 def main():
     status, out, err = answer(sys.argv[1:])
     sys.stdout.write(out)
     sys.stderr.write(err)
     return status
-
 
 if __name__ == "__main__":
     sys.exit(main())

@@ -30,7 +30,6 @@ Difference = namedtuple("Difference", "question oracle program")
 
 # Vectors, in the notation that crates/macho_trials/data/README.md explains.
 
-
 def word_bytes(word, pieces):
     if "*" in word and not word.startswith('"'):
         times, word = word.split("*", 1)
@@ -43,10 +42,8 @@ def word_bytes(word, pieces):
         return word[1:-1].encode("ascii")
     return bytes.fromhex(word)
 
-
 def all_bytes(words, pieces):
     return b"".join(word_bytes(word, pieces) for word in words.split())
-
 
 def choices(words):
     """The words, once for each of the choices in parentheses."""
@@ -55,7 +52,6 @@ def choices(words):
     before, rest = words.split("(")
     inside, after = rest.split(")")
     return [before + choice + after for choice in inside.split("|")]
-
 
 def read_vectors(path):
     """The vectors of a file: the name, the bytes and the verdict of each. `cut` and `field` make none."""
@@ -80,22 +76,19 @@ def read_vectors(path):
                 vectors.append((name, all_bytes(chosen, pieces), verdict))
     return vectors
 
-
 # Mutants. Nothing of the oracle is used here, so that a mistake in it does not hide itself.
 
-NUMBERS = [0, 1, 2, 3, 4, 5, 6, 7, 8, 11, 12, 16, 20, 23, 24, 32, 40, 48, 63, 64, 65, 72, 80, 152, 0x7f, 0x80, 0xff,
-           0x100, 0x0e, 0x0f, 0x1e, 0xe0, 0x101, 0x1000, 0xfff, 0x4000, 0xffff, 0x10000, 0x20000000, 0x40000000,
-           0x7fffffff, 0x80000000, 0xc0000000, 0xfffffff8, 0xffffffff, 0x100000000, 0x7fffffffffffffff,
-           0x8000000000000000, 0xfffffffffffff000, 0xfffffffffffffff8, 0xffffffffffffffff]
+NUMBERS = [0, 1, 2, 3, 4, 5, 6, 7, 8, 11, 12, 14, 15, 16, 18, 20, 22, 23, 24, 30, 31, 32, 34, 40, 48, 56, 63, 64, 65,
+           72, 80, 92, 126, 127, 128, 152, 0xe0, 0xff, 0x100, 0x101, 0xfff, 0x1000, 0x4000, 0xffff, 0x10000,
+           0x20000000, 0x40000000, 0x7fffffff, 0x80000000, 0xc0000000, 0xfffffff8, 0xffffffff, 0x100000000,
+           0x7fffffffffffffff, 0x8000000000000000, 0xfffffffffffff000, 0xfffffffffffffff8, 0xffffffffffffffff]
 COMMANDS = [0x1, 0x2, 0x5, 0xb, 0xc, 0xd, 0xe, 0xf, 0x18, 0x19, 0x1b, 0x1c, 0x1d, 0x1e, 0x1f, 0x20, 0x22, 0x24, 0x26,
             0x27, 0x29, 0x2b, 0x2c, 0x2e, 0x31, 0x32, 0x33, 0x34, 0x80000018, 0x8000001c, 0x8000001f, 0x80000022,
             0x80000023, 0x80000028, 0x80000033, 0x80000034, 0x80000035, 0x80000019]
 MAGICS = [bytes.fromhex(digits) for digits in ("cafebabe", "cafebabf", "cffaedfe", "feedfacf", "cefaedfe", "feedface")]
 
-
 def number_at(data, place, width, order="little"):
     return int.from_bytes(data[place:place + width], order)
-
 
 def images(data):
     """Where images seem to begin: wherever their magic number stands, the first eight of them."""
@@ -105,7 +98,6 @@ def images(data):
         starts.append(at)
         at = data.find(MAGICS[2], at + 1)
     return starts
-
 
 def commands(data, start):
     """The place and the length of each command of an image, up to the first impossible one."""
@@ -119,12 +111,10 @@ def commands(data, start):
         place += size
     return found
 
-
 def table_end(data):
     if data[:4] not in MAGICS[:2]:
         return 0
     return min(8 + number_at(data, 4, 4, "big") * (32 if data[:4] == MAGICS[1] else 20), len(data))
-
 
 def some_image(rng, data):
     """Where an image and its commands begin and end."""
@@ -133,7 +123,6 @@ def some_image(rng, data):
         return 0, len(data)
     start = rng.choice(starts)
     return start, max(min(start + 32 + number_at(data, start + 20, 4), len(data)), start + 4)
-
 
 def some_place(rng, data, width):
     """The place of a field: in the table, in a command, past the commands where a byte is not zero, in the header, or
@@ -157,7 +146,6 @@ def some_place(rng, data, width):
         place -= (place - start) % min(width, 4)
     return place
 
-
 def some_number(rng, data, place, width, order):
     """A number that a rule may turn on: a special one, one beside what stands there, or one beside a sum or a
     difference of other numbers of the file and the length of the image."""
@@ -169,7 +157,7 @@ def some_number(rng, data, place, width, order):
     if way == 1:
         return rng.choice(COMMANDS if rng.random() < 0.7 else NUMBERS)
     if way == 2:
-        return number_at(data, place, width, order) + (near or rng.choice((-1, 1)))
+        return number_at(data, place, width, order) + (near or rng.choice((-1, 1, 1 << 32)))
     if way == 3:
         return number_at(data, place, width, order) ^ (1 << rng.randrange(8 * width))
     if way == 4:
@@ -184,7 +172,6 @@ def some_number(rng, data, place, width, order):
         length - other(), (length - other()) // rng.choice((4, 8, 16, 56)), length, other(), other() + other(),
         other() - other(), end - start))
 
-
 def set_field(rng, data, _):
     """A field of 1, 2, 4 or 8 bytes is set to a number."""
     if not data:
@@ -195,7 +182,6 @@ def set_field(rng, data, _):
     value = some_number(rng, data, place, width, order) % 2 ** (8 * width)
     return (data[:place] + value.to_bytes(width, order) + data[place + width:])[:max(len(data), place + 1)]
 
-
 def cut(rng, data, _):
     """The file is cut."""
     way = rng.random()
@@ -204,7 +190,6 @@ def cut(rng, data, _):
     if way < 0.75:
         return data[:some_image(rng, data)[1] + rng.choice((-8, -1, 0, 1))]
     return data[:rng.randrange(len(data) + 1)]
-
 
 def splice(rng, data, corpus):
     """Bytes of another file stand in the place of some, or between them."""
@@ -217,7 +202,6 @@ def splice(rng, data, corpus):
     place = some_place(rng, data, 4) if data else 0
     return data[:place] + piece + data[place + (0 if rng.random() < 0.3 else len(piece)):]
 
-
 def exchange(rng, data, _):
     """Two commands of an image are exchanged."""
     found = commands(data, some_image(rng, data)[0])
@@ -226,7 +210,6 @@ def exchange(rng, data, _):
     (one, one_size), (two, two_size) = sorted(rng.sample(found, 2))
     middle = data[one + one_size:two]
     return data[:one] + data[two:two + two_size] + middle + data[one:one + one_size] + data[two + two_size:]
-
 
 def add_command(rng, data, corpus):
     """A command of this file or of another is set between two commands or after them, and is counted."""
@@ -246,7 +229,6 @@ def add_command(rng, data, corpus):
     has_room = place == end and not any(data[end:end + size])
     after = data[place + size if has_room else place:]
     return data[:start] + header + data[start + 24:place] + piece + after
-
 
 def wrap(rng, data, corpus):
     """The file becomes a slice of a universal file, alone or beside another one."""
@@ -274,15 +256,12 @@ def wrap(rng, data, corpus):
     head = MAGICS[1 if is_wide else 0] + len(slices).to_bytes(4, "big")
     return head + b"".join(entries[index] for index in range(len(slices))) + body
 
-
 def set_magic(rng, data, _):
     """The first bytes of the file or of an image are those of some kind."""
     start = rng.choice([0] + images(data))
     return data[:start] + rng.choice(MAGICS) + data[start + 4:]
 
-
 WAYS = [(set_field, 70), (cut, 5), (splice, 8), (exchange, 6), (add_command, 8), (wrap, 6), (set_magic, 1)]
-
 
 def weight(data, is_accepted):
     """How often a file is changed. An accepted one says more then, and so does one with many commands. A long file with
@@ -290,7 +269,6 @@ def weight(data, is_accepted):
     if len(data) > 50000:
         return 1
     return (8 if is_accepted else 1) * (1 + sum(min(len(commands(data, start)), 20) for start in images(data)))
-
 
 def mutant(seed, number, corpus, weights):
     """Mutant NUMBER of a seed: a file of the corpus, changed up to five times. And the random numbers that follow."""
@@ -300,7 +278,6 @@ def mutant(seed, number, corpus, weights):
         way = rng.choices([way for way, _ in WAYS], [chance for _, chance in WAYS])[0]
         data = way(rng, data, corpus)
     return data, rng
-
 
 def some_address(rng, data):
     """An address near where a segment, or its part in the file, begins or ends."""
@@ -313,14 +290,11 @@ def some_address(rng, data):
     inside = rng.choice((0, vmsize, filesize, filesize, rng.randrange(vmsize + 1)))
     return (vmaddr + inside + rng.choice((-1, 0, 0, 1))) % 2 ** 64
 
-
 def written(rng, number):
     """A number as a word."""
     return rng.choice(("%d", "0x%x", "0x%X", "0x%016x", "%020d")) % number
 
-
 # The two answers
-
 
 def load(path):
     spec = importlib.util.spec_from_file_location("oracle", path)
@@ -328,7 +302,6 @@ def load(path):
     sys.dont_write_bytecode = True
     spec.loader.exec_module(module)
     return module
-
 
 def oracle_answer(oracle, question):
     """The status and the text of the oracle. That it fails is an answer too, which is never that of the program."""
@@ -344,7 +317,6 @@ def oracle_answer(oracle, question):
     except Exception as failure:  # pylint: disable=broad-except
         return None, ("the oracle failed: %r" % failure).encode()
 
-
 def program_answers(program, questions):
     """The status and the text of the program, of each question, by one script that makes all calls."""
     with tempfile.TemporaryDirectory() as room:
@@ -357,15 +329,16 @@ def program_answers(program, questions):
                     file.write(question.data)
             words = " ".join("'%s'" % word for word in (question.before, files[question.data]) + question.after)
             lines.append('"$program" %s >said-%d 2>&1; echo $?\n' % (words, index))
+        with open(os.path.join(room, "script"), "w", encoding="utf-8") as file:
+            file.writelines(lines)
         statuses = subprocess.run(
-            ["sh"], input="".join(lines).encode(), stdout=subprocess.PIPE, cwd=room, check=True,
-            env=dict(os.environ, program=program)).stdout.split()
+            ["sh", "script"], stdin=subprocess.DEVNULL, stdout=subprocess.PIPE, cwd=room, check=True, timeout=3600,
+            env=dict(os.environ, program=os.path.abspath(program))).stdout.split()
         answers = []
         for index in range(len(questions)):
             with open(os.path.join(room, "said-%d" % index), "rb") as file:
                 answers.append((int(statuses[index]), file.read()))
         return answers
-
 
 def compare(oracle, program, questions):
     """The differences, and how often the oracle gave each kind of answer."""
@@ -378,12 +351,10 @@ def compare(oracle, program, questions):
             differences.append(Difference(question, oracle_says, program_says))
     return differences, kinds
 
-
 def kind_of(says):
     """A rule, `accepted`, or what `where` tells, without its numbers."""
     found = re.match(rb"refused: ([a-z-]+) at|(accepted|file|zero|unmapped|macho-check: [a-z ]*)", says[1])
     return found.group(1 if found.group(1) else 2).decode() if found else "other"
-
 
 def batch(bounds):
     """Makes and compares the mutants from a number up to another."""
@@ -400,10 +371,8 @@ def batch(bounds):
     differences, kinds = compare(work.oracle, work.program, questions)
     return len(questions), differences, kinds
 
-
 # What is set before the processes begin, and is the same in all of them.
 work = None
-
 
 class Report:
     """Prints the cases, and the differences with their files."""
@@ -443,19 +412,16 @@ class Report:
         own = [line for line, theirs in zip(lines, others + [None] * len(lines)) if line != theirs]
         return "status %s, %s" % (says[0], " | ".join(own[:5]) or "the same text or a part of it")
 
-
 def says_verdict(answer, verdict):
     status, text = answer
     if verdict == "accepted":
         return status == 0 and text.startswith(b"accepted, slices ")
     return status == 1 and text.decode() == verdict + "\n"
 
-
 def read_all_vectors():
     """The files of vectors, by their names."""
     names = sorted(name for name in os.listdir(DATA) if name.endswith(".txt"))
     return [(name, read_vectors(os.path.join(DATA, name))) for name in names]
-
 
 def judge_vectors(report, oracle, program):
     """Three are compared: what stands in the data, the oracle, and the program. The counts are those of the crate."""
@@ -476,16 +442,13 @@ def judge_vectors(report, oracle, program):
         report.case("%s, by hand" % name, "%d verdicts" % right, "%s verdicts" % counts.pop(name, "no"))
     report.case("files of vectors that are missing", " ".join(counts), "")
 
-
 def read_file(folder, name):
     with open(os.path.join(folder, name), "rb") as file:
         return file.read()
 
-
 def read_real():
     """The two real files, each with its layout, which was written by hand from what other tools show."""
     return [(name, read_file(REAL, name), read_file(REAL, name + ".layout")) for name in ("program", "library")]
-
 
 def judge_real(report, oracle, program):
     questions = []
@@ -494,7 +457,6 @@ def judge_real(report, oracle, program):
         is_same = oracle_answer(oracle, questions[-1]) == (0, layout)
         report.case("the layout of the real %s, by hand" % name, "the same" if is_same else "another", "the same")
     report.agreeing("the real files", compare(oracle, program, questions)[0], len(questions), "answers")
-
 
 def judge_numbers(report, oracle, program, data):
     """What is a number, and what is none, in the words of `where`."""
@@ -505,17 +467,14 @@ def judge_numbers(report, oracle, program, data):
                  for word in words for pair in ((word, "0x100000440"), ("0", word))]
     report.agreeing("numbers", compare(oracle, program, questions)[0], len(questions), "answers")
 
-
 def read_folder(folder):
     names = sorted(name for name in os.listdir(folder) if os.path.isfile(os.path.join(folder, name)))
     return [(name, read_file(folder, name)) for name in names]
-
 
 def judge_folders(report, oracle, program, folders):
     for folder in folders:
         questions = [Question(name, data, "check", ()) for name, data in read_folder(folder)]
         report.agreeing(folder, compare(oracle, program, questions)[0], len(questions), "answers")
-
 
 def judge_mutants(report, count, jobs, only_first):
     total = 0
@@ -535,7 +494,6 @@ def judge_mutants(report, count, jobs, only_first):
     print("the answers to mutants: %s" % ", ".join("%d %s" % (n, kind) for kind, n in kinds.most_common()),
           file=sys.stderr)
     report.kinds += kinds
-
 
 def main():
     global work  # pylint: disable=global-statement
@@ -575,7 +533,6 @@ def main():
     report.case("rules that are broken first", "%d of 31" % sum(report.kinds[rule] > 0 for rule in rules), "31 of 31")
     told = ["file", "zero", "unmapped", "macho-check: no such image"]
     report.case("what is at an address", ", ".join(kind for kind in told if report.kinds[kind]), ", ".join(told))
-
 
 if __name__ == "__main__":
     main()
