@@ -182,6 +182,16 @@ def set_field(rng, data, _):
     value = some_number(rng, data, place, width, order) % 2 ** (8 * width)
     return (data[:place] + value.to_bytes(width, order) + data[place + width:])[:max(len(data), place + 1)]
 
+def set_range(rng, data, _):
+    """Two fields beside each other, a start and a count, are set to a range that ends where the image does, or near."""
+    width = rng.choice((4, 4, 8))
+    place = some_place(rng, data, width) if data else 0
+    length = len(data) - (some_image(rng, data)[0] if rng.random() < 0.7 else 0)
+    count = rng.choice((0, 1, 1, 2, 4, 8, rng.randrange(length + 1)))
+    start = length - count * rng.choice((1, 1, 1, 4, 8, 16)) + rng.choice((-1, 0, 0, 1, 1, 4, 8))
+    both = (start % 2 ** (8 * width)).to_bytes(width, "little") + count.to_bytes(width, "little")
+    return data[:place] + both + data[place + 2 * width:]
+
 def cut(rng, data, _):
     """The file is cut."""
     way = rng.random()
@@ -261,7 +271,7 @@ def set_magic(rng, data, _):
     start = rng.choice([0] + images(data))
     return data[:start] + rng.choice(MAGICS) + data[start + 4:]
 
-WAYS = [(set_field, 70), (cut, 5), (splice, 8), (exchange, 6), (add_command, 8), (wrap, 6), (set_magic, 1)]
+WAYS = [(set_field, 65), (set_range, 8), (cut, 5), (splice, 8), (exchange, 6), (add_command, 8), (wrap, 6), (set_magic, 1)]
 
 def weight(data, is_accepted):
     """How often a file is changed. An accepted one says more then, and so does one with many commands. A long file with
@@ -431,7 +441,7 @@ def judge_vectors(report, oracle, program):
         questions = [Question("%s: %s" % (name, vector), data, "check", ()) for vector, data, _ in vectors]
         differences, kinds = compare(oracle, program, questions)
         report.kinds += kinds
-        report.agreeing(name, differences, len(questions), "answers")
+        report.agreeing("the vectors of " + name, differences, len(questions), "answers")
         right = 0
         for question, (_, _, verdict) in zip(questions, vectors):
             says = oracle_answer(oracle, question)
@@ -439,8 +449,8 @@ def judge_vectors(report, oracle, program):
                 right += 1
             else:
                 report.show(Difference(question, says, (None, ("the vector says %s" % verdict).encode())))
-        report.case("%s, by hand" % name, "%d verdicts" % right, "%s verdicts" % counts.pop(name, "no"))
-    report.case("files of vectors that are missing", " ".join(counts), "")
+        report.case("the verdicts of %s, by hand" % name, "%d verdicts" % right, "%s verdicts" % counts.pop(name, "no"))
+    report.case("files of vectors without vectors", " ".join(counts) or "none", "none")
 
 def read_file(folder, name):
     with open(os.path.join(folder, name), "rb") as file:
@@ -465,7 +475,7 @@ def judge_numbers(report, oracle, program, data):
              "0xABCDEF", "0x100000440", "0x100000FFF", "0xg", "", " 0", "0 ", "+0", "1_0", "0b1", "a", "1e3", "\u0660"]
     questions = [Question("the number '%s'" % word, data, "where", pair)
                  for word in words for pair in ((word, "0x100000440"), ("0", word))]
-    report.agreeing("numbers", compare(oracle, program, questions)[0], len(questions), "answers")
+    report.agreeing("words that are numbers, and others", compare(oracle, program, questions)[0], len(questions), "answers")
 
 def read_folder(folder):
     names = sorted(name for name in os.listdir(folder) if os.path.isfile(os.path.join(folder, name)))
@@ -490,7 +500,7 @@ def judge_mutants(report, count, jobs, only_first):
                 break
     if differences:
         print("the first difference: %s" % differences[0].question.name, file=sys.stderr)
-    report.agreeing("mutants", differences, total, "answers to %d mutants of seed %d" % (count, work.seed))
+    report.agreeing("%d mutants of seed %d" % (count, work.seed), differences, total, "answers")
     print("the answers to mutants: %s" % ", ".join("%d %s" % (n, kind) for kind, n in kinds.most_common()),
           file=sys.stderr)
     report.kinds += kinds
@@ -530,9 +540,9 @@ def main():
         return
 
     rules = [rule.__name__.replace("_", "-") for rule in oracle.RULES_OF_THE_FILE + oracle.RULES_OF_AN_IMAGE]
-    report.case("rules that are broken first", "%d of 31" % sum(report.kinds[rule] > 0 for rule in rules), "31 of 31")
+    report.case("each rule is broken first", "%d of 31" % sum(report.kinds[rule] > 0 for rule in rules), "31 of 31")
     told = ["file", "zero", "unmapped", "macho-check: no such image"]
-    report.case("what is at an address", ", ".join(kind for kind in told if report.kinds[kind]), ", ".join(told))
+    report.case("each answer about an address", ", ".join(kind for kind in told if report.kinds[kind]), ", ".join(told))
 
 if __name__ == "__main__":
     main()
