@@ -271,7 +271,8 @@ def set_magic(rng, data, _):
     start = rng.choice([0] + images(data))
     return data[:start] + rng.choice(MAGICS) + data[start + 4:]
 
-WAYS = [(set_field, 65), (set_range, 8), (cut, 5), (splice, 8), (exchange, 6), (add_command, 8), (wrap, 6), (set_magic, 1)]
+# With how often each is taken.
+WAYS = {set_field: 65, set_range: 8, cut: 5, splice: 8, exchange: 6, add_command: 8, wrap: 6, set_magic: 1}
 
 def weight(data, is_accepted):
     """How often a file is changed. An accepted one says more then, and so does one with many commands. A long file with
@@ -285,7 +286,7 @@ def mutant(seed, number, corpus, weights):
     rng = random.Random("%d %d" % (seed, number))
     data = rng.choices(corpus, weights)[0]
     for _ in range(rng.choice((1, 1, 1, 2, 2, 3, 5))):
-        way = rng.choices([way for way, _ in WAYS], [chance for _, chance in WAYS])[0]
+        way = rng.choices(list(WAYS), list(WAYS.values()))[0]
         data = way(rng, data, corpus)
     return data, rng
 
@@ -475,7 +476,8 @@ def judge_numbers(report, oracle, program, data):
              "0xABCDEF", "0x100000440", "0x100000FFF", "0xg", "", " 0", "0 ", "+0", "1_0", "0b1", "a", "1e3", "\u0660"]
     questions = [Question("the number '%s'" % word, data, "where", pair)
                  for word in words for pair in ((word, "0x100000440"), ("0", word))]
-    report.agreeing("words that are numbers, and others", compare(oracle, program, questions)[0], len(questions), "answers")
+    differences, _ = compare(oracle, program, questions)
+    report.agreeing("words that are numbers, and others", differences, len(questions), "answers")
 
 def read_folder(folder):
     names = sorted(name for name in os.listdir(folder) if os.path.isfile(os.path.join(folder, name)))
