@@ -352,15 +352,16 @@ def program_answers(program, questions):
         return answers
 
 def compare(oracle, program, questions):
-    """The differences, and how often the oracle gave each kind of answer."""
+    """The differences, how often the oracle gave each kind of answer, and the answers of the program."""
     differences = []
     kinds = Counter()
-    for question, program_says in zip(questions, program_answers(program, questions)):
+    answers = program_answers(program, questions)
+    for question, program_says in zip(questions, answers):
         oracle_says = oracle_answer(oracle, question)
         kinds[kind_of(oracle_says)] += 1
         if oracle_says != program_says:
             differences.append(Difference(question, oracle_says, program_says))
-    return differences, kinds
+    return differences, kinds, answers
 
 def kind_of(says):
     """A rule, `accepted`, or what `where` tells, without its numbers."""
@@ -368,19 +369,21 @@ def kind_of(says):
     return found.group(1 if found.group(1) else 2).decode() if found else "other"
 
 def batch(bounds):
-    """Makes and compares the mutants from a number up to another."""
-    questions = []
-    for number in range(*bounds):
-        data, rng = mutant(work.seed, number, work.corpus, work.weights)
-        name = "mutant %d of seed %d" % (number, work.seed)
-        questions.append(Question(name, data, "check", ()))
-        for _ in range(2 if rng.random() < 0.4 else 0):
-            last = max(len(images(data)) - 1, 0)
+    """Makes and compares the mutants from a number up to another: of each the verdict, and then what is at addresses of
+    most of those that the program accepts and of a few others."""
+    mutants = [mutant(work.seed, number, work.corpus, work.weights) for number in range(*bounds)]
+    verdicts = [Question("mutant %d of seed %d" % (number, work.seed), data, "check", ())
+                for number, (data, _) in zip(range(*bounds), mutants)]
+    differences, kinds, answers = compare(work.oracle, work.program, verdicts)
+    addresses = []
+    for question, (data, rng), answer in zip(verdicts, mutants, answers):
+        last = max(len(images(data)) - 1, 0)
+        for _ in range(2 if rng.random() < (0.7 if answer[0] == 0 else 0.05) else 0):
             words = (written(rng, rng.choice((0, rng.randint(0, last), last, last + 1))),
                      written(rng, some_address(rng, data)))
-            questions.append(Question(name, data, "where", words))
-    differences, kinds = compare(work.oracle, work.program, questions)
-    return len(questions), differences, kinds
+            addresses.append(Question(question.name, data, "where", words))
+    others, told, _ = compare(work.oracle, work.program, addresses)
+    return len(verdicts) + len(addresses), differences + others, kinds + told
 
 # What is set before the processes begin, and is the same in all of them.
 work = None
@@ -440,7 +443,7 @@ def judge_vectors(report, oracle, program):
         counts = dict(re.findall(r"^(\S+\.txt): (\d+) vectors agree", file.read(), re.MULTILINE))
     for name, vectors in read_all_vectors():
         questions = [Question("%s: %s" % (name, vector), data, "check", ()) for vector, data, _ in vectors]
-        differences, kinds = compare(oracle, program, questions)
+        differences, kinds, _ = compare(oracle, program, questions)
         report.kinds += kinds
         report.agreeing("the vectors of " + name, differences, len(questions), "answers")
         right = 0
@@ -476,7 +479,7 @@ def judge_numbers(report, oracle, program, data):
              "0xABCDEF", "0x100000440", "0x100000FFF", "0xg", "", " 0", "0 ", "+0", "1_0", "0b1", "a", "1e3", "\u0660"]
     questions = [Question("the number '%s'" % word, data, "where", pair)
                  for word in words for pair in ((word, "0x100000440"), ("0", word))]
-    differences, _ = compare(oracle, program, questions)
+    differences = compare(oracle, program, questions)[0]
     report.agreeing("words that are numbers, and others", differences, len(questions), "answers")
 
 def read_folder(folder):
