@@ -394,7 +394,6 @@ class Report:
     def __init__(self, keep):
         self.keep = keep
         self.shown = 0
-        self.kinds = Counter()
 
     def case(self, name, found, wanted):
         print("%s\t%s\t%s" % (name, found, wanted), flush=True)
@@ -405,7 +404,8 @@ class Report:
         self.case(name, "%d of %d %s agree" % (count - len(differences), count, of_what),
                   "%d of %d %s agree" % (count, count, of_what))
 
-    def show(self, difference):
+    def show(self, difference, other="program"):
+        """The two answers. Of the first few, that is: one mistake makes many differences."""
         self.shown += 1
         if self.shown > SHOWN:
             return
@@ -414,10 +414,10 @@ class Report:
         path = os.path.join(self.keep, re.sub("[^A-Za-z0-9.]+", "-", question.name))
         with open(path, "wb") as file:
             file.write(question.data)
-        print("%s: %s\n  oracle:  %s\n  program: %s" % (
+        print("%s: %s\n  oracle: %s\n  %s: %s" % (
             question.name, " ".join((question.before, path) + question.after),
-            self.text(difference.oracle, difference.program), self.text(difference.program, difference.oracle)),
-            file=sys.stderr)
+            self.text(difference.oracle, difference.program),
+            other, self.text(difference.program, difference.oracle)), file=sys.stderr)
 
     @staticmethod
     def text(says, other):
@@ -441,10 +441,11 @@ def judge_vectors(report, oracle, program):
     """Three are compared: what stands in the data, the oracle, and the program. The counts are those of the crate."""
     with open(os.path.join(TOP, "crates", "macho_trials", "stdout"), encoding="ascii") as file:
         counts = dict(re.findall(r"^(\S+\.txt): (\d+) vectors agree", file.read(), re.MULTILINE))
+    seen = Counter()
     for name, vectors in read_all_vectors():
         questions = [Question("%s: %s" % (name, vector), data, "check", ()) for vector, data, _ in vectors]
         differences, kinds, _ = compare(oracle, program, questions)
-        report.kinds += kinds
+        seen += kinds
         report.agreeing("the vectors of " + name, differences, len(questions), "answers")
         right = 0
         for question, (_, _, verdict) in zip(questions, vectors):
@@ -452,9 +453,12 @@ def judge_vectors(report, oracle, program):
             if says_verdict(says, verdict):
                 right += 1
             else:
-                report.show(Difference(question, says, (None, ("the vector says %s" % verdict).encode())))
+                wanted = (0 if verdict == "accepted" else 1, verdict.encode() + b"\n")
+                report.show(Difference(question, says, wanted), "by hand")
         report.case("the verdicts of %s, by hand" % name, "%d verdicts" % right, "%s verdicts" % counts.pop(name, "no"))
     report.case("files of vectors without vectors", " ".join(counts) or "none", "none")
+    rules = [kind for kind in seen if kind != "accepted"]
+    report.case("rules that some vector breaks first", "%d of 31" % len(rules), "31 of 31")
 
 def read_file(folder, name):
     with open(os.path.join(folder, name), "rb") as file:
@@ -464,6 +468,25 @@ def read_real():
     """The two real files, each with its layout, which was written by hand from what other tools show."""
     return [(name, read_file(REAL, name), read_file(REAL, name + ".layout")) for name in ("program", "library")]
 
+# What is at addresses of the real files, from the segments in their layouts, by hand.
+ADDRESSES = [
+    ("program", "0", "0x0", "zero"),
+    ("program", "0", "0xffffffff", "zero"),
+    ("program", "0", "0x100000000", "file 0x0"),
+    ("program", "0", "0x100000440", "file 0x440"),
+    ("program", "0", "0x100000fff", "file 0xfff"),
+    ("program", "0", "0x1000030ef", "file 0x30ef"),
+    ("program", "0", "0x1000030f0", "unmapped"),
+    ("program", "0", "0xffffffffffffffff", "unmapped"),
+    ("program", "1", "0x0", "macho-check: no such image"),
+    ("library", "0", "0x1057", "file 0x1057"),
+    ("library", "0", "0x1058", "unmapped"),
+    ("library", "1", "0x1058", "file 0x1058"),
+    ("library", "1", "0x417f", "file 0x417f"),
+    ("library", "1", "0x4180", "unmapped"),
+    ("library", "2", "0x0", "macho-check: no such image"),
+]
+
 def judge_real(report, oracle, program):
     questions = []
     for name, data, layout in read_real():
@@ -471,6 +494,14 @@ def judge_real(report, oracle, program):
         is_same = oracle_answer(oracle, questions[-1]) == (0, layout)
         report.case("the layout of the real %s, by hand" % name, "the same" if is_same else "another", "the same")
     report.agreeing("the real files", compare(oracle, program, questions)[0], len(questions), "answers")
+
+    files = {name: data for name, data, _ in read_real()}
+    questions = [Question("the real " + name, files[name], "where", (index, address))
+                 for name, index, address, _ in ADDRESSES]
+    right = sum(oracle_answer(oracle, question)[1].decode() == told + "\n"
+                for question, (_, _, _, told) in zip(questions, ADDRESSES))
+    report.case("what is at %d addresses of them, by hand" % len(ADDRESSES), right, len(ADDRESSES))
+    report.agreeing("addresses of the real files", compare(oracle, program, questions)[0], len(questions), "answers")
 
 def judge_numbers(report, oracle, program, data):
     """What is a number, and what is none, in the words of `where`."""
@@ -508,7 +539,6 @@ def judge_mutants(report, count, jobs, only_first):
     report.agreeing("%d mutants of seed %d" % (count, work.seed), differences, total, "answers")
     print("the answers to mutants: %s" % ", ".join("%d %s" % (n, kind) for kind, n in kinds.most_common()),
           file=sys.stderr)
-    report.kinds += kinds
 
 def main():
     global work  # pylint: disable=global-statement
@@ -531,7 +561,8 @@ def main():
     real = [data for _, data, _ in read_real()]
     others = [data for folder in words.folders for _, data in read_folder(folder)]
     corpus = real + others + [data for _, data, _ in vectors]
-    accepted = [True] * len(real + others) + [verdict == "accepted" for _, _, verdict in vectors]
+    accepted = [True] * len(real) + [oracle_answer(oracle, Question("", data, "check", ()))[0] == 0 for data in others]
+    accepted += [verdict == "accepted" for _, _, verdict in vectors]
     weights = [weight(data, good) for data, good in zip(corpus, accepted)]
     work = argparse.Namespace(
         seed=words.seed, oracle=oracle, program=words.program, corpus=corpus, weights=weights)
@@ -541,13 +572,6 @@ def main():
         judge_numbers(report, oracle, words.program, real[0])
         judge_folders(report, oracle, words.program, words.folders)
     judge_mutants(report, words.count, words.jobs, words.first)
-    if words.first:
-        return
-
-    rules = [rule.__name__.replace("_", "-") for rule in oracle.RULES_OF_THE_FILE + oracle.RULES_OF_AN_IMAGE]
-    report.case("each rule is broken first", "%d of 31" % sum(report.kinds[rule] > 0 for rule in rules), "31 of 31")
-    told = ["file", "zero", "unmapped", "macho-check: no such image"]
-    report.case("each answer about an address", ", ".join(kind for kind in told if report.kinds[kind]), ", ".join(told))
 
 if __name__ == "__main__":
     main()
