@@ -1,12 +1,13 @@
 -- Sorted spans that share no place: what a search among them finds, and what an insertion leaves.
-use Rattle.std.proofs.Common.{◌≡◌, ℕ, ◌+◌, ◌-◌, ◌/◌, ◌^◌, ◌≤◌, ◌<◌, ◌⊎◌, List, length, get_or, take, drop, Contains, Option, None, Some, sym, subst, inl, inr, arith}
+use Rattle.std.proofs.Common.{◌≡◌, ℕ, ◌+◌, ◌-◌, ◌/◌, ◌%◌, ◌^◌, ◌≤◌, ◌<◌, ◌⊎◌, List, length, get_or, take, drop, Contains, Option, None, Some, sym, ◌∙◌, ap, subst, inl, inr, arith}
 use Rattle.std.specs.Prelude.{AllPairs, MatchOption}
 use Rattle.std.specs.List.{insert}
+use Rattle.std.proofs.Math.Nat.{mod-add-mod}
 use Rattle.std.proofs.lemmas.Bool.{cases_lt}
 use Rattle.std.proofs.lemmas.List.Edits.{length-insert, get_or-insert_below, get_or-insert_at, get_or-insert_above}
 use Rattle.std.proofs.lemmas.List.Elements.{All-append, All-take, All-drop, All-cons, Contains-get_or}
 use Rattle.macho_fields.specs.Span.{end_of, Holds, Shares}
-use Rattle.macho_fields.specs.Spans.{IsPlaced, AreSorted, SharesWithOne, HoldsInOne, digits}
+use Rattle.macho_fields.specs.Spans.{IsPlaced, AreSorted, RoseBy, SharesWithOne, HoldsInOne, digits}
 use Rattle.macho_fields.specs.Scaffold.{StartBy}
 use Rattle.macho_fields.specs.declared.span.Span.{Span}
 use Rattle.macho_fields.proofs.Digits.{digits_half, digits_le, digits_within}
@@ -188,3 +189,9 @@ module _ (pairs : List (Span × ℕ)) (sorted : AreSorted pairs) (place low high
       let most = halved.most in
       let some = digits_half (high - low) (omega arith) in
       let all = digits_within (length pairs) 64 short in omega arith
+
+-- a count that rose by some, and then by one, rose by one more
+pub rose_on : (before some between after : ℕ) → RoseBy before some between → RoseBy between 1 after → RoseBy before (some + 1) after
+rose_on before some between after first then =
+    let sum : before + some + 1 ≡ before + (some + 1) = omega arith in
+    then ∙ (sym (mod-add-mod between (2 ^ 64) 1) ∙ (ap (λ n. (n + 1) % 2 ^ 64) first ∙ (mod-add-mod (before + some) (2 ^ 64) 1 ∙ ap (λ n. n % 2 ^ 64) sum)))

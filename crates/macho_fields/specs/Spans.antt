@@ -1,13 +1,21 @@
 -- Spans that share no place, each with a tag, and how many probes a search among them makes.
-use Rattle.std.specs.Prelude.{◌≡◌, ℕ, ◌^◌, ◌≤◌, ◌<◌, ◌⊎◌, List, [], ◌∷◌, ◌++◌, length, All, AllPairs, Any, IsPermutation}
+use Rattle.std.specs.Prelude.{◌≡◌, ℕ, ◌+◌, ◌%◌, ◌^◌, ◌≤◌, ◌<◌, ◌⊎◌, List, [], ◌∷◌, ◌++◌, length, All, AllPairs, Any, IsPermutation}
 use Rattle.std.specs.Int.Digits.{digits_of}
 use Rattle.macho_fields.specs.Span.{end_of, Holds, Shares}
 use Rattle.macho_fields.specs.declared.span.Span.{Span}
 
--- the pairs of a span and its tag in order, and how many probes the last call made
+-- The pairs of a span and its tag in order, how many probes the last call made, and how many tests of
+-- one pair. All calls made so many probes and so many tests, which are counted on and never set.
 pub record SpansView : Type 0 where
   pub pairs : List (Span × ℕ)
   pub probes : ℕ
+  pub tests : ℕ
+  pub all_probes : ℕ
+  pub all_tests : ℕ
+
+-- a count that is 0 again after 2^64 - 1 rose by so many
+abbrev pub RoseBy : ℕ → ℕ → ℕ → Type 0
+RoseBy before more after = after % 2 ^ 64 ≡ (before + more) % 2 ^ 64
 
 -- the span has a place, and its last one is below 2^64
 abbrev pub IsPlaced : Span → Type 0

@@ -23,6 +23,6 @@ pub use load_command::{
 };
 pub use overlap::SpanList;
 pub use rule::{Break, Rule};
-pub use span::Span;
+pub use span::{Span, table_end};
 pub use span_order::{Sharing, SpanOrder};
 pub use spans::{Insert, Spans};

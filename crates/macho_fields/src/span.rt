@@ -44,7 +44,7 @@ impl Span {
 }
 
 /// The first place after a table of `count` entries of `each` bytes that begins at `start`.
-pub(crate) fn table_end(start: u64, count: u64, each: u64) -> u128
+pub fn table_end(start: u64, count: u64, each: u64) -> u128
     ensures { result ≡ start + count * each }
 {
     u128::from(start) + u128::from(count) * u128::from(each)

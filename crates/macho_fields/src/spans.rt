@@ -1,10 +1,13 @@
 //! Spans that share no place, each with a tag: a list sorted by start, which is searched by halves.
 
+mod count;
 mod held;
+#[cfg(test)]
+mod tests;
 
-ghost use Rattle.std.specs.Prelude.{◌≡◌, length, MatchOption};
+ghost use Rattle.std.specs.Prelude.{◌≡◌, ◌≤◌, length, MatchOption};
 ghost use Rattle.macho_fields.specs.Scaffold.{StartBy};
-ghost use Rattle.macho_fields.specs.Spans.{AreSorted, IsPlaced, IsProbeCount, SharesWithOne};
+ghost use Rattle.macho_fields.specs.Spans.{AreSorted, IsPlaced, IsProbeCount, RoseBy, SharesWithOne};
 
 use crate::span::Span;
 use held::Held;
@@ -34,18 +37,21 @@ impl Model for Spans {
 
     ghost view = { λ spans. record {
       pairs = spans.held.pairs.items;
-      probes = spans.held.probes;
+      probes = spans.held.probes.call;
+      tests = spans.held.tests.call;
+      all_probes = spans.held.probes.all;
+      all_tests = spans.held.tests.all;
     } };
 
     ghost invariant = { λ spans. AreSorted spans.held.pairs.items };
 }
 
 impl Spans {
-    ghost use Rattle.std.specs.Prelude.{◌≡◌, ◌<◌, ◌↔◌, ℕ, [], ◌∷◌, ◌++◌, List, length};
+    ghost use Rattle.std.specs.Prelude.{◌≡◌, ◌<◌, ◌≤◌, ◌↔◌, ℕ, [], ◌∷◌, ◌++◌, List, length};
     ghost use Rattle.std.specs.Prelude.{Contains, IsPermutation, IfOk, OnOk, OnErr, MatchOption};
     ghost use Rattle.macho_fields.specs.Span.{Holds};
     ghost use Rattle.macho_fields.specs.Spans.{AreKept, AreSorted, HoldsInOne, IsPlaced};
-    ghost use Rattle.macho_fields.specs.Spans.{IsProbeCount, SharesWithOne};
+    ghost use Rattle.macho_fields.specs.Spans.{IsProbeCount, RoseBy, SharesWithOne};
     ghost use Rattle.macho_fields.specs.declared.span.Span.{Span};
     ghost use Rattle.macho_fields.specs.declared.spans.Insert.{Insert};
 
@@ -53,6 +59,7 @@ impl Spans {
     pub fn new(alloc: Global) -> Spans
         ensures none { result.pairs ≡ [] }
         ensures probes { result.probes ≡ 0 }
+        ensures all_probes { result.all_probes ≡ 0 }
     {
         Spans {
             held: Held::new(alloc),
@@ -63,6 +70,7 @@ impl Spans {
     pub fn with_capacity(alloc: Global, count: usize) -> Result<Spans, AllocError>
         ensures none { IfOk result (λ spans. spans.pairs ≡ []) }
         ensures probes { IfOk result (λ spans. spans.probes ≡ 0) }
+        ensures all_probes { IfOk result (λ spans. spans.all_probes ≡ 0) }
         ensures memory { OnErr result (0 < count) }
     {
         let held = Held::with_capacity(alloc, count)?;
@@ -105,6 +113,9 @@ impl Spans {
 
         ensures sorted { AreSorted self.new.pairs }
         ensures probes { IsProbeCount (length self.old.pairs) self.new.probes }
+        ensures all_probes { RoseBy self.old.all_probes self.new.probes self.new.all_probes }
+        ensures tests { self.new.tests ≤ 2 }
+        ensures all_tests { RoseBy self.old.all_tests self.new.tests self.new.all_tests }
     {
         let Some(next) = gap_for(&mut self.held, span) else {
             return Ok(Insert::Overlap);
@@ -120,6 +131,9 @@ impl Spans {
         ensures same { self.new.pairs ≡ self.old.pairs }
         ensures sorted { AreSorted self.new.pairs }
         ensures probes { IsProbeCount (length self.old.pairs) self.new.probes }
+        ensures all_probes { RoseBy self.old.all_probes self.new.probes self.new.all_probes }
+        ensures tests { self.new.tests ≤ 1 }
+        ensures all_tests { RoseBy self.old.all_tests self.new.tests self.new.all_tests }
     {
         let next = self.held.count_starts_by(place);
         let before = next.checked_sub(1)?;
@@ -135,7 +149,10 @@ fn gap_for(held: &mut Held, span: Span) -> Option<usize>
         (λ next. (¬ SharesWithOne held.old.pairs.items span)
         × StartBy held.old.pairs.items span.start next) }
     ensures same { held.new.pairs ≡ held.old.pairs }
-    ensures probes { IsProbeCount (length held.old.pairs.items) held.new.probes }
+    ensures probes { IsProbeCount (length held.old.pairs.items) held.new.probes.call }
+    ensures all_probes { RoseBy held.old.probes.all held.new.probes.call held.new.probes.all }
+    ensures tests { held.new.tests.call ≤ 2 }
+    ensures all_tests { RoseBy held.old.tests.all held.new.tests.call held.new.tests.all }
 {
     let next = held.count_starts_by(span.start);
     let before = next > 0 && held.shares(next - 1, span);

@@ -38,9 +38,9 @@ segment_count mapping = length mapping.memory.pairs
 abbrev pub probe_count : Mapping → ℕ
 probe_count mapping = mapping.probes
 
--- how many probes the last search of its spans made
-abbrev pub search_count : Mapping → ℕ
-search_count mapping = mapping.memory.probes
+-- how many probes all searches of its spans made
+abbrev pub all_probe_count : Mapping → ℕ
+all_probe_count mapping = mapping.memory.all_probes
 
 -- each address of an image is given what is there
 abbrev pub GivesSources : List ℕ → (ℕ → Option Source) → Type 0

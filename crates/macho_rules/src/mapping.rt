@@ -51,9 +51,9 @@ impl Mapping {
     ghost use Rattle.std.specs.Option.{option_map};
     ghost use Rattle.macho_fields.specs.Layers.{NothingBreaks};
     ghost use Rattle.macho_fields.specs.Rules.{BreaksImage};
-    ghost use Rattle.macho_fields.specs.Spans.{IsProbeCount};
+    ghost use Rattle.macho_fields.specs.Spans.{IsProbeCount, RoseBy};
     ghost use Rattle.macho_fields.specs.Universal.{slices_of, slice_bytes, IsImage, HasImage};
-    ghost use Rattle.macho_rules.specs.Mapping.{sources, segment_count, probe_count, search_count};
+    ghost use Rattle.macho_rules.specs.Mapping.{sources, segment_count, probe_count, all_probe_count};
     ghost use Rattle.macho_rules.specs.Mapped.{mapped_segments};
     ghost use Rattle.macho_rules.specs.Mapping.{GivesSources};
     ghost use Rattle.macho_rules.specs.Source.{source_of};
@@ -111,7 +111,8 @@ impl Mapping {
         ensures source { option_map source_of result ≡ sources self.old addr }
         ensures same { (address : ℕ) → sources self.new address ≡ sources self.old address }
         ensures segments { segment_count self.new ≡ segment_count self.old }
-        ensures counted { probe_count self.new ≡ search_count self.new }
+        ensures counted { RoseBy (all_probe_count self.old) (probe_count self.new)
+            (all_probe_count self.new) }
         ensures probes { IsProbeCount (segment_count self.old) (probe_count self.new) }
     {
         let found = self.memory.find(addr);
@@ -122,7 +123,7 @@ impl Mapping {
     }
 
     /// How many probes the last call of [`Mapping::source`] made, 0 before any. A probe is one
-    /// comparison of the address with the first address of a segment.
+    /// comparison of the first address of a segment with the address, as of [`Spans::probes`].
     pub fn probes(&self) -> u64
         ensures { result ≡ probe_count self.now }
     {

@@ -1,12 +1,11 @@
 //! Numbers, spans, rules and the lists of load commands and filetypes. The values are written out.
 
 ghost use Rattle.std.specs.Prelude.{◌≡◌, ◌+◌, ◌≤◌, ◌<◌, ◌^◌};
-ghost use Rattle.macho_fields.specs.Spans.{IsPlaced};
 
 use super::same;
 use macho_fields::{
-    Break, Bytes, Insert, Kind, Order, Records, Rule, Span, SpanList, Spans, Structure,
-    TableFields, Width, file_type_of, names_library, structure_of, unique_index,
+    Break, Bytes, Kind, Order, Records, Rule, Span, SpanList, Structure, TableFields, Width,
+    file_type_of, names_library, structure_of, table_end, unique_index,
 };
 use std::alloc::{AllocError, Global};
 use std::process::Abort;
@@ -84,6 +83,38 @@ fn empty_spans_share_nothing(rt: HostRuntime) {
         &(whole.shares(&whole), empty.shares(&whole)),
         &(true, false),
     );
+}
+
+/// Tables by their starts, counts and sizes of an item, and where they end.
+const TABLE_ENDS: &[(u64, u64, u64, u128)] = &[
+    (8, 3, 20, 68),
+    (8, 0, 20, 8),
+    (8, 3, 0, 8),
+    (u64::MAX, 1, 1, 0x1_0000_0000_0000_0000),
+    (
+        1,
+        u64::MAX,
+        u64::MAX,
+        0xffff_ffff_ffff_fffe_0000_0000_0000_0002,
+    ),
+    (
+        u64::MAX,
+        u64::MAX,
+        u64::MAX,
+        0xffff_ffff_ffff_ffff_0000_0000_0000_0000,
+    ),
+];
+
+#[test]
+fn the_end_of_a_table_does_not_wrap(rt: HostRuntime) {
+    for &(start, count, each, end) in TABLE_ENDS {
+        let given = table_end(start, count, each);
+        same(
+            &rt,
+            &(start, count, each, given),
+            &(start, count, each, end),
+        );
+    }
 }
 
 /// Places of the span of 4 from 8 on, and whether it holds them.
@@ -399,117 +430,6 @@ fn the_first_span_that_shares_with_an_earlier_one_is_found(rt: HostRuntime) -> R
     for &(spans, first) in OVERLAPS {
         let found = list_of(rt.alloc(), spans)?.least_overlap();
         same(&rt, &(spans, found), &(spans, first));
-    }
-    Ok(())
-}
-
-/// Inserts a span, and compares the answer.
-fn check_insert(
-    rt: &impl Abort,
-    spans: &mut Spans,
-    pair: (Span, u64),
-    insert: Insert,
-) -> Result<(), Fail>
-    requires { IsPlaced pair.0 }
-{
-    let given = spans.try_insert(pair.0, pair.1)?;
-    same(rt, &(pair, given), &(pair, insert));
-    Ok(())
-}
-
-/// Inserts spans, each with its start, its length and its tag, and compares the answers.
-fn check_inserts(
-    rt: &impl Abort,
-    spans: &mut Spans,
-    inserts: &[(u64, u64, u64, Insert)],
-) -> Result<(), Fail> {
-    for &(start, len, tag, insert) in inserts {
-        let given = span(start, len);
-        if len == 0 || given.end() > 1 << 64 {
-            return Err("a span that has no place".into());
-        }
-        check_insert(rt, spans, (given, tag), insert)?;
-    }
-    Ok(())
-}
-
-/// Spans up to the last place. The third shares places with the first two.
-const INSERTS: &[(u64, u64, u64, Insert)] = &[
-    (0, 10, 7, Insert::Added),
-    (10, 5, 8, Insert::Added),
-    (9, 2, 6, Insert::Overlap),
-    (u64::MAX, 1, 9, Insert::Added),
-];
-
-/// Places, and what is found there of these spans.
-const FINDS: &[(u64, Option<(u64, u64, u64)>)] = &[
-    (14, Some((10, 5, 8))),
-    (15, None),
-    (u64::MAX, Some((u64::MAX, 1, 9))),
-];
-
-#[test]
-fn spans_are_added_or_overlap(rt: HostRuntime) -> Result<(), Fail> {
-    let mut spans = Spans::new(rt.alloc());
-    let empty = (spans.len(), spans.find(0), spans.probes());
-    same(&rt, &empty, &(0, None, 0));
-    check_inserts(&rt, &mut spans, INSERTS)?;
-    same(&rt, &spans.len(), &3);
-    check_finds(&rt, &mut spans, FINDS);
-    Ok(())
-}
-
-/// Looks for places, and compares what is found.
-fn check_finds(rt: &impl Abort, spans: &mut Spans, finds: &[(u64, Option<(u64, u64, u64)>)]) {
-    for &(place, found) in finds {
-        let wanted = found.map(|(start, len, tag)| (span(start, len), tag));
-        same(rt, &(place, spans.find(place)), &(place, wanted));
-    }
-}
-
-/// Spans on both sides of a gap, of which three overlap one or both.
-const INSERTS_AROUND: &[(u64, u64, u64, Insert)] = &[
-    (0, 100, 1, Insert::Added),
-    (200, 1, 2, Insert::Added),
-    (50, 1, 3, Insert::Overlap),
-    (150, 100, 3, Insert::Overlap),
-    (0, u64::MAX, 3, Insert::Overlap),
-    (100, 100, 3, Insert::Added),
-];
-
-#[test]
-fn a_span_is_compared_with_those_on_both_sides(rt: HostRuntime) -> Result<(), Fail> {
-    let mut spans = Spans::new(rt.alloc());
-    check_inserts(&rt, &mut spans, INSERTS_AROUND)?;
-    check_finds(&rt, &mut spans, &[(199, Some((100, 100, 3)))]);
-    Ok(())
-}
-
-/// Looks for a place, and compares what is found. Of a thousand spans, which have ten binary digits, a
-/// search makes ten probes at most.
-fn check_find(rt: &impl Abort, spans: &mut Spans, place: u64, found: Option<(Span, u64)>) {
-    let given = (place, spans.find(place));
-    same(rt, &given, &(place, found));
-    let probes = spans.probes();
-    same(
-        rt,
-        &(place, probes, (1..=10).contains(&probes)),
-        &(place, probes, true),
-    );
-}
-
-#[test]
-fn probes_are_few(rt: HostRuntime) -> Result<(), Fail> {
-    let mut spans = Spans::new(rt.alloc());
-    for back in 0..1000 {
-        let tag = 999 - back;
-        check_insert(&rt, &mut spans, (span(3 * tag, 2), tag), Insert::Added)?;
-    }
-    same(&rt, &spans.len(), &1000);
-    for tag in 0..1000 {
-        let pair = (span(3 * tag, 2), tag);
-        check_find(&rt, &mut spans, 3 * tag, Some(pair));
-        check_find(&rt, &mut spans, 3 * tag + 2, None);
     }
     Ok(())
 }

@@ -1,16 +1,20 @@
-//! The pairs of a span and a tag. A start is compared by one function alone, which counts how often
-//! it is called, and only the search by halves calls it. The tests of one pair are counted as well.
-//! Both counts begin at 0 where a search begins.
+//! The pairs of a span and a tag. What is counted as a probe is one comparison of a held span's start
+//! with the start or place that is searched for: `starts_by`, which counts it, and which the search by
+//! halves alone calls. What is counted as a test is a look at one given pair: whether its span shares a
+//! place with a span (`shares`) or holds a place (`holding`). A test compares the pair's start as well,
+//! and is no probe: an insertion makes two at most, a look-up one. No other function lets a caller see a
+//! start.
 
+use super::count::Count;
 use crate::span::Span;
 use std::alloc::{AllocError, Global};
 
-/// Pairs of a span and its tag, with how many probes and tests were made since the counts were 0.
+/// Pairs of a span and its tag, with how many probes and tests were made.
 #[derive(Drop)]
 pub(super) struct Held {
     pairs: Vec<(Span, u64)>,
-    probes: u64,
-    tests: u64,
+    probes: Count,
+    tests: Count,
 }
 
 impl Held {
@@ -19,30 +23,33 @@ impl Held {
     ghost use Rattle.std.specs.List.{HoldsAt, insert};
     ghost use Rattle.macho_fields.specs.Scaffold.{StartBy};
     ghost use Rattle.macho_fields.specs.Span.{Holds, Shares};
-    ghost use Rattle.macho_fields.specs.Spans.{AreSorted, IsProbeCount};
+    ghost use Rattle.macho_fields.specs.Spans.{AreSorted, IsProbeCount, RoseBy};
 
     pub(super) fn new(alloc: Global) -> Held
         ensures none { result.pairs.items ≡ [] }
-        ensures probes { result.probes ≡ 0 }
+        ensures probes { (result.probes.call ≡ 0) × (result.probes.all ≡ 0) }
+        ensures tests { (result.tests.call ≡ 0) × (result.tests.all ≡ 0) }
     {
         Held {
             pairs: Vec::new(alloc),
-            probes: 0,
-            tests: 0,
+            probes: Count::new(),
+            tests: Count::new(),
         }
     }
 
     /// None, with room for so many.
     pub(super) fn with_capacity(alloc: Global, count: usize) -> Result<Held, AllocError>
         ensures none { IfOk result (λ held. held.pairs.items ≡ []) }
-        ensures probes { IfOk result (λ held. held.probes ≡ 0) }
+        ensures probes { IfOk result (λ held.
+            (held.probes.call ≡ 0) × (held.probes.all ≡ 0)) }
+        ensures tests { IfOk result (λ held. (held.tests.call ≡ 0) × (held.tests.all ≡ 0)) }
         ensures memory { OnErr result (0 < count) }
     {
         let pairs = Vec::with_capacity(alloc, count)?;
         Ok(Held {
             pairs,
-            probes: 0,
-            tests: 0,
+            probes: Count::new(),
+            tests: Count::new(),
         })
     }
 
@@ -53,22 +60,44 @@ impl Held {
         self.pairs.len()
     }
 
-    /// How many probes were made since the counts were last 0.
+    /// How many probes the last call made.
     pub(super) fn probes(&self) -> u64
-        ensures { result ≡ self.now.probes }
+        ensures { result ≡ self.now.probes.call }
     {
-        self.probes
+        self.probes.call()
     }
 
-    /// How many of the spans start at the place or before it, by halves. Both counts begin at 0.
+    /// How many tests of one pair the last call made.
+    #[cfg(test)]
+    pub(super) fn tests(&self) -> u64
+        ensures { result ≡ self.now.tests.call }
+    {
+        self.tests.call()
+    }
+
+    /// A call begins, which has made no probe and no test.
+    fn begin_call(&mut self)
+        ensures same { self.new.pairs ≡ self.old.pairs }
+        ensures probes { self.new.probes.call ≡ 0 }
+        ensures tests { self.new.tests.call ≡ 0 }
+        ensures all_probes { self.new.probes.all ≡ self.old.probes.all }
+        ensures all_tests { self.new.tests.all ≡ self.old.tests.all }
+    {
+        self.probes.begin();
+        self.tests.begin();
+    }
+
+    /// How many of the spans start at the place or before it, by halves. A call begins with it.
     pub(super) fn count_starts_by(&mut self, place: u64) -> usize
         requires { AreSorted self.old.pairs.items }
         ensures count { StartBy self.old.pairs.items place result }
         ensures same { self.new.pairs ≡ self.old.pairs }
-        ensures tests { self.new.tests ≡ 0 }
-        ensures probes { IsProbeCount (length self.old.pairs.items) self.new.probes }
+        ensures probes { IsProbeCount (length self.old.pairs.items) self.new.probes.call }
+        ensures all_probes { RoseBy self.old.probes.all self.new.probes.call self.new.probes.all }
+        ensures tests { self.new.tests.call ≡ 0 }
+        ensures all_tests { self.new.tests.all ≡ self.old.tests.all }
     {
-        self.reset_counts();
+        self.begin_call();
         let mut low = 0;
         let mut high = self.len();
         while low < high {
@@ -82,55 +111,48 @@ impl Held {
         low
     }
 
-    /// Sets the number of probes and the number of tests to 0.
-    fn reset_counts(&mut self)
-        ensures same { self.new.pairs ≡ self.old.pairs }
-        ensures probes { self.new.probes ≡ 0 }
-        ensures tests { self.new.tests ≡ 0 }
-    {
-        self.probes = 0;
-        self.tests = 0;
-    }
-
     /// Whether the span at the index starts at the place or before it. It counts as a probe.
     fn starts_by(&mut self, index: usize, place: u64) -> bool
         requires index { index < length self.old.pairs.items }
-        requires few { self.old.probes < 2 ^ 32 }
+        requires few { self.old.probes.call < 2 ^ 32 }
         ensures starts { HoldsAt (λ pair. IsTrue result ↔ (pair.0.start ≤ place))
             self.old.pairs.items index }
         ensures same { self.new.pairs ≡ self.old.pairs }
-        ensures probes { self.new.probes ≡ self.old.probes + 1 }
+        ensures probes { self.new.probes.call ≡ self.old.probes.call + 1 }
+        ensures all_probes { RoseBy self.old.probes.all 1 self.new.probes.all }
         ensures tests { self.new.tests ≡ self.old.tests }
     {
-        self.probes += 1;
+        self.probes.raise();
         self.pairs[index].0.start <= place
     }
 
     /// Whether the span at the index shares a place with `span`. It counts as a test.
     pub(super) fn shares(&mut self, index: usize, span: Span) -> bool
         requires index { index < length self.old.pairs.items }
-        requires few { self.old.tests < 2 }
+        requires few { self.old.tests.call < 2 }
         ensures shares { HoldsAt (λ pair. IsTrue result ↔ Shares pair.0 span)
             self.old.pairs.items index }
         ensures same { self.new.pairs ≡ self.old.pairs }
         ensures probes { self.new.probes ≡ self.old.probes }
-        ensures tests { self.new.tests ≡ self.old.tests + 1 }
+        ensures tests { self.new.tests.call ≡ self.old.tests.call + 1 }
+        ensures all_tests { RoseBy self.old.tests.all 1 self.new.tests.all }
     {
-        self.tests += 1;
+        self.tests.raise();
         self.pairs[index].0.shares(&span)
     }
 
     /// The pair at the index, where its span holds the place. It counts as a test.
     pub(super) fn holding(&mut self, index: usize, place: u64) -> Option<(Span, u64)>
         requires index { index < length self.old.pairs.items }
-        requires few { self.old.tests < 2 }
+        requires few { self.old.tests.call < 2 }
         ensures pair { HoldsAt (λ pair. MatchOption result (¬ Holds pair.0 place)
             (λ found. (found ≡ pair) × Holds pair.0 place)) self.old.pairs.items index }
         ensures same { self.new.pairs ≡ self.old.pairs }
         ensures probes { self.new.probes ≡ self.old.probes }
-        ensures tests { self.new.tests ≡ self.old.tests + 1 }
+        ensures tests { self.new.tests.call ≡ self.old.tests.call + 1 }
+        ensures all_tests { RoseBy self.old.tests.all 1 self.new.tests.all }
     {
-        self.tests += 1;
+        self.tests.raise();
         let pair = self.pairs[index];
         if pair.0.holds(place) {
             Some(pair)
@@ -146,6 +168,7 @@ impl Held {
             (self.new.pairs.items ≡ insert self.old.pairs.items index (span, tag)) }
         ensures err { OnErr result (self.new.pairs.items ≡ self.old.pairs.items) }
         ensures probes { self.new.probes ≡ self.old.probes }
+        ensures tests { self.new.tests ≡ self.old.tests }
     {
         self.pairs.insert(index, (span, tag))?;
         Ok(())

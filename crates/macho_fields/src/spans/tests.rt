@@ -1,0 +1,171 @@
+//! Sorted spans through the public calls: the answers, the probes, and the tests of one pair that each
+//! call made. The answers are written out.
+
+ghost use Rattle.std.specs.Prelude.{◌<◌};
+
+use super::{Insert, Spans};
+use crate::span::Span;
+use std::process::Abort;
+use std::test::Fail;
+
+/// A span that is inserted, with its tag, what becomes of it, and how many probes that takes at most.
+#[derive(Clone, Copy)]
+struct Insertion {
+    start: u64,
+    len: u64,
+    tag: u64,
+    insert: Insert,
+    most: u64,
+}
+
+/// A place that is looked for, the span that is found there, with its start, its length and its tag, and
+/// how many probes that takes at most.
+#[derive(Clone, Copy)]
+struct LookUp {
+    place: u64,
+    found: Option<(u64, u64, u64)>,
+    most: u64,
+}
+
+/// Compares what the last call counted. Where it may make a probe it makes one, and never more than two
+/// tests of one pair.
+fn check_counts(rt: &impl Abort, spans: &Spans, most: u64) {
+    let (probes, tests) = (spans.probes(), spans.held.tests());
+    assert!(rt; probes <= most, "{probes} probes, where {most} are right");
+    assert!(rt; probes >= most.min(1), "no probe");
+    assert!(rt; tests <= 2, "{tests} tests of one pair");
+}
+
+/// Inserts a span, and compares the answer and the counts.
+fn check_insert(rt: &impl Abort, spans: &mut Spans, one: &Insertion) -> Result<(), Fail> {
+    let span = Span {
+        start: one.start,
+        len: one.len,
+    };
+    if span.len == 0 || span.end() > 1 << 64 {
+        return Err("a span that has no place".into());
+    }
+    let given = spans.try_insert(span, one.tag)?;
+    assert_eq!(rt; given, one.insert, "at the span from {} on", one.start);
+    check_counts(rt, spans, one.most);
+    Ok(())
+}
+
+/// Looks for a place, and compares the answer and the counts.
+fn check_find(rt: &impl Abort, spans: &mut Spans, one: &LookUp) {
+    let given = spans.find(one.place);
+    let found = given.map(|(span, tag)| (span.start, span.len, tag));
+    assert_eq!(rt; found, one.found, "at the place {}", one.place);
+    check_counts(rt, spans, one.most);
+}
+
+/// An insertion, by the span, its tag, what becomes of it and the most probes.
+macro_rules! insertion {
+    ($start:expr, $len:expr, $tag:expr, $insert:ident, $most:expr) => {
+        Insertion {
+            start: $start,
+            len: $len,
+            tag: $tag,
+            insert: Insert::$insert,
+            most: $most,
+        }
+    };
+}
+
+/// A look-up, by the place, what is found and the most probes.
+macro_rules! look_up {
+    ($place:expr, $found:expr, $most:expr) => {
+        LookUp {
+            place: $place,
+            found: $found,
+            most: $most,
+        }
+    };
+}
+
+/// Spans up to the last place. The third shares places with the first two.
+const SORTED: &[Insertion] = &[
+    insertion!(0, 10, 7, Added, 0),
+    insertion!(10, 5, 8, Added, 1),
+    insertion!(9, 2, 6, Overlap, 2),
+    insertion!(u64::MAX, 1, 9, Added, 2),
+];
+
+/// Places, and what is found there of these spans.
+const SORTED_FINDS: &[LookUp] = &[
+    look_up!(14, Some((10, 5, 8)), 2),
+    look_up!(15, None, 2),
+    look_up!(u64::MAX, Some((u64::MAX, 1, 9)), 2),
+];
+
+#[test]
+fn sorted_spans(rt: HostRuntime) -> Result<(), Fail> {
+    let mut spans = Spans::new(rt.alloc());
+    assert_eq!(rt; (spans.len(), spans.probes()), (0, 0));
+    for insertion in SORTED {
+        check_insert(&rt, &mut spans, insertion)?;
+    }
+    assert_eq!(rt; spans.len(), 3);
+    for look_up in SORTED_FINDS {
+        check_find(&rt, &mut spans, look_up);
+    }
+    Ok(())
+}
+
+/// Spans on both sides of a gap, of which three overlap one or both.
+const AROUND: &[Insertion] = &[
+    insertion!(0, 100, 1, Added, 0),
+    insertion!(200, 1, 2, Added, 1),
+    insertion!(50, 1, 4, Overlap, 2),
+    insertion!(150, 100, 5, Overlap, 2),
+    insertion!(0, u64::MAX, 6, Overlap, 2),
+    insertion!(100, 100, 3, Added, 2),
+];
+
+#[test]
+fn spans_around_a_gap(rt: HostRuntime) -> Result<(), Fail> {
+    let mut spans = Spans::new(rt.alloc());
+    for insertion in AROUND {
+        check_insert(&rt, &mut spans, insertion)?;
+    }
+    check_find(&rt, &mut spans, &look_up!(199, Some((100, 100, 3)), 2));
+    Ok(())
+}
+
+/// Looks for the first place of one of a thousand spans, and for the place after it, which none has. A
+/// thousand has ten binary digits.
+fn check_one_of_many(rt: &impl Abort, spans: &mut Spans, tag: u64)
+    requires { tag < 1000 }
+{
+    let found = Some((3 * tag, 2, tag));
+    check_find(rt, spans, &look_up!(3 * tag, found, 10));
+    check_find(rt, spans, &look_up!(3 * tag + 2, None, 10));
+}
+
+#[test]
+fn many_spans(rt: HostRuntime) -> Result<(), Fail> {
+    let mut spans = Spans::new(rt.alloc());
+    for held in 0..1000u64 {
+        let tag = 999 - held;
+        let digits = 64 - u64::from(held.leading_zeros());
+        check_insert(&rt, &mut spans, &insertion!(3 * tag, 2, tag, Added, digits))?;
+    }
+    assert_eq!(rt; spans.len(), 1000);
+    for tag in 0..1000 {
+        check_one_of_many(&rt, &mut spans, tag);
+    }
+    for tag in [0, 500, 999] {
+        check_insert(
+            &rt,
+            &mut spans,
+            &insertion!(3 * tag + 1, 2, 1000, Overlap, 10),
+        )?;
+        check_insert(
+            &rt,
+            &mut spans,
+            &insertion!(3 * tag + 2, 1, 1001, Added, 10),
+        )?;
+    }
+    assert_eq!(rt; spans.len(), 1003);
+    Ok(())
+}
