@@ -187,12 +187,14 @@ module _ (returns : Entry → Span → Type 0) (file : List ℕ) where
     each = λ span of. more ∙ (ap₂ (λ xs x. xs ++ x ∷ []) (are.each span of) (of n entry given is returned) ∙ sym (map-range_with_len_more span 0 n n (omega arith)));
   }
 
-  module _ (n : ℕ) (spans : List Span) (all : n ≡ entry_count file) (are : AreReturned returns file n spans) (span : ℕ → Span) (of : ReturnsSpans returns file span) where
-    same_spans : spans ≡ entry_spans file span
-    same_spans = are.each span of ∙ ap (λ n. map span (range_with_len 0 n)) all
+  -- those of all entries
+  pub all_returned : (n : ℕ) (spans : List Span) → n ≡ entry_count file → AreReturned returns file n spans → (span : ℕ → Span) → ReturnsSpans returns file span
+      → spans ≡ entry_spans file span
+  all_returned n spans all are span of = are.each span of ∙ ap (λ n. map span (range_with_len 0 n)) all
 
-    pub none_sorted : ((j : ℕ) → ¬ SharesEarlier spans j) → FindsFirstSharing file span None
-    none_sorted none = subst (λ spans. (j : ℕ) → ¬ SharesEarlier spans j) same_spans none
+module _ (file : List ℕ) (span : ℕ → Span) (spans : List Span) (same : spans ≡ entry_spans file span) where
+  pub none_sorted : ((j : ℕ) → ¬ SharesEarlier spans j) → FindsFirstSharing file span None
+  none_sorted none = subst (λ spans. (j : ℕ) → ¬ SharesEarlier spans j) same none
 
-    pub first_found : (j : ℕ) (entry : Entry) → IsLeastSharing spans j → IsEntry file j entry → FindsFirstSharing file span (Some entry.place)
-    first_found j entry least is = (j, subst (λ spans. IsLeastSharing spans j) same_spans least, is.place)
+  pub first_found : (j : ℕ) (entry : Entry) → IsLeastSharing spans j → IsEntry file j entry → FindsFirstSharing file span (Some entry.place)
+  first_found j entry least is = (j, subst (λ spans. IsLeastSharing spans j) same least, is.place)

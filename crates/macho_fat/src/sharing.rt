@@ -1,11 +1,12 @@
 //! The first entry whose span shares a place with that of an earlier one.
 
-ghost use Rattle.std.specs.Prelude.{◌≡◌, ℕ, IfOk, OnErr};
+ghost use Rattle.std.specs.Prelude.{◌≡◌, ℕ, length, IfOk, OnErr};
 ghost use Rattle.macho_fields.specs.SpanOrder.{IsSharingOf};
 ghost use Rattle.macho_fields.specs.Universal.{entry_count};
 ghost use Rattle.macho_fields.specs.declared.span.Span.{Span};
 ghost use Rattle.macho_fields.specs.declared.span_order.Sharing.{Sharing};
-ghost use Rattle.macho_fat.specs.Scaffold.{ReturnsSpans, placed_spans, FindsFirstSharing};
+ghost use Rattle.macho_fat.specs.Scaffold.{ReturnsSpans, entry_spans, placed_spans};
+ghost use Rattle.macho_fat.specs.Scaffold.{FindsFirstSharing};
 
 use crate::table::{Entry, Table};
 use macho_fields::{Sharing, Span, SpanList};
@@ -44,12 +45,28 @@ fn first_sorted<F: Fn(Entry) -> Span>(
     ensures { (span : ℕ → Span) → ReturnsSpans (F.post span_of) table.now span
         → IfOk result (FindsFirstSharing table.now span) }
 {
-    let mut spans = SpanList::with_capacity(alloc, table.count() as usize)?;
-    for k in 0..table.count() {
-        spans.push(span_of(table.entry(k)))?;
-    }
+    let spans = listed_spans(alloc, table, span_of)?;
     let Some(k) = spans.least_overlap() else {
         return Ok(None);
     };
     Ok(Some(table.entry(k as u32).place))
+}
+
+/// The spans of the entries in their order, with room for no more.
+fn listed_spans<F: Fn(Entry) -> Span>(
+    alloc: Global,
+    table: &Table,
+    span_of: F,
+) -> Result<SpanList, AllocError>
+    requires { F.IsAlwaysCallable span_of }
+    ensures spans { (span : ℕ → Span) → ReturnsSpans (F.post span_of) table.now span
+        → IfOk result (λ list. list.spans ≡ entry_spans table.now span) }
+    ensures count { IfOk result (λ list. length list.spans ≡ entry_count table.now) }
+    ensures capacity { IfOk result (λ list. list.capacity ≡ entry_count table.now) }
+{
+    let mut list = SpanList::with_capacity(alloc, table.count() as usize)?;
+    for k in 0..table.count() {
+        list.push(span_of(table.entry(k)))?;
+    }
+    Ok(list)
 }

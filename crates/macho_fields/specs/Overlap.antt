@@ -3,6 +3,11 @@ use Rattle.std.specs.Prelude.{ℕ, ◌≤◌, ◌<◌, List, length, slice_index
 use Rattle.macho_fields.specs.Span.{end_of, Shares}
 use Rattle.macho_fields.specs.declared.span.Span.{Span}
 
+-- the spans of a list in order, and for how many there is room
+pub record SpanListView : Type 0 where
+  pub spans : List Span
+  pub capacity : ℕ
+
 -- the span with the index
 abbrev pub span_at : List Span → ℕ → Span
 span_at spans k = slice_index_or spans k (record { start = 0; len = 0 })

@@ -22,37 +22,53 @@ struct Numbered {
 }
 
 impl Model for SpanList {
-    ghost use Rattle.std.specs.Prelude.{List, map};
+    ghost use Rattle.std.specs.Prelude.{map};
+    ghost use Rattle.std.specs.Vec.{vec_capacity};
+    ghost use Rattle.macho_fields.specs.Overlap.{SpanListView};
     ghost use Rattle.macho_fields.specs.Scaffold.{AreNumbered};
-    ghost use Rattle.macho_fields.specs.declared.span.Span.{Span};
 
-    ghost Value = { List Span };
+    ghost Value = { SpanListView };
 
-    ghost view = { λ list. map (λ item. item.span) list.items.items };
+    ghost view = { λ list. record {
+      spans = map (λ item. item.span) list.items.items;
+      capacity = vec_capacity list.items;
+    } };
 
     ghost invariant = { λ list. AreNumbered list.items.items };
 }
 
 impl SpanList {
-    ghost use Rattle.std.specs.Prelude.{◌≡◌, [], ◌∷◌, ◌++◌, ℕ, IfOk, OnOk, OnErr, MatchOption};
+    ghost use Rattle.std.specs.Prelude.{◌≡◌, ◌+◌, ◌<◌, ◌≤◌, [], ◌∷◌, ◌++◌, ℕ, max, length};
+    ghost use Rattle.std.specs.Prelude.{IfOk, OnOk, OnErr, MatchOption};
     ghost use Rattle.macho_fields.specs.Overlap.{SharesEarlier, IsLeastSharing};
 
-    /// No spans, with room for so many.
+    /// No spans, with room for so many and no more.
     pub fn with_capacity(alloc: Global, count: usize) -> Result<SpanList, AllocError>
-        ensures { IfOk result (λ list. list ≡ []) }
+        ensures none { IfOk result (λ list. list.spans ≡ []) }
+        ensures capacity { IfOk result (λ list. list.capacity ≡ count) }
+        ensures memory { OnErr result (0 < count) }
     {
         let items = Vec::with_capacity(alloc, count)?;
         Ok(SpanList { items })
     }
 
     /// Adds a span, which may be empty, as the last one. Memory is asked for only where there is no
-    /// room left. Where it runs out, nothing has changed.
+    /// room left, and then for twice as many spans, or for four. Where it runs out, nothing has changed.
     pub fn push(&mut self, span: Span) -> Result<(), AllocError>
-        ensures ok { OnOk result (self.new ≡ self.old ++ span ∷ []) }
+        ensures ok { OnOk result (self.new.spans ≡ self.old.spans ++ span ∷ []) }
         ensures err { OnErr result (self.new ≡ self.old) }
+        ensures room { length self.old.spans < self.old.capacity
+            → self.new.capacity ≡ self.old.capacity }
+        ensures more { self.old.capacity ≤ length self.old.spans
+            → self.new.capacity ≤ length self.old.spans + max (length self.old.spans) 4 }
+        ensures memory { OnErr result (self.old.capacity ≤ length self.old.spans) }
     {
-        let index = self.items.len() as u64;
-        self.items.push(Numbered { span, index })?;
+        let index = self.items.len();
+        if index == self.items.capacity() {
+            self.items.reserve_exact(index.max(4))?;
+        }
+        let index = index as u64;
+        self.items.push_reserved(Numbered { span, index });
         Ok(())
     }
 
@@ -62,8 +78,8 @@ impl SpanList {
     /// For n spans it takes time in the order of n log n, and no memory: it sorts the spans by
     /// start, and compares neighbours.
     pub fn least_overlap(self) -> Option<u64>
-        ensures { MatchOption result ((j : ℕ) → ¬ SharesEarlier self j)
-            (IsLeastSharing self) }
+        ensures { MatchOption result ((j : ℕ) → ¬ SharesEarlier self.spans j)
+            (IsLeastSharing self.spans) }
     {
         let mut items = self.items;
         items.sort_unstable_by_key(|item| item.span.start);

@@ -1,6 +1,7 @@
 //! The rules of the segments of an image. (`mach-o/loader.h`: `segment_command_64`)
 
-ghost use Rattle.std.specs.Prelude.{◌≡◌, ◌-◌, ◌^◌, ◌↔◌, min, length, map, slice_get, IfOk, IsTrue};
+ghost use Rattle.std.specs.Prelude.{◌≡◌, ◌+◌, ◌-◌, ◌*◌, ◌^◌, ◌≤◌, ◌↔◌, min, max, length, map};
+ghost use Rattle.std.specs.Prelude.{slice_get, IfOk, IsTrue};
 ghost use Rattle.macho_fields.specs.Bytes.{bytes_of};
 ghost use Rattle.macho_fields.specs.Segment.{vmaddr, vmsize, fileoff, filesize};
 ghost use Rattle.macho_fields.specs.Segment.{PassesLastAddress, IsLongerInFile, PassesImage};
@@ -55,8 +56,9 @@ pub(crate) fn segment_overlap(alloc: Global, image: &Image, survey: &Survey) -> 
     }
 }
 
-/// The same for `count` mapped segments that are in no order: they are sorted.
+/// The same for the `count` mapped segments, which are in no order: they are sorted.
 fn sorted_overlap(alloc: Global, image: &Image, count: usize) -> Result<(), Refusal>
+    requires count { count ≡ min (length (mapped_segments image.now)) (2 ^ 64 - 1) }
     requires kept { KeptBefore image.now Rule.SegmentOverlap }
     requires unordered { IsUnordered image.now }
     ensures { RefusesUpTo image.now Rule.SegmentOverlap result }
@@ -83,20 +85,22 @@ pub(crate) fn mapped_count(image: &Image) -> usize
     count
 }
 
-/// The addresses of each mapped segment, in the order of the commands. The memory for `count` of them
-/// is taken at once.
+/// The addresses of each of the `count` mapped segments, in the order of the commands. The memory for
+/// them is taken at once.
 fn mapped_memory(alloc: Global, image: &Image, count: usize) -> Result<SpanList, AllocError>
-    ensures { IfOk result (λ spans.
-        spans ≡ map (memory_at image.now) (mapped_segments image.now)) }
+    requires { count ≡ min (length (mapped_segments image.now)) (2 ^ 64 - 1) }
+    ensures memory { IfOk result (λ list.
+        list.spans ≡ map (memory_at image.now) (mapped_segments image.now)) }
+    ensures room { IfOk result (λ list. list.capacity ≤ max count (2 * length list.spans + 4)) }
 {
-    let mut spans = SpanList::with_capacity(alloc, count)?;
+    let mut list = SpanList::with_capacity(alloc, count)?;
     for segment in image.segments() {
         if segment.vmsize() == 0 {
             continue;
         }
-        spans.push(memory(&segment))?;
+        list.push(memory(&segment))?;
     }
-    Ok(spans)
+    Ok(list)
 }
 
 /// The place of the mapped segment with this index among the mapped ones, counted from 0.

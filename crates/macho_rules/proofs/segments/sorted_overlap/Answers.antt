@@ -15,13 +15,13 @@ pub returns-in_default : goal.returns-in_default
 returns-in_default c =
     let image = c.args.image.now in
     let opened = keeps_opened image rule.SegmentOverlap (lit≤ tt) c.requires.kept in
-    judged_kept image rule.SegmentOverlap (lit≤ tt) c.requires.kept (none_overlapping image opened c.in_ok-spans.spans c.in_ok-spans.ensures c.in_default.ensures)
+    judged_kept image rule.SegmentOverlap (lit≤ tt) c.requires.kept (none_overlapping image opened c.in_ok-spans.spans.spans c.in_ok-spans.ensures.memory c.in_default.ensures)
 
 pub unwrap-place-requires : goal.unwrap-place-requires
 unwrap-place-requires c =
     let image = c.args.image.now in
     let opened = keeps_opened image rule.SegmentOverlap (lit≤ tt) c.requires.kept in
-    let less = overlapping_index image opened c.in-Some.index c.in_ok-spans.spans c.in_ok-spans.ensures c.in-Some.ensures in
+    let less = overlapping_index image opened c.in-Some.index c.in_ok-spans.spans.spans c.in_ok-spans.ensures.memory c.in-Some.ensures in
     subst IsSome (sym (c.mapped_place.ensures ∙ slice_get-get_or (mapped_segments image) c.in-Some.index 0 less)) refl
 
 pub returns : goal.returns
@@ -29,5 +29,5 @@ returns c =
     let image = c.args.image.now in
     let opened = keeps_opened image rule.SegmentOverlap (lit≤ tt) c.requires.kept in
     let place : slice_get (mapped_segments image) c.in-Some.index ≡ Some c.unwrap-place.result = sym c.mapped_place.ensures ∙ c.unwrap-place.ensures in
-    let found = least_overlapping image opened c.in-Some.index c.unwrap-place.result place c.in_ok-spans.spans c.in_ok-spans.ensures c.in-Some.ensures in
+    let found = least_overlapping image opened c.in-Some.index c.unwrap-place.result place c.in_ok-spans.spans.spans c.in_ok-spans.ensures.memory c.in-Some.ensures in
     judged_broken image rule.SegmentOverlap (lit≤ tt) c.requires.kept c.at.result c.unwrap-place.result c.at.ensures.rule c.at.ensures.place found.0 found.1

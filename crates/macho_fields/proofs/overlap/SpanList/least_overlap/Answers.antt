@@ -1,7 +1,7 @@
 use Rattle.std.proofs.Common.{◌≡◌, ℕ, ◌+◌, length, rules, sym, ◌∙◌, subst}
 use Rattle.std.proofs.lemmas.Bool.{both_ways}
 use Rattle.std.proofs.lemmas.List.Sorted.{IsNonDecreasingBy-from_sort_by_key}
-use Rattle.macho_fields.specs.Overlap.{SharesEarlier, IsLeastSharing}
+use Rattle.macho_fields.specs.Overlap.{SharesEarlier, IsLeastSharing, SpanListView}
 use Rattle.macho_fields.specs.Scaffold.{PairBelow}
 use Rattle.macho_fields.proofs.Overlaps.{least_from_pairs, none_from_pairs}
 use Rattle.macho_fields.proofs.overlap.SpanList.least_overlap.Goals as goal
@@ -19,7 +19,7 @@ returns-then-shares_below c =
     let count = c.least_sharing.result in
     let share : PairBelow items (length items) (count + 1) = rw (← c.deref-then-shares_below.ensures.value) c.least_sharing.ensures.share in
     let apart : ¬ PairBelow items (length items) count = rw (← c.deref-then-shares_below.ensures.value) c.least_sharing.ensures.apart in
-    subst (λ spans. IsLeastSharing spans count) c.self.view_is (least_from_pairs c.self.inside.items.items items c.self.invariant c.sort_unstable_by_key.ensures.permutation count share apart)
+    subst (λ (view : SpanListView). IsLeastSharing view.spans count) c.self.view_is (least_from_pairs c.self.inside.items.items items c.self.invariant c.sort_unstable_by_key.ensures.permutation count share apart)
 
 pub returns : goal.returns
 returns c =
@@ -29,4 +29,4 @@ returns c =
     λ share.
     let here = subst (λ n. PairBelow c.deref.result.now (length c.deref.result.now) n) all (rw c.deref.ensures.value share) in
     both_ways c.shares_below.result c.if-shares_below.false (c.shares_below.ensures.1 here) in
-    subst (λ spans. (j : ℕ) → ¬ SharesEarlier spans j) c.self.view_is (none_from_pairs c.self.inside.items.items items c.self.invariant c.sort_unstable_by_key.ensures.permutation none)
+    subst (λ (view : SpanListView). (j : ℕ) → ¬ SharesEarlier view.spans j) c.self.view_is (none_from_pairs c.self.inside.items.items items c.self.invariant c.sort_unstable_by_key.ensures.permutation none)
