@@ -1,6 +1,6 @@
 //! The first entry whose span shares a place with that of an earlier one.
 
-ghost use Rattle.std.specs.Prelude.{◌≡◌, ℕ, length, IfOk, OnErr};
+ghost use Rattle.std.specs.Prelude.{◌≡◌, ◌<◌, ◌^◌, ℕ, length, IfOk, OnErr};
 ghost use Rattle.macho_fields.specs.SpanOrder.{IsSharingOf};
 ghost use Rattle.macho_fields.specs.Universal.{entry_count};
 ghost use Rattle.macho_fields.specs.declared.span.Span.{Span};
@@ -62,6 +62,7 @@ fn listed_spans<F: Fn(Entry) -> Span>(
     ensures spans { (span : ℕ → Span) → ReturnsSpans (F.post span_of) table.now span
         → IfOk result (λ list. list.spans ≡ entry_spans table.now span) }
     ensures count { IfOk result (λ list. length list.spans ≡ entry_count table.now) }
+    ensures few { IfOk result (λ list. length list.spans < 2 ^ 32) }
     ensures capacity { IfOk result (λ list. list.capacity ≡ entry_count table.now) }
 {
     let mut list = SpanList::with_capacity(alloc, table.count() as usize)?;

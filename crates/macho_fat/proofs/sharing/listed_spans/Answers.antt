@@ -5,15 +5,15 @@ use Rattle.macho_fat.proofs.sharing.listed_spans.Goals as goal
 
 pub loop-k-init : goal.loop-k-init
 loop-k-init g c = (
-    none_returned (goal.F-post g c.args.span_of) c.args.table.now c.in_ok-list.list.spans c.in_ok-list.ensures.none,
-    c.in_ok-list.ensures.capacity ∙ omega (arith, c.count-list.ensures.count),
-  )
+  none_returned (goal.F-post g c.args.span_of) c.args.table.now c.in_ok-list.list.spans c.in_ok-list.ensures.none,
+  c.in_ok-list.ensures.capacity ∙ omega (arith, c.count.ensures.count),
+)
 
 pub loop-k-preserved : goal.loop-k-preserved
 loop-k-preserved g c =
     let (are, room) = c.loop-k.invariant in (
       returned_more (goal.F-post g c.args.span_of) c.args.table.now c.loop-k.k c.loop-k.list.spans c.push.new.self.spans c.entry.result c.span_of.result are
-      c.entry.ensures c.span_of.ensures c.in_ok-push.ensures.ok,
+          c.entry.ensures c.span_of.ensures c.in_ok-push.ensures.ok,
       c.push.ensures.room (omega (arith, are.count, room)) ∙ room,
     )
 
