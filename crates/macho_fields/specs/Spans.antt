@@ -4,10 +4,12 @@ use Rattle.std.specs.Int.Digits.{digits_of}
 use Rattle.macho_fields.specs.Span.{end_of, Holds, Shares}
 use Rattle.macho_fields.specs.declared.span.Span.{Span}
 
--- The pairs of a span and its tag in order, how many probes the last call made, and how many tests of
--- one pair. All calls made so many probes and so many tests, which are counted on and never set.
+-- The pairs of a span and its tag in order, for how many there is room, how many probes the last call
+-- made, and how many tests of one pair. All calls made so many probes and so many tests, which are
+-- counted on and never set.
 pub record SpansView : Type 0 where
   pub pairs : List (Span × ℕ)
+  pub capacity : ℕ
   pub probes : ℕ
   pub tests : ℕ
   pub all_probes : ℕ

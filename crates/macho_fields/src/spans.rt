@@ -31,12 +31,14 @@ pub struct Spans {
 }
 
 impl Model for Spans {
+    ghost use Rattle.std.specs.Vec.{vec_capacity};
     ghost use Rattle.macho_fields.specs.Spans.{SpansView, AreSorted};
 
     ghost Value = { SpansView };
 
     ghost view = { λ spans. record {
       pairs = spans.held.pairs.items;
+      capacity = vec_capacity spans.held.pairs;
       probes = spans.held.probes.call;
       tests = spans.held.tests.call;
       all_probes = spans.held.probes.all;
@@ -66,9 +68,10 @@ impl Spans {
         }
     }
 
-    /// No spans, with room for so many. It takes no memory for none.
+    /// No spans, with room for so many and no more. It takes no memory for none.
     pub fn with_capacity(alloc: Global, count: usize) -> Result<Spans, AllocError>
         ensures none { IfOk result (λ spans. spans.pairs ≡ []) }
+        ensures capacity { IfOk result (λ spans. spans.capacity ≡ count) }
         ensures probes { IfOk result (λ spans. spans.probes ≡ 0) }
         ensures all_probes { IfOk result (λ spans. spans.all_probes ≡ 0) }
         ensures memory { OnErr result (0 < count) }

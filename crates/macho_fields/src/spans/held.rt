@@ -21,6 +21,7 @@ impl Held {
     ghost use Rattle.std.specs.Prelude.{◌≡◌, ◌↔◌, ◌+◌, ◌≤◌, ◌<◌, ◌^◌, [], length};
     ghost use Rattle.std.specs.Prelude.{IsTrue, MatchOption, IfOk, OnOk, OnErr};
     ghost use Rattle.std.specs.List.{HoldsAt, insert};
+    ghost use Rattle.std.specs.Vec.{vec_capacity};
     ghost use Rattle.macho_fields.specs.Scaffold.{StartBy};
     ghost use Rattle.macho_fields.specs.Span.{Holds, Shares};
     ghost use Rattle.macho_fields.specs.Spans.{AreSorted, IsProbeCount, RoseBy};
@@ -37,9 +38,10 @@ impl Held {
         }
     }
 
-    /// None, with room for so many.
+    /// None, with room for so many and no more.
     pub(super) fn with_capacity(alloc: Global, count: usize) -> Result<Held, AllocError>
         ensures none { IfOk result (λ held. held.pairs.items ≡ []) }
+        ensures capacity { IfOk result (λ held. vec_capacity held.pairs ≡ count) }
         ensures probes { IfOk result (λ held.
             (held.probes.call ≡ 0) × (held.probes.all ≡ 0)) }
         ensures tests { IfOk result (λ held. (held.tests.call ≡ 0) × (held.tests.all ≡ 0)) }
