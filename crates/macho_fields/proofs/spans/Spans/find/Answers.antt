@@ -1,10 +1,14 @@
-use Rattle.std.proofs.Common.{ap, arith}
+use Rattle.std.proofs.Common.{◌≡◌, ap, subst, rules, arith}
+use Rattle.macho_fields.specs.Scaffold.{StartBy}
 use Rattle.macho_fields.specs.Spans.{SpansView}
 use Rattle.macho_fields.proofs.SortedSpans.{found_before}
 use Rattle.macho_fields.proofs.spans.Spans.find.Goals as goal
 
 pub returns-clause-found : goal.returns-clause-found
 returns-clause-found c =
-    let same = c.count_starts_by-next.ensures.same in
-    rw (← ap (λ (view : SpansView). view.pairs) c.self.view_is) (found_before c.self.inside.held.pairs.items c.self.invariant c.args.place c.count_starts_by-next.result
-    c.count_starts_by-next.ensures.count c.holding.result c.in_ok-before.before (omega (arith, c.in_ok-before.ensures)) (λ d. rw same at (c.holding.ensures.pair d)))
+    let held = c.self.inside.held in
+    let same : c.count_starts_by-next.new.self.pairs ≡ held.pairs = search rules in
+    let count : StartBy held.pairs.items c.args.place c.count_starts_by-next.result = search rules in
+    rw (← ap (λ (view : SpansView). view.pairs) c.self.view_is)
+    (found_before held.pairs.items c.self.invariant c.args.place c.count_starts_by-next.result count c.holding.result c.in_ok-before.before (omega (arith, c.in_ok-before.ensures))
+    (λ d. rw same at (c.holding.ensures.pair d)))
