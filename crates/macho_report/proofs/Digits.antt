@@ -1,10 +1,14 @@
 -- A number's digits, one at a time from the last.
-use Rattle.std.proofs.Common.{◌≡◌, ℕ, ◌+◌, ◌-◌, ◌*◌, ◌/◌, ◌%◌, ◌^◌, ◌<◌, ◌≤◌, ◌==◌, zero, suc, false, List, [], ◌∷◌, ◌++◌, length, take, drop, arith, refl, ap, ◌∙◌, sym, inl, inr, append_assoc, append-nil}
-use Rattle.std.proofs.Math.Nat.{div-eq_of_lt, div-lt_iff_lt-mul, mod-eq_of_lt, pow-suc, pow-zero, pow-le-pow_left}
-use Rattle.std.proofs.lemmas.Bool.{cases_Bool, cases_eq}
+use Rattle.std.proofs.Common.{◌≡◌, ℕ, ◌+◌, ◌-◌, ◌*◌, ◌/◌, ◌%◌, ◌^◌, ◌<◌, ◌≤◌, ◌==◌, zero, suc, false, true, codes, get_or, subst, List, [], ◌∷◌, ◌++◌, length, take, drop, arith, refl, ap, ◌∙◌, sym, inl, inr, append_assoc, append-nil}
+use Rattle.std.proofs.Math.Arith.{mod-mul}
+use Rattle.std.proofs.lemmas.Nat.{div-mul-add, mod-mul-add}
+use Rattle.std.proofs.Math.Nat.{le-div_iff_mul-le, div-div-eq-div-mul, mod-lt, div-eq_of_lt, div-lt_iff_lt-mul, mod-eq_of_lt, pow-suc, pow-zero, pow-le-pow_left}
+use Rattle.std.proofs.lemmas.Bool.{agree_below_at, cases_Bool, cases_eq}
+use Rattle.std.proofs.Math.Seq.{drop-append_seam}
+use borrow.Rule.Slice.PartMut.{put_mid}
 use Rattle.std.proofs.lemmas.Grind.{common_steps}
-use Rattle.std.proofs.lemmas.List.{length-drop, drop_all}
-use Rattle.std.specs.Prelude.{slice_set}
+use Rattle.std.proofs.lemmas.List.{length-append, length-drop}
+use Rattle.std.specs.Prelude.{◌⊎◌, slice_set}
 use Rattle.std.specs.Fmt.{digits, digits_onto, digit_glyph}
 
 -- the digits of n, at most so many, before those in `after`
@@ -37,37 +41,67 @@ pub next_digit : (k i base n : ℕ) (after : List ℕ) → k ≡ suc i → 0 < n
 unfolding digits_before
 next_digit k i base n after e h = rw e (grind arith)
 
-digit_put : (k i digit : ℕ) (digits : List ℕ) → k ≡ i + 1 → i < length digits → drop i (slice_set digits i digit) ≡ digit ∷ drop k digits
-digit_put k i digit digits e h = grind (arith, common_steps)
+-- What a loop has put of a number's digits: `whole` is all of them before what stood in the array, `after` are those that were put
+-- from the place `start` on, and n is what is left of the number.
+pub record IsLeft (base start n : ℕ) (after whole : List ℕ) : Type 0 where
+  pub some : (0 < n) ⊎ (start ≡ 20) → whole ≡ digits_before (64 - (20 - start)) base n after
+  pub none : n ≡ 0 → start < 20 → whole ≡ after
 
--- a turn of the loop, with digits left
-pub digits_put : (j m k i base n digit : ℕ) (digits all : List ℕ) → j ≡ suc m → k ≡ i + 1 → i < length digits → 0 < n / base → digit ≡ digit_glyph false (n % base)
-    → all ≡ digits_before j base n (drop k digits) → all ≡ digits_before m base (n / base) (drop i (slice_set digits i digit))
-digits_put j m k i base n digit digits all fewer e h more is before =
-    before ∙ next_digit j m base n (drop k digits) fewer more ∙ ap (digits_before m base (n / base)) (ap (λ d. d ∷ drop k digits) (sym is) ∙ sym (digit_put k i digit digits e h))
+-- before the first digit is put
+pub digits_begin : (base n : ℕ) (after : List ℕ) → IsLeft base 20 n after (digits base false n ++ after)
+digits_begin base n after = record {
+  some = λ _. digits_are (64 - (20 - 20)) base n after refl;
+  none = λ _ less. absurd (omega arith);
+}
 
--- the last turn of the loop
-pub all_put : (j m k i base n digit : ℕ) (digits all : List ℕ) → j ≡ suc m → k ≡ i + 1 → i < length digits → n / base ≡ 0 → digit ≡ digit_glyph false (n % base)
-    → all ≡ digits_before j base n (drop k digits) → drop i (slice_set digits i digit) ≡ all
-all_put j m k i base n digit digits all fewer e h none is before =
-    digit_put k i digit digits e h ∙ ap (λ d. d ∷ drop k digits) is ∙ sym (before ∙ last_digit j m base n (drop k digits) fewer none)
+-- the last two digits of a number
+high_digit : (base n : ℕ) → 0 < base → n % (base * base) / base ≡ n / base % base
+high_digit base n some = rw (mod-mul n some some) (div-mul-add (n / base % base) base (n % base) (mod-lt n some))
+
+low_digit : (base n : ℕ) → 0 < base → n % (base * base) % base ≡ n % base
+low_digit base n some = rw (mod-mul n some some) (mod-mul-add (n / base % base) base (n % base) (mod-lt n some))
+
+-- a turn of the loop, which puts two digits
+pub two_put : (base start n : ℕ) (after whole : List ℕ) → 0 < base → 0 < n → 0 < n / base → 2 ≤ start → start ≤ 20 → IsLeft base start n after whole
+    → IsLeft base (start - 2) (n / (base * base)) (digit_glyph false (n % (base * base) / base) ∷ digit_glyph false (n % (base * base) % base) ∷ after) whole
+two_put base start n after whole base_is some more two most left =
+    let first : 64 - (20 - start) ≡ suc (suc (64 - (20 - (start - 2)))) = omega arith in
+    let second : suc (64 - (20 - (start - 2))) ≡ suc (64 - (20 - (start - 2))) = refl in
+    let last = left.some (inl some) ∙ next_digit _ (suc (64 - (20 - (start - 2)))) base n after first more in
+    rw (high_digit base n base_is, low_digit base n base_is, sym (div-div-eq-div-mul n base base)) (record {
+      some = λ which. elim which [
+        | inl rest ↦ last ∙ next_digit _ (64 - (20 - (start - 2))) base (n / base) (digit_glyph false (n % base) ∷ after) second rest
+        | inr all ↦ absurd (omega arith)
+      ];
+      none = λ zero_left _. last ∙ last_digit _ (64 - (20 - (start - 2))) base (n / base) (digit_glyph false (n % base) ∷ after) second zero_left;
+    })
+
+-- the last turn, which puts one digit
+pub one_put : (base start n : ℕ) (after whole : List ℕ) → n < base → 0 < start → start ≤ 20 → ((0 < n) ⊎ (start ≡ 20)) → IsLeft base start n after whole → whole ≡ digit_glyph false n ∷ after
+one_put base start n after whole below some most which left =
+    let first : 64 - (20 - start) ≡ suc (63 - (20 - start)) = omega arith in
+    left.some which ∙ last_digit _ (63 - (20 - start)) base n after first (div-eq_of_lt below) ∙ ap (λ v. digit_glyph false v ∷ after) (mod-eq_of_lt below)
+
+-- digits at the end of what was put
+pub two_set : (start size : ℕ) (places pair : List ℕ) → size ≡ 2 → 2 ≤ start → start ≤ length places
+    → drop (start - 2) (put_mid (start - 2) size places pair) ≡ pair ++ drop start places
+two_set start size places pair e two within =
+    let front : length (take (start - 2) places) ≡ start - 2 = grind (arith, common_steps) in
+    let end : drop size (drop (start - 2) places) ≡ drop start places = grind (arith, common_steps) in
+    subst (λ m. drop m (put_mid (start - 2) size places pair) ≡ pair ++ drop start places) front
+    (drop-append_seam (take (start - 2) places) (pair ++ drop size (drop (start - 2) places)) ∙ ap (λ l. pair ++ l) end)
+
+pub one_set : (start digit : ℕ) (places : List ℕ) → 0 < start → start ≤ length places → drop (start - 1) (slice_set places (start - 1) digit) ≡ digit ∷ drop start places
+one_set start digit places some within = grind (arith, common_steps)
+
+-- how long the digits are
+pub long : (start : ℕ) (digits places before : List ℕ) → length places ≡ 40 → length before ≡ 40 → start ≤ 20 → drop start places ≡ digits ++ drop 20 before → start + length digits ≡ 20
+long start digits places before e f within is = omega (arith, simp (length-drop, length-append) at (ap length is))
 
 -- a number below the base has one digit
 pub one_digit : (base n : ℕ) → n < base → digits base false n ≡ digit_glyph false n ∷ []
 one_digit base n small =
     sym (append-nil (digits base false n)) ∙ digits_are 64 base n [] refl ∙ last_digit 64 63 base n [] refl (div-eq_of_lt small) ∙ ap (λ v. digit_glyph false v ∷ []) (mod-eq_of_lt small)
-
-pub digit_last : (k digit : ℕ) (places : List ℕ) → k < length places → take (k + 1) (slice_set places k digit) ≡ take k places ++ (digit ∷ [])
-digit_last k digit places h = grind (arith, common_steps)
-
--- how long the digits at the end of an array are
-pub long : (start size : ℕ) (digits places : List ℕ) → length places ≡ size → start ≤ size → drop start places ≡ digits → start + length digits ≡ size
-long start size digits places e within is = omega (arith, simp length-drop at (ap length is))
-
--- before the first digit is put
-pub digits_begin : (base n : ℕ) (places : List ℕ) → length places ≡ 20 → digits base false n ≡ digits_before (64 - (20 - 20)) base n (drop 20 places)
-digits_begin base n places e =
-    rw (drop_all 20 places (omega arith)) (sym (append-nil (digits base false n)) ∙ digits_are (64 - (20 - 20)) base n [] refl)
 
 -- a number of 64 bits fits in 20 places
 pub fits_array : (base n : ℕ) → 10 ≤ base → n < 2 ^ 64 → n < base ^ 20
@@ -109,3 +143,35 @@ fits_digits (suc most) k base n after some one fits = elim (cases_eq (n / base) 
 pub short : (base n k : ℕ) → 0 < base → 0 < k → n < base ^ k → length (digits base false n) ≤ k
 unfolding digits digits_before
 short base n k some one fits = omega (arith, fits_digits 64 k base n [] some one fits)
+
+same_number : (a b : ℕ) → (a == b) ≡ true → a ≡ b
+same_number a b h = grind arith
+
+pair_is : (a b x y : ℕ) → a ≡ x → b ≡ y → a ∷ b ∷ [] ≡ x ∷ y ∷ []
+pair_is a b x y e f = rw (e, f) refl
+
+-- the two digits of each number below 100, one after the other
+unfoldable pub decimal_pairs : List ℕ
+decimal_pairs = codes "00010203040506070809101112131415161718192021222324252627282930313233343536373839404142434445464748495051525354555657585960616263646566676869707172737475767778798081828384858687888990919293949596979899"
+
+pub decimal_pair : (v : ℕ) → v < 100 → get_or decimal_pairs (2 * v) 0 ∷ get_or decimal_pairs (2 * v + 1) 0 ∷ [] ≡ digit_glyph false (v / 10) ∷ digit_glyph false (v % 10) ∷ []
+unfolding decimal_pairs
+decimal_pair v h =
+    let high : get_or decimal_pairs (2 * v) 0 ≡ digit_glyph false (v / 10) =
+    same_number _ _ (agree_below_at (λ k. get_or decimal_pairs (2 * k) 0 == digit_glyph false (k / 10)) (λ _. true) 100 v refl h) in
+    let low : get_or decimal_pairs (2 * v + 1) 0 ≡ digit_glyph false (v % 10) =
+    same_number _ _ (agree_below_at (λ k. get_or decimal_pairs (2 * k + 1) 0 == digit_glyph false (k % 10)) (λ _. true) 100 v refl h) in
+    pair_is _ _ _ _ high low
+
+-- two digits are left of a number that is no digit
+pub two_left : (base start n : ℕ) → 10 ≤ base → base ≤ n → n < base ^ start → (2 ≤ start) × (0 < n / base) × (n / (base * base) < base ^ (start - 2))
+two_left base start n low more fits =
+    let base_is : 0 < base = omega arith in
+    let some : 0 < n = omega arith in
+    let one : 0 < start = place_left start base n fits some in
+    let first : start ≡ (start - 1) + 1 = omega arith in
+    let rest : 0 < n / base = (le-div_iff_mul-le {k = base} {x = 1} {y = n} base_is).1 (omega arith) in
+    let fewer : n / base < base ^ (start - 1) = less_left start (start - 1) base n first base_is fits in
+    let two : 0 < start - 1 = place_left (start - 1) base (n / base) fewer rest in
+    let second : start - 1 ≡ (start - 2) + 1 = omega arith in
+    (omega arith, rest, rw (sym (div-div-eq-div-mul n base base)) (less_left (start - 1) (start - 2) base (n / base) second base_is fewer))

@@ -1,6 +1,6 @@
 pub mod StreamLemmas
 pub mod Digits
-pub mod Lines
+pub mod LineTexts
 pub mod Holding
 pub mod Puts
 pub mod Texts

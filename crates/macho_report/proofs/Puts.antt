@@ -1,7 +1,19 @@
 -- Texts that are put into an array one after the other.
-use Rattle.std.proofs.Common.{◌≡◌, List, ℕ, [], ◌∷◌, ◌++◌, ◌+◌, ◌<◌, ◌≤◌, length, map, drop, get_or, refl, sym, ap, ◌∙◌, append_assoc, append-nil}
-use Rattle.std.proofs.lemmas.List.{drop_more, drop_all}
+use Rattle.std.proofs.Common.{◌≡◌, List, ℕ, [], ◌∷◌, ◌++◌, ◌+◌, ◌<◌, ◌≤◌, codes, length, map, take, drop, get_or, arith, refl, sym, subst, ap, ◌∙◌, append_assoc, append-nil}
+use Rattle.std.proofs.lemmas.Grind.{common_steps}
+use Rattle.std.proofs.lemmas.List.{drop_more, drop_all, take-append-le}
+use Rattle.std.proofs.Math.Seq.{take-append-add}
+use borrow.Rule.Slice.PartMut.{put_mid, post_of}
 use Rattle.macho_report.specs.Stream.{joined}
+
+pub joined_append : (first rest : List (List ℕ)) → joined (first ++ rest) ≡ joined first ++ joined rest
+unfolding joined
+joined_append [] rest = refl
+joined_append (text ∷ texts) rest = ap (λ l. text ++ l) (joined_append texts rest) ∙ sym (append_assoc text (joined texts) (joined rest))
+
+-- a line that began with no bytes
+pub from_start : (start after : List ℕ) (texts : List (List ℕ)) → start ≡ [] → after ≡ start ++ joined texts → after ≡ joined texts
+from_start start after texts none is = is ∙ ap (λ l. l ++ joined texts) none
 
 -- texts of which the first was put first
 pub put_next : (before middle after text : List ℕ) (texts : List (List ℕ)) → middle ≡ before ++ text → after ≡ middle ++ joined texts
@@ -14,6 +26,11 @@ pub put_two : (before middle after text second : List ℕ) (texts : List (List �
     → after ≡ before ++ joined (text ∷ second ∷ texts)
 put_two before middle after text second texts first rest =
     put_next before (before ++ text) after text (second ∷ texts) refl (put_next (before ++ text) middle after second texts first rest)
+
+-- texts of which the first were put first
+pub put_many : (before middle after : List ℕ) (first rest : List (List ℕ)) → middle ≡ before ++ joined first → after ≡ middle ++ joined rest
+    → after ≡ before ++ joined (first ++ rest)
+put_many before middle after first rest a b = b ∙ ap (λ l. l ++ joined rest) a ∙ append_assoc before (joined first) (joined rest) ∙ ap (λ l. before ++ l) (sym (joined_append first rest))
 
 -- no text is left
 pub put_last : (after : List ℕ) → after ≡ after ++ joined []
@@ -33,3 +50,15 @@ module _ (f : ℕ → List ℕ) (whole before : List ℕ) (items : List ℕ) (i 
   pub put_items_end : length items ≤ i → before ++ joined (map f (drop i items)) ≡ whole → before ≡ whole
   unfolding joined
   put_items_end h left = sym (append-nil before) ∙ ap (λ xs. before ++ joined (map f xs)) (sym (drop_all i items h)) ∙ left
+
+-- the first of some bytes, which are all copied over those after a place
+pub front_put : (n k size : ℕ) (places bytes copied : List ℕ) → n + length bytes ≤ length places → k ≤ length bytes → copied ≡ bytes
+    → take (n + k) (put_mid n size places copied) ≡ take n places ++ take k bytes
+front_put n k size places bytes copied room h is =
+    let front : length (take n places) ≡ n = grind (arith, common_steps) in
+    rw is (subst (λ m. take (m + k) (put_mid n size places bytes) ≡ take n places ++ take k bytes) front
+    (take-append-add (take n places) (bytes ++ post_of n size places) k ∙ ap (λ l. take n places ++ l) (take-append-le k bytes (post_of n size places) h)))
+
+-- the line feed is all that is left
+pub ended : (line : List ℕ) → line ++ codes "\n" ≡ line ++ joined (codes "\n" ∷ [])
+ended line = put_next line (line ++ codes "\n") (line ++ codes "\n") (codes "\n") [] refl (put_last (line ++ codes "\n"))

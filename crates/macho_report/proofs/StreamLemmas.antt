@@ -7,7 +7,7 @@ use Rattle.std.proofs.Math.Seq.{take-add, take-append-add, take-append_seam}
 use Rattle.std.proofs.KnownBytes.{Appends-nil, Appends-trans}
 use Rattle.std.specs.Io.KnownBytes.{Keeps}
 use Rattle.macho_report.specs.Stream.{Wrote, WrotePrefix, Writes, joined}
-use Rattle.macho_report.specs.Parts.{Writing}
+use Rattle.macho_report.specs.Held.{Writing}
 
 pub wrote_nothing : (a : Option (List ℕ)) → Wrote a a []
 wrote_nothing a = record { appended = Appends-nil a }

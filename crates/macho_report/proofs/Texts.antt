@@ -1,11 +1,13 @@
 -- The texts of names.
 use Rattle.std.proofs.Common.{◌≡◌, ℕ, ◌-◌, ◌<◌, ◌≤◌, zero, suc, List, [], ◌∷◌, ◌++◌, length}
-use Rattle.std.proofs.Common.{map, take, drop, get_or, false, arith, refl, ap, IsTrue}
+use Rattle.std.proofs.Common.{map, take, drop, get_or, false, arith, refl, sym, ap, ◌∙◌, append-nil, IsTrue}
 use Rattle.std.specs.Prelude.{codes}
 use Rattle.macho_report.specs.Stream.{joined}
 use Rattle.macho_report.specs.Number.{byte_hex}
-use Rattle.macho_report.specs.Name.{is_plain, escaped}
+use Rattle.macho_report.specs.Name.{is_plain, escaped, quoted}
+use Rattle.std.proofs.lemmas.List.{take_all, drop_all}
 use Rattle.macho_report.proofs.StreamLemmas.{rest_is}
+use Rattle.macho_report.proofs.Puts.{put_next, put_last}
 
 escaped_plain : (byte : ℕ) → IsTrue (is_plain byte) → escaped byte ≡ byte ∷ []
 escaped_plain byte plain = grind arith
@@ -29,3 +31,16 @@ escaped_run (suc n) (byte ∷ bytes) h plain =
 pub escaped_front : (n : ℕ) (bytes : List ℕ) → n ≤ length bytes → ((k : ℕ) → k < n → IsTrue (is_plain (get_or bytes k 0)))
     → joined (map escaped bytes) ≡ take n bytes ++ joined (map escaped (take (length bytes - n) (drop n bytes)))
 escaped_front n bytes h plain = rw (rest_is (length bytes) n bytes refl) (escaped_run n bytes h plain)
+
+all_plain : (name : List ℕ) → ((k : ℕ) → k < length name → IsTrue (is_plain (get_or name k 0))) → joined (map escaped name) ≡ name
+unfolding joined
+all_plain name plain =
+    escaped_run (length name) name (omega arith) plain ∙ rw (take_all (length name) name (omega arith), drop_all (length name) name (omega arith)) (append-nil name)
+
+-- a name of plain bytes, in quotes
+pub plain_quoted : (before first second third name : List ℕ) → ((k : ℕ) → k < length name → IsTrue (is_plain (get_or name k 0)))
+    → first ≡ before ++ codes "\"" → second ≡ first ++ name → third ≡ second ++ codes "\"" → third ≡ before ++ quoted name
+plain_quoted before first second third name plain a b c =
+    put_next before first third (codes "\"") (joined (map escaped name) ∷ codes "\"" ∷ []) a
+    (put_next first second third (joined (map escaped name)) (codes "\"" ∷ []) (b ∙ ap (λ l. first ++ l) (sym (all_plain name plain)))
+    (put_next second third third (codes "\"") [] c (put_last third)))

@@ -6,7 +6,7 @@ ghost use Rattle.macho_report.specs.Stream.{TookAtMost, Wrote, WrotePrefix};
 ghost use Rattle.macho_report.specs.Where.{IsWhere, WroteWhere, WroteWherePrefix};
 ghost use Rattle.macho_report.specs.declared.address.WhereOutcome.{WhereOutcome};
 
-use crate::line::write_source;
+use crate::lines::write_source;
 use crate::outcome::{RunFault, accept};
 use crate::stream::{Input, Output};
 use crate::transfer::read_all;

@@ -12,7 +12,7 @@ ghost use Rattle.macho_report.specs.Scaffold.{linked_text};
 ghost use Rattle.macho_report.specs.Layout.{layout_text, slice_text, image_slice_text, image_text, id_text, uuid_text, builds_text, segments_text, segment_text, libraries_text, symbols_text};
 ghost use Rattle.macho_report.specs.Line.{section_line};
 
-use crate::line::{
+use crate::lines::{
     write_build, write_count, write_entry, write_library, write_section, write_segment,
     write_slice, write_symbols, write_uuid,
 };

@@ -4,15 +4,15 @@
 
 pub mod address;
 mod arch;
+mod fields;
 pub mod from_read;
 pub mod from_write;
-mod held;
 pub mod layout;
 mod line;
+mod lines;
 mod name;
 mod number;
 pub mod outcome;
-mod parts;
 pub mod stream;
 pub mod transfer;
 
@@ -20,7 +20,7 @@ pub use address::{WhereOutcome, run_where};
 pub use from_read::FromRead;
 pub use from_write::FromWrite;
 pub use layout::write_layout;
-pub use line::write_break;
+pub use lines::write_break;
 pub use outcome::{Outcome, RunFault, run};
 pub use stream::{Failed, Flush, Input, Output};
 pub use transfer::{WriteFault, write_all};

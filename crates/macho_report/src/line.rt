@@ -1,213 +1,130 @@
-//! The lines of the report. Each ends with one line feed.
+//! A line of the report, which is put together in an array and written at once.
 
-ghost use Rattle.std.specs.Prelude.{◌≡◌, [], IsErr, IsTrue};
-ghost use Rattle.std.specs.Option.{option_map, option_map_or};
-ghost use Rattle.macho_rules.specs.Source.{source_of};
+ghost use Rattle.std.specs.Prelude.{◌≡◌, ◌+◌, ◌≤◌, ◌<◌, ◌↔◌, [], ◌++◌, codes, length, take, IsErr, IsTrue, OnOk};
 ghost use Rattle.macho_report.specs.Stream.{Writes, FailsAtFault};
-ghost use Rattle.macho_report.specs.Arch.{arch_text};
-ghost use Rattle.macho_report.specs.Line.{contents_of, count_line, slice_line, uuid_line, build_line, segment_line, section_line, library_line, symbols_line, entry_line};
-ghost use Rattle.macho_report.specs.Text.{break_text};
-ghost use Rattle.macho_report.specs.Where.{where_text};
-ghost use Rattle.macho_report.specs.Scaffold.{library_start};
+ghost use Rattle.macho_report.specs.Held.{Holding};
 
-use crate::parts::{Part, Value, write_line};
 use crate::stream::Output;
 use crate::transfer::{WriteFault, write_all};
-use macho_fields::header::loader::{
-    LC_ID_DYLIB, LC_LAZY_LOAD_DYLIB, LC_LOAD_DYLIB, LC_LOAD_UPWARD_DYLIB, LC_LOAD_WEAK_DYLIB,
-    LC_REEXPORT_DYLIB,
-};
-use macho_fields::{Break, Span};
-use macho_image::{Build, Dylib, Section, Segment};
-use macho_rules::Source;
+use std::marker::Model;
 
-/// Writes the line of a broken rule, as `refused: segment-file at 0x1e8`.
-pub fn write_break<W: Output>(broken: &Break, writer: &mut W) -> Result<(), WriteFault>
-    ensures bytes { Writes (W.contents writer.old) (W.contents writer.new) result
-        (break_text broken.now) }
-    ensures failed { FailsAtFault (W.has_failed writer.old) (W.has_failed writer.new) result }
-    ensures stays_failed { IsTrue (W.has_failed writer.old) → IsErr result }
-{
-    let parts = [
-        Part(b"refused: ", Value::Word(broken.rule.name().as_bytes())),
-        Part(b" at ", Value::Hex(broken.place)),
-    ];
-    write_line(&parts, writer)
+/// How many bytes of a line are held before they are written.
+pub(crate) const PLACES: usize = 320;
+
+/// How many bytes there is room for after a name or a word.
+pub(crate) const ROOM: usize = 160;
+
+/// The bytes of a line that are not written yet.
+#[derive(Drop)]
+pub(crate) struct Line {
+    places: [u8; PLACES],
+    len: usize,
 }
 
-/// Writes the first line of a layout: how many slices there are.
-pub(crate) fn write_count<W: Output>(slices: u64, writer: &mut W) -> Result<(), WriteFault>
-    ensures bytes { Writes (W.contents writer.old) (W.contents writer.new) result
-        (count_line slices) }
-    ensures failed { FailsAtFault (W.has_failed writer.old) (W.has_failed writer.new) result }
-    ensures stays_failed { IsTrue (W.has_failed writer.old) → IsErr result }
-{
-    let parts = [Part(b"accepted, slices ", Value::Decimal(slices))];
-    write_line(&parts, writer)
+impl Model for Line {
+    ghost use Rattle.std.specs.Prelude.{ℕ, List, ◌≤◌, take};
+
+    ghost Value = { List ℕ };
+
+    ghost view = { λ line. take line.len line.places };
+
+    ghost invariant = { λ line. line.len ≤ 320 };
 }
 
-/// Writes the line of a slice: its index, its architecture, its part of the file, and its kind.
-pub(crate) fn write_slice<W: Output>(
-    index: u64,
-    arch: Option<(u32, u32)>,
-    span: Span,
-    kind: &str,
-    writer: &mut W,
-) -> Result<(), WriteFault>
-    ensures bytes { Writes (W.contents writer.old) (W.contents writer.new) result
-        (slice_line index (option_map_or arch_text arch []) span.start span.len kind.now) }
-    ensures failed { FailsAtFault (W.has_failed writer.old) (W.has_failed writer.new) result }
-{
-    let parts = [
-        Part(b"slice ", Value::Decimal(index)),
-        Part(b" ", Value::Arch(arch)),
-        Part(b" at ", Value::Hex(span.start)),
-        Part(b" size ", Value::Hex(span.len)),
-        Part(b" ", Value::Word(kind.as_bytes())),
-    ];
-    write_line(&parts, writer)
-}
-
-/// Writes the line of a UUID.
-pub(crate) fn write_uuid<W: Output>(uuid: &[u8; 16], writer: &mut W) -> Result<(), WriteFault>
-    ensures bytes { Writes (W.contents writer.old) (W.contents writer.new) result
-        (uuid_line uuid.now) }
-    ensures failed { FailsAtFault (W.has_failed writer.old) (W.has_failed writer.new) result }
-{
-    let parts = [Part(b"  uuid ", Value::Uuid(uuid))];
-    write_line(&parts, writer)
-}
-
-/// Writes the line of a build: its platform and two versions.
-pub(crate) fn write_build<W: Output>(build: &Build, writer: &mut W) -> Result<(), WriteFault>
-    ensures bytes { Writes (W.contents writer.old) (W.contents writer.new) result
-        (build_line build.now.platform build.now.minos build.now.sdk) }
-    ensures failed { FailsAtFault (W.has_failed writer.old) (W.has_failed writer.new) result }
-{
-    let parts = [
-        Part(
-            b"  build platform ",
-            Value::Decimal(u64::from(build.platform)),
-        ),
-        Part(b" min ", Value::Version(build.minos)),
-        Part(b" sdk ", Value::Version(build.sdk)),
-    ];
-    write_line(&parts, writer)
-}
-
-/// Writes the line of a segment: its name, its memory, its bytes in the image, and its protection.
-pub(crate) fn write_segment<W: Output>(segment: &Segment, writer: &mut W) -> Result<(), WriteFault>
-    ensures bytes { Writes (W.contents writer.old) (W.contents writer.new) result
-        (segment_line segment.now.image segment.now.place) }
-    ensures failed { FailsAtFault (W.has_failed writer.old) (W.has_failed writer.new) result }
-{
-    let parts = [
-        Part(b"  segment ", Value::Name(segment.name())),
-        Part(b" addr ", Value::Hex(segment.vmaddr())),
-        Part(b" size ", Value::Hex(segment.vmsize())),
-        Part(b" file ", Value::Hex(segment.fileoff())),
-        Part(b" size ", Value::Hex(segment.filesize())),
-        Part(b" ", Value::Protection(segment.initprot())),
-    ];
-    write_line(&parts, writer)
-}
-
-/// Writes the line of a section: its name, its memory, and where its bytes begin in the image.
-pub(crate) fn write_section<W: Output>(section: &Section, writer: &mut W) -> Result<(), WriteFault>
-    ensures bytes { Writes (W.contents writer.old) (W.contents writer.new) result
-        (section_line section.now.image section.now.place) }
-    ensures failed { FailsAtFault (W.has_failed writer.old) (W.has_failed writer.new) result }
-{
-    let parts = [
-        Part(b"    section ", Value::Name(section.name())),
-        Part(b" addr ", Value::Hex(section.addr())),
-        Part(b" size ", Value::Hex(section.size())),
-        Part(b" ", Value::Contents(contents_of(section))),
-    ];
-    write_line(&parts, writer)
-}
-
-// Where the bytes of a section begin in the image, if it has any there.
-fn contents_of(section: &Section) -> Option<u64>
-    ensures { result ≡ contents_of section.now.image section.now.place }
-{
-    if section.is_zero_fill() {
-        None
-    } else {
-        Some(section.offset())
+impl Line {
+    /// A line without bytes.
+    #[inline(always)]
+    pub(crate) fn new() -> Line
+        ensures { result ≡ [] }
+    {
+        Line {
+            places: [0; PLACES],
+            len: 0,
+        }
     }
-}
 
-/// Writes the line of a library: the word of its command, its name, and two versions.
-pub(crate) fn write_library<W: Output>(library: &Dylib, writer: &mut W) -> Result<(), WriteFault>
-    ensures bytes { Writes (W.contents writer.old) (W.contents writer.new) result
-        (library_line library.now.cmd library.now.name.now library.now.current
-        library.now.compatible) }
-    ensures failed { FailsAtFault (W.has_failed writer.old) (W.has_failed writer.new) result }
-{
-    let parts = [
-        Part(
-            library_start(library.cmd).as_bytes(),
-            Value::Name(library.name),
-        ),
-        Part(b" current ", Value::Version(library.current)),
-        Part(b" compatible ", Value::Version(library.compatible)),
-    ];
-    write_line(&parts, writer)
-}
-
-// How the line of a library begins: the word of its command, with the blanks around it.
-fn library_start(cmd: u32) -> &'static str
-    ensures { result.now ≡ library_start cmd }
-{
-    match cmd {
-        LC_ID_DYLIB => "  id ",
-        LC_LOAD_DYLIB => "  load ",
-        LC_LOAD_WEAK_DYLIB => "  weak ",
-        LC_REEXPORT_DYLIB => "  reexport ",
-        LC_LAZY_LOAD_DYLIB => "  lazy ",
-        LC_LOAD_UPWARD_DYLIB => "  upward ",
-        _ => "  dylib ",
+    /// Puts a text.
+    #[inline(always)]
+    pub(crate) fn text(&mut self, text: &[u8])
+        requires room { length self.old + length text.now ≤ PLACES }
+        ensures { self.new ≡ self.old ++ text.now }
+    {
+        self.front(text, text.len());
     }
-}
 
-/// Writes the line that counts the symbols.
-pub(crate) fn write_symbols<W: Output>(nsyms: u64, writer: &mut W) -> Result<(), WriteFault>
-    ensures bytes { Writes (W.contents writer.old) (W.contents writer.new) result
-        (symbols_line nsyms) }
-    ensures failed { FailsAtFault (W.has_failed writer.old) (W.has_failed writer.new) result }
-{
-    let parts = [Part(b"  symbols ", Value::Decimal(nsyms))];
-    write_line(&parts, writer)
-}
+    /// Puts the first `count` of these bytes. All of them are copied: where their number is a constant,
+    /// this takes a few instructions.
+    #[inline(always)]
+    pub(crate) fn front(&mut self, bytes: &[u8], count: usize)
+        requires room { length self.old + length bytes.now ≤ PLACES }
+        requires count { count ≤ length bytes.now }
+        ensures { self.new ≡ self.old ++ take count bytes.now }
+    {
+        let end = self.len + bytes.len();
+        self.places[self.len..end].copy_from_slice(bytes);
+        self.len += count;
+    }
 
-/// Writes the line of the entry point: its address, or that there is none.
-pub(crate) fn write_entry<W: Output>(entry: Option<u64>, writer: &mut W) -> Result<(), WriteFault>
-    ensures bytes { Writes (W.contents writer.old) (W.contents writer.new) result
-        (entry_line entry) }
-    ensures failed { FailsAtFault (W.has_failed writer.old) (W.has_failed writer.new) result }
-{
-    let Some(address) = entry else {
-        return write_all(b"  entry none\n", writer);
-    };
-    let parts = [Part(b"  entry ", Value::Hex(address))];
-    write_line(&parts, writer)
-}
+    /// Puts a word of any length. Where there is no room for it, the bytes that are held are written
+    /// before it, and so is the word where it is very long.
+    #[inline(always)]
+    pub(crate) fn word<W: Output>(&mut self, word: &[u8], writer: &mut W) -> Result<(), WriteFault>
+        ensures room { OnOk result (length self.new + ROOM ≤ PLACES) }
+        ensures bytes { Holding (W.contents writer.old) (W.contents writer.new) result self.new
+            (self.old ++ word.now) }
+        ensures failed { FailsAtFault (W.has_failed writer.old) (W.has_failed writer.new) result }
+    {
+        if self.has_room(word.len()) {
+            self.text(word);
+            return Ok(());
+        }
+        self.word_anew(word, writer)
+    }
 
-/// Writes the line of what is at an address: a place of the slice, a zero, or nothing.
-pub(crate) fn write_source<W: Output>(
-    source: Option<Source>,
-    writer: &mut W,
-) -> Result<(), WriteFault>
-    ensures bytes { Writes (W.contents writer.old) (W.contents writer.new) result
-        (where_text (option_map source_of source)) }
-    ensures failed { FailsAtFault (W.has_failed writer.old) (W.has_failed writer.new) result }
-{
-    let place = match source {
-        Some(Source::File(place)) => place,
-        Some(Source::Zero) => return write_all(b"zero\n", writer),
-        None => return write_all(b"unmapped\n", writer),
-    };
-    let parts = [Part(b"file ", Value::Hex(place))];
-    write_line(&parts, writer)
+    // Writes the bytes that are held, and holds a word in their place, or writes it where it is too long.
+    #[inline(never)]
+    fn word_anew<W: Output>(&mut self, word: &[u8], writer: &mut W) -> Result<(), WriteFault>
+        ensures room { OnOk result (length self.new + ROOM ≤ PLACES) }
+        ensures bytes { Holding (W.contents writer.old) (W.contents writer.new) result self.new
+            (self.old ++ word.now) }
+        ensures failed { FailsAtFault (W.has_failed writer.old) (W.has_failed writer.new) result }
+    {
+        self.hand_on(writer)?;
+        if self.has_room(word.len()) {
+            self.text(word);
+            return Ok(());
+        }
+        write_all(word, writer)
+    }
+
+    /// Whether there is room for so many bytes, and for `ROOM` bytes after them.
+    #[inline(always)]
+    pub(crate) fn has_room(&self, count: usize) -> bool
+        ensures { IsTrue result ↔ (length self.now + count + ROOM ≤ PLACES) }
+    {
+        self.len <= PLACES - ROOM && count <= PLACES - ROOM - self.len
+    }
+
+    // Writes the bytes that are held. Where this succeeds, none is held then.
+    fn hand_on<W: Output>(&mut self, writer: &mut W) -> Result<(), WriteFault>
+        ensures none { OnOk result (self.new ≡ []) }
+        ensures bytes { Writes (W.contents writer.old) (W.contents writer.new) result self.old }
+        ensures failed { FailsAtFault (W.has_failed writer.old) (W.has_failed writer.new) result }
+    {
+        write_all(&self.places[..self.len], writer)?;
+        self.len = 0;
+        Ok(())
+    }
+
+    /// Ends the line with a line feed, and writes it.
+    pub(crate) fn write<W: Output>(mut self, writer: &mut W) -> Result<(), WriteFault>
+        requires room { length self < PLACES }
+        ensures bytes { Writes (W.contents writer.old) (W.contents writer.new) result
+            (self ++ codes "\n") }
+        ensures failed { FailsAtFault (W.has_failed writer.old) (W.has_failed writer.new) result }
+        ensures stays_failed { IsTrue (W.has_failed writer.old) → IsErr result }
+    {
+        self.text(b"\n");
+        write_all(&self.places[..self.len], writer)
+    }
 }

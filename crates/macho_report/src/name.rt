@@ -1,60 +1,67 @@
 //! Names as text.
 
-ghost use Rattle.std.specs.Prelude.{◌≡◌, ℕ, ◌<◌, ◌≤◌, ◌++◌, false, length, map, slice_index, take, IfOk, IsTrue};
+ghost use Rattle.std.specs.Prelude.{◌≡◌, ℕ, ◌+◌, ◌<◌, ◌≤◌, ◌↔◌, ◌++◌, false, length, map, slice_index, IsTrue, OnOk};
 ghost use Rattle.macho_report.specs.Stream.{FailsAtFault, joined};
 ghost use Rattle.macho_report.specs.Name.{is_plain, escaped, quoted};
-ghost use Rattle.macho_report.specs.Parts.{Holding};
+ghost use Rattle.macho_report.specs.Held.{Holding};
 
-use crate::held::hold_text;
-use crate::number::{PLACES, byte_digits};
+use crate::line::{Line, PLACES, ROOM};
+use crate::number::byte_digits;
 use crate::stream::Output;
 use crate::transfer::WriteFault;
 
-/// Holds a name in double quotes, and returns how many bytes are held then. A double quote, a backslash
-/// and every byte that is not printable ASCII are written as `\x` and two lower-case digits in base 16.
-pub(crate) fn hold_quoted<W: Output>(
-    name: &[u8],
-    len: usize,
-    places: &mut [u8; PLACES],
-    writer: &mut W,
-) -> Result<usize, WriteFault>
-    requires { len ≤ PLACES }
-    ensures in_array { IfOk result (λ held. held ≤ PLACES) }
-    ensures bytes { Holding (W.contents writer.old) (W.contents writer.new) result places.new
-        (take len places.old ++ quoted name.now) }
-    ensures failed { FailsAtFault (W.has_failed writer.old) (W.has_failed writer.new) result }
-{
-    let opened = hold_text(b"\"", len, places, writer)?;
-    let escaped = hold_escaped(name, opened, places, writer)?;
-    hold_text(b"\"", escaped, places, writer)
+impl Line {
+    /// Puts a name in double quotes. A double quote, a backslash and every byte that is not printable
+    /// ASCII are put as `\x` and two lower-case digits in base 16.
+    pub(crate) fn name<W: Output>(&mut self, name: &[u8], writer: &mut W) -> Result<(), WriteFault>
+        ensures room { OnOk result (length self.new + ROOM ≤ PLACES) }
+        ensures bytes { Holding (W.contents writer.old) (W.contents writer.new) result self.new
+            (self.old ++ quoted name.now) }
+        ensures failed { FailsAtFault (W.has_failed writer.old) (W.has_failed writer.new) result }
+    {
+        if self.has_room(name.len() + 2) && are_plain(name) {
+            self.text(b"\"");
+            self.text(name);
+            self.text(b"\"");
+            return Ok(());
+        }
+        self.word(b"\"", writer)?;
+        self.escaped(name, writer)?;
+        self.word(b"\"", writer)
+    }
+
+    // Puts each run of plain bytes as it is, and every other byte escaped.
+    #[inline(never)]
+    fn escaped<W: Output>(&mut self, name: &[u8], writer: &mut W) -> Result<(), WriteFault>
+        ensures bytes { Holding (W.contents writer.old) (W.contents writer.new) result self.new
+            (self.old ++ joined (map escaped name.now)) }
+        ensures failed { FailsAtFault (W.has_failed writer.old) (W.has_failed writer.new) result }
+    {
+        let mut rest = name;
+        while let Some((&first, after)) = rest.split_first() {
+            let plain = count_plain(rest);
+            if plain == 0 {
+                self.word(&escape(first), writer)?;
+                rest = after;
+            } else {
+                self.word(&rest[..plain], writer)?;
+                rest = &rest[plain..];
+            }
+        }
+        Ok(())
+    }
 }
 
-// Holds each run of plain bytes as it is, and every other byte escaped.
-fn hold_escaped<W: Output>(
-    name: &[u8],
-    len: usize,
-    places: &mut [u8; PLACES],
-    writer: &mut W,
-) -> Result<usize, WriteFault>
-    requires { len ≤ PLACES }
-    ensures in_array { IfOk result (λ held. held ≤ PLACES) }
-    ensures bytes { Holding (W.contents writer.old) (W.contents writer.new) result places.new
-        (take len places.old ++ joined (map escaped name.now)) }
-    ensures failed { FailsAtFault (W.has_failed writer.old) (W.has_failed writer.new) result }
+// Whether all bytes are plain. It looks at each, so that many can be judged at once.
+fn are_plain(bytes: &[u8]) -> bool
+    ensures { IsTrue result
+        ↔ ((k : ℕ) → k < length bytes.now → IsTrue (is_plain (slice_index bytes.now k))) }
 {
-    let mut held = len;
-    let mut rest = name;
-    while let Some((&first, after)) = rest.split_first() {
-        let plain = count_plain(rest);
-        if plain == 0 {
-            held = hold_text(&escape(first), held, places, writer)?;
-            rest = after;
-        } else {
-            held = hold_text(&rest[..plain], held, places, writer)?;
-            rest = &rest[plain..];
-        }
+    let mut plain = true;
+    for &byte in bytes {
+        plain &= is_plain(byte);
     }
-    Ok(held)
+    plain
 }
 
 // How many bytes at the front are plain.

@@ -1,12 +1,11 @@
-//! Numbers as text, and how a text is put into an array.
+//! Numbers as text.
 
-ghost use Rattle.std.specs.Prelude.{◌≡◌, ◌+◌, ◌*◌, ◌/◌, ◌%◌, ◌<◌, ◌≤◌, [], ◌∷◌, ◌++◌, false, codes, drop, length, map, take};
+ghost use Rattle.std.specs.Prelude.{◌≡◌, ◌+◌, ◌-◌, ◌*◌, ◌/◌, ◌%◌, ◌<◌, ◌≤◌, [], ◌∷◌, ◌++◌, false, codes, drop, length, map};
 ghost use Rattle.std.specs.Fmt.{decimal, digits, digit_glyph};
 ghost use Rattle.macho_report.specs.Stream.{joined};
 ghost use Rattle.macho_report.specs.Number.{prefixed_hex, upper_byte_hex, version_text};
 
-/// How many bytes of a line are held in an array before they are written.
-pub(crate) const PLACES: usize = 256;
+use crate::line::{Line, PLACES};
 
 /// How many digits a number of 64 bits has at most, in base 10.
 const DIGITS: usize = 20;
@@ -14,6 +13,12 @@ const DIGITS: usize = 20;
 static LOWER_DIGITS: [u8; 16] = *b"0123456789abcdef";
 
 static UPPER_DIGITS: [u8; 16] = *b"0123456789ABCDEF";
+
+/// The two digits of each number below 100, in base 10.
+static DECIMAL_PAIRS: [u8; 200] = *b"00010203040506070809101112131415161718192021222324\
+      25262728293031323334353637383940414243444546474849\
+      50515253545556575859606162636465666768697071727374\
+      75767778798081828384858687888990919293949596979899";
 
 // The digit of a value below 16.
 fn digit(value: u8, upper: bool) -> u8
@@ -27,92 +32,112 @@ fn digit(value: u8, upper: bool) -> u8
     }
 }
 
-// Puts a number's digits in a base from 10 to 16 at the end of the array, and returns where they begin.
-fn put_digits<const BASE: u64>(number: u64, places: &mut [u8; DIGITS]) -> usize
+// The two digits of a value in a base from 10 to 16.
+fn digit_pair<const BASE: u64>(value: u64) -> [u8; 2]
+    requires low { 10 ≤ BASE }
+    requires high { BASE ≤ 16 }
+    requires value { value < BASE * BASE }
+    ensures { result ≡ digit_glyph false (value / BASE) ∷ digit_glyph false (value % BASE) ∷ [] }
+{
+    if BASE == 10 {
+        return decimal_pair(value as usize);
+    }
+    [
+        digit((value / BASE) as u8, false),
+        digit((value % BASE) as u8, false),
+    ]
+}
+
+// The two digits of a value below 100 in base 10.
+fn decimal_pair(value: usize) -> [u8; 2]
+    requires { value < 100 }
+    ensures { result ≡ digit_glyph false (value / 10) ∷ digit_glyph false (value % 10) ∷ [] }
+{
+    [DECIMAL_PAIRS[2 * value], DECIMAL_PAIRS[2 * value + 1]]
+}
+
+// Puts the digits of a number in a base from 10 to 16 before the place `DIGITS` of the array, two at a
+// time from the last, and returns where they begin.
+fn put_digits<const BASE: u64>(number: u64, places: &mut [u8; 2 * DIGITS]) -> usize
     requires low { 10 ≤ BASE }
     requires high { BASE ≤ 16 }
     ensures start { result + length (digits BASE false number) ≡ DIGITS }
-    ensures digits { drop result places.new ≡ digits BASE false number }
+    ensures digits { drop result places.new ≡ digits BASE false number ++ drop DIGITS places.old }
 {
     let mut rest = number;
     let mut start = DIGITS;
-    loop {
+    while rest >= BASE {
+        start -= 2;
+        places[start..start + 2].copy_from_slice(&digit_pair::<BASE>(rest % (BASE * BASE)));
+        rest /= BASE * BASE;
+    }
+    if rest > 0 || start == DIGITS {
         start -= 1;
-        places[start] = digit((rest % BASE) as u8, false);
-        rest /= BASE;
-        if rest == 0 {
-            return start;
+        places[start] = digit(rest as u8, false);
+    }
+    start
+}
+
+impl Line {
+    // Puts the digits of a number in a base from 10 to 16.
+    fn number<const BASE: u64>(&mut self, number: u64)
+        requires low { 10 ≤ BASE }
+        requires high { BASE ≤ 16 }
+        requires room { length self.old + DIGITS ≤ PLACES }
+        ensures text { self.new ≡ self.old ++ digits BASE false number }
+    {
+        if number < BASE {
+            self.text(&[digit(number as u8, false)]);
+            return;
+        }
+        let mut digits = [0; 2 * DIGITS];
+        let start = put_digits::<BASE>(number, &mut digits);
+        self.front(&digits[start..start + DIGITS], DIGITS - start);
+    }
+
+    /// Puts a number in base 10.
+    pub(crate) fn decimal(&mut self, number: u64)
+        requires room { length self.old + 20 ≤ PLACES }
+        ensures text { self.new ≡ self.old ++ decimal number }
+        ensures end { length self.new ≤ length self.old + 20 }
+    {
+        self.number::<10>(number);
+    }
+
+    /// Puts a number in base 16, as `0x1e8`.
+    pub(crate) fn hex(&mut self, number: u64)
+        requires room { length self.old + 22 ≤ PLACES }
+        ensures text { self.new ≡ self.old ++ prefixed_hex number }
+        ensures end { length self.new ≤ length self.old + 22 }
+    {
+        self.text(b"0x");
+        self.number::<16>(number);
+    }
+
+    /// Puts a version X.Y.Z that has the form `xxxx.yy.zz`, 16, 8 and 8 bits.
+    pub(crate) fn version(&mut self, version: u32)
+        requires room { length self.old + 62 ≤ PLACES }
+        ensures text { self.new ≡ self.old ++ version_text version }
+        ensures end { length self.new ≤ length self.old + 62 }
+    {
+        let [patch, minor, _, _] = version.to_le_bytes();
+        self.decimal(u64::from(version >> 16));
+        self.text(b".");
+        self.decimal(u64::from(minor));
+        self.text(b".");
+        self.decimal(u64::from(patch));
+    }
+
+    /// Puts each byte as two upper-case digits in base 16.
+    pub(crate) fn upper_bytes(&mut self, bytes: &[u8])
+        requires room { length self.old + 2 * length bytes.now ≤ PLACES }
+        ensures text { self.new ≡ self.old ++ joined (map upper_byte_hex bytes.now) }
+        ensures end { length self.new ≡ length self.old + 2 * length bytes.now }
+    {
+        for &byte in bytes {
+            self.text(&byte_digits(byte, true));
         }
     }
-}
-
-/// Puts a text after the first `len` bytes of the array, and returns where it ends.
-pub(crate) fn put_text(text: &[u8], len: usize, places: &mut [u8; PLACES]) -> usize
-    requires room { len + length text.now ≤ PLACES }
-    ensures end { result ≡ len + length text.now }
-    ensures text { take result places.new ≡ take len places.old ++ text.now }
-{
-    let end = len + text.len();
-    places[len..end].copy_from_slice(text);
-    end
-}
-
-// Puts the digits of a number in a base from 10 to 16.
-fn put_number<const BASE: u64>(number: u64, len: usize, places: &mut [u8; PLACES]) -> usize
-    requires low { 10 ≤ BASE }
-    requires high { BASE ≤ 16 }
-    requires room { len + length (digits BASE false number) ≤ PLACES }
-    ensures end { result ≡ len + length (digits BASE false number) }
-    ensures text { take result places.new ≡ take len places.old ++ digits BASE false number }
-{
-    if number < BASE {
-        places[len] = digit(number as u8, false);
-        return len + 1;
-    }
-    let mut digits = [0u8; DIGITS];
-    let start = put_digits::<BASE>(number, &mut digits);
-    put_text(&digits[start..], len, places)
-}
-
-/// Puts a number in base 10, and returns where it ends.
-pub(crate) fn put_decimal(number: u64, len: usize, places: &mut [u8; PLACES]) -> usize
-    requires room { len + 20 ≤ PLACES }
-    ensures end { result ≤ len + 20 }
-    ensures text { take result places.new ≡ take len places.old ++ decimal number }
-{
-    put_number::<10>(number, len, places)
-}
-
-/// Puts a number in base 16, as `0x1e8`, and returns where it ends.
-pub(crate) fn put_hex(number: u64, len: usize, places: &mut [u8; PLACES]) -> usize
-    requires room { len + 18 ≤ PLACES }
-    ensures end { result ≤ len + 18 }
-    ensures text { take result places.new ≡ take len places.old ++ prefixed_hex number }
-{
-    let prefix_end = put_text(b"0x", len, places);
-    put_number::<16>(number, prefix_end, places)
-}
-
-/// Puts a version X.Y.Z that has the form `xxxx.yy.zz`, 16, 8 and 8 bits, and returns where it ends.
-pub(crate) fn put_version(version: u32, len: usize, places: &mut [u8; PLACES]) -> usize
-    requires room { len + 13 ≤ PLACES }
-    ensures end { result ≤ len + 13 }
-    ensures text { take result places.new ≡ take len places.old ++ version_text version }
-{
-    let [patch, minor, _, _] = version.to_le_bytes();
-    let major_end = put_number::<10>(u64::from(version >> 16), len, places);
-    let minor_end = put_part(minor, major_end, places);
-    put_part(patch, minor_end, places)
-}
-
-// Puts a point and a part of a version, and returns where they end.
-fn put_part(part: u8, len: usize, places: &mut [u8; PLACES]) -> usize
-    requires room { len + 4 ≤ PLACES }
-    ensures end { result ≤ len + 4 }
-    ensures text { take result places.new ≡ take len places.old ++ codes "." ++ decimal part }
-{
-    let point_end = put_text(b".", len, places);
-    put_number::<10>(u64::from(part), point_end, places)
 }
 
 /// The two digits of a byte in base 16.
@@ -120,18 +145,4 @@ pub(crate) fn byte_digits(byte: u8, upper: bool) -> [u8; 2]
     ensures { result ≡ digit_glyph upper (byte / 16) ∷ digit_glyph upper (byte % 16) ∷ [] }
 {
     [digit(byte >> 4, upper), digit(byte & 0xf, upper)]
-}
-
-/// Puts each byte as two upper-case digits in base 16, and returns where they end.
-pub(crate) fn put_upper_bytes(bytes: &[u8], len: usize, places: &mut [u8; PLACES]) -> usize
-    requires room { len + 2 * length bytes.now ≤ PLACES }
-    ensures end { result ≡ len + 2 * length bytes.now }
-    ensures text { take result places.new
-        ≡ take len places.old ++ joined (map upper_byte_hex bytes.now) }
-{
-    let mut end = len;
-    for &byte in bytes {
-        end = put_text(&byte_digits(byte, true), end, places);
-    }
-    end
 }

@@ -11,7 +11,7 @@ ghost use Rattle.macho_report.specs.declared.outcome.Outcome.{Outcome};
 ghost use Rattle.macho_report.specs.declared.outcome.RunFault.TheVariants as fault;
 
 use crate::layout::write_layout;
-use crate::line::write_break;
+use crate::lines::write_break;
 use crate::stream::{Input, Output};
 use crate::transfer::{ReadFault, WriteFault, read_all};
 use macho_rules::{Refusal, Verified, verify};

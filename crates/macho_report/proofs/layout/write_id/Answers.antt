@@ -1,6 +1,6 @@
 use Rattle.macho_image.specs.Library.{DylibView}
 use Rattle.macho_report.specs.Line.{library_line}
-use Rattle.macho_report.proofs.Lines.{found_text}
+use Rattle.macho_report.proofs.LineTexts.{found_text}
 use Rattle.macho_report.proofs.StreamLemmas.{writes_same}
 use Rattle.macho_report.proofs.layout.write_id.Goals as goal
 

@@ -1,5 +1,5 @@
 use Rattle.macho_report.specs.Line.{uuid_line}
-use Rattle.macho_report.proofs.Lines.{found_text}
+use Rattle.macho_report.proofs.LineTexts.{found_text}
 use Rattle.macho_report.proofs.StreamLemmas.{writes_same}
 use Rattle.macho_report.proofs.layout.write_image_uuid.Goals as goal
 

@@ -1,0 +1,231 @@
+//! The lines of the report. Each ends with one line feed.
+
+ghost use Rattle.std.specs.Prelude.{◌≡◌, [], IsErr, IsTrue, Some};
+ghost use Rattle.std.specs.Option.{option_map, option_map_or};
+ghost use Rattle.macho_fields.specs.Segment.{File};
+ghost use Rattle.macho_rules.specs.Source.{source_of};
+ghost use Rattle.macho_report.specs.Stream.{Writes, FailsAtFault};
+ghost use Rattle.macho_report.specs.Arch.{arch_text};
+ghost use Rattle.macho_report.specs.Line.{contents_of, count_line, slice_line, uuid_line, build_line, segment_line, section_line, library_line, symbols_line, entry_line};
+ghost use Rattle.macho_report.specs.Text.{break_text};
+ghost use Rattle.macho_report.specs.Where.{where_text};
+ghost use Rattle.macho_report.specs.Scaffold.{library_start};
+
+use crate::line::Line;
+use crate::stream::Output;
+use crate::transfer::{WriteFault, write_all};
+use macho_fields::header::loader::{
+    LC_ID_DYLIB, LC_LAZY_LOAD_DYLIB, LC_LOAD_DYLIB, LC_LOAD_UPWARD_DYLIB, LC_LOAD_WEAK_DYLIB,
+    LC_REEXPORT_DYLIB,
+};
+use macho_fields::{Break, Span};
+use macho_image::{Build, Dylib, Section, Segment};
+use macho_rules::Source;
+
+/// Writes the line of a broken rule, as `refused: segment-file at 0x1e8`.
+pub fn write_break<W: Output>(broken: &Break, writer: &mut W) -> Result<(), WriteFault>
+    ensures bytes { Writes (W.contents writer.old) (W.contents writer.new) result
+        (break_text broken.now) }
+    ensures failed { FailsAtFault (W.has_failed writer.old) (W.has_failed writer.new) result }
+    ensures stays_failed { IsTrue (W.has_failed writer.old) → IsErr result }
+{
+    let mut line = Line::new();
+    line.text(b"refused: ");
+    line.word(broken.rule.name().as_bytes(), writer)?;
+    line.text(b" at ");
+    line.hex(broken.place);
+    line.write(writer)
+}
+
+/// Writes the first line of a layout: how many slices there are.
+pub(crate) fn write_count<W: Output>(slices: u64, writer: &mut W) -> Result<(), WriteFault>
+    ensures bytes { Writes (W.contents writer.old) (W.contents writer.new) result
+        (count_line slices) }
+    ensures failed { FailsAtFault (W.has_failed writer.old) (W.has_failed writer.new) result }
+    ensures stays_failed { IsTrue (W.has_failed writer.old) → IsErr result }
+{
+    let mut line = Line::new();
+    line.text(b"accepted, slices ");
+    line.decimal(slices);
+    line.write(writer)
+}
+
+/// Writes the line of a slice: its index, its architecture, its part of the file, and its kind.
+pub(crate) fn write_slice<W: Output>(
+    index: u64,
+    arch: Option<(u32, u32)>,
+    span: Span,
+    kind: &str,
+    writer: &mut W,
+) -> Result<(), WriteFault>
+    ensures bytes { Writes (W.contents writer.old) (W.contents writer.new) result
+        (slice_line index (option_map_or arch_text arch []) span.start span.len kind.now) }
+    ensures failed { FailsAtFault (W.has_failed writer.old) (W.has_failed writer.new) result }
+{
+    let mut line = Line::new();
+    line.text(b"slice ");
+    line.decimal(index);
+    line.text(b" ");
+    line.arch(arch);
+    line.extent(b" at ", span.start, span.len);
+    line.text(b" ");
+    line.word(kind.as_bytes(), writer)?;
+    line.write(writer)
+}
+
+/// Writes the line of a UUID.
+pub(crate) fn write_uuid<W: Output>(uuid: &[u8; 16], writer: &mut W) -> Result<(), WriteFault>
+    ensures bytes { Writes (W.contents writer.old) (W.contents writer.new) result
+        (uuid_line uuid.now) }
+    ensures failed { FailsAtFault (W.has_failed writer.old) (W.has_failed writer.new) result }
+{
+    let mut line = Line::new();
+    line.text(b"  uuid ");
+    line.uuid(uuid);
+    line.write(writer)
+}
+
+/// Writes the line of a build: its platform and two versions.
+pub(crate) fn write_build<W: Output>(build: &Build, writer: &mut W) -> Result<(), WriteFault>
+    ensures bytes { Writes (W.contents writer.old) (W.contents writer.new) result
+        (build_line build.now.platform build.now.minos build.now.sdk) }
+    ensures failed { FailsAtFault (W.has_failed writer.old) (W.has_failed writer.new) result }
+{
+    let mut line = Line::new();
+    line.text(b"  build platform ");
+    line.decimal(u64::from(build.platform));
+    line.text(b" min ");
+    line.version(build.minos);
+    line.text(b" sdk ");
+    line.version(build.sdk);
+    line.write(writer)
+}
+
+/// Writes the line of a segment: its name, its memory, its bytes in the image, and its protection.
+pub(crate) fn write_segment<W: Output>(segment: &Segment, writer: &mut W) -> Result<(), WriteFault>
+    ensures bytes { Writes (W.contents writer.old) (W.contents writer.new) result
+        (segment_line segment.now.image segment.now.place) }
+    ensures failed { FailsAtFault (W.has_failed writer.old) (W.has_failed writer.new) result }
+{
+    let mut line = Line::new();
+    line.text(b"  segment ");
+    line.name(segment.name(), writer)?;
+    line.extent(b" addr ", segment.vmaddr(), segment.vmsize());
+    line.extent(b" file ", segment.fileoff(), segment.filesize());
+    line.text(b" ");
+    line.protection(segment.initprot());
+    line.write(writer)
+}
+
+/// Writes the line of a section: its name, its memory, and where its bytes begin in the image.
+pub(crate) fn write_section<W: Output>(section: &Section, writer: &mut W) -> Result<(), WriteFault>
+    ensures bytes { Writes (W.contents writer.old) (W.contents writer.new) result
+        (section_line section.now.image section.now.place) }
+    ensures failed { FailsAtFault (W.has_failed writer.old) (W.has_failed writer.new) result }
+{
+    let mut line = Line::new();
+    line.text(b"    section ");
+    line.name(section.name(), writer)?;
+    line.extent(b" addr ", section.addr(), section.size());
+    line.text(b" ");
+    line.contents(contents_of(section));
+    line.write(writer)
+}
+
+// Where the bytes of a section begin in the image, if it has any there.
+fn contents_of(section: &Section) -> Option<u64>
+    ensures { result ≡ contents_of section.now.image section.now.place }
+{
+    if section.is_zero_fill() {
+        None
+    } else {
+        Some(section.offset())
+    }
+}
+
+/// Writes the line of a library: the word of its command, its name, and two versions.
+pub(crate) fn write_library<W: Output>(library: &Dylib, writer: &mut W) -> Result<(), WriteFault>
+    ensures bytes { Writes (W.contents writer.old) (W.contents writer.new) result
+        (library_line library.now.cmd library.now.name.now library.now.current
+        library.now.compatible) }
+    ensures failed { FailsAtFault (W.has_failed writer.old) (W.has_failed writer.new) result }
+{
+    let mut line = Line::new();
+    line.text(library_start(library.cmd).as_bytes());
+    line.name(library.name, writer)?;
+    line.text(b" current ");
+    line.version(library.current);
+    line.text(b" compatible ");
+    line.version(library.compatible);
+    line.write(writer)
+}
+
+// How the line of a library begins: the word of its command, with the blanks around it.
+fn library_start(cmd: u32) -> &'static str
+    ensures { result.now ≡ library_start cmd }
+{
+    match cmd {
+        LC_ID_DYLIB => "  id ",
+        LC_LOAD_DYLIB => "  load ",
+        LC_LOAD_WEAK_DYLIB => "  weak ",
+        LC_REEXPORT_DYLIB => "  reexport ",
+        LC_LAZY_LOAD_DYLIB => "  lazy ",
+        LC_LOAD_UPWARD_DYLIB => "  upward ",
+        _ => "  dylib ",
+    }
+}
+
+/// Writes the line that counts the symbols.
+pub(crate) fn write_symbols<W: Output>(nsyms: u64, writer: &mut W) -> Result<(), WriteFault>
+    ensures bytes { Writes (W.contents writer.old) (W.contents writer.new) result
+        (symbols_line nsyms) }
+    ensures failed { FailsAtFault (W.has_failed writer.old) (W.has_failed writer.new) result }
+{
+    let mut line = Line::new();
+    line.text(b"  symbols ");
+    line.decimal(nsyms);
+    line.write(writer)
+}
+
+/// Writes the line of the entry point: its address, or that there is none.
+pub(crate) fn write_entry<W: Output>(entry: Option<u64>, writer: &mut W) -> Result<(), WriteFault>
+    ensures bytes { Writes (W.contents writer.old) (W.contents writer.new) result
+        (entry_line entry) }
+    ensures failed { FailsAtFault (W.has_failed writer.old) (W.has_failed writer.new) result }
+{
+    let Some(address) = entry else {
+        return write_all(b"  entry none\n", writer);
+    };
+    let mut line = Line::new();
+    line.text(b"  entry ");
+    line.hex(address);
+    line.write(writer)
+}
+
+/// Writes the line of what is at an address: a place of the slice, a zero, or nothing.
+pub(crate) fn write_source<W: Output>(
+    source: Option<Source>,
+    writer: &mut W,
+) -> Result<(), WriteFault>
+    ensures bytes { Writes (W.contents writer.old) (W.contents writer.new) result
+        (where_text (option_map source_of source)) }
+    ensures failed { FailsAtFault (W.has_failed writer.old) (W.has_failed writer.new) result }
+{
+    match source {
+        Some(Source::File(place)) => write_place(place, writer),
+        Some(Source::Zero) => write_all(b"zero\n", writer),
+        None => write_all(b"unmapped\n", writer),
+    }
+}
+
+// Writes the line of a place of the slice.
+fn write_place<W: Output>(place: u64, writer: &mut W) -> Result<(), WriteFault>
+    ensures bytes { Writes (W.contents writer.old) (W.contents writer.new) result
+        (where_text (Some (File place))) }
+    ensures failed { FailsAtFault (W.has_failed writer.old) (W.has_failed writer.new) result }
+{
+    let mut line = Line::new();
+    line.text(b"file ");
+    line.hex(place);
+    line.write(writer)
+}
