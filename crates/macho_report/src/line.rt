@@ -117,10 +117,10 @@ impl Line {
     }
 
     /// Ends the line with a line feed, and writes it.
-    pub(crate) fn write<W: Output>(mut self, writer: &mut W) -> Result<(), WriteFault>
-        requires room { length self < PLACES }
+    pub(crate) fn write<W: Output>(&mut self, writer: &mut W) -> Result<(), WriteFault>
+        requires room { length self.old < PLACES }
         ensures bytes { Writes (W.contents writer.old) (W.contents writer.new) result
-            (self ++ codes "\n") }
+            (self.old ++ codes "\n") }
         ensures failed { FailsAtFault (W.has_failed writer.old) (W.has_failed writer.new) result }
         ensures stays_failed { IsTrue (W.has_failed writer.old) → IsErr result }
     {
