@@ -7,8 +7,7 @@ use Rattle.std.specs.Option.{option_map, option_map_or}
 use Rattle.macho_fields.specs.declared.header.loader.TheConstants as loader
 use Rattle.macho_fields.specs.Image.{commands_of}
 use Rattle.macho_image.specs.Command.{first_with_cmd}
-use Rattle.macho_image.specs.Symbol.{symtab_at, dysymtab_at, items_inside, symbol_at, symbols_of, indirect_at, indirects_of}
-use Rattle.macho_image.specs.Scaffold.{items_from, symbols_from, indirects_from}
+use Rattle.macho_image.specs.Symbol.{symtab_at, dysymtab_at, items_inside, symbol_at, symbols_of, indirect_at, indirects_of, items_from, symbols_from, indirects_from}
 use Rattle.macho_image.specs.declared.symtab.Symtab.{Symtab}
 use Rattle.macho_image.specs.declared.dysymtab.Dysymtab.{Dysymtab}
 use Rattle.macho_image.specs.declared.symbol.Symbol.{Symbol}

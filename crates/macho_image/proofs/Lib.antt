@@ -7,6 +7,7 @@ pub mod WithOneCmd
 pub mod Kept
 pub mod HeldSegments
 pub mod Noted
+mod NotedRange
 pub mod Entries
 pub mod Names
 pub mod Named

@@ -1,20 +1,22 @@
 -- One command more among those that a walk has passed, and what is noted of it.
-use Rattle.std.proofs.Common.{◌≡◌, ◌≢◌, ℕ, zero, suc, ◌+◌, ◌-◌, ◌≤◌, ◌<◌, List, [], ◌∷◌, ◌++◌, map, length, get_or, All, Contains, refl, sym, ap, ap₂, ◌∙◌, subst, arith, inl, inr}
-use Rattle.std.proofs.lemmas.Bool.{ne_eqb}
+use Rattle.std.proofs.Common.{◌≡◌, ◌≢◌, ℕ, zero, suc, ◌+◌, ◌-◌, ◌≤◌, ◌<◌, List, [], ◌∷◌, ◌++◌, length, filter, Contains, Bool, true, false, Option, None, refl, sym, ap, ap₂, ◌∙◌, subst, arith, inl, inr}
+use Rattle.std.specs.Option.{option_map_or}
+use Rattle.std.proofs.lemmas.Bool.{cases_lt, eq-eqb, ne_eqb}
 use Rattle.std.proofs.lemmas.List.{append-nil}
-use Rattle.std.proofs.lemmas.List.Elements.{All-cons, All-tail, All-contains_itself, Contains-append_right, filter-append}
+use Rattle.std.proofs.lemmas.List.Elements.{Contains-append_right, filter-append}
 use Rattle.macho_fields.specs.Image.{command_count, command_cmd, command_size, commands_of, IsGood, Follow, places_from}
-use Rattle.macho_fields.specs.Segment.{segments_of}
+use Rattle.macho_fields.specs.LoadCommands.{structure_of}
 use Rattle.macho_fields.specs.declared.header.loader.TheConstants as loader
+use Rattle.macho_fields.specs.declared.load_command.Structure.{Structure}
 use Rattle.macho_fields.proofs.Lists.{none_in_nil, first_or_later}
 use Rattle.macho_fields.proofs.Parts.{command_good}
-use Rattle.macho_image.specs.Command.{command_at}
 use Rattle.macho_image.specs.Opened.{IsOpened}
-use Rattle.macho_image.specs.Scaffold.{AreSegments, CanWalk, HaveSegments, IsAt, commands_left, first_commands}
-use Rattle.macho_image.specs.declared.landmarks.SegmentRange.{SegmentRange}
-use Rattle.macho_image.proofs.OpenedWalk.{opened_commands, opened_inside}
+use Rattle.macho_image.specs.Scaffold.{AreFirst, AreLandmarks, IsAt, IsRange, Passes, first_commands, has_tables, is_segment, names_table}
+use Rattle.macho_image.specs.declared.landmarks.CommandRange.{CommandRange}
+use Rattle.macho_image.specs.declared.landmarks.Landmarks.{Landmarks}
+use Rattle.macho_image.proofs.FirstWithCmd.{first_kept, unlisted_is_not_unique, unlisted_is_no_segment}
+use Rattle.macho_image.proofs.OpenedWalk.{opened_commands}
 use Rattle.macho_image.proofs.Places.{at_first}
-use Rattle.macho_image.proofs.WithOneCmd.{left_with_cmd-map}
 
 -- The places of a chain, and those after it
 
@@ -58,80 +60,85 @@ module _ (image : List ℕ) (walked place : ℕ) (at : IsAt image walked place) 
       subst (λ n. Contains (first_commands image n) place) all
       (subst (λ ps. Contains ps place) (sym (passed_and (suc left))) (Contains-append_right at.places (place ∷ places_from image (place + command_size image place) left) place (0, omega arith, refl)))
 
-  segments_other : command_cmd image place ≢ loader.LC_SEGMENT_64 → segments_of image (first_commands image (walked + 1)) ≡ segments_of image (first_commands image walked)
-  segments_other other =
-      ap (segments_of image) passed_next
-      ∙ (filter-append _ (first_commands image walked) (place ∷ [])
-      ∙ (ap (λ rest. segments_of image (first_commands image walked) ++ rest) (rw (ne_eqb (command_cmd image place) loader.LC_SEGMENT_64 other) refl)
-      ∙ append-nil (segments_of image (first_commands image walked))))
+  -- The range of those that pass a test, with one command more
+  module _ (test : ℕ → Bool) (range : CommandRange) (are : IsRange image test walked range) where
+    passed_over : test place ≡ false → filter test (first_commands image (walked + 1)) ≡ filter test (first_commands image walked)
+    passed_over fails =
+        ap (filter test) passed_next
+        ∙ (filter-append test (first_commands image walked) (place ∷ [])
+        ∙ (ap (λ rest. filter test (first_commands image walked) ++ rest) (rw fails refl)
+        ∙ append-nil (filter test (first_commands image walked))))
 
-  -- The range of the segments, with one command more
-  module _ (range : SegmentRange) (are : AreSegments image walked range) where
-    pub segments_kept : command_cmd image place ≢ loader.LC_SEGMENT_64 → AreSegments image (walked + 1) range
-    segments_kept other = record {
+    pub range_kept : test place ≡ false → IsRange image test (walked + 1) range
+    range_kept fails = record {
       most = omega (arith, are.most);
       start = are.start;
       none_before = are.none_before;
-      none_after = are.none_after ∙ sym (segments_other other);
+      none_after = are.none_after ∙ sym (passed_over fails);
+      first = are.first;
+      last = are.last;
     }
 
-    pub segments_first : range.count ≡ 0 → AreSegments image (walked + 1) (record { place = place; before = walked; count = 1 })
-    segments_first empty = record {
+    -- the last command before so many is this one
+    is_last : (more : ℕ) → more ≡ walked + 1 → test place ≡ true → Passes image test (more - 1)
+    is_last more all passes = record { place = place; at = subst (λ n. IsAt image n place) (let e : walked ≡ more - 1 = omega arith in e) at; passes = passes }
+
+    first_noted : test place ≡ true → range.count ≡ 0 → IsRange image test (walked + 1) (record { place = place; before = walked; count = 1 })
+    first_noted passes empty = record {
       most = omega arith;
       start = at;
-      none_before = sym are.none_after ∙ (ap (λ n. segments_of image (first_commands image n)) (let e : range.before + range.count ≡ range.before = omega arith in e) ∙ are.none_before);
+      none_before = sym are.none_after ∙ (ap (λ n. filter test (first_commands image n)) (let e : range.before + range.count ≡ range.before = omega arith in e) ∙ are.none_before);
       none_after = refl;
+      first = λ some. passes;
+      last = λ some. is_last (walked + 1) refl passes;
     }
 
-    pub segments_more : AreSegments image (walked + 1) (record range { count = walked + 1 - range.before })
-    segments_more = record {
-      most = omega (arith, are.most);
-      start = are.start;
-      none_before = are.none_before;
-      none_after = ap (λ n. segments_of image (first_commands image n)) (let e : range.before + (walked + 1 - range.before) ≡ walked + 1 = omega (arith, are.most) in e);
+    more_noted : test place ≡ true → 0 < range.count → IsRange image test (walked + 1) (record range { count = walked + 1 - range.before })
+    more_noted passes some =
+        let all : range.before + (walked + 1 - range.before) ≡ walked + 1 = omega (arith, are.most) in record {
+          most = omega (arith, are.most);
+          start = are.start;
+          none_before = are.none_before;
+          none_after = ap (λ n. filter test (first_commands image n)) all;
+          first = λ more. are.first some;
+          last = λ more. is_last (range.before + (walked + 1 - range.before)) all passes;
+        }
+
+    pub range_noted : (noted : CommandRange) → test place ≡ true → (range.count ≡ 0 → noted ≡ record { place = place; before = walked; count = 1 })
+        → (0 < range.count → noted ≡ record range { count = walked + 1 - range.before }) → IsRange image test (walked + 1) noted
+    range_noted noted passes first more = elim (cases_lt 0 range.count) [
+      | inl some ↦ subst (IsRange image test (walked + 1)) (sym (more some)) (more_noted passes some)
+      | inr none ↦ let empty : range.count ≡ 0 = omega arith in subst (IsRange image test (walked + 1)) (sym (first empty)) (first_noted passes empty)
+    ]
+
+  -- what the tests answer of a command, by its cmd
+  module _ (cmd : ℕ) (is : cmd ≡ command_cmd image place) where
+    pub passes_as_segment : cmd ≡ loader.LC_SEGMENT_64 → is_segment image place ≡ true
+    passes_as_segment same = eq-eqb (command_cmd image place) loader.LC_SEGMENT_64 (sym is ∙ same)
+
+    pub fails_as_segment : cmd ≢ loader.LC_SEGMENT_64 → is_segment image place ≡ false
+    fails_as_segment other = ne_eqb (command_cmd image place) loader.LC_SEGMENT_64 (λ same. other (is ∙ same))
+
+    pub names_by : (o : Option Structure) → structure_of cmd ≡ o → names_table image place ≡ option_map_or has_tables o false
+    names_by o listed = ap (λ found. option_map_or has_tables found false) (sym (ap structure_of is) ∙ listed)
+
+    -- a segment names no table
+    pub segment_names_none : cmd ≡ loader.LC_SEGMENT_64 → names_table image place ≡ false
+    segment_names_none same = ap (λ number. option_map_or has_tables (structure_of number) false) (sym is ∙ same)
+
+    -- a command that is not listed is no landmark
+    pub landmarks_kept : (landmarks : Landmarks) → structure_of cmd ≡ None → AreLandmarks image walked landmarks → AreLandmarks image (walked + 1) landmarks
+    landmarks_kept landmarks none are = record {
+      first = subst (λ ps. AreFirst image ps landmarks.unique) (sym passed_next) (first_kept image (first_commands image walked) landmarks.unique cmd place (unlisted_is_not_unique cmd none) is are.first);
+      segments = range_kept (is_segment image) landmarks.segments are.segments (fails_as_segment (unlisted_is_no_segment cmd none));
+      tables = range_kept (names_table image) landmarks.tables are.tables (names_by None none);
     }
 
-pub no_segments : (image : List ℕ) → AreSegments image 0 (record { place = 32; before = 0; count = 0 })
-no_segments image = record { most = omega arith; start = at_first image; none_before = refl; none_after = refl }
+pub no_range : (image : List ℕ) (test : ℕ → Bool) → IsRange image test 0 (record { place = 32; before = 0; count = 0 })
+no_range image test = record { most = omega arith; start = at_first image; none_before = refl; none_after = refl; first = λ some. absurd (omega arith); last = λ some. absurd (omega arith) }
 
 -- the next command of an opened image is good
 pub next_good : (image : List ℕ) → IsOpened image → (walked place : ℕ) → IsAt image walked place → walked < command_count image → IsGood image place
 next_good image opened walked place at less =
     command_good image (commands_of image) place (opened_commands image opened)
     (next_of_all image walked place at (command_count image - walked - 1) (let e : walked + suc (command_count image - walked - 1) ≡ command_count image = omega arith in e))
-
--- The range of the segments of an opened image
-
--- the first of good commands are good
-good_among : (image : List ℕ) (start count all : ℕ) → count ≤ all → All (IsGood image) (places_from image start all) → All (IsGood image) (places_from image start count)
-good_among image start zero all most good = λ k d less. absurd (omega arith)
-good_among image start (suc count) zero most good = absurd (omega arith)
-good_among image start (suc count) (suc all) most good =
-    All-cons (IsGood image) start (places_from image (start + command_size image start) count) (good 0 start (omega arith))
-    (good_among image (start + command_size image start) count all (omega arith) (All-tail (IsGood image) start (places_from image (start + command_size image start) all) good))
-
-module _ (image : List ℕ) (opened : IsOpened image) (range : SegmentRange) (are : AreSegments image (command_count image) range) where
-  abbrev rest : ℕ
-  rest = command_count image - range.before
-
-  among_all : commands_of image ≡ are.start.places ++ places_from image range.place rest
-  among_all = ap (first_commands image) (let e : command_count image ≡ range.before + rest = omega (arith, are.most) in e) ∙ passed_and image range.before range.place are.start rest
-
-  good : (p : ℕ) → Contains (places_from image range.place rest) p → IsGood image p
-  good p has =
-      command_good image (commands_of image) p (opened_commands image opened)
-      (subst (λ ps. Contains ps p) (sym among_all) (Contains-append_right are.start.places (places_from image range.place rest) p has))
-
-  pub can_walk_segments : CanWalk image range.place range.count
-  can_walk_segments = record {
-    good = good_among image range.place range.count rest (omega (arith, are.most))
-        (λ k d less. good (get_or (places_from image range.place rest) k d) (All-contains_itself (places_from image range.place rest) k d less));
-    inside = opened_inside image opened;
-  }
-
-  pub have_segments : HaveSegments image (commands_left image range.place range.count)
-  have_segments =
-      left_with_cmd-map image loader.LC_SEGMENT_64 (places_from image range.place range.count)
-      ∙ ap (map (command_at image)) (sym (sym are.none_after ∙ (ap (segments_of image) (passed_and image range.before range.place are.start range.count)
-      ∙ (filter-append _ are.start.places (places_from image range.place range.count)
-      ∙ ap (λ first. first ++ segments_of image (places_from image range.place range.count)) (ap (segments_of image) (sym (passed_are image range.before range.place are.start)) ∙ are.none_before)))))

@@ -3,8 +3,7 @@ use Rattle.std.proofs.Common.{◌≡◌, ℕ, zero, suc, ◌+◌, ◌-◌, ◌*�
 use Rattle.std.specs.Prelude.{slice_get}
 use Rattle.std.specs.Option.{MatchOption}
 use Rattle.std.proofs.lemmas.List.{drop-map, take-map}
-use Rattle.macho_image.specs.Scaffold.{items_from, symbols_from, indirects_from}
-use Rattle.macho_image.specs.Symbol.{symbol_at, indirect_at}
+use Rattle.macho_image.specs.Symbol.{items_from, symbols_from, indirects_from, symbol_at, indirect_at}
 use Rattle.macho_image.proofs.Items.{items-step}
 
 -- The items of a table

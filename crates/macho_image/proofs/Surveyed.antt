@@ -18,14 +18,14 @@ use Rattle.macho_fields.specs.declared.load_command.Structure.{Structure}
 use Rattle.macho_fields.proofs.Lists.{only_one}
 use Rattle.macho_fields.proofs.LoadCommands.{has_no_structure}
 use Rattle.macho_image.specs.Command.{CommandView, command_of, command_at}
-use Rattle.macho_image.specs.Scaffold.{AreFirst, AreLandmarks, CanPass, HasPassed, IsAlone, IsAt, IsWholeAndMisnamed, Repeats, first_commands}
+use Rattle.macho_image.specs.Scaffold.{AreLandmarks, CanPass, HasPassed, IsAlone, IsAt, IsWholeAndMisnamed, Repeats, first_commands}
 use Rattle.macho_image.specs.declared.command.Command.{Command}
 use Rattle.macho_image.specs.declared.landmarks.Landmarks.{Landmarks}
 use Rattle.macho_image.specs.declared.survey.Survey.{Survey}
 use Rattle.macho_image.specs.declared.walk.Opening.{Opening}
 use Rattle.macho_image.proofs.Alone.{is_alone, short_alone, bad_alone}
-use Rattle.macho_image.proofs.FirstWithCmd.{first_kept, unlisted_is_not_unique, unlisted_is_no_segment}
-use Rattle.macho_image.proofs.Noted.{passed_next, passed_before, segments_kept}
+use Rattle.macho_image.proofs.FirstWithCmd.{unlisted_is_not_unique}
+use Rattle.macho_image.proofs.Noted.{passed_next, passed_before, landmarks_kept}
 use Rattle.macho_image.proofs.Repeated.{repeats_none}
 use Rattle.macho_image.proofs.Opening.{Kept, commands_kept, commands_broken}
 
@@ -155,11 +155,7 @@ module _ (before : Survey) (walked place : ℕ) (can : CanPass before walked pla
     -- a command that is not listed changes nothing
     pub unlisted_passed : structure_of command.cmd ≡ None → HasPassed before (walked + 1)
     unlisted_passed none = record {
-      landmarks = record {
-        first = subst (λ ps. AreFirst bytes ps before.landmarks.unique) (sym (passed_next bytes walked place can.at))
-            (first_kept bytes (first_commands bytes walked) before.landmarks.unique command.cmd place (unlisted_is_not_unique command.cmd none) here passed.landmarks.first);
-        segments = segments_kept bytes walked place can.at before.landmarks.segments passed.landmarks.segments (λ same. unlisted_is_no_segment command.cmd none (here ∙ same));
-      };
+      landmarks = landmarks_kept bytes walked place can.at command.cmd here before.landmarks none passed.landmarks;
       short = marks.short;
       repeated = repeat_passed bytes walked place can.at before.command_repeated passed.repeated
           (repeats_none bytes walked place command.cmd can.at here (unlisted_is_not_unique command.cmd none));

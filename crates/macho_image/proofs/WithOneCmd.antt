@@ -2,8 +2,7 @@
 use Rattle.std.proofs.Common.{◌≡◌, ℕ, ◌==◌, List, [], ◌∷◌, map, cond, Bool, true, false, All, refl, ap, subst, arith}
 use Rattle.std.proofs.lemmas.List.Elements.{All-tail}
 use Rattle.macho_fields.specs.Image.{command_cmd, with_cmd}
-use Rattle.macho_image.specs.Command.{CommandView, command_at}
-use Rattle.macho_image.specs.Scaffold.{left_with_cmd}
+use Rattle.macho_image.specs.Command.{CommandView, command_at, left_with_cmd}
 
 -- a command is kept among the views where it is kept among the places
 pub keep_or_pass : (image : List ℕ) (x : ℕ) (vs : List CommandView) (xs : List ℕ) (b : Bool) → vs ≡ map (command_at image) xs

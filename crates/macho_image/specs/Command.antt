@@ -1,8 +1,8 @@
 -- The load commands of an opened image, as its iterators return them.
-use Rattle.std.specs.Prelude.{ℕ, List, Option, slice_get}
+use Rattle.std.specs.Prelude.{ℕ, ◌==◌, List, Option, map, filter, slice_get}
 use Rattle.macho_fields.specs.Command.{name_start}
 use Rattle.macho_fields.specs.Field.{part, string_from}
-use Rattle.macho_fields.specs.Image.{command_cmd, command_size, with_cmd}
+use Rattle.macho_fields.specs.Image.{command_cmd, command_size, with_cmd, places_from}
 use Rattle.macho_image.specs.declared.command.Command.{Command}
 
 -- the first of the commands with one cmd
@@ -32,3 +32,11 @@ command_at image place = record {
 -- first zero byte
 abbrev pub command_name : List ℕ → ℕ → List ℕ
 command_name image command = string_from (name_start image command) image
+
+-- `left` commands from a place on, one after another
+abbrev pub commands_left : List ℕ → ℕ → ℕ → List CommandView
+commands_left image place left = map (command_at image) (places_from image place left)
+
+-- those with one cmd among the commands that remain
+abbrev pub left_with_cmd : ℕ → List CommandView → List CommandView
+left_with_cmd wanted commands = filter (λ c. c.cmd == wanted) commands

@@ -8,4 +8,5 @@ pub mod Opened
 pub mod Segment
 pub mod Entry
 pub mod Symbol
+pub mod Table
 pub mod Scaffold

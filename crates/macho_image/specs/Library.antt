@@ -1,8 +1,8 @@
 -- The libraries that an image names. (mach-o/loader.h: dylib_command)
-use Rattle.std.specs.Prelude.{ℕ, ◌+◌, List, filter}
+use Rattle.std.specs.Prelude.{ℕ, ◌+◌, List, map, filter}
 use Rattle.macho_fields.specs.Image.{word, command_cmd}
 use Rattle.macho_fields.specs.LoadCommands.{names_library}
-use Rattle.macho_image.specs.Command.{command_name}
+use Rattle.macho_image.specs.Command.{CommandView, command_name}
 use Rattle.macho_image.specs.declared.library.Dylib.{Dylib}
 
 -- the commands that name a library, in order
@@ -35,3 +35,10 @@ dylib_at image command = record {
   current = word image (command + 16);
   compatible = word image (command + 20);
 }
+
+-- the libraries among the commands that remain
+abbrev pub libraries_left : List CommandView → List CommandView
+libraries_left commands = filter (λ c. names_library c.cmd) commands
+
+abbrev pub dylibs_left : List ℕ → List CommandView → List DylibView
+dylibs_left image commands = map (λ c. dylib_at image c.place) (libraries_left commands)

@@ -1,32 +1,26 @@
 -- What only proofs need.
-use Rattle.std.specs.Prelude.{◌≡◌, ℕ, zero, suc, ◌+◌, ◌*◌, ◌≤◌, ◌<◌, ◌==◌, List, [], ◌∷◌}
-use Rattle.std.specs.Prelude.{map, filter, flat_map}
-use Rattle.std.specs.Prelude.{length, All}
+use Rattle.std.specs.Prelude.{◌≡◌, ℕ, ◌+◌, ◌-◌, ◌*◌, ◌≤◌, ◌<◌, ◌==◌, List, []}
+use Rattle.std.specs.Prelude.{length, map, filter, All, Bool, true, false, not}
+use Rattle.std.specs.Option.{option_map_or}
 use Rattle.macho_fields.specs.Bytes.{bytes_of}
 use Rattle.macho_fields.specs.Command.{name_start, IsShort, HasBadName, RepeatsEarlier}
 use Rattle.macho_fields.specs.Field.{HasZero}
 use Rattle.macho_fields.specs.Image.{command_cmd, command_size, command_count, commands_end, commands_of, IsGood, IsChain, places_from}
 use Rattle.macho_fields.specs.FirstPlace.{IsFirstOf}
-use Rattle.macho_fields.specs.LoadCommands.{structure_size, names_library, unique_cmds}
+use Rattle.macho_fields.specs.LoadCommands.{structure_of, structure_size, table_fields, unique_cmds}
 use Rattle.macho_fields.specs.Rules.{BreaksImage}
 use Rattle.macho_fields.specs.Segment.{nsects, segments_of}
 use Rattle.macho_fields.specs.declared.header.loader.TheConstants as loader
-use Rattle.macho_fields.specs.declared.header.nlist.TheConstants as nlist
+use Rattle.macho_fields.specs.declared.load_command.Structure.{Structure}
 use Rattle.macho_fields.specs.declared.load_command.Structure.TheVariants.{DylibCommand}
 use Rattle.macho_fields.specs.declared.load_command.Structure.TheVariants.{BuildVersionCommand}
 use Rattle.macho_fields.specs.declared.rule.Rule.{Rule}
-use Rattle.macho_image.specs.Build.{build_at}
-use Rattle.macho_image.specs.Command.{CommandView, command_at, command_name, first_with_cmd}
-use Rattle.macho_image.specs.Library.{DylibView, dylib_at}
+use Rattle.macho_image.specs.Command.{CommandView, command_at, first_with_cmd, left_with_cmd}
+use Rattle.macho_image.specs.Library.{libraries_left}
 use Rattle.macho_image.specs.Opened.{IsOpened}
-use Rattle.macho_image.specs.Segment.{SegmentView, SectionView, segment_at, section_at, sections_with}
-use Rattle.macho_image.specs.Symbol.{symbol_at, indirect_at}
-use Rattle.macho_image.specs.declared.build.Build.{Build}
-use Rattle.macho_image.specs.declared.indirect.Indirect.{Indirect}
+use Rattle.macho_image.specs.declared.landmarks.CommandRange.{CommandRange}
 use Rattle.macho_image.specs.declared.landmarks.Landmarks.{Landmarks}
-use Rattle.macho_image.specs.declared.landmarks.SegmentRange.{SegmentRange}
 use Rattle.macho_image.specs.declared.survey.Survey.{Survey}
-use Rattle.macho_image.specs.declared.symbol.Symbol.{Symbol}
 use Rattle.macho_image.specs.declared.unique.UniquePlaces.{UniquePlaces}
 use Rattle.macho_image.specs.declared.walk.Opening.{Opening}
 
@@ -58,18 +52,39 @@ first_commands image walked = places_from image loader.MACH_HEADER_64_SIZE walke
 abbrev pub Repeats : List ℕ → ℕ → ℕ → Type 0
 Repeats image walked command = RepeatsEarlier image (first_commands image walked) command
 
--- the range has the segments among the first commands
-pub record AreSegments (image : List ℕ) (walked : ℕ) (range : SegmentRange) : Type 0 where
+-- tests of a command: it is a segment; it names a table
+abbrev pub is_segment : List ℕ → ℕ → Bool
+is_segment image command = command_cmd image command == loader.LC_SEGMENT_64
+
+abbrev pub has_tables : Structure → Bool
+has_tables structure = not (length (table_fields structure) == 0)
+
+abbrev pub names_table : List ℕ → ℕ → Bool
+names_table image command =
+    option_map_or has_tables (structure_of (command_cmd image command)) false
+
+-- a command with so many before it passes the test
+pub record Passes (image : List ℕ) (test : ℕ → Bool) (before : ℕ) : Type 0 where
+  pub place : ℕ
+  pub at : IsAt image before place
+  pub passes : test place ≡ true
+
+-- the range has the first of the first commands that passes the test, the last, and those between
+pub record IsRange (image : List ℕ) (test : ℕ → Bool) (walked : ℕ) (range : CommandRange)
+    : Type 0 where
   pub most : range.before + range.count ≤ walked
   pub start : IsAt image range.before range.place
-  pub none_before : segments_of image (first_commands image range.before) ≡ []
-  pub none_after : segments_of image (first_commands image (range.before + range.count))
-      ≡ segments_of image (first_commands image walked)
+  pub none_before : filter test (first_commands image range.before) ≡ []
+  pub none_after : filter test (first_commands image (range.before + range.count))
+      ≡ filter test (first_commands image walked)
+  pub first : 0 < range.count → test range.place ≡ true
+  pub last : 0 < range.count → Passes image test (range.before + range.count - 1)
 
 -- where those of the first commands are that views look for
 pub record AreLandmarks (image : List ℕ) (walked : ℕ) (landmarks : Landmarks) : Type 0 where
   pub first : AreFirst image (first_commands image walked) landmarks.unique
-  pub segments : AreSegments image walked landmarks.segments
+  pub segments : IsRange image (is_segment image) walked landmarks.segments
+  pub tables : IsRange image (names_table image) walked landmarks.tables
 
 -- what is known of an opened image
 pub record IsKnown (image : List ℕ) (landmarks : Landmarks) : Type 0 where
@@ -103,20 +118,12 @@ pub record IsAlone (c : CommandView) : Type 0 where
   pub size : c.size ≡ command_size c.bytes 0
   pub whole : c.size ≡ length c.bytes
 
--- the commands that remain in a walk
-abbrev pub commands_left : List ℕ → ℕ → ℕ → List CommandView
-commands_left image place left = map (command_at image) (places_from image place left)
-
 -- there are `left` commands from the place on, inside the image
 pub record CanWalk (image : List ℕ) (place left : ℕ) : Type 0 where
   pub good : All (IsGood image) (places_from image place left)
   pub inside : commands_end image ≤ length image
 
--- those with one cmd
-abbrev pub left_with_cmd : ℕ → List CommandView → List CommandView
-left_with_cmd wanted commands = filter (λ c. c.cmd == wanted) commands
-
--- Views: what remains in an iterator, and what its items need of the image
+-- Views: what the items that remain in an iterator need of the image
 
 -- the structure of a segment and its sections lie inside the image
 abbrev pub HoldsSegment : List ℕ → ℕ → Type 0
@@ -124,18 +131,13 @@ HoldsSegment image segment =
     segment + loader.SEGMENT_COMMAND_64_SIZE + loader.SECTION_64_SIZE * nsects image segment
     ≤ length image
 
--- the segments among the commands that remain
-abbrev pub segments_left : List ℕ → List CommandView → List SegmentView
-segments_left image commands =
-    map (λ c. segment_at image c.place) (left_with_cmd loader.LC_SEGMENT_64 commands)
-
 -- the commands of a walk have all segments of the image
 abbrev pub HaveSegments : List ℕ → List CommandView → Type 0
 HaveSegments image commands =
     left_with_cmd loader.LC_SEGMENT_64 commands
     ≡ map (command_at image) (segments_of image (commands_of image))
 
--- they lie inside the image
+-- the segments among the commands that remain lie inside the image
 abbrev pub HoldSegments : List ℕ → List CommandView → Type 0
 HoldSegments image commands =
     All (λ c. HoldsSegment image c.place) (left_with_cmd loader.LC_SEGMENT_64 commands)
@@ -145,42 +147,19 @@ pub record HoldsSection (image : List ℕ) (segment section : ℕ) : Type 0 wher
   pub held : HoldsSegment image segment
   pub inside : section + loader.SECTION_64_SIZE ≤ length image
 
--- `left` sections of a segment from a place on, one after another
-abbrev pub sections_from : List ℕ → ℕ → ℕ → ℕ → List SectionView
-sections_from image segment place zero = []
-sections_from image segment place (suc left) =
-    section_at image (segment, place)
-    ∷ sections_from image segment (place + loader.SECTION_64_SIZE) left
-
--- they lie inside the image, and so does their segment, where there are any
+-- `left` sections from a place on lie inside the image, and so does their segment, where there are
+-- any
 pub record HoldSections (image : List ℕ) (segment place left : ℕ) : Type 0 where
   pub held : 0 < left → HoldsSegment image segment
   pub inside : place + loader.SECTION_64_SIZE * left ≤ length image
-
--- the sections of the segments that remain
-abbrev pub sections_among : List SegmentView → List SectionView
-sections_among segments =
-    flat_map (λ s. map (section_at s.image) (sections_with s.image s.place)) segments
 
 -- the lc_str of a command lies inside the image, and so does the zero byte that ends its name
 pub record HoldsName (image : List ℕ) (command : ℕ) : Type 0 where
   pub whole : command + loader.LC_STR_OFFSET + 4 ≤ length image
   pub ended : HasZero image (name_start image command) (length image)
 
--- the paths among the commands that remain
-abbrev pub rpaths_left : List ℕ → List CommandView → List (List ℕ)
-rpaths_left image commands =
-    map (λ c. command_name image c.place) (left_with_cmd loader.LC_RPATH commands)
-
 abbrev pub HoldNames : List ℕ → ℕ → List CommandView → Type 0
 HoldNames image cmd commands = All (λ c. HoldsName image c.place) (left_with_cmd cmd commands)
-
--- the libraries among the commands that remain
-abbrev pub libraries_left : List CommandView → List CommandView
-libraries_left commands = filter (λ c. names_library c.cmd) commands
-
-abbrev pub dylibs_left : List ℕ → List CommandView → List DylibView
-dylibs_left image commands = map (λ c. dylib_at image c.place) (libraries_left commands)
 
 -- a dylib_command lies inside the image, and so does the zero byte that ends its name
 pub record HoldsLibrary (image : List ℕ) (command : ℕ) : Type 0 where
@@ -194,25 +173,7 @@ HoldLibraries image commands = All (λ c. HoldsLibrary image c.place) (libraries
 abbrev pub LieInside : List ℕ → ℕ → List CommandView → Type 0
 LieInside image size commands = All (λ c. c.place + size ≤ length image) commands
 
--- the builds among the commands that remain
-abbrev pub builds_left : List ℕ → List CommandView → List Build
-builds_left image commands =
-    map (λ c. build_at image c.place) (left_with_cmd loader.LC_BUILD_VERSION commands)
-
 abbrev pub HoldBuilds : List ℕ → List CommandView → Type 0
 HoldBuilds image commands =
     LieInside image (structure_size BuildVersionCommand)
     (left_with_cmd loader.LC_BUILD_VERSION commands)
-
--- the places of `left` items of a table, of which the first is at `place`
-abbrev pub items_from : ℕ → ℕ → ℕ → List ℕ
-items_from each place zero = []
-items_from each place (suc left) = place ∷ items_from each (place + each) left
-
--- `left` symbols, or indirect entries, from a place on
-abbrev pub symbols_from : List ℕ → ℕ → ℕ → List Symbol
-symbols_from image place left = map (symbol_at image) (items_from nlist.NLIST_64_SIZE place left)
-
-abbrev pub indirects_from : List ℕ → ℕ → ℕ → List Indirect
-indirects_from image place left =
-    map (indirect_at image) (items_from loader.INDIRECT_ENTRY_SIZE place left)

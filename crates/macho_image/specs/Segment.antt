@@ -1,10 +1,12 @@
 -- The segments of an opened image, and their sections. (mach-o/loader.h: segment_command_64,
 -- section_64)
-use Rattle.std.specs.Prelude.{ℕ, ◌+◌, ◌==◌, List, map, flat_map}
+use Rattle.std.specs.Prelude.{ℕ, zero, suc, ◌+◌, ◌==◌, List, [], ◌∷◌, map, flat_map}
 use Rattle.std.specs.List.{before_first}
 use Rattle.macho_fields.specs.Field.{part}
 use Rattle.macho_fields.specs.Image.{word}
 use Rattle.macho_fields.specs.Segment.{segments_of, sections_in}
+use Rattle.macho_fields.specs.declared.header.loader.TheConstants as loader
+use Rattle.macho_image.specs.Command.{CommandView, left_with_cmd}
 
 -- a segment of an image, by its place
 pub record SegmentView : Type 0 where
@@ -56,3 +58,20 @@ reserved1 image section = word image (section + 68)
 
 abbrev pub reserved2 : List ℕ → ℕ → ℕ
 reserved2 image section = word image (section + 72)
+
+-- the segments among the commands that remain
+abbrev pub segments_left : List ℕ → List CommandView → List SegmentView
+segments_left image commands =
+    map (λ c. segment_at image c.place) (left_with_cmd loader.LC_SEGMENT_64 commands)
+
+-- `left` sections of a segment from a place on, one after another
+abbrev pub sections_from : List ℕ → ℕ → ℕ → ℕ → List SectionView
+sections_from image segment place zero = []
+sections_from image segment place (suc left) =
+    section_at image (segment, place)
+    ∷ sections_from image segment (place + loader.SECTION_64_SIZE) left
+
+-- the sections of the segments that remain
+abbrev pub sections_among : List SegmentView → List SectionView
+sections_among segments =
+    flat_map (λ s. map (section_at s.image) (sections_with s.image s.place)) segments

@@ -1,7 +1,7 @@
 -- The symbols of an opened image, their names, and the indirect entries.
 -- (mach-o/loader.h: symtab_command, dysymtab_command; mach-o/nlist.h: nlist_64)
 use Rattle.std.specs.Prelude.{◌≡◌, ◌≢◌, ℕ, ◌+◌, ◌*◌, ◌≤◌, List, [], map, length, nat_le, IsSomeAnd}
-use Rattle.std.specs.Prelude.{if◌then◌else◌}
+use Rattle.std.specs.Prelude.{zero, suc, ◌∷◌, if◌then◌else◌}
 use Rattle.std.specs.List.{range_with_len}
 use Rattle.std.specs.Option.{option_map_or}
 use Rattle.macho_fields.specs.Field.{string_from, HasZero}
@@ -106,3 +106,16 @@ abbrev pub IsNameAt : List ℕ → List ℕ → ℕ → List ℕ → Type 0
 IsNameAt image commands strx name =
     IsSomeAnd (first_with_cmd image loader.LC_SYMTAB commands) (λ symtab.
     name ≡ string_from (stroff image symtab + strx) image)
+
+-- the places of `left` items of a table, of which the first is at `place`
+abbrev pub items_from : ℕ → ℕ → ℕ → List ℕ
+items_from each place zero = []
+items_from each place (suc left) = place ∷ items_from each (place + each) left
+
+-- `left` symbols, or indirect entries, from a place on
+abbrev pub symbols_from : List ℕ → ℕ → ℕ → List Symbol
+symbols_from image place left = map (symbol_at image) (items_from nlist.NLIST_64_SIZE place left)
+
+abbrev pub indirects_from : List ℕ → ℕ → ℕ → List Indirect
+indirects_from image place left =
+    map (indirect_at image) (items_from loader.INDIRECT_ENTRY_SIZE place left)

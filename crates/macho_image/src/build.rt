@@ -38,7 +38,8 @@ impl<'a> Model for Builds<'a> {
     ghost use Rattle.std.specs.Prelude.{List};
     ghost use Rattle.macho_fields.specs.Bytes.{bytes_of};
     ghost use Rattle.macho_image.specs.declared.build.Build.{Build};
-    ghost use Rattle.macho_image.specs.Scaffold.{builds_left, HoldBuilds};
+    ghost use Rattle.macho_image.specs.Build.{builds_left};
+    ghost use Rattle.macho_image.specs.Scaffold.{HoldBuilds};
 
     ghost Value = { List Build };
 

@@ -34,8 +34,8 @@ pub struct Commands<'a> {
 impl<'a> Model for Commands<'a> {
     ghost use Rattle.std.specs.Prelude.{List};
     ghost use Rattle.macho_fields.specs.Bytes.{bytes_of};
-    ghost use Rattle.macho_image.specs.Command.{CommandView};
-    ghost use Rattle.macho_image.specs.Scaffold.{commands_left, CanWalk};
+    ghost use Rattle.macho_image.specs.Command.{CommandView, commands_left};
+    ghost use Rattle.macho_image.specs.Scaffold.{CanWalk};
 
     ghost Value = { List CommandView };
 
@@ -67,8 +67,7 @@ impl<'a> Iterator for Commands<'a> {
 
 impl<'a> Commands<'a> {
     ghost use Rattle.std.specs.Iterator.{YieldsFirstBy};
-    ghost use Rattle.macho_image.specs.Command.{command_of};
-    ghost use Rattle.macho_image.specs.Scaffold.{left_with_cmd};
+    ghost use Rattle.macho_image.specs.Command.{command_of, left_with_cmd};
 
     /// The next command whose `cmd` is `wanted`. The commands before it are skipped.
     pub(crate) fn next_with_cmd(&mut self, wanted: u32) -> Option<Command<'a>>

@@ -45,6 +45,7 @@ impl<'a> Image<'a> {
     ghost use Rattle.macho_image.specs.Header.{IsKind};
     ghost use Rattle.macho_image.specs.Opened.{IsOpened};
     ghost use Rattle.macho_image.specs.Scaffold.{HaveSegments};
+    ghost use Rattle.macho_image.specs.Table.{HaveTables};
 
     /// Opens `bytes` as a 64-bit image. `arch` is the `cputype` and the `cpusubtype` that a
     /// universal file gives for it, or `None` where the image is a file of its own. The magic
@@ -137,15 +138,30 @@ impl<'a> Image<'a> {
         self.commands().next_with_cmd(cmd)
     }
 
+    /// The commands from the first that names a table to the last. None before them and none after
+    /// them names one.
+    pub fn commands_with_tables(&self) -> Commands<'a>
+        ensures tables { HaveTables self.now result }
+        ensures opened { IsOpened self.now }
+    {
+        let range = self.landmarks.tables;
+        Commands {
+            image: self.bytes,
+            place: range.place,
+            left: range.count,
+        }
+    }
+
     /// The commands from the first segment to the last. No search for segments goes past them.
     pub(crate) fn commands_with_segments(&self) -> Commands<'a>
         ensures segments { HaveSegments self.now result }
         ensures opened { IsOpened self.now }
     {
+        let range = self.landmarks.segments;
         Commands {
             image: self.bytes,
-            place: self.landmarks.segments.place,
-            left: self.landmarks.segments.count,
+            place: range.place,
+            left: range.count,
         }
     }
 

@@ -43,7 +43,7 @@ impl<'a> Model for Indirects<'a> {
     ghost use Rattle.macho_fields.specs.Bytes.{bytes_of};
     ghost use Rattle.macho_image.specs.declared.indirect.Indirect.{Indirect};
     ghost use Rattle.macho_fields.specs.declared.header.loader.TheConstants.{INDIRECT_ENTRY_SIZE};
-    ghost use Rattle.macho_image.specs.Scaffold.{indirects_from};
+    ghost use Rattle.macho_image.specs.Symbol.{indirects_from};
 
     ghost Value = { List Indirect };
 

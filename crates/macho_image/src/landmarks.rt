@@ -1,31 +1,42 @@
 //! Where an image has the commands that its views look for. (`mach-o/loader.h`: `load_command`)
 
-ghost use Rattle.std.specs.Prelude.{◌≡◌, ◌+◌, ◌-◌, ◌≤◌, ◌<◌, ◌^◌, ◌↔◌, ℕ, List, IsTrue};
+ghost use Rattle.std.specs.Prelude.{◌≡◌, ◌+◌, ◌-◌, ◌≤◌, ◌<◌, ◌^◌, ◌↔◌, ℕ, List, Bool, Some, IsTrue};
 ghost use Rattle.macho_fields.specs.Bytes.{bytes_of};
 ghost use Rattle.macho_fields.specs.Image.{command_cmd, command_count};
+ghost use Rattle.macho_fields.specs.LoadCommands.{structure_of};
 ghost use Rattle.macho_image.specs.Opened.{IsOpened};
-ghost use Rattle.macho_image.specs.Scaffold.{AreLandmarks, IsAt, Repeats};
+ghost use Rattle.macho_image.specs.Scaffold.{AreLandmarks, IsAt, IsRange, Repeats};
 
 use crate::command::{Command, command_from, word_at};
 use crate::unique::UniquePlaces;
 use crate::walk::NCMDS;
-use macho_fields::Bytes;
 use macho_fields::header::loader::{LC_SEGMENT_64, MACH_HEADER_64_SIZE};
+use macho_fields::{Bytes, Structure, structure_of};
 
-/// The commands from the first segment to the last. (`segment_command_64`)
+/// The commands from the first that is noted to the last.
 #[derive(Clone, Copy)]
-pub(crate) struct SegmentRange {
-    /// Where the first segment is.
+pub(crate) struct CommandRange {
+    /// Where the first is.
     pub(crate) place: u64,
     /// How many commands come before it.
     pub(crate) before: u32,
-    /// How many commands there are from it to the last segment, both included. None where the image
-    /// has no segment.
+    /// How many commands there are from it to the last, both included. None where none is noted.
     pub(crate) count: u32,
 }
 
-impl SegmentRange {
-    /// Notes a segment that comes after those noted before: the command with this index, from 0 on.
+impl CommandRange {
+    /// The range where no command is noted.
+    fn new() -> CommandRange
+        ensures { (image : List ℕ) (test : ℕ → Bool) → IsRange image test 0 result }
+    {
+        CommandRange {
+            place: MACH_HEADER_64_SIZE,
+            before: 0,
+            count: 0,
+        }
+    }
+
+    /// Notes a command that comes after those noted before: the one with this index, from 0 on.
     fn note(&mut self, place: u64, index: u32)
         requires later { self.old.before + self.old.count ≤ index }
         requires fits { index + 1 < 2 ^ 32 }
@@ -42,11 +53,13 @@ impl SegmentRange {
     }
 }
 
-/// Where an image has the commands of which there is at most one, and its segments.
+/// Where an image has the commands of which there is at most one, its segments, and the commands that
+/// name a table.
 #[derive(Clone, Copy)]
 pub(crate) struct Landmarks {
     pub(crate) unique: UniquePlaces,
-    pub(crate) segments: SegmentRange,
+    pub(crate) segments: CommandRange,
+    pub(crate) tables: CommandRange,
 }
 
 impl Landmarks {
@@ -56,11 +69,8 @@ impl Landmarks {
     {
         Landmarks {
             unique: UniquePlaces::new(),
-            segments: SegmentRange {
-                place: MACH_HEADER_64_SIZE,
-                before: 0,
-                count: 0,
-            },
+            segments: CommandRange::new(),
+            tables: CommandRange::new(),
         }
     }
 
@@ -73,16 +83,20 @@ impl Landmarks {
         let mut place = MACH_HEADER_64_SIZE;
         for index in 0..word_at(image, NCMDS) {
             let command = command_from(image, place);
-            landmarks.note(command, index);
+            if let Some(structure) = structure_of(command.cmd) {
+                landmarks.note(command, structure, index);
+            }
             place += u64::from(command.size);
         }
         landmarks
     }
 
-    /// Notes the command with this index, from 0 on, after those before it. Returns whether it is a
-    /// second one of which an image has at most one.
-    pub(crate) fn note(&mut self, command: Command, index: u32) -> bool
-        requires later { self.old.segments.before + self.old.segments.count ≤ index }
+    /// Notes the command of this structure and with this index, from 0 on, after those before it.
+    /// Returns whether it is a second one of which an image has at most one.
+    pub(crate) fn note(&mut self, command: Command, structure: Structure, index: u32) -> bool
+        requires listed { structure_of command.cmd ≡ Some structure }
+        requires segments { self.old.segments.before + self.old.segments.count ≤ index }
+        requires tables { self.old.tables.before + self.old.tables.count ≤ index }
         requires fits { index + 1 < 2 ^ 32 }
         ensures landmarks { (image : List ℕ) → IsAt image index command.entry.place
             → command.entry.cmd ≡ command_cmd image command.entry.place
@@ -95,6 +109,9 @@ impl Landmarks {
         if command.cmd == LC_SEGMENT_64 {
             self.segments.note(command.place, index);
             return false;
+        }
+        if !structure.tables().is_empty() {
+            self.tables.note(command.place, index);
         }
         self.unique.note(command)
     }

@@ -4,8 +4,8 @@ ghost use Rattle.std.specs.Prelude.{◌≡◌};
 ghost use Rattle.std.specs.Iterator.{YieldsFirstBy};
 ghost use Rattle.macho_fields.specs.Bytes.{bytes_of};
 ghost use Rattle.macho_image.specs.Command.{command_of};
-ghost use Rattle.macho_image.specs.Library.{dylib_of, dylib_at};
-ghost use Rattle.macho_image.specs.Scaffold.{HoldsLibrary, libraries_left};
+ghost use Rattle.macho_image.specs.Library.{dylib_of, dylib_at, libraries_left};
+ghost use Rattle.macho_image.specs.Scaffold.{HoldsLibrary};
 
 use crate::command::{Command, Commands, name_of, word_at, word_in};
 use crate::image::Image;
@@ -41,7 +41,8 @@ impl<'a> Model for Dylibs<'a> {
     ghost use Rattle.std.specs.Prelude.{List};
     ghost use Rattle.macho_fields.specs.Bytes.{bytes_of};
     ghost use Rattle.macho_image.specs.Library.{DylibView};
-    ghost use Rattle.macho_image.specs.Scaffold.{dylibs_left, HoldLibraries};
+    ghost use Rattle.macho_image.specs.Library.{dylibs_left};
+    ghost use Rattle.macho_image.specs.Scaffold.{HoldLibraries};
 
     ghost Value = { List DylibView };
 

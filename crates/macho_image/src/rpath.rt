@@ -18,7 +18,8 @@ impl<'a> Model for Rpaths<'a> {
     ghost use Rattle.std.specs.Prelude.{List, ℕ};
     ghost use Rattle.macho_fields.specs.Bytes.{bytes_of};
     ghost use Rattle.macho_fields.specs.declared.header.loader.TheConstants.{LC_RPATH};
-    ghost use Rattle.macho_image.specs.Scaffold.{rpaths_left, HoldNames};
+    ghost use Rattle.macho_image.specs.Rpath.{rpaths_left};
+    ghost use Rattle.macho_image.specs.Scaffold.{HoldNames};
 
     ghost Value = { List (List ℕ) };
 

@@ -35,8 +35,7 @@ impl<'a> Section<'a> {
     ghost use Rattle.std.specs.Prelude.{◌≡◌, ◌%◌};
     ghost use Rattle.macho_fields.specs.Segment.{section_address, section_size, section_offset};
     ghost use Rattle.macho_fields.specs.Segment.{reloff, nreloc, section_flags, is_zero_fill};
-    ghost use Rattle.macho_image.specs.Segment.{segment_at, section_name, section_align};
-    ghost use Rattle.macho_image.specs.Segment.{reserved1, reserved2};
+    ghost use Rattle.macho_image.specs.Segment.{segment_at, section_name, section_align, reserved1, reserved2};
 
     /// The segment that it belongs to.
     pub fn segment(&self) -> Segment<'a>
@@ -157,8 +156,8 @@ pub struct Sections<'a> {
 impl<'a> Model for Sections<'a> {
     ghost use Rattle.std.specs.Prelude.{List};
     ghost use Rattle.macho_fields.specs.Bytes.{bytes_of};
-    ghost use Rattle.macho_image.specs.Segment.{SectionView};
-    ghost use Rattle.macho_image.specs.Scaffold.{sections_from, HoldSections};
+    ghost use Rattle.macho_image.specs.Segment.{SectionView, sections_from};
+    ghost use Rattle.macho_image.specs.Scaffold.{HoldSections};
 
     ghost Value = { List SectionView };
 
@@ -204,8 +203,7 @@ pub struct AllSections<'a> {
 
 impl<'a> Model for AllSections<'a> {
     ghost use Rattle.std.specs.Prelude.{◌++◌, List};
-    ghost use Rattle.macho_image.specs.Segment.{SectionView};
-    ghost use Rattle.macho_image.specs.Scaffold.{sections_among};
+    ghost use Rattle.macho_image.specs.Segment.{SectionView, sections_among};
 
     ghost Value = { List SectionView };
 

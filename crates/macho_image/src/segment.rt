@@ -123,8 +123,8 @@ pub struct Segments<'a> {
 impl<'a> Model for Segments<'a> {
     ghost use Rattle.std.specs.Prelude.{List};
     ghost use Rattle.macho_fields.specs.Bytes.{bytes_of};
-    ghost use Rattle.macho_image.specs.Segment.{SegmentView};
-    ghost use Rattle.macho_image.specs.Scaffold.{segments_left, HoldSegments};
+    ghost use Rattle.macho_image.specs.Segment.{SegmentView, segments_left};
+    ghost use Rattle.macho_image.specs.Scaffold.{HoldSegments};
 
     ghost Value = { List SegmentView };
 

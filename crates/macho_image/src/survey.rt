@@ -79,7 +79,7 @@ impl<'a> Survey<'a> {
         } else if has_bad_name(command, structure) {
             self.name.note(place);
         }
-        if self.landmarks.note(command, index) {
+        if self.landmarks.note(command, structure, index) {
             self.command_repeated.note(place);
         }
     }

@@ -53,7 +53,7 @@ impl<'a> Model for Symbols<'a> {
     ghost use Rattle.macho_fields.specs.Bytes.{bytes_of};
     ghost use Rattle.macho_fields.specs.declared.header.nlist.TheConstants.{NLIST_64_SIZE};
     ghost use Rattle.macho_image.specs.declared.symbol.Symbol.{Symbol};
-    ghost use Rattle.macho_image.specs.Scaffold.{symbols_from};
+    ghost use Rattle.macho_image.specs.Symbol.{symbols_from};
 
     ghost Value = { List Symbol };
 

@@ -3,7 +3,7 @@ use Rattle.std.proofs.Common.{◌≡◌, ℕ, suc, zero, ◌+◌, ◌≤◌, ◌
 use Rattle.std.specs.Prelude.{⊤}
 use Rattle.std.specs.List.{range_with_len}
 use Rattle.std.proofs.lemmas.Bool.{cases_Bool, cases_eq}
-use Rattle.std.proofs.lemmas.List.Elements.{Contains-append_cases, All-contains, All-filter, All-contains_itself}
+use Rattle.std.proofs.lemmas.List.Elements.{Contains-append_cases, Contains-append_left, All-contains, All-filter, All-contains_itself}
 use Rattle.macho_fields.proofs.FirstPlaces.{AreBreaks}
 use Rattle.macho_fields.proofs.Lists.{none_in_nil, contains_first, contains_later, contains_mapped, first_or_later}
 
@@ -24,6 +24,15 @@ ordered_append {X = X} R (x ∷ xs) ys (first, up) down across =
     either : (y : X) → Contains xs y ⊎ Contains ys y → R x y
     either y (inl among) = first y among
     either y (inr after) = across x y (contains_first x xs) after
+
+-- the first items of a list, and those after them
+pub ordered_before : {X : Type 0} (R : X → X → Type 0) (xs ys : List X) → Ordered R (xs ++ ys) → Ordered R xs
+ordered_before R [] ys up = tt
+ordered_before R (x ∷ xs) ys (first, up) = (λ y has. first y (Contains-append_left xs ys y has), ordered_before R xs ys up)
+
+pub ordered_after : {X : Type 0} (R : X → X → Type 0) (xs ys : List X) → Ordered R (xs ++ ys) → Ordered R ys
+ordered_after R [] ys up = up
+ordered_after R (x ∷ xs) ys (first, up) = ordered_after R xs ys up
 
 pub unfiltered : {X : Type 0} (test : X → Bool) (xs : List X) (y : X) → Contains (filter test xs) y → Contains xs y
 unfiltered test xs y has = All-contains (Contains xs) (filter test xs) y (All-filter test (Contains xs) xs (All-contains_itself xs)) has

@@ -22,7 +22,7 @@ pub(crate) fn table_range(image: &Image) -> Result<(), Break>
     ensures { JudgesUpTo image.now Rule.TableRange result }
 {
     let bytes = image.bytes();
-    for command in image.commands() {
+    for command in image.commands_with_tables() {
         if has_table_outside(bytes, command.cmd, command.place) {
             return Err(Break::at(Rule::TableRange, command.place));
         }

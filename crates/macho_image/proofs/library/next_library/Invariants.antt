@@ -1,5 +1,5 @@
 use Rattle.std.proofs.Common.{◌≡◌}
-use Rattle.macho_image.specs.Scaffold.{libraries_left}
+use Rattle.macho_image.specs.Library.{libraries_left}
 use Rattle.macho_image.proofs.library.next_library.Given as goal
 
 -- only commands of other kinds were skipped

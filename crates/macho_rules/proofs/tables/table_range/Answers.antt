@@ -4,6 +4,7 @@ use Rattle.macho_fields.specs.Image.{command_cmd, commands_of}
 use Rattle.macho_fields.specs.declared.rule.Rule.TheVariants as rule
 use Rattle.macho_image.specs.Command.{command_of}
 use Rattle.macho_image.specs.Opened.{IsOpened}
+use Rattle.macho_image.specs.Table.{HaveTables}
 use Rattle.macho_rules.proofs.Judged.{judged_found, judged_ended}
 use Rattle.macho_rules.proofs.Searches.{search_next}
 use Rattle.macho_rules.proofs.TableRange.{HasTableOutside, views_search, views_break, view_left}
@@ -13,14 +14,14 @@ pub loop-command-init : goal.loop-command-init
 loop-command-init c = (
   tt,
   tt,
-  views_search c.args.image.now _ c.commands-command-items.ensures.opened (c.into_iter-command-iterator.ensures.into_iter_gives ∙ c.commands-command-items.ensures.commands) _,
+  views_search c.args.image.now _ c.commands_with_tables-command-items.ensures.opened (subst (HaveTables c.args.image.now) (sym c.into_iter-command-iterator.ensures.into_iter_gives) c.commands_with_tables-command-items.ensures.tables) _,
 )
 
 pub has_table_outside-requires : goal.has_table_outside-requires
 has_table_outside-requires c =
-    let are = c.into_iter-command-iterator.ensures.into_iter_gives ∙ c.commands-command-items.ensures.commands in
+    let have = subst (HaveTables c.args.image.now) (sym c.into_iter-command-iterator.ensures.into_iter_gives) c.commands_with_tables-command-items.ensures.tables in
     let same = sym c.bytes-bytes.ensures.bytes in
-    let (listed, cmd) = view_left c.args.image.now _ c.bytes-bytes.ensures.opened are _ _ _
+    let (listed, cmd) = view_left c.args.image.now _ c.bytes-bytes.ensures.opened have _ _ _
     (command_of c.in-Some.command) c.in-Some.ensures.steps c.loop-command.invariant.2 in
     record {
       opened = subst IsOpened same c.bytes-bytes.ensures.opened;
@@ -30,9 +31,9 @@ has_table_outside-requires c =
 
 pub returns-then-has_table_outside : goal.returns-then-has_table_outside
 returns-then-has_table_outside c =
-    let are = c.into_iter-command-iterator.ensures.into_iter_gives ∙ c.commands-command-items.ensures.commands in
+    let have = subst (HaveTables c.args.image.now) (sym c.into_iter-command-iterator.ensures.into_iter_gives) c.commands_with_tables-command-items.ensures.tables in
     judged_found c.args.image.now rule.TableRange (lit≤ tt) c.requires _ _ _
-    (views_break c.args.image.now _ c.bytes-bytes.ensures.opened are) _ c.loop-command.invariant.2
+    (views_break c.args.image.now _ c.bytes-bytes.ensures.opened have) _ c.loop-command.invariant.2
     (command_of c.in-Some.command) _ c.in-Some.ensures.steps
     (subst (λ (bytes : List ℕ). HasTableOutside bytes c.in-Some.command.place) c.bytes-bytes.ensures.bytes (c.has_table_outside.ensures.0 c.if-has_table_outside.true)) c.at.result c.at.ensures.rule
     c.at.ensures.place
@@ -48,7 +49,7 @@ loop-command-preserved c = (
 
 pub returns : goal.returns
 returns c =
-    let are = c.into_iter-command-iterator.ensures.into_iter_gives ∙ c.commands-command-items.ensures.commands in
+    let have = subst (HaveTables c.args.image.now) (sym c.into_iter-command-iterator.ensures.into_iter_gives) c.commands_with_tables-command-items.ensures.tables in
     judged_ended c.args.image.now rule.TableRange (lit≤ tt) c.requires _ _ _
-    (views_break c.args.image.now _ c.bytes-bytes.ensures.opened are) _ c.loop-command.invariant.2
+    (views_break c.args.image.now _ c.bytes-bytes.ensures.opened have) _ c.loop-command.invariant.2
     c.in-None.ensures.steps.0

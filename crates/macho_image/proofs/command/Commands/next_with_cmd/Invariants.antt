@@ -1,5 +1,5 @@
 use Rattle.std.proofs.Common.{◌≡◌}
-use Rattle.macho_image.specs.Scaffold.{left_with_cmd}
+use Rattle.macho_image.specs.Command.{left_with_cmd}
 use Rattle.macho_image.proofs.command.Commands.next_with_cmd.Given as goal
 
 -- only commands of other kinds were skipped

@@ -1,11 +1,12 @@
 use Rattle.std.proofs.Common.{subst}
 use Rattle.macho_fields.specs.Bytes.{bytes_of}
-use Rattle.macho_image.specs.Scaffold.{HaveSegments, commands_left}
-use Rattle.macho_image.proofs.Noted.{can_walk_segments, have_segments}
+use Rattle.macho_image.specs.Command.{commands_left}
+use Rattle.macho_image.specs.Scaffold.{HaveSegments, is_segment}
+use Rattle.macho_image.proofs.NotedRange.{can_walk_range, have_segments}
 use Rattle.macho_image.proofs.image.Image.commands_with_segments.Goals as goal
 
 pub invariant_of-result : goal.invariant_of-result
-invariant_of-result c = can_walk_segments _ c.self.invariant.opened c.self.inside.landmarks.segments c.self.invariant.all.segments
+invariant_of-result c = can_walk_range _ c.self.invariant.opened (is_segment (bytes_of c.self.inside.bytes)) c.self.inside.landmarks.segments c.self.invariant.all.segments
 
 pub returns-clause-segments : goal.returns-clause-segments
 returns-clause-segments c =

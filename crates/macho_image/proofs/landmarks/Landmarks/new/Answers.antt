@@ -1,5 +1,9 @@
-use Rattle.macho_image.proofs.Noted.{no_segments}
+use Rattle.macho_image.specs.Scaffold.{is_segment, names_table}
 use Rattle.macho_image.proofs.landmarks.Landmarks.new.Goals as goal
 
 pub returns : goal.returns
-returns c = λ image. record { first = c.new.ensures image; segments = no_segments image }
+returns c = λ image. record {
+  first = c.new.ensures image;
+  segments = c.new-2.ensures image (is_segment image);
+  tables = c.new-3.ensures image (names_table image);
+}

@@ -1,5 +1,5 @@
 use Rattle.std.proofs.Common.{◌≡◌, ◌++◌, length}
-use Rattle.macho_image.specs.Scaffold.{sections_among}
+use Rattle.macho_image.specs.Segment.{sections_among}
 use Rattle.macho_image.proofs.section.AllSectionsIterator.next.Given as goal
 
 -- only segments without sections were skipped

@@ -1,6 +1,5 @@
 use Rattle.std.proofs.Common.{◌+◌, ap, ◌∙◌}
-use Rattle.macho_image.specs.Segment.{SegmentView}
-use Rattle.macho_image.specs.Scaffold.{sections_from}
+use Rattle.macho_image.specs.Segment.{SegmentView, sections_from}
 use Rattle.macho_image.proofs.HeldSegments.{sections_seen}
 use Rattle.macho_image.proofs.segment.Segment.sections.Goals as goal
 

@@ -2,7 +2,7 @@ use Rattle.std.proofs.Common.{arith, ap}
 use Rattle.macho_fields.specs.Bytes.{bytes_of}
 use Rattle.macho_fields.specs.First.{rank}
 use Rattle.macho_fields.specs.declared.rule.Rule.TheVariants as rule
-use Rattle.macho_image.specs.Scaffold.{commands_left}
+use Rattle.macho_image.specs.Command.{commands_left}
 use Rattle.macho_image.proofs.Opening.{has_header}
 use Rattle.macho_image.proofs.OpenedWalk.{can_walk}
 use Rattle.macho_image.proofs.walk.Opening.commands.Goals as goal
