@@ -29,6 +29,7 @@ split image start (suc count) zero most = absurd (omega arith)
 split image start (suc count) (suc all) most =
     let (after, same) = split image (start + command_size image start) count all (omega arith) in (after, ap (λ ps. start ∷ ps) same)
 
+-- where no place passes the test, all have what a place has that fails it
 none_passes : (test : ℕ → Bool) (xs : List ℕ) → filter test xs ≡ [] → (P : ℕ → Type 0) → ((x : ℕ) → test x ≡ false → P x) → All P xs
 none_passes test xs none P to k d less = to (get_or xs k d) (fails xs none (get_or xs k d) (All-contains_itself xs k d less))
   where

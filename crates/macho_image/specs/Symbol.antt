@@ -73,7 +73,7 @@ abbrev pub symbol_at : List ℕ → ℕ → Symbol
 symbol_at image symbol = record {
   place = symbol;
   strx = n_strx image symbol;
-  symbol_type = n_type image symbol;
+  kind = n_type image symbol;
   sect = n_sect image symbol;
   desc = n_desc image symbol;
   value = n_value image symbol;

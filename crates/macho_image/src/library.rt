@@ -40,8 +40,7 @@ pub struct Dylibs<'a> {
 impl<'a> Model for Dylibs<'a> {
     ghost use Rattle.std.specs.Prelude.{List};
     ghost use Rattle.macho_fields.specs.Bytes.{bytes_of};
-    ghost use Rattle.macho_image.specs.Library.{DylibView};
-    ghost use Rattle.macho_image.specs.Library.{dylibs_left};
+    ghost use Rattle.macho_image.specs.Library.{DylibView, dylibs_left};
     ghost use Rattle.macho_image.specs.Scaffold.{HoldLibraries};
 
     ghost Value = { List DylibView };

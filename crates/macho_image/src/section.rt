@@ -35,7 +35,8 @@ impl<'a> Section<'a> {
     ghost use Rattle.std.specs.Prelude.{◌≡◌, ◌%◌};
     ghost use Rattle.macho_fields.specs.Segment.{section_address, section_size, section_offset};
     ghost use Rattle.macho_fields.specs.Segment.{reloff, nreloc, section_flags, is_zero_fill};
-    ghost use Rattle.macho_image.specs.Segment.{segment_at, section_name, section_align, reserved1, reserved2};
+    ghost use Rattle.macho_image.specs.Segment.{segment_at, section_name, section_align};
+    ghost use Rattle.macho_image.specs.Segment.{reserved1, reserved2};
 
     /// The segment that it belongs to.
     pub fn segment(&self) -> Segment<'a>

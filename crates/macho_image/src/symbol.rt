@@ -18,7 +18,7 @@ pub struct Symbol {
     /// `n_strx`: the offset of its name in the strings, in bytes, or 0 where it has none.
     pub strx: u32,
     /// `n_type`: the bits of `N_STAB`, `N_PEXT`, `N_TYPE` and `N_EXT`.
-    pub symbol_type: u8,
+    pub kind: u8,
     /// `n_sect`: the number of its section, from 1 over all segments, or 0 where it has none.
     pub sect: u8,
     /// `n_desc`: flags, or data of a debugging entry.
@@ -34,9 +34,9 @@ impl Symbol {
     /// Whether `sect` is to be the number of a section: the symbol is defined in one, and is no
     /// debugging entry.
     pub fn names_section(&self) -> bool
-        ensures { IsTrue result ↔ IsSectionType self.now.symbol_type }
+        ensures { IsTrue result ↔ IsSectionType self.now.kind }
     {
-        self.symbol_type & N_STAB == 0 && self.symbol_type & N_TYPE == N_SECT
+        self.kind & N_STAB == 0 && self.kind & N_TYPE == N_SECT
     }
 }
 
@@ -161,7 +161,7 @@ fn symbol_from(image: Bytes, place: u64) -> Symbol
     Symbol {
         place,
         strx: word_at(image, place),
-        symbol_type: image.read_u8(place + TYPE_OFFSET),
+        kind: image.read_u8(place + TYPE_OFFSET),
         sect: image.read_u8(place + SECT_OFFSET),
         desc: image.read_u16(Order::Little, place + DESC_OFFSET),
         value: long_at(image, place + VALUE_OFFSET),

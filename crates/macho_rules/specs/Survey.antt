@@ -96,4 +96,4 @@ BeginsPast limit symbol = (symbol.strx ≢ 0) × (limit ≤ symbol.strx)
 -- the symbol is defined in a section, and none of so many sections has its number
 abbrev pub LacksSection : ℕ → Symbol → Type 0
 LacksSection count symbol =
-    IsSectionType symbol.symbol_type × ((symbol.sect ≡ 0) ⊎ (count < symbol.sect))
+    IsSectionType symbol.kind × ((symbol.sect ≡ 0) ⊎ (count < symbol.sect))

@@ -156,7 +156,7 @@ fn symbols(text: &mut String, alloc: Global, image: &Image) -> Result<(), AllocE
         let numbers = [
             symbol.place,
             u64::from(symbol.strx),
-            u64::from(symbol.symbol_type),
+            u64::from(symbol.kind),
             u64::from(symbol.sect),
             u64::from(symbol.desc),
             symbol.value,
