@@ -1,14 +1,30 @@
-use Rattle.std.proofs.Common.{◌∙◌, sym, subst}
+use Rattle.std.proofs.Common.{◌≡◌, ◌∙◌, ℕ, Result, Ok, Err, IsErrAnd, sym, subst}
 use Rattle.macho_fields.specs.Bytes.{bytes_of}
 use Rattle.macho_fields.specs.First.{rank}
 use Rattle.macho_fields.specs.Image.{command_count}
-use Rattle.macho_fields.specs.Layers.{KeptBelow}
+use Rattle.macho_fields.specs.Layers.{Continues, IsLeast, KeptBelow}
+use Rattle.macho_fields.specs.Rules.{BreaksImage}
+use Rattle.macho_fields.specs.declared.rule.Break.{Break}
+use Rattle.macho_fields.specs.declared.rule.Rule.{Rule}
 use Rattle.macho_fields.specs.declared.rule.Rule.TheVariants as rule
 use Rattle.macho_image.specs.Scaffold.{AreLandmarks, breaks_of}
 use Rattle.macho_image.specs.declared.walk.Opening.{Opening}
 use Rattle.macho_image.proofs.Opened.{may_open}
 use Rattle.macho_image.proofs.Opening.{kept_alone}
 use Rattle.macho_image.proofs.image.Image.open.Goals as goal
+
+-- an answer that hands on the break of a rule
+handed_on : {T : Type 0} (breaks : Rule → ℕ → Type 0) (r : Rule) (answer : Result T Break) (b : Break) → IsErrAnd answer (λ given. given ≡ b) → IsLeast breaks b → Continues breaks r answer
+handed_on breaks r (Ok x) b err least = absurd err
+handed_on breaks r (Err given) b same least = subst (IsLeast breaks) (sym same) least
+
+pub returns-in_err-arch_mismatch-clause-decides : goal.returns-in_err-arch_mismatch-clause-decides
+returns-in_err-arch_mismatch-clause-decides c =
+    handed_on (BreaksImage (bytes_of c.args.bytes) c.args.arch) rule.Name c.from_residual-in_err-arch_mismatch.result c.in_err-arch_mismatch.field-0.0
+    c.from_residual-in_err-arch_mismatch.ensures.1 c.in_err-arch_mismatch.ensures
+
+pub file_type-requires : goal.file_type-requires
+file_type-requires c = c.in_ok-arch_mismatch.ensures
 
 pub dylib_id-requires-clause-before : goal.dylib_id-requires-clause-before
 dylib_id-requires-clause-before c =
