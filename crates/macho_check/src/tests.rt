@@ -3,6 +3,7 @@
 
 mod address;
 mod examples;
+mod faults;
 mod fields;
 mod layers;
 mod layout;
