@@ -1,4 +1,4 @@
-use Rattle.std.proofs.Common.{List, ℕ, refl, sym, ◌∙◌, subst, arith, lit≤, lit<}
+use Rattle.std.proofs.Common.{List, ℕ, refl, sym, ◌∙◌, subst, arith, lit≤, lit<, rules}
 use Rattle.macho_fields.specs.Bytes.{bytes_of}
 use Rattle.macho_fields.specs.First.{rank}
 use Rattle.macho_fields.specs.Layers.{KeptBelow}
@@ -45,6 +45,9 @@ returns-in_err-fat_overlap-clause-refused c =
     let found = c.in_err-fat_overlap.field-0.0 in
     fault_passed table (bytes_of c.args.file) (c.of-survey.ensures ∙ c.in_ok-table-in-Universal.ensures.table) c.from_residual-in_err-fat_overlap.result found
     c.from_residual-in_err-fat_overlap.ensures.1 (rule_fault table rule.FatOverlap _ found (lit≤ tt) c.in_err-fat_overlap.ensures)
+
+pub fat_duplicate-requires : goal.fat_duplicate-requires
+fat_duplicate-requires c = search rules
 
 pub returns-in_err-fat_duplicate-clause-refused : goal.returns-in_err-fat_duplicate-clause-refused
 returns-in_err-fat_duplicate-clause-refused c =
