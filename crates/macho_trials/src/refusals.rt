@@ -66,6 +66,7 @@ fn call_named<R: Input, W: Output>(
     match name {
         "run" => call_run(rt, limit, reader, writer),
         "run_where" => call_run_where(rt, limit, reader, writer),
+        "read_all" => call_read_all(rt, limit, reader),
         name => {
             let input = read_all(rt.alloc(), limit, reader).map_err(RunFault::from)?;
             call_on(rt, name, &input, writer)
@@ -97,6 +98,18 @@ fn call_run_where<R: Input, W: Output>(
     Ok(())
 }
 
+/// Calls `read_all`, and prints how many bytes it has read.
+fn call_read_all<R: Input>(
+    rt: &(impl AllocGlobal + Print + Eprint),
+    limit: u64,
+    reader: &mut R,
+) -> Result<(), Fault> {
+    announce(rt)?;
+    let input = read_all(rt.alloc(), limit, reader).map_err(RunFault::from)?;
+    println!(rt; "{} bytes", input.len())?;
+    Ok(())
+}
+
 /// Makes the call of this name on the input.
 fn call_on<W: Output>(
     rt: &(impl AllocGlobal + Print + Eprint),
@@ -109,8 +122,12 @@ fn call_on<W: Output>(
         "verify" => image::call_verify(rt, input, writer),
         "check_image" => image::call_check_image(rt, input),
         "Mapping::of" => image::call_mapping(rt, input),
+        "Mapping::of_image" => image::call_mapping_of_image(rt, input),
+        "VerifiedImage::mapping" => image::call_mapping_of_verified(rt, input),
         "try_insert" => spans::call_try_insert(rt, input),
         "push" => spans::call_push(rt, input),
+        "SpanList::with_capacity" => spans::call_list_with_capacity(rt, input),
+        "Spans::with_capacity" => spans::call_spans_with_capacity(rt, input),
         _ => Err(Fault::NoCall),
     }
 }

@@ -7,6 +7,7 @@ use macho_fields::Bytes;
 use macho_image::Image;
 use macho_report::{Output, write_layout};
 use macho_rules::{Mapping, Verified, check_image, verify};
+use macho_verified::VerifiedImage;
 use std::io;
 
 /// The addresses that a mapping is asked for: in each segment of an executable, and past the last.
@@ -72,6 +73,36 @@ fn map_first(rt: &(impl AllocGlobal + Print + Eprint), verified: &Verified) -> R
         None => println!(rt; "no image")?,
         Some(mut mapping) => print_sources(rt, &mut mapping)?,
     }
+    Ok(())
+}
+
+/// Calls `Mapping::of_image` for the first slice, and prints what is at some addresses.
+pub(crate) fn call_mapping_of_image(
+    rt: &(impl AllocGlobal + Print + Eprint),
+    file: &[u8],
+) -> Result<(), Fault> {
+    let verified = verify(rt.alloc(), file)?;
+    let Some(image) = VerifiedImage::of(&verified, 0) else {
+        return Err(Fault::NoCall);
+    };
+    announce(rt)?;
+    let mut mapping = Mapping::of_image(rt.alloc(), image.image())?;
+    print_sources(rt, &mut mapping)?;
+    Ok(())
+}
+
+/// Calls `VerifiedImage::mapping` for the first slice, and prints what is at some addresses.
+pub(crate) fn call_mapping_of_verified(
+    rt: &(impl AllocGlobal + Print + Eprint),
+    file: &[u8],
+) -> Result<(), Fault> {
+    let verified = verify(rt.alloc(), file)?;
+    let Some(image) = VerifiedImage::of(&verified, 0) else {
+        return Err(Fault::NoCall);
+    };
+    announce(rt)?;
+    let mut mapping = image.mapping(rt.alloc())?;
+    print_sources(rt, &mut mapping)?;
     Ok(())
 }
 

@@ -105,6 +105,33 @@ fn push_each(list: &mut SpanList, all: &[Span]) -> Result<bool, Fault> {
     Ok(refused)
 }
 
+/// Makes a `SpanList` with room for all spans, pushes each, and prints what `push` does.
+pub(crate) fn call_list_with_capacity(
+    rt: &(impl AllocGlobal + Print + Eprint),
+    input: &[u8],
+) -> Result<(), Fault> {
+    let all = spans_of(rt.alloc(), input)?;
+    announce(rt)?;
+    let mut list = SpanList::with_capacity(rt.alloc(), all.len())?;
+    let refused = push_each(&mut list, &all)?;
+    println!(rt; "{:?}", list.least_overlap())?;
+    end(refused)
+}
+
+/// Makes `Spans` with room for all spans, inserts each, and prints what `try_insert` does.
+pub(crate) fn call_spans_with_capacity(
+    rt: &(impl AllocGlobal + Print + Eprint),
+    input: &[u8],
+) -> Result<(), Fault> {
+    let all = spans_of(rt.alloc(), input)?;
+    let mut pairs = Vec::with_capacity(rt.alloc(), all.len())?;
+    announce(rt)?;
+    let mut spans = Spans::with_capacity(rt.alloc(), all.len())?;
+    let refused = insert_each(&mut spans, &mut pairs, &all)?;
+    println!(rt; "{} held", spans.len())?;
+    end(refused)
+}
+
 /// The spans of the lines `START LEN`.
 fn spans_of(alloc: Global, input: &[u8]) -> Result<Vec<Span>, Fault> {
     let Ok(text) = str::from_utf8(input) else {
