@@ -1,4 +1,4 @@
-use Rattle.std.proofs.Common.{◌≡◌, ap, subst, rules, arith}
+use Rattle.std.proofs.Common.{◌≡◌, ap, rules, arith}
 use Rattle.macho_fields.specs.Scaffold.{StartBy}
 use Rattle.macho_fields.specs.Spans.{SpansView}
 use Rattle.macho_fields.proofs.SortedSpans.{found_before}
