@@ -12,6 +12,8 @@ pub(crate) struct CountingReader<'a> {
     pub(crate) reads: u64,
     /// Which call fails, from 1 on, and 0 for none.
     pub(crate) fails_at: u64,
+    /// How many bytes a call gives at most.
+    pub(crate) most: usize,
 }
 
 impl<'a> CountingReader<'a> {
@@ -20,6 +22,7 @@ impl<'a> CountingReader<'a> {
             bytes,
             reads: 0,
             fails_at,
+            most: usize::MAX,
         }
     }
 }
@@ -30,7 +33,8 @@ impl Read for CountingReader<'_> {
         if self.reads == self.fails_at {
             return Err(io::Error::from(ErrorKind::Interrupted));
         }
-        self.bytes.read(piece)
+        let count = piece.len().min(self.most);
+        self.bytes.read(&mut piece[..count])
     }
 }
 
@@ -52,6 +56,8 @@ pub(crate) struct CountingWriter {
     /// Which call, a write or a flush, goes wrong, from 1 on, and 0 for none.
     pub(crate) fails_at: u64,
     pub(crate) fault: Fault,
+    /// How many bytes a write takes at most.
+    pub(crate) most: usize,
 }
 
 impl CountingWriter {
@@ -62,6 +68,7 @@ impl CountingWriter {
             flushes: 0,
             fails_at,
             fault,
+            most: usize::MAX,
         }
     }
 
@@ -79,7 +86,8 @@ impl Write for CountingWriter {
                 Fault::NoBytes => Ok(0),
             };
         }
-        self.bytes.write(piece)
+        let count = piece.len().min(self.most);
+        self.bytes.write(&piece[..count])
     }
 
     fn flush(&mut self) -> io::Result<()> {

@@ -3,6 +3,7 @@
 
 mod address;
 mod examples;
+mod failing;
 mod faults;
 mod fields;
 mod layers;

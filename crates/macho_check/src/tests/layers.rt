@@ -131,6 +131,21 @@ fn slices_of_twins(rt: HostRuntime) -> Result<(), Fail> {
     )
 }
 
+#[test]
+fn unread_slice(rt: HostRuntime) -> Result<(), Fail> {
+    let file = written(
+        rt.alloc(),
+        "cafebabe 00000002 01000007 00000003 00000040 00000020 .4 00000007 00000003 00000060 00000004 .4
+        .16 cffaedfe 07000001 03000000 02000000 .16 cefaedfe",
+    )?;
+    let verified = verify(rt.alloc(), &file)?;
+    same(&rt, &verified.image(0).is_some(), &true);
+    same(&rt, &verified.image(1).is_none(), &true);
+    let read = slice(64, 32, Some((CPU_TYPE_X86_64, 3)), true);
+    let unread = slice(96, 4, Some((7, 3)), false);
+    check_verified(&rt, &verified, &[read, unread])
+}
+
 /// Compares the slices of a file that is written out.
 fn check_list(
     rt: &(impl Abort + AllocGlobal),

@@ -298,13 +298,8 @@ fn architectures(rt: HostRuntime) -> Result<(), Fail> {
     )
 }
 
-#[test]
-fn whole_executable(rt: HostRuntime) -> Result<(), Fail> {
-    let file = executable(rt.alloc())?;
-    check_text(
-        &rt,
-        &file,
-        r#"accepted, slices 1
+/// The text on the executable.
+pub(super) const EXECUTABLE_LAYOUT: &str = r#"accepted, slices 1
 slice 0 x86_64 at 0x0 size 0x202c execute
   uuid 00112233-4455-6677-8899-AABBCCDDEEFF
   build platform 1 min 11.0.0 sdk 13.1.0
@@ -318,8 +313,12 @@ slice 0 x86_64 at 0x0 size 0x202c execute
   load "/usr/lib/libSystem.B.dylib" current 1319.0.0 compatible 1.0.0
   symbols 2
   entry 0x100000f00
-"#,
-    );
+"#;
+
+#[test]
+fn whole_executable(rt: HostRuntime) -> Result<(), Fail> {
+    let file = executable(rt.alloc())?;
+    check_text(&rt, &file, EXECUTABLE_LAYOUT);
     Ok(())
 }
 

@@ -33,11 +33,49 @@ fn reads_a_reader_of_std(rt: HostRuntime) -> Result<(), Fail> {
 
 /// A byte more than 16 pieces of 65,536 bytes.
 fn long_text(alloc: Global) -> Result<Vec<u8>, AllocError> {
-    let mut long = Vec::new(alloc);
-    for i in 0..(1 << 20) + 1u32 {
-        long.push((i % 251) as u8)?;
+    text_of(alloc, (1 << 20) + 1)
+}
+
+/// A text of so many bytes.
+fn text_of(alloc: Global, count: u32) -> Result<Vec<u8>, AllocError> {
+    let mut text = Vec::new(alloc);
+    for i in 0..count {
+        text.push((i % 251) as u8)?;
     }
-    Ok(long)
+    Ok(text)
+}
+
+/// Three MiB: 48 pieces of 65,536 bytes.
+const THREE_MEBIBYTES: u32 = 3 << 20;
+
+#[test]
+fn reads_three_mebibytes(rt: HostRuntime) -> Result<(), Fail> {
+    let text = text_of(rt.alloc(), THREE_MEBIBYTES)?;
+    let mut counted = CountingReader::new(&text, 0);
+    let mut reader = FromRead::new(&mut counted);
+    let read = read_all(rt.alloc(), 1 << 32, &mut reader);
+    same(&rt, &read.as_deref(), &Ok(text.as_slice()));
+    // Of the pieces, and of the end.
+    same(&rt, &counted.reads, &49);
+    Ok(())
+}
+
+#[test]
+fn writes_three_mebibytes(rt: HostRuntime) -> Result<(), Fail> {
+    let text = text_of(rt.alloc(), THREE_MEBIBYTES)?;
+    let mut counted = CountingWriter::new(Vec::new(rt.alloc()), 0, Fault::Error);
+    let mut writer = FromWrite::new(&mut counted);
+    for piece in text.chunks(65_536) {
+        same(&rt, &writer.write(piece), &Ok(piece.len()));
+        same(&rt, &writer.flush(), &Ok(()));
+    }
+    // One more write of all, which nothing flushes.
+    same(&rt, &write_all(&text, &mut writer), &Ok(()));
+    same(&rt, &(counted.writes, counted.flushes), &(49, 48));
+    same(&rt, &counted.bytes.len(), &(6 << 20));
+    let halves = counted.bytes.split_at(3 << 20);
+    same(&rt, &halves, &(text.as_slice(), text.as_slice()));
+    Ok(())
 }
 
 #[test]
