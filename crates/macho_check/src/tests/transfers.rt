@@ -158,13 +158,3 @@ fn failing_streams_of_an_address(rt: HostRuntime) {
         same(&rt, &writer.bytes.as_slice(), &text.as_bytes());
     }
 }
-
-#[test]
-fn endless_input(rt: HostRuntime) {
-    let mut reader = EndlessReader { reads: 0 };
-    let mut writer = SlowWriter::new(Vec::new(rt.alloc()), 1000);
-    let ended = run(rt.alloc(), 64, &mut reader, &mut writer);
-    same(&rt, &ended, &Err(RunFault::TooLong));
-    same(&rt, &reader.reads, &65);
-    same(&rt, &writer.bytes.is_empty(), &true);
-}
