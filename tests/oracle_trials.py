@@ -364,7 +364,7 @@ def compare(oracle, program, questions):
     return differences, kinds, answers
 
 def kind_of(says):
-    """A rule, `accepted`, or what `where` tells, without its numbers."""
+    """A rule, `accepted`, or what `where` prints, without its numbers."""
     found = re.match(rb"refused: ([a-z-]+) at|(accepted|file|zero|unmapped|macho-check: [a-z ]*)", says[1])
     return found.group(1 if found.group(1) else 2).decode() if found else "other"
 
