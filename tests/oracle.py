@@ -282,23 +282,22 @@ def name_offset(command):
     return command.path if hasattr(command, "path") else command.name
 
 def first_sharing(ranges):
-    """The index of the first range, from a start up to an end, that shares a number with an earlier one, or None.
+    """The place of the first range that shares a number with an earlier one. A range is a place, a start and a size.
 
     All pairs are asked, but few are compared. The earlier ranges are kept in the order of their starts. They share
     nothing with each other, so this is the order of their ends too. So of those that start before this one, the last
     one reaches farthest, and of the others the first one starts least: if neither shares a number, none does.
     """
     earlier = []
-    for index, (start, end) in enumerate(ranges):
-        if start == end:
+    for place, start, size in ranges:
+        if size == 0:
             continue
+        end = start + size
         at = bisect.bisect(earlier, (start, end))
-        if at > 0 and earlier[at - 1][1] > start:
-            return index
-        if at < len(earlier) and earlier[at][0] < end:
-            return index
+        if (at > 0 and earlier[at - 1][1] > start) or (at < len(earlier) and earlier[at][0] < end):
+            yield place
+            return
         earlier.insert(at, (start, end))
-    return None
 
 # Rules of the file. Places count from the start of the file.
 
@@ -333,9 +332,7 @@ def fat_align(file):
 
 def fat_overlap(file):
     """The entry's slice shares a byte with that of some earlier entry."""
-    index = first_sharing([(entry.offset, entry.offset + entry.size) for entry in file.entries])
-    if index is not None:
-        yield file.entries[index].place
+    return first_sharing((entry.place, entry.offset, entry.size) for entry in file.entries)
 
 def fat_duplicate(file):
     """Some earlier entry has the same `cputype` and masked cpusubtype."""
@@ -461,9 +458,7 @@ def segment_file(image):
 
 def segment_overlap(image):
     """The segment shares an address with some segment earlier in command order."""
-    index = first_sharing([(segment.vmaddr, segment.vmaddr + segment.vmsize) for segment in image.segments])
-    if index is not None:
-        yield image.segments[index].place
+    return first_sharing((segment.place, segment.vmaddr, segment.vmsize) for segment in image.segments)
 
 def section_address(image):
     """The segment is mapped, `size` > 0, and the section's addresses do not lie in the segment's."""
