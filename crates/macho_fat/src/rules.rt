@@ -48,7 +48,7 @@ pub(crate) fn fat_truncated(file: Bytes) -> Result<Table, Break>
 {
     let truncated = Break::at(Rule::FatTruncated, NFAT_ARCH);
     let count = file.u32_at(Order::Big, NFAT_ARCH).ok_or(truncated)?;
-    let wide = file.u32_at(Order::Big, 0) == Some(FAT_MAGIC_64);
+    let wide = file.read_u32(Order::Big, 0) == FAT_MAGIC_64;
     if !file.contains_table(FAT_HEADER_SIZE, u64::from(count), entry_size(wide)) {
         return Err(truncated);
     }

@@ -89,8 +89,8 @@ pub(crate) struct Entry {
 impl Entry {
     ghost use Rattle.std.specs.Prelude.{◌≡◌, ◌+◌, ◌*◌, ◌^◌};
 
-    /// A span of one place, which stands for the architecture: the spans of two entries share it
-    /// exactly where their architectures are the same.
+    /// A span of one place, whose start is the number of the architecture: the spans of two entries
+    /// share a place exactly where their architectures are the same.
     pub(crate) fn arch_span(self) -> Span
         ensures start { result.start ≡ self.arch.0 * 2 ^ 24 + self.arch.1 }
         ensures len { result.len ≡ 1 }
@@ -172,7 +172,7 @@ impl<'a> Table<'a> {
         requires inside { (place : ℕ) → ¬ BreaksFile self.now Rule.FatSliceOutside place }
         ensures { bytes_of result ≡ slice_bytes self.now (entry_slice self.now k) }
     {
-        Bytes::new(self.file.read_part(self.entry(k).span))
+        self.file.slice(self.entry(k).span)
     }
 
     /// A field that has 64 bits in a `fat_arch_64`, and 32 bits in a `fat_arch`.

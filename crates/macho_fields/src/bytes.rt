@@ -1,6 +1,6 @@
 //! Numbers and parts of the bytes of a file.
 
-ghost use Rattle.std.specs.Prelude.{◌≡◌, ◌+◌, ◌*◌, ◌≤◌, ◌<◌, ◌↔◌, [], length, slice_get, slice_index, IsTrue, IsSome, IfSome};
+ghost use Rattle.std.specs.Prelude.{◌≡◌, ◌+◌, ◌*◌, ◌^◌, ◌≤◌, ◌<◌, ◌↔◌, [], length, slice_get, slice_index, IsTrue, IsSome, IfSome};
 ghost use Rattle.macho_fields.specs.Bytes.{bytes_of};
 ghost use Rattle.macho_fields.specs.Field.{field, number, part, string_from, HasZero};
 ghost use Rattle.macho_fields.specs.Span.{end_of, Holds};
@@ -35,7 +35,8 @@ impl<'a> Bytes<'a> {
 
     /// How many bytes there are.
     pub fn len(self) -> u64
-        ensures { result ≡ length (bytes_of self.entry) }
+        ensures count { result ≡ length (bytes_of self.entry) }
+        ensures fits { length (bytes_of self.entry) < 2 ^ 64 }
     {
         self.bytes.len() as u64
     }
@@ -115,6 +116,23 @@ impl<'a> Bytes<'a> {
     {
         let rest = &self.bytes[span.start as usize..];
         &rest[..span.len as usize]
+    }
+
+    /// The bytes at the places of `span`, which are all inside, as a file of their own: they are read
+    /// by their places from `span.start` on. They are not copied.
+    pub fn slice(self, span: Span) -> Bytes<'a>
+        requires { end_of span ≤ length (bytes_of self) }
+        ensures { bytes_of result ≡ part span.start span.len (bytes_of self.entry) }
+    {
+        Bytes::new(self.read_part(span))
+    }
+
+    /// The bytes of `span` before the first zero byte in it, which there is. They are not copied.
+    pub fn read_string(self, span: Span) -> &'a [u8]
+        requires { HasZero (bytes_of self) span.start (end_of span) }
+        ensures { result.now ≡ string_from span.start (bytes_of self.entry) }
+    {
+        self.string_in(span).unwrap()
     }
 
     /// Whether `span` ends inside the bytes. An empty span is inside up to the very end.

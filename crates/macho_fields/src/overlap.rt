@@ -53,7 +53,8 @@ impl SpanList {
     }
 
     /// Adds a span, which may be empty, as the last one. Memory is asked for only where there is no
-    /// room left, and then for twice as many spans, or for four. Where it runs out, nothing has changed.
+    /// room left, and then for as many more as there are, or for four more where there are fewer.
+    /// Where it runs out, nothing has changed.
     pub fn push(&mut self, span: Span) -> Result<(), AllocError>
         ensures ok { OnOk result (self.new.spans ≡ self.old.spans ++ span ∷ []) }
         ensures err { OnErr result (self.new ≡ self.old) }

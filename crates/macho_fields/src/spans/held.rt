@@ -2,8 +2,8 @@
 //! with the start or place that is searched for: `starts_by`, which counts it, and which the search by
 //! halves alone calls. What is counted as a test is a look at one given pair: whether its span shares a
 //! place with a span (`shares`) or holds a place (`holding`). A test compares the pair's start as well,
-//! and is no probe: an insertion makes two at most, a look-up one. No other function lets a caller see a
-//! start.
+//! and is no probe: an insertion makes two at most, a look-up one. A caller sees no start but that of
+//! the pair that `holding` found and returns.
 
 use super::count::Count;
 use crate::span::Span;

@@ -12,7 +12,7 @@ returns-in_err-files-clause-memory c = on_err c.from_residual-in_err-files.resul
 pub invariant_of-result : goal.invariant_of-result
 invariant_of-result c =
     let image = c.args.image.now in
-    let size : c.len.result ≡ length image = c.len.ensures ∙ ap length c.bytes.ensures.bytes in
+    let size : c.len.result ≡ length image = c.len.ensures.count ∙ ap length c.bytes.ensures.bytes in
     let short : length image < 2 ^ 64 = omega (arith, size, c.len.type_inv) in
     record {
       indexed = all_indexed image _ _ c.in_ok-memory.ensures.held c.in_ok-files.ensures.files;

@@ -40,7 +40,7 @@ invariant_of-result c =
     let are = c.into_iter-segment-iterator.ensures.into_iter_gives ∙ c.segments-segment-items.ensures.segments in
     let (seen, reached, segments, sections, mapped, count) = c.loop-segment.invariant in
     let all = sym (walked_all _ seen _ reached c.in-None.ensures.steps.0) ∙ are in
-    let size : c.len.result ≡ length image = c.len.ensures ∙ ap length c.bytes-bytes.ensures.bytes in
+    let size : c.len.result ≡ length image = c.len.ensures.count ∙ ap length c.bytes-bytes.ensures.bytes in
     let short : length image < 2 ^ 64 = omega (arith, size, c.len.type_inv) in
     subst (λ (bytes : List ℕ). IsSurveyOf bytes c.loop-segment.segments c.loop-segment.sections c.loop-segment.mapped c.loop-segment.section_count) (sym c.bytes-bytes.ensures.bytes)
     (survey_found image opened seen all c.loop-segment.segments c.loop-segment.sections c.loop-segment.mapped c.loop-segment.section_count short segments sections mapped count)
