@@ -29,20 +29,6 @@ executable_names image commands kind bad =
 
 -- an executable without commands breaks no rule
 pub nothing_commanded : (image : List ℕ) → file_type image ≡ 2 → (r : Rule) (place : ℕ) → ¬ BreaksCommands image [] r place
-nothing_commanded image kind rule.Magic place h = h
-nothing_commanded image kind rule.FatTruncated place h = h
-nothing_commanded image kind rule.FatSliceOutside place h = h
-nothing_commanded image kind rule.FatSliceInTable place h = h
-nothing_commanded image kind rule.FatAlign place h = h
-nothing_commanded image kind rule.FatOverlap place h = h
-nothing_commanded image kind rule.FatDuplicate place h = h
-nothing_commanded image kind rule.FatSliceMagic place h = h
-nothing_commanded image kind rule.FatEmpty place h = h
-nothing_commanded image kind rule.HeaderTruncated place h = h
-nothing_commanded image kind rule.ArchMismatch place h = h
-nothing_commanded image kind rule.FileType place h = h
-nothing_commanded image kind rule.CommandsOutside place h = h
-nothing_commanded image kind rule.CommandWalk place h = h
 nothing_commanded image kind rule.CommandShort place h = none_in_nil place h.0
 nothing_commanded image kind rule.CommandRepeated place h = none_in_nil place h.0
 nothing_commanded image kind rule.DylibId place h = any_nil _ (executable_names image [] kind h.1)
@@ -60,6 +46,7 @@ nothing_commanded image kind rule.SymbolName place h = any_nil _ h
 nothing_commanded image kind rule.SymbolSection place h = any_nil _ h
 nothing_commanded image kind rule.IndirectIndex place h = any_nil _ h
 nothing_commanded image kind rule.Entry place h = none_in_nil place h.0
+nothing_commanded image kind other place h = h
 
 abbrev bare : List ℕ
 bare = header 2 0 0
@@ -122,20 +109,6 @@ abbrev unlisted : List ℕ
 unlisted = header 2 1 8 ++ four 0x99 ++ four 8
 
 unlisted_keeps : (r : Rule) (at : ℕ) → ¬ BreaksCommands unlisted (32 ∷ []) r at
-unlisted_keeps rule.Magic at h = h
-unlisted_keeps rule.FatTruncated at h = h
-unlisted_keeps rule.FatSliceOutside at h = h
-unlisted_keeps rule.FatSliceInTable at h = h
-unlisted_keeps rule.FatAlign at h = h
-unlisted_keeps rule.FatOverlap at h = h
-unlisted_keeps rule.FatDuplicate at h = h
-unlisted_keeps rule.FatSliceMagic at h = h
-unlisted_keeps rule.FatEmpty at h = h
-unlisted_keeps rule.HeaderTruncated at h = h
-unlisted_keeps rule.ArchMismatch at h = h
-unlisted_keeps rule.FileType at h = h
-unlisted_keeps rule.CommandsOutside at h = h
-unlisted_keeps rule.CommandWalk at h = h
 unlisted_keeps rule.CommandShort at h = keeps_size unlisted at refl h
 unlisted_keeps rule.CommandRepeated at h = not_repeated unlisted at h
 unlisted_keeps rule.DylibId at h = no_library unlisted at refl (λ e. absurd (omega arith)) h
@@ -153,6 +126,7 @@ unlisted_keeps rule.SymbolName at h = any_nil _ h
 unlisted_keeps rule.SymbolSection at h = any_nil _ h
 unlisted_keeps rule.IndirectIndex at h = any_nil _ h
 unlisted_keeps rule.Entry at h = none_in_nil at h.0
+unlisted_keeps other at h = h
 
 pub unlisted_command : IsUnbroken unlisted
 unlisted_command = unbroken_image unlisted refl (lit≤ tt, refl) none

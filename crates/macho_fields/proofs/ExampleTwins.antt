@@ -79,27 +79,7 @@ file_keeps rule.FatSliceMagic at (u, h) =
     ]
 file_keeps rule.FatEmpty at (e, u, h) = h 0 (entry_slice twins 0) (lit< tt) (lit≤ tt, refl)
 file_keeps rule.HeaderTruncated at h = h
-file_keeps rule.ArchMismatch at h = h
-file_keeps rule.FileType at h = h
-file_keeps rule.CommandsOutside at h = h
-file_keeps rule.CommandWalk at h = h
-file_keeps rule.CommandShort at h = h
-file_keeps rule.CommandRepeated at h = h
-file_keeps rule.DylibId at h = h
-file_keeps rule.Name at h = h
-file_keeps rule.SegmentAddress at h = h
-file_keeps rule.SegmentSize at h = h
-file_keeps rule.SegmentFile at h = h
-file_keeps rule.SegmentOverlap at h = h
-file_keeps rule.SectionAddress at h = h
-file_keeps rule.SectionFile at h = h
-file_keeps rule.SectionRelocs at h = h
-file_keeps rule.TableRange at h = h
-file_keeps rule.SymbolGroup at h = h
-file_keeps rule.SymbolName at h = h
-file_keeps rule.SymbolSection at h = h
-file_keeps rule.IndirectIndex at h = h
-file_keeps rule.Entry at h = h
+file_keeps other at h = h
 
 abbrev first : List ℕ
 first = other_header 0
@@ -108,37 +88,12 @@ first_header : IsHeader first
 first_header = record { long_enough = lit≤ tt; kind = refl; commands_inside = lit≤ tt }
 
 first_keeps_header : (r : Rule) (at : ℕ) → ¬ BreaksHeader first (Some (0x0100000c, 0)) r at
-first_keeps_header rule.Magic at h = h
-first_keeps_header rule.FatTruncated at h = h
-first_keeps_header rule.FatSliceOutside at h = h
-first_keeps_header rule.FatSliceInTable at h = h
-first_keeps_header rule.FatAlign at h = h
-first_keeps_header rule.FatOverlap at h = h
-first_keeps_header rule.FatDuplicate at h = h
-first_keeps_header rule.FatSliceMagic at h = h
-first_keeps_header rule.FatEmpty at h = h
 first_keeps_header rule.HeaderTruncated at h = header_keeps first [] first_header (refl, 32, refl) rule.HeaderTruncated at h
 first_keeps_header rule.ArchMismatch at h = ⊎_elim (λ k. k refl) (λ k. k refl) h.1
 first_keeps_header rule.FileType at h = header_keeps first [] first_header (refl, 32, refl) rule.FileType at h
 first_keeps_header rule.CommandsOutside at h = header_keeps first [] first_header (refl, 32, refl) rule.CommandsOutside at h
 first_keeps_header rule.CommandWalk at h = commands_keep_walk first [] (Some (0x0100000c, 0)) at (refl, 32, refl) h
-first_keeps_header rule.CommandShort at h = h
-first_keeps_header rule.CommandRepeated at h = h
-first_keeps_header rule.DylibId at h = h
-first_keeps_header rule.Name at h = h
-first_keeps_header rule.SegmentAddress at h = h
-first_keeps_header rule.SegmentSize at h = h
-first_keeps_header rule.SegmentFile at h = h
-first_keeps_header rule.SegmentOverlap at h = h
-first_keeps_header rule.SectionAddress at h = h
-first_keeps_header rule.SectionFile at h = h
-first_keeps_header rule.SectionRelocs at h = h
-first_keeps_header rule.TableRange at h = h
-first_keeps_header rule.SymbolGroup at h = h
-first_keeps_header rule.SymbolName at h = h
-first_keeps_header rule.SymbolSection at h = h
-first_keeps_header rule.IndirectIndex at h = h
-first_keeps_header rule.Entry at h = h
+first_keeps_header other at h = h
 
 first_keeps : (r : Rule) (at : ℕ) → ¬ BreaksImage first (Some (0x0100000c, 0)) r at
 first_keeps r at (inl h) = first_keeps_header r at h

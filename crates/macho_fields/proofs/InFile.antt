@@ -55,28 +55,7 @@ module _ (file : List ℕ) where
       let (j, slice, less, at, (is, p)) = h.1 in
       let most = slice_starts (rank rule.FatSliceMagic) (lit< tt) below h.0 slice (j, less, at) in omega (arith, is)
   file_place_inside rule.FatEmpty place below h = let at = h.0 in let long = h.1.0 in omega arith
-  file_place_inside rule.HeaderTruncated place below h = absurd h
-  file_place_inside rule.ArchMismatch place below h = absurd h
-  file_place_inside rule.FileType place below h = absurd h
-  file_place_inside rule.CommandsOutside place below h = absurd h
-  file_place_inside rule.CommandWalk place below h = absurd h
-  file_place_inside rule.CommandShort place below h = absurd h
-  file_place_inside rule.CommandRepeated place below h = absurd h
-  file_place_inside rule.DylibId place below h = absurd h
-  file_place_inside rule.Name place below h = absurd h
-  file_place_inside rule.SegmentAddress place below h = absurd h
-  file_place_inside rule.SegmentSize place below h = absurd h
-  file_place_inside rule.SegmentFile place below h = absurd h
-  file_place_inside rule.SegmentOverlap place below h = absurd h
-  file_place_inside rule.SectionAddress place below h = absurd h
-  file_place_inside rule.SectionFile place below h = absurd h
-  file_place_inside rule.SectionRelocs place below h = absurd h
-  file_place_inside rule.TableRange place below h = absurd h
-  file_place_inside rule.SymbolGroup place below h = absurd h
-  file_place_inside rule.SymbolName place below h = absurd h
-  file_place_inside rule.SymbolSection place below h = absurd h
-  file_place_inside rule.IndirectIndex place below h = absurd h
-  file_place_inside rule.Entry place below h = absurd h
+  file_place_inside other place below h = absurd h
 
 -- a place of a scope, counted from the start of the file
 module _ (file : List ℕ) where

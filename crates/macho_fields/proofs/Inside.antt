@@ -116,15 +116,6 @@ module _ (image : List ℕ) (arch : Option (ℕ × ℕ)) where
 
   -- the place at which a rule is broken
   pub place_inside : (r : Rule) (place : ℕ) → Below (rank r) → BreaksImage image arch r place → place ≤ length image
-  place_inside rule.Magic place below h = ⊎_elim (λ k. absurd k) (λ k. absurd k.2) h
-  place_inside rule.FatTruncated place below h = ⊎_elim (λ k. absurd k) (λ k. absurd k.2) h
-  place_inside rule.FatSliceOutside place below h = ⊎_elim (λ k. absurd k) (λ k. absurd k.2) h
-  place_inside rule.FatSliceInTable place below h = ⊎_elim (λ k. absurd k) (λ k. absurd k.2) h
-  place_inside rule.FatAlign place below h = ⊎_elim (λ k. absurd k) (λ k. absurd k.2) h
-  place_inside rule.FatOverlap place below h = ⊎_elim (λ k. absurd k) (λ k. absurd k.2) h
-  place_inside rule.FatDuplicate place below h = ⊎_elim (λ k. absurd k) (λ k. absurd k.2) h
-  place_inside rule.FatSliceMagic place below h = ⊎_elim (λ k. absurd k) (λ k. absurd k.2) h
-  place_inside rule.FatEmpty place below h = ⊎_elim (λ k. absurd k) (λ k. absurd k.2) h
   place_inside rule.HeaderTruncated place below h = ⊎_elim (λ k. let first = k.0 in omega arith) (λ k. absurd k.2) h
   place_inside rule.ArchMismatch place below h = ⊎_elim (λ k. let at = k.0 in let most = header_inside (rank rule.ArchMismatch) (lit< tt) below in omega arith) (λ k. absurd k.2) h
   place_inside rule.FileType place below h = ⊎_elim (λ k. let at = k.0 in let most = header_inside (rank rule.FileType) (lit< tt) below in omega arith) (λ k. absurd k.2) h
@@ -165,6 +156,7 @@ module _ (image : List ℕ) (arch : Option (ℕ × ℕ)) where
       let (j, dysymtab, less, at, (i, lower, is, p)) = k.2 in
       at_indirect (rank rule.IndirectIndex) (lit< tt) below k.0 k.1 dysymtab i place (j, less, at) lower is) h
   place_inside rule.Entry place below h = ⊎_elim (λ k. absurd k) (λ k. at_cmd (rank rule.Entry) (lit< tt) below k.0 k.1 loader.LC_MAIN place k.2.0) h
+  place_inside other place below h = ⊎_elim (λ k. absurd k) (λ k. absurd k.2) h
 
 -- the first break of an image
 pub first_inside : (image : List ℕ) (arch : Option (ℕ × ℕ)) (b : Break) → IsLeast (BreaksImage image arch) b → b.place ≤ length image
