@@ -6,6 +6,7 @@ pub mod Library
 pub mod Rpath
 pub mod Opened
 pub mod Segment
+pub mod Mapped
 pub mod Entry
 pub mod Symbol
 pub mod Table
