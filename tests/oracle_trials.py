@@ -1,8 +1,8 @@
 #!/usr/bin/env python3
 """Compares the answers of tests/oracle.py with those of the built program. tests/oracle calls it, and says how.
 
-It judges the vectors of crates/macho_trials/data, the files of tests/real, those of folders that are named, and mutants
-of all these. Mutant N of a seed is always the same. For each case it prints a line of three texts with tabs between
+It judges the vectors of crates/macho_trials/data, the reports of tests/reports.txt, the files of tests/real, those of
+folders that are named, and mutants of the vectors and of all files. Mutant N of a seed is always the same. For each case it prints a line of three texts with tabs between
 them: the case, what was found, and what is wanted. Of each disagreement it prints both answers on standard error, and
 keeps the file.
 """
@@ -17,8 +17,12 @@ import subprocess
 import sys
 import tempfile
 from collections import Counter, namedtuple
+from pathlib import Path
 
 TOP = os.path.dirname(os.path.dirname(os.path.abspath(__file__)))
+sys.path.insert(0, os.path.join(TOP, "bench"))
+from images import read_reports, read_vectors  # pylint: disable=wrong-import-position
+
 DATA = os.path.join(TOP, "crates", "macho_trials", "data")
 REAL = os.path.join(TOP, "tests", "real")
 BATCH = 250
@@ -27,54 +31,6 @@ SHOWN = 20
 # What is asked of a file: its name in the reports, its bytes, and the words before and after its path.
 Question = namedtuple("Question", "name data before after")
 Difference = namedtuple("Difference", "question oracle program")
-
-# Vectors, in the notation that crates/macho_trials/data/README.md explains.
-
-def word_bytes(word, pieces):
-    if "*" in word and not word.startswith('"'):
-        times, word = word.split("*", 1)
-        return int(times) * word_bytes(word, pieces)
-    if word.startswith("."):
-        return bytes(int(word[1:]))
-    if word.startswith("$"):
-        return pieces[word[1:]]
-    if word.startswith('"'):
-        return word[1:-1].encode("ascii")
-    return bytes.fromhex(word)
-
-def all_bytes(words, pieces):
-    return b"".join(word_bytes(word, pieces) for word in words.split())
-
-def choices(words):
-    """The words, once for each of the choices in parentheses."""
-    if "(" not in words:
-        return [words]
-    before, rest = words.split("(")
-    inside, after = rest.split(")")
-    return [before + choice + after for choice in inside.split("|")]
-
-def read_vectors(path):
-    """The vectors of a file: the name, the bytes and the verdict of each. `cut` and `field` make none."""
-    lines = []
-    with open(path, encoding="ascii") as file:
-        for line in file:
-            line = line.split("#")[0].rstrip()
-            if line.startswith(" ") and lines:
-                lines[-1] += line
-            else:
-                lines.append(line)
-    pieces = {}
-    vectors = []
-    for line in lines:
-        if line.startswith("let "):
-            name, words = line[4:].split("=", 1)
-            pieces[name.strip()] = all_bytes(words, pieces)
-        elif line and line != "cut" and not line.startswith("field "):
-            # A name may have colons, but none with a space before and after it.
-            name, words, verdict = line.split(" : ", 2)
-            for chosen in choices(words):
-                vectors.append((name, all_bytes(chosen, pieces), verdict))
-    return vectors
 
 # Mutants. Nothing of the oracle is used here, so that a mistake in it does not hide itself.
 
@@ -435,7 +391,10 @@ def says_verdict(answer, verdict):
 def read_all_vectors():
     """The files of vectors, by their names."""
     names = sorted(name for name in os.listdir(DATA) if name.endswith(".txt"))
-    return [(name, read_vectors(os.path.join(DATA, name))) for name in names]
+    return [(name, read_vectors(Path(DATA, name))) for name in names]
+
+def read_all_reports():
+    return read_reports(Path(TOP, "tests", "reports.txt"))
 
 def judge_vectors(report, oracle, program):
     """Three are compared: what stands in the data, the oracle, and the program. The counts are those of the crate."""
@@ -459,6 +418,20 @@ def judge_vectors(report, oracle, program):
     report.case("files of vectors without vectors", " ".join(counts) or "none", "none")
     rules = [kind for kind in seen if kind != "accepted"]
     report.case("rules that some vector breaks first", "%d of 31" % len(rules), "31 of 31")
+
+def judge_reports(report, oracle, program):
+    """The whole texts on accepted files, each written by hand from the bytes: three are compared."""
+    reports = read_all_reports()
+    questions = [Question("the report %s" % name, data, "check", ()) for name, data, _ in reports]
+    right = 0
+    for question, (_, _, layout) in zip(questions, reports):
+        says = oracle_answer(oracle, question)
+        if says == (0, layout.encode()):
+            right += 1
+        else:
+            report.show(Difference(question, says, (0, layout.encode())), "by hand")
+    report.case("the reports, by hand", "%d texts" % right, "%d texts" % len(reports))
+    report.agreeing("the reports", compare(oracle, program, questions)[0], len(questions), "answers")
 
 def read_file(folder, name):
     with open(os.path.join(folder, name), "rb") as file:
@@ -568,6 +541,7 @@ def main():
         seed=words.seed, oracle=oracle, program=words.program, corpus=corpus, weights=weights)
     if not words.first:
         judge_vectors(report, oracle, words.program)
+        judge_reports(report, oracle, words.program)
         judge_real(report, oracle, words.program)
         judge_numbers(report, oracle, words.program, real[0])
         judge_folders(report, oracle, words.program, words.folders)

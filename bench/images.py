@@ -1,0 +1,532 @@
+#!/usr/bin/env python3
+"""Makes Mach-O files: large ones by name, and small ones from words in the notation of vectors.
+
+    bench/images.py NAME FILE [LAYOUT]      makes the file of this name, and prints the first line that is right for it.
+                                            Of slices-N-report and libraries-N-report LAYOUT gets the whole text.
+    bench/images.py --bytes [WORD..]        writes the bytes of the words, or of those on standard input
+    bench/images.py --vectors FILE FOLDER   makes FOLDER/1, FOLDER/2 and so on, the files of the vectors of FILE, and
+                                            prints a line for each: its number, the verdict and the name, with tabs
+    bench/images.py --reports FILE FOLDER   the same of reports, with the layout of each in FOLDER/N.layout
+    bench/images.py --random COUNT KIND     prints so many vectors with random ranges: of `segments` or of `slices`
+
+Vectors and words are explained in crates/macho_trials/data/README.md, reports in tests/reports.txt. bench/speed and the
+scripts of tests/ have their files from here.
+
+A number of a name may be any. Where it is not said otherwise, a file is an executable whose LC_MAIN names an address of
+no segment. That breaks the last rule, so all rules are judged and one line is written.
+
+    reading-Nm                      N MiB that begin with no magic number, so nothing but the reading is left
+    text-Nm                         N MiB of one section
+    executable-Nm                   a text, a million symbols defined in it, and their names, in N MiB
+    segments-N-ascending, -descending, -shuffled
+                                    N segments by their addresses, in 72 bytes each
+    segments-N-overlap              ascending, but the last overlaps the one before it
+    segments-N-sections             ascending, each with one section
+    segments-N-report               ascending and accepted, so a line is written for each
+    slices-N-ascending, -descending, -shuffled
+                                    a universal file of N slices by their offsets, each an image of 32 bytes. The last
+                                    in the table is of no filetype that is judged
+    slices-N-overlap                ascending, but the last overlaps the one before it
+    slices-N-ascending-repeated, -descending-repeated, -shuffled-repeated
+                                    the last has the architecture of the first
+    slices-N-report                 ascending and accepted
+    sections-N                      N empty sections in one segment
+    sections-N-in-M                 M segments with N sections in all, all with bytes in the file
+    symbols-N                       N symbols and their names, accepted
+    commands-N                      N commands of 8 bytes, of a kind that is not listed
+    libraries-N                     N LC_LOAD_DYLIB of 32 bytes, each with a name of its own
+    .. -before-segment              the same, with the one segment after them
+    commands-N-accepted             accepted
+    libraries-N-report              accepted, so a line is written for each
+    indirect-N                      N indirect entries, each the index of a symbol
+    string-Nm                       a million symbols whose names begin in one string of N MiB, which its last byte ends
+    endless-Nm                      the same, but nothing ends the string. All symbols are without a name, but the last
+    names-N                         a million symbols with names of N bytes
+"""
+
+from __future__ import annotations
+
+import random
+import re
+import struct
+import sys
+from functools import partial
+from pathlib import Path
+from typing import BinaryIO, Callable, Iterable, Iterator, NamedTuple
+
+MILLION = 1_000_000
+MIB = 1 << 20
+
+# mach-o/loader.h, fat.h, nlist.h, and mach/machine.h
+FAT_MAGIC, MH_MAGIC_64 = 0xCAFEBABE, 0xFEEDFACF
+CPU_TYPE_X86_64, CPU_SUBTYPE_X86_64_ALL = 0x01000007, 3
+MH_OBJECT, MH_EXECUTE = 1, 2
+LC_SYMTAB, LC_DYSYMTAB, LC_LOAD_DYLIB, LC_SEGMENT_64, LC_MAIN = 0x2, 0xB, 0xC, 0x19, 0x80000028
+LC_UNLISTED = 0x7FFFFFFF
+HEADER_SIZE, SEGMENT_SIZE, SECTION_SIZE = 32, 72, 80
+SYMTAB_SIZE, DYSYMTAB_SIZE, MAIN_SIZE, SYMBOL_SIZE = 24, 80, 24, 16
+FAT_HEADER_SIZE, FAT_ARCH_SIZE = 8, 20
+N_SECT = 0xE
+
+BASE = 0x1_0000_0000
+FAR = 0x2_0000_0000
+PAGE = 0x1000
+
+
+# Structures
+
+
+def header(ncmds: int, sizeofcmds: int, arch=(CPU_TYPE_X86_64, CPU_SUBTYPE_X86_64_ALL), filetype=MH_EXECUTE) -> bytes:
+    return struct.pack("<8I", MH_MAGIC_64, *arch, filetype, ncmds, sizeofcmds, 0, 0)
+
+
+def segment(name: bytes, vmaddr: int, vmsize: int, fileoff: int = 0, filesize: int = 0, sections: bytes = b"") -> bytes:
+    nsects = len(sections) // SECTION_SIZE
+    fields = (vmaddr, vmsize, fileoff, filesize, 5, 5, nsects, 0)
+    return struct.pack("<2I16s4Q4I", LC_SEGMENT_64, SEGMENT_SIZE + len(sections), name, *fields) + sections
+
+
+def section(name: bytes, addr: int, size: int, offset: int) -> bytes:
+    return struct.pack("<16s16s2Q8I", name, b"__TEXT", addr, size, offset, *[0] * 7)
+
+
+def symtab(symoff: int, nsyms: int, stroff: int, strsize: int) -> bytes:
+    return struct.pack("<6I", LC_SYMTAB, SYMTAB_SIZE, symoff, nsyms, stroff, strsize)
+
+
+def dysymtab(indirectsymoff: int, nindirectsyms: int) -> bytes:
+    fields = [0] * 12 + [indirectsymoff, nindirectsyms] + [0] * 4
+    return struct.pack("<20I", LC_DYSYMTAB, DYSYMTAB_SIZE, *fields)
+
+
+def library(number: int) -> bytes:
+    return struct.pack("<6I8s", LC_LOAD_DYLIB, 32, 24, 2, 0x10203, 0x10200, b"l%06d" % number)
+
+
+def libraries(count: int) -> bytes:
+    return b"".join(map(library, range(count)))
+
+
+def unlisted(count: int) -> bytes:
+    return struct.pack("<2I", LC_UNLISTED, 8) * count
+
+
+def main_command(entryoff: int) -> bytes:
+    return struct.pack("<2I2Q", LC_MAIN, MAIN_SIZE, entryoff, 0)
+
+
+def symbols(strx: Iterable[int]) -> Iterator[bytes]:
+    """Symbols of the first section whose names are at these offsets, a hundred thousand a part."""
+    pack = struct.Struct("<I2BHQ").pack
+    parts = []
+    for name in strx:
+        parts.append(pack(name, N_SECT, 1, 0, BASE))
+        if len(parts) == 100_000:
+            yield b"".join(parts)
+            parts.clear()
+    yield b"".join(parts)
+
+
+def filler(size: int) -> Iterator[bytes]:
+    """Bytes of which none is zero, a MiB a part."""
+    block = random.Random(size).getrandbits(8 * MIB).to_bytes(MIB, "little").replace(b"\0", b"\1")
+    for start in range(0, size, MIB):
+        yield block[: size - start]
+
+
+# Files. Each maker writes one and returns the line that is right for it.
+
+TEXT = segment(b"__TEXT", BASE, PAGE, 0, HEADER_SIZE)
+
+
+def refused(rule: str, place: int) -> str:
+    return f"refused: {rule} at {place:#x}"
+
+
+def accepted_with(count: int) -> str:
+    return f"accepted, slices {count}"
+
+
+def image(out: BinaryIO, commands: bytes, count: int, tail: Iterable[bytes] = (), accepted: bool = False) -> str:
+    """An executable of `count` commands and an LC_MAIN, with its tail. The entry is the base, or an address of no
+    segment, which breaks the last rule."""
+    out.write(header(count + 1, len(commands) + MAIN_SIZE))
+    out.write(commands)
+    out.write(main_command(0 if accepted else 1 << 60))
+    out.writelines(tail)
+    return accepted_with(1) if accepted else refused("entry", HEADER_SIZE + len(commands))
+
+
+def reading(out: BinaryIO, mebibytes: int) -> str:
+    out.writelines(filler(mebibytes * MIB))
+    return refused("magic", 0)
+
+
+def text(out: BinaryIO, mebibytes: int) -> str:
+    size = mebibytes * MIB
+    offset = HEADER_SIZE + SEGMENT_SIZE + SECTION_SIZE + MAIN_SIZE
+    code = section(b"__text", BASE + offset, size - offset, offset)
+    return image(out, segment(b"__TEXT", BASE, size, 0, size, code), 1, filler(size - offset))
+
+
+def with_symbols(out: BinaryIO, text_size: int, strx: Iterable[int], count: int, strings: Iterable[bytes],
+                 strsize: int, accepted: bool = False) -> str:
+    """An executable of a text, symbols and their names, in this order, with a segment for the text and one for the
+    rest."""
+    start = HEADER_SIZE + 2 * SEGMENT_SIZE + SECTION_SIZE + SYMTAB_SIZE + MAIN_SIZE
+    symoff = start + text_size
+    stroff = symoff + SYMBOL_SIZE * count
+    code = section(b"__text", BASE + start, text_size, start)
+    commands = segment(b"__TEXT", BASE, symoff, 0, symoff, code)
+    linkedit = SYMBOL_SIZE * count + strsize
+    commands += segment(b"__LINKEDIT", FAR, linkedit, symoff, linkedit)
+    commands += symtab(symoff, count, stroff, strsize)
+
+    def tail() -> Iterator[bytes]:
+        yield from filler(text_size)
+        yield from symbols(strx)
+        yield from strings
+
+    return image(out, commands, 3, tail(), accepted)
+
+
+def numbered_names(count: int) -> bytes:
+    """A zero byte and so many names of 16 bytes."""
+    return b"".join([b"\0"] + [b"_symbol_%07d\0" % k for k in range(count)])
+
+
+def executable(out: BinaryIO, mebibytes: int) -> str:
+    strings = numbered_names(MILLION)
+    text_size = mebibytes * MIB - SYMBOL_SIZE * MILLION - len(strings) - PAGE
+    return with_symbols(out, text_size, range(1, 16 * MILLION, 16), MILLION, [strings], len(strings))
+
+
+def accepted_symbols(out: BinaryIO, count: int) -> str:
+    strings = numbered_names(count)
+    return with_symbols(out, PAGE, range(1, 16 * count, 16), count, [strings], len(strings), accepted=True)
+
+
+def names(out: BinaryIO, size: int) -> str:
+    name = b"_" + b"n" * (size - 2) + b"\0"
+    block = name * 1000
+    strings = [b"\0"] + [block] * 1000
+    return with_symbols(out, PAGE, range(1, size * MILLION, size), MILLION, strings, 1 + size * MILLION)
+
+
+def one_string(out: BinaryIO, mebibytes: int) -> str:
+    size = mebibytes * MIB
+    strx = (1 + k % (size - 2) for k in range(MILLION))
+    strings = [b"\0", *filler(size - 2), b"\0"]
+    return with_symbols(out, PAGE, strx, MILLION, strings, size)
+
+
+def endless(out: BinaryIO, mebibytes: int) -> str:
+    size = mebibytes * MIB
+    strx = [0] * (MILLION - 1) + [1]
+    with_symbols(out, PAGE, strx, MILLION, [b"\0", *filler(size - 1)], size)
+    return refused("symbol-name", out.tell() - size - SYMBOL_SIZE)
+
+
+def ordered(count: int, order: str) -> list[int]:
+    """The numbers below `count` in this order."""
+    numbers = list(range(count))
+    if order == "descending":
+        numbers.reverse()
+    elif order == "shuffled":
+        random.Random(count).shuffle(numbers)
+    return numbers
+
+
+def segments(out: BinaryIO, count: int, order: str, accepted: bool = False) -> str:
+    parts = [segment(b"__DATA", FAR + 2 * PAGE * number, PAGE) for number in ordered(count, order)]
+    if order == "overlap":
+        parts[-1] = segment(b"__DATA", FAR + 2 * PAGE * (count - 2) + PAGE - 1, PAGE)
+    verdict = image(out, TEXT + b"".join(parts), 1 + count, accepted=accepted)
+    if order == "overlap":
+        return refused("segment-overlap", HEADER_SIZE + SEGMENT_SIZE * count)
+    return verdict
+
+
+def segments_of_sections(out: BinaryIO, count: int, each: int) -> str:
+    """So many segments, each of so many sections of 16 bytes, which lie one after another in the file."""
+    start = HEADER_SIZE + SEGMENT_SIZE + count * (SEGMENT_SIZE + each * SECTION_SIZE) + MAIN_SIZE
+    size = 16 * each
+    parts = []
+    for number in range(count):
+        vmaddr = FAR + 2 * PAGE * number
+        fileoff = start + size * number
+        sections = [section(b"__const", vmaddr + past, 16, fileoff + past) for past in range(0, size, 16)]
+        parts.append(segment(b"__DATA", vmaddr, PAGE, fileoff, size, b"".join(sections)))
+    return image(out, TEXT + b"".join(parts), 1 + count, filler(size * count))
+
+
+def empty_sections(out: BinaryIO, count: int) -> str:
+    sections = section(b"__text", 0, 0, 0) * count
+    return image(out, segment(b"__TEXT", BASE, PAGE, 0, HEADER_SIZE, sections), 1)
+
+
+def slices_start(count: int) -> int:
+    """Where the first of so many slices begins."""
+    return (FAT_HEADER_SIZE + FAT_ARCH_SIZE * count + 31) // 32 * 32
+
+
+def slices(out: BinaryIO, count: int, order: str, repeated: bool = False, accepted: bool = False) -> str:
+    """A universal file of images of 32 bytes, each of a cputype of its own, or of that of the first."""
+    start = slices_start(count)
+    offsets = [start + HEADER_SIZE * number for number in ordered(count, order)]
+    if order == "overlap":
+        offsets[-1] = offsets[-2]
+    archs = [(0x0100_0000 + k, 0) for k in range(count)]
+    if repeated:
+        archs[-1] = archs[0]
+    entries = b"".join(struct.pack(">5I", *arch, offset, HEADER_SIZE, 5) for arch, offset in zip(archs, offsets))
+    images = {offset: header(0, 0, arch) for arch, offset in zip(archs, offsets)}
+    if not accepted:
+        images[offsets[-1]] = header(0, 0, archs[-1], MH_OBJECT)
+    out.write((struct.pack(">2I", FAT_MAGIC, count) + entries).ljust(start, b"\0"))
+    out.writelines(images[offset] for offset in sorted(images))
+    last_entry = FAT_HEADER_SIZE + FAT_ARCH_SIZE * (count - 1)
+    if order == "overlap":
+        return refused("fat-overlap", last_entry)
+    if repeated:
+        return refused("fat-duplicate", last_entry)
+    return accepted_with(count) if accepted else refused("file-type", offsets[-1] + 12)
+
+
+def many(out: BinaryIO, make: Callable[[int], bytes], count: int, before_segment: bool = False,
+         accepted: bool = False) -> str:
+    commands = make(count)
+    commands = commands + TEXT if before_segment else TEXT + commands
+    return image(out, commands, 1 + count, accepted=accepted)
+
+
+def indirect(out: BinaryIO, count: int) -> str:
+    nsyms = 1000
+    symoff = HEADER_SIZE + SEGMENT_SIZE + SYMTAB_SIZE + DYSYMTAB_SIZE + MAIN_SIZE
+    indirectsymoff = symoff + SYMBOL_SIZE * nsyms
+    tables = symtab(symoff, nsyms, 0, 0) + dysymtab(indirectsymoff, count)
+    # No symbol is defined in a section: the image has none.
+    entries = struct.pack(f"<{nsyms}I", *range(nsyms))
+    return image(out, TEXT + tables, 3, [bytes(SYMBOL_SIZE * nsyms), entries * (count // nsyms)])
+
+
+# The commands of which a file has many.
+REPEATED = {"commands": unlisted, "libraries": libraries}
+
+# Makers that take the one number of a name.
+SIZED = {
+    "reading": reading,
+    "text": text,
+    "executable": executable,
+    "sections": empty_sections,
+    "indirect": indirect,
+    "string": one_string,
+    "endless": endless,
+    "names": names,
+    "symbols": accepted_symbols,
+}
+
+
+def maker(name: str) -> Callable[[BinaryIO], str]:
+    """What writes the file of this name, and returns the first line that is right for it."""
+    kind, number, *words = name.split("-")
+    size = int(number.rstrip("m"))
+    accepted = words in (["report"], ["accepted"])
+    order = "ascending" if accepted else (words or [""])[0]
+    if kind in REPEATED:
+        return partial(many, make=REPEATED[kind], count=size, before_segment=order == "before", accepted=accepted)
+    if kind == "segments" and order != "sections":
+        return partial(segments, count=size, order=order, accepted=accepted)
+    if kind == "segments":
+        return partial(segments_of_sections, count=size, each=1)
+    if kind == "slices":
+        return partial(slices, count=size, order=order, repeated="repeated" in words, accepted=accepted)
+    if kind == "sections" and order == "in":
+        return partial(segments_of_sections, count=int(words[1]), each=size // int(words[1]))
+    return lambda out: SIZED[kind](out, size)
+
+
+# Whole layouts
+
+
+def layout_of_slices(count: int) -> str:
+    """That of slices-N-report."""
+    lines = [accepted_with(count)]
+    start = slices_start(count)
+    for number in range(count):
+        # One of the cputypes is that of arm64.
+        arch = "arm64" if number == 0xC else f"{0x0100_0000 + number:#x}/0x0"
+        lines.append(f"slice {number} {arch} at {start + HEADER_SIZE * number:#x} size 0x20 execute\n  entry none")
+    return "\n".join(lines) + "\n"
+
+
+def layout_of_libraries(count: int) -> str:
+    """That of libraries-N-report."""
+    size = HEADER_SIZE + SEGMENT_SIZE + 32 * count + MAIN_SIZE
+    lines = [accepted_with(1), f"slice 0 x86_64 at 0x0 size {size:#x} execute"]
+    lines.append('  segment "__TEXT" addr 0x100000000 size 0x1000 file 0x0 size 0x20 r-x')
+    lines += [f'  load "l{number:06}" current 1.2.3 compatible 1.2.0' for number in range(count)]
+    return "\n".join(lines) + "\n  entry 0x100000000\n"
+
+
+def layout(name: str) -> str:
+    kind, number, report = name.split("-")
+    assert report == "report"
+    return {"slices": layout_of_slices, "libraries": layout_of_libraries}[kind](int(number))
+
+
+# Words, vectors and reports
+
+
+class Vector(NamedTuple):
+    name: str
+    data: bytes
+    # A verdict, or a whole layout.
+    wanted: str
+
+
+def word_bytes(word: str, pieces: dict[str, bytes]) -> bytes:
+    if "*" in word and not word.startswith('"'):
+        times, word = word.split("*", 1)
+        return int(times) * word_bytes(word, pieces)
+    if word.startswith("."):
+        return bytes(int(word[1:]))
+    if word.startswith("$"):
+        return pieces[word[1:]]
+    if word.startswith('"'):
+        return word[1:-1].encode("ascii")
+    return bytes.fromhex(word)
+
+
+def all_bytes(words: str, pieces: dict[str, bytes]) -> bytes:
+    return b"".join(word_bytes(word, pieces) for word in words.split())
+
+
+def without_comments(text: str) -> str:
+    return re.sub("#.*", "", text)
+
+
+def choices(words: str) -> list[str]:
+    """The words, once for each of the choices in parentheses."""
+    if "(" not in words:
+        return [words]
+    before, rest = words.split("(")
+    inside, after = rest.split(")")
+    return [before + choice + after for choice in inside.split("|")]
+
+
+def read_vectors(path: Path) -> list[Vector]:
+    """The vectors of a file, each with a verdict. `cut` and `field` make none."""
+    # A line that begins with a space goes on with the one before.
+    text = without_comments(path.read_text(encoding="ascii")).replace("\n ", " ")
+    pieces: dict[str, bytes] = {}
+    vectors = []
+    for line in map(str.rstrip, text.split("\n")):
+        if line.startswith("let "):
+            name, words = line[4:].split("=", 1)
+            pieces[name.strip()] = all_bytes(words, pieces)
+        elif line and line != "cut" and not line.startswith("field "):
+            # A name may have colons, but none with a space before and after it.
+            name, words, verdict = line.split(" : ", 2)
+            vectors += [Vector(name, all_bytes(chosen, pieces), verdict) for chosen in choices(words)]
+    return vectors
+
+
+def read_reports(path: Path) -> list[Vector]:
+    """The reports of a file, each with a layout."""
+    reports = []
+    for part in ("\n" + path.read_text(encoding="ascii")).split("\ncase ")[1:]:
+        name, rest = part.split("\n", 1)
+        words, text = rest.split("\n\n", 1)
+        reports.append(Vector(name, all_bytes(without_comments(words), {}), text.split("\n\n")[0].rstrip("\n") + "\n"))
+    return reports
+
+
+def write_all(vectors: list[Vector], folder: Path) -> None:
+    for number, (name, data, wanted) in enumerate(vectors, 1):
+        (folder / str(number)).write_bytes(data)
+        if wanted.endswith("\n"):
+            (folder / f"{number}.layout").write_text(wanted)
+            wanted = "layout"
+        print(number, wanted, name, sep="\t")
+
+
+# Random ranges, with verdicts from comparing all pairs
+
+
+def first_alike(items: list, are_alike: Callable) -> int:
+    """The first item that is like an earlier one, or how many there are."""
+    for later, item in enumerate(items):
+        if any(are_alike(item, earlier) for earlier in items[:later]):
+            return later
+    return len(items)
+
+
+def share(one: range, other: range) -> bool:
+    """Whether two ranges have a place in common."""
+    return max(one.start, other.start) < min(one.stop, other.stop)
+
+
+def random_ranges(rng: random.Random, count: int) -> list[range]:
+    starts = [rng.randrange(64) for _ in range(count)]
+    return [range(start, start + rng.randrange(8)) for start in starts]
+
+
+def random_segments(rng: random.Random, count: int) -> str:
+    """A vector: an executable with segments at addresses."""
+    ranges = random_ranges(rng, count)
+    commands = b"".join(segment(b"", it.start, it.stop - it.start) for it in ranges)
+    alike = first_alike(ranges, share)
+    verdict = "accepted" if alike == count else refused("segment-overlap", HEADER_SIZE + SEGMENT_SIZE * alike)
+    return f"segments : {(header(count, len(commands)) + commands).hex()} : {verdict}"
+
+
+def random_slices(rng: random.Random, count: int) -> str:
+    """A vector: a universal file with slices in 71 zeros, each with an architecture, some with a capability byte."""
+    ranges = random_ranges(rng, count)
+    archs = [(rng.randrange(4), rng.randrange(4)) for _ in ranges]
+    end = FAT_HEADER_SIZE + FAT_ARCH_SIZE * count
+    data = struct.pack(">2I", FAT_MAGIC, count)
+    for (cputype, cpusubtype), it in zip(archs, ranges):
+        capability = rng.choice((0, 0x8000_0000))
+        data += struct.pack(">5I", cputype, cpusubtype + capability, end + it.start, it.stop - it.start, 0)
+    overlap, duplicate = first_alike(ranges, share), first_alike(archs, lambda one, other: one == other)
+    if overlap < count:
+        verdict = refused("fat-overlap", FAT_HEADER_SIZE + FAT_ARCH_SIZE * overlap)
+    elif duplicate < count:
+        verdict = refused("fat-duplicate", FAT_HEADER_SIZE + FAT_ARCH_SIZE * duplicate)
+    elif count == 0:
+        verdict = refused("fat-empty", 4)
+    else:
+        verdict = refused("fat-slice-magic", end + min(it.start for it in ranges))
+    return f"slices : {data.hex()} .71 : {verdict}"
+
+
+def print_random(count: int, kind: str) -> None:
+    rng = random.Random(kind)
+    make = {"segments": random_segments, "slices": random_slices}[kind]
+    for number in range(count):
+        print(make(rng, number % 9))
+
+
+def main(words: list[str]) -> None:
+    if words[:1] == ["--bytes"]:
+        given = " ".join(words[1:]) or without_comments(sys.stdin.read())
+        sys.stdout.buffer.write(all_bytes(given, {}))
+    elif words[:1] == ["--vectors"]:
+        write_all(read_vectors(Path(words[1])), Path(words[2]))
+    elif words[:1] == ["--reports"]:
+        write_all(read_reports(Path(words[1])), Path(words[2]))
+    elif words[:1] == ["--random"]:
+        print_random(int(words[1]), words[2])
+    elif len(words) in (2, 3):
+        with open(words[1], "wb") as out:
+            print(maker(words[0])(out))
+        if len(words) == 3:
+            Path(words[2]).write_text(layout(words[0]))
+    else:
+        sys.exit(__doc__)
+
+
+if __name__ == "__main__":
+    main(sys.argv[1:])
