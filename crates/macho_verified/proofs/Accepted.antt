@@ -72,11 +72,6 @@ pub segment_image : (image : List ℕ) (view : SegmentView) → IsVerifiedSegmen
 unfolding IsVerifiedSegment
 segment_image image view keeps = keeps.0
 
--- what holds of an answer holds as another thing
-pub some_for : {T : Type 0} (P Q : T → Type 0) (answer : Option T) → ((x : T) → P x → Q x) → IfSome answer P → IfSome answer Q
-some_for P Q None to holds = tt
-some_for P Q (Some x) to holds = to x holds
-
 -- where an answer is given, with what that says
 pub some_given : {T : Type 0} (P Q : T → Type 0) (R : Type 0) (answer : Option T) → (IsSome answer → R) → (R → (x : T) → P x → Q x) → IfSome answer P → IfSome answer Q
 some_given P Q R None given to holds = tt

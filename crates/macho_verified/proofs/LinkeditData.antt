@@ -1,6 +1,6 @@
 -- The data that a linkedit_data_command of an accepted image names.
-use Rattle.std.proofs.Common.{◌≡◌, ℕ, ◌+◌, ◌*◌, ◌≤◌, ◌<◌, List, [], length, Any, Contains, Some, refl, sym, ap, ◌∙◌, subst, arith, lit<, inl}
-use Rattle.macho_fields.specs.Field.{Covers, part}
+use Rattle.std.proofs.Common.{◌≡◌, ℕ, ◌+◌, ◌*◌, ◌≤◌, ◌<◌, List, length, Any, Contains, Some, refl, ap, ◌∙◌, arith, lit<, inl}
+use Rattle.macho_fields.specs.Field.{Covers}
 use Rattle.macho_fields.specs.Image.{command_cmd, commands_of}
 use Rattle.macho_fields.specs.Command.{HasStructure, least_size}
 use Rattle.macho_fields.specs.LoadCommands.{structure_of, linkedit_data_table}
@@ -45,12 +45,3 @@ module _ (image : List ℕ) (keeps : IsAccepted image) (cmd : ℕ) (listed : str
       (inl (any_of (λ c. Any (λ table. (0 < table.1) × (dataoff image command ≡ table.0) × (datasize image command ≡ table.1 * table.2)) (tables_of image c)) (commands_of image) command among
       (any_of (λ table. (0 < table.1) × (dataoff image command ≡ table.0) × (datasize image command ≡ table.1 * table.2)) (tables_of image command) (table_at image command linkedit_data_table)
       (table_listed image command LinkeditDataCommand linkedit_data_table structure linkedit_data_listed) (omega (arith, some), refl, omega arith)))) covers))
-
--- The data, where its fields were read
-module _ (image : List ℕ) (command start len : ℕ) (starts : start ≡ dataoff image command) (is : len ≡ datasize image command) where
-  pub read_inside : HasData image command → ¬ (len ≡ 0) → start + len ≤ length image
-  read_inside inside some =
-      subst (λ n. n + len ≤ length image) (sym starts) (subst (λ n. dataoff image command + n ≤ length image) (sym is) (inside (λ none. some (is ∙ none))))
-
-  pub read_empty : len ≡ 0 → [] ≡ part (dataoff image command) (datasize image command) image
-  read_empty none = ap (λ n. part (dataoff image command) n image) (sym none ∙ is)

@@ -1,5 +1,5 @@
 -- The groups of symbols that the LC_DYSYMTAB of an accepted image names.
-use Rattle.std.proofs.Common.{◌≡◌, ◌∙◌, ℕ, zero, suc, ◌+◌, ◌-◌, List, [], map, take, drop, length, length-drop, Contains, Option, Some, None, IfSome, refl, sym, ap, subst, arith, inl, inr}
+use Rattle.std.proofs.Common.{◌≡◌, ◌∙◌, ℕ, zero, suc, ◌+◌, ◌-◌, List, [], map, take, drop, length, length-drop, Contains, Option, Some, None, IfSome, refl, ap, arith, inl, inr}
 use Rattle.std.specs.Option.{option_map, option_map_or}
 use Rattle.std.proofs.lemmas.Bool.{cases_lt}
 use Rattle.std.proofs.lemmas.List.{length-take-le, length-map}
@@ -11,11 +11,11 @@ use Rattle.macho_image.specs.Command.{first_with_cmd}
 use Rattle.macho_image.specs.Symbol.{symbols_of, dysymtab_at}
 use Rattle.macho_image.specs.declared.dysymtab.Dysymtab.{Dysymtab}
 use Rattle.macho_rules.proofs.Judged.{opened_commands}
-use Rattle.macho_rules.proofs.OneCommand.{is_with_cmd, no_first, first_at}
+use Rattle.macho_rules.proofs.OneCommand.{is_with_cmd}
 use Rattle.macho_rules.proofs.Searches.{any_of}
 use Rattle.macho_rules.proofs.Verdicts.{unbroken_opened}
 use Rattle.macho_verified.specs.Image.{SymbolView, symbol_view, symbol_group}
-use Rattle.macho_verified.specs.Scaffold.{IsAccepted}
+use Rattle.macho_verified.specs.Scaffold.{IsAccepted, group_bounds}
 use Rattle.macho_verified.proofs.Accepted.{accepted_unbroken}
 use Rattle.macho_verified.proofs.Counted.{symbols_are_counted}
 
@@ -38,50 +38,37 @@ module _ (image : List ℕ) (keeps : IsAccepted image) where
         length-take-le (suc n) (drop first (symbols_of image (commands_of image))) (omega (arith, rest, symbols_are_counted image keeps, most))
   ]
 
--- what was read of the LC_DYSYMTAB of an image
-abbrev pub IsRead : List ℕ → Option Dysymtab → Type 0
-IsRead image read = read ≡ option_map (dysymtab_at image) (first_with_cmd image loader.LC_DYSYMTAB (commands_of image))
+-- the bounds of a group, as they were read of the LC_DYSYMTAB of an image
+pub bounds_read : (inside image : List ℕ) (read : Option Dysymtab) (fields : Dysymtab → ℕ × ℕ) (first count : List ℕ → ℕ → ℕ) (group : ℕ × ℕ) → inside ≡ image
+    → read ≡ option_map (dysymtab_at inside) (first_with_cmd inside loader.LC_DYSYMTAB (commands_of inside))
+    → ((d : ℕ) → fields (dysymtab_at image d) ≡ (first image d, count image d)) → group ≡ option_map_or fields read (0, 0) → group ≡ group_bounds first count image
+bounds_read inside image read fields first count group same is named bounds =
+    bounds ∙ (ap (λ r. option_map_or fields r (0, 0)) (is ∙ ap (λ i. option_map (dysymtab_at i) (first_with_cmd i loader.LC_DYSYMTAB (commands_of i))) same)
+    ∙ by (first_with_cmd image loader.LC_DYSYMTAB (commands_of image)))
+  where
+    by : (o : Option ℕ) → option_map_or fields (option_map (dysymtab_at image) o) (0, 0) ≡ option_map_or (λ d. (first image d, count image d)) o (0, 0)
+    by None = refl
+    by (Some d) = named d
 
--- The group by two fields of it
-module _ (inside image : List ℕ) (same : inside ≡ image) (first count : List ℕ → ℕ → ℕ) (result : List SymbolView) where
-  abbrev IsGroup : Option ℕ → Type 0
-  IsGroup dysymtab = result ≡ map (symbol_view image)
-      (option_map_or (λ p. take (count image p) (drop (first image p) (symbols_of image (commands_of image)))) dysymtab [])
+-- The symbols of a group with these bounds
+module _ (image : List ℕ) (first count : List ℕ → ℕ → ℕ) (group : ℕ × ℕ) (bounds : group ≡ group_bounds first count image) (result : List SymbolView)
+    (is : result ≡ map (symbol_view image) (take group.1 (drop group.0 (symbols_of image (commands_of image))))) where
+  abbrev within : ℕ × ℕ → List ℕ
+  within bounds = take bounds.1 (drop bounds.0 (symbols_of image (commands_of image)))
 
-  abbrev IsWhole : Option ℕ → Type 0
-  IsWhole dysymtab = IfSome dysymtab (λ p. length result ≡ count image p)
+  pub group_read : result ≡ map (symbol_view image) (symbol_group first count image)
+  group_read = is ∙ ap (map (symbol_view image)) (ap within bounds ∙ by (first_with_cmd image loader.LC_DYSYMTAB (commands_of image)))
+    where
+      by : (o : Option ℕ) → within (option_map_or (λ d. (first image d, count image d)) o (0, 0)) ≡ option_map_or (λ d. within (first image d, count image d)) o []
+      by None = refl
+      by (Some d) = refl
 
-  -- there is none
-  module _ (read : IsRead inside None) where
-    none : first_with_cmd image loader.LC_DYSYMTAB (commands_of image) ≡ None
-    none = no_first (dysymtab_at image) _ (subst (λ (i : List ℕ). IsRead i None) same read)
-
-    pub no_group : result ≡ [] → result ≡ map (symbol_view image) (symbol_group first count image)
-    no_group is = subst IsGroup (sym none) is
-
-    pub none_whole : IfSome (first_with_cmd image loader.LC_DYSYMTAB (commands_of image)) (λ p. length result ≡ count image p)
-    none_whole = subst IsWhole (sym none) tt
-
-  -- there is one, with these two fields
-  module _ (d : Dysymtab) (read : IsRead inside (Some d)) (a n : Dysymtab → ℕ) (starts : (p : ℕ) → a (dysymtab_at image p) ≡ first image p) (many : (p : ℕ) → n (dysymtab_at image p) ≡ count image p)
-      (is : result ≡ map (symbol_view image) (take (n d) (drop (a d) (symbols_of image (commands_of image))))) where
-    found : (p : ℕ) × (first_with_cmd image loader.LC_DYSYMTAB (commands_of image) ≡ Some p) × (d ≡ dysymtab_at image p)
-    found = first_at (dysymtab_at image) _ d (subst (λ (i : List ℕ). IsRead i (Some d)) same read)
-
-    named : (p : ℕ) → d ≡ dysymtab_at image p → IsGroup (Some p)
-    named p at =
-        is
-        ∙ (ap (λ (k : ℕ). map (symbol_view image) (take (n d) (drop k (symbols_of image (commands_of image))))) (ap a at ∙ starts p)
-        ∙ ap (λ (k : ℕ). map (symbol_view image) (take k (drop (first image p) (symbols_of image (commands_of image))))) (ap n at ∙ many p))
-
-    pub group_read : result ≡ map (symbol_view image) (symbol_group first count image)
-    group_read = let (p, some, at) = found in subst IsGroup (sym some) (named p at)
-
-    pub group_whole : IsAccepted inside → ((p : ℕ) → Contains (groups_of image p) (first image p, count image p))
-        → IfSome (first_with_cmd image loader.LC_DYSYMTAB (commands_of image)) (λ p. length result ≡ count image p)
-    group_whole keeps has =
-        let (p, some, at) = found in
-        subst IsWhole (sym some)
-        (ap length (named p at)
-        ∙ (length-map (take (count image p) (drop (first image p) (symbols_of image (commands_of image)))) (symbol_view image)
-        ∙ group_counted image (subst IsAccepted same keeps) p (first image p) (count image p) some (has p)))
+  pub group_whole : IsAccepted image → ((d : ℕ) → Contains (groups_of image d) (first image d, count image d))
+      → IfSome (first_with_cmd image loader.LC_DYSYMTAB (commands_of image)) (λ d. length result ≡ count image d)
+  group_whole keeps has = by (first_with_cmd image loader.LC_DYSYMTAB (commands_of image)) refl
+    where
+      by : (o : Option ℕ) → first_with_cmd image loader.LC_DYSYMTAB (commands_of image) ≡ o → IfSome o (λ d. length result ≡ count image d)
+      by None none = tt
+      by (Some d) some =
+          ap length (is ∙ ap (λ b. map (symbol_view image) (within b)) (bounds ∙ ap (λ o. option_map_or (λ d. (first image d, count image d)) o (0, 0)) some))
+          ∙ (length-map (within (first image d, count image d)) (symbol_view image) ∙ group_counted image keeps d (first image d) (count image d) some (has d))

@@ -12,6 +12,7 @@ impl<'a> VerifiedImage<'a> {
     ghost use Rattle.macho_image.specs.Command.{first_with_cmd};
     ghost use Rattle.macho_image.specs.Symbol.{symbols_of};
     ghost use Rattle.macho_verified.specs.Image.{symbol_view, symbol_group};
+    ghost use Rattle.macho_verified.specs.Scaffold.{IsAccepted};
 
     /// The local symbols: the `nlocalsym` symbols from the index `ilocalsym` on. None where the
     /// image has no `LC_DYSYMTAB`.
@@ -21,10 +22,8 @@ impl<'a> VerifiedImage<'a> {
         ensures whole { IfSome (first_with_cmd self.now LC_DYSYMTAB (commands_of self.now))
             (λ dysymtab. length result ≡ nlocalsym self.now dysymtab) }
     {
-        match self.image.dysymtab() {
-            Some(dysymtab) => self.symbol_range(dysymtab.ilocalsym, dysymtab.nlocalsym),
-            None => self.symbol_range(0, 0),
-        }
+        let dysymtab = self.image.dysymtab();
+        self.symbol_group(dysymtab.map_or((0, 0), |groups| (groups.ilocalsym, groups.nlocalsym)))
     }
 
     /// The defined external symbols: the `nextdefsym` symbols from the index `iextdefsym` on. None
@@ -35,10 +34,8 @@ impl<'a> VerifiedImage<'a> {
         ensures whole { IfSome (first_with_cmd self.now LC_DYSYMTAB (commands_of self.now))
             (λ dysymtab. length result ≡ nextdefsym self.now dysymtab) }
     {
-        match self.image.dysymtab() {
-            Some(dysymtab) => self.symbol_range(dysymtab.iextdefsym, dysymtab.nextdefsym),
-            None => self.symbol_range(0, 0),
-        }
+        let dysymtab = self.image.dysymtab();
+        self.symbol_group(dysymtab.map_or((0, 0), |groups| (groups.iextdefsym, groups.nextdefsym)))
     }
 
     /// The undefined symbols: the `nundefsym` symbols from the index `iundefsym` on. None where the
@@ -49,21 +46,20 @@ impl<'a> VerifiedImage<'a> {
         ensures whole { IfSome (first_with_cmd self.now LC_DYSYMTAB (commands_of self.now))
             (λ dysymtab. length result ≡ nundefsym self.now dysymtab) }
     {
-        match self.image.dysymtab() {
-            Some(dysymtab) => self.symbol_range(dysymtab.iundefsym, dysymtab.nundefsym),
-            None => self.symbol_range(0, 0),
-        }
+        let dysymtab = self.image.dysymtab();
+        self.symbol_group(dysymtab.map_or((0, 0), |groups| (groups.iundefsym, groups.nundefsym)))
     }
 
-    /// The symbols from the index `first` on, `count` of them, as far as there are any.
-    pub(crate) fn symbol_range(&self, first: u64, count: u64) -> VerifiedSymbols<'a>
-        ensures { result ≡ map (symbol_view self.now)
-            (take count (drop first (symbols_of self.now (commands_of self.now)))) }
+    // The symbols of a group: those from its first index on, so many of them, those that there are.
+    pub(crate) fn symbol_group(&self, group: (u64, u64)) -> VerifiedSymbols<'a>
+        ensures symbols { result ≡ map (symbol_view self.now)
+            (take group.1 (drop group.0 (symbols_of self.now (commands_of self.now)))) }
+        ensures accepted { IsAccepted self.now }
     {
         VerifiedSymbols {
             image: self.image.bytes(),
             strings: strings_of(&self.image),
-            symbols: self.image.symbol_range(first, count),
+            symbols: self.image.symbol_range(group.0, group.1),
         }
     }
 }

@@ -128,6 +128,6 @@ impl<'a> VerifiedImage<'a> {
         ensures { result ≡ slice_get (map (symbol_view self.now)
             (symbols_of self.now (commands_of self.now))) index }
     {
-        self.symbol_range(index, 1).next()
+        self.symbol_group((index, 1)).next()
     }
 }

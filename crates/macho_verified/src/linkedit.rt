@@ -10,6 +10,7 @@ ghost use Rattle.macho_image.specs.Command.{first_with_cmd};
 ghost use Rattle.macho_verified.specs.Image.{dataoff, datasize};
 ghost use Rattle.macho_verified.specs.Scaffold.{HasData};
 
+use crate::data::data_in;
 use crate::image::VerifiedImage;
 use macho_fields::header::loader::linkedit_data_command::{DATAOFF, DATASIZE};
 use macho_fields::{Bytes, Order, Span, Structure, structure_of};
@@ -38,15 +39,15 @@ impl<'a> VerifiedImage<'a> {
     }
 }
 
-/// Whether the list of load commands has a `linkedit_data_command` with this `cmd`.
+// Whether the list of load commands has a `linkedit_data_command` with this `cmd`.
 fn names_linkedit_data(cmd: u32) -> bool
     ensures { IsTrue result ↔ (structure_of cmd ≡ Some LinkeditDataCommand) }
 {
     structure_of(cmd) == Some(Structure::LinkeditDataCommand)
 }
 
-/// The data that the `linkedit_data_command` at the place `command` names. With `datasize` 0 it is
-/// empty, wherever `dataoff` is.
+// The data that the `linkedit_data_command` at the place `command` names. With `datasize` 0 it is
+// empty, wherever `dataoff` is.
 fn data_at(image: Bytes, command: u64) -> &[u8]
     requires fields { command + structure_size LinkeditDataCommand ≤ length (bytes_of image) }
     requires data { HasData (bytes_of image) command }
@@ -58,8 +59,5 @@ fn data_at(image: Bytes, command: u64) -> &[u8]
         start: u64::from(image.read_u32(Order::Little, command + DATAOFF)),
         len: u64::from(image.read_u32(Order::Little, command + DATASIZE)),
     };
-    if data.len == 0 {
-        return &[];
-    }
-    image.read_part(data)
+    data_in(image, data)
 }

@@ -1,5 +1,6 @@
 //! The sections of an accepted image, with their bytes. (`mach-o/loader.h`: `section_64`)
 
+use crate::data::data_in;
 use macho_fields::{Bytes, Span};
 use macho_image::{Section, Sections};
 use std::marker::Model;
@@ -52,10 +53,7 @@ impl<'a> VerifiedSection<'a> {
             start: self.section.offset(),
             len: self.section.size(),
         };
-        if span.len == 0 {
-            return Some(&[]);
-        }
-        self.image.part(span)
+        Some(data_in(self.image, span))
     }
 }
 

@@ -1,5 +1,6 @@
 //! The segments of an accepted image, with their bytes. (`mach-o/loader.h`: `segment_command_64`)
 
+use crate::data::data_in;
 use crate::section::VerifiedSections;
 use macho_fields::{Bytes, Span};
 use macho_image::{Segment, Segments};
@@ -48,10 +49,7 @@ impl<'a> VerifiedSegment<'a> {
             start: self.segment.fileoff(),
             len: self.segment.filesize(),
         };
-        if span.len == 0 {
-            return &[];
-        }
-        self.image.part(span).unwrap()
+        data_in(self.image, span)
     }
 
     /// Its bytes at `len` addresses from `address` on, borrowed from the image. `None` where the

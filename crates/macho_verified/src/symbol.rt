@@ -59,7 +59,7 @@ impl<'a> VerifiedSymbol<'a> {
     }
 }
 
-/// The string that begins `offset` bytes into `strings`, and ends in them.
+// The string that begins `offset` bytes into `strings`, and ends in them.
 fn string_at<'a>(image: Bytes<'a>, strings: Span, offset: u64) -> &'a [u8]
     requires { HasZero (bytes_of image) (strings.start + offset) (end_of strings) }
     ensures { result.now ≡ string_from (strings.start + offset) (bytes_of image.entry) }
@@ -68,7 +68,7 @@ fn string_at<'a>(image: Bytes<'a>, strings: Span, offset: u64) -> &'a [u8]
         start: strings.start + offset,
         len: strings.len - offset,
     };
-    image.string_in(rest).unwrap()
+    image.read_string(rest)
 }
 
 /// The symbols of an accepted image that remain, in the order of the table.
@@ -113,7 +113,7 @@ impl<'a> Iterator for VerifiedSymbols<'a> {
     }
 }
 
-/// The strings of `LC_SYMTAB`, which is the empty span where the image has none.
+// The strings of `LC_SYMTAB`, which is the empty span where the image has none.
 pub(crate) fn strings_of(image: &Image) -> Span
     ensures { result ≡ strings image.now }
 {

@@ -9,5 +9,5 @@ pub returns : goal.returns
 returns c =
     let image = c.args.self.now in
     let all = symbols_of image (commands_of image) in
-    item_at (map (symbol_view image) all) c.args.index c.symbol_range.result c.next.new.self c.next.result
-    (c.symbol_range.ensures ∙ sym (range-map (symbol_view image) all c.args.index 1)) c.next.ensures.steps
+    item_at (map (symbol_view image) all) c.args.index c.symbol_group.result c.next.new.self c.next.result
+    (c.symbol_group.ensures.symbols ∙ sym (range-map (symbol_view image) all c.args.index 1)) c.next.ensures.steps
