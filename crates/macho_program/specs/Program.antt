@@ -1,16 +1,22 @@
 -- What the program finds, and what it writes of it.
-use Rattle.std.specs.Prelude.{ℕ, List, drop, map, ⊤, Option, Some, None, Result, Ok, Err, IsOk, ◌^◌, ◌≡◌, ◌⊎◌, codes, if◌then◌else◌}
+use Rattle.std.specs.Prelude.{ℕ, List, drop, length, map, ⊤, Option, Some, None, Result, Ok, Err, IsOk, IsOkAnd, IsErrOf, IsTrue, IfOk, IfErr, IfSome, OnOk, ◌^◌, ◌<◌, ◌≡◌, ◌≢◌, ◌⊎◌, ◌↔◌, codes, if◌then◌else◌}
 use Rattle.std.specs.Borrow.{Bor}
+use Rattle.std.specs.Io.KnownBytes.{IsAtEnd}
 use Rattle.std.specs.Str.{bytes_eq}
+use Rattle.macho_report.specs.Stream.{TookAtMost}
 use Rattle.macho_report.specs.Run.{WroteVerdict, WroteVerdictPrefix}
 use Rattle.macho_report.specs.Where.{WroteWhere, WroteWherePrefix}
+use Rattle.macho_report.specs.declared.address.WhereOutcome.TheVariants.{NoImage}
 use Rattle.macho_report.specs.declared.outcome.RunFault.TheVariants as run
+use Rattle.macho_report.specs.declared.stream.Input as input
+use Rattle.macho_report.specs.declared.stream.Output as output
+use Rattle.macho_report.specs.declared.stream.Flush as flush
 use Rattle.macho_program.specs.Words.{Asked, verdict, place, asked, asked_by, file_of}
 use Rattle.macho_program.specs.declared.words.Request.{Request}
 use Rattle.macho_program.specs.declared.words.WordFault.{WordFault}
 use Rattle.macho_program.specs.declared.words.WordFault.TheVariants as words
 use Rattle.macho_program.specs.declared.program.Found.{Found}
-use Rattle.macho_program.specs.declared.program.Found.TheVariants as found
+use Rattle.macho_program.specs.declared.program.Found.TheVariants as kind
 use Rattle.macho_program.specs.declared.program.ProgramFault.{ProgramFault}
 use Rattle.macho_program.specs.declared.program.ProgramFault.TheVariants as program
 
@@ -21,9 +27,9 @@ input_of standard files request =
 
 -- what was asked for was found of the input, which has at most 2^32 bytes, and exactly its text was written
 abbrev pub WroteFound : Asked → Option (List ℕ) → Found → Option (List ℕ) → Option (List ℕ) → Type 0
-WroteFound (verdict name) input (found.Check outcome) old new =
+WroteFound (verdict name) input (kind.Check outcome) old new =
     WroteVerdict input (2 ^ 32) outcome old new
-WroteFound (place name slice address) input (found.Where outcome) old new =
+WroteFound (place name slice address) input (kind.Where outcome) old new =
     WroteWhere input (2 ^ 32) slice address outcome old new
 WroteFound _ _ _ _ _ = ⊥
 
@@ -54,3 +60,33 @@ abbrev pub IsFaultOf : Result Asked ProgramFault → ProgramFault → Type 0
 IsFaultOf request (program.Words words.Memory) = ⊤
 IsFaultOf request (program.Words fault) = request ≡ Err (program.Words fault)
 IsFaultOf request (program.Run fault) = (request ≡ Err (program.Run fault)) ⊎ IsOk request
+
+-- the file that is asked about is standard input
+abbrev pub IsOfStandardInput : Asked → Type 0
+IsOfStandardInput request = file_of request ≡ codes "-"
+
+-- The program ended right: `end` and what became of both streams are right for what is asked.
+-- `bytes` are those of the file that a request asks about, and `Reads` holds where that file is the input.
+pub record EndsRight {R W : Type 0} (i : input.Ghosts R) (o : output.Ghosts W) (f : flush.Ghosts W)
+    (asked : Result Asked ProgramFault) (bytes : Asked → Option (List ℕ)) (Reads : Asked → Type 0)
+    (reader reader' : R) (writer writer' : W) (end : Result Found ProgramFault) : Type 0 where
+  -- What is found is right for the file that is asked about, and exactly its text is written.
+  pub found : IfOk end (λ what. IsOkAnd asked (λ request.
+      WroteFound request (bytes request) what (o.contents writer) (o.contents writer')))
+  pub at_end : IfOk asked (λ request. Reads request → OnOk end (IsAtEnd (i.remaining reader')))
+  pub flushed : IfOk end (λ what. what ≢ kind.Where NoImage → IsTrue (f.is_flushed writer'))
+  pub no_image : end ≡ Ok (kind.Where NoImage) → writer' ≡ writer
+  -- Each fault is that of the words or of the run, and nothing is written but where a write failed.
+  pub faults : IfErr end (IsFaultOf asked)
+  pub read : IfOk asked (λ request. Reads request → end ≢ Err (program.Words words.Memory)
+      → (IsErrOf end (program.Run run.Read) ↔ IsTrue (i.has_failed reader')))
+  pub memory : IfOk asked (λ request. Reads request → IsErrOf end (program.Run run.Memory)
+      → TookAtMost (2 ^ 32) (i.remaining reader) (i.remaining reader'))
+  pub too_long : IsErrOf end (program.Run run.TooLong)
+      → IsOkAnd asked (λ request. IfSome (bytes request) (λ all. 2 ^ 32 < length all))
+  pub write : IsErrOf end (program.Run run.Write) → IsTrue (o.has_failed writer')
+  pub prefix : IsErrOf end (program.Run run.Write) → IsOkAnd asked (λ request.
+      WroteFoundPrefix request (bytes request) (o.contents writer) (o.contents writer'))
+  pub unwritten : IfErr end (λ fault. (fault ≡ program.Run run.Write) ⊎ (writer' ≡ writer))
+  -- Where the input is not asked about, it is not read.
+  pub unread : ¬ IsOkAnd asked Reads → reader' ≡ reader

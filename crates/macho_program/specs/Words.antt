@@ -1,4 +1,4 @@
--- What the words behind the program's name ask for, by what `clap` says of a simple command.
+-- What the words after the program's name ask for, by what `clap` says of a simple command.
 use Rattle.std.specs.Prelude.{ℕ, List, [], ◌∷◌, true, Option, Some, None, Result, Ok, Err, ⊤, ◌≡◌, if◌then◌else◌, codes}
 use Rattle.std.specs.Str.{bytes_eq}
 use Rattle.std.specs.String.{string_bytes}

@@ -9,7 +9,7 @@ use crate::words::WordFault;
 use macho_report::{Outcome, RunFault, WhereOutcome};
 use std::process::ExitCode;
 
-/// The file is accepted, or what is at the address was told.
+/// The file is accepted, or the line of what is at the address was written.
 pub const DONE: u8 = 0;
 /// A rule is broken.
 pub const REFUSED: u8 = 1;
@@ -43,6 +43,7 @@ pub fn where_status(ended: &Result<WhereOutcome, RunFault>) -> u8
     }
 }
 
+// The status for a fault of a run.
 fn fault_status(fault: RunFault) -> u8
     ensures { result ≡ fault_status_of fault }
 {

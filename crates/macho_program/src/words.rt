@@ -1,4 +1,4 @@
-//! What the words behind the program's name ask for.
+//! What the words after the program's name ask for.
 
 ghost use Rattle.std.specs.Prelude.{◌≡◌, map, option_map, IfOk, false};
 ghost use Rattle.clap.specs.Words.{app_of, first_of, found_of, kind_of, rows_of, rule_of};
@@ -15,7 +15,7 @@ use std::alloc::{AllocError, Global};
 use std::convert::AsStr;
 use thiserror::Error;
 
-/// The name of a file that stands for standard input.
+/// The file name that means standard input.
 pub const STANDARD_INPUT: &str = "-";
 
 /// What the program is asked to do.
@@ -25,7 +25,7 @@ pub enum Request {
     Check {
         file: String,
     },
-    /// Tell what is at this address of the image in this slice.
+    /// Say what is at this address of the image in this slice.
     Where {
         file: String,
         slice: u64,

@@ -1,61 +1,62 @@
-use Rattle.std.proofs.Common.{◌≡◌, ◌≢◌, ◌↔◌, Result, Ok, Err, IfOk, IsErrOf, codes, refl, ap, sym, ◌∙◌}
-use Rattle.std.specs.Prelude.{IsErrAnd}
-use Rattle.macho_report.specs.declared.outcome.RunFault.{RunFault}
-use Rattle.macho_report.specs.declared.outcome.RunFault.TheVariants as run
-use Rattle.macho_program.specs.Words.{Asked, file_of}
+use Rattle.std.proofs.Common.{◌≡◌, ◌∙◌, ℕ, List, Bool, true, false, Option, Some, None, Result, Ok, Err, IfOk, IfSome, length, codes, refl, ap, sym, ◌<◌, ◌^◌, rules}
+use Rattle.std.specs.Prelude.{⊤}
+use Rattle.std.specs.Str.{bytes_eq}
+use Rattle.macho_report.specs.declared.stream.Input as input
+use Rattle.macho_report.specs.declared.stream.Output as output
+use Rattle.macho_report.specs.declared.stream.Flush as flush
+use Rattle.macho_program.specs.Program.{EndsRight, IsOfStandardInput, WroteFound, WroteFoundPrefix}
+use Rattle.macho_program.specs.Words.{Asked, verdict, place}
 use Rattle.macho_program.specs.declared.program.Found.{Found}
+use Rattle.macho_program.specs.declared.program.Found.TheVariants as kind
 use Rattle.macho_program.specs.declared.program.ProgramFault.{ProgramFault}
-use Rattle.macho_program.specs.declared.program.ProgramFault.TheVariants as program
-use Rattle.macho_program.specs.declared.words.WordFault.TheVariants as words
 use Rattle.macho_program.proofs.program.find_asked.Goals as goal
 
-same_Err : (e f : ProgramFault) → IsErrOf {T = Found} (Err e) f → e ≡ f
-same_Err e f same = cc
+-- what is found of the bytes that a file gives, where those of its name are known
+found_in : (asked : Asked) (known given old new : Option (List ℕ)) (end : Result Found ProgramFault) → IfSome known (λ all. given ≡ Some all)
+    → IfOk end (λ what. WroteFound asked given what old new) → IfOk end (λ what. WroteFound asked known what old new)
+found_in asked (Some all) given old new end is wrote = rw is at wrote
+found_in asked None given old new (Err fault) is wrote = tt
+found_in (verdict name) None given old new (Ok (kind.Check outcome)) is wrote = tt
+found_in (place name slice address) None given old new (Ok (kind.Where outcome)) is wrote = tt
+found_in (verdict name) None given old new (Ok (kind.Where outcome)) is wrote = absurd wrote
+found_in (place name slice address) None given old new (Ok (kind.Check outcome)) is wrote = absurd wrote
 
-same_fault : (end : Result Found ProgramFault) (f k : RunFault) → IsErrAnd end (λ e. e ≡ program.Run f) → IsErrOf end (program.Run k) → IsErrOf {T = Found} (Err f) k
-same_fault (Ok found) f k is of = absurd is
-same_fault (Err e) f k is of = let same : program.Run f ≡ program.Run k = sym is ∙ same_Err e (program.Run k) of in cc
+prefix_in : (asked : Asked) (known given old new : Option (List ℕ)) → IfSome known (λ all. given ≡ Some all)
+    → WroteFoundPrefix asked given old new → WroteFoundPrefix asked known old new
+prefix_in asked (Some all) given old new is wrote = rw is at wrote
+prefix_in (verdict name) None given old new is wrote = tt
+prefix_in (place name slice address) None given old new is wrote = tt
 
--- what is said of a failed read of the run, as said of the program
-abbrev ReadIs : Result Asked ProgramFault → Result Found ProgramFault → Type 0 → Type 0
-ReadIs asked end failed = IfOk asked (λ request. file_of request ≡ codes "-" → end ≢ Err (program.Words words.Memory) → IsErrOf end (program.Run run.Read) ↔ failed)
+long_in : (known given : Option (List ℕ)) → IfSome known (λ all. given ≡ Some all) → IfSome given (λ all. 2 ^ 32 < length all) → IfSome known (λ all. 2 ^ 32 < length all)
+long_in (Some all) given is long = rw is at long
+long_in None given is long = tt
 
-failed_read : (asked : Result Asked ProgramFault) (request : Asked) (f : RunFault) (end : Result Found ProgramFault) (failed : Type 0) → asked ≡ Ok request
-    → (file_of request ≡ codes "-" → IsErrOf {T = Found} (Err f) run.Read ↔ failed) → IsErrAnd end (λ e. e ≡ program.Run f) → ReadIs asked end failed
-failed_read asked request f (Ok found) failed is read end = absurd end
-failed_read asked request run.Read (Err e) failed is read end = rw is (λ standard _. ((λ _. (read standard).0 refl), (λ _. ap Err end)))
-failed_read asked request run.TooLong (Err e) failed is read end = rw is (λ standard _. ((λ h. let bad = sym end ∙ same_Err e _ h in cc), (λ h. let bad = (read standard).1 h in cc)))
-failed_read asked request run.Write (Err e) failed is read end = rw is (λ standard _. ((λ h. let bad = sym end ∙ same_Err e _ h in cc), (λ h. let bad = (read standard).1 h in cc)))
-failed_read asked request run.Memory (Err e) failed is read end = rw is (λ standard _. ((λ h. let bad = sym end ∙ same_Err e _ h in cc), (λ h. let bad = (read standard).1 h in cc)))
+-- a run over another input than standard input, which is not read
+in_file : {R S W : Type 0} {i : input.Ghosts R} {j : input.Ghosts S} {o : output.Ghosts W} {f : flush.Ghosts W} (asked : Asked) (words : Result Asked ProgramFault)
+    (bytes : Asked → Option (List ℕ)) (standard : R) (file file' : S) (writer writer' : W) (end : Result Found ProgramFault)
+    → words ≡ Ok asked → ¬ IsOfStandardInput asked → IfSome (bytes asked) (λ all. j.remaining file ≡ Some all)
+    → EndsRight j o f (Ok asked) (λ _. j.remaining file) (λ _. ⊤) file file' writer writer' end
+    → EndsRight i o f words bytes IsOfStandardInput standard standard writer writer' end
+in_file asked words bytes standard file file' writer writer' end is other known h = rw is record {
+  found = found_in asked (bytes asked) _ _ _ end known h.found;
+  at_end = λ is. absurd (other is);
+  flushed = h.flushed;
+  no_image = h.no_image;
+  faults = h.faults;
+  read = λ is. absurd (other is);
+  memory = λ is. absurd (other is);
+  too_long = λ e. long_in (bytes asked) _ known (h.too_long e);
+  write = h.write;
+  prefix = λ e. prefix_in asked (bytes asked) _ _ _ known (h.prefix e);
+  unwritten = h.unwritten;
+  unread = λ _. refl;
+}
 
-no_failed_read : (asked : Result Asked ProgramFault) (request : Asked) (found : Found) (failed : Type 0) → asked ≡ Ok request
-    → (file_of request ≡ codes "-" → IsErrOf {E = RunFault} (Ok found) run.Read ↔ failed) → ReadIs asked (Ok found) failed
-no_failed_read asked request found failed is read = rw is (λ standard _. ((λ h. cc), (λ h. let bad = (read standard).1 h in cc)))
+not_standard : (name file : List ℕ) (eq : Bool) → name ≡ file → eq ≡ bytes_eq name (codes "-") → eq ≡ false → bytes_eq file (codes "-") ≡ false
+not_standard name file eq name_is eq_is fails = ap (λ (n : List ℕ). bytes_eq n (codes "-")) (sym name_is) ∙ (sym eq_is ∙ fails)
 
-pub returns-in_err-find_in_file-clause-read : goal.returns-in_err-find_in_file-clause-read
-returns-in_err-find_in_file-clause-read g c =
-    failed_read _ _ _ c.from_residual-in_err-find_in_file.result _ c.in_ok-request.ensures c.in_err-find_in_file.ensures.read c.from_residual-in_err-find_in_file.ensures.1
-
-pub returns-clause-read : goal.returns-clause-read
-returns-clause-read g c = no_failed_read _ _ _ _ c.in_ok-request.ensures c.in_ok-find_in_file.ensures.read
-
-pub returns-clause-found : goal.returns-clause-found
-returns-clause-found g c = rw c.in_ok-request.ensures c.in_ok-find_in_file.ensures.found
-
-pub returns-clause-at_end : goal.returns-clause-at_end
-returns-clause-at_end g c = rw c.in_ok-request.ensures c.in_ok-find_in_file.ensures.at_end
-
-pub returns-in_err-find_in_file-clause-memory : goal.returns-in_err-find_in_file-clause-memory
-returns-in_err-find_in_file-clause-memory g c =
-    rw c.in_ok-request.ensures (λ standard of. c.in_err-find_in_file.ensures.memory standard (same_fault _ _ _ c.from_residual-in_err-find_in_file.ensures.1 of))
-
-pub returns-in_err-find_in_file-clause-too_long : goal.returns-in_err-find_in_file-clause-too_long
-returns-in_err-find_in_file-clause-too_long g c =
-    λ of. rw c.in_ok-request.ensures (c.in_err-find_in_file.ensures.too_long (same_fault _ _ _ c.from_residual-in_err-find_in_file.ensures.1 of))
-
-pub returns-in_err-find_in_file-clause-write : goal.returns-in_err-find_in_file-clause-write
-returns-in_err-find_in_file-clause-write g c = λ of. c.in_err-find_in_file.ensures.write (same_fault _ _ _ c.from_residual-in_err-find_in_file.ensures.1 of)
-
-pub returns-in_err-find_in_file-clause-prefix : goal.returns-in_err-find_in_file-clause-prefix
-returns-in_err-find_in_file-clause-prefix g c =
-    λ of. rw c.in_ok-request.ensures (c.in_err-find_in_file.ensures.prefix (same_fault _ _ _ c.from_residual-in_err-find_in_file.ensures.1 of))
+pub returns-in-Ok : goal.returns-in-Ok
+returns-in-Ok g c =
+    let other = not_standard _ _ _ c.file.ensures c.eq.ensures c.if-eq.false in
+    in_file _ _ _ _ _ _ _ _ _ c.in_ok-request.ensures (λ is. let bad : true ≡ false = ap (λ (n : List ℕ). bytes_eq n (codes "-")) (sym is) ∙ other in cc)
+    (rw other (search rules)) c.find_in-in-Ok.ensures
