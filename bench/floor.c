@@ -1247,7 +1247,7 @@ static void judge_slices(const struct file *file, const struct universal *univer
     }
 }
 
-// The report, as README.md has its lines
+// The report, as docs/COMMAND.md has its lines
 
 // The most bytes of a line, but for the name of a library.
 #define LINE_SIZE ((size_t)512)

@@ -1,5 +1,5 @@
 #!/usr/bin/env python3
-"""A second verifier of the layout of Mach-O files. It was written from docs/RULES.md, and from README.md for what is
+"""A second verifier of the layout of Mach-O files. It was written from docs/RULES.md, and from docs/COMMAND.md for what is
 printed. Nothing was taken from the sources of the first one. tests/oracle compares the two.
 
     tests/oracle.py FILE                        prints what `macho-check check FILE` prints, and ends with its status
@@ -575,7 +575,7 @@ def first_broken(file):
                     return rule.__name__.replace("_", "-"), image.start + min(places)
     return None
 
-# The layout, as README.md has its lines
+# The layout, as docs/COMMAND.md has its lines
 
 def quoted(characters):
     """A name in double quotes. A quote, a backslash and a byte that is not printable ASCII are written as numbers."""

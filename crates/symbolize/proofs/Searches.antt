@@ -1,4 +1,4 @@
--- The nearest symbol so far, and the first section that was found.
+-- The nearest of the symbols that were passed, and the first section that was found.
 use Rattle.std.proofs.Common.{◌≡◌, ◌∙◌, ℕ, ◌+◌, ◌≤◌, ◌<◌, List, [], ◌∷◌, ◌++◌, All, Option, None, Some, length, take, drop, MatchOption, refl, sym, ap, subst, append_assoc, le_refl, arith}
 use Rattle.std.proofs.lemmas.List.{take-append-drop, drop_more, get_or-take, length-take-le}
 use Rattle.std.proofs.lemmas.List.Elements.{All-nil, All-cons, All-append, All-push, All-weaker, All-from_all_within}

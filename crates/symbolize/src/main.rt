@@ -1,6 +1,6 @@
 #![tactic(auto)]
-//! Tells what is at addresses of an accepted file, which is read from standard input. The words of
-//! the call are the index of a slice, and addresses: `symbolize 0 0x100000440 < FILE`.
+//! Prints what is at addresses of an accepted file, which is read from standard input. The words are the
+//! index of a slice, and addresses: `symbolize 0 0x100000440 < FILE`.
 
 mod fault;
 mod find;
@@ -15,7 +15,7 @@ use std::io::Read;
 use std::process::ExitCode;
 
 /// Reads the file, judges it, and prints a line for each address.
-fn tell(rt: &HostRuntime) -> Result<(), Fault> {
+fn print_lines(rt: &HostRuntime) -> Result<(), Fault> {
     let mut words = env::args(rt)?.skip(1);
     let slice = words.next().ok_or(Fault::Words)?;
     let slice = slice.parse::<u64>().ok().ok_or(Fault::Words)?;
@@ -31,7 +31,7 @@ fn tell(rt: &HostRuntime) -> Result<(), Fault> {
 
 /// The status is 0 where each address has its line, and otherwise 1.
 fn main(rt: HostRuntime) -> ExitCode {
-    match tell(&rt) {
+    match print_lines(&rt) {
         Ok(()) => ExitCode::SUCCESS,
         Err(fault) => {
             let _ = eprintln!(rt; "symbolize: {fault}");
