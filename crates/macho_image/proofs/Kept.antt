@@ -1,8 +1,8 @@
 -- The commands of one kind of an opened image: their structures lie inside it.
 use Rattle.std.proofs.Common.{◌≡◌, ℕ, ◌+◌, ◌≤◌, List, [], ◌∷◌, length, map, Contains, Option, None, Some, refl, sym, ap, ◌∙◌, subst, arith}
 use Rattle.std.specs.Iterator.{YieldsFirstBy}
-use Rattle.std.specs.Prelude.{slice_get}
-use Rattle.std.specs.Option.{option_map}
+use Rattle.std.specs.Prelude.{slice_get, IfSome}
+use Rattle.std.specs.Option.{option_map, option_map_or}
 use Rattle.std.proofs.lemmas.Option.{same_Some, slice_get-map}
 use Rattle.std.proofs.lemmas.List.Elements.{All-contains_itself, All-map}
 use Rattle.macho_fields.specs.Image.{command_cmd, command_size, commands_of, with_cmd}
@@ -75,8 +75,15 @@ pub no_first : (image : List ℕ) (first : Option ℕ) → None ≡ option_map (
 no_first image None is = refl
 no_first image (Some p) is = absurd (cc)
 
--- where the structure of their kind is listed, that of the first lies inside the image
-pub first_inside : (image bytes : List ℕ) (cmd place : ℕ) (s : Structure) (found : Option ℕ) → structure_of cmd ≡ Some s → IsOpened image → bytes ≡ image
-    → found ≡ first_with_cmd image cmd (commands_of image) → found ≡ Some place → place + structure_size s ≤ length bytes
-first_inside image bytes cmd place s found listed opened same is some =
-    subst (λ b. place + structure_size s ≤ length b) (sym same) (held image cmd place s listed opened (got_first (with_cmd image cmd (commands_of image)) place (sym is ∙ some)))
+-- the structure of the first of a kind lies inside the image
+pub first_inside : (image : List ℕ) (cmd : ℕ) (found : Option ℕ) → IsOpened image → found ≡ first_with_cmd image cmd (commands_of image)
+    → IfSome found (λ place. place + option_map_or structure_size (structure_of cmd) 0 ≤ length image)
+first_inside image cmd None opened is = tt
+first_inside image cmd (Some place) opened is = by (structure_of cmd) refl
+  where
+    has : Contains (with_cmd image cmd (commands_of image)) place
+    has = got_first (with_cmd image cmd (commands_of image)) place (sym is)
+
+    by : (o : Option Structure) → structure_of cmd ≡ o → place + option_map_or structure_size o 0 ≤ length image
+    by None none = let inside = command_inside image (commands_of image) (opened_keeps image opened) (opened_commands image opened) place (with_cmd_among image (commands_of image) cmd place has) in omega (arith, inside)
+    by (Some s) listed = held image cmd place s listed opened has

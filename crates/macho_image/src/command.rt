@@ -146,5 +146,5 @@ pub(crate) fn name_of(image: Bytes, place: u64) -> &[u8]
         start,
         len: image.len() - start,
     };
-    image.string_in(rest).unwrap()
+    image.read_string(rest)
 }

@@ -1,13 +1,14 @@
 //! An opened image. (`mach-o/loader.h`: `mach_header_64`)
 
-use crate::command::{Command, Commands, word_at};
+use crate::command::{Command, Commands};
 use crate::landmarks::Landmarks;
 use crate::rules::dylib_id;
 use crate::survey::Survey;
 use crate::walk::{
-    FILETYPE, Opening, arch_mismatch, arch_of, commands_outside, file_type, header_truncated,
+    Opening, arch_mismatch, arch_of, commands_outside, file_type, header_truncated,
+    listed_file_type,
 };
-use macho_fields::{Break, Bytes, file_type_of};
+use macho_fields::{Break, Bytes};
 pub use macho_fields::{FileType, Kind};
 use std::marker::Model;
 
@@ -31,11 +32,11 @@ impl<'a> Model for Image<'a> {
 }
 
 impl<'a> Image<'a> {
-    ghost use Rattle.std.specs.Prelude.{◌≡◌, IfOk, Some, map};
-    ghost use Rattle.std.specs.Option.{option_map};
+    ghost use Rattle.std.specs.Prelude.{◌≡◌, ◌+◌, ◌≤◌, length, IfOk, IfSome, Some, map};
+    ghost use Rattle.std.specs.Option.{option_map, option_map_or};
     ghost use Rattle.macho_fields.specs.Bytes.{bytes_of};
     ghost use Rattle.macho_fields.specs.FileTypes.{file_type_of, file_type_view};
-    ghost use Rattle.macho_fields.specs.LoadCommands.{IsUnique};
+    ghost use Rattle.macho_fields.specs.LoadCommands.{structure_of, structure_size, IsUnique};
     ghost use Rattle.macho_fields.specs.Rules.{BreaksImage};
     ghost use Rattle.macho_fields.specs.Layers.{Continues};
     ghost use Rattle.macho_fields.specs.Image.{cpu_type, cpu_subtype, file_type, commands_of};
@@ -98,7 +99,7 @@ impl<'a> Image<'a> {
     pub fn file_type(&self) -> FileType
         ensures { file_type_of (file_type self.now) ≡ Some (file_type_view result) }
     {
-        file_type_of(word_at(self.bytes, FILETYPE)).unwrap()
+        listed_file_type(self.bytes)
     }
 
     /// What the image is.
@@ -165,10 +166,13 @@ impl<'a> Image<'a> {
         }
     }
 
-    /// The place of the command with this `cmd`, of which an image has at most one.
+    // The place of the command with this `cmd`, of which an image has at most one. Its structure lies
+    // inside the image.
     pub(crate) fn place_of(&self, cmd: u32) -> Option<u64>
         requires { IsUnique cmd }
-        ensures { result ≡ first_with_cmd self.now cmd (commands_of self.now) }
+        ensures first { result ≡ first_with_cmd self.now cmd (commands_of self.now) }
+        ensures inside { IfSome result (λ place.
+            place + option_map_or structure_size (structure_of cmd) 0 ≤ length self.now) }
     {
         self.landmarks.unique.of(cmd)
     }

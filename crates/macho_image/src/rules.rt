@@ -15,9 +15,9 @@ ghost use Rattle.macho_image.specs.Scaffold.{breaks_of, AreFirst, IsAlone};
 
 use crate::command::{Command, word_at};
 use crate::unique::UniquePlaces;
-use crate::walk::{FILETYPE, Opening};
+use crate::walk::{FILETYPE, Opening, listed_file_type};
 use macho_fields::header::loader::{LC_ID_DYLIB, LC_STR_OFFSET};
-use macho_fields::{Break, Bytes, Order, Rule, Span, Structure, file_type_of};
+use macho_fields::{Break, Bytes, Order, Rule, Span, Structure};
 
 /// Whether the command, which has this structure, is shorter than the structure and the records after
 /// it.
@@ -56,7 +56,7 @@ pub(crate) fn dylib_id(opening: Opening, unique: UniquePlaces) -> Result<(), Bre
         unique }
     ensures { Continues (breaks_of opening.entry) Rule.DylibId result }
 {
-    let listed = file_type_of(word_at(opening.bytes, FILETYPE)).unwrap();
+    let listed = listed_file_type(opening.bytes);
     if listed.names_itself != unique.of(LC_ID_DYLIB).is_some() {
         return Err(Break::at(Rule::DylibId, FILETYPE));
     }

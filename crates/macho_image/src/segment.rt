@@ -196,7 +196,7 @@ pub(crate) fn short_name(image: Bytes, structure: u64, offset: u64) -> &[u8]
     };
     match image.string_in(whole) {
         Some(string) => string,
-        None => image.part(whole).unwrap(),
+        None => image.read_part(whole),
     }
 }
 

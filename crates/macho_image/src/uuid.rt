@@ -42,5 +42,5 @@ fn uuid_from(image: Bytes, place: u64) -> [u8; 16]
         start: place + UUID,
         len: UUID_SIZE,
     };
-    <[u8; 16]>::try_from(image.part(uuid).unwrap()).unwrap()
+    <[u8; 16]>::try_from(image.read_part(uuid)).unwrap()
 }

@@ -1,10 +1,11 @@
 //! The rules of the header of an image, and a step of the walk over its load commands.
 //! (`mach-o/loader.h`: `mach_header_64`, `load_command`)
 
-ghost use Rattle.std.specs.Prelude.{◌≡◌, ◌+◌, ◌^◌, ◌≤◌, ◌<◌, ◌↔◌, length, IsTrue, IsSome, IfSome};
+ghost use Rattle.std.specs.Prelude.{◌≡◌, ◌+◌, ◌^◌, ◌≤◌, ◌<◌, ◌↔◌, length, IsTrue, Some, IsSome, IfSome};
 ghost use Rattle.macho_fields.specs.Bytes.{bytes_of};
+ghost use Rattle.macho_fields.specs.FileTypes.{file_type_of, file_type_view};
 ghost use Rattle.macho_fields.specs.First.{rank};
-ghost use Rattle.macho_fields.specs.Image.{cpu_type, cpu_subtype, commands_end, command_size, IsGood};
+ghost use Rattle.macho_fields.specs.Image.{file_type as header_file_type, cpu_type, cpu_subtype, commands_end, command_size, IsGood};
 ghost use Rattle.macho_fields.specs.Layers.{KeptBelow, Continues};
 ghost use Rattle.macho_fields.specs.Universal.{masked};
 ghost use Rattle.macho_fields.specs.declared.rule.Rule.{Rule};
@@ -13,7 +14,7 @@ ghost use Rattle.macho_image.specs.Scaffold.{breaks_of};
 use crate::command::{CMDSIZE, Commands, word_at};
 use macho_fields::header::loader::{LOAD_COMMAND_SIZE, MACH_HEADER_64_SIZE};
 use macho_fields::header::machine::CPU_SUBTYPE_MASK;
-use macho_fields::{Break, Bytes, Rule, file_type_of};
+use macho_fields::{Break, Bytes, FileType, Rule, file_type_of};
 
 // The offsets of the fields of `mach_header_64`.
 const CPUTYPE: u64 = 4;
@@ -113,6 +114,15 @@ pub(crate) fn file_type(opening: Opening) -> Result<(), Break>
         Some(_) => Ok(()),
         None => Err(Break::at(Rule::FileType, FILETYPE)),
     }
+}
+
+// The type of an image whose type is listed.
+pub(crate) fn listed_file_type(image: Bytes) -> FileType
+    requires header { MACH_HEADER_64_SIZE ≤ length (bytes_of image) }
+    requires listed { IsSome (file_type_of (header_file_type (bytes_of image))) }
+    ensures { file_type_of (header_file_type (bytes_of image.entry)) ≡ Some (file_type_view result) }
+{
+    file_type_of(word_at(image, FILETYPE)).unwrap()
 }
 
 /// The rule `commands-outside`: the commands end inside the image.

@@ -6,9 +6,9 @@ use Rattle.macho_image.proofs.image.Image.id.Goals as goal
 
 pub dylib_from-requires : goal.dylib_from-requires
 dylib_from-requires c =
-    first_library c.args.self.now _ c.in_ok-place.place c.place_of.result c.bytes.ensures.opened c.bytes.ensures.bytes c.place_of.ensures c.in_ok-place.was
+    first_library c.args.self.now _ c.in_ok-place.place c.place_of.result c.bytes.ensures.opened c.bytes.ensures.bytes c.place_of.ensures.first c.in_ok-place.was
 
 pub returns : goal.returns
 returns c =
     ap Some (c.dylib_from.ensures ∙ ap (λ image. dylib_at image c.in_ok-place.place) c.bytes.ensures.bytes)
-    ∙ ap (option_map (dylib_at c.args.self.now)) (sym c.in_ok-place.was ∙ c.place_of.ensures)
+    ∙ ap (option_map (dylib_at c.args.self.now)) (sym c.in_ok-place.was ∙ c.place_of.ensures.first)
