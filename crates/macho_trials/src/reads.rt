@@ -1,15 +1,17 @@
-//! Prints what the calls of `macho_verified` give of an image of a file. `tests/reads` runs it, and compares
-//! what it prints with what other readers show.
+//! Prints what the calls of `macho_image` and `macho_verified` give of an image of a file. `tests/reads` runs it,
+//! and compares what it prints with what other readers show.
 //!
 //! The first word is the index of a slice, and the others are addresses, in hexadecimal without `0x`.
 //! Standard input has the file.
 
 mod address;
+mod commands;
 mod linkedit;
 mod segments;
 mod symbols;
 
 use address::write_addresses;
+use commands::write_commands;
 use linkedit::{write_linkedit, write_paths};
 use macho_rules::verify;
 use macho_verified::VerifiedImage;
@@ -43,6 +45,7 @@ fn tell(rt: &(impl AllocGlobal + Print), file: &[u8], mut words: Args<Global>) -
 
 /// Prints all but what is at addresses.
 fn write_image(rt: &impl Print, image: &VerifiedImage) -> io::Result<()> {
+    write_commands(rt, image.image())?;
     write_segments(rt, image)?;
     write_numbers(rt, image)?;
     write_paths(rt, image)?;

@@ -1,5 +1,6 @@
 //! Segments and sections, with their bytes.
 
+use macho_image::Section;
 use macho_verified::{VerifiedImage, VerifiedSection, VerifiedSegment};
 use std::io;
 
@@ -26,18 +27,23 @@ fn write_segment(rt: &impl Print, segment: &VerifiedSegment) -> io::Result<()> {
     Ok(())
 }
 
-/// Prints the `align`, `reserved1` and `reserved2` of a section, and its bytes.
+/// Prints the fields of a section that no layout has, and its bytes.
 fn write_section(rt: &impl Print, section: &VerifiedSection) -> io::Result<()> {
-    let fields = section.section();
-    let name = text_of(fields.name());
-    let align = fields.align();
-    let first = fields.reserved1();
-    let second = fields.reserved2();
-    print!(rt; "section {name} align {align} reserved {first} {second}")?;
+    write_fields(rt, section.section())?;
     match section.bytes() {
         Some(bytes) => write_bytes(rt, bytes),
         None => println!(rt; " zero-fill"),
     }
+}
+
+/// Prints the place and the name of a section, its relocations, its flags, and its other numbers.
+fn write_fields(rt: &impl Print, section: &Section) -> io::Result<()> {
+    let (place, name) = (section.place(), text_of(section.name()));
+    let (reloff, nreloc) = (section.reloff(), section.nreloc());
+    let (flags, align) = (section.flags(), section.align());
+    let (first, second) = (section.reserved1(), section.reserved2());
+    print!(rt; "section {name} at {place:#x} relocs {reloff} {nreloc} flags {flags:#x}")?;
+    print!(rt; " align {align} reserved {first} {second}")
 }
 
 /// Prints the name of the section with each number, from 0 to the first from 1 on that has none.

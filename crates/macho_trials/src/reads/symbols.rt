@@ -1,6 +1,7 @@
 //! Symbols by their index, their groups, and the indirect entries.
 
 use crate::reads::segments::text_of;
+use macho_image::{Indirect, Symbol};
 use macho_verified::{VerifiedImage, VerifiedIndirect, VerifiedSymbol, VerifiedSymbols};
 use std::io;
 
@@ -14,7 +15,7 @@ pub(crate) fn write_symbols(rt: &impl Print, image: &VerifiedImage) -> io::Resul
     write_indirects(rt, image)
 }
 
-/// Prints each symbol: its index, its name, its value, and the section that it names.
+/// Prints each symbol: its index, its name, its fields, and the section that it names.
 fn write_each(rt: &impl Print, image: &VerifiedImage) -> io::Result<()> {
     for index in 0..=u64::MAX {
         let Some(symbol) = image.symbol(index) else {
@@ -33,12 +34,25 @@ fn write_symbol(
     symbol: &VerifiedSymbol,
 ) -> io::Result<()> {
     let fields = symbol.symbol();
-    let value = fields.value;
-    print!(rt; "symbol {index} {} {value:#x}", name_of(symbol))?;
+    print!(rt; "symbol {index} {}", name_of(symbol))?;
+    write_fields(rt, fields)?;
     match image.section(fields.sect) {
         Some(section) => println!(rt; " in {}", text_of(section.section().name())),
         None => println!(rt; ""),
     }
+}
+
+/// Prints the fields of a symbol.
+fn write_fields(rt: &impl Print, symbol: Symbol) -> io::Result<()> {
+    let Symbol {
+        place,
+        strx,
+        kind,
+        sect,
+        desc,
+        value,
+    } = symbol;
+    print!(rt; " {value:#x} at {place:#x} strx {strx} type {kind:#x} sect {sect} desc {desc:#x}")
 }
 
 /// Prints the names of a group, on one line.
@@ -67,10 +81,10 @@ fn write_indirects(rt: &impl Print, image: &VerifiedImage) -> io::Result<()> {
 
 /// Prints an indirect entry.
 fn write_indirect(rt: &impl Print, entry: &VerifiedIndirect) -> io::Result<()> {
-    let value = entry.indirect().value;
+    let Indirect { place, value } = entry.indirect();
     match entry.symbol() {
-        Some(symbol) => println!(rt; "indirect {value:#x} {}", name_of(&symbol)),
-        None => println!(rt; "indirect {value:#x} none"),
+        Some(symbol) => println!(rt; "indirect {value:#x} at {place:#x} {}", name_of(&symbol)),
+        None => println!(rt; "indirect {value:#x} at {place:#x} none"),
     }
 }
 
