@@ -10,13 +10,6 @@ pub(crate) fn written(alloc: Global, text: &str) -> Result<Vec<u8>, Fail> {
     Ok(bytes)
 }
 
-/// The bytes of `text` after those of `front`.
-pub(crate) fn written_after(alloc: Global, front: &str, text: &str) -> Result<Vec<u8>, Fail> {
-    let mut bytes = written(alloc, front)?;
-    append(&mut bytes, text)?;
-    Ok(bytes)
-}
-
 /// Appends the bytes of this text.
 pub(crate) fn append(bytes: &mut Vec<u8>, text: &str) -> Result<(), Fail> {
     for word in text.split_whitespace() {
@@ -51,6 +44,17 @@ fn byte(pair: &[u8]) -> Result<u8, Fail> {
     let digits = str::from_utf8(pair)?;
     Ok(u8::from_str_radix(digits, 16)?)
 }
+
+/// A header alone, which keeps every rule.
+pub(crate) const BARE_HEADER: &[u8; 32] =
+    b"\xcf\xfa\xed\xfe\x07\0\0\x01\x03\0\0\0\x02\0\0\0\0\0\0\0\0\0\0\0\0\0\0\0\0\0\0\0";
+
+/// What is written of it: three lines of 19, 40 and 13 bytes.
+pub(crate) const BARE_LAYOUT: &str = "\
+accepted, slices 1
+slice 0 x86_64 at 0x0 size 0x20 execute
+  entry none
+";
 
 /// An executable with segments, symbols, a library, versions and an entry: 0x202c bytes.
 pub(crate) fn executable(alloc: Global) -> Result<Vec<u8>, Fail> {

@@ -1,22 +1,40 @@
 //! The calls that read an input and write a text, on the executable: each read fails in turn, and each
 //! write.
 
-use super::report::EXECUTABLE_LAYOUT;
 use super::same;
 use crate::doubles::slow::EndlessReader;
 use crate::doubles::{CountingReader, CountingWriter, Fault};
 use crate::notation::executable;
 use macho_program::Found;
-use macho_report::{FromRead, FromWrite, Input, Outcome, RunFault, WhereOutcome, run, run_where};
+use macho_report::{
+    FromRead, FromWrite, Input, Outcome, Output, RunFault, WhereOutcome, run, run_where,
+};
 use std::process::Abort;
 use std::test::Fail;
 
 /// Which call is made: `run`, or `run_where` on the address of the header of the executable.
 #[derive(Clone, Copy)]
-enum Call {
+pub(super) enum Call {
     Run,
     RunWhere,
 }
+
+/// The text on the executable.
+const EXECUTABLE_LAYOUT: &str = r#"accepted, slices 1
+slice 0 x86_64 at 0x0 size 0x202c execute
+  uuid 00112233-4455-6677-8899-AABBCCDDEEFF
+  build platform 1 min 11.0.0 sdk 13.1.0
+  segment "__PAGEZERO" addr 0x0 size 0x100000000 file 0x0 size 0x0 ---
+  segment "__TEXT" addr 0x100000000 size 0x1000 file 0x0 size 0x1000 r-x
+    section "__text" addr 0x100000f00 size 0x100 file 0xf00
+  segment "__DATA" addr 0x100001000 size 0x2000 file 0x1000 size 0x1000 rw-
+    section "__data" addr 0x100001000 size 0x10 file 0x1000
+    section "__bss" addr 0x100001010 size 0x20 zero
+  segment "__LINKEDIT" addr 0x100003000 size 0x1000 file 0x2000 size 0x2c r--
+  load "/usr/lib/libSystem.B.dylib" current 1319.0.0 compatible 1.0.0
+  symbols 2
+  entry 0x100000f00
+"#;
 
 /// Each call, with what it finds of the executable, and the text.
 const CALLS: &[(Call, Found, &str)] = &[
@@ -44,25 +62,24 @@ fn check_call<R: Input>(
     writer: &mut CountingWriter,
     expected: (Result<Found, RunFault>, &[u8]),
 ) {
-    let ended = ended(rt, call, limit, reader, writer);
+    let ended = ended(rt, call, limit, reader, &mut FromWrite::new(writer));
     same(rt, &(ended, writer.bytes.as_slice()), &expected);
     same(rt, &writer.flushes, &0);
 }
 
 /// How the call ends.
-fn ended<R: Input>(
+pub(super) fn ended<R: Input, W: Output>(
     rt: &impl AllocGlobal,
     call: Call,
     limit: u64,
     reader: &mut R,
-    writer: &mut CountingWriter,
+    writer: &mut W,
 ) -> Result<Found, RunFault> {
-    let mut writer = FromWrite::new(writer);
     match call {
-        Call::Run => run(rt.alloc(), limit, reader, &mut writer).map(Found::Check),
+        Call::Run => run(rt.alloc(), limit, reader, writer).map(Found::Check),
         Call::RunWhere => {
             let address = 0x1_0000_0000;
-            run_where(rt.alloc(), limit, 0, address, reader, &mut writer).map(Found::Where)
+            run_where(rt.alloc(), limit, 0, address, reader, writer).map(Found::Where)
         }
     }
 }

@@ -4,6 +4,7 @@ ghost use Rattle.std.specs.Prelude.{None};
 
 use super::same;
 use crate::doubles::{CountingReader, CountingWriter, Fault};
+use crate::notation::{BARE_HEADER, BARE_LAYOUT};
 use macho_program::{
     Open, ProgramFault, WordFault, check_status, exit_code, run_program, where_status,
 };
@@ -15,8 +16,6 @@ use macho_report::{
 use std::alloc::{AllocError, Global};
 use std::process::{Abort, ExitCode};
 use std::test::Fail;
-
-const TEXT: &[u8; 32] = b"abcdefghijklmnopqrstuvwxyz012345";
 
 #[test]
 fn reads_a_reader_of_std(rt: HostRuntime) -> Result<(), Fail> {
@@ -96,7 +95,7 @@ fn each_read_is_one_of_std(rt: HostRuntime) {
 fn no_read_follows_an_error_of_std(rt: HostRuntime) {
     let mut piece = [0u8; 4];
     for fails_at in 1..8u64 {
-        let mut counted = CountingReader::new(TEXT, fails_at);
+        let mut counted = CountingReader::new(BARE_HEADER, fails_at);
         let mut reader = FromRead::new(&mut counted);
         for _ in 1..fails_at {
             same(&rt, &reader.read(&mut piece), &Ok(4));
@@ -176,17 +175,6 @@ fn check_failed_flush(rt: &impl Abort, counted: &mut CountingWriter) {
     same(rt, &writer.write(b"e"), &Err(Failed));
     same(rt, &writer.failed(), &true);
 }
-
-/// A header alone, which keeps every rule.
-const BARE_HEADER: &[u8; 32] =
-    b"\xcf\xfa\xed\xfe\x07\0\0\x01\x03\0\0\0\x02\0\0\0\0\0\0\0\0\0\0\0\0\0\0\0\0\0\0\0";
-
-/// What is written of the header, in 3 writes, one for each line.
-const REPORT: &str = "\
-accepted, slices 1
-slice 0 x86_64 at 0x0 size 0x20 execute
-  entry none
-";
 
 const READ_LINE: &str = "macho-check: read failed\n";
 
@@ -276,8 +264,8 @@ fn check_written(rt: &impl Abort, writer: &CountingWriter, text: &[u8], calls: (
 
 /// The words of the program, the read and the call of the writer that fail, and the end.
 const ENDS: &[(Option<&[&str]>, u64, u64, End)] = &[
-    (UNNAMED, 0, 0, End(0, REPORT, "", (2, 3, 1))),
-    (Some(&[]), 0, 0, End(0, REPORT, "", (2, 3, 1))),
+    (UNNAMED, 0, 0, End(0, BARE_LAYOUT, "", (2, 3, 1))),
+    (Some(&[]), 0, 0, End(0, BARE_LAYOUT, "", (2, 3, 1))),
     (UNNAMED, 1, 0, End(3, "", READ_LINE, (1, 0, 0))),
     (UNNAMED, 2, 0, End(3, "", READ_LINE, (2, 0, 0))),
     (UNNAMED, 0, 1, End(3, "", WRITE_LINE, (2, 1, 0))),
@@ -287,7 +275,7 @@ const ENDS: &[(Option<&[&str]>, u64, u64, End)] = &[
         2,
         End(3, "accepted, slices 1\n", WRITE_LINE, (2, 2, 0)),
     ),
-    (UNNAMED, 0, 4, End(3, REPORT, WRITE_LINE, (2, 3, 1))),
+    (UNNAMED, 0, 4, End(3, BARE_LAYOUT, WRITE_LINE, (2, 3, 1))),
     (None, 0, 0, End(3, "", READ_LINE, (0, 0, 0))),
     // Nothing is written or flushed where there is no image.
     (
@@ -307,10 +295,10 @@ fn ends_of_the_program(rt: HostRuntime) {
     }
 }
 
-/// The words behind the program's name, and the end.
+/// The words after the program's name, and the end.
 const ENDS_WITH_WORDS: &[(&[&str], End)] = &[
-    (&["check", "-"], End(0, REPORT, "", (2, 3, 1))),
-    (&["check", "header"], End(0, REPORT, "", (0, 3, 1))),
+    (&["check", "-"], End(0, BARE_LAYOUT, "", (2, 3, 1))),
+    (&["check", "header"], End(0, BARE_LAYOUT, "", (0, 3, 1))),
     (
         &["check", "empty"],
         End(1, "refused: magic at 0x0\n", "", (0, 1, 1)),
@@ -357,7 +345,7 @@ fn ends_of_the_program_with_words(rt: HostRuntime) {
     }
 }
 
-/// Compares the end of the program, on these words behind its name.
+/// Compares the end of the program, on these words after its name.
 fn check_words(rt: &(impl Abort + AllocGlobal), words: &[&str], end: End) {
     let mut all = Vec::new(rt.alloc());
     let pushed = all.push("macho-check").is_ok() && all.extend_from_slice(words).is_ok();
@@ -423,7 +411,7 @@ fn reports_that_are_cut_off(rt: HostRuntime) {
             "refused: magic at 0x0\n",
             1,
         ),
-        (BARE_HEADER.as_slice(), Outcome::Accepted, REPORT, 3),
+        (BARE_HEADER.as_slice(), Outcome::Accepted, BARE_LAYOUT, 3),
     ] {
         for fails_at in 0..20 {
             check_cut_off(&rt, input, fails_at, (outcome, text, writes));

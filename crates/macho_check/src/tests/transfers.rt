@@ -1,12 +1,14 @@
 //! Whole transfers over streams that take one byte a call, and that fail.
 
+use super::failing::{Call, ended};
 use super::same;
 use crate::doubles::slow::{EndlessReader, SlowReader, SlowWriter};
+use crate::notation::{BARE_HEADER, BARE_LAYOUT};
 use macho_fields::{Break, Rule};
+use macho_program::Found;
 use macho_report::transfer::{ReadFault, read_all};
 use macho_report::{
-    Input, Outcome, Output, RunFault, WhereOutcome, run, run_where, write_all, write_break,
-    write_layout,
+    Input, Outcome, Output, RunFault, WhereOutcome, write_all, write_break, write_layout,
 };
 use macho_rules::verify;
 
@@ -68,17 +70,6 @@ fn stops_at_a_failed_write(rt: HostRuntime) {
     same(&rt, &writer.bytes.as_slice(), &b"abcd".as_slice());
 }
 
-/// A header alone, which keeps every rule.
-const BARE_HEADER: &[u8; 32] =
-    b"\xcf\xfa\xed\xfe\x07\0\0\x01\x03\0\0\0\x02\0\0\0\0\0\0\0\0\0\0\0\0\0\0\0\0\0\0\0";
-
-/// What is written of it: 19, 40 and 13 bytes.
-const LAYOUT: &str = "\
-accepted, slices 1
-slice 0 x86_64 at 0x0 size 0x20 execute
-  entry none
-";
-
 #[test]
 fn writes_a_layout_until_a_write_fails(rt: HostRuntime) {
     let verified = verify(rt.alloc(), BARE_HEADER).expect(&rt, "a file that keeps every rule");
@@ -90,7 +81,7 @@ fn writes_a_layout_until_a_write_fails(rt: HostRuntime) {
         same(
             &rt,
             &Some(writer.bytes.as_slice()),
-            &LAYOUT.as_bytes().get(..room),
+            &BARE_LAYOUT.as_bytes().get(..room),
         );
     }
 }
@@ -110,50 +101,56 @@ fn writes_a_break(rt: HostRuntime) {
     );
 }
 
-/// The limit of a run, the read that fails and the room of its output; how it ends, how many reads
+/// The call, its limit, the read that fails and the room of its output; how it ends, how many reads
 /// there are, and the text.
-type Ending<T> = (
+type Ending = (
+    Call,
     u64,
     Option<u64>,
     usize,
-    Result<T, RunFault>,
+    Result<Found, RunFault>,
     u64,
     &'static str,
 );
 
-const ENDINGS: &[Ending<Outcome>] = &[
-    (32, None, 1000, Ok(Outcome::Accepted), 33, LAYOUT),
-    (31, None, 1000, Err(RunFault::TooLong), 32, ""),
-    (32, Some(2), 1000, Err(RunFault::Read), 2, ""),
-    (32, None, 10, Err(RunFault::Write), 33, "accepted, "),
+const CHECKED: Result<Found, RunFault> = Ok(Found::Check(Outcome::Accepted));
+
+const TOLD: Result<Found, RunFault> = Ok(Found::Where(WhereOutcome::Told));
+
+const ENDINGS: &[Ending] = &[
+    (Call::Run, 32, None, 1000, CHECKED, 33, BARE_LAYOUT),
+    (Call::Run, 31, None, 1000, Err(RunFault::TooLong), 32, ""),
+    (Call::Run, 32, Some(2), 1000, Err(RunFault::Read), 2, ""),
+    (
+        Call::Run,
+        32,
+        None,
+        10,
+        Err(RunFault::Write),
+        33,
+        "accepted, ",
+    ),
+    (Call::RunWhere, 32, None, 9, TOLD, 33, "unmapped\n"),
+    (Call::RunWhere, 31, None, 9, Err(RunFault::TooLong), 32, ""),
+    (Call::RunWhere, 32, Some(2), 9, Err(RunFault::Read), 2, ""),
+    (
+        Call::RunWhere,
+        32,
+        None,
+        8,
+        Err(RunFault::Write),
+        33,
+        "unmapped",
+    ),
 ];
 
 #[test]
 fn failing_streams(rt: HostRuntime) {
-    for &(limit, fails_at, room, outcome, reads, text) in ENDINGS {
+    for &(call, limit, fails_at, room, outcome, reads, text) in ENDINGS {
         let mut reader = SlowReader::new(BARE_HEADER);
         reader.fails_at = fails_at;
         let mut writer = SlowWriter::new(Vec::new(rt.alloc()), room);
-        let ended = run(rt.alloc(), limit, &mut reader, &mut writer);
-        same(&rt, &(ended, reader.reads), &(outcome, reads));
-        same(&rt, &writer.bytes.as_slice(), &text.as_bytes());
-    }
-}
-
-const ENDINGS_OF_AN_ADDRESS: &[Ending<WhereOutcome>] = &[
-    (32, None, 9, Ok(WhereOutcome::Told), 33, "unmapped\n"),
-    (31, None, 9, Err(RunFault::TooLong), 32, ""),
-    (32, Some(2), 9, Err(RunFault::Read), 2, ""),
-    (32, None, 8, Err(RunFault::Write), 33, "unmapped"),
-];
-
-#[test]
-fn failing_streams_of_an_address(rt: HostRuntime) {
-    for &(limit, fails_at, room, outcome, reads, text) in ENDINGS_OF_AN_ADDRESS {
-        let mut reader = SlowReader::new(BARE_HEADER);
-        reader.fails_at = fails_at;
-        let mut writer = SlowWriter::new(Vec::new(rt.alloc()), room);
-        let ended = run_where(rt.alloc(), limit, 0, 7, &mut reader, &mut writer);
+        let ended = ended(&rt, call, limit, &mut reader, &mut writer);
         same(&rt, &(ended, reader.reads), &(outcome, reads));
         same(&rt, &writer.bytes.as_slice(), &text.as_bytes());
     }
