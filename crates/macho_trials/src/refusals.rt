@@ -10,6 +10,7 @@ mod image;
 mod spans;
 
 use fault::{Fault, status};
+use image::Mapper;
 use macho_report::transfer::read_all;
 use macho_report::{FromRead, FromWrite, Input, Output, RunFault, run, run_where, write_break};
 use std::alloc::Global;
@@ -64,8 +65,7 @@ fn call_named<R: Input, W: Output>(
     writer: &mut W,
 ) -> Result<(), Fault> {
     match name {
-        "run" => call_run(rt, limit, reader, writer),
-        "run_where" => call_run_where(rt, limit, reader, writer),
+        "run" | "run_where" => call_run(rt, name, limit, reader, writer),
         "read_all" => call_read_all(rt, limit, reader),
         name => {
             let input = read_all(rt.alloc(), limit, reader).map_err(RunFault::from)?;
@@ -74,27 +74,20 @@ fn call_named<R: Input, W: Output>(
     }
 }
 
-/// Calls `run`.
+/// Calls `run_where`, where it has this name, and otherwise `run`.
 fn call_run<R: Input, W: Output>(
     rt: &(impl AllocGlobal + Eprint),
+    name: &str,
     limit: u64,
     reader: &mut R,
     writer: &mut W,
 ) -> Result<(), Fault> {
     announce(rt)?;
-    run(rt.alloc(), limit, reader, writer)?;
-    Ok(())
-}
-
-/// Calls `run_where`.
-fn call_run_where<R: Input, W: Output>(
-    rt: &(impl AllocGlobal + Eprint),
-    limit: u64,
-    reader: &mut R,
-    writer: &mut W,
-) -> Result<(), Fault> {
-    announce(rt)?;
-    run_where(rt.alloc(), limit, 0, ADDRESS, reader, writer)?;
+    if name == "run_where" {
+        run_where(rt.alloc(), limit, 0, ADDRESS, reader, writer)?;
+    } else {
+        run(rt.alloc(), limit, reader, writer)?;
+    }
     Ok(())
 }
 
@@ -122,8 +115,8 @@ fn call_on<W: Output>(
         "verify" => image::call_verify(rt, input, writer),
         "check_image" => image::call_check_image(rt, input),
         "Mapping::of" => image::call_mapping(rt, input),
-        "Mapping::of_image" => image::call_mapping_of_image(rt, input),
-        "VerifiedImage::mapping" => image::call_mapping_of_verified(rt, input),
+        "Mapping::of_image" => image::call_mapper(rt, input, Mapper::OfImage),
+        "VerifiedImage::mapping" => image::call_mapper(rt, input, Mapper::OfVerified),
         "try_insert" => spans::call_try_insert(rt, input),
         "push" => spans::call_push(rt, input),
         "SpanList::with_capacity" => spans::call_list_with_capacity(rt, input),

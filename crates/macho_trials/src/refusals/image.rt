@@ -76,32 +76,30 @@ fn map_first(rt: &(impl AllocGlobal + Print + Eprint), verified: &Verified) -> R
     Ok(())
 }
 
-/// Calls `Mapping::of_image` for the first slice, and prints what is at some addresses.
-pub(crate) fn call_mapping_of_image(
-    rt: &(impl AllocGlobal + Print + Eprint),
-    file: &[u8],
-) -> Result<(), Fault> {
-    let verified = verify(rt.alloc(), file)?;
-    let Some(image) = VerifiedImage::of(&verified, 0) else {
-        return Err(Fault::NoCall);
-    };
-    announce(rt)?;
-    let mut mapping = Mapping::of_image(rt.alloc(), image.image())?;
-    print_sources(rt, &mut mapping)?;
-    Ok(())
+/// The calls that make the mapping of an image.
+#[derive(Clone, Copy)]
+pub(crate) enum Mapper {
+    /// `Mapping::of_image`.
+    OfImage,
+    /// `VerifiedImage::mapping`.
+    OfVerified,
 }
 
-/// Calls `VerifiedImage::mapping` for the first slice, and prints what is at some addresses.
-pub(crate) fn call_mapping_of_verified(
+/// Makes the call for the first slice, and prints what is at some addresses.
+pub(crate) fn call_mapper(
     rt: &(impl AllocGlobal + Print + Eprint),
     file: &[u8],
+    mapper: Mapper,
 ) -> Result<(), Fault> {
     let verified = verify(rt.alloc(), file)?;
     let Some(image) = VerifiedImage::of(&verified, 0) else {
         return Err(Fault::NoCall);
     };
     announce(rt)?;
-    let mut mapping = image.mapping(rt.alloc())?;
+    let mut mapping = match mapper {
+        Mapper::OfImage => Mapping::of_image(rt.alloc(), image.image())?,
+        Mapper::OfVerified => image.mapping(rt.alloc())?,
+    };
     print_sources(rt, &mut mapping)?;
     Ok(())
 }

@@ -9,7 +9,7 @@ use crate::verdicts::tally::Tally;
 use crate::verdicts::vectors::{Case, Vector, agrees, read_vector, verdict};
 use std::alloc::Global;
 
-/// What the lines so far have named.
+/// What the lines before have named.
 #[derive(Drop)]
 pub(crate) struct Named<'a> {
     /// The pieces.

@@ -24,7 +24,7 @@ pub(crate) fn split<'a>(
     text.split_once(at).ok_or(fault)
 }
 
-/// The number that the digits stand for.
+/// The number of these decimal digits.
 pub(crate) fn number(digits: &str) -> Result<u64, Fault> {
     let number: u32 = digits.parse().map_err(|_| Fault::Number)?;
     Ok(u64::from(number))
@@ -50,8 +50,8 @@ pub(crate) fn append(
     Ok(())
 }
 
-/// Appends N zeros, where the word is `.N`; otherwise what the word stands for, or N times where it
-/// is `N*WORD`.
+/// Appends the bytes of a word: N zeros where it is `.N`, and those of WORD N times where it is
+/// `N*WORD`.
 fn append_word(
     bytes: &mut Vec<u8>,
     alloc: Global,
@@ -76,8 +76,7 @@ fn append_times(bytes: &mut Vec<u8>, once: &[u8], count: u64) -> Result<(), Faul
     Ok(())
 }
 
-/// Appends what a word stands for: the piece `$NAME`, the bytes of `"TEXT"`, or those of pairs of
-/// hexadecimal digits.
+/// Appends the bytes of the piece `$NAME`, of the text `"TEXT"`, or of pairs of hexadecimal digits.
 fn append_once(bytes: &mut Vec<u8>, pieces: &[Piece], word: &str) -> Result<(), Fault> {
     if let Some(name) = word.strip_prefix('$') {
         return append_piece(bytes, pieces, name);
