@@ -1,13 +1,14 @@
 -- What a walk over the entries of a table finds of a rule of a single entry, entry by entry.
-use Rattle.std.proofs.Common.{◌≡◌, ℕ, ◌+◌, ◌≤◌, ◌<◌, List, [], ◌∷◌, ◌++◌, Contains, Option, Some, unwrap_or, Bool, true, false, IsTrue, ◌↔◌, if◌then◌else◌, refl, sym, ap, ◌∙◌, subst, arith, inl, inr, mul-le-mul_right}
+use Rattle.std.proofs.Common.{◌≡◌, ℕ, ◌+◌, ◌<◌, List, [], ◌∷◌, ◌++◌, Contains, Option, Some, unwrap_or, Bool, false, IsTrue, ◌↔◌, refl, sym, ap, ◌∙◌, subst, arith, inl, inr}
 use Rattle.std.specs.List.{range_with_len}
 use Rattle.std.proofs.lemmas.List.FromFn.{length-range_with_len, get_or-range_with_len, map-range_with_len_more}
 use Rattle.std.proofs.lemmas.List.{map-id}
-use Rattle.std.proofs.lemmas.Bool.{false≢true, both_ways}
-use Rattle.macho_fields.specs.Universal.{IsUniversal, IsSliceOutside, IsSliceInTable, IsSliceMisaligned, entry_count, entry_size, entry_place}
-use Rattle.macho_fields.proofs.Entries.{Breaks}
-use Rattle.macho_fields.proofs.FirstPlaces.{first_of_kept, first_of_broken, IsLeastBreak, first_breaks}
-use Rattle.macho_fat.specs.Scaffold.{IsFirstEntry, BreaksAlone, AreFirstBreaks}
+use Rattle.std.proofs.lemmas.Bool.{both_ways}
+use Rattle.macho_fields.specs.Universal.{IsUniversal, IsSliceOutside, IsSliceInTable, IsSliceMisaligned, entry_count, entry_place}
+use Rattle.macho_fields.specs.FirstPlace.{IsLeastPlace, IsNoted}
+use Rattle.macho_fields.proofs.Entries.{Breaks, place_rises}
+use Rattle.macho_fields.proofs.FirstPlaces.{first_of_kept, first_of_broken, first_breaks}
+use Rattle.macho_fat.specs.TableWalk.{IsFirstEntry, BreaksAlone, AreFirstBreaks}
 use Rattle.macho_fat.specs.declared.survey.Notes.{Notes}
 
 -- the first n entries are those below n
@@ -22,9 +23,6 @@ below_contained n k less = (k, omega (arith, less, length-range_with_len 0 n), o
 range_more : (n : ℕ) → range_with_len 0 (n + 1) ≡ range_with_len 0 n ++ n ∷ []
 range_more n = sym (map-id (range_with_len 0 (n + 1))) ∙ (map-range_with_len_more (λ k. k) 0 n n (omega arith) ∙ ap (λ ks. ks ++ n ∷ []) (map-id (range_with_len 0 n)))
 
-pub place_rises : (file : List ℕ) (i k : ℕ) → i ≤ k → entry_place file i ≤ entry_place file k
-place_rises file i k most = let wide = mul-le-mul_right (entry_size file) most in omega (arith, wide)
-
 module _ (file : List ℕ) (P : ℕ → Type 0) where
   -- one entry more, which has not P
   pub entry_kept : (k : ℕ) (found : Option ℕ) → ¬ P k → IsFirstEntry file P k found → IsFirstEntry file P (k + 1) found
@@ -37,14 +35,13 @@ module _ (file : List ℕ) (P : ℕ → Type 0) where
       (rw range_more (first_of_broken (entry_place file) P (range_with_len 0 k) k old (λ i has. let less : i < k = entry_below k i has in place_rises file i k (omega arith)) broken first))
 
   -- one entry more, by a test of it
-  pub entry_tested : (k place : ℕ) (is_broken : Bool) (old new : Option ℕ) → place ≡ entry_place file k → new ≡ (if is_broken then Some (unwrap_or old place) else old)
+  pub entry_tested : (k place : ℕ) (is_broken : Bool) (old new : Option ℕ) → place ≡ entry_place file k → IsNoted (IsTrue is_broken) place old new
       → IsTrue is_broken ↔ P k → IsFirstEntry file P k old → IsFirstEntry file P (k + 1) new
-  entry_tested k place true old new at is exactly first = entry_noted k place old new at is (exactly.0 refl) first
-  entry_tested k place false old new at is exactly first =
-      subst (IsFirstEntry file P (k + 1)) (sym is) (entry_kept k old (λ broken. false≢true (exactly.1 broken)) first)
+  entry_tested k place is_broken old new at (inl (broken, is)) exactly first = entry_noted k place old new at is (exactly.0 broken) first
+  entry_tested k place is_broken old new at (inr (kept, is)) exactly first = subst (IsFirstEntry file P (k + 1)) (sym is) (entry_kept k old (λ broken. kept (exactly.1 broken)) first)
 
   -- what is found of all entries is the least place of the rule
-  pub first_entry_breaks : (found : Option ℕ) → IsUniversal file → IsFirstEntry file P (entry_count file) found → IsLeastBreak (Breaks file P) found
+  pub first_entry_breaks : (found : Option ℕ) → IsUniversal file → IsFirstEntry file P (entry_count file) found → IsLeastPlace (Breaks file P) found
   first_entry_breaks found universal = first_breaks (Breaks file P) (entry_place file) P (range_with_len 0 (entry_count file)) found (record {
     broken = λ k has here. (universal, (k, entry_below (entry_count file) k has, refl, here));
     only = λ place (u, (k, less, at, here)). (k, below_contained (entry_count file) k less, here, sym at);

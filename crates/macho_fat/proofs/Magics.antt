@@ -5,7 +5,8 @@ use Rattle.macho_fields.specs.Universal.{IsUniversal, IsUnreadImage, entry_count
 use Rattle.macho_fields.specs.Rules.{BreaksFile}
 use Rattle.macho_fields.specs.declared.rule.Rule.TheVariants as rule
 use Rattle.macho_fields.proofs.Magics.{IsForeignEntry, DecidesForeign, IsRead, none_foreign, first_foreign, more_foreign, foreign_broken, foreign_kept}
-use Rattle.macho_fat.specs.Scaffold.{IsLeastPlace, HasImageBelow, AreMagics}
+use Rattle.macho_fields.specs.FirstPlace.{IsLeastPlace}
+use Rattle.macho_fat.specs.TableWalk.{HasImageBelow, AreMagics}
 
 -- what is found of the first n slices
 pub record AreMagicsBelow (file : List ℕ) (n : ℕ) (foreign : Option ℕ) (has_image : Bool) : Type 0 where

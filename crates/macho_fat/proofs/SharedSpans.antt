@@ -17,10 +17,9 @@ use Rattle.macho_fields.specs.declared.rule.Rule.TheVariants as rule
 use Rattle.macho_fields.specs.declared.span.Span.{Span}
 use Rattle.macho_fields.specs.declared.span_order.Sharing.{Sharing}
 use Rattle.macho_fields.specs.declared.span_order.Sharing.TheVariants as sharing
-use Rattle.macho_fields.proofs.Entries.{Breaks}
-use Rattle.macho_fields.proofs.FirstPlaces.{IsLeastBreak}
-use Rattle.macho_fat.proofs.FirstEntries.{place_rises}
-use Rattle.macho_fat.specs.Scaffold.{IsEntry, entry_spans, placed_spans, slice_span, arch_span, ReturnsSpans, FindsFirstSharing, IsUnordered}
+use Rattle.macho_fields.proofs.Entries.{Breaks, place_rises}
+use Rattle.macho_fields.specs.FirstPlace.{IsLeastPlace}
+use Rattle.macho_fat.specs.TableWalk.{IsEntry, entry_spans, placed_spans, slice_span, arch_span, ReturnsSpans, FindsFirstSharing, IsUnordered}
 use Rattle.macho_fat.specs.declared.table.Entry.{Entry}
 
 module _ (file : List ℕ) (span : ℕ → Span) where
@@ -92,10 +91,10 @@ module _ (file : List ℕ) (span : ℕ → Span) (R : ℕ → ℕ → Type 0) (e
       )
 
   -- what is found is the least place at which an entry has R with an earlier one
-  pub sharing_breaks : (found : Option ℕ) → IsUniversal file → FindsFirstSharing file span found → IsLeastBreak (Breaks file (WithEarlier R)) found
+  sharing_breaks : (found : Option ℕ) → IsUniversal file → FindsFirstSharing file span found → IsLeastPlace (Breaks file (WithEarlier R)) found
   sharing_breaks None universal none = λ place (u, (j, less, at, here)). none j (shares_earlier j less here)
   sharing_breaks (Some place) universal (j, (shares, least), at) =
-      subst (λ p. IsLeastBreak (Breaks file (WithEarlier R)) (Some p)) (sym at) (
+      subst (λ p. IsLeastPlace (Breaks file (WithEarlier R)) (Some p)) (sym at) (
         (universal, (j, below_count j shares, refl, has_earlier j shares)),
         λ other (u, (i, less, there, here)). elim (cases_lt i j) [
           | inl lower ↦ absurd (least i lower (shares_earlier i less here))
@@ -103,9 +102,14 @@ module _ (file : List ℕ) (span : ℕ → Span) (R : ℕ → ℕ → Type 0) (e
         ],
       )
 
+-- What is found in a table is found in the file that it is of: the least place of the rule
+
 -- fat-overlap: the spans of two slices share a place exactly where the slices do
-pub overlap_breaks : (file : List ℕ) (found : Option ℕ) → IsUniversal file → FindsFirstSharing file (slice_span file) found → IsLeastBreak (BreaksFile file rule.FatOverlap) found
-overlap_breaks file = sharing_breaks file (slice_span file) (λ i j. SharePlace (entry_slice file i) (entry_slice file j)) (λ i j. (λ shares. shares, λ shares. shares))
+pub least_overlap : (table file : List ℕ) (found place : Option ℕ) → table ≡ file → IsUniversal table → place ≡ found → FindsFirstSharing table (slice_span table) found
+    → IsLeastPlace (BreaksFile file rule.FatOverlap) place
+least_overlap table file found place same universal is first =
+    subst (λ (f : List ℕ). IsLeastPlace (BreaksFile f rule.FatOverlap) place) same (subst (IsLeastPlace (BreaksFile table rule.FatOverlap)) (sym is)
+    (sharing_breaks table (slice_span table) (λ i j. SharePlace (entry_slice table i) (entry_slice table j)) (λ i j. (λ shares. shares, λ shares. shares)) found universal first))
 
 first_of : Option (ℕ × ℕ) → ℕ
 first_of None = 0
@@ -146,17 +150,20 @@ arch_spans_share file i j =
     number_spans_share (type i) (subtype i) (type j) (subtype j)
 
 -- fat-duplicate, by the numbers of the architectures
-pub duplicate_breaks : (file : List ℕ) (found : Option ℕ) → IsUniversal file → FindsFirstSharing file (arch_span file) found → IsLeastBreak (BreaksFile file rule.FatDuplicate) found
-duplicate_breaks file = sharing_breaks file (arch_span file) (λ i j. (entry_slice file i).arch ≡ (entry_slice file j).arch) (arch_spans_share file)
+pub least_duplicate : (table file : List ℕ) (found place : Option ℕ) → table ≡ file → IsUniversal table → place ≡ found → FindsFirstSharing table (arch_span table) found
+    → IsLeastPlace (BreaksFile file rule.FatDuplicate) place
+least_duplicate table file found place same universal is first =
+    subst (λ (f : List ℕ). IsLeastPlace (BreaksFile f rule.FatDuplicate) place) same (subst (IsLeastPlace (BreaksFile table rule.FatDuplicate)) (sym is)
+    (sharing_breaks table (arch_span table) (λ i j. (entry_slice table i).arch ≡ (entry_slice table j).arch) (arch_spans_share table) found universal first))
 
 -- the spans of what was read of an entry
 
 span_of : ℕ → ℕ → Span
 span_of start len = record { start = start; len = len }
 
-pub slice_read : (file : List ℕ) (k : ℕ) (entry : Entry) → IsEntry file k entry → entry.span ≡ slice_span file k
+pub slice_read : (file : List ℕ) (k : ℕ) (entry : Entry) (given : Span) → IsEntry file k entry → given ≡ entry.span → given ≡ slice_span file k
 unfolding span_of
-slice_read file k entry is = ap₂ span_of is.start is.size
+slice_read file k entry given is same = same ∙ ap₂ span_of is.start is.size
 
 pub arch_read : (file : List ℕ) (k : ℕ) (entry : Entry) (given : Span) → IsEntry file k entry → (given.start ≡ entry.arch.0 * 2 ^ 24 + entry.arch.1) × (given.len ≡ 1) → given ≡ arch_span file k
 unfolding first_of second_of span_of

@@ -8,12 +8,12 @@ ghost use Rattle.macho_fields.specs.Layers.{KeptBelow, Continues};
 ghost use Rattle.macho_fields.specs.Rules.{BreaksFile};
 ghost use Rattle.macho_fields.specs.Universal.{IsUniversal, IsImage, IsUnreadImage};
 ghost use Rattle.macho_fields.specs.declared.rule.Rule.{Rule};
-ghost use Rattle.macho_fat.specs.Scaffold.{IsFormat};
+ghost use Rattle.macho_fat.specs.TableWalk.{IsFormat};
 
 use crate::table::{NFAT_ARCH, Table, entry_size};
 use macho_fields::header::fat::{FAT_HEADER_SIZE, FAT_MAGIC, FAT_MAGIC_64};
 use macho_fields::header::loader::{MH_MAGIC, MH_MAGIC_64};
-use macho_fields::{Break, Bytes, Order, Rule};
+use macho_fields::{Break, Bytes, FirstPlace, Order, Rule};
 use std::marker::Model;
 
 /// What a file is, by the magic number with which it begins.
@@ -67,7 +67,7 @@ pub(crate) struct Magics<'t, 'a> {
 
 impl<'t, 'a> Model for Magics<'t, 'a> {
     ghost use Rattle.std.specs.Prelude.{List, ℕ};
-    ghost use Rattle.macho_fat.specs.Scaffold.{AreMagics};
+    ghost use Rattle.macho_fat.specs.TableWalk.{AreMagics};
 
     ghost Value = { List ℕ };
 
@@ -111,10 +111,7 @@ impl<'t, 'a> Magics<'t, 'a> {
         requires { KeptBelow (BreaksFile self.now) (rank Rule.FatSliceMagic) }
         ensures { Continues (BreaksFile self.now) Rule.FatSliceMagic result }
     {
-        match self.foreign {
-            Some(place) => Err(Break::at(Rule::FatSliceMagic, place)),
-            None => Ok(()),
-        }
+        FirstPlace::of(self.foreign).judge(Rule::FatSliceMagic)
     }
 
     /// Some slice is a 64-bit little-endian image.

@@ -5,8 +5,8 @@ ghost use Rattle.macho_fields.specs.SpanOrder.{IsSharingOf};
 ghost use Rattle.macho_fields.specs.Universal.{entry_count};
 ghost use Rattle.macho_fields.specs.declared.span.Span.{Span};
 ghost use Rattle.macho_fields.specs.declared.span_order.Sharing.{Sharing};
-ghost use Rattle.macho_fat.specs.Scaffold.{ReturnsSpans, entry_spans, placed_spans};
-ghost use Rattle.macho_fat.specs.Scaffold.{FindsFirstSharing};
+ghost use Rattle.macho_fat.specs.TableWalk.{ReturnsSpans, entry_spans, placed_spans};
+ghost use Rattle.macho_fat.specs.TableWalk.{FindsFirstSharing};
 
 use crate::table::{Entry, Table};
 use macho_fields::{Sharing, Span, SpanList};

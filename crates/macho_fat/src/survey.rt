@@ -3,7 +3,7 @@
 
 ghost use Rattle.std.specs.Prelude.{◌≡◌, ◌↔◌, ℕ, List, Some, IsTrue, unwrap_or, if◌then◌else◌};
 ghost use Rattle.macho_fields.specs.Universal.{IsMultiple, IsSliceOutside, IsSliceInTable, IsSliceMisaligned};
-ghost use Rattle.macho_fat.specs.Scaffold.{IsEntry, BreaksAlone};
+ghost use Rattle.macho_fat.specs.TableWalk.{IsEntry, BreaksAlone};
 
 use crate::fault::FatFault;
 use crate::sharing::first_sharing;
@@ -21,7 +21,7 @@ pub(crate) struct Survey<'t, 'a> {
 
 impl<'t, 'a> Model for Survey<'t, 'a> {
     ghost use Rattle.std.specs.Prelude.{List, ℕ};
-    ghost use Rattle.macho_fat.specs.Scaffold.{IsSurvey};
+    ghost use Rattle.macho_fat.specs.TableWalk.{IsSurvey};
 
     ghost Value = { List ℕ };
 
@@ -36,8 +36,8 @@ impl<'t, 'a> Survey<'t, 'a> {
     ghost use Rattle.macho_fields.specs.Layers.{KeptBelow, Continues};
     ghost use Rattle.macho_fields.specs.Rules.{BreaksFile};
     ghost use Rattle.macho_fields.specs.declared.rule.Rule.{Rule};
-    ghost use Rattle.macho_fat.specs.Scaffold.{ContinuesWithMemory, IsUnordered};
-    ghost use Rattle.macho_fat.specs.Scaffold.{entry_spans, slice_span, arch_span};
+    ghost use Rattle.macho_fat.specs.TableWalk.{ContinuesWithMemory, IsUnordered};
+    ghost use Rattle.macho_fat.specs.TableWalk.{entry_spans, slice_span, arch_span};
 
     /// Goes over the entries of a table once.
     pub(crate) fn of(table: &'t Table<'a>) -> Survey<'t, 'a>
@@ -82,10 +82,10 @@ impl<'t, 'a> Survey<'t, 'a> {
             (IsUnordered (entry_spans self.now (slice_span self.now))) result }
     {
         let sharing = self.notes.spans.sharing();
-        match first_sharing(alloc, self.table, sharing, |entry| entry.span)? {
-            Some(place) => Err(FatFault::Broken(Break::at(Rule::FatOverlap, place))),
-            None => Ok(()),
-        }
+        let place = first_sharing(alloc, self.table, sharing, |entry| entry.span)?;
+        FirstPlace::of(place)
+            .judge(Rule::FatOverlap)
+            .map_err(FatFault::Broken)
     }
 
     /// No slice has the architecture of an earlier one. Memory is taken only where the numbers of the
@@ -96,10 +96,10 @@ impl<'t, 'a> Survey<'t, 'a> {
             (IsUnordered (entry_spans self.now (arch_span self.now))) result }
     {
         let sharing = self.notes.archs.sharing();
-        match first_sharing(alloc, self.table, sharing, Entry::arch_span)? {
-            Some(place) => Err(FatFault::Broken(Break::at(Rule::FatDuplicate, place))),
-            None => Ok(()),
-        }
+        let place = first_sharing(alloc, self.table, sharing, Entry::arch_span)?;
+        FirstPlace::of(place)
+            .judge(Rule::FatDuplicate)
+            .map_err(FatFault::Broken)
     }
 }
 
@@ -121,7 +121,7 @@ struct Notes {
 impl Notes {
     ghost use Rattle.std.specs.Prelude.{List, ℕ, ◌+◌, ◌<◌};
     ghost use Rattle.macho_fields.specs.Universal.{entry_count};
-    ghost use Rattle.macho_fat.specs.Scaffold.{IsEntry, AreNotes, AreFirstBreaks};
+    ghost use Rattle.macho_fat.specs.TableWalk.{IsEntry, AreNotes, AreFirstBreaks};
 
     /// The notes before the first entry, of any table.
     fn none() -> Notes
@@ -158,18 +158,10 @@ impl Notes {
         ensures spans { self.new.spans ≡ self.old.spans }
         ensures archs { self.new.archs ≡ self.old.archs }
     {
-        note_if(&mut self.outside, is_outside(table, entry), entry.place);
-        note_if(&mut self.in_table, is_in_table(table, entry), entry.place);
-        note_if(&mut self.misaligned, is_misaligned(entry), entry.place);
-    }
-}
-
-/// Notes a place where a rule is broken, and nothing otherwise.
-fn note_if(first: &mut FirstPlace, is_broken: bool, place: u64)
-    ensures { first.new ≡ (if is_broken then Some (unwrap_or first.old place) else first.old) }
-{
-    if is_broken {
-        first.note(place);
+        self.outside.note_if(is_outside(table, entry), entry.place);
+        self.in_table
+            .note_if(is_in_table(table, entry), entry.place);
+        self.misaligned.note_if(is_misaligned(entry), entry.place);
     }
 }
 

@@ -62,7 +62,7 @@ impl<'a> Model for Table<'a> {
     ghost use Rattle.std.specs.Prelude.{List, ℕ, ◌≡◌};
     ghost use Rattle.macho_fields.specs.Bytes.{bytes_of};
     ghost use Rattle.macho_fields.specs.Universal.{has_wide_entries, entry_count};
-    ghost use Rattle.macho_fat.specs.Scaffold.{HasTable};
+    ghost use Rattle.macho_fat.specs.TableWalk.{HasTable};
 
     ghost Value = { List ℕ };
 
@@ -112,7 +112,7 @@ impl<'a> Table<'a> {
     ghost use Rattle.macho_fields.specs.Rules.{BreaksFile};
     ghost use Rattle.macho_fields.specs.Span.{end_of};
     ghost use Rattle.macho_fields.specs.Universal.{has_wide_entries, entry_count, entry_slice, table_end, slice_bytes};
-    ghost use Rattle.macho_fat.specs.Scaffold.{HasTable, IsEntry};
+    ghost use Rattle.macho_fat.specs.TableWalk.{HasTable, IsEntry};
 
     /// The table of a universal file. Its entries are `fat_arch_64` where they are wide, otherwise
     /// `fat_arch`.
@@ -154,15 +154,18 @@ impl<'a> Table<'a> {
     {
         let place = FAT_HEADER_SIZE + u64::from(k) * entry_size(self.wide);
         let fields = if self.wide { FAT_ARCH_64 } else { FAT_ARCH };
-        let subtype = self.word_at(place + fields.cpusubtype);
+        let subtype = self.file.read_u32(Order::Big, place + fields.cpusubtype);
         Entry {
             place,
-            arch: (self.word_at(place), subtype & !CPU_SUBTYPE_MASK),
+            arch: (
+                self.file.read_u32(Order::Big, place),
+                subtype & !CPU_SUBTYPE_MASK,
+            ),
             span: Span {
                 start: self.offset_at(place + fields.offset),
                 len: self.offset_at(place + fields.size),
             },
-            align: self.word_at(place + fields.align),
+            align: self.file.read_u32(Order::Big, place + fields.align),
         }
     }
 
@@ -182,23 +185,9 @@ impl<'a> Table<'a> {
             then number Order.Big 8 self.now place else number Order.Big 4 self.now place) }
     {
         if self.wide {
-            self.long_at(place)
+            self.file.read_u64(Order::Big, place)
         } else {
-            u64::from(self.word_at(place))
+            u64::from(self.file.read_u32(Order::Big, place))
         }
-    }
-
-    fn word_at(&self, place: u64) -> u32
-        requires { place + 4 ≤ length self.now }
-        ensures { result ≡ number Order.Big 4 self.now place }
-    {
-        self.file.read_u32(Order::Big, place)
-    }
-
-    fn long_at(&self, place: u64) -> u64
-        requires { place + 8 ≤ length self.now }
-        ensures { result ≡ number Order.Big 8 self.now place }
-    {
-        self.file.read_u64(Order::Big, place)
     }
 }

@@ -16,7 +16,7 @@ pub none_more : (P : ℕ → Type 0) (k : ℕ) → NoneBelow P k → ¬ P k → 
 none_more P k none here i less broken =
     elim (cases_lt i k) [ inl lower ↦ none i lower broken | inr most ↦ (let same : i ≡ k = omega arith in here (subst P same broken)) ]
 
-place_rises : (file : List ℕ) (i k : ℕ) → i ≤ k → entry_place file i ≤ entry_place file k
+pub place_rises : (file : List ℕ) (i k : ℕ) → i ≤ k → entry_place file i ≤ entry_place file k
 place_rises file i k less = let wide = mul-le-mul_right (entry_size file) less in omega (arith, wide)
 
 -- a universal file breaks a rule at the entries that have P

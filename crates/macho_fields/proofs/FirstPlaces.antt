@@ -3,7 +3,7 @@ use Rattle.std.proofs.Common.{◌≡◌, ℕ, ◌≤◌, ◌⊎◌, List, [], �
 use Rattle.std.proofs.lemmas.Bool.{false≢true}
 use Rattle.std.proofs.lemmas.List.Elements.{Contains-append_left, Contains-append_right, Contains-append_cases}
 use Rattle.macho_fields.specs.First.{rank}
-use Rattle.macho_fields.specs.FirstPlace.{IsFirstOf}
+use Rattle.macho_fields.specs.FirstPlace.{IsFirstOf, IsLeastPlace}
 use Rattle.macho_fields.specs.Layers.{KeptBelow, Continues}
 use Rattle.macho_fields.specs.declared.rule.Rule.{Rule}
 use Rattle.macho_fields.specs.declared.rule.Break.{Break}
@@ -52,12 +52,8 @@ pub record AreBreaks {X : Type 0} (breaks : ℕ → Type 0) (place : X → ℕ) 
   pub broken : (x : X) → Contains all x → P x → breaks (place x)
   pub only : (p : ℕ) → breaks p → (x : X) × Contains all x × P x × (place x ≡ p)
 
--- the least place of what breaks a rule, and None where nothing breaks it
-abbrev pub IsLeastBreak : (ℕ → Type 0) → Option ℕ → Type 0
-IsLeastBreak breaks found = MatchOption found ((p : ℕ) → ¬ breaks p) (λ first. breaks first × ((p : ℕ) → breaks p → first ≤ p))
-
 pub first_breaks : {X : Type 0} (breaks : ℕ → Type 0) (place : X → ℕ) (P : X → Type 0) (all : List X) (found : Option ℕ)
-    → AreBreaks breaks place P all → IsFirstOf place P all found → IsLeastBreak breaks found
+    → AreBreaks breaks place P all → IsFirstOf place P all found → IsLeastPlace breaks found
 first_breaks breaks place P all None are none = λ p broken. let (x, has, here, at) = are.only p broken in none x has here
 first_breaks {X = X} breaks place P all (Some first) are ((z, has_z, broken_z, at), least) =
     (subst breaks at (are.broken z has_z broken_z), λ p broken. low p (are.only p broken))
@@ -66,7 +62,7 @@ first_breaks {X = X} breaks place P all (Some first) are ((z, has_z, broken_z, a
     low p (x, has, here, same) = subst (λ q. first ≤ q) same (least x has here)
 
 -- the answer of the rule
-pub first_judged : {T : Type 0} (breaks : Rule → ℕ → Type 0) (r : Rule) (found : Option ℕ) (result : Result T Break) → KeptBelow breaks (rank r) → IsLeastBreak (breaks r) found
+pub first_judged : {T : Type 0} (breaks : Rule → ℕ → Type 0) (r : Rule) (found : Option ℕ) (result : Result T Break) → KeptBelow breaks (rank r) → IsLeastPlace (breaks r) found
     → MatchOption found (IsOk result) (λ place. IsErrAnd result (λ b. (b.rule ≡ r) × (b.place ≡ place))) → Continues breaks r result
 first_judged breaks r None (Ok x) below none ok = kept_more breaks r below none
 first_judged breaks r None (Err b) below none ok = absurd (false≢true ok)

@@ -17,7 +17,7 @@ use Rattle.macho_fields.specs.declared.header.loader.TheConstants as loader
 use Rattle.macho_fields.proofs.Parts.{command_good, with_cmd_is, with_cmd_among}
 use Rattle.macho_fields.proofs.Lists.{contains_first}
 use Rattle.macho_fields.proofs.LoadCommands.{table_listed, indirects_listed}
-use Rattle.macho_fields.proofs.Opened.{Keeps, keeps_rules, command_inside, sections_inside}
+use Rattle.macho_fields.proofs.Opened.{OpenedFacts, keeps_rules, command_inside, sections_inside}
 
 -- an item of a list that is made of a range
 pub item_of_range : {X : Type 0} (f : ℕ → X) (start n : ℕ) (x : X) → Contains (map f (range_with_len start n)) x → (k : ℕ) × (k < n) × (x ≡ f (start + k))
@@ -28,7 +28,7 @@ item_of_range f start (suc n) x (suc k, less, at) =
     (suc j, omega arith, is ∙ ap f (let p : (start + 1) + j ≡ start + suc j = omega arith in p))
 
 -- a segment of an opened image lies inside it with its sections
-pub segment_holds : (image commands : List ℕ) → Keeps image → AreCommands image commands → (segment : ℕ)
+pub segment_holds : (image commands : List ℕ) → OpenedFacts image → AreCommands image commands → (segment : ℕ)
     → Contains (segments_of image commands) segment → segment + 72 + 80 * nsects image segment ≤ length image
 segment_holds image commands opened are segment has =
     let among = with_cmd_among image commands loader.LC_SEGMENT_64 segment has in
@@ -73,7 +73,7 @@ module _ (image : List ℕ) (arch : Option (ℕ × ℕ)) where
       → Contains (with_cmd image cmd commands) place → place ≤ length image
   at_cmd n late below commands are cmd place has = at_command n late below commands are place (with_cmd_among image commands cmd place has)
 
-  opens : (n : ℕ) → rank rule.SegmentAddress ≤ n → Below n → Keeps image
+  opens : (n : ℕ) → rank rule.SegmentAddress ≤ n → Below n → OpenedFacts image
   opens n late below = keeps_rules image arch (λ r place less h. below r place (omega arith) h)
 
   at_section : (n : ℕ) → rank rule.SegmentAddress ≤ n → Below n → (commands : List ℕ) → AreCommands image commands → (P : ℕ → ℕ → Type 0) (place : ℕ)

@@ -20,7 +20,7 @@ use Rattle.macho_fields.proofs.LoadCommands.{fields_inside, records_counted, str
 use Rattle.macho_fields.proofs.Options.{some_of, of_some, some_or_not_none}
 use Rattle.macho_fields.proofs.Decided.{not_not, zero_or_none}
 
-pub record Keeps (image : List ℕ) : Type 0 where
+pub record OpenedFacts (image : List ℕ) : Type 0 where
   pub header : 32 ≤ length image
   pub kind : IsSome (file_type_of (file_type image))
   pub inside : commands_end image ≤ length image
@@ -31,7 +31,7 @@ pub record Keeps (image : List ℕ) : Type 0 where
 at_least : (a b : ℕ) → ((b < a) → ⊥) → a ≤ b
 at_least a b keeps = elim (cases_lt b a) [ inl less ↦ absurd (keeps less) | inr most ↦ most ]
 
-pub keeps_rules : (image : List ℕ) (arch : Option (ℕ × ℕ)) → KeptBelow (BreaksImage image arch) (rank rule.SegmentAddress) → Keeps image
+pub keeps_rules : (image : List ℕ) (arch : Option (ℕ × ℕ)) → KeptBelow (BreaksImage image arch) (rank rule.SegmentAddress) → OpenedFacts image
 keeps_rules image arch keeps = record {
   header = at_least 32 (length image) (λ short. keeps rule.HeaderTruncated 0 (lit< tt) (inl (refl, short)));
   kind = some_or_not_none (file_type_of (file_type image)) (λ none. keeps rule.FileType 12 (lit< tt) (inl (refl, none)));
@@ -42,7 +42,7 @@ keeps_rules image arch keeps = record {
 }
 
 -- What lies inside an opened image
-module _ (image commands : List ℕ) (opened : Keeps image) (are : AreCommands image commands) where
+module _ (image commands : List ℕ) (opened : OpenedFacts image) (are : AreCommands image commands) where
   pub command_inside : (command : ℕ) → Contains commands command → command + command_size image command ≤ length image
   command_inside command has =
       let good = command_good image commands command are has in

@@ -8,7 +8,7 @@ use Rattle.std.proofs.lemmas.List.{get_or_default, get_or-map, length-map}
 use Rattle.std.proofs.lemmas.List.Sorted.{IsPermutation-sym, IsPermutation-map, Contains-permutation, length_permutation}
 use Rattle.std.proofs.lemmas.Map.Keys.{IsDistinct-IsPermutation, IsDistinct-from_apart, apart_from_distinct}
 use Rattle.macho_fields.specs.Overlap.{SharesEarlier, IsLeastSharing, span_at}
-use Rattle.macho_fields.specs.Scaffold.{AreNumbered, PairBelow, item_at}
+use Rattle.macho_fields.specs.SearchSteps.{AreNumbered, PairBelow, item_at}
 use Rattle.macho_fields.specs.Span.{Shares}
 use Rattle.macho_fields.specs.declared.span.Span.{Span}
 use Rattle.macho_fields.specs.declared.overlap.Numbered.{Numbered}
@@ -25,10 +25,10 @@ no_span = record { start = 0; len = 0 }
 abbrev no_item : Numbered
 no_item = record { span = no_span; index = 0 }
 
-shares_both_ways : (a b : Span) → Shares a b → Shares b a
+pub shares_both_ways : (a b : Span) → Shares a b → Shares b a
 shares_both_ways a b (place, here, there) = (place, there, here)
 
-flips : (x y : ℕ) → eqb x y ≡ eqb y x
+pub flips : (x y : ℕ) → eqb x y ≡ eqb y x
 flips x y = grind (arith, nat_tests)
 
 -- the items are in the order in which they came: indices rise by one

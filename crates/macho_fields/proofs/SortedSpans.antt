@@ -8,12 +8,10 @@ use Rattle.std.proofs.lemmas.List.Edits.{length-insert, get_or-insert_below, get
 use Rattle.std.proofs.lemmas.List.Elements.{All-append, All-take, All-drop, All-cons, Contains-get_or}
 use Rattle.macho_fields.specs.Span.{end_of, Holds, Shares}
 use Rattle.macho_fields.specs.Spans.{IsPlaced, AreSorted, RoseBy, SharesWithOne, HoldsInOne, digits}
-use Rattle.macho_fields.specs.Scaffold.{StartBy}
+use Rattle.macho_fields.specs.SearchSteps.{StartBy}
 use Rattle.macho_fields.specs.declared.span.Span.{Span}
+use Rattle.macho_fields.proofs.Overlaps.{shares_both_ways}
 use Rattle.macho_fields.proofs.Digits.{digits_half, digits_le, digits_within}
-
-shares_both_ways : (span other : Span) → Shares span other → Shares other span
-shares_both_ways span other (place, here, there) = (place, there, here)
 
 -- what holds at an index holds of one of the pairs
 pub shares_at : (pairs : List (Span × ℕ)) (span : Span) (k : ℕ) (d : Span × ℕ) → k < length pairs → Shares (get_or pairs k d).0 span → SharesWithOne pairs span

@@ -12,20 +12,18 @@ use Rattle.macho_fields.specs.Loader.Reads.{in_header, in_command, in_structure,
 use Rattle.macho_fields.specs.declared.rule.Rule.{Rule}
 use Rattle.macho_fields.specs.declared.rule.Rule.TheVariants as rule
 use Rattle.macho_fields.proofs.Decided.{not_not, both_or_not, le_or_not, any_or_not, some_or_not, zero_or_none}
-use Rattle.macho_fields.proofs.Opened.{Keeps, keeps_rules, command_inside, with_structure, name_ended}
+use Rattle.macho_fields.proofs.Lists.{any_of}
+use Rattle.macho_fields.proofs.Opened.{OpenedFacts, keeps_rules, command_inside, with_structure, name_ended}
 
 -- an item that has P, as an element
 with_item : {X : Type 0} (P : X → Type 0) (xs : List X) → Any P xs → (x : X) × (Contains xs x × P x)
 with_item P xs (k, x, less, at, h) = (x, ((k, less, at), h))
 
-as_any : {X : Type 0} (P : X → Type 0) (xs : List X) (x : X) → Contains xs x → P x → Any P xs
-as_any P xs x (k, less, at) h = (k, x, less, at, h)
-
 module _ (image : List ℕ) (arch : Option (ℕ × ℕ)) (keeps : (r : Rule) (place : ℕ) → ¬ BreaksImage image arch r place) (commands : List ℕ) (are : AreCommands image commands) where
   keeps_commands : (r : Rule) (place : ℕ) → ¬ BreaksCommands image commands r place
   keeps_commands r place h = keeps r place (inr (commands, are, h))
 
-  opened : Keeps image
+  opened : OpenedFacts image
   opened = keeps_rules image arch (λ r place early h. keeps r place h)
 
   reads_header : (place : ℕ) → place < 32 → place < length image
@@ -62,12 +60,12 @@ module _ (image : List ℕ) (arch : Option (ℕ × ℕ)) (keeps : (r : Rule) (pl
         | inl e ↦ e
         | inr (inl less) ↦ absurd (keeps_commands rule.SegmentOverlap b (
           has_b,
-          as_any (λ earlier. (earlier < b) × ((at : ℕ) × Supplies image earlier at × Supplies image b at)) (segments_of image commands) a has_a
+          any_of (λ earlier. (earlier < b) × ((at : ℕ) × Supplies image earlier at × Supplies image b at)) (segments_of image commands) a has_a
               (less, (address, in_a, in_b)),
         ))
         | inr (inr less) ↦ absurd (keeps_commands rule.SegmentOverlap a (
           has_a,
-          as_any (λ earlier. (earlier < a) × ((at : ℕ) × Supplies image earlier at × Supplies image a at)) (segments_of image commands) b has_b
+          any_of (λ earlier. (earlier < a) × ((at : ℕ) × Supplies image earlier at × Supplies image a at)) (segments_of image commands) b has_b
               (less, (address, in_b, in_a)),
         ))
       ]
@@ -86,7 +84,7 @@ module _ (image : List ℕ) (arch : Option (ℕ × ℕ)) (keeps : (r : Rule) (pl
       (both_or_not (le_or_not (vmaddr image segment) (section_address image section))
       (le_or_not (section_address image section + section_size image section) (vmaddr image segment + vmsize image segment)))
       (λ out. keeps_commands rule.SectionAddress section
-      (as_any (λ s. Contains (sections_in image s) section × ((0 < vmsize image s) × (0 < section_size image section)
+      (any_of (λ s. Contains (sections_in image s) section × ((0 < vmsize image s) × (0 < section_size image section)
       × ¬ ((vmaddr image s ≤ section_address image section)
       × (section_address image section + section_size image section ≤ vmaddr image s + vmsize image s))))
       (segments_of image commands) segment has (in', (mapped, some, out))))
@@ -99,7 +97,7 @@ module _ (image : List ℕ) (arch : Option (ℕ × ℕ)) (keeps : (r : Rule) (pl
   no_bad_file_place : (segment section : ℕ) → Contains (segments_of image commands) segment → Contains (sections_in image segment) section → ¬ BadFilePlace segment section
   no_bad_file_place segment section has in' bad =
       keeps_commands rule.SectionFile section
-      (as_any (λ s. Contains (sections_in image s) section × BadFilePlace s section) (segments_of image commands) segment has (in', bad))
+      (any_of (λ s. Contains (sections_in image s) section × BadFilePlace s section) (segments_of image commands) segment has (in', bad))
 
   section_in_part : (segment section : ℕ) → Contains (segments_of image commands) segment → Contains (sections_in image segment) section
       → 0 < vmsize image segment → 0 < section_size image section → is_zero_fill image section ≡ false → IsInFilePart image segment section
@@ -165,7 +163,7 @@ module _ (image : List ℕ) (arch : Option (ℕ × ℕ)) (keeps : (r : Rule) (pl
       let (command, (has, tables)) = with_item (λ command. Any (TableIs start len) (tables_of image command)) commands any in
       let (table, (in', h)) = with_item (TableIs start len) (tables_of image command) tables in
       elim (cases_lt (length image) (table.0 + table.1 * table.2)) [
-        | inl out ↦ absurd (keeps_commands rule.TableRange command (has, as_any (IsOutside image) (tables_of image command) table in' (h.0, out)))
+        | inl out ↦ absurd (keeps_commands rule.TableRange command (has, any_of (IsOutside image) (tables_of image command) table in' (h.0, out)))
         | inr most ↦ subst (λ n. start + n ≤ length image) (sym h.2) (subst (λ n. n + table.1 * table.2 ≤ length image) (sym h.1) most)
       ]
 
@@ -175,7 +173,7 @@ module _ (image : List ℕ) (arch : Option (ℕ × ℕ)) (keeps : (r : Rule) (pl
       let (section, (in', h)) = with_item (RelocsAre start len) (sections_in image segment) sections in
       elim (cases_lt (length image) (word image (section + 56) + 8 * word image (section + 60))) [
         | inl out ↦ absurd (keeps_commands rule.SectionRelocs section
-            (as_any (λ s. Contains (sections_in image s) section × BadRelocs section) (segments_of image commands) segment has (in', (h.0, out))))
+            (any_of (λ s. Contains (sections_in image s) section × BadRelocs section) (segments_of image commands) segment has (in', (h.0, out))))
         | inr most ↦ subst (λ n. start + n ≤ length image) (sym h.2) (subst (λ n. n + 8 * word image (section + 60) ≤ length image) (sym h.1) most)
       ]
 
@@ -205,7 +203,7 @@ module _ (image : List ℕ) (arch : Option (ℕ × ℕ)) (keeps : (r : Rule) (pl
       let ended : HasZero image (word image (symtab + 16) + word image symbol) (word image (symtab + 16) + word image (symtab + 20)) =
       not_not (zero_or_none image (word image (symtab + 16) + word image symbol) (word image (symtab + 16) + word image (symtab + 20)))
       (λ none. keeps_commands rule.SymbolName symbol
-      (as_any (λ s. (k : ℕ) × (k < word image (s + 12)) × (symbol ≡ word image (s + 8) + 16 * k) × HasEndlessName image s symbol)
+      (any_of (λ s. (k : ℕ) × (k < word image (s + 12)) × (symbol ≡ word image (s + 8) + 16 * k) × HasEndlessName image s symbol)
       (with_cmd image 0x2 commands) symtab has
       (name.0, name.1, refl, (name.2.0, none)))) in
       subst (λ n. HasZero image n end) (sym name.2.1) (subst (λ n. HasZero image (word image (symtab + 16) + word image symbol) n) (sym name.2.2) ended)

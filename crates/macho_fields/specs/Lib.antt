@@ -18,4 +18,4 @@ pub mod First
 pub mod FirstPlace
 pub mod Layers
 pub mod Loader
-pub mod Scaffold
+pub mod SearchSteps

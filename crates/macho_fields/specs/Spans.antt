@@ -39,15 +39,15 @@ HoldsInOne pairs place = Any (λ pair. Holds pair.0 place) pairs
 
 -- Some pairs were kept before, and others come, one after the other. Each is kept where it shares no
 -- place with a pair that is kept by then. These are all that are kept in the end.
-abbrev pub Keeps : List (Span × ℕ) → List (Span × ℕ) → List (Span × ℕ) → Type 0
-Keeps before [] kept = kept ≡ before
-Keeps before (pair ∷ pairs) kept =
-    (SharesWithOne before pair.0 × Keeps before pairs kept)
-    ⊎ ((¬ SharesWithOne before pair.0) × Keeps (before ++ pair ∷ []) pairs kept)
+abbrev pub KeepsInTurn : List (Span × ℕ) → List (Span × ℕ) → List (Span × ℕ) → Type 0
+KeepsInTurn before [] kept = kept ≡ before
+KeepsInTurn before (pair ∷ pairs) kept =
+    (SharesWithOne before pair.0 × KeepsInTurn before pairs kept)
+    ⊎ ((¬ SharesWithOne before pair.0) × KeepsInTurn (before ++ pair ∷ []) pairs kept)
 
 -- the pairs that are held are those that are kept of all that came, in whatever order they are held
 abbrev pub AreKept : List (Span × ℕ) → List (Span × ℕ) → Type 0
-AreKept pairs held = (kept : List (Span × ℕ)) × Keeps [] pairs kept × IsPermutation kept held
+AreKept pairs held = (kept : List (Span × ℕ)) × KeepsInTurn [] pairs kept × IsPermutation kept held
 
 -- how many binary digits a number has, and none for 0
 unfoldable pub digits : ℕ → ℕ

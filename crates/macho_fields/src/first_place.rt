@@ -20,7 +20,8 @@ impl Model for FirstPlace {
 }
 
 impl FirstPlace {
-    ghost use Rattle.std.specs.Prelude.{◌≡◌, None, Some, unwrap_or, IsOk, IsErrAnd, MatchOption};
+    ghost use Rattle.std.specs.Prelude.{◌≡◌, None, Some, unwrap_or, IsTrue, IsOk, IsErrAnd, MatchOption};
+    ghost use Rattle.macho_fields.specs.FirstPlace.{IsNoted};
 
     /// No place is noted.
     pub const fn none() -> FirstPlace
@@ -29,12 +30,29 @@ impl FirstPlace {
         FirstPlace { place: None }
     }
 
+    /// The place that is found, if there is one.
+    pub const fn of(place: Option<u64>) -> FirstPlace
+        ensures { result ≡ place }
+    {
+        FirstPlace { place }
+    }
+
     /// Notes a place that comes after those noted before.
     pub fn note(&mut self, place: u64)
         ensures { self.new ≡ Some (unwrap_or self.old place) }
     {
         if self.place.is_none() {
             self.place = Some(place);
+        }
+    }
+
+    /// Notes the place, as [`note`](FirstPlace::note) does, where the rule is broken there, and
+    /// nothing otherwise.
+    pub fn note_if(&mut self, is_broken: bool, place: u64)
+        ensures { IsNoted (IsTrue is_broken) place self.old self.new }
+    {
+        if is_broken {
+            self.note(place);
         }
     }
 

@@ -2,7 +2,7 @@
 
 ghost use Rattle.std.specs.Prelude.{◌+◌, ◌↔◌, length, IsTrue};
 ghost use Rattle.std.specs.List.Sorted.{IsNonDecreasingBy};
-ghost use Rattle.macho_fields.specs.Scaffold.{PairBelow};
+ghost use Rattle.macho_fields.specs.SearchSteps.{PairBelow};
 
 use crate::span::Span;
 use std::alloc::{AllocError, Global};
@@ -25,7 +25,7 @@ impl Model for SpanList {
     ghost use Rattle.std.specs.Prelude.{map};
     ghost use Rattle.std.specs.Vec.{vec_capacity};
     ghost use Rattle.macho_fields.specs.Overlap.{SpanListView};
-    ghost use Rattle.macho_fields.specs.Scaffold.{AreNumbered};
+    ghost use Rattle.macho_fields.specs.SearchSteps.{AreNumbered};
 
     ghost Value = { SpanListView };
 

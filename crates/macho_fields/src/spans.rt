@@ -1,16 +1,16 @@
 //! Spans that share no place, each with a tag: a list sorted by start, which is searched by halves.
 
 mod count;
-mod held;
+mod pairs;
 #[cfg(test)]
 mod tests;
 
 ghost use Rattle.std.specs.Prelude.{◌≡◌, ◌≤◌, length, MatchOption};
-ghost use Rattle.macho_fields.specs.Scaffold.{StartBy};
+ghost use Rattle.macho_fields.specs.SearchSteps.{StartBy};
 ghost use Rattle.macho_fields.specs.Spans.{AreSorted, IsPlaced, IsProbeCount, RoseBy, SharesWithOne};
 
 use crate::span::Span;
-use held::Held;
+use pairs::CountedPairs;
 use std::alloc::{AllocError, Global};
 use std::marker::Model;
 
@@ -27,7 +27,7 @@ pub enum Insert {
 /// bytes.
 #[derive(Drop)]
 pub struct Spans {
-    held: Held,
+    held: CountedPairs,
 }
 
 impl Model for Spans {
@@ -64,7 +64,7 @@ impl Spans {
         ensures all_probes { result.all_probes ≡ 0 }
     {
         Spans {
-            held: Held::new(alloc),
+            held: CountedPairs::new(alloc),
         }
     }
 
@@ -76,7 +76,7 @@ impl Spans {
         ensures all_probes { IfOk result (λ spans. spans.all_probes ≡ 0) }
         ensures memory { OnErr result (0 < count) }
     {
-        let held = Held::with_capacity(alloc, count)?;
+        let held = CountedPairs::with_capacity(alloc, count)?;
         Ok(Spans { held })
     }
 
@@ -145,7 +145,7 @@ impl Spans {
 }
 
 /// The index at which a span goes, or `None` where it shares a place with one that is held.
-fn gap_for(held: &mut Held, span: Span) -> Option<usize>
+fn gap_for(held: &mut CountedPairs, span: Span) -> Option<usize>
     requires sorted { AreSorted held.old.pairs.items }
     requires placed { IsPlaced span }
     ensures gap { MatchOption result (SharesWithOne held.old.pairs.items span)

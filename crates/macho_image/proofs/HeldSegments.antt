@@ -8,7 +8,7 @@ use Rattle.std.proofs.lemmas.List.Sums.{sum_by-cons}
 use Rattle.macho_fields.specs.Image.{command_cmd, command_size, commands_end, commands_of, Follow, AreCommands}
 use Rattle.macho_fields.specs.Segment.{nsects, segments_of, section_count}
 use Rattle.macho_fields.specs.declared.header.loader.TheConstants as loader
-use Rattle.macho_fields.proofs.Opened.{Keeps, sections_inside, command_inside}
+use Rattle.macho_fields.proofs.Opened.{OpenedFacts, sections_inside, command_inside}
 use Rattle.macho_fields.proofs.Parts.{with_cmd_is, with_cmd_among}
 use Rattle.macho_image.specs.Opened.{IsOpened}
 use Rattle.macho_image.specs.Command.{CommandView, command_at}
@@ -17,7 +17,7 @@ use Rattle.macho_image.specs.Scaffold.{HaveSegments, HoldsSegment, HoldSegments}
 use Rattle.macho_image.proofs.Opened.{opened_keeps}
 use Rattle.macho_image.proofs.OpenedWalk.{opened_commands}
 
-held_segment : (image commands : List ℕ) (segment : ℕ) → Keeps image → AreCommands image commands → Contains (segments_of image commands) segment → HoldsSegment image segment
+held_segment : (image commands : List ℕ) (segment : ℕ) → OpenedFacts image → AreCommands image commands → Contains (segments_of image commands) segment → HoldsSegment image segment
 held_segment image commands segment opened are has =
     let among = with_cmd_among image commands loader.LC_SEGMENT_64 segment has in
     let holds : 72 + 80 * nsects image segment ≤ command_size image segment = sections_inside image commands opened are segment among (with_cmd_is image commands loader.LC_SEGMENT_64 segment has) in

@@ -4,7 +4,7 @@ use Rattle.macho_fields.specs.Layers.{KeptBelow}
 use Rattle.macho_fields.specs.Rules.{BreaksImage}
 use Rattle.macho_fields.specs.First.{rank}
 use Rattle.macho_fields.specs.declared.rule.Rule.TheVariants as rule
-use Rattle.macho_fields.proofs.Opened.{Keeps, keeps_rules}
+use Rattle.macho_fields.proofs.Opened.{OpenedFacts, keeps_rules}
 use Rattle.macho_image.specs.Opened.{IsOpened}
 
 -- bytes that break none of the rules of opening may be opened
@@ -16,5 +16,5 @@ pub opened_below : (image : List ℕ) → IsOpened image → KeptBelow (BreaksIm
 unfolding IsOpened
 opened_below image opened = opened
 
-pub opened_keeps : (image : List ℕ) → IsOpened image → Keeps image
+pub opened_keeps : (image : List ℕ) → IsOpened image → OpenedFacts image
 opened_keeps image opened = keeps_rules image None (opened_below image opened)

@@ -9,7 +9,7 @@ use Rattle.macho_fields.specs.declared.rule.Rule.TheVariants as rule
 use Rattle.macho_fields.specs.declared.rule.Break.{Break}
 use Rattle.macho_fields.proofs.Chains.{counted_off}
 use Rattle.macho_fields.proofs.Layers.{kept_more, least_at}
-use Rattle.macho_fields.proofs.Opened.{Keeps, keeps_rules}
+use Rattle.macho_fields.proofs.Opened.{OpenedFacts, keeps_rules}
 use Rattle.macho_fields.proofs.Ranks.{header_rule_rank}
 use Rattle.macho_image.specs.Opened.{IsOpened}
 use Rattle.macho_rules.specs.Check.{KeptBefore, JudgesUpTo, IsLeastPlace}
@@ -26,7 +26,7 @@ pub keeps_opened : (image : List ℕ) (r : Rule) → rank rule.SegmentAddress �
 unfolding IsOpened
 keeps_opened image r late below other place early broken = below other place (omega (arith, late)) broken
 
-pub opened_facts : (image : List ℕ) → IsOpened image → Keeps image
+pub opened_facts : (image : List ℕ) → IsOpened image → OpenedFacts image
 opened_facts image opened = keeps_rules image None (opened_keeps image opened)
 
 -- and it has its commands

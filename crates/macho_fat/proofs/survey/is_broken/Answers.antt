@@ -1,7 +1,7 @@
 use Rattle.std.proofs.Common.{◌≡◌, ℕ, List, Bool, false, IsTrue, ◌↔◌, ◌∙◌, sym, inl, inr}
 use Rattle.std.proofs.lemmas.Bool.{both_ways}
 use Rattle.macho_fields.specs.Universal.{IsSliceOutside, IsSliceInTable, IsSliceMisaligned}
-use Rattle.macho_fat.specs.Scaffold.{BreaksAlone}
+use Rattle.macho_fat.specs.TableWalk.{BreaksAlone}
 use Rattle.macho_fat.proofs.survey.is_broken.Goals as goal
 use Rattle.macho_fat.proofs.survey.is_broken.Goals.{then-is_outside, else-is_outside}
 

@@ -1,5 +1,5 @@
 use Rattle.std.proofs.Common.{◌≡◌, ◌+◌, ◌-◌, length, subst, arith}
-use Rattle.macho_fields.specs.Scaffold.{PairBelow}
+use Rattle.macho_fields.specs.SearchSteps.{PairBelow}
 use Rattle.macho_fields.proofs.overlap.least_sharing.Goals as goal
 
 pub returns-clause-share : goal.returns-clause-share

@@ -1,5 +1,5 @@
 use Rattle.std.proofs.Common.{◌-◌}
-use Rattle.macho_fields.specs.Scaffold.{AreHalved}
+use Rattle.macho_fields.specs.SearchSteps.{AreHalved}
 use Rattle.macho_fields.proofs.overlap.least_sharing.Given as goal
 
 -- what is sought is low or above it, and below high

@@ -1,4 +1,4 @@
-use Rattle.macho_fields.specs.Scaffold.{ArePassed}
+use Rattle.macho_fields.specs.SearchSteps.{ArePassed}
 use Rattle.macho_fields.proofs.overlap.shares_below.Given as goal
 
 -- the items before this one share nothing and end at end or before

@@ -1,7 +1,7 @@
 use Rattle.std.proofs.Common.{ℕ, ◌≡◌, ◌-◌, ◌⊎◌, true, false, sym, ◌∙◌, ap, inl, inr, arith}
 use Rattle.std.proofs.lemmas.Bool.{false≢true, le-ltb}
 use Rattle.macho_fields.specs.declared.span.Span.{Span}
-use Rattle.macho_fields.specs.declared.spans.held.Held.{Held}
+use Rattle.macho_fields.specs.declared.spans.pairs.CountedPairs.{CountedPairs}
 use Rattle.macho_fields.proofs.SortedSpans.{shares_at, shares_beside}
 use Rattle.macho_fields.proofs.spans.gap_for.Goals as goal
 use Rattle.macho_fields.proofs.spans.gap_for.Goals.{then-next-gt0, else-next-gt0, then-next-len, else-next-len, then-before, else-before}
@@ -12,8 +12,8 @@ returns-then-after-clause-gap c =
     let among = c.count_starts_by-next.ensures.count.among in
     let found = c.count_starts_by-next.ensures.same in
     let same : c.if-next-gt0.held.pairs ≡ c.args.held.now.pairs = elim c.if-next-gt0.branch [
-      | then-next-gt0 w ↦ ap (λ (held : Held). held.pairs) w.held-is ∙ (w.shares-before.ensures.same ∙ found)
-      | else-next-gt0 w ↦ ap (λ (held : Held). held.pairs) w.held-is ∙ found
+      | then-next-gt0 w ↦ ap (λ (held : CountedPairs). held.pairs) w.held-is ∙ (w.shares-before.ensures.same ∙ found)
+      | else-next-gt0 w ↦ ap (λ (held : CountedPairs). held.pairs) w.held-is ∙ found
     ] in
     let count = rw same at c.len.ensures in
     let d : Span × ℕ = (c.args.span, 0) in
@@ -39,8 +39,8 @@ returns-else-after-clause-gap c =
     let by = c.count_starts_by-next.ensures.count in
     let found = c.count_starts_by-next.ensures.same in
     let same : c.if-next-gt0.held.pairs ≡ c.args.held.now.pairs = elim c.if-next-gt0.branch [
-      | then-next-gt0 w ↦ ap (λ (held : Held). held.pairs) w.held-is ∙ (w.shares-before.ensures.same ∙ found)
-      | else-next-gt0 w ↦ ap (λ (held : Held). held.pairs) w.held-is ∙ found
+      | then-next-gt0 w ↦ ap (λ (held : CountedPairs). held.pairs) w.held-is ∙ (w.shares-before.ensures.same ∙ found)
+      | else-next-gt0 w ↦ ap (λ (held : CountedPairs). held.pairs) w.held-is ∙ found
     ] in
     let count = rw same at c.len.ensures in
     let none_before : c.if-next-gt0.before ≡ false = elim c.if-before.branch [

@@ -6,7 +6,7 @@ use Rattle.macho_fields.specs.declared.rule.Rule.TheVariants as rule
 use Rattle.macho_fields.proofs.Layers.{kept_more, least_at}
 use Rattle.macho_fields.proofs.Magics.{empty_broken}
 use Rattle.macho_fields.proofs.Slices.{each_entry}
-use Rattle.macho_fat.specs.Scaffold.{AreMagics}
+use Rattle.macho_fat.specs.TableWalk.{AreMagics}
 use Rattle.macho_fat.proofs.rules.Magics.fat_empty.Goals as goal
 
 pub returns-then-self : goal.returns-then-self

@@ -3,7 +3,7 @@ use Rattle.macho_fields.specs.Rules.{BreaksFile}
 use Rattle.macho_fields.specs.Universal.{IsSliceInTable}
 use Rattle.macho_fields.specs.declared.rule.Rule.TheVariants as rule
 use Rattle.macho_fields.proofs.FirstPlaces.{first_judged}
-use Rattle.macho_fat.specs.Scaffold.{IsSurvey}
+use Rattle.macho_fat.specs.TableWalk.{IsSurvey}
 use Rattle.macho_fat.proofs.FirstEntries.{first_entry_breaks}
 use Rattle.macho_fat.proofs.survey.Survey.fat_slice_in_table.Goals as goal
 

@@ -1,6 +1,6 @@
 use Rattle.std.proofs.Common.{◌≡◌, subst, arith}
 use Rattle.macho_fields.specs.Universal.{entry_count}
-use Rattle.macho_fat.specs.Scaffold.{AreNotes}
+use Rattle.macho_fat.specs.TableWalk.{AreNotes}
 use Rattle.macho_fat.proofs.survey.Survey.of.Goals as goal
 
 pub loop-k-init : goal.loop-k-init

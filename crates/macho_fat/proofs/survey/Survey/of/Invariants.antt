@@ -1,4 +1,4 @@
-use Rattle.macho_fat.specs.Scaffold.{AreNotes}
+use Rattle.macho_fat.specs.TableWalk.{AreNotes}
 use Rattle.macho_fat.proofs.survey.Survey.of.Given as goal
 
 -- the notes are those of the entries before this one

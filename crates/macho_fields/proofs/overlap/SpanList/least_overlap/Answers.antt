@@ -2,7 +2,7 @@ use Rattle.std.proofs.Common.{◌≡◌, ℕ, ◌+◌, length, rules, sym, ◌�
 use Rattle.std.proofs.lemmas.Bool.{both_ways}
 use Rattle.std.proofs.lemmas.List.Sorted.{IsNonDecreasingBy-from_sort_by_key}
 use Rattle.macho_fields.specs.Overlap.{SharesEarlier, IsLeastSharing, SpanListView}
-use Rattle.macho_fields.specs.Scaffold.{PairBelow}
+use Rattle.macho_fields.specs.SearchSteps.{PairBelow}
 use Rattle.macho_fields.proofs.Overlaps.{least_from_pairs, none_from_pairs}
 use Rattle.macho_fields.proofs.overlap.SpanList.least_overlap.Goals as goal
 

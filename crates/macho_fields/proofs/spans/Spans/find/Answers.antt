@@ -1,5 +1,5 @@
 use Rattle.std.proofs.Common.{◌≡◌, ap, rules, arith}
-use Rattle.macho_fields.specs.Scaffold.{StartBy}
+use Rattle.macho_fields.specs.SearchSteps.{StartBy}
 use Rattle.macho_fields.specs.Spans.{SpansView}
 use Rattle.macho_fields.proofs.SortedSpans.{found_before}
 use Rattle.macho_fields.proofs.spans.Spans.find.Goals as goal

@@ -2,7 +2,7 @@ use Rattle.std.proofs.Common.{◌+◌, ◌-◌, ◌/◌, get_or, sym, ◌∙◌,
 use Rattle.std.proofs.lemmas.Bool.{cases_lt, false≢true}
 use Rattle.macho_fields.specs.declared.spans.count.Count.{Count}
 use Rattle.macho_fields.proofs.SortedSpans.{half_up, half_down, few_probes, rose_on}
-use Rattle.macho_fields.proofs.spans.held.Held.count_starts_by.Goals as goal
+use Rattle.macho_fields.proofs.spans.pairs.CountedPairs.count_starts_by.Goals as goal
 
 pub starts_by-requires-clause-few : goal.starts_by-requires-clause-few
 starts_by-requires-clause-few c =

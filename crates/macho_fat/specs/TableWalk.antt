@@ -4,7 +4,7 @@ use Rattle.std.specs.Prelude.{◌≡◌, ◌⊎◌, ◌↔◌, ℕ, ◌+◌, ◌
 use Rattle.std.specs.List.{range_with_len}
 use Rattle.macho_fields.specs.Field.{number}
 use Rattle.macho_fields.specs.First.{rank}
-use Rattle.macho_fields.specs.FirstPlace.{IsFirstOf}
+use Rattle.macho_fields.specs.FirstPlace.{IsFirstOf, IsLeastPlace}
 use Rattle.macho_fields.specs.Layers.{IsLeast, KeptBelow}
 use Rattle.macho_fields.specs.Overlap.{SharesEarlier, IsLeastSharing, IsAscending, IsDescending}
 use Rattle.macho_fields.specs.Rules.{BreaksFile}
@@ -102,12 +102,6 @@ pub record AreNotes (file : List ℕ) (n : ℕ) (notes : Notes) : Type 0 where
 pub record IsSurvey (file : List ℕ) (notes : Notes) : Type 0 where
   pub table : HasTable file
   pub whole : AreNotes file (entry_count file) notes
-
--- what is found is the least place at which a rule is broken, and None where it is broken nowhere
-abbrev pub IsLeastPlace : (ℕ → Type 0) → Option ℕ → Type 0
-IsLeastPlace breaks found =
-    MatchOption found ((place : ℕ) → ¬ breaks place)
-    (λ least. breaks least × ((place : ℕ) → breaks place → least ≤ place))
 
 -- one of the first n entries has a 64-bit little-endian image
 abbrev pub HasImageBelow : List ℕ → ℕ → Type 0

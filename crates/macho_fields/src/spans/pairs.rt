@@ -11,27 +11,27 @@ use std::alloc::{AllocError, Global};
 
 /// Pairs of a span and its tag, with how many probes and tests were made.
 #[derive(Drop)]
-pub(super) struct Held {
+pub(super) struct CountedPairs {
     pairs: Vec<(Span, u64)>,
     probes: Count,
     tests: Count,
 }
 
-impl Held {
+impl CountedPairs {
     ghost use Rattle.std.specs.Prelude.{◌≡◌, ◌↔◌, ◌+◌, ◌≤◌, ◌<◌, ◌^◌, [], length};
     ghost use Rattle.std.specs.Prelude.{IsTrue, MatchOption, IfOk, OnOk, OnErr};
     ghost use Rattle.std.specs.List.{HoldsAt, insert};
     ghost use Rattle.std.specs.Vec.{vec_capacity};
-    ghost use Rattle.macho_fields.specs.Scaffold.{StartBy};
+    ghost use Rattle.macho_fields.specs.SearchSteps.{StartBy};
     ghost use Rattle.macho_fields.specs.Span.{Holds, Shares};
     ghost use Rattle.macho_fields.specs.Spans.{AreSorted, IsProbeCount, RoseBy};
 
-    pub(super) fn new(alloc: Global) -> Held
+    pub(super) fn new(alloc: Global) -> CountedPairs
         ensures none { result.pairs.items ≡ [] }
         ensures probes { (result.probes.call ≡ 0) × (result.probes.all ≡ 0) }
         ensures tests { (result.tests.call ≡ 0) × (result.tests.all ≡ 0) }
     {
-        Held {
+        CountedPairs {
             pairs: Vec::new(alloc),
             probes: Count::new(),
             tests: Count::new(),
@@ -39,7 +39,7 @@ impl Held {
     }
 
     /// None, with room for so many and no more.
-    pub(super) fn with_capacity(alloc: Global, count: usize) -> Result<Held, AllocError>
+    pub(super) fn with_capacity(alloc: Global, count: usize) -> Result<CountedPairs, AllocError>
         ensures none { IfOk result (λ held. held.pairs.items ≡ []) }
         ensures capacity { IfOk result (λ held. vec_capacity held.pairs ≡ count) }
         ensures probes { IfOk result (λ held.
@@ -48,7 +48,7 @@ impl Held {
         ensures memory { OnErr result (0 < count) }
     {
         let pairs = Vec::with_capacity(alloc, count)?;
-        Ok(Held {
+        Ok(CountedPairs {
             pairs,
             probes: Count::new(),
             tests: Count::new(),

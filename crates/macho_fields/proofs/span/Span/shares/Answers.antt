@@ -1,5 +1,0 @@
-use Rattle.std.proofs.Common.{rules}
-use Rattle.macho_fields.proofs.span.Span.shares.Goals as goal
-
-pub returns-then-start-end : goal.returns-then-start-end
-returns-then-start-end c = search rules

@@ -1,6 +1,0 @@
-use Rattle.std.proofs.Common.{arith}
-use Rattle.std.proofs.lemmas.Grind.{common_steps}
-use Rattle.macho_fields.proofs.spans.held.Held.holding.Goals as goal
-
-pub returns-then-holds-clause-pair : goal.returns-then-holds-clause-pair
-returns-then-holds-clause-pair c = grind (arith, common_steps)
