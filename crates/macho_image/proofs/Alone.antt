@@ -12,7 +12,7 @@ use Rattle.macho_fields.specs.declared.load_command.Structure.{Structure}
 use Rattle.macho_fields.proofs.LoadCommands.{name_inside}
 use Rattle.macho_fields.proofs.Options.{some_of, of_some}
 use Rattle.macho_image.specs.Command.{command_at}
-use Rattle.macho_image.specs.Scaffold.{IsAlone}
+use Rattle.macho_image.specs.Walk.{IsAlone}
 use Rattle.macho_image.proofs.Names.{part_at}
 use Rattle.macho_image.proofs.ReadParts.{word_in_part, length-part}
 

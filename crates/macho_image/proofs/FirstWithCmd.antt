@@ -16,7 +16,7 @@ use Rattle.macho_fields.specs.declared.load_command.LoadCommand.{LoadCommand}
 use Rattle.macho_fields.specs.declared.load_command.Structure.TheVariants.{SymtabCommand}
 use Rattle.macho_fields.proofs.Lists.{none_by_test, none_in_nil, contains_first, contains_later}
 use Rattle.macho_image.specs.Command.{first_with_cmd}
-use Rattle.macho_image.specs.Scaffold.{AreFirst}
+use Rattle.macho_image.specs.Walk.{AreFirst}
 use Rattle.macho_image.specs.declared.unique.UniquePlaces.{UniquePlaces}
 
 first_by : (image : List ℕ) (cmd x : ℕ) (xs : List ℕ) → first_with_cmd image cmd (x ∷ xs) ≡ cond (command_cmd image x == cmd) (Some x) (first_with_cmd image cmd xs)

@@ -13,7 +13,7 @@ use Rattle.macho_fields.proofs.Parts.{with_cmd_is, with_cmd_among}
 use Rattle.macho_image.specs.Opened.{IsOpened}
 use Rattle.macho_image.specs.Command.{CommandView, command_at}
 use Rattle.macho_image.specs.Segment.{sections_from, sections_among, SegmentView, segment_at, section_at, sections_with, sections_of}
-use Rattle.macho_image.specs.Scaffold.{HaveSegments, HoldsSegment, HoldSegments}
+use Rattle.macho_image.specs.Views.{HaveSegments, HoldsSegment, HoldSegments}
 use Rattle.macho_image.proofs.Opened.{opened_keeps}
 use Rattle.macho_image.proofs.OpenedWalk.{opened_commands}
 

@@ -13,7 +13,7 @@ use Rattle.macho_fields.proofs.Opened.{structure_inside, command_inside}
 use Rattle.macho_fields.proofs.Parts.{with_cmd_is, with_cmd_among}
 use Rattle.macho_image.specs.Opened.{IsOpened}
 use Rattle.macho_image.specs.Command.{CommandView, command_of, command_at, first_with_cmd, left_with_cmd}
-use Rattle.macho_image.specs.Scaffold.{LieInside}
+use Rattle.macho_image.specs.Views.{LieInside}
 use Rattle.macho_image.specs.declared.command.Command.{Command}
 use Rattle.macho_image.proofs.Opened.{opened_keeps}
 use Rattle.macho_image.proofs.OpenedWalk.{opened_commands}

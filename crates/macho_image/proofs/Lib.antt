@@ -1,4 +1,4 @@
-pub mod Opening
+pub mod KeptRules
 pub mod Opened
 pub mod Walked
 pub mod Progress

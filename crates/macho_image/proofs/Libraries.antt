@@ -9,7 +9,7 @@ use Rattle.macho_fields.proofs.Options.{of_some}
 use Rattle.macho_image.specs.Opened.{IsOpened}
 use Rattle.macho_image.specs.Command.{CommandView, command_at, first_with_cmd}
 use Rattle.macho_image.specs.Library.{libraries, dylib_at, libraries_left, dylibs_left}
-use Rattle.macho_image.specs.Scaffold.{HoldsLibrary, HoldLibraries}
+use Rattle.macho_image.specs.Views.{HoldsLibrary, HoldLibraries}
 use Rattle.macho_fields.proofs.Parts.{with_cmd_is, with_cmd_among}
 use Rattle.macho_fields.specs.declared.header.loader.TheConstants as loader
 use Rattle.macho_image.proofs.Kept.{AreAll, structure_held, got_first}

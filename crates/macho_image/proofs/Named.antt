@@ -12,7 +12,7 @@ use Rattle.macho_fields.proofs.Options.{of_some}
 use Rattle.macho_fields.proofs.Parts.{with_cmd_is, with_cmd_among}
 use Rattle.macho_image.specs.Command.{CommandView, command_at, first_with_cmd}
 use Rattle.macho_image.specs.Opened.{IsOpened}
-use Rattle.macho_image.specs.Scaffold.{HoldsName, HoldNames}
+use Rattle.macho_image.specs.Views.{HoldsName, HoldNames}
 use Rattle.macho_image.proofs.Kept.{AreAll, held, all_kept, got_first}
 use Rattle.macho_image.proofs.Opened.{opened_keeps}
 use Rattle.macho_image.proofs.OpenedWalk.{opened_commands}

@@ -11,7 +11,7 @@ use Rattle.macho_fields.specs.declared.load_command.Structure.{Structure}
 use Rattle.macho_fields.proofs.Lists.{none_in_nil, first_or_later}
 use Rattle.macho_fields.proofs.Parts.{command_good}
 use Rattle.macho_image.specs.Opened.{IsOpened}
-use Rattle.macho_image.specs.Scaffold.{AreFirst, AreLandmarks, IsAt, IsRange, Passes, first_commands, has_tables, is_segment, names_table}
+use Rattle.macho_image.specs.Walk.{AreFirst, AreLandmarks, IsAt, IsRange, Passes, first_commands, has_tables, is_segment, names_table}
 use Rattle.macho_image.specs.declared.landmarks.CommandRange.{CommandRange}
 use Rattle.macho_image.specs.declared.landmarks.Landmarks.{Landmarks}
 use Rattle.macho_image.proofs.FirstWithCmd.{first_kept, unlisted_is_not_unique, unlisted_is_no_segment}

@@ -15,7 +15,8 @@ use Rattle.macho_fields.specs.declared.load_command.TableFields.{TableFields}
 use Rattle.macho_fields.proofs.Parts.{command_good}
 use Rattle.macho_image.specs.Command.{command_at, commands_left}
 use Rattle.macho_image.specs.Opened.{IsOpened}
-use Rattle.macho_image.specs.Scaffold.{CanWalk, HaveSegments, IsRange, Passes, first_commands, has_tables, is_segment, names_table}
+use Rattle.macho_image.specs.Walk.{CanWalk, IsRange, Passes, first_commands, has_tables, is_segment, names_table}
+use Rattle.macho_image.specs.Views.{HaveSegments}
 use Rattle.macho_image.specs.Table.{HaveTables}
 use Rattle.macho_image.specs.declared.landmarks.CommandRange.{CommandRange}
 use Rattle.macho_image.proofs.Noted.{passed_and, passed_are, passed_next}

@@ -8,9 +8,9 @@ use Rattle.macho_fields.specs.First.{rank}
 use Rattle.macho_fields.specs.declared.rule.Rule.TheVariants as rule
 use Rattle.macho_fields.proofs.Parts.{command_good}
 use Rattle.macho_image.specs.Opened.{IsOpened}
-use Rattle.macho_image.specs.Scaffold.{CanWalk}
+use Rattle.macho_image.specs.Walk.{CanWalk}
 use Rattle.macho_image.proofs.Opened.{opened_below}
-use Rattle.macho_image.proofs.Opening.{commands_inside, has_commands}
+use Rattle.macho_image.proofs.KeptRules.{commands_inside, has_commands}
 
 -- an opened image has its commands
 pub opened_commands : (image : List ℕ) → IsOpened image → AreCommands image (commands_of image)

@@ -5,7 +5,7 @@ use Rattle.macho_fields.specs.Rules.{BreaksHeader}
 use Rattle.macho_fields.specs.declared.rule.Rule.TheVariants as rule
 use Rattle.macho_fields.proofs.Parts.{follow_more}
 use Rattle.macho_fields.proofs.Walks.{walk_breaks_once, commands_keep_walk}
-use Rattle.macho_image.specs.Scaffold.{IsAt}
+use Rattle.macho_image.specs.Walk.{IsAt}
 
 pub at_first : (image : List ℕ) → IsAt image 0 32
 at_first image = record { places = []; count = refl; chain = refl }

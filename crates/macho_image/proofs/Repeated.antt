@@ -10,7 +10,7 @@ use Rattle.macho_fields.specs.LoadCommands.{IsUnique}
 use Rattle.macho_fields.specs.Image.{command_cmd, commands_of}
 use Rattle.macho_fields.specs.declared.header.loader.TheConstants as loader
 use Rattle.macho_image.specs.Command.{first_with_cmd}
-use Rattle.macho_image.specs.Scaffold.{IsAt, Repeats, first_commands}
+use Rattle.macho_image.specs.Walk.{IsAt, Repeats, first_commands}
 use Rattle.macho_image.proofs.FirstWithCmd.{first_is, first_none}
 use Rattle.macho_image.proofs.Noted.{passed_before}
 

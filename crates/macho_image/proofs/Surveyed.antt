@@ -18,16 +18,16 @@ use Rattle.macho_fields.specs.declared.load_command.Structure.{Structure}
 use Rattle.macho_fields.proofs.Lists.{only_one}
 use Rattle.macho_fields.proofs.LoadCommands.{has_no_structure}
 use Rattle.macho_image.specs.Command.{CommandView, command_of, command_at}
-use Rattle.macho_image.specs.Scaffold.{AreLandmarks, CanPass, HasPassed, IsAlone, IsAt, IsWholeAndMisnamed, Repeats, first_commands}
+use Rattle.macho_image.specs.Walk.{AreLandmarks, CanPass, HasPassed, IsAlone, IsAt, IsWholeAndMisnamed, Repeats, first_commands}
 use Rattle.macho_image.specs.declared.command.Command.{Command}
 use Rattle.macho_image.specs.declared.landmarks.Landmarks.{Landmarks}
 use Rattle.macho_image.specs.declared.survey.Survey.{Survey}
-use Rattle.macho_image.specs.declared.walk.Opening.{Opening}
+use Rattle.macho_image.specs.declared.walk.Candidate.{Candidate}
 use Rattle.macho_image.proofs.Alone.{is_alone, short_alone, bad_alone}
 use Rattle.macho_image.proofs.FirstWithCmd.{unlisted_is_not_unique}
 use Rattle.macho_image.proofs.Noted.{passed_next, passed_before, landmarks_kept}
 use Rattle.macho_image.proofs.Repeated.{repeats_none}
-use Rattle.macho_image.proofs.Opening.{Kept, commands_kept, commands_broken}
+use Rattle.macho_image.proofs.KeptRules.{Kept, commands_kept, commands_broken}
 
 -- the first item with P is the first with Q, where both are the same of each item
 pub first_of_same : {X : Type 0} (place : X → ℕ) (P Q : X → Type 0) (items : List X) (found : Option ℕ) → ((x : X) → Contains items x → P x ↔ Q x) → IsFirstOf place P items found
@@ -76,29 +76,29 @@ module _ (image : List ℕ) (walked place : ℕ) (at : IsAt image walked place) 
     repeat_passed none = passed_over (Repeats image (walked + 1)) found (repeats_still found first) (λ repeats. none ((repeats_same place (omega arith)).1 repeats))
 
 -- the survey of what is opened can pass a good command
-pub can_pass : (opening : Opening) (survey : Survey) (walked place : ℕ) → survey.opening ≡ opening → IsAt (bytes_of opening.bytes) walked place → IsGood (bytes_of opening.bytes) place
-    → commands_end (bytes_of opening.bytes) ≤ length (bytes_of opening.bytes) → CanPass survey walked place
-can_pass opening survey walked place same at good inside = record {
-  at = subst (λ (o : Opening). IsAt (bytes_of o.bytes) walked place) (sym same) at;
-  good = subst (λ (o : Opening). IsGood (bytes_of o.bytes) place) (sym same) good;
-  inside = subst (λ (o : Opening). commands_end (bytes_of o.bytes) ≤ length (bytes_of o.bytes)) (sym same) inside;
+pub can_pass : (candidate : Candidate) (survey : Survey) (walked place : ℕ) → survey.candidate ≡ candidate → IsAt (bytes_of candidate.bytes) walked place → IsGood (bytes_of candidate.bytes) place
+    → commands_end (bytes_of candidate.bytes) ≤ length (bytes_of candidate.bytes) → CanPass survey walked place
+can_pass candidate survey walked place same at good inside = record {
+  at = subst (λ (o : Candidate). IsAt (bytes_of o.bytes) walked place) (sym same) at;
+  good = subst (λ (o : Candidate). IsGood (bytes_of o.bytes) place) (sym same) good;
+  inside = subst (λ (o : Candidate). commands_end (bytes_of o.bytes) ≤ length (bytes_of o.bytes)) (sym same) inside;
 }
 
 -- A survey once its next command is tested for its size and its name
 pub record Marks (before : Survey) (walked : ℕ) (after : Survey) : Type 0 where
-  pub opening : after.opening ≡ before.opening
+  pub candidate : after.candidate ≡ before.candidate
   pub landmarks : after.landmarks ≡ before.landmarks
   pub repeated : after.command_repeated ≡ before.command_repeated
-  pub short : IsFirstOf (λ command. command) (IsShort (bytes_of before.opening.bytes)) (first_commands (bytes_of before.opening.bytes) (walked + 1)) after.command_short
-  pub name : IsFirstOf (λ command. command) (IsWholeAndMisnamed (bytes_of before.opening.bytes)) (first_commands (bytes_of before.opening.bytes) (walked + 1)) after.name
+  pub short : IsFirstOf (λ command. command) (IsShort (bytes_of before.candidate.bytes)) (first_commands (bytes_of before.candidate.bytes) (walked + 1)) after.command_short
+  pub name : IsFirstOf (λ command. command) (IsWholeAndMisnamed (bytes_of before.candidate.bytes)) (first_commands (bytes_of before.candidate.bytes) (walked + 1)) after.name
 
 module _ (before : Survey) (walked place : ℕ) (can : CanPass before walked place) (passed : HasPassed before walked) where
   abbrev bytes : List ℕ
-  bytes = bytes_of before.opening.bytes
+  bytes = bytes_of before.candidate.bytes
 
   short_noted : IsShort bytes place → Marks before walked (record before { command_short = Some (unwrap_or before.command_short place) })
   short_noted short = record {
-    opening = refl;
+    candidate = refl;
     landmarks = refl;
     repeated = refl;
     short = noted bytes walked place can.at (IsShort bytes) before.command_short passed.short short;
@@ -107,7 +107,7 @@ module _ (before : Survey) (walked place : ℕ) (can : CanPass before walked pla
 
   name_noted : ¬ IsShort bytes place → HasBadName bytes place → Marks before walked (record before { name = Some (unwrap_or before.name place) })
   name_noted whole bad = record {
-    opening = refl;
+    candidate = refl;
     landmarks = refl;
     repeated = refl;
     short = passed_over bytes walked place can.at (IsShort bytes) before.command_short passed.short whole;
@@ -116,7 +116,7 @@ module _ (before : Survey) (walked place : ℕ) (can : CanPass before walked pla
 
   none_noted : ¬ IsShort bytes place → ¬ HasBadName bytes place → Marks before walked before
   none_noted whole good = record {
-    opening = refl;
+    candidate = refl;
     landmarks = refl;
     repeated = refl;
     short = passed_over bytes walked place can.at (IsShort bytes) before.command_short passed.short whole;
@@ -176,7 +176,7 @@ module _ (before : Survey) (walked place : ℕ) (can : CanPass before walked pla
       → IsFirstOf (λ command. command) (Repeats bytes (walked + 1)) (first_commands bytes (walked + 1)) repeated
       → HasPassed (record after { landmarks = landmarks; command_repeated = repeated }) (walked + 1)
   all_noted after landmarks repeated marks are first =
-      subst (λ o. HasPassed (record after { opening = o; landmarks = landmarks; command_repeated = repeated }) (walked + 1)) (sym marks.opening)
+      subst (λ o. HasPassed (record after { candidate = o; landmarks = landmarks; command_repeated = repeated }) (walked + 1)) (sym marks.candidate)
       (record { landmarks = are; short = marks.short; repeated = first; name = marks.name })
 
 -- What a rule answers that is broken at the commands with P

@@ -3,7 +3,7 @@ use Rattle.std.proofs.Common.{◌≡◌, ℕ, suc, zero, ◌+◌, ◌-◌, ◌<�
 use Rattle.std.proofs.lemmas.List.Elements.{All-tail}
 use Rattle.macho_fields.specs.Image.{command_size, IsGood, places_from}
 use Rattle.macho_image.specs.Command.{CommandView, command_at, commands_left}
-use Rattle.macho_image.specs.Scaffold.{CanWalk}
+use Rattle.macho_image.specs.Walk.{CanWalk}
 
 -- where some remain, the first is the one at the place
 pub places-step : (image : List ℕ) (place left : ℕ) → 0 < left → places_from image place left ≡ place ∷ places_from image (place + command_size image place) (left - 1)

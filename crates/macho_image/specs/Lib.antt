@@ -10,4 +10,5 @@ pub mod Mapped
 pub mod Entry
 pub mod Symbol
 pub mod Table
-pub mod Scaffold
+pub mod Walk
+pub mod Views

@@ -39,7 +39,7 @@ impl<'a> Model for Builds<'a> {
     ghost use Rattle.macho_fields.specs.Bytes.{bytes_of};
     ghost use Rattle.macho_image.specs.declared.build.Build.{Build};
     ghost use Rattle.macho_image.specs.Build.{builds_left};
-    ghost use Rattle.macho_image.specs.Scaffold.{HoldBuilds};
+    ghost use Rattle.macho_image.specs.Views.{HoldBuilds};
 
     ghost Value = { List Build };
 
@@ -87,7 +87,7 @@ const MINOS: u64 = 12;
 
 const SDK: u64 = 16;
 
-/// The `build_version_command` at `place`.
+// The `build_version_command` at `place`.
 fn build_from(image: Bytes, place: u64) -> Build
     requires { place + structure_size BuildVersionCommand ≤ length (bytes_of image) }
     ensures { result ≡ build_at (bytes_of image.entry) place }

@@ -4,7 +4,7 @@ ghost use Rattle.std.specs.Prelude.{◌≡◌, ◌+◌, ◌≤◌, length};
 ghost use Rattle.macho_fields.specs.Bytes.{bytes_of};
 ghost use Rattle.macho_fields.specs.Image.{word, long, commands_end, IsGood};
 ghost use Rattle.macho_image.specs.Command.{command_of, command_at, command_name};
-ghost use Rattle.macho_image.specs.Scaffold.{HoldsName};
+ghost use Rattle.macho_image.specs.Views.{HoldsName};
 
 use macho_fields::header::loader::LC_STR_OFFSET;
 use macho_fields::{Bytes, Order, Span};
@@ -35,7 +35,7 @@ impl<'a> Model for Commands<'a> {
     ghost use Rattle.std.specs.Prelude.{List};
     ghost use Rattle.macho_fields.specs.Bytes.{bytes_of};
     ghost use Rattle.macho_image.specs.Command.{CommandView, commands_left};
-    ghost use Rattle.macho_image.specs.Scaffold.{CanWalk};
+    ghost use Rattle.macho_image.specs.Walk.{CanWalk};
 
     ghost Value = { List CommandView };
 
@@ -69,7 +69,7 @@ impl<'a> Commands<'a> {
     ghost use Rattle.std.specs.Iterator.{YieldsFirstBy};
     ghost use Rattle.macho_image.specs.Command.{command_of, left_with_cmd};
 
-    /// The next command whose `cmd` is `wanted`. The commands before it are skipped.
+    // The next command whose `cmd` is `wanted`. The commands before it are skipped.
     pub(crate) fn next_with_cmd(&mut self, wanted: u32) -> Option<Command<'a>>
         ensures { YieldsFirstBy command_of (left_with_cmd wanted) self.old result self.new }
     {
@@ -82,7 +82,7 @@ impl<'a> Commands<'a> {
     }
 }
 
-/// The command at `place`.
+// The command at `place`.
 pub(crate) fn command_from(image: Bytes, place: u64) -> Command
     requires good { IsGood (bytes_of image) place }
     requires inside { commands_end (bytes_of image) ≤ length (bytes_of image) }
@@ -101,10 +101,10 @@ pub(crate) fn command_from(image: Bytes, place: u64) -> Command
     }
 }
 
-/// The offset of `cmdsize` in a command.
+// The offset of `cmdsize` in a command.
 pub(crate) const CMDSIZE: u64 = 4;
 
-/// The 32-bit field at `place`.
+// The 32-bit field at `place`.
 pub(crate) fn word_at(bytes: Bytes, place: u64) -> u32
     requires { place + 4 ≤ length (bytes_of bytes) }
     ensures { result ≡ word (bytes_of bytes.entry) place }
@@ -112,7 +112,7 @@ pub(crate) fn word_at(bytes: Bytes, place: u64) -> u32
     bytes.read_u32(Order::Little, place)
 }
 
-/// The 64-bit field at `place`.
+// The 64-bit field at `place`.
 pub(crate) fn long_at(bytes: Bytes, place: u64) -> u64
     requires { place + 8 ≤ length (bytes_of bytes) }
     ensures { result ≡ long (bytes_of bytes.entry) place }
@@ -120,7 +120,7 @@ pub(crate) fn long_at(bytes: Bytes, place: u64) -> u64
     bytes.read_u64(Order::Little, place)
 }
 
-/// The 32-bit field at `offset` in the structure that begins at `structure`.
+// The 32-bit field at `offset` in the structure that begins at `structure`.
 pub(crate) fn word_in(image: Bytes, structure: u64, offset: u64) -> u32
     requires { structure + offset + 4 ≤ length (bytes_of image) }
     ensures { result ≡ word (bytes_of image.entry) (structure + offset) }
@@ -128,7 +128,7 @@ pub(crate) fn word_in(image: Bytes, structure: u64, offset: u64) -> u32
     word_at(image, structure + offset)
 }
 
-/// The 64-bit field at `offset` in the structure that begins at `structure`.
+// The 64-bit field at `offset` in the structure that begins at `structure`.
 pub(crate) fn long_in(image: Bytes, structure: u64, offset: u64) -> u64
     requires { structure + offset + 8 ≤ length (bytes_of image) }
     ensures { result ≡ long (bytes_of image.entry) (structure + offset) }
@@ -136,7 +136,7 @@ pub(crate) fn long_in(image: Bytes, structure: u64, offset: u64) -> u64
     long_at(image, structure + offset)
 }
 
-/// The name of the command at `place`, without the zero byte that ends it.
+// The name of the command at `place`, without the zero byte that ends it.
 pub(crate) fn name_of(image: Bytes, place: u64) -> &[u8]
     requires { HoldsName (bytes_of image) place }
     ensures { result.now ≡ command_name (bytes_of image.entry) place }

@@ -80,7 +80,7 @@ impl<'a> Image<'a> {
     }
 }
 
-/// The `dysymtab_command` at `place`.
+// The `dysymtab_command` at `place`.
 fn dysymtab_from(image: Bytes, place: u64) -> Dysymtab
     requires { place + structure_size DysymtabCommand ≤ length (bytes_of image) }
     ensures { result ≡ dysymtab_at (bytes_of image.entry) place }
@@ -108,7 +108,7 @@ fn dysymtab_from(image: Bytes, place: u64) -> Dysymtab
     }
 }
 
-/// The 32-bit field at `offset` in the structure that begins at `place`, as a 64-bit number.
+// The 32-bit field at `offset` in the structure that begins at `place`, as a 64-bit number.
 fn field_in(image: Bytes, place: u64, offset: u64) -> u64
     requires { place + offset + 4 ≤ length (bytes_of image) }
     ensures { result ≡ word (bytes_of image.entry) (place + offset) }

@@ -37,7 +37,7 @@ impl<'a> Image<'a> {
     }
 }
 
-/// Whether `segment` is mapped, and begins with the first bytes of the image.
+// Whether `segment` is mapped, and begins with the first bytes of the image.
 fn shows_start(segment: &Segment) -> bool
     ensures { result ≡ shows_start segment.now.image segment.now.place }
 {

@@ -5,7 +5,7 @@ use crate::landmarks::Landmarks;
 use crate::rules::dylib_id;
 use crate::survey::Survey;
 use crate::walk::{
-    Opening, arch_mismatch, arch_of, commands_outside, file_type, header_truncated,
+    Candidate, arch_mismatch, arch_of, commands_outside, file_type, header_truncated,
     listed_file_type,
 };
 use macho_fields::{Break, Bytes};
@@ -22,13 +22,13 @@ pub struct Image<'a> {
 impl<'a> Model for Image<'a> {
     ghost use Rattle.std.specs.Prelude.{List, ℕ};
     ghost use Rattle.macho_fields.specs.Bytes.{bytes_of};
-    ghost use Rattle.macho_image.specs.Scaffold.{IsKnown};
+    ghost use Rattle.macho_image.specs.Walk.{HasLandmarks};
 
     ghost Value = { List ℕ };
 
     ghost view = { λ image. bytes_of image.bytes };
 
-    ghost invariant = { λ image. IsKnown (bytes_of image.bytes) image.landmarks };
+    ghost invariant = { λ image. HasLandmarks (bytes_of image.bytes) image.landmarks };
 }
 
 impl<'a> Image<'a> {
@@ -45,7 +45,7 @@ impl<'a> Image<'a> {
     ghost use Rattle.macho_image.specs.Command.{command_of, command_at, first_with_cmd};
     ghost use Rattle.macho_image.specs.Header.{IsKind};
     ghost use Rattle.macho_image.specs.Opened.{IsOpened};
-    ghost use Rattle.macho_image.specs.Scaffold.{HaveSegments};
+    ghost use Rattle.macho_image.specs.Views.{HaveSegments};
     ghost use Rattle.macho_image.specs.Table.{HaveTables};
 
     /// Opens `bytes` as a 64-bit image. `arch` is the `cputype` and the `cpusubtype` that a
@@ -58,16 +58,16 @@ impl<'a> Image<'a> {
         ensures decides { Continues (BreaksImage (bytes_of bytes.entry) arch) Rule.Name result }
         ensures image { IfOk result (λ image. image ≡ bytes_of bytes.entry) }
     {
-        let opening = Opening { bytes, arch };
-        header_truncated(opening)?;
-        arch_mismatch(opening)?;
-        file_type(opening)?;
-        commands_outside(opening)?;
-        let mut survey = Survey::new(opening);
+        let candidate = Candidate { bytes, arch };
+        header_truncated(candidate)?;
+        arch_mismatch(candidate)?;
+        file_type(candidate)?;
+        commands_outside(candidate)?;
+        let mut survey = Survey::new(candidate);
         survey.command_walk()?;
         survey.command_short()?;
         survey.command_repeated()?;
-        dylib_id(opening, survey.landmarks.unique)?;
+        dylib_id(candidate, survey.landmarks.unique)?;
         survey.name()?;
         Ok(Image {
             bytes,
@@ -123,11 +123,11 @@ impl<'a> Image<'a> {
         ensures commands { result ≡ map (command_at self.now) (commands_of self.now) }
         ensures opened { IsOpened self.now }
     {
-        let opening = Opening {
+        let candidate = Candidate {
             bytes: self.bytes,
             arch: None,
         };
-        opening.commands()
+        candidate.commands()
     }
 
     /// The first command with this `cmd`, or `None` where the image has none. It may have several:
@@ -153,7 +153,7 @@ impl<'a> Image<'a> {
         }
     }
 
-    /// The commands from the first segment to the last. No search for segments goes past them.
+    // The commands from the first segment to the last. No search for segments goes past them.
     pub(crate) fn commands_with_segments(&self) -> Commands<'a>
         ensures segments { HaveSegments self.now result }
         ensures opened { IsOpened self.now }

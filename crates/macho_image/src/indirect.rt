@@ -79,7 +79,7 @@ impl<'a> Iterator for Indirects<'a> {
 impl<'a> Indirects<'a> {
     ghost use Rattle.std.specs.Prelude.{◌≡◌, take, drop};
 
-    /// Those whose indices are from `first` on, `count` of them, those that there are.
+    // Those whose indices are from `first` on, `count` of them, those that there are.
     fn range(&self, first: u64, count: u64) -> Indirects<'a>
         ensures { result ≡ take count (drop first self.now) }
     {

@@ -5,7 +5,7 @@ ghost use Rattle.macho_fields.specs.Bytes.{bytes_of};
 ghost use Rattle.macho_fields.specs.Image.{command_cmd, command_count};
 ghost use Rattle.macho_fields.specs.LoadCommands.{structure_of};
 ghost use Rattle.macho_image.specs.Opened.{IsOpened};
-ghost use Rattle.macho_image.specs.Scaffold.{AreLandmarks, IsAt, IsRange, Repeats};
+ghost use Rattle.macho_image.specs.Walk.{AreLandmarks, IsAt, IsRange, Repeats};
 
 use crate::command::{Command, command_from, word_at};
 use crate::unique::UniquePlaces;
@@ -13,7 +13,7 @@ use crate::walk::NCMDS;
 use macho_fields::header::loader::{LC_SEGMENT_64, MACH_HEADER_64_SIZE};
 use macho_fields::{Bytes, Structure, structure_of};
 
-/// The commands from the first that is noted to the last.
+// The commands from the first that is noted to the last.
 #[derive(Clone, Copy)]
 pub(crate) struct CommandRange {
     /// Where the first is.
@@ -25,7 +25,7 @@ pub(crate) struct CommandRange {
 }
 
 impl CommandRange {
-    /// The range where no command is noted.
+    // The range where no command is noted.
     fn new() -> CommandRange
         ensures { (image : List ℕ) (test : ℕ → Bool) → IsRange image test 0 result }
     {
@@ -36,7 +36,7 @@ impl CommandRange {
         }
     }
 
-    /// Notes a command that comes after those noted before: the one with this index, from 0 on.
+    // Notes a command that comes after those noted before: the one with this index, from 0 on.
     fn note(&mut self, place: u64, index: u32)
         requires later { self.old.before + self.old.count ≤ index }
         requires fits { index + 1 < 2 ^ 32 }
@@ -53,8 +53,8 @@ impl CommandRange {
     }
 }
 
-/// Where an image has the commands of which there is at most one, its segments, and the commands that
-/// name a table.
+// Where an image has the commands of which there is at most one, its segments, and the commands that
+// name a table.
 #[derive(Clone, Copy)]
 pub(crate) struct Landmarks {
     pub(crate) unique: UniquePlaces,
@@ -63,7 +63,7 @@ pub(crate) struct Landmarks {
 }
 
 impl Landmarks {
-    /// The landmarks of no commands.
+    // The landmarks of no commands.
     pub(crate) fn new() -> Landmarks
         ensures { (image : List ℕ) → AreLandmarks image 0 result }
     {
@@ -74,7 +74,7 @@ impl Landmarks {
         }
     }
 
-    /// The landmarks of an opened image.
+    // The landmarks of an opened image.
     pub(crate) fn of(image: Bytes) -> Landmarks
         requires { IsOpened (bytes_of image) }
         ensures { AreLandmarks (bytes_of image.entry) (command_count (bytes_of image.entry)) result }
@@ -91,8 +91,8 @@ impl Landmarks {
         landmarks
     }
 
-    /// Notes the command of this structure and with this index, from 0 on, after those before it.
-    /// Returns whether it is a second one of which an image has at most one.
+    // Notes the command of this structure and with this index, from 0 on, after those before it.
+    // Returns whether it is a second one of which an image has at most one.
     pub(crate) fn note(&mut self, command: Command, structure: Structure, index: u32) -> bool
         requires listed { structure_of command.cmd ≡ Some structure }
         requires segments { self.old.segments.before + self.old.segments.count ≤ index }

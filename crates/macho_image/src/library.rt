@@ -5,7 +5,7 @@ ghost use Rattle.std.specs.Iterator.{YieldsFirstBy};
 ghost use Rattle.macho_fields.specs.Bytes.{bytes_of};
 ghost use Rattle.macho_image.specs.Command.{command_of};
 ghost use Rattle.macho_image.specs.Library.{dylib_of, dylib_at, libraries_left};
-ghost use Rattle.macho_image.specs.Scaffold.{HoldsLibrary};
+ghost use Rattle.macho_image.specs.Views.{HoldsLibrary};
 
 use crate::command::{Command, Commands, name_of, word_at, word_in};
 use crate::image::Image;
@@ -41,7 +41,7 @@ impl<'a> Model for Dylibs<'a> {
     ghost use Rattle.std.specs.Prelude.{List};
     ghost use Rattle.macho_fields.specs.Bytes.{bytes_of};
     ghost use Rattle.macho_image.specs.Library.{DylibView, dylibs_left};
-    ghost use Rattle.macho_image.specs.Scaffold.{HoldLibraries};
+    ghost use Rattle.macho_image.specs.Views.{HoldLibraries};
 
     ghost Value = { List DylibView };
 
@@ -94,7 +94,7 @@ impl<'a> Image<'a> {
     }
 }
 
-/// The next command that names a library. The commands before it are skipped.
+// The next command that names a library. The commands before it are skipped.
 fn next_library<'a>(commands: &mut Commands<'a>) -> Option<Command<'a>>
     ensures { YieldsFirstBy command_of libraries_left commands.old result commands.new }
 {
@@ -111,7 +111,7 @@ const CURRENT_VERSION: u64 = 16;
 
 const COMPATIBILITY_VERSION: u64 = 20;
 
-/// The `dylib_command` at `place`.
+// The `dylib_command` at `place`.
 fn dylib_from(image: Bytes, place: u64) -> Dylib
     requires { HoldsLibrary (bytes_of image) place }
     ensures { dylib_of result ≡ dylib_at (bytes_of image.entry) place }

@@ -44,7 +44,7 @@ const ENTRYOFF: u64 = 8;
 
 const STACKSIZE: u64 = 16;
 
-/// The `entry_point_command` at `place`.
+// The `entry_point_command` at `place`.
 fn main_command_from(image: Bytes, place: u64) -> MainCommand
     requires { place + structure_size EntryPointCommand ≤ length (bytes_of image) }
     ensures { result ≡ main_command_at (bytes_of image.entry) place }

@@ -19,7 +19,7 @@ impl<'a> Model for Rpaths<'a> {
     ghost use Rattle.macho_fields.specs.Bytes.{bytes_of};
     ghost use Rattle.macho_fields.specs.declared.header.loader.TheConstants.{LC_RPATH};
     ghost use Rattle.macho_image.specs.Rpath.{rpaths_left};
-    ghost use Rattle.macho_image.specs.Scaffold.{HoldNames};
+    ghost use Rattle.macho_image.specs.Views.{HoldNames};
 
     ghost Value = { List (List ℕ) };
 

@@ -11,16 +11,16 @@ ghost use Rattle.macho_fields.specs.LoadCommands.{has_name, structure_of, struct
 ghost use Rattle.macho_fields.specs.Layers.{KeptBelow, Continues};
 ghost use Rattle.macho_fields.specs.declared.rule.Rule.{Rule};
 ghost use Rattle.macho_image.specs.Command.{command_of};
-ghost use Rattle.macho_image.specs.Scaffold.{breaks_of, AreFirst, IsAlone};
+ghost use Rattle.macho_image.specs.Walk.{breaks_of, AreFirst, IsAlone};
 
 use crate::command::{Command, word_at};
 use crate::unique::UniquePlaces;
-use crate::walk::{FILETYPE, Opening, listed_file_type};
+use crate::walk::{Candidate, FILETYPE, listed_file_type};
 use macho_fields::header::loader::{LC_ID_DYLIB, LC_STR_OFFSET};
 use macho_fields::{Break, Bytes, Order, Rule, Span, Structure};
 
-/// Whether the command, which has this structure, is shorter than the structure and the records after
-/// it.
+// Whether the command, which has this structure, is shorter than the structure and the records after
+// it.
 pub(crate) fn is_short(command: Command, structure: Structure) -> bool
     requires alone { IsAlone (command_of command) }
     requires listed { structure_of command.cmd ≡ Some structure }
@@ -29,7 +29,7 @@ pub(crate) fn is_short(command: Command, structure: Structure) -> bool
     u64::from(command.size) < least_size(command, structure)
 }
 
-/// The size in bytes of the structure, with the records that follow it.
+// The size in bytes of the structure, with the records that follow it.
 fn least_size(command: Command, structure: Structure) -> u64
     requires { IsAlone (command_of command) }
     ensures { result ≡ least_size command.entry.bytes.now 0 structure }
@@ -40,7 +40,7 @@ fn least_size(command: Command, structure: Structure) -> u64
     structure.size() + records.size * u64::from(record_count(command, records.count))
 }
 
-/// The number of records, read at `offset` in the command, or 0 where that is past its end.
+// The number of records, read at `offset` in the command, or 0 where that is past its end.
 fn record_count(command: Command, offset: u64) -> u32
     requires { IsAlone (command_of command) }
     ensures { result ≡ record_count command.entry.bytes.now 0 offset }
@@ -49,22 +49,22 @@ fn record_count(command: Command, offset: u64) -> u32
     bytes.u32_at(Order::Little, offset).unwrap_or(0)
 }
 
-/// The rule `dylib-id`: an image that names itself has an `LC_ID_DYLIB`, and no other has one.
-pub(crate) fn dylib_id(opening: Opening, unique: UniquePlaces) -> Result<(), Break>
-    requires before { KeptBelow (breaks_of opening) (rank Rule.DylibId) }
-    requires first { AreFirst (bytes_of opening.bytes) (commands_of (bytes_of opening.bytes))
+// The rule `dylib-id`: an image that names itself has an `LC_ID_DYLIB`, and no other has one.
+pub(crate) fn dylib_id(candidate: Candidate, unique: UniquePlaces) -> Result<(), Break>
+    requires before { KeptBelow (breaks_of candidate) (rank Rule.DylibId) }
+    requires first { AreFirst (bytes_of candidate.bytes) (commands_of (bytes_of candidate.bytes))
         unique }
-    ensures { Continues (breaks_of opening.entry) Rule.DylibId result }
+    ensures { Continues (breaks_of candidate.entry) Rule.DylibId result }
 {
-    let listed = listed_file_type(opening.bytes);
+    let listed = listed_file_type(candidate.bytes);
     if listed.names_itself != unique.of(LC_ID_DYLIB).is_some() {
         return Err(Break::at(Rule::DylibId, FILETYPE));
     }
     Ok(())
 }
 
-/// Whether the command, which has this structure, has a name that begins in its structure, or does
-/// not end in the command.
+// Whether the command, which has this structure, has a name that begins in its structure, or does
+// not end in the command.
 pub(crate) fn has_bad_name(command: Command, structure: Structure) -> bool
     requires alone { IsAlone (command_of command) }
     requires listed { structure_of command.cmd ≡ Some structure }
@@ -74,8 +74,8 @@ pub(crate) fn has_bad_name(command: Command, structure: Structure) -> bool
     structure.has_name() && is_bad_name(Bytes::new(command.bytes), structure)
 }
 
-/// Whether the name of a command of this structure, all of whose bytes are given, begins in the
-/// structure, or does not end in the command.
+// Whether the name of a command of this structure, all of whose bytes are given, begins in the
+// structure, or does not end in the command.
 fn is_bad_name(command: Bytes, structure: Structure) -> bool
     requires named { has_name structure ≡ true }
     requires whole { structure_size structure ≤ length (bytes_of command) }
@@ -87,7 +87,7 @@ fn is_bad_name(command: Bytes, structure: Structure) -> bool
     offset < structure.size() || !has_zero_from(command, offset)
 }
 
-/// Whether one of the bytes from `start` on is zero.
+// Whether one of the bytes from `start` on is zero.
 fn has_zero_from(bytes: Bytes, start: u64) -> bool
     ensures { IsTrue result ↔ HasZero (bytes_of bytes.entry) start (length (bytes_of bytes.entry)) }
 {

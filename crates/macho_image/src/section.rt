@@ -20,7 +20,7 @@ pub struct Section<'a> {
 impl<'a> Model for Section<'a> {
     ghost use Rattle.macho_fields.specs.Bytes.{bytes_of};
     ghost use Rattle.macho_image.specs.Segment.{SectionView, section_at};
-    ghost use Rattle.macho_image.specs.Scaffold.{HoldsSection};
+    ghost use Rattle.macho_image.specs.Views.{HoldsSection};
 
     ghost Value = { SectionView };
 
@@ -137,7 +137,7 @@ impl<'a> Section<'a> {
         )
     }
 
-    /// Its type: the low byte of its flags.
+    // Its type: the low byte of its flags.
     fn section_type(&self) -> u32
         ensures { result ≡ section_flags self.now.image self.now.place % 256 }
     {
@@ -158,7 +158,7 @@ impl<'a> Model for Sections<'a> {
     ghost use Rattle.std.specs.Prelude.{List};
     ghost use Rattle.macho_fields.specs.Bytes.{bytes_of};
     ghost use Rattle.macho_image.specs.Segment.{SectionView, sections_from};
-    ghost use Rattle.macho_image.specs.Scaffold.{HoldSections};
+    ghost use Rattle.macho_image.specs.Views.{HoldSections};
 
     ghost Value = { List SectionView };
 

@@ -22,7 +22,7 @@ pub struct Segment<'a> {
 impl<'a> Model for Segment<'a> {
     ghost use Rattle.macho_fields.specs.Bytes.{bytes_of};
     ghost use Rattle.macho_image.specs.Segment.{SegmentView, segment_at};
-    ghost use Rattle.macho_image.specs.Scaffold.{HoldsSegment};
+    ghost use Rattle.macho_image.specs.Views.{HoldsSegment};
 
     ghost Value = { SegmentView };
 
@@ -124,7 +124,7 @@ impl<'a> Model for Segments<'a> {
     ghost use Rattle.std.specs.Prelude.{List};
     ghost use Rattle.macho_fields.specs.Bytes.{bytes_of};
     ghost use Rattle.macho_image.specs.Segment.{SegmentView, segments_left};
-    ghost use Rattle.macho_image.specs.Scaffold.{HoldSegments};
+    ghost use Rattle.macho_image.specs.Views.{HoldSegments};
 
     ghost Value = { List SegmentView };
 
@@ -184,8 +184,8 @@ impl<'a> Image<'a> {
     }
 }
 
-/// The name in the 16 bytes at `offset` in a structure. It ends before the first zero byte, where
-/// there is one.
+// The name in the 16 bytes at `offset` in a structure. It ends before the first zero byte, where
+// there is one.
 pub(crate) fn short_name(image: Bytes, structure: u64, offset: u64) -> &[u8]
     requires { structure + offset + SHORT_NAME_SIZE ≤ length (bytes_of image) }
     ensures { result.now ≡ short_name (bytes_of image.entry) (structure + offset) }
@@ -200,7 +200,7 @@ pub(crate) fn short_name(image: Bytes, structure: u64, offset: u64) -> &[u8]
     }
 }
 
-/// The size in bytes of the name of a segment or a section.
+// The size in bytes of the name of a segment or a section.
 const SHORT_NAME_SIZE: u64 = 16;
 
 // The offsets of the fields in `segment_command_64`.

@@ -3,15 +3,15 @@
 use crate::command::{command_from, word_at};
 use crate::landmarks::Landmarks;
 use crate::rules::{has_bad_name, is_short};
-use crate::walk::{NCMDS, Opening, end_of_commands, next_command};
+use crate::walk::{Candidate, NCMDS, end_of_commands, next_command};
 use macho_fields::header::loader::MACH_HEADER_64_SIZE;
 use macho_fields::{Break, FirstPlace, Rule, structure_of};
 
-/// What the walk has found of the commands that it has passed: the first that breaks each rule of
-/// listed commands, and where those are that views look for.
+// What the walk has found of the commands that it has passed: the first that breaks each rule of
+// listed commands, and where those are that views look for.
 #[derive(Clone, Copy)]
 pub(crate) struct Survey<'a> {
-    opening: Opening<'a>,
+    candidate: Candidate<'a>,
     pub(crate) landmarks: Landmarks,
     command_short: FirstPlace,
     command_repeated: FirstPlace,
@@ -24,15 +24,15 @@ impl<'a> Survey<'a> {
     ghost use Rattle.macho_fields.specs.First.{rank};
     ghost use Rattle.macho_fields.specs.Layers.{KeptBelow, Continues};
     ghost use Rattle.macho_fields.specs.declared.rule.Rule.{Rule};
-    ghost use Rattle.macho_image.specs.Scaffold.{breaks_of, CanPass, HasPassed, HasPassedAll};
+    ghost use Rattle.macho_image.specs.Walk.{breaks_of, CanPass, HasPassed, HasPassedAll};
 
-    /// No command is passed.
-    pub(crate) fn new(opening: Opening<'a>) -> Survey<'a>
-        ensures opening { result.opening ≡ opening.entry }
+    // No command is passed.
+    pub(crate) fn new(candidate: Candidate<'a>) -> Survey<'a>
+        ensures candidate { result.candidate ≡ candidate.entry }
         ensures passed { HasPassed result 0 }
     {
         Survey {
-            opening,
+            candidate,
             landmarks: Landmarks::new(),
             command_short: FirstPlace::none(),
             command_repeated: FirstPlace::none(),
@@ -40,16 +40,16 @@ impl<'a> Survey<'a> {
         }
     }
 
-    /// The rule `command-walk`: `ncmds` commands follow one another within the `sizeofcmds` bytes.
-    /// Each of them is passed.
+    // The rule `command-walk`: `ncmds` commands follow one another within the `sizeofcmds` bytes.
+    // Each of them is passed.
     pub(crate) fn command_walk(&mut self) -> Result<(), Break>
         requires passed { HasPassed self.old 0 }
-        requires kept { KeptBelow (breaks_of self.old.opening) (rank Rule.CommandWalk) }
-        ensures decides { Continues (breaks_of self.old.opening) Rule.CommandWalk result }
-        ensures opening { self.new.opening ≡ self.old.opening }
+        requires kept { KeptBelow (breaks_of self.old.candidate) (rank Rule.CommandWalk) }
+        ensures decides { Continues (breaks_of self.old.candidate) Rule.CommandWalk result }
+        ensures candidate { self.new.candidate ≡ self.old.candidate }
         ensures passed { OnOk result (HasPassedAll self.new) }
     {
-        let image = self.opening.bytes;
+        let image = self.candidate.bytes;
         let end = end_of_commands(image);
         let mut place = MACH_HEADER_64_SIZE;
         for index in 0..word_at(image, NCMDS) {
@@ -62,15 +62,15 @@ impl<'a> Survey<'a> {
         Ok(())
     }
 
-    /// Passes the command at `place`, which has this index, from 0 on.
+    // Passes the command at `place`, which has this index, from 0 on.
     fn pass(&mut self, place: u64, index: u32)
         requires next { CanPass self.old index place }
         requires fits { index + 1 < 2 ^ 32 }
         requires passed { HasPassed self.old index }
-        ensures opening { self.new.opening ≡ self.old.opening }
+        ensures candidate { self.new.candidate ≡ self.old.candidate }
         ensures passed { HasPassed self.new (index + 1) }
     {
-        let command = command_from(self.opening.bytes, place);
+        let command = command_from(self.candidate.bytes, place);
         let Some(structure) = structure_of(command.cmd) else {
             return;
         };
@@ -84,30 +84,30 @@ impl<'a> Survey<'a> {
         }
     }
 
-    /// The rule `command-short`: no listed command is shorter than its structure and the records
-    /// after it.
+    // The rule `command-short`: no listed command is shorter than its structure and the records
+    // after it.
     pub(crate) fn command_short(&self) -> Result<(), Break>
         requires passed { HasPassedAll self.now }
-        requires kept { KeptBelow (breaks_of self.now.opening) (rank Rule.CommandShort) }
-        ensures { Continues (breaks_of self.now.opening) Rule.CommandShort result }
+        requires kept { KeptBelow (breaks_of self.now.candidate) (rank Rule.CommandShort) }
+        ensures { Continues (breaks_of self.now.candidate) Rule.CommandShort result }
     {
         self.command_short.judge(Rule::CommandShort)
     }
 
-    /// The rule `command-repeated`: no command of which an image has at most one is a second one.
+    // The rule `command-repeated`: no command of which an image has at most one is a second one.
     pub(crate) fn command_repeated(&self) -> Result<(), Break>
         requires passed { HasPassedAll self.now }
-        requires kept { KeptBelow (breaks_of self.now.opening) (rank Rule.CommandRepeated) }
-        ensures { Continues (breaks_of self.now.opening) Rule.CommandRepeated result }
+        requires kept { KeptBelow (breaks_of self.now.candidate) (rank Rule.CommandRepeated) }
+        ensures { Continues (breaks_of self.now.candidate) Rule.CommandRepeated result }
     {
         self.command_repeated.judge(Rule::CommandRepeated)
     }
 
-    /// The rule `name`: each name begins after the structure of its command, and ends in the command.
+    // The rule `name`: each name begins after the structure of its command, and ends in the command.
     pub(crate) fn name(&self) -> Result<(), Break>
         requires passed { HasPassedAll self.now }
-        requires kept { KeptBelow (breaks_of self.now.opening) (rank Rule.Name) }
-        ensures { Continues (breaks_of self.now.opening) Rule.Name result }
+        requires kept { KeptBelow (breaks_of self.now.candidate) (rank Rule.Name) }
+        ensures { Continues (breaks_of self.now.candidate) Rule.Name result }
     {
         self.name.judge(Rule::Name)
     }

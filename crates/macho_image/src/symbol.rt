@@ -86,7 +86,7 @@ impl<'a> Iterator for Symbols<'a> {
 impl<'a> Symbols<'a> {
     ghost use Rattle.std.specs.Prelude.{◌≡◌, take, drop};
 
-    /// Those whose indices are from `first` on, `count` of them, those that there are.
+    // Those whose indices are from `first` on, `count` of them, those that there are.
     fn range(&self, first: u64, count: u64) -> Symbols<'a>
         ensures { result ≡ take count (drop first self.now) }
     {
@@ -153,7 +153,7 @@ const DESC_OFFSET: u64 = 6;
 
 const VALUE_OFFSET: u64 = 8;
 
-/// The symbol at `place`.
+// The symbol at `place`.
 fn symbol_from(image: Bytes, place: u64) -> Symbol
     requires { place + NLIST_64_SIZE ≤ length (bytes_of image) }
     ensures { result ≡ symbol_at (bytes_of image.entry) place }

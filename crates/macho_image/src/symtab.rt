@@ -59,7 +59,7 @@ impl<'a> Image<'a> {
     }
 }
 
-/// The name at the offset `strx` in the strings.
+// The name at the offset `strx` in the strings.
 fn name_in<'a>(image: Bytes<'a>, symtab: Symtab, strx: u64) -> Option<&'a [u8]>
     ensures named { IsSome result ↔
         EndsInStrings (bytes_of image.entry) symtab.stroff symtab.strsize strx }
@@ -78,7 +78,7 @@ fn name_in<'a>(image: Bytes<'a>, symtab: Symtab, strx: u64) -> Option<&'a [u8]>
     image.string_in(Span { start, len })
 }
 
-/// The `symtab_command` at `place`.
+// The `symtab_command` at `place`.
 fn symtab_from(image: Bytes, place: u64) -> Symtab
     requires { place + structure_size SymtabCommand ≤ length (bytes_of image) }
     ensures { result ≡ symtab_at (bytes_of image.entry) place }

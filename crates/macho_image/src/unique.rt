@@ -3,8 +3,8 @@
 use crate::command::Command;
 use macho_fields::{UNIQUE_COUNT, unique_index};
 
-/// For each of these commands, at its `macho_fields::unique_index`, the place of the first one, or
-/// `None` where there is none.
+// For each of these commands, at its `macho_fields::unique_index`, the place of the first one, or
+// `None` where there is none.
 #[derive(Clone, Copy)]
 pub(crate) struct UniquePlaces {
     places: [Option<u64>; UNIQUE_COUNT],
@@ -15,9 +15,9 @@ impl UniquePlaces {
     ghost use Rattle.macho_fields.specs.Image.{command_cmd};
     ghost use Rattle.macho_fields.specs.LoadCommands.{IsUnique};
     ghost use Rattle.macho_image.specs.Command.{first_with_cmd};
-    ghost use Rattle.macho_image.specs.Scaffold.{AreFirst};
+    ghost use Rattle.macho_image.specs.Walk.{AreFirst};
 
-    /// The places where no command was noted.
+    // The places where no command was noted.
     pub(crate) fn new() -> UniquePlaces
         ensures { (image : List ℕ) → AreFirst image [] result }
     {
@@ -26,7 +26,7 @@ impl UniquePlaces {
         }
     }
 
-    /// The place of the first command with this `cmd` that was noted.
+    // The place of the first command with this `cmd` that was noted.
     pub(crate) fn of(&self, cmd: u32) -> Option<u64>
         ensures unique { (image commands : List ℕ) → AreFirst image commands self.now
             → IsUnique cmd → result ≡ first_with_cmd image cmd commands }
@@ -36,8 +36,8 @@ impl UniquePlaces {
         self.places[index]
     }
 
-    /// Notes a command that comes after those noted before. Returns whether it is a second one of
-    /// which an image has at most one.
+    // Notes a command that comes after those noted before. Returns whether it is a second one of
+    // which an image has at most one.
     pub(crate) fn note(&mut self, command: Command) -> bool
         ensures first { (image commands : List ℕ)
             → command.entry.cmd ≡ command_cmd image command.entry.place

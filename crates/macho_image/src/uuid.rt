@@ -28,12 +28,12 @@ impl<'a> Image<'a> {
     }
 }
 
-/// The offset of the field `uuid` in `uuid_command`, and its size in bytes.
+// The offset of the field `uuid` in `uuid_command`, and its size in bytes.
 const UUID: u64 = 8;
 
 const UUID_SIZE: u64 = 16;
 
-/// The UUID of the `uuid_command` at `place`.
+// The UUID of the `uuid_command` at `place`.
 fn uuid_from(image: Bytes, place: u64) -> [u8; 16]
     requires { place + structure_size UuidCommand ≤ length (bytes_of image) }
     ensures { result ≡ uuid_at (bytes_of image.entry) place }

@@ -9,7 +9,7 @@ ghost use Rattle.macho_fields.specs.Image.{file_type as header_file_type, cpu_ty
 ghost use Rattle.macho_fields.specs.Layers.{KeptBelow, Continues};
 ghost use Rattle.macho_fields.specs.Universal.{masked};
 ghost use Rattle.macho_fields.specs.declared.rule.Rule.{Rule};
-ghost use Rattle.macho_image.specs.Scaffold.{breaks_of};
+ghost use Rattle.macho_image.specs.Walk.{breaks_of};
 
 use crate::command::{CMDSIZE, Commands, word_at};
 use macho_fields::header::loader::{LOAD_COMMAND_SIZE, MACH_HEADER_64_SIZE};
@@ -27,15 +27,15 @@ pub(crate) const NCMDS: u64 = 16;
 
 const SIZEOFCMDS: u64 = 20;
 
-/// What is opened: the bytes of an image, and the `cputype` and the `cpusubtype` that a universal
-/// file gives for it.
+// What may be opened: the bytes of an image, and the `cputype` and the `cpusubtype` that a universal
+// file gives for it.
 #[derive(Clone, Copy)]
-pub(crate) struct Opening<'a> {
+pub(crate) struct Candidate<'a> {
     pub(crate) bytes: Bytes<'a>,
     pub(crate) arch: Option<(u32, u32)>,
 }
 
-impl<'a> Opening<'a> {
+impl<'a> Candidate<'a> {
     ghost use Rattle.std.specs.Prelude.{◌≡◌, map};
     ghost use Rattle.macho_fields.specs.Bytes.{bytes_of};
     ghost use Rattle.macho_fields.specs.First.{rank};
@@ -43,9 +43,9 @@ impl<'a> Opening<'a> {
     ghost use Rattle.macho_fields.specs.Layers.{KeptBelow};
     ghost use Rattle.macho_fields.specs.declared.rule.Rule.{Rule};
     ghost use Rattle.macho_image.specs.Command.{command_at};
-    ghost use Rattle.macho_image.specs.Scaffold.{breaks_of};
+    ghost use Rattle.macho_image.specs.Walk.{breaks_of};
 
-    /// The load commands, in the order of the file.
+    // The load commands, in the order of the file.
     pub(crate) fn commands(self) -> Commands<'a>
         requires { KeptBelow (breaks_of self) (rank Rule.CommandShort) }
         ensures { result ≡ map (command_at (bytes_of self.entry.bytes))
@@ -59,32 +59,32 @@ impl<'a> Opening<'a> {
     }
 }
 
-/// The rule `header-truncated`: the bytes hold a `mach_header_64`.
-pub(crate) fn header_truncated(opening: Opening) -> Result<(), Break>
-    ensures { Continues (breaks_of opening.entry) Rule.HeaderTruncated result }
+// The rule `header-truncated`: the bytes hold a `mach_header_64`.
+pub(crate) fn header_truncated(candidate: Candidate) -> Result<(), Break>
+    ensures { Continues (breaks_of candidate.entry) Rule.HeaderTruncated result }
 {
-    if opening.bytes.len() < MACH_HEADER_64_SIZE {
+    if candidate.bytes.len() < MACH_HEADER_64_SIZE {
         return Err(Break::at(Rule::HeaderTruncated, 0));
     }
     Ok(())
 }
 
-/// The rule `arch-mismatch`: the header has the `cputype` and the masked `cpusubtype` of the
-/// universal file, where there is one.
-pub(crate) fn arch_mismatch(opening: Opening) -> Result<(), Break>
-    requires { KeptBelow (breaks_of opening) (rank Rule.ArchMismatch) }
-    ensures { Continues (breaks_of opening.entry) Rule.ArchMismatch result }
+// The rule `arch-mismatch`: the header has the `cputype` and the masked `cpusubtype` of the
+// universal file, where there is one.
+pub(crate) fn arch_mismatch(candidate: Candidate) -> Result<(), Break>
+    requires { KeptBelow (breaks_of candidate) (rank Rule.ArchMismatch) }
+    ensures { Continues (breaks_of candidate.entry) Rule.ArchMismatch result }
 {
-    let Some((cputype, cpusubtype)) = opening.arch else {
+    let Some((cputype, cpusubtype)) = candidate.arch else {
         return Ok(());
     };
-    if !has_arch(opening.bytes, cputype, cpusubtype) {
+    if !has_arch(candidate.bytes, cputype, cpusubtype) {
         return Err(Break::at(Rule::ArchMismatch, CPUTYPE));
     }
     Ok(())
 }
 
-/// Whether the header has this `cputype` and this `cpusubtype`, but for the capability bits.
+// Whether the header has this `cputype` and this `cpusubtype`, but for the capability bits.
 fn has_arch(image: Bytes, cputype: u32, cpusubtype: u32) -> bool
     requires { MACH_HEADER_64_SIZE ≤ length (bytes_of image) }
     ensures { IsTrue result ↔ (cputype ≡ cpu_type (bytes_of image.entry))
@@ -93,7 +93,7 @@ fn has_arch(image: Bytes, cputype: u32, cpusubtype: u32) -> bool
     (cputype, cpusubtype & !CPU_SUBTYPE_MASK) == arch_of(image)
 }
 
-/// The `cputype` of the header, and its `cpusubtype` without the capability bits.
+// The `cputype` of the header, and its `cpusubtype` without the capability bits.
 pub(crate) fn arch_of(image: Bytes) -> (u32, u32)
     requires { MACH_HEADER_64_SIZE ≤ length (bytes_of image) }
     ensures cpu_type { result.0 ≡ cpu_type (bytes_of image.entry) }
@@ -105,12 +105,12 @@ pub(crate) fn arch_of(image: Bytes) -> (u32, u32)
     )
 }
 
-/// The rule `file-type`: the image is of a type that is judged.
-pub(crate) fn file_type(opening: Opening) -> Result<(), Break>
-    requires { KeptBelow (breaks_of opening) (rank Rule.FileType) }
-    ensures { Continues (breaks_of opening.entry) Rule.FileType result }
+// The rule `file-type`: the image is of a type that is judged.
+pub(crate) fn file_type(candidate: Candidate) -> Result<(), Break>
+    requires { KeptBelow (breaks_of candidate) (rank Rule.FileType) }
+    ensures { Continues (breaks_of candidate.entry) Rule.FileType result }
 {
-    match file_type_of(word_at(opening.bytes, FILETYPE)) {
+    match file_type_of(word_at(candidate.bytes, FILETYPE)) {
         Some(_) => Ok(()),
         None => Err(Break::at(Rule::FileType, FILETYPE)),
     }
@@ -125,18 +125,18 @@ pub(crate) fn listed_file_type(image: Bytes) -> FileType
     file_type_of(word_at(image, FILETYPE)).unwrap()
 }
 
-/// The rule `commands-outside`: the commands end inside the image.
-pub(crate) fn commands_outside(opening: Opening) -> Result<(), Break>
-    requires { KeptBelow (breaks_of opening) (rank Rule.CommandsOutside) }
-    ensures { Continues (breaks_of opening.entry) Rule.CommandsOutside result }
+// The rule `commands-outside`: the commands end inside the image.
+pub(crate) fn commands_outside(candidate: Candidate) -> Result<(), Break>
+    requires { KeptBelow (breaks_of candidate) (rank Rule.CommandsOutside) }
+    ensures { Continues (breaks_of candidate.entry) Rule.CommandsOutside result }
 {
-    if end_of_commands(opening.bytes) > opening.bytes.len() {
+    if end_of_commands(candidate.bytes) > candidate.bytes.len() {
         return Err(Break::at(Rule::CommandsOutside, SIZEOFCMDS));
     }
     Ok(())
 }
 
-/// The offset just past the `sizeofcmds` bytes of the commands.
+// The offset just past the `sizeofcmds` bytes of the commands.
 pub(crate) fn end_of_commands(image: Bytes) -> u64
     requires { MACH_HEADER_64_SIZE ≤ length (bytes_of image) }
     ensures end { result ≡ commands_end (bytes_of image.entry) }
@@ -145,7 +145,7 @@ pub(crate) fn end_of_commands(image: Bytes) -> u64
     MACH_HEADER_64_SIZE + u64::from(word_at(image, SIZEOFCMDS))
 }
 
-/// The offset just past the command at `place`, or `None` where no command can be there.
+// The offset just past the command at `place`, or `None` where no command can be there.
 pub(crate) fn next_command(image: Bytes, place: u64, end: u64) -> Option<u64>
     requires end { end ≡ commands_end (bytes_of image) }
     requires inside { end ≤ length (bytes_of image) }

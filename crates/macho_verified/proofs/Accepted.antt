@@ -21,7 +21,7 @@ use Rattle.macho_image.specs.declared.symbol.Symbol.{Symbol}
 use Rattle.macho_image.specs.Segment.{SegmentView, segment_at, SectionView, section_at, sections_with, sections_of}
 use Rattle.macho_rules.proofs.Searches.{Rising}
 use Rattle.macho_verified.specs.Image.{symbol_view}
-use Rattle.macho_verified.specs.Scaffold.{IsUnbrokenImage, IsAccepted, IsVerifiedSegment, IsVerifiedSection, IsVerifiedSymbol, strings}
+use Rattle.macho_verified.specs.Accepted.{IsUnbrokenImage, IsAccepted, IsVerifiedSegment, IsVerifiedSection, IsVerifiedSymbol, strings}
 
 pub accepted : (image : List ℕ) → NothingBreaks (BreaksImage image None) → IsSoundImage image (commands_of image) → IsAccepted image
 unfolding IsAccepted

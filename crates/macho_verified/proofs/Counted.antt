@@ -23,7 +23,7 @@ use Rattle.macho_rules.proofs.Judged.{keeps_opened, opened_commands}
 use Rattle.macho_rules.proofs.OneCommand.{is_with_cmd, symbols_counted}
 use Rattle.macho_rules.proofs.TableItems.{table_inside, in_items}
 use Rattle.macho_verified.specs.Image.{SymbolView, symbol_view, IndirectView, indirect_view}
-use Rattle.macho_verified.specs.Scaffold.{IsUnbrokenImage, IsAccepted, IsVerifiedIndirect}
+use Rattle.macho_verified.specs.Accepted.{IsUnbrokenImage, IsAccepted, IsVerifiedIndirect}
 
 -- a table that is not outside has all its items
 items_counted : (image : List ℕ) (start each n : ℕ) → ¬ IsOutside image (start, n, each) → length (items_inside image start each n) ≡ n

@@ -14,7 +14,7 @@ use Rattle.macho_image.specs.Command.{first_with_cmd}
 use Rattle.macho_rules.proofs.OneCommand.{is_with_cmd}
 use Rattle.macho_rules.proofs.Searches.{any_of}
 use Rattle.macho_verified.specs.Image.{dataoff, datasize}
-use Rattle.macho_verified.specs.Scaffold.{IsAccepted, HasData}
+use Rattle.macho_verified.specs.Accepted.{IsAccepted, HasData}
 use Rattle.macho_verified.proofs.Accepted.{accepted_sound, range_inside}
 
 -- The first command of a kind whose structure is linkedit_data_command

@@ -15,7 +15,7 @@ use Rattle.macho_rules.proofs.OneCommand.{is_with_cmd}
 use Rattle.macho_rules.proofs.Searches.{any_of}
 use Rattle.macho_rules.proofs.Verdicts.{unbroken_opened}
 use Rattle.macho_verified.specs.Image.{SymbolView, symbol_view, symbol_group}
-use Rattle.macho_verified.specs.Scaffold.{IsAccepted, group_bounds}
+use Rattle.macho_verified.specs.Accepted.{IsAccepted, group_bounds}
 use Rattle.macho_verified.proofs.Accepted.{accepted_unbroken}
 use Rattle.macho_verified.proofs.Counted.{symbols_are_counted}
 

@@ -12,7 +12,7 @@ impl<'a> VerifiedImage<'a> {
     ghost use Rattle.macho_image.specs.Command.{first_with_cmd};
     ghost use Rattle.macho_image.specs.Symbol.{symbols_of};
     ghost use Rattle.macho_verified.specs.Image.{symbol_view, symbol_group};
-    ghost use Rattle.macho_verified.specs.Scaffold.{IsAccepted};
+    ghost use Rattle.macho_verified.specs.Accepted.{IsAccepted};
 
     /// The local symbols: the `nlocalsym` symbols from the index `ilocalsym` on. None where the
     /// image has no `LC_DYSYMTAB`.

@@ -16,7 +16,7 @@ pub struct VerifiedImage<'a> {
 
 impl<'a> Model for VerifiedImage<'a> {
     ghost use Rattle.std.specs.Prelude.{List, ℕ};
-    ghost use Rattle.macho_verified.specs.Scaffold.{IsAccepted};
+    ghost use Rattle.macho_verified.specs.Accepted.{IsAccepted};
 
     ghost Value = { List ℕ };
 

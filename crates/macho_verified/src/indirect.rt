@@ -16,7 +16,7 @@ pub struct VerifiedIndirect<'i, 'a> {
 
 impl<'i, 'a> Model for VerifiedIndirect<'i, 'a> {
     ghost use Rattle.macho_verified.specs.Image.{IndirectView, indirect_view};
-    ghost use Rattle.macho_verified.specs.Scaffold.{IsVerifiedIndirect};
+    ghost use Rattle.macho_verified.specs.Accepted.{IsVerifiedIndirect};
 
     ghost Value = { IndirectView };
 
@@ -64,7 +64,7 @@ pub struct VerifiedIndirects<'i, 'a> {
 impl<'i, 'a> Model for VerifiedIndirects<'i, 'a> {
     ghost use Rattle.std.specs.Prelude.{List, All, map};
     ghost use Rattle.macho_verified.specs.Image.{IndirectView, indirect_view};
-    ghost use Rattle.macho_verified.specs.Scaffold.{IsVerifiedIndirect};
+    ghost use Rattle.macho_verified.specs.Accepted.{IsVerifiedIndirect};
 
     ghost Value = { List IndirectView };
 

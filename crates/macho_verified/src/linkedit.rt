@@ -8,7 +8,7 @@ ghost use Rattle.macho_fields.specs.LoadCommands.{structure_of, structure_size};
 ghost use Rattle.macho_fields.specs.declared.load_command.Structure.TheVariants.{LinkeditDataCommand};
 ghost use Rattle.macho_image.specs.Command.{first_with_cmd};
 ghost use Rattle.macho_verified.specs.Image.{dataoff, datasize};
-ghost use Rattle.macho_verified.specs.Scaffold.{HasData};
+ghost use Rattle.macho_verified.specs.Accepted.{HasData};
 
 use crate::data::data_in;
 use crate::image::VerifiedImage;

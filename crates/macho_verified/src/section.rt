@@ -15,7 +15,7 @@ pub struct VerifiedSection<'a> {
 impl<'a> Model for VerifiedSection<'a> {
     ghost use Rattle.macho_fields.specs.Bytes.{bytes_of};
     ghost use Rattle.macho_image.specs.Segment.{SectionView};
-    ghost use Rattle.macho_verified.specs.Scaffold.{IsVerifiedSection};
+    ghost use Rattle.macho_verified.specs.Accepted.{IsVerifiedSection};
 
     ghost Value = { SectionView };
 
@@ -68,7 +68,7 @@ impl<'a> Model for VerifiedSections<'a> {
     ghost use Rattle.std.specs.Prelude.{List, All};
     ghost use Rattle.macho_fields.specs.Bytes.{bytes_of};
     ghost use Rattle.macho_image.specs.Segment.{SectionView};
-    ghost use Rattle.macho_verified.specs.Scaffold.{IsVerifiedSection};
+    ghost use Rattle.macho_verified.specs.Accepted.{IsVerifiedSection};
 
     ghost Value = { List SectionView };
 

@@ -16,7 +16,7 @@ pub struct VerifiedSegment<'a> {
 impl<'a> Model for VerifiedSegment<'a> {
     ghost use Rattle.macho_fields.specs.Bytes.{bytes_of};
     ghost use Rattle.macho_image.specs.Segment.{SegmentView};
-    ghost use Rattle.macho_verified.specs.Scaffold.{IsVerifiedSegment};
+    ghost use Rattle.macho_verified.specs.Accepted.{IsVerifiedSegment};
 
     ghost Value = { SegmentView };
 
@@ -91,7 +91,7 @@ impl<'a> Model for VerifiedSegments<'a> {
     ghost use Rattle.std.specs.Prelude.{List, All};
     ghost use Rattle.macho_fields.specs.Bytes.{bytes_of};
     ghost use Rattle.macho_image.specs.Segment.{SegmentView};
-    ghost use Rattle.macho_verified.specs.Scaffold.{IsVerifiedSegment};
+    ghost use Rattle.macho_verified.specs.Accepted.{IsVerifiedSegment};
 
     ghost Value = { List SegmentView };
 

@@ -4,7 +4,7 @@ ghost use Rattle.std.specs.Prelude.{◌≡◌, ◌+◌};
 ghost use Rattle.macho_fields.specs.Bytes.{bytes_of};
 ghost use Rattle.macho_fields.specs.Field.{string_from, HasZero};
 ghost use Rattle.macho_fields.specs.Span.{end_of};
-ghost use Rattle.macho_verified.specs.Scaffold.{strings};
+ghost use Rattle.macho_verified.specs.Accepted.{strings};
 
 use macho_fields::{Bytes, Span};
 use macho_image::{Image, Symbol, Symbols};
@@ -21,7 +21,7 @@ pub struct VerifiedSymbol<'a> {
 impl<'a> Model for VerifiedSymbol<'a> {
     ghost use Rattle.macho_fields.specs.Bytes.{bytes_of};
     ghost use Rattle.macho_verified.specs.Image.{SymbolView, symbol_view};
-    ghost use Rattle.macho_verified.specs.Scaffold.{IsVerifiedSymbol};
+    ghost use Rattle.macho_verified.specs.Accepted.{IsVerifiedSymbol};
 
     ghost Value = { SymbolView };
 
@@ -83,7 +83,7 @@ impl<'a> Model for VerifiedSymbols<'a> {
     ghost use Rattle.std.specs.Prelude.{List, All, map};
     ghost use Rattle.macho_fields.specs.Bytes.{bytes_of};
     ghost use Rattle.macho_verified.specs.Image.{SymbolView, symbol_view};
-    ghost use Rattle.macho_verified.specs.Scaffold.{IsVerifiedSymbol};
+    ghost use Rattle.macho_verified.specs.Accepted.{IsVerifiedSymbol};
 
     ghost Value = { List SymbolView };
 

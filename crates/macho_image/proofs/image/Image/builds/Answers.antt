@@ -2,7 +2,7 @@ use Rattle.std.proofs.Common.{◌∙◌, refl, ap, sym, subst}
 use Rattle.macho_fields.specs.declared.header.loader.TheConstants as loader
 use Rattle.macho_fields.specs.declared.load_command.Structure.TheVariants.{BuildVersionCommand}
 use Rattle.macho_image.specs.Build.{build_at, builds_left}
-use Rattle.macho_image.specs.Scaffold.{HoldBuilds}
+use Rattle.macho_image.specs.Views.{HoldBuilds}
 use Rattle.macho_image.proofs.Kept.{all_inside, all_seen}
 use Rattle.macho_image.proofs.image.Image.builds.Goals as goal
 

@@ -5,7 +5,7 @@ use Rattle.macho_fields.specs.declared.rule.Rule.TheVariants as rule
 use Rattle.macho_image.specs.Command.{command_at}
 use Rattle.macho_image.specs.Opened.{IsOpened}
 use Rattle.macho_image.proofs.Opened.{opened_below}
-use Rattle.macho_image.proofs.Opening.{kept_less}
+use Rattle.macho_image.proofs.KeptRules.{kept_less}
 use Rattle.macho_image.proofs.image.Image.commands.Goals as goal
 
 pub commands-requires : goal.commands-requires

@@ -1,7 +1,8 @@
 use Rattle.std.proofs.Common.{subst}
 use Rattle.macho_fields.specs.Bytes.{bytes_of}
 use Rattle.macho_image.specs.Command.{commands_left}
-use Rattle.macho_image.specs.Scaffold.{HaveSegments, is_segment}
+use Rattle.macho_image.specs.Walk.{is_segment}
+use Rattle.macho_image.specs.Views.{HaveSegments}
 use Rattle.macho_image.proofs.NotedRange.{can_walk_range, have_segments}
 use Rattle.macho_image.proofs.image.Image.commands_with_segments.Goals as goal
 

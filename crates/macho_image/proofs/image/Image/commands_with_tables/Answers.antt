@@ -1,7 +1,7 @@
 use Rattle.std.proofs.Common.{subst}
 use Rattle.macho_fields.specs.Bytes.{bytes_of}
 use Rattle.macho_image.specs.Command.{commands_left}
-use Rattle.macho_image.specs.Scaffold.{names_table}
+use Rattle.macho_image.specs.Walk.{names_table}
 use Rattle.macho_image.specs.Table.{HaveTables}
 use Rattle.macho_image.proofs.NotedRange.{can_walk_range, have_tables}
 use Rattle.macho_image.proofs.image.Image.commands_with_tables.Goals as goal

@@ -1,6 +1,6 @@
 use Rattle.std.proofs.Common.{◌∙◌, ap, sym, subst}
 use Rattle.macho_image.specs.Library.{dylibs_left}
-use Rattle.macho_image.specs.Scaffold.{HoldLibraries}
+use Rattle.macho_image.specs.Views.{HoldLibraries}
 use Rattle.macho_image.proofs.Libraries.{all_hold, libraries_seen}
 use Rattle.macho_image.proofs.image.Image.dylibs.Goals as goal
 

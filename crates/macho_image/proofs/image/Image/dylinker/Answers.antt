@@ -3,7 +3,7 @@ use Rattle.std.specs.Option.{option_map}
 use Rattle.macho_fields.specs.declared.header.loader.TheConstants as loader
 use Rattle.macho_fields.specs.declared.load_command.Structure.TheVariants.{DylinkerCommand}
 use Rattle.macho_image.specs.Command.{command_of, command_name}
-use Rattle.macho_image.specs.Scaffold.{HoldsName}
+use Rattle.macho_image.specs.Views.{HoldsName}
 use Rattle.macho_image.proofs.Kept.{first_place, no_first}
 use Rattle.macho_image.proofs.Named.{first_name_held}
 use Rattle.macho_image.proofs.image.Image.dylinker.Goals as goal

@@ -3,7 +3,7 @@ use Rattle.macho_fields.specs.declared.header.loader.TheConstants as loader
 use Rattle.macho_fields.specs.declared.load_command.Structure.TheVariants.{RpathCommand}
 use Rattle.macho_image.specs.Command.{command_name}
 use Rattle.macho_image.specs.Rpath.{rpaths_left}
-use Rattle.macho_image.specs.Scaffold.{HoldNames}
+use Rattle.macho_image.specs.Views.{HoldNames}
 use Rattle.macho_image.proofs.Kept.{all_seen}
 use Rattle.macho_image.proofs.Named.{all_names_held}
 use Rattle.macho_image.proofs.image.Image.rpaths.Goals as goal

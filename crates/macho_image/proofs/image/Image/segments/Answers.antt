@@ -2,7 +2,7 @@ use Rattle.std.proofs.Common.{◌∙◌, ap, map, sym, subst}
 use Rattle.macho_fields.specs.Image.{commands_of}
 use Rattle.macho_fields.specs.Segment.{segments_of}
 use Rattle.macho_image.specs.Segment.{segment_at, segments_left}
-use Rattle.macho_image.specs.Scaffold.{HoldSegments}
+use Rattle.macho_image.specs.Views.{HoldSegments}
 use Rattle.macho_image.proofs.HeldSegments.{all_segments_hold}
 use Rattle.macho_image.proofs.WithOneCmd.{map-places}
 use Rattle.macho_image.proofs.image.Image.segments.Goals as goal

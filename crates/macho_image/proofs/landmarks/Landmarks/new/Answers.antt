@@ -1,4 +1,4 @@
-use Rattle.macho_image.specs.Scaffold.{is_segment, names_table}
+use Rattle.macho_image.specs.Walk.{is_segment, names_table}
 use Rattle.macho_image.proofs.landmarks.Landmarks.new.Goals as goal
 
 pub returns : goal.returns

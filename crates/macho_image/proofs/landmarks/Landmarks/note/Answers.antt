@@ -1,6 +1,6 @@
 use Rattle.std.proofs.Common.{◌≡◌, ◌+◌, ℕ, List, not, ap, sym, subst, length, ◌==◌, ◌∙◌, Some}
 use Rattle.macho_fields.specs.Image.{command_cmd}
-use Rattle.macho_image.specs.Scaffold.{AreFirst, AreLandmarks, IsAt, IsRange, first_commands, is_segment, names_table}
+use Rattle.macho_image.specs.Walk.{AreFirst, AreLandmarks, IsAt, IsRange, first_commands, is_segment, names_table}
 use Rattle.macho_image.proofs.FirstWithCmd.{first_kept, segment_is_not_unique}
 use Rattle.macho_image.proofs.Noted.{fails_as_segment, names_by, passed_next, passes_as_segment, range_kept, range_noted, segment_names_none}
 use Rattle.macho_image.proofs.Repeated.{repeats_second}

@@ -3,11 +3,11 @@ use Rattle.macho_fields.specs.Bytes.{bytes_of}
 use Rattle.macho_fields.specs.First.{rank}
 use Rattle.macho_fields.specs.Image.{IsGood, command_cmd, command_count}
 use Rattle.macho_fields.specs.declared.rule.Rule.TheVariants as rule
-use Rattle.macho_image.specs.Scaffold.{AreLandmarks, IsAt}
+use Rattle.macho_image.specs.Walk.{AreLandmarks, IsAt}
 use Rattle.macho_image.proofs.Noted.{landmarks_kept, next_good}
 use Rattle.macho_image.proofs.Opened.{opened_below}
 use Rattle.macho_image.proofs.OpenedWalk.{opened_inside}
-use Rattle.macho_image.proofs.Opening.{has_header}
+use Rattle.macho_image.proofs.KeptRules.{has_header}
 use Rattle.macho_image.proofs.Places.{at_first, at_next}
 use Rattle.macho_image.proofs.landmarks.Landmarks.of.Goals as goal
 use Rattle.macho_image.proofs.landmarks.Landmarks.of.Goals.{After-structure_of, After-from-place, in-Some, in_default}

@@ -1,5 +1,5 @@
 use Rattle.macho_fields.specs.Bytes.{bytes_of}
-use Rattle.macho_image.specs.Scaffold.{AreLandmarks, IsAt}
+use Rattle.macho_image.specs.Walk.{AreLandmarks, IsAt}
 use Rattle.macho_image.proofs.landmarks.Landmarks.of.Given as goal
 
 -- the commands before this place are noted

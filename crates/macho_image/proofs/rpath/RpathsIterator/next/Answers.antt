@@ -1,5 +1,5 @@
 use Rattle.macho_fields.specs.Bytes.{bytes_of}
-use Rattle.macho_image.specs.Scaffold.{HoldsName}
+use Rattle.macho_image.specs.Views.{HoldsName}
 use Rattle.macho_image.proofs.WithOneCmd.{first_has, rest_has}
 use Rattle.macho_image.proofs.rpath.RpathsIterator.next.Goals as goal
 

@@ -1,5 +1,5 @@
 use Rattle.macho_fields.specs.Bytes.{bytes_of}
-use Rattle.macho_image.specs.Scaffold.{HoldsSegment}
+use Rattle.macho_image.specs.Views.{HoldsSegment}
 use Rattle.macho_image.proofs.WithOneCmd.{first_has, rest_has}
 use Rattle.macho_image.proofs.segment.SegmentsIterator.next.Goals as goal
 

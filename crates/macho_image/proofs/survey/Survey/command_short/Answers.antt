@@ -7,5 +7,5 @@ use Rattle.macho_image.proofs.survey.Survey.command_short.Goals as goal
 
 pub returns : goal.returns
 returns c =
-    let image = bytes_of c.args.self.now.opening.bytes in
-    judged image c.args.self.now.opening.arch rule.CommandShort (IsShort image) (λ _ h. h) (omega arith) (λ _ h. h) (λ _ h. h) c.requires.kept _ c.judge.result c.requires.passed.short c.judge.ensures
+    let image = bytes_of c.args.self.now.candidate.bytes in
+    judged image c.args.self.now.candidate.arch rule.CommandShort (IsShort image) (λ _ h. h) (omega arith) (λ _ h. h) (λ _ h. h) c.requires.kept _ c.judge.result c.requires.passed.short c.judge.ensures

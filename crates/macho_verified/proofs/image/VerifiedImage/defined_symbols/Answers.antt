@@ -2,7 +2,7 @@ use Rattle.std.proofs.Common.{◌≡◌, refl, rules}
 use Rattle.macho_fields.specs.Symbol.{iextdefsym, nextdefsym}
 use Rattle.macho_image.specs.declared.dysymtab.Dysymtab.{Dysymtab}
 use Rattle.macho_rules.proofs.Groups.{defined_listed}
-use Rattle.macho_verified.specs.Scaffold.{group_bounds}
+use Rattle.macho_verified.specs.Accepted.{group_bounds}
 use Rattle.macho_verified.proofs.SymbolGroups.{bounds_read, group_read, group_whole}
 use Rattle.macho_verified.proofs.image.VerifiedImage.defined_symbols.Goals as goal
 use Rattle.macho_verified.proofs.image.VerifiedImage.defined_symbols.Goals.{After-symbol_group}

@@ -1,5 +1,5 @@
 use Rattle.std.proofs.Common.{subst}
-use Rattle.macho_verified.specs.Scaffold.{IsAccepted}
+use Rattle.macho_verified.specs.Accepted.{IsAccepted}
 use Rattle.macho_verified.proofs.Accepted.{accepted_unbroken, accepted_sound}
 use Rattle.macho_verified.proofs.image.VerifiedImage.image.Goals as goal
 

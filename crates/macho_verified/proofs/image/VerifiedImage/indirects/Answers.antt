@@ -3,7 +3,7 @@ use Rattle.macho_fields.specs.Image.{commands_of}
 use Rattle.macho_image.specs.Symbol.{indirects_of}
 use Rattle.macho_image.specs.declared.indirect.Indirect.{Indirect}
 use Rattle.macho_verified.specs.Image.{indirect_view}
-use Rattle.macho_verified.specs.Scaffold.{IsAccepted, IsVerifiedIndirect}
+use Rattle.macho_verified.specs.Accepted.{IsAccepted, IsVerifiedIndirect}
 use Rattle.macho_verified.proofs.Counted.{indirects_hold, indirects_whole, indirect_views_of}
 use Rattle.macho_verified.proofs.image.VerifiedImage.indirects.Goals as goal
 

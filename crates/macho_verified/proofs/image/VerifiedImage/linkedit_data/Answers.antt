@@ -4,7 +4,7 @@ use Rattle.macho_fields.specs.Image.{commands_of}
 use Rattle.macho_image.specs.Command.{command_of, first_with_cmd}
 use Rattle.macho_image.proofs.Kept.{first_place}
 use Rattle.macho_verified.specs.Image.{dataoff, datasize}
-use Rattle.macho_verified.specs.Scaffold.{HasData}
+use Rattle.macho_verified.specs.Accepted.{HasData}
 use Rattle.macho_verified.proofs.LinkeditData.{fields_inside, data_inside}
 use Rattle.macho_verified.proofs.image.VerifiedImage.linkedit_data.Goals as goal
 

@@ -2,7 +2,7 @@ use Rattle.std.proofs.Common.{◌≡◌, ◌∙◌, ◌-◌, ℕ, List, map, Som
 use Rattle.std.proofs.lemmas.Iterator.Consumers.{nth_from_yields_List, YieldsList-from_first}
 use Rattle.macho_fields.specs.Image.{commands_of}
 use Rattle.macho_image.specs.Segment.{SectionView, section_at, sections_of}
-use Rattle.macho_verified.specs.Scaffold.{IsVerifiedSection}
+use Rattle.macho_verified.specs.Accepted.{IsVerifiedSection}
 use Rattle.macho_verified.proofs.Accepted.{all_sections_hold, got_has, nth_is}
 use Rattle.macho_verified.proofs.image.VerifiedImage.section.Goals as goal
 

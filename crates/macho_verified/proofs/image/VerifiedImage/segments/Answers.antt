@@ -1,5 +1,5 @@
 use Rattle.std.proofs.Common.{All, List, ℕ, sym, subst, rules}
-use Rattle.macho_verified.specs.Scaffold.{IsVerifiedSegment}
+use Rattle.macho_verified.specs.Accepted.{IsVerifiedSegment}
 use Rattle.macho_verified.proofs.Accepted.{segments_hold}
 use Rattle.macho_verified.proofs.image.VerifiedImage.segments.Goals as goal
 

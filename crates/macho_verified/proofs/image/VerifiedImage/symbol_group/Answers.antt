@@ -5,7 +5,7 @@ use Rattle.macho_fields.specs.declared.span.Span.{Span}
 use Rattle.macho_image.specs.Symbol.{symbols_of}
 use Rattle.macho_image.specs.declared.symbol.Symbol.{Symbol}
 use Rattle.macho_verified.specs.Image.{symbol_view}
-use Rattle.macho_verified.specs.Scaffold.{IsAccepted, IsVerifiedSymbol}
+use Rattle.macho_verified.specs.Accepted.{IsAccepted, IsVerifiedSymbol}
 use Rattle.macho_verified.proofs.Accepted.{range_holds, views_of}
 use Rattle.macho_verified.proofs.image.VerifiedImage.symbol_group.Goals as goal
 

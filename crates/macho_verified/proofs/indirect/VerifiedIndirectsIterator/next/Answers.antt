@@ -1,4 +1,4 @@
-use Rattle.macho_verified.specs.Scaffold.{IsVerifiedIndirect}
+use Rattle.macho_verified.specs.Accepted.{IsVerifiedIndirect}
 use Rattle.macho_verified.proofs.Accepted.{rest_has}
 use Rattle.macho_verified.proofs.indirect.VerifiedIndirectsIterator.next.Goals as goal
 

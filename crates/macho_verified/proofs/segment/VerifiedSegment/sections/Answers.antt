@@ -1,6 +1,6 @@
 use Rattle.std.proofs.Common.{All, sym, subst, rules}
 use Rattle.macho_fields.specs.Bytes.{bytes_of}
-use Rattle.macho_verified.specs.Scaffold.{IsVerifiedSection}
+use Rattle.macho_verified.specs.Accepted.{IsVerifiedSection}
 use Rattle.macho_verified.proofs.Accepted.{sections_hold}
 use Rattle.macho_verified.proofs.segment.VerifiedSegment.sections.Goals as goal
 

@@ -1,5 +1,5 @@
 use Rattle.macho_fields.specs.Bytes.{bytes_of}
-use Rattle.macho_verified.specs.Scaffold.{IsVerifiedSymbol}
+use Rattle.macho_verified.specs.Accepted.{IsVerifiedSymbol}
 use Rattle.macho_verified.proofs.Accepted.{rest_has}
 use Rattle.macho_verified.proofs.symbol.VerifiedSymbolsIterator.next.Goals as goal
 
