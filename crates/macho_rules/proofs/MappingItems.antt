@@ -27,9 +27,9 @@ use Rattle.macho_rules.specs.Mapping.{source_past, source_from, sources_in, Give
 use Rattle.macho_rules.specs.Scaffold.{numbered_memory, file_at, FitsFile}
 use Rattle.macho_rules.specs.declared.mapping.FilePart.{FilePart}
 use Rattle.macho_rules.proofs.Judged.{opened_commands}
-use Rattle.macho_rules.proofs.Mapped.{mapped_rise, mapped_among, among_mapped, mapped_positive, ordered_at}
+use Rattle.macho_rules.proofs.Mapped.{mapped_rise, mapped_among, among_mapped, mapped_positive}
 use Rattle.macho_rules.proofs.Memory.{none_holds, one_holds}
-use Rattle.macho_rules.proofs.Searches.{any_of}
+use Rattle.macho_rules.proofs.Searches.{any_of, ordered_at}
 
 -- The spans of a mapping
 

@@ -18,8 +18,8 @@ use Rattle.macho_rules.specs.Mapped.{mapped_segments, memory_at, mapped_memory, 
 use Rattle.macho_rules.specs.Verdict.{HasMapped, IsImageRefusal}
 use Rattle.macho_rules.specs.declared.refusal.Refusal.{Refusal}
 use Rattle.macho_rules.specs.declared.refusal.Refusal.TheVariants as refusal
-use Rattle.macho_rules.proofs.Mapped.{mapped_rise, mapped_among, among_mapped, mapped_some, ordered_at}
-use Rattle.macho_rules.proofs.Searches.{any_of}
+use Rattle.macho_rules.proofs.Mapped.{mapped_rise, mapped_among, among_mapped, mapped_some}
+use Rattle.macho_rules.proofs.Searches.{any_of, ordered_at}
 use Rattle.macho_rules.proofs.SegmentItems.{Overlaps}
 
 module _ (image : List ℕ) (opened : IsOpened image) where

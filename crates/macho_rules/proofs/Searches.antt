@@ -1,9 +1,9 @@
 -- A search for the first item that breaks a rule, over items whose places do not fall.
-use Rattle.std.proofs.Common.{◌≡◌, ℕ, suc, zero, ◌+◌, ◌≤◌, ◌<◌, ◌⊎◌, List, [], ◌∷◌, ◌++◌, map, filter, Any, Bool, Contains, sym, subst, arith, inl, inr, le_refl}
+use Rattle.std.proofs.Common.{◌≡◌, ℕ, suc, zero, ◌+◌, ◌≤◌, ◌<◌, ◌⊎◌, List, [], ◌∷◌, ◌++◌, map, filter, get_or, length, Any, Bool, Contains, sym, subst, arith, inl, inr, le_refl}
 use Rattle.std.specs.Prelude.{⊤}
 use Rattle.std.specs.List.{range_with_len}
 use Rattle.std.proofs.lemmas.Bool.{cases_Bool, cases_eq}
-use Rattle.std.proofs.lemmas.List.Elements.{Contains-append_cases, Contains-append_left, All-contains, All-filter, All-contains_itself}
+use Rattle.std.proofs.lemmas.List.Elements.{Contains-append_cases, Contains-append_left, All-contains, All-filter, All-contains_itself, Contains-get_or}
 use Rattle.macho_fields.proofs.FirstPlaces.{AreBreaks}
 use Rattle.macho_fields.proofs.Lists.{none_in_nil, contains_first, contains_later, contains_mapped, first_or_later}
 
@@ -41,6 +41,13 @@ pub ordered_filter : {X : Type 0} (R : X → X → Type 0) (test : X → Bool) (
 ordered_filter R test [] up = tt
 ordered_filter R test (x ∷ xs) (first, up) =
     let rest = ordered_filter R test xs up in elim (cases_Bool (test x)) [ inl t ↦ rw t (λ y has. first y (unfiltered test xs y has), rest) | inr f ↦ rw f rest ]
+
+-- of two items of an ordered list the one of the lesser index is the first
+pub ordered_at : {X : Type 0} (R : X → X → Type 0) (xs : List X) (d : X) (i j : ℕ) → Ordered R xs → i < j → j < length xs → R (get_or xs i d) (get_or xs j d)
+ordered_at R [] d i j order less within = absurd (omega arith)
+ordered_at R (x ∷ xs) d i zero order less within = absurd (omega arith)
+ordered_at R (x ∷ xs) d zero (suc j) order less within = order.0 (get_or xs j d) (Contains-get_or xs j d (omega arith))
+ordered_at R (x ∷ xs) d (suc i) (suc j) order less within = ordered_at R xs d i j order.1 (omega arith) (omega arith)
 
 -- the place of each item is not below that of an earlier one
 abbrev pub Rising : {X : Type 0} → (X → ℕ) → List X → Type 0

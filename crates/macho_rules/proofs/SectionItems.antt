@@ -1,5 +1,5 @@
 -- The sections of an opened image, one after the other.
-use Rattle.std.proofs.Common.{◌≡◌, ℕ, ◌+◌, ◌*◌, ◌≤◌, ◌<◌, List, [], ◌∷◌, map, Contains, refl, sym, ap, subst, arith, inl, inr}
+use Rattle.std.proofs.Common.{◌≡◌, ℕ, ◌+◌, ◌*◌, ◌≤◌, ◌<◌, List, [], ◌∷◌, length, get_or, map, Contains, refl, sym, ap, subst, arith, inl, inr}
 use Rattle.std.specs.Prelude.{flat_map}
 use Rattle.std.proofs.lemmas.List.Elements.{Contains-append_left, Contains-append_right, Contains-append_cases}
 use Rattle.macho_fields.proofs.Lists.{none_in_nil, contains_first, contains_later, first_or_later, contains_mapped}
@@ -12,7 +12,7 @@ use Rattle.macho_image.specs.Opened.{IsOpened}
 use Rattle.macho_image.specs.Segment.{SectionView, section_at, sections_with, sections_of}
 use Rattle.macho_rules.proofs.Searches.{mapped_has, has_number, numbers_rise, Ordered}
 use Rattle.macho_fields.proofs.FirstPlaces.{AreBreaks}
-use Rattle.macho_rules.proofs.Searches.{ordered_append, ordered_map, Rising, Searching, search_all, first_among, are_breaks_at, any_of, one_of}
+use Rattle.macho_rules.proofs.Searches.{ordered_append, ordered_map, Rising, are_breaks_at, any_of, one_of}
 use Rattle.macho_rules.proofs.Judged.{opened_facts, opened_commands}
 use Rattle.macho_rules.proofs.SegmentItems.{EndsBefore, segments_spread}
 
@@ -79,11 +79,11 @@ abbrev pub AreSections : List ℕ → List SectionView → Type 0
 AreSections image all = all ≡ map (section_at image) (sections_of image (commands_of image))
 
 module _ (image : List ℕ) (all : List SectionView) (opened : IsOpened image) (are : AreSections image all) where
-  pub sections_search : (P : SectionView → Type 0) → Searching (λ s. s.place) P all all
-  sections_search P =
-      search_all (λ s. s.place) P all (subst (Rising (λ s. s.place)) (sym are)
+  pub sections_rising : Rising (λ s. s.place) all
+  sections_rising =
+      subst (Rising (λ s. s.place)) (sym are)
       (ordered_map (λ (s t : SectionView). s.place ≤ t.place) (section_at image) (sections_of image (commands_of image))
-      (rise_from image opened (segments_of image (commands_of image)) (segments_spread image opened) (λ s has. has))))
+      (rise_from image opened (segments_of image (commands_of image)) (segments_spread image opened) (λ s has. has)))
 
   -- what breaks a rule of sections
   pub sections_break : (P : List ℕ → ℕ → ℕ → Type 0) → AreBreaks (AtSection image (commands_of image) (P image)) (λ s. s.place) (λ s. P s.image s.segment s.place) all
@@ -95,8 +95,7 @@ module _ (image : List ℕ) (all : List SectionView) (opened : IsOpened image) (
       (λ place broken. let (segment, has, (among, here)) = one_of (λ segment. Contains (sections_in image segment) place × P image segment place) (segments_of image (commands_of image)) broken in
       ((segment, place), to_segments image opened (segments_of image (commands_of image)) segment place has among, here, refl)))
 
-  -- a section that is left is one of the image
-  pub section_image : (P : SectionView → Type 0) (left rest : List SectionView) (s : SectionView) → left ≡ s ∷ rest → Searching (λ t. t.place) P all left → s.image ≡ image
-  section_image P left rest s is search =
-      let (pair, _, at) = mapped_has (section_at image) (sections_of image (commands_of image)) s (subst (λ xs. Contains xs s) are (first_among (λ t. t.place) P all left rest s is search)) in
-      ap (λ (t : SectionView). t.image) (sym at)
+  pub section_image : (s : SectionView) (k : ℕ) → k < length all → s ≡ get_or all k s → s.image ≡ image
+  section_image s k less at =
+      let (pair, _, is) = mapped_has (section_at image) (sections_of image (commands_of image)) s (subst (λ xs. Contains xs s) are (k, less, sym at)) in
+      ap (λ (t : SectionView). t.image) (sym is)

@@ -1,14 +1,9 @@
 -- The mapped segments of an image, and their addresses.
-use Rattle.std.specs.Prelude.{ℕ, List, map, filter, nat_lt}
-use Rattle.macho_fields.specs.Image.{commands_of}
+use Rattle.std.specs.Prelude.{ℕ, List, map}
 use Rattle.macho_fields.specs.Overlap.{IsAscending, IsDescending}
-use Rattle.macho_fields.specs.Segment.{segments_of, vmaddr, vmsize}
+use Rattle.macho_fields.specs.Segment.{vmaddr, vmsize}
 use Rattle.macho_fields.specs.declared.span.Span.{Span}
-
--- the segments of an image that have addresses
-abbrev pub mapped_segments : List ℕ → List ℕ
-mapped_segments image =
-    filter (λ segment. nat_lt 0 (vmsize image segment)) (segments_of image (commands_of image))
+pub use Rattle.macho_image.specs.Mapped.{mapped_segments}
 
 -- the addresses of the segment whose command is at the place
 abbrev pub memory_at : List ℕ → ℕ → Span

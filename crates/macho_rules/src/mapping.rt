@@ -159,10 +159,7 @@ fn numbered_spans(
     ensures memory { OnErr result (HasMapped image.now) }
 {
     let mut pairs = Vec::with_capacity(alloc, count)?;
-    for segment in image.segments() {
-        if segment.vmsize() == 0 {
-            continue;
-        }
+    for segment in image.mapped_segments() {
         let index = pairs.len() as u64;
         pairs.push((memory(&segment), index))?;
     }
@@ -178,10 +175,7 @@ fn file_parts(alloc: Global, image: &Image, count: usize) -> Result<Vec<FilePart
     ensures memory { OnErr result (HasMapped image.now) }
 {
     let mut files = Vec::with_capacity(alloc, count)?;
-    for segment in image.segments() {
-        if segment.vmsize() == 0 {
-            continue;
-        }
+    for segment in image.mapped_segments() {
         files.push(FilePart::new(&segment))?;
     }
     Ok(files)

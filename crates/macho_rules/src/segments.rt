@@ -1,7 +1,7 @@
 //! The rules of the segments of an image. (`mach-o/loader.h`: `segment_command_64`)
 
-ghost use Rattle.std.specs.Prelude.{◌≡◌, ◌+◌, ◌-◌, ◌*◌, ◌^◌, ◌≤◌, ◌↔◌, min, max, length, map};
-ghost use Rattle.std.specs.Prelude.{slice_get, IfOk, IsTrue};
+ghost use Rattle.std.specs.Prelude.{◌≡◌, ◌+◌, ◌-◌, ◌*◌, ◌^◌, ◌<◌, ◌≤◌, ◌↔◌, min, max, length, map};
+ghost use Rattle.std.specs.Prelude.{slice_get, Some, IfOk, IsTrue};
 ghost use Rattle.macho_fields.specs.Bytes.{bytes_of};
 ghost use Rattle.macho_fields.specs.Segment.{vmaddr, vmsize, fileoff, filesize};
 ghost use Rattle.macho_fields.specs.Segment.{PassesLastAddress, IsLongerInFile, PassesImage};
@@ -67,7 +67,7 @@ fn sorted_overlap(alloc: Global, image: &Image, count: usize) -> Result<(), Refu
     let Some(index) = spans.least_overlap() else {
         return Ok(());
     };
-    let place = mapped_place(image, index).unwrap();
+    let place = mapped_place(image, index);
     Err(Refusal::Broken(Break::at(Rule::SegmentOverlap, place)))
 }
 
@@ -76,10 +76,7 @@ pub(crate) fn mapped_count(image: &Image) -> usize
     ensures { result ≡ min (length (mapped_segments image.now)) (2 ^ 64 - 1) }
 {
     let mut count: usize = 0;
-    for segment in image.segments() {
-        if segment.vmsize() == 0 {
-            continue;
-        }
+    for _segment in image.mapped_segments() {
         count = count.saturating_add(1);
     }
     count
@@ -94,30 +91,18 @@ fn mapped_memory(alloc: Global, image: &Image, count: usize) -> Result<SpanList,
     ensures room { IfOk result (λ list. list.capacity ≤ max count (2 * length list.spans + 4)) }
 {
     let mut list = SpanList::with_capacity(alloc, count)?;
-    for segment in image.segments() {
-        if segment.vmsize() == 0 {
-            continue;
-        }
+    for segment in image.mapped_segments() {
         list.push(memory(&segment))?;
     }
     Ok(list)
 }
 
 /// The place of the mapped segment with this index among the mapped ones, counted from 0.
-fn mapped_place(image: &Image, index: u64) -> Option<u64>
-    ensures { result ≡ slice_get (mapped_segments image.now) index }
+fn mapped_place(image: &Image, index: u64) -> u64
+    requires { index < length (mapped_segments image.now) }
+    ensures { Some result ≡ slice_get (mapped_segments image.now) index }
 {
-    let mut left = index;
-    for segment in image.segments() {
-        if segment.vmsize() == 0 {
-            continue;
-        }
-        if left == 0 {
-            return Some(segment.place());
-        }
-        left -= 1;
-    }
-    None
+    image.mapped_segments().nth(index as usize).unwrap().place()
 }
 
 /// The addresses of the segment, which are none where it is not mapped.

@@ -1,24 +1,22 @@
-//! The rules of the sections of an image, each with a loop of its own.
+//! The rules of the sections of an image, each with a search of its own.
 
 ghost use Rattle.std.specs.Prelude.{◌≡◌};
+ghost use Rattle.std.specs.Option.{option_map};
 ghost use Rattle.macho_fields.specs.declared.rule.Rule.{Rule};
 ghost use Rattle.macho_rules.specs.Check.{KeptBefore, JudgesUpTo};
+ghost use Rattle.macho_rules.specs.Scaffold.{AnswersAt};
 
 use crate::sections::{has_relocs_outside, is_misplaced, is_outside_memory};
 use macho_fields::{Break, Rule};
-use macho_image::Image;
+use macho_image::{Image, Section};
 
 /// Each section of a mapped segment lies within the addresses of the segment.
 pub(super) fn section_address(image: &Image) -> Result<(), Break>
     requires { KeptBefore image.now Rule.SectionAddress }
     ensures { JudgesUpTo image.now Rule.SectionAddress result }
 {
-    for section in image.sections() {
-        if is_outside_memory(&section) {
-            return Err(Break::at(Rule::SectionAddress, section.place()));
-        }
-    }
-    Ok(())
+    let first = image.sections().find(|section| is_outside_memory(section));
+    judge(Rule::SectionAddress, first)
 }
 
 /// The bytes of each section are where its mapped segment puts them, or inside the image.
@@ -27,12 +25,10 @@ pub(super) fn section_file(image: &Image) -> Result<(), Break>
     ensures { JudgesUpTo image.now Rule.SectionFile result }
 {
     let bytes = image.bytes();
-    for section in image.sections() {
-        if is_misplaced(bytes, &section) {
-            return Err(Break::at(Rule::SectionFile, section.place()));
-        }
-    }
-    Ok(())
+    let first = image
+        .sections()
+        .find(|section| is_misplaced(bytes, section));
+    judge(Rule::SectionFile, first)
 }
 
 /// The relocations of each section, also of an empty one, lie inside the image.
@@ -41,10 +37,18 @@ pub(super) fn section_relocs(image: &Image) -> Result<(), Break>
     ensures { JudgesUpTo image.now Rule.SectionRelocs result }
 {
     let bytes = image.bytes();
-    for section in image.sections() {
-        if has_relocs_outside(bytes, &section) {
-            return Err(Break::at(Rule::SectionRelocs, section.place()));
-        }
+    let first = image
+        .sections()
+        .find(|section| has_relocs_outside(bytes, section));
+    judge(Rule::SectionRelocs, first)
+}
+
+// The break of the rule at the section, or `Ok` where there is none.
+fn judge(rule: Rule, broken: Option<Section>) -> Result<(), Break>
+    ensures { AnswersAt rule (option_map (λ section. section.place) broken.entry) result }
+{
+    match broken {
+        Some(section) => Err(Break::at(rule, section.place())),
+        None => Ok(()),
     }
-    Ok(())
 }

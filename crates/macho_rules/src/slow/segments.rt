@@ -1,10 +1,12 @@
-//! The rules of the segments of an image, each with a loop of its own. Each two segments are compared.
+//! The rules of the segments of an image, each with a search of its own. Each two segments are compared.
 
 ghost use Rattle.std.specs.Prelude.{◌≡◌, ◌↔◌, IsTrue};
+ghost use Rattle.std.specs.Option.{option_map};
 ghost use Rattle.macho_fields.specs.Image.{commands_of};
 ghost use Rattle.macho_fields.specs.Segment.{OverlapsEarlier};
 ghost use Rattle.macho_fields.specs.declared.rule.Rule.{Rule};
 ghost use Rattle.macho_rules.specs.Check.{KeptBefore, JudgesUpTo};
+ghost use Rattle.macho_rules.specs.Scaffold.{AnswersAt};
 
 use crate::segments::{is_longer_in_file, memory, passes_image, passes_last_address};
 use macho_fields::{Break, Rule};
@@ -14,12 +16,10 @@ use macho_image::{Image, Segment};
 pub(super) fn segment_address(image: &Image) -> Result<(), Break>
     ensures { JudgesUpTo image.now Rule.SegmentAddress result }
 {
-    for segment in image.segments() {
-        if passes_last_address(&segment) {
-            return Err(Break::at(Rule::SegmentAddress, segment.place()));
-        }
-    }
-    Ok(())
+    let first = image
+        .segments()
+        .find(|segment| passes_last_address(segment));
+    judge(Rule::SegmentAddress, first)
 }
 
 /// No mapped segment has more bytes in the file than in memory.
@@ -27,12 +27,8 @@ pub(super) fn segment_size(image: &Image) -> Result<(), Break>
     requires { KeptBefore image.now Rule.SegmentSize }
     ensures { JudgesUpTo image.now Rule.SegmentSize result }
 {
-    for segment in image.segments() {
-        if is_longer_in_file(&segment) {
-            return Err(Break::at(Rule::SegmentSize, segment.place()));
-        }
-    }
-    Ok(())
+    let first = image.segments().find(|segment| is_longer_in_file(segment));
+    judge(Rule::SegmentSize, first)
 }
 
 /// The bytes of each segment lie inside the image.
@@ -41,12 +37,10 @@ pub(super) fn segment_file(image: &Image) -> Result<(), Break>
     ensures { JudgesUpTo image.now Rule.SegmentFile result }
 {
     let bytes = image.bytes();
-    for segment in image.segments() {
-        if passes_image(bytes, &segment) {
-            return Err(Break::at(Rule::SegmentFile, segment.place()));
-        }
-    }
-    Ok(())
+    let first = image
+        .segments()
+        .find(|segment| passes_image(bytes, segment));
+    judge(Rule::SegmentFile, first)
 }
 
 /// No mapped segment has an address in common with an earlier one. Each is compared with all earlier
@@ -77,4 +71,14 @@ fn overlaps_earlier(image: &Image, segment: &Segment) -> bool
         }
     }
     false
+}
+
+// The break of the rule at the segment, or `Ok` where there is none.
+fn judge(rule: Rule, broken: Option<Segment>) -> Result<(), Break>
+    ensures { AnswersAt rule (option_map (λ segment. segment.place) broken.entry) result }
+{
+    match broken {
+        Some(segment) => Err(Break::at(rule, segment.place())),
+        None => Ok(()),
+    }
 }

@@ -1,9 +1,7 @@
-use Rattle.std.proofs.Common.{◌≡◌, ℕ, List, map}
+use Rattle.std.proofs.Common.{◌≡◌, map}
 use Rattle.macho_rules.specs.Scaffold.{file_at}
-use Rattle.macho_rules.proofs.Mapped.{ArePassed}
 use Rattle.macho_rules.proofs.mapping.file_parts.Given as goal
 
--- the parts are those of the mapped segments that were gone over
+-- the parts are those of the segments that were yielded
 abbrev pub invariant-loop-segment : goal.invariant-loop-segment
-invariant-loop-segment l =
-    (seen : List ℕ) × ArePassed l.image l.initial.segment-iterator l.segment-iterator seen × (l.files.items ≡ map (file_at l.image) seen)
+invariant-loop-segment l = l.files.items ≡ map (λ s. file_at s.image s.place) l.yielded

@@ -1,25 +1,14 @@
-use Rattle.std.proofs.Common.{◌++◌, [], ◌∷◌, length, ◌∙◌, ap, arith, length-append}
-use Rattle.macho_rules.proofs.Mapped.{passed_one, passed_over, passed_all}
+use Rattle.std.proofs.Common.{[], ◌∷◌, length, ap, ◌∙◌, arith, length-append}
+use Rattle.std.proofs.lemmas.List.{length-map}
+use Rattle.macho_image.specs.Segment.{segment_at}
+use Rattle.macho_rules.specs.Mapped.{mapped_segments}
+use Rattle.macho_rules.proofs.Mapped.{yielded_all}
 use Rattle.macho_rules.proofs.segments.mapped_count.Goals as goal
 
-pub loop-segment-preserved-then-vmsize-eq0 : goal.loop-segment-preserved-then-vmsize-eq0
-loop-segment-preserved-then-vmsize-eq0 c =
-    let are = c.into_iter-segment-iterator.ensures.into_iter_gives ∙ c.segments-segment-items.ensures.segments in
-    let (seen, going, count) = c.loop-segment.invariant in
-    (seen, passed_over c.args.image.now _ _ _ seen c.in-Some.segment c.in-Some.ensures.steps are going (omega (arith, c.if-vmsize-eq0.true, c.vmsize.ensures)), count)
-
 pub loop-segment-preserved : goal.loop-segment-preserved
-loop-segment-preserved c =
-    let are = c.into_iter-segment-iterator.ensures.into_iter_gives ∙ c.segments-segment-items.ensures.segments in
-    let (seen, going, count) = c.loop-segment.invariant in
-    let more = length-append seen (c.in-Some.segment.place ∷ []) in (
-      seen ++ c.in-Some.segment.place ∷ [],
-      passed_one c.args.image.now _ _ _ seen c.in-Some.segment c.in-Some.ensures.steps are going (omega (arith, c.if-vmsize-eq0.false, c.vmsize.ensures)),
-      omega (arith, count, more, c.saturating_add-count.ensures),
-    )
+loop-segment-preserved c = omega (arith, c.loop-segment.invariant, length-append c.loop-segment.yielded (c.in-Some._segment ∷ []), c.saturating_add-count.ensures)
 
 pub returns : goal.returns
 returns c =
-    let are = c.into_iter-segment-iterator.ensures.into_iter_gives ∙ c.segments-segment-items.ensures.segments in
-    let (seen, going, count) = c.loop-segment.invariant in
-    let all = ap length (passed_all c.args.image.now _ _ seen are going c.in-None.ensures.steps.0) in omega (arith, count, all)
+    let all = yielded_all c.args.image.now c.into_iter-segment-iterator.result (c.into_iter-segment-iterator.ensures.into_iter_gives ∙ c.mapped_segments-segment-items.ensures.segments) c.loop-segment.yielded _ _ c.next.result c.loop-segment.yielded_by c.next.ensures.steps c.in-None.is in
+    let count = ap length all ∙ length-map (mapped_segments c.args.image.now) (segment_at c.args.image.now) in omega (arith, c.loop-segment.invariant, count)

@@ -1,9 +1,9 @@
-use Rattle.std.proofs.Common.{◌≡◌, ℕ, ◌+◌, ◌*◌, ◌≤◌, ◌<◌, List, length, length-append, ◌++◌, [], ◌∷◌, map, max, sym, ap, ◌∙◌, inl, inr, arith}
+use Rattle.std.proofs.Common.{◌≡◌, ℕ, ◌+◌, ◌*◌, ◌≤◌, ◌<◌, List, length, length-append, ◌++◌, [], ◌∷◌, map, max, ap, ◌∙◌, inl, inr, arith}
 use Rattle.std.proofs.lemmas.Bool.{cases_lt}
-use Rattle.std.proofs.lemmas.List.{map-append}
 use Rattle.macho_fields.specs.declared.span.Span.{Span}
-use Rattle.macho_rules.specs.Mapped.{memory_at}
-use Rattle.macho_rules.proofs.Mapped.{passed_one, passed_over, passed_all, passing_memory}
+use Rattle.macho_image.specs.Segment.{SegmentView}
+use Rattle.macho_rules.specs.Mapped.{mapped_segments, memory_at}
+use Rattle.macho_rules.proofs.Mapped.{span_is, pushed, at_places, yielded_all}
 use Rattle.macho_rules.proofs.segments.mapped_memory.Goals as goal
 
 -- the room that there is with a span more
@@ -16,28 +16,16 @@ one_more count spans next span before after room more same grown =
       | inr full ↦ let few = grown full in omega (arith, one, few)
     ]
 
-pub loop-segment-preserved-then-vmsize-eq0 : goal.loop-segment-preserved-then-vmsize-eq0
-loop-segment-preserved-then-vmsize-eq0 c =
-    let are = c.into_iter-segment-iterator.ensures.into_iter_gives ∙ c.segments-segment-items.ensures.segments in
-    let (seen, going, spans, room) = c.loop-segment.invariant in
-    (seen, passed_over c.args.image.now _ _ _ seen c.in-Some.segment c.in-Some.ensures.steps are going (omega (arith, c.if-vmsize-eq0.true, c.vmsize.ensures)), spans, room)
-
 pub loop-segment-preserved : goal.loop-segment-preserved
-loop-segment-preserved c =
-    let are = c.into_iter-segment-iterator.ensures.into_iter_gives ∙ c.segments-segment-items.ensures.segments in
-    let (seen, going, spans, room) = c.loop-segment.invariant in
-    let image = c.args.image.now in
-    let is = passing_memory image _ _ _ seen c.in-Some.segment c.in-Some.ensures.steps are going c.memory.result c.memory.ensures.start c.memory.ensures.len in (
-      seen ++ c.in-Some.segment.place ∷ [],
-      passed_one image _ _ _ seen c.in-Some.segment c.in-Some.ensures.steps are going (omega (arith, c.if-vmsize-eq0.false, c.vmsize.ensures)),
-      c.in_ok-push.ensures.ok ∙ (ap (λ all. all ++ c.memory.result ∷ []) spans
-          ∙ (ap (λ (one : Span). map (memory_at image) seen ++ one ∷ []) is ∙ sym (map-append (memory_at image) seen (c.in-Some.segment.place ∷ [])))),
-      one_more c.args.count c.loop-segment.list.spans c.push.new.self.spans c.memory.result c.loop-segment.list.capacity c.push.new.self.capacity room
-          c.in_ok-push.ensures.ok c.push.ensures.room c.push.ensures.more,
-    )
+loop-segment-preserved c = record {
+  spans = pushed (λ (s : SegmentView). memory_at s.image s.place) c.loop-segment.yielded c.in-Some.segment c.loop-segment.list.spans c.push.new.self.spans c.memory.result c.in_ok-push.ensures.ok
+      c.loop-segment.invariant.spans (span_is c.memory.result _ _ c.memory.ensures.start c.memory.ensures.len);
+  room = one_more c.args.count c.loop-segment.list.spans c.push.new.self.spans c.memory.result c.loop-segment.list.capacity c.push.new.self.capacity c.loop-segment.invariant.room
+      c.in_ok-push.ensures.ok c.push.ensures.room c.push.ensures.more;
+}
 
 pub returns-clause-memory : goal.returns-clause-memory
 returns-clause-memory c =
-    let are = c.into_iter-segment-iterator.ensures.into_iter_gives ∙ c.segments-segment-items.ensures.segments in
-    let (seen, going, spans, room) = c.loop-segment.invariant in
-    spans ∙ ap (map (memory_at c.args.image.now)) (passed_all c.args.image.now _ _ seen are going c.in-None.ensures.steps.0)
+    let image = c.args.image.now in
+    let all = yielded_all image c.into_iter-segment-iterator.result (c.into_iter-segment-iterator.ensures.into_iter_gives ∙ c.mapped_segments-segment-items.ensures.segments) c.loop-segment.yielded _ _ c.next.result c.loop-segment.yielded_by c.next.ensures.steps c.in-None.is in
+    c.loop-segment.invariant.spans ∙ (ap (map (λ (s : SegmentView). memory_at s.image s.place)) all ∙ at_places memory_at image (mapped_segments image))

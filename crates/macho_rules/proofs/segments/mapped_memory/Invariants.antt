@@ -1,10 +1,8 @@
-use Rattle.std.proofs.Common.{◌≡◌, ℕ, ◌+◌, ◌*◌, ◌≤◌, List, length, map, max}
+use Rattle.std.proofs.Common.{◌≡◌, ◌+◌, ◌*◌, ◌≤◌, length, map, max}
 use Rattle.macho_rules.specs.Mapped.{memory_at}
-use Rattle.macho_rules.proofs.Mapped.{ArePassed}
 use Rattle.macho_rules.proofs.segments.mapped_memory.Given as goal
 
--- the addresses are those of the mapped segments that were gone over
+-- the addresses are those of the segments that were yielded
 abbrev pub invariant-loop-segment : goal.invariant-loop-segment
 invariant-loop-segment l =
-    (seen : List ℕ) × ArePassed l.image l.initial.segment-iterator l.segment-iterator seen × (l.list.spans ≡ map (memory_at l.image) seen)
-    × (l.list.capacity ≤ max l.count (2 * length l.list.spans + 4))
+    record { spans : l.list.spans ≡ map (λ s. memory_at s.image s.place) l.yielded; room : l.list.capacity ≤ max l.count (2 * length l.list.spans + 4) }

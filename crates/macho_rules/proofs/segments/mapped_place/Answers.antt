@@ -1,37 +1,21 @@
-use Rattle.std.proofs.Common.{◌++◌, [], ◌∷◌, ◌≡◌, length, slice_get, Some, sym, ap, ◌∙◌, arith, length-append}
-use Rattle.std.proofs.lemmas.Option.{slice_get_past}
+use Rattle.std.proofs.Common.{Some, slice_get, refl, sym, ap, ◌∙◌, subst}
+use Rattle.std.specs.Option.{IsSome, option_map}
+use Rattle.std.proofs.lemmas.Option.{slice_get-get_or}
+use Rattle.macho_image.specs.Segment.{SegmentView, segment_at}
 use Rattle.macho_rules.specs.Mapped.{mapped_segments}
-use Rattle.macho_rules.proofs.Mapped.{passed_one, passed_over, passed_all, mapped_split, get_after}
+use Rattle.macho_rules.proofs.Mapped.{mapped_nth}
+use Rattle.macho_rules.proofs.OneCommand.{first_at}
 use Rattle.macho_rules.proofs.segments.mapped_place.Goals as goal
 
-pub loop-segment-preserved-then-vmsize-eq0 : goal.loop-segment-preserved-then-vmsize-eq0
-loop-segment-preserved-then-vmsize-eq0 c =
-    let are = c.into_iter-segment-iterator.ensures.into_iter_gives ∙ c.segments-segment-items.ensures.segments in
-    let (seen, going, index) = c.loop-segment.invariant in
-    (seen, passed_over c.args.image.now _ _ _ seen c.in-Some.segment c.in-Some.ensures.steps are going (omega (arith, c.if-vmsize-eq0.true, c.vmsize.ensures)), index)
-
-pub returns-then-left-eq0 : goal.returns-then-left-eq0
-returns-then-left-eq0 c =
-    let are = c.into_iter-segment-iterator.ensures.into_iter_gives ∙ c.segments-segment-items.ensures.segments in
-    let (seen, going, index) = c.loop-segment.invariant in
-    let split = mapped_split c.args.image.now _ _ _ seen c.in-Some.segment c.in-Some.ensures.steps are going (omega (arith, c.if-vmsize-eq0.false, c.vmsize.ensures)) in
-    let after = get_after seen c.in-Some.segment.place _ c.args.index (omega (arith, index, c.if-left-eq0.true)) in
-    let here : slice_get (mapped_segments c.args.image.now) c.args.index ≡ Some c.in-Some.segment.place = rw split after in
-    sym (here ∙ ap Some (sym c.place.ensures))
-
-pub loop-segment-preserved : goal.loop-segment-preserved
-loop-segment-preserved c =
-    let are = c.into_iter-segment-iterator.ensures.into_iter_gives ∙ c.segments-segment-items.ensures.segments in
-    let (seen, going, index) = c.loop-segment.invariant in
-    let more = length-append seen (c.in-Some.segment.place ∷ []) in (
-      seen ++ c.in-Some.segment.place ∷ [],
-      passed_one c.args.image.now _ _ _ seen c.in-Some.segment c.in-Some.ensures.steps are going (omega (arith, c.if-vmsize-eq0.false, c.vmsize.ensures)),
-      omega (arith, index, more, c.if-left-eq0.false),
-    )
+pub unwrap-requires : goal.unwrap-requires
+unwrap-requires c =
+    let image = c.args.image.now in
+    let found = mapped_nth image c.mapped_segments.result c.mapped_segments.ensures.segments c.nth.result _ c.args.index c.nth.ensures.ran in
+    subst IsSome (sym (found ∙ ap (option_map (segment_at image)) (slice_get-get_or (mapped_segments image) c.args.index 0 c.requires))) refl
 
 pub returns : goal.returns
 returns c =
-    let are = c.into_iter-segment-iterator.ensures.into_iter_gives ∙ c.segments-segment-items.ensures.segments in
-    let (seen, going, index) = c.loop-segment.invariant in
-    let all = ap length (passed_all c.args.image.now _ _ seen are going c.in-None.ensures.steps.0) in
-    sym (slice_get_past (mapped_segments c.args.image.now) c.args.index (omega (arith, index, all)))
+    let image = c.args.image.now in
+    let found = mapped_nth image c.mapped_segments.result c.mapped_segments.ensures.segments c.nth.result _ c.args.index c.nth.ensures.ran in
+    let (p, at, is) = first_at (segment_at image) (slice_get (mapped_segments image) c.args.index) c.unwrap.result (sym c.unwrap.ensures ∙ found) in
+    ap Some (c.place.ensures ∙ ap (λ (s : SegmentView). s.place) is) ∙ sym at

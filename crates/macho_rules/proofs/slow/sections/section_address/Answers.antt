@@ -1,32 +1,13 @@
-use Rattle.std.proofs.Common.{◌∙◌, lit≤}
-use Rattle.std.proofs.lemmas.Bool.{both_ways}
+use Rattle.std.proofs.Common.{lit≤, rules, tests}
 use Rattle.macho_fields.specs.Segment.{IsOutsideMemory}
 use Rattle.macho_fields.specs.declared.rule.Rule.TheVariants as rule
-use Rattle.macho_rules.proofs.Judged.{judged_found, judged_ended}
-use Rattle.macho_rules.proofs.Searches.{search_next}
-use Rattle.macho_rules.proofs.SectionItems.{sections_search, sections_break}
+use Rattle.macho_rules.proofs.Judged.{finds, judged_by_first}
+use Rattle.macho_rules.proofs.SectionItems.{sections_rising, sections_break}
 use Rattle.macho_rules.proofs.slow.sections.section_address.Goals as goal
-
-pub loop-section-init : goal.loop-section-init
-loop-section-init c =
-    let are = c.into_iter-section-iterator.ensures.into_iter_gives ∙ c.sections-section-items.ensures.sections in
-    sections_search c.args.image.now _ c.sections-section-items.ensures.opened are _
-
-pub returns-then-is_outside_memory : goal.returns-then-is_outside_memory
-returns-then-is_outside_memory c =
-    let are = c.into_iter-section-iterator.ensures.into_iter_gives ∙ c.sections-section-items.ensures.sections in
-    judged_found c.args.image.now rule.SectionAddress (lit≤ tt) c.requires _ _ _
-    (sections_break c.args.image.now _ c.sections-section-items.ensures.opened are IsOutsideMemory) _ c.loop-section.invariant
-    c.in-Some.section _ c.in-Some.ensures.steps (c.is_outside_memory.ensures.0 c.if-is_outside_memory.true) c.at.result c.at.ensures.rule (c.at.ensures.place ∙ c.place.ensures)
-
-pub loop-section-preserved : goal.loop-section-preserved
-loop-section-preserved c =
-    search_next _ _ _ _ _ c.in-Some.section c.in-Some.ensures.steps c.loop-section.invariant
-    (λ here. both_ways c.is_outside_memory.result c.if-is_outside_memory.false (c.is_outside_memory.ensures.1 here))
 
 pub returns : goal.returns
 returns c =
-    let are = c.into_iter-section-iterator.ensures.into_iter_gives ∙ c.sections-section-items.ensures.sections in
-    judged_ended c.args.image.now rule.SectionAddress (lit≤ tt) c.requires _ _ _
-    (sections_break c.args.image.now _ c.sections-section-items.ensures.opened are IsOutsideMemory) _ c.loop-section.invariant
-    c.in-None.ensures.steps.0
+    let image = c.args.image.now in
+    judged_by_first image rule.SectionAddress (lit≤ tt) c.requires (λ s. s.place) (λ s. IsOutsideMemory s.image s.segment s.place) c.sections.result
+    (sections_rising image c.sections.result c.sections.ensures.opened c.sections.ensures.sections) (sections_break image c.sections.result c.sections.ensures.opened c.sections.ensures.sections IsOutsideMemory) c.find-first.result
+    (finds _ (λ s. IsOutsideMemory s.image s.segment s.place) c.find-first.result c.find-first.ensures.ran (λ s q k. search (rules, tests)) (λ s q k. search (rules, tests))) c.judge.result c.judge.ensures

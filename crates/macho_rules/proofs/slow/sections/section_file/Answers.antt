@@ -1,37 +1,24 @@
-use Rattle.std.proofs.Common.{◌∙◌, lit≤, sym}
-use Rattle.std.proofs.lemmas.Bool.{both_ways}
+use Rattle.std.proofs.Common.{◌≡◌, List, refl, sym, ap, ◌∙◌, lit≤, rules, tests}
+use Rattle.std.proofs.lemmas.Iterator.Adapters.{serves_from_places}
+use Rattle.std.proofs.lemmas.Iterator.Consumers.{YieldsList-from_first}
+use Rattle.macho_fields.specs.Bytes.{bytes_of}
 use Rattle.macho_fields.specs.Segment.{IsMisplaced}
 use Rattle.macho_fields.specs.declared.rule.Rule.TheVariants as rule
-use Rattle.macho_rules.proofs.Judged.{judged_found, judged_ended}
-use Rattle.macho_rules.proofs.Searches.{search_next}
-use Rattle.macho_rules.proofs.SectionItems.{sections_search, sections_break, section_image}
+use Rattle.macho_image.specs.Segment.{SectionView}
+use Rattle.macho_rules.proofs.Judged.{finds, judged_by_first}
+use Rattle.macho_rules.proofs.SectionItems.{sections_rising, sections_break, section_image}
 use Rattle.macho_rules.proofs.slow.sections.section_file.Goals as goal
 
-pub loop-section-init : goal.loop-section-init
-loop-section-init c =
-    let are = c.into_iter-section-iterator.ensures.into_iter_gives ∙ c.sections-section-items.ensures.sections in
-    sections_search c.args.image.now _ c.sections-section-items.ensures.opened are _
-
-pub is_misplaced-requires : goal.is_misplaced-requires
-is_misplaced-requires c =
-    let are = c.into_iter-section-iterator.ensures.into_iter_gives ∙ c.sections-section-items.ensures.sections in
-    c.bytes-bytes.ensures.bytes
-    ∙ sym (section_image c.args.image.now _ c.sections-section-items.ensures.opened are _ _ _ c.in-Some.section c.in-Some.ensures.steps c.loop-section.invariant)
-
-pub returns-then-is_misplaced : goal.returns-then-is_misplaced
-returns-then-is_misplaced c =
-    let are = c.into_iter-section-iterator.ensures.into_iter_gives ∙ c.sections-section-items.ensures.sections in
-    judged_found c.args.image.now rule.SectionFile (lit≤ tt) c.requires _ _ _
-    (sections_break c.args.image.now _ c.sections-section-items.ensures.opened are IsMisplaced) _ c.loop-section.invariant
-    c.in-Some.section _ c.in-Some.ensures.steps (c.is_misplaced.ensures.0 c.if-is_misplaced.true) c.at.result c.at.ensures.rule (c.at.ensures.place ∙ c.place.ensures)
-
-pub loop-section-preserved : goal.loop-section-preserved
-loop-section-preserved c =
-    search_next _ _ _ _ _ c.in-Some.section c.in-Some.ensures.steps c.loop-section.invariant (λ here. both_ways c.is_misplaced.result c.if-is_misplaced.false (c.is_misplaced.ensures.1 here))
+pub find-first-requires-clause-callable : goal.find-first-requires-clause-callable
+find-first-requires-clause-callable c =
+    serves_from_places (YieldsList-from_first (λ (s : SectionView). s) (λ (left : List SectionView). left) c.sections.result refl) (λ s q k. search rules)
+    (λ s k less at.
+    let same : (t : SectionView) → t ≡ s → bytes_of c.bytes-bytes.result ≡ t.image =
+    λ t is. c.bytes-bytes.ensures.bytes ∙ sym (ap (λ (u : SectionView). u.image) is ∙ section_image c.args.image.now c.sections.result c.sections.ensures.opened c.sections.ensures.sections s k less at) in search (rules, same))
 
 pub returns : goal.returns
 returns c =
-    let are = c.into_iter-section-iterator.ensures.into_iter_gives ∙ c.sections-section-items.ensures.sections in
-    judged_ended c.args.image.now rule.SectionFile (lit≤ tt) c.requires _ _ _
-    (sections_break c.args.image.now _ c.sections-section-items.ensures.opened are IsMisplaced) _ c.loop-section.invariant
-    c.in-None.ensures.steps.0
+    let image = c.args.image.now in
+    judged_by_first image rule.SectionFile (lit≤ tt) c.requires (λ s. s.place) (λ s. IsMisplaced s.image s.segment s.place) c.sections.result
+    (sections_rising image c.sections.result c.sections.ensures.opened c.sections.ensures.sections) (sections_break image c.sections.result c.sections.ensures.opened c.sections.ensures.sections IsMisplaced) c.find-first.result
+    (finds _ (λ s. IsMisplaced s.image s.segment s.place) c.find-first.result c.find-first.ensures.ran (λ s q k. search (rules, tests)) (λ s q k. search (rules, tests))) c.judge.result c.judge.ensures

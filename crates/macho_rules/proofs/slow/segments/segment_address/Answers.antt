@@ -1,32 +1,13 @@
-use Rattle.std.proofs.Common.{◌∙◌, lit≤}
-use Rattle.std.proofs.lemmas.Bool.{both_ways}
+use Rattle.std.proofs.Common.{lit≤, rules, tests}
 use Rattle.macho_fields.specs.Segment.{PassesLastAddress}
 use Rattle.macho_fields.specs.declared.rule.Rule.TheVariants as rule
-use Rattle.macho_rules.proofs.Judged.{opened_keeps, judged_found, judged_ended}
-use Rattle.macho_rules.proofs.Searches.{search_next}
-use Rattle.macho_rules.proofs.SegmentItems.{segments_search, segments_break}
+use Rattle.macho_rules.proofs.Judged.{opened_keeps, finds, judged_by_first}
+use Rattle.macho_rules.proofs.SegmentItems.{segments_rising, segments_break}
 use Rattle.macho_rules.proofs.slow.segments.segment_address.Goals as goal
-
-pub loop-segment-init : goal.loop-segment-init
-loop-segment-init c =
-    let are = c.into_iter-segment-iterator.ensures.into_iter_gives ∙ c.segments-segment-items.ensures.segments in
-    segments_search c.args.image.now _ are _ c.segments-segment-items.ensures.opened
-
-pub returns-then-passes_last_address : goal.returns-then-passes_last_address
-returns-then-passes_last_address c =
-    let are = c.into_iter-segment-iterator.ensures.into_iter_gives ∙ c.segments-segment-items.ensures.segments in
-    judged_found c.args.image.now rule.SegmentAddress (lit≤ tt) (opened_keeps c.args.image.now c.segments-segment-items.ensures.opened) _ _ _
-    (segments_break c.args.image.now _ are PassesLastAddress) _ c.loop-segment.invariant
-    c.in-Some.segment _ c.in-Some.ensures.steps (c.passes_last_address.ensures.0 c.if-passes_last_address.true) c.at.result c.at.ensures.rule (c.at.ensures.place ∙ c.place.ensures)
-
-pub loop-segment-preserved : goal.loop-segment-preserved
-loop-segment-preserved c =
-    search_next _ _ _ _ _ c.in-Some.segment c.in-Some.ensures.steps c.loop-segment.invariant
-    (λ here. both_ways c.passes_last_address.result c.if-passes_last_address.false (c.passes_last_address.ensures.1 here))
 
 pub returns : goal.returns
 returns c =
-    let are = c.into_iter-segment-iterator.ensures.into_iter_gives ∙ c.segments-segment-items.ensures.segments in
-    judged_ended c.args.image.now rule.SegmentAddress (lit≤ tt) (opened_keeps c.args.image.now c.segments-segment-items.ensures.opened) _ _ _
-    (segments_break c.args.image.now _ are PassesLastAddress) _ c.loop-segment.invariant
-    c.in-None.ensures.steps.0
+    let image = c.args.image.now in
+    judged_by_first image rule.SegmentAddress (lit≤ tt) (opened_keeps image c.segments.ensures.opened) (λ s. s.place) (λ s. PassesLastAddress s.image s.place) c.segments.result
+    (segments_rising image c.segments.result c.segments.ensures.segments c.segments.ensures.opened) (segments_break image c.segments.result c.segments.ensures.segments PassesLastAddress) c.find-first.result
+    (finds _ (λ s. PassesLastAddress s.image s.place) c.find-first.result c.find-first.ensures.ran (λ s q k. search (rules, tests)) (λ s q k. search (rules, tests))) c.judge.result c.judge.ensures

@@ -1,37 +1,24 @@
-use Rattle.std.proofs.Common.{◌∙◌, lit≤, sym}
-use Rattle.std.proofs.lemmas.Bool.{both_ways}
+use Rattle.std.proofs.Common.{◌≡◌, List, refl, sym, ap, ◌∙◌, lit≤, rules, tests}
+use Rattle.std.proofs.lemmas.Iterator.Adapters.{serves_from_places}
+use Rattle.std.proofs.lemmas.Iterator.Consumers.{YieldsList-from_first}
+use Rattle.macho_fields.specs.Bytes.{bytes_of}
 use Rattle.macho_fields.specs.Segment.{PassesImage}
 use Rattle.macho_fields.specs.declared.rule.Rule.TheVariants as rule
-use Rattle.macho_rules.proofs.Judged.{judged_found, judged_ended}
-use Rattle.macho_rules.proofs.Searches.{search_next}
-use Rattle.macho_rules.proofs.SegmentItems.{segments_search, segments_break, segment_image}
+use Rattle.macho_image.specs.Segment.{SegmentView}
+use Rattle.macho_rules.proofs.Judged.{finds, judged_by_first}
+use Rattle.macho_rules.proofs.SegmentItems.{segments_rising, segments_break, image_at}
 use Rattle.macho_rules.proofs.slow.segments.segment_file.Goals as goal
 
-pub loop-segment-init : goal.loop-segment-init
-loop-segment-init c =
-    let are = c.into_iter-segment-iterator.ensures.into_iter_gives ∙ c.segments-segment-items.ensures.segments in
-    segments_search c.args.image.now _ are _ c.segments-segment-items.ensures.opened
-
-pub passes_image-requires : goal.passes_image-requires
-passes_image-requires c =
-    let are = c.into_iter-segment-iterator.ensures.into_iter_gives ∙ c.segments-segment-items.ensures.segments in
-    c.bytes-bytes.ensures.bytes
-    ∙ sym (segment_image c.args.image.now _ are _ _ _ c.in-Some.segment c.in-Some.ensures.steps c.loop-segment.invariant)
-
-pub returns-then-passes_image : goal.returns-then-passes_image
-returns-then-passes_image c =
-    let are = c.into_iter-segment-iterator.ensures.into_iter_gives ∙ c.segments-segment-items.ensures.segments in
-    judged_found c.args.image.now rule.SegmentFile (lit≤ tt) c.requires _ _ _
-    (segments_break c.args.image.now _ are PassesImage) _ c.loop-segment.invariant
-    c.in-Some.segment _ c.in-Some.ensures.steps (c.passes_image.ensures.0 c.if-passes_image.true) c.at.result c.at.ensures.rule (c.at.ensures.place ∙ c.place.ensures)
-
-pub loop-segment-preserved : goal.loop-segment-preserved
-loop-segment-preserved c =
-    search_next _ _ _ _ _ c.in-Some.segment c.in-Some.ensures.steps c.loop-segment.invariant (λ here. both_ways c.passes_image.result c.if-passes_image.false (c.passes_image.ensures.1 here))
+pub find-first-requires-clause-callable : goal.find-first-requires-clause-callable
+find-first-requires-clause-callable c =
+    serves_from_places (YieldsList-from_first (λ (s : SegmentView). s) (λ (left : List SegmentView). left) c.segments.result refl) (λ s q k. search rules)
+    (λ s k less at.
+    let same : (t : SegmentView) → t ≡ s → bytes_of c.bytes-bytes.result ≡ t.image =
+    λ t is. c.bytes-bytes.ensures.bytes ∙ sym (ap (λ (u : SegmentView). u.image) is ∙ image_at c.args.image.now c.segments.result c.segments.ensures.segments s k less at) in search (rules, same))
 
 pub returns : goal.returns
 returns c =
-    let are = c.into_iter-segment-iterator.ensures.into_iter_gives ∙ c.segments-segment-items.ensures.segments in
-    judged_ended c.args.image.now rule.SegmentFile (lit≤ tt) c.requires _ _ _
-    (segments_break c.args.image.now _ are PassesImage) _ c.loop-segment.invariant
-    c.in-None.ensures.steps.0
+    let image = c.args.image.now in
+    judged_by_first image rule.SegmentFile (lit≤ tt) c.requires (λ s. s.place) (λ s. PassesImage s.image s.place) c.segments.result
+    (segments_rising image c.segments.result c.segments.ensures.segments c.segments.ensures.opened) (segments_break image c.segments.result c.segments.ensures.segments PassesImage) c.find-first.result
+    (finds _ (λ s. PassesImage s.image s.place) c.find-first.result c.find-first.ensures.ran (λ s q k. search (rules, tests)) (λ s q k. search (rules, tests))) c.judge.result c.judge.ensures

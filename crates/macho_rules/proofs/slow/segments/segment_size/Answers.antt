@@ -1,32 +1,13 @@
-use Rattle.std.proofs.Common.{◌∙◌, lit≤}
-use Rattle.std.proofs.lemmas.Bool.{both_ways}
+use Rattle.std.proofs.Common.{lit≤, rules, tests}
 use Rattle.macho_fields.specs.Segment.{IsLongerInFile}
 use Rattle.macho_fields.specs.declared.rule.Rule.TheVariants as rule
-use Rattle.macho_rules.proofs.Judged.{judged_found, judged_ended}
-use Rattle.macho_rules.proofs.Searches.{search_next}
-use Rattle.macho_rules.proofs.SegmentItems.{segments_search, segments_break}
+use Rattle.macho_rules.proofs.Judged.{finds, judged_by_first}
+use Rattle.macho_rules.proofs.SegmentItems.{segments_rising, segments_break}
 use Rattle.macho_rules.proofs.slow.segments.segment_size.Goals as goal
-
-pub loop-segment-init : goal.loop-segment-init
-loop-segment-init c =
-    let are = c.into_iter-segment-iterator.ensures.into_iter_gives ∙ c.segments-segment-items.ensures.segments in
-    segments_search c.args.image.now _ are _ c.segments-segment-items.ensures.opened
-
-pub returns-then-is_longer_in_file : goal.returns-then-is_longer_in_file
-returns-then-is_longer_in_file c =
-    let are = c.into_iter-segment-iterator.ensures.into_iter_gives ∙ c.segments-segment-items.ensures.segments in
-    judged_found c.args.image.now rule.SegmentSize (lit≤ tt) c.requires _ _ _
-    (segments_break c.args.image.now _ are IsLongerInFile) _ c.loop-segment.invariant
-    c.in-Some.segment _ c.in-Some.ensures.steps (c.is_longer_in_file.ensures.0 c.if-is_longer_in_file.true) c.at.result c.at.ensures.rule (c.at.ensures.place ∙ c.place.ensures)
-
-pub loop-segment-preserved : goal.loop-segment-preserved
-loop-segment-preserved c =
-    search_next _ _ _ _ _ c.in-Some.segment c.in-Some.ensures.steps c.loop-segment.invariant
-    (λ here. both_ways c.is_longer_in_file.result c.if-is_longer_in_file.false (c.is_longer_in_file.ensures.1 here))
 
 pub returns : goal.returns
 returns c =
-    let are = c.into_iter-segment-iterator.ensures.into_iter_gives ∙ c.segments-segment-items.ensures.segments in
-    judged_ended c.args.image.now rule.SegmentSize (lit≤ tt) c.requires _ _ _
-    (segments_break c.args.image.now _ are IsLongerInFile) _ c.loop-segment.invariant
-    c.in-None.ensures.steps.0
+    let image = c.args.image.now in
+    judged_by_first image rule.SegmentSize (lit≤ tt) c.requires (λ s. s.place) (λ s. IsLongerInFile s.image s.place) c.segments.result
+    (segments_rising image c.segments.result c.segments.ensures.segments c.segments.ensures.opened) (segments_break image c.segments.result c.segments.ensures.segments IsLongerInFile) c.find-first.result
+    (finds _ (λ s. IsLongerInFile s.image s.place) c.find-first.result c.find-first.ensures.ran (λ s q k. search (rules, tests)) (λ s q k. search (rules, tests))) c.judge.result c.judge.ensures
