@@ -33,8 +33,16 @@ impl<'a> Model for Segment<'a> {
 
 impl<'a> Segment<'a> {
     ghost use Rattle.std.specs.Prelude.{◌≡◌, map};
+    ghost use Rattle.macho_fields.specs.Bytes.{bytes_of};
     ghost use Rattle.macho_fields.specs.Segment.{vmaddr, vmsize, fileoff, filesize, initprot, nsects};
     ghost use Rattle.macho_image.specs.Segment.{maxprot, section_at, sections_with, segment_name};
+
+    /// All bytes of the image that it is a segment of.
+    pub fn image(&self) -> Bytes<'a>
+        ensures { bytes_of result ≡ self.now.image }
+    {
+        self.image
+    }
 
     /// Where its command begins in the image.
     pub fn place(&self) -> u64

@@ -1,5 +1,5 @@
 -- What the parts of an accepted image keep.
-use Rattle.std.proofs.Common.{◌≡◌, ◌≢◌, ℕ, zero, suc, ◌+◌, ◌-◌, ◌*◌, ◌≤◌, ◌<◌, List, [], ◌∷◌, ◌++◌, map, flat_map, length, All, Contains, Option, Some, None, IsSome, IfSome, IsSomeAnd, Bool, true, false, nat_le, slice_get, slice_index_or, take, drop, length-drop, if◌then◌else◌, ◌↔◌, refl, sym, ap, ◌∙◌, subst, arith, inr, le_refl}
+use Rattle.std.proofs.Common.{◌≡◌, ◌≢◌, ℕ, zero, suc, ◌+◌, ◌-◌, ◌*◌, ◌≤◌, ◌<◌, List, [], ◌∷◌, ◌++◌, map, flat_map, length, All, Contains, Option, Some, None, IsSome, IfSome, IsSomeAnd, Bool, true, false, nat_le, slice_get, take, drop, length-drop, if◌then◌else◌, ◌↔◌, refl, sym, ap, ◌∙◌, subst, arith, inr, le_refl}
 use Rattle.std.proofs.lemmas.List.Elements.{All-map, All-tail, All-take, All-drop, All-contains_itself}
 use Rattle.std.proofs.lemmas.List.{drop-take, drop-drop, length-take-le}
 use Rattle.std.proofs.lemmas.Option.{none-some, same_Some}
@@ -39,91 +39,44 @@ accepted_sound image keeps = keeps.sound
 pub rest_has : {X : Type 0} (P : X → Type 0) (old rest : List X) (x : X) → old ≡ x ∷ rest → All P old → All P rest
 rest_has P old rest x is all = All-tail P x rest (subst (All P) is all)
 
--- a range, by its fields
-covers_as : (start len a b place : ℕ) → start ≡ a → len ≡ b → Covers start len place → Covers a b place
-covers_as start len a b place starts is (low, high) = (omega (arith, starts, low), omega (arith, starts, is, high))
-
 -- a range of places that are all inside ends inside, where it has a place
 pub range_inside : (n start len : ℕ) → 0 < len → ((place : ℕ) → Covers start len place → place < n) → start + len ≤ n
 range_inside n start len some inside = let last = inside (start + (len - 1)) (omega (arith, some), omega (arith, some)) in omega (arith, some, last)
 
-pub segments_hold : (image : List ℕ) → IsAccepted image → All (IsVerifiedSegment image) (map (segment_at image) (segments_of image (commands_of image)))
+pub segments_hold : (image : List ℕ) → IsAccepted image → All IsVerifiedSegment (map (segment_at image) (segments_of image (commands_of image)))
 unfolding IsAccepted IsVerifiedSegment
 segments_hold image keeps =
-    All-map (IsVerifiedSegment image) (segment_at image) (segments_of image (commands_of image))
-    (λ k d less. (refl, keeps, All-contains_itself (segments_of image (commands_of image)) k d less))
+    All-map IsVerifiedSegment (segment_at image) (segments_of image (commands_of image)) (λ k d less. (keeps, All-contains_itself (segments_of image (commands_of image)) k d less))
 
 -- the bytes of a segment that has any lie in the image
-pub segment_fits : (image : List ℕ) (view : SegmentView) → IsVerifiedSegment image view → (start len : ℕ) → start ≡ fileoff view.image view.place → len ≡ filesize view.image view.place → ¬ (len ≡ 0)
-    → start + len ≤ length image
+pub segment_fits : (view : SegmentView) → IsVerifiedSegment view → ¬ (filesize view.image view.place ≡ 0) → fileoff view.image view.place + filesize view.image view.place ≤ length view.image
 unfolding IsVerifiedSegment
-segment_fits image view (same, keeps, (k, less, at)) start len starts is some =
-    range_inside (length image) start len (omega (arith, some))
-    (λ place covers. keeps.sound.reads place (in_segment (
-      k,
-      view.place,
-      less,
-      at,
-      subst (λ bytes. Covers (fileoff bytes view.place) (filesize bytes view.place) place) (sym same)
-          (covers_as start len (fileoff view.image view.place) (filesize view.image view.place) place starts is covers),
-    )))
-
-pub segment_image : (image : List ℕ) (view : SegmentView) → IsVerifiedSegment image view → image ≡ view.image
-unfolding IsVerifiedSegment
-segment_image image view keeps = keeps.0
+segment_fits view (keeps, (k, less, at)) some =
+    range_inside (length view.image) (fileoff view.image view.place) (filesize view.image view.place) (omega (arith, some))
+    (λ place covers. keeps.sound.reads place (in_segment (k, view.place, less, at, covers)))
 
 -- where an answer is given, with what that says
 pub some_given : {T : Type 0} (P Q : T → Type 0) (R : Type 0) (answer : Option T) → (IsSome answer → R) → (R → (x : T) → P x → Q x) → IfSome answer P → IfSome answer Q
 some_given P Q R None given to holds = tt
 some_given P Q R (Some x) given to holds = to (given refl) x holds
 
--- what is read at a place is the part there
-pub part_is : (bytes image other : List ℕ) (start len a b : ℕ) → image ≡ other → start ≡ a → len ≡ b → bytes ≡ part start len image → bytes ≡ part a b other
-part_is bytes image other start len a b same starts is found =
-    found ∙ (ap (λ start. part start len image) starts ∙ (ap (λ len. part a len image) is ∙ ap (part a b) same))
-
 -- the sections of a segment
-pub sections_hold : (image : List ℕ) (view : SegmentView) → IsVerifiedSegment image view → All (IsVerifiedSection image) (map (section_at view.image) (sections_with view.image view.place))
+sections_held : (view : SegmentView) → IsVerifiedSegment view → All (λ places. IsVerifiedSection (section_at view.image places)) (sections_with view.image view.place)
 unfolding IsVerifiedSegment IsVerifiedSection
-sections_hold image view (same, keeps, has) =
-    All-map (IsVerifiedSection image) (section_at view.image) (sections_with view.image view.place)
-    (All-map (λ places. IsVerifiedSection image (section_at view.image places)) (λ section. (view.place, section)) (sections_in view.image view.place)
-    (λ k d less. (
-      same,
-      keeps,
-      has,
-      subst (λ bytes. Contains (sections_in bytes view.place) (slice_index_or (sections_in view.image view.place) k d)) (sym same)
-          (All-contains_itself (sections_in view.image view.place) k d less),
-    )))
+sections_held view (keeps, has) =
+    All-map (λ places. IsVerifiedSection (section_at view.image places)) (λ section. (view.place, section)) (sections_in view.image view.place)
+    (λ k d less. (keeps, has, All-contains_itself (sections_in view.image view.place) k d less))
 
-pub section_image : (image : List ℕ) (view : SectionView) → IsVerifiedSection image view → image ≡ view.image
-unfolding IsVerifiedSection
-section_image image view keeps = keeps.0
+pub sections_hold : (view : SegmentView) → IsVerifiedSegment view → All IsVerifiedSection (map (section_at view.image) (sections_with view.image view.place))
+sections_hold view is = All-map IsVerifiedSection (section_at view.image) (sections_with view.image view.place) (sections_held view is)
 
 -- the bytes of a section that has any lie in the image, where it is not zero-fill
-pub section_fits : (image : List ℕ) (view : SectionView) → IsVerifiedSection image view → (start len : ℕ) → start ≡ section_offset view.image view.place → len ≡ section_size view.image view.place
-    → is_zero_fill view.image view.place ≡ false → ¬ (len ≡ 0)
-    → start + len ≤ length image
+pub section_fits : (view : SectionView) → IsVerifiedSection view → is_zero_fill view.image view.place ≡ false → ¬ (section_size view.image view.place ≡ 0)
+    → section_offset view.image view.place + section_size view.image view.place ≤ length view.image
 unfolding IsVerifiedSection
-section_fits image view (same, keeps, (k, less, at), (j, fewer, there)) start len starts is plain some =
-    range_inside (length image) start len (omega (arith, some))
-    (λ place covers. keeps.sound.reads place (in_section (
-      k,
-      view.segment,
-      less,
-      at,
-      (
-        j,
-        view.place,
-        fewer,
-        there,
-        (
-          subst (λ bytes. is_zero_fill bytes view.place ≡ false) (sym same) plain,
-          subst (λ bytes. Covers (section_offset bytes view.place) (section_size bytes view.place) place) (sym same)
-              (covers_as start len (section_offset view.image view.place) (section_size view.image view.place) place starts is covers),
-        ),
-      ),
-    )))
+section_fits view (keeps, (k, less, at), (j, fewer, there)) plain some =
+    range_inside (length view.image) (section_offset view.image view.place) (section_size view.image view.place) (omega (arith, some))
+    (λ place covers. keeps.sound.reads place (in_section (k, view.segment, less, at, (j, view.place, fewer, there, (plain, covers)))))
 
 all_append : {X : Type 0} (P : X → Type 0) (xs ys : List X) → All P xs → All P ys → All P (xs ++ ys)
 all_append P [] ys some more = more
@@ -138,19 +91,12 @@ all_flat P g [] all = λ k d less. absurd (omega arith)
 all_flat P g (x ∷ xs) all = all_append P (g x) (flat_map g xs) (all 0 x (omega arith)) (all_flat P g xs (All-tail (λ x. All P (g x)) x xs all))
 
 -- the sections of all segments
-pub all_sections_hold : (image : List ℕ) → IsAccepted image → All (IsVerifiedSection image) (map (section_at image) (sections_of image (commands_of image)))
-unfolding IsAccepted IsVerifiedSection
+pub all_sections_hold : (image : List ℕ) → IsAccepted image → All IsVerifiedSection (map (section_at image) (sections_of image (commands_of image)))
+unfolding IsAccepted IsVerifiedSegment
 all_sections_hold image keeps =
-    All-map (IsVerifiedSection image) (section_at image) (sections_of image (commands_of image))
-    (all_flat (λ places. IsVerifiedSection image (section_at image places)) (sections_with image) (segments_of image (commands_of image))
-    (λ k d less. All-map (λ places. IsVerifiedSection image (section_at image places)) (λ section. (slice_index_or (segments_of image (commands_of image)) k d, section))
-    (sections_in image (slice_index_or (segments_of image (commands_of image)) k d))
-    (λ j e few. (
-      refl,
-      keeps,
-      All-contains_itself (segments_of image (commands_of image)) k d less,
-      All-contains_itself (sections_in image (slice_index_or (segments_of image (commands_of image)) k d)) j e few,
-    ))))
+    All-map IsVerifiedSection (section_at image) (sections_of image (commands_of image))
+    (all_flat (λ places. IsVerifiedSection (section_at image places)) (sections_with image) (segments_of image (commands_of image))
+    (λ k d less. sections_held (segment_at image _) (keeps, All-contains_itself (segments_of image (commands_of image)) k d less)))
 
 -- the item at an index of a list of which P holds
 pub got_has : {X : Type 0} (P : X → Type 0) (xs : List X) (n : ℕ) (x : X) → slice_get xs n ≡ Some x → All P xs → P x

@@ -26,17 +26,16 @@ unfoldable pub IsAccepted : List ℕ → Type 0
 IsAccepted image = IsUnbrokenImage image
 
 -- a segment of such an image
-unfoldable pub IsVerifiedSegment : List ℕ → SegmentView → Type 0
-IsVerifiedSegment image view =
-    (image ≡ view.image) × IsUnbrokenImage image
-    × Contains (segments_of image (commands_of image)) view.place
+unfoldable pub IsVerifiedSegment : SegmentView → Type 0
+IsVerifiedSegment view =
+    IsUnbrokenImage view.image × Contains (segments_of view.image (commands_of view.image)) view.place
 
 -- a section of such an image
-unfoldable pub IsVerifiedSection : List ℕ → SectionView → Type 0
-IsVerifiedSection image view =
-    (image ≡ view.image) × IsUnbrokenImage image
-    × Contains (segments_of image (commands_of image)) view.segment
-    × Contains (sections_in image view.segment) view.place
+unfoldable pub IsVerifiedSection : SectionView → Type 0
+IsVerifiedSection view =
+    IsUnbrokenImage view.image
+    × Contains (segments_of view.image (commands_of view.image)) view.segment
+    × Contains (sections_in view.image view.segment) view.place
 
 -- the strings of LC_SYMTAB
 abbrev pub strings : List ℕ → Span

@@ -66,7 +66,6 @@ impl<'a> VerifiedImage<'a> {
             (segments_of self.now (commands_of self.now)) }
     {
         VerifiedSegments {
-            image: self.image.bytes(),
             segments: self.image.segments(),
         }
     }
@@ -80,10 +79,7 @@ impl<'a> VerifiedImage<'a> {
     {
         let index = usize::from(number).checked_sub(1)?;
         let section = self.image.sections().nth(index)?;
-        Some(VerifiedSection {
-            image: self.image.bytes(),
-            section,
-        })
+        Some(VerifiedSection { section })
     }
 
     /// The bytes at `len` addresses from `address` on, borrowed from the image. `None` where no one

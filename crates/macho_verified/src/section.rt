@@ -1,19 +1,17 @@
 //! The sections of an accepted image, with their bytes. (`mach-o/loader.h`: `section_64`)
 
 use crate::data::data_in;
-use macho_fields::{Bytes, Span};
+use macho_fields::Span;
 use macho_image::{Section, Sections};
 use std::marker::Model;
 
 /// A section of an accepted image.
 #[derive(Drop)]
 pub struct VerifiedSection<'a> {
-    pub(crate) image: Bytes<'a>,
     pub(crate) section: Section<'a>,
 }
 
 impl<'a> Model for VerifiedSection<'a> {
-    ghost use Rattle.macho_fields.specs.Bytes.{bytes_of};
     ghost use Rattle.macho_image.specs.Segment.{SectionView};
     ghost use Rattle.macho_verified.specs.Accepted.{IsVerifiedSection};
 
@@ -21,7 +19,7 @@ impl<'a> Model for VerifiedSection<'a> {
 
     ghost view = { λ verified. verified.section };
 
-    ghost invariant = { λ verified. IsVerifiedSection (bytes_of verified.image) verified.section };
+    ghost invariant = { λ verified. IsVerifiedSection verified.section };
 }
 
 impl<'a> VerifiedSection<'a> {
@@ -53,20 +51,18 @@ impl<'a> VerifiedSection<'a> {
             start: self.section.offset(),
             len: self.section.size(),
         };
-        Some(data_in(self.image, span))
+        Some(data_in(self.section.segment().image(), span))
     }
 }
 
 /// The sections of a segment of an accepted image that remain, in the order of the file.
 #[derive(Drop)]
 pub struct VerifiedSections<'a> {
-    pub(crate) image: Bytes<'a>,
     pub(crate) sections: Sections<'a>,
 }
 
 impl<'a> Model for VerifiedSections<'a> {
     ghost use Rattle.std.specs.Prelude.{List, All};
-    ghost use Rattle.macho_fields.specs.Bytes.{bytes_of};
     ghost use Rattle.macho_image.specs.Segment.{SectionView};
     ghost use Rattle.macho_verified.specs.Accepted.{IsVerifiedSection};
 
@@ -74,8 +70,7 @@ impl<'a> Model for VerifiedSections<'a> {
 
     ghost view = { λ verified. verified.sections };
 
-    ghost invariant = { λ verified.
-        All (IsVerifiedSection (bytes_of verified.image)) verified.sections };
+    ghost invariant = { λ verified. All IsVerifiedSection verified.sections };
 }
 
 impl<'a> Iterator for VerifiedSections<'a> {
@@ -89,9 +84,6 @@ impl<'a> Iterator for VerifiedSections<'a> {
 
     fn next(&mut self) -> Option<VerifiedSection<'a>> {
         let section = self.sections.next()?;
-        Some(VerifiedSection {
-            image: self.image,
-            section,
-        })
+        Some(VerifiedSection { section })
     }
 }

@@ -9,12 +9,10 @@ use std::marker::Model;
 /// A segment of an accepted image.
 #[derive(Drop)]
 pub struct VerifiedSegment<'a> {
-    image: Bytes<'a>,
     segment: Segment<'a>,
 }
 
 impl<'a> Model for VerifiedSegment<'a> {
-    ghost use Rattle.macho_fields.specs.Bytes.{bytes_of};
     ghost use Rattle.macho_image.specs.Segment.{SegmentView};
     ghost use Rattle.macho_verified.specs.Accepted.{IsVerifiedSegment};
 
@@ -22,7 +20,7 @@ impl<'a> Model for VerifiedSegment<'a> {
 
     ghost view = { λ verified. verified.segment };
 
-    ghost invariant = { λ verified. IsVerifiedSegment (bytes_of verified.image) verified.segment };
+    ghost invariant = { λ verified. IsVerifiedSegment verified.segment };
 }
 
 impl<'a> VerifiedSegment<'a> {
@@ -49,7 +47,7 @@ impl<'a> VerifiedSegment<'a> {
             start: self.segment.fileoff(),
             len: self.segment.filesize(),
         };
-        data_in(self.image, span)
+        data_in(self.segment.image(), span)
     }
 
     /// Its bytes at `len` addresses from `address` on, borrowed from the image. `None` where the
@@ -74,7 +72,6 @@ impl<'a> VerifiedSegment<'a> {
             (sections_with self.now.image self.now.place) }
     {
         VerifiedSections {
-            image: self.image,
             sections: self.segment.sections(),
         }
     }
@@ -83,13 +80,11 @@ impl<'a> VerifiedSegment<'a> {
 /// The segments of an accepted image that remain, in the order of the commands.
 #[derive(Drop)]
 pub struct VerifiedSegments<'a> {
-    pub(crate) image: Bytes<'a>,
     pub(crate) segments: Segments<'a>,
 }
 
 impl<'a> Model for VerifiedSegments<'a> {
     ghost use Rattle.std.specs.Prelude.{List, All};
-    ghost use Rattle.macho_fields.specs.Bytes.{bytes_of};
     ghost use Rattle.macho_image.specs.Segment.{SegmentView};
     ghost use Rattle.macho_verified.specs.Accepted.{IsVerifiedSegment};
 
@@ -97,8 +92,7 @@ impl<'a> Model for VerifiedSegments<'a> {
 
     ghost view = { λ verified. verified.segments };
 
-    ghost invariant = { λ verified.
-        All (IsVerifiedSegment (bytes_of verified.image)) verified.segments };
+    ghost invariant = { λ verified. All IsVerifiedSegment verified.segments };
 }
 
 impl<'a> Iterator for VerifiedSegments<'a> {
@@ -112,9 +106,6 @@ impl<'a> Iterator for VerifiedSegments<'a> {
 
     fn next(&mut self) -> Option<VerifiedSegment<'a>> {
         let segment = self.segments.next()?;
-        Some(VerifiedSegment {
-            image: self.image,
-            segment,
-        })
+        Some(VerifiedSegment { segment })
     }
 }

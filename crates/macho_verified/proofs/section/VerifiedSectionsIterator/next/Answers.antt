@@ -1,7 +1,6 @@
-use Rattle.macho_fields.specs.Bytes.{bytes_of}
 use Rattle.macho_verified.specs.Accepted.{IsVerifiedSection}
 use Rattle.macho_verified.proofs.Accepted.{rest_has}
 use Rattle.macho_verified.proofs.section.VerifiedSectionsIterator.next.Goals as goal
 
 pub invariant_of-self-2 : goal.invariant_of-self-2
-invariant_of-self-2 c = rest_has (IsVerifiedSection (bytes_of c.self.inside.image)) _ _ _ c.in_ok-section.ensures.steps c.self.invariant
+invariant_of-self-2 c = rest_has IsVerifiedSection _ _ _ c.in_ok-section.ensures.steps c.self.invariant

@@ -1,12 +1,7 @@
-use Rattle.std.proofs.Common.{All, sym, subst, rules}
-use Rattle.macho_fields.specs.Bytes.{bytes_of}
+use Rattle.std.proofs.Common.{All, sym, subst}
 use Rattle.macho_verified.specs.Accepted.{IsVerifiedSection}
 use Rattle.macho_verified.proofs.Accepted.{sections_hold}
 use Rattle.macho_verified.proofs.segment.VerifiedSegment.sections.Goals as goal
 
 pub invariant_of-result : goal.invariant_of-result
-invariant_of-result c =
-    subst (All (IsVerifiedSection (bytes_of c.self.inside.image))) (sym c.sections.ensures) (sections_hold (bytes_of c.self.inside.image) c.self.inside.segment c.self.invariant)
-
-pub returns : goal.returns
-returns c = search rules
+invariant_of-result c = subst (All IsVerifiedSection) (sym c.sections.ensures) (sections_hold c.self.inside.segment c.self.invariant)
