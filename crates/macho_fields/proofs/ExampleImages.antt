@@ -1,5 +1,5 @@
 -- Small images that break no rule: a header alone, and one with a command that is not listed.
-use Rattle.std.proofs.Common.{◌*◌, Any, ◌≡◌, ℕ, ◌+◌, ◌<◌, ◌⊎◌, List, [], ◌∷◌, ◌++◌, length, true, false, true≢false, ◌&&◌, nat_lt, Contains, None, IsSomeAnd, refl, sym, subst, arith, lit≤, inl, inr}
+use Rattle.std.proofs.Common.{◌*◌, Any, ◌≡◌, ℕ, ◌+◌, ◌<◌, ◌⊎◌, List, [], ◌∷◌, ◌++◌, length, true, false, true≢false, ◌&&◌, nat_lt, Contains, None, IsSomeAnd, refl, sym, subst, arith, lit≤, inl, inr, rules}
 use Rattle.std.specs.List.{list_any}
 use Rattle.std.proofs.lemmas.Bool.{lt-ltb, and_from}
 use Rattle.macho_fields.specs.Image.{command_size, command_cmd, file_type, AreCommands}
@@ -15,7 +15,7 @@ use Rattle.macho_fields.specs.declared.rule.Rule.TheVariants as rule
 use Rattle.macho_fields.proofs.Plain.{unbroken_image}
 use Rattle.macho_fields.proofs.Walks.{IsHeader, breaks_by_commands}
 use Rattle.macho_fields.proofs.Options.{of_none}
-use Rattle.macho_fields.proofs.Lists.{none_in_nil, any_nil, only_one, any_one, none_by_test}
+use Rattle.macho_fields.proofs.Lists.{any_nil, only_one, any_one, none_by_test}
 use Rattle.macho_fields.proofs.ExampleHeaders.{header, four}
 
 abbrev BadId : List ℕ → List ℕ → FileTypeView → Type 0
@@ -29,24 +29,8 @@ executable_names image commands kind bad =
 
 -- an executable without commands breaks no rule
 pub nothing_commanded : (image : List ℕ) → file_type image ≡ 2 → (r : Rule) (place : ℕ) → ¬ BreaksCommands image [] r place
-nothing_commanded image kind rule.CommandShort place h = none_in_nil place h.0
-nothing_commanded image kind rule.CommandRepeated place h = none_in_nil place h.0
 nothing_commanded image kind rule.DylibId place h = any_nil _ (executable_names image [] kind h.1)
-nothing_commanded image kind rule.Name place h = none_in_nil place h.0
-nothing_commanded image kind rule.SegmentAddress place h = none_in_nil place h.0
-nothing_commanded image kind rule.SegmentSize place h = none_in_nil place h.0
-nothing_commanded image kind rule.SegmentFile place h = none_in_nil place h.0
-nothing_commanded image kind rule.SegmentOverlap place h = none_in_nil place h.0
-nothing_commanded image kind rule.SectionAddress place h = any_nil _ h
-nothing_commanded image kind rule.SectionFile place h = any_nil _ h
-nothing_commanded image kind rule.SectionRelocs place h = any_nil _ h
-nothing_commanded image kind rule.TableRange place h = none_in_nil place h.0
-nothing_commanded image kind rule.SymbolGroup place h = none_in_nil place h.0
-nothing_commanded image kind rule.SymbolName place h = any_nil _ h
-nothing_commanded image kind rule.SymbolSection place h = any_nil _ h
-nothing_commanded image kind rule.IndirectIndex place h = any_nil _ h
-nothing_commanded image kind rule.Entry place h = none_in_nil place h.0
-nothing_commanded image kind other place h = h
+nothing_commanded image kind other place h = search rules
 
 abbrev bare : List ℕ
 bare = header 2 0 0
@@ -113,20 +97,8 @@ unlisted_keeps rule.CommandShort at h = keeps_size unlisted at refl h
 unlisted_keeps rule.CommandRepeated at h = not_repeated unlisted at h
 unlisted_keeps rule.DylibId at h = no_library unlisted at refl (λ e. absurd (omega arith)) h
 unlisted_keeps rule.Name at h = no_name unlisted at refl h
-unlisted_keeps rule.SegmentAddress at h = none_in_nil at h.0
-unlisted_keeps rule.SegmentSize at h = none_in_nil at h.0
-unlisted_keeps rule.SegmentFile at h = none_in_nil at h.0
-unlisted_keeps rule.SegmentOverlap at h = none_in_nil at h.0
-unlisted_keeps rule.SectionAddress at h = any_nil _ h
-unlisted_keeps rule.SectionFile at h = any_nil _ h
-unlisted_keeps rule.SectionRelocs at h = any_nil _ h
 unlisted_keeps rule.TableRange at h = none_outside unlisted at refl h
-unlisted_keeps rule.SymbolGroup at h = none_in_nil at h.0
-unlisted_keeps rule.SymbolName at h = any_nil _ h
-unlisted_keeps rule.SymbolSection at h = any_nil _ h
-unlisted_keeps rule.IndirectIndex at h = any_nil _ h
-unlisted_keeps rule.Entry at h = none_in_nil at h.0
-unlisted_keeps other at h = h
+unlisted_keeps other at h = search rules
 
 pub unlisted_command : IsUnbroken unlisted
 unlisted_command = unbroken_image unlisted refl (lit≤ tt, refl) none

@@ -78,7 +78,6 @@ file_keeps rule.FatSliceMagic at (u, h) =
       | inr k ↦ k.1 (inl (lit≤ tt, refl))
     ]
 file_keeps rule.FatEmpty at (e, u, h) = h 0 (entry_slice twins 0) (lit< tt) (lit≤ tt, refl)
-file_keeps rule.HeaderTruncated at h = h
 file_keeps other at h = h
 
 abbrev first : List ℕ

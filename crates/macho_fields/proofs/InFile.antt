@@ -46,16 +46,11 @@ module _ (file : List ℕ) where
   file_place_inside : (r : Rule) (place : ℕ) → Below (rank r) → BreaksFile file r place → place ≤ length file
   file_place_inside rule.Magic place below h = let at = h.0 in omega arith
   file_place_inside rule.FatTruncated place below h = let at = h.0 in let long = h.1.0 in omega arith
-  file_place_inside rule.FatSliceOutside place below h = at_entry (rank rule.FatSliceOutside) (lit< tt) below h.0 (λ _. place ≡ place) place (let (k, less, is, p) = h.1 in (k, less, is, refl))
-  file_place_inside rule.FatSliceInTable place below h = at_entry (rank rule.FatSliceInTable) (lit< tt) below h.0 (λ _. place ≡ place) place (let (k, less, is, p) = h.1 in (k, less, is, refl))
-  file_place_inside rule.FatAlign place below h = at_entry (rank rule.FatAlign) (lit< tt) below h.0 (λ _. place ≡ place) place (let (k, less, is, p) = h.1 in (k, less, is, refl))
-  file_place_inside rule.FatOverlap place below h = at_entry (rank rule.FatOverlap) (lit< tt) below h.0 (λ _. place ≡ place) place (let (k, less, is, p) = h.1 in (k, less, is, refl))
-  file_place_inside rule.FatDuplicate place below h = at_entry (rank rule.FatDuplicate) (lit< tt) below h.0 (λ _. place ≡ place) place (let (k, less, is, p) = h.1 in (k, less, is, refl))
   file_place_inside rule.FatSliceMagic place below h =
       let (j, slice, less, at, (is, p)) = h.1 in
       let most = slice_starts (rank rule.FatSliceMagic) (lit< tt) below h.0 slice (j, less, at) in omega (arith, is)
   file_place_inside rule.FatEmpty place below h = let at = h.0 in let long = h.1.0 in omega arith
-  file_place_inside other place below h = absurd h
+  file_place_inside other place below h = search (lit<, at_entry (rank other))
 
 -- a place of a scope, counted from the start of the file
 module _ (file : List ℕ) where

@@ -1,12 +1,12 @@
 -- The place of the first break of an image lies in the image, or just after its last byte.
-use Rattle.std.proofs.Common.{◌≡◌, ℕ, suc, zero, ◌+◌, ◌*◌, ◌≤◌, ◌<◌, ◌⊎◌, List, [], ◌∷◌, length, map, Contains, Option, refl, sym, ap, ◌∙◌, arith, lit≤, inl, inr, ⊎_elim, lit<}
+use Rattle.std.proofs.Common.{◌≡◌, ℕ, suc, zero, ◌+◌, ◌*◌, ◌≤◌, ◌<◌, ◌⊎◌, List, [], ◌∷◌, length, map, Contains, Option, refl, sym, ap, ◌∙◌, arith, lit≤, inl, inr, lit<}
 use Rattle.std.proofs.lemmas.Bool.{cases_lt}
 use Rattle.std.specs.List.{range_with_len}
 use Rattle.macho_fields.specs.Image.{commands_end, command_cmd, command_size, Follow, AreCommands, with_cmd}
 use Rattle.macho_fields.specs.LoadCommands.{structure_of, indirect_table}
 use Rattle.macho_fields.specs.Segment.{segments_of, AtSection, nsects}
 use Rattle.macho_fields.specs.Symbol.{symoff, nsyms, stroff, strsize, indirectsymoff, nindirectsyms, tables_of, AtSymbol}
-use Rattle.macho_fields.specs.Rules.{BreaksHeader, BreaksImage}
+use Rattle.macho_fields.specs.Rules.{BreaksHeader, BreaksCommands, BreaksImage}
 use Rattle.macho_fields.specs.First.{rank}
 use Rattle.macho_fields.specs.Layers.{KeptBelow, IsLeast}
 use Rattle.macho_fields.specs.declared.load_command.Structure.TheVariants.{DysymtabCommand}
@@ -114,49 +114,27 @@ module _ (image : List ℕ) (arch : Option (ℕ × ℕ)) where
       table_inside n late below commands are dysymtab among (indirectsymoff image dysymtab, nindirectsyms image dysymtab, 4) has (omega arith) in
       omega (arith, is)
 
-  -- the place at which a rule is broken
+  -- the place at which a rule of the header or of the walk is broken
+  at_header : (r : Rule) (place : ℕ) → Below (rank r) → BreaksHeader image arch r place → place ≤ length image
+  at_header rule.HeaderTruncated place below h = let first = h.0 in omega arith
+  at_header rule.ArchMismatch place below h = let at = h.0 in let most = header_inside (rank rule.ArchMismatch) (lit< tt) below in omega arith
+  at_header rule.FileType place below h = let at = h.0 in let most = header_inside (rank rule.FileType) (lit< tt) below in omega arith
+  at_header rule.CommandsOutside place below h = let at = h.0 in let most = header_inside (rank rule.CommandsOutside) (lit< tt) below in omega arith
+  at_header rule.CommandWalk place below h = at_walk (rank rule.CommandWalk) (lit< tt) below place h
+  at_header other place below h = absurd h
+
+  -- and one of the commands
+  by_commands : (commands : List ℕ) → AreCommands image commands → (r : Rule) (place : ℕ) → Below (rank r) → BreaksCommands image commands r place → place ≤ length image
+  by_commands commands are rule.DylibId place below h = let at = h.0 in let most = header_inside (rank rule.DylibId) (lit< tt) below in omega arith
+  by_commands commands are rule.IndirectIndex place below h =
+      let (j, dysymtab, less, at, (i, lower, is, p)) = h in
+      at_indirect (rank rule.IndirectIndex) (lit< tt) below commands are dysymtab i place (j, less, at) lower is
+  by_commands commands are other place below h =
+      search (lit<, lit≤, at_command (rank other), at_cmd (rank other), at_section (rank other), at_symbol (rank other))
+
   pub place_inside : (r : Rule) (place : ℕ) → Below (rank r) → BreaksImage image arch r place → place ≤ length image
-  place_inside rule.HeaderTruncated place below h = ⊎_elim (λ k. let first = k.0 in omega arith) (λ k. absurd k.2) h
-  place_inside rule.ArchMismatch place below h = ⊎_elim (λ k. let at = k.0 in let most = header_inside (rank rule.ArchMismatch) (lit< tt) below in omega arith) (λ k. absurd k.2) h
-  place_inside rule.FileType place below h = ⊎_elim (λ k. let at = k.0 in let most = header_inside (rank rule.FileType) (lit< tt) below in omega arith) (λ k. absurd k.2) h
-  place_inside rule.CommandsOutside place below h = ⊎_elim (λ k. let at = k.0 in let most = header_inside (rank rule.CommandsOutside) (lit< tt) below in omega arith) (λ k. absurd k.2) h
-  place_inside rule.CommandWalk place below h = ⊎_elim (λ k. at_walk (rank rule.CommandWalk) (lit< tt) below place k) (λ k. absurd k.2) h
-  place_inside rule.CommandShort place below h = ⊎_elim (λ k. absurd k) (λ k. at_command (rank rule.CommandShort) (lit< tt) below k.0 k.1 place k.2.0) h
-  place_inside rule.CommandRepeated place below h = ⊎_elim (λ k. absurd k) (λ k. at_command (rank rule.CommandRepeated) (lit< tt) below k.0 k.1 place k.2.0) h
-  place_inside rule.DylibId place below h = ⊎_elim (λ k. absurd k) (λ k. let at = k.2.0 in let most = header_inside (rank rule.DylibId) (lit< tt) below in omega arith) h
-  place_inside rule.Name place below h = ⊎_elim (λ k. absurd k) (λ k. at_command (rank rule.Name) (lit< tt) below k.0 k.1 place k.2.0) h
-  place_inside rule.SegmentAddress place below h = ⊎_elim (λ k. absurd k) (λ k. at_cmd (rank rule.SegmentAddress) (lit< tt) below k.0 k.1 loader.LC_SEGMENT_64 place k.2.0) h
-  place_inside rule.SegmentSize place below h = ⊎_elim (λ k. absurd k) (λ k. at_cmd (rank rule.SegmentSize) (lit< tt) below k.0 k.1 loader.LC_SEGMENT_64 place k.2.0) h
-  place_inside rule.SegmentFile place below h = ⊎_elim (λ k. absurd k) (λ k. at_cmd (rank rule.SegmentFile) (lit< tt) below k.0 k.1 loader.LC_SEGMENT_64 place k.2.0) h
-  place_inside rule.SegmentOverlap place below h = ⊎_elim (λ k. absurd k) (λ k. at_cmd (rank rule.SegmentOverlap) (lit< tt) below k.0 k.1 loader.LC_SEGMENT_64 place k.2.0) h
-  place_inside rule.SectionAddress place below h =
-      ⊎_elim (λ k. absurd k) (λ k.
-      let (j, segment, less, at, (has, p)) = k.2 in
-      at_section (rank rule.SectionAddress) (lit≤ tt) below k.0 k.1 (λ _ _. place ≡ place) place (j, segment, less, at, (has, refl))) h
-  place_inside rule.SectionFile place below h =
-      ⊎_elim (λ k. absurd k) (λ k.
-      let (j, segment, less, at, (has, p)) = k.2 in
-      at_section (rank rule.SectionFile) (lit≤ tt) below k.0 k.1 (λ _ _. place ≡ place) place (j, segment, less, at, (has, refl))) h
-  place_inside rule.SectionRelocs place below h =
-      ⊎_elim (λ k. absurd k) (λ k.
-      let (j, segment, less, at, (has, p)) = k.2 in
-      at_section (rank rule.SectionRelocs) (lit≤ tt) below k.0 k.1 (λ _ _. place ≡ place) place (j, segment, less, at, (has, refl))) h
-  place_inside rule.TableRange place below h = ⊎_elim (λ k. absurd k) (λ k. at_command (rank rule.TableRange) (lit< tt) below k.0 k.1 place k.2.0) h
-  place_inside rule.SymbolGroup place below h = ⊎_elim (λ k. absurd k) (λ k. at_cmd (rank rule.SymbolGroup) (lit< tt) below k.0 k.1 loader.LC_DYSYMTAB place k.2.0) h
-  place_inside rule.SymbolName place below h =
-      ⊎_elim (λ k. absurd k) (λ k.
-      let (j, symtab, less, at, (i, lower, is, p)) = k.2 in
-      at_symbol (rank rule.SymbolName) (lit< tt) below k.0 k.1 (λ _ _. place ≡ place) place (j, symtab, less, at, (i, lower, is, refl))) h
-  place_inside rule.SymbolSection place below h =
-      ⊎_elim (λ k. absurd k) (λ k.
-      let (j, symtab, less, at, (i, lower, is, p)) = k.2 in
-      at_symbol (rank rule.SymbolSection) (lit< tt) below k.0 k.1 (λ _ _. place ≡ place) place (j, symtab, less, at, (i, lower, is, refl))) h
-  place_inside rule.IndirectIndex place below h =
-      ⊎_elim (λ k. absurd k) (λ k.
-      let (j, dysymtab, less, at, (i, lower, is, p)) = k.2 in
-      at_indirect (rank rule.IndirectIndex) (lit< tt) below k.0 k.1 dysymtab i place (j, less, at) lower is) h
-  place_inside rule.Entry place below h = ⊎_elim (λ k. absurd k) (λ k. at_cmd (rank rule.Entry) (lit< tt) below k.0 k.1 loader.LC_MAIN place k.2.0) h
-  place_inside other place below h = ⊎_elim (λ k. absurd k) (λ k. absurd k.2) h
+  place_inside r place below (inl h) = at_header r place below h
+  place_inside r place below (inr (commands, are, h)) = by_commands commands are r place below h
 
 -- the first break of an image
 pub first_inside : (image : List ℕ) (arch : Option (ℕ × ℕ)) (b : Break) → IsLeast (BreaksImage image arch) b → b.place ≤ length image

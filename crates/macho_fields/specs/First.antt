@@ -5,43 +5,9 @@ use Rattle.std.specs.Prelude.{◌≡◌, ℕ, ◌+◌, ◌<◌, ◌⊎◌, suc, 
 use Rattle.std.specs.Option.{option_map_or}
 use Rattle.macho_fields.specs.Universal.{slices_of, slice_bytes, IsImage}
 use Rattle.macho_fields.specs.Rules.{BreaksFile, BreaksImage}
+pub use Rattle.macho_fields.specs.RuleList.{rank}
 use Rattle.macho_fields.specs.declared.rule.Rule.{Rule}
-use Rattle.macho_fields.specs.declared.rule.Rule.TheVariants as rule
 use Rattle.macho_fields.specs.declared.rule.Break.{Break}
-
--- the position of a rule in the order of judgment
-abbrev pub rank : Rule → ℕ
-rank rule.Magic = 1
-rank rule.FatTruncated = 2
-rank rule.FatSliceOutside = 3
-rank rule.FatSliceInTable = 4
-rank rule.FatAlign = 5
-rank rule.FatOverlap = 6
-rank rule.FatDuplicate = 7
-rank rule.FatSliceMagic = 8
-rank rule.FatEmpty = 9
-rank rule.HeaderTruncated = 10
-rank rule.ArchMismatch = 11
-rank rule.FileType = 12
-rank rule.CommandsOutside = 13
-rank rule.CommandWalk = 14
-rank rule.CommandShort = 15
-rank rule.CommandRepeated = 16
-rank rule.DylibId = 17
-rank rule.Name = 18
-rank rule.SegmentAddress = 19
-rank rule.SegmentSize = 20
-rank rule.SegmentFile = 21
-rank rule.SegmentOverlap = 22
-rank rule.SectionAddress = 23
-rank rule.SectionFile = 24
-rank rule.SectionRelocs = 25
-rank rule.TableRange = 26
-rank rule.SymbolGroup = 27
-rank rule.SymbolName = 28
-rank rule.SymbolSection = 29
-rank rule.IndirectIndex = 30
-rank rule.Entry = 31
 
 -- A rule that is broken at a place of a scope: scope 0 is the file, scope k + 1 its slice k.
 pub record Fault : Type 0 where

@@ -5,7 +5,7 @@ pub mod Span
 pub mod Spans
 pub mod Overlap
 pub mod SpanOrder
-pub mod RuleNames
+pub mod RuleList
 pub mod Universal
 pub mod Image
 pub mod LoadCommands

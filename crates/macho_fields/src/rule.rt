@@ -3,7 +3,7 @@
 ghost use Rattle.std.specs.Prelude.{◌≡◌, IfOk, Some};
 ghost use Rattle.std.specs.Fmt.{styled_text};
 ghost use Rattle.std.specs.Fmt.InlineText.{inline_text};
-ghost use Rattle.macho_fields.specs.RuleNames.{name_of, text_of};
+ghost use Rattle.macho_fields.specs.RuleList.{name_of, text_of};
 
 use std::fmt;
 use std::fmt::{InlineText, Write};

@@ -1,6 +1,6 @@
 -- The line of a broken rule, and those of faults. Each ends with one line feed.
 use Rattle.std.specs.Prelude.{ℕ, List, [], ◌∷◌, codes}
-use Rattle.macho_fields.specs.RuleNames.{name_of}
+use Rattle.macho_fields.specs.RuleList.{name_of}
 use Rattle.macho_fields.specs.declared.rule.Break.{Break}
 use Rattle.macho_report.specs.declared.outcome.RunFault.{RunFault}
 use Rattle.macho_report.specs.declared.outcome.RunFault.TheVariants as fault

@@ -1,7 +1,7 @@
 -- What a verdict on a file reports, its line, and two verdicts beside each other.
 use Rattle.std.specs.Prelude.{◌≡◌, ◌≢◌, ◌↔◌, ◌++◌, ℕ, Bool, IsTrue, List, Option, None, Some, codes}
 use Rattle.macho_fields.specs.First.{IsUnbroken, IsFirstBroken}
-use Rattle.macho_fields.specs.RuleNames.{text_of}
+use Rattle.macho_fields.specs.RuleList.{text_of}
 use Rattle.macho_fields.specs.declared.rule.Break.{Break}
 use Rattle.macho_trials.specs.declared.verdicts.compare.Comparison.{Comparison}
 use Rattle.macho_trials.specs.declared.verdicts.compare.Comparison.TheVariants.{Same, Different}

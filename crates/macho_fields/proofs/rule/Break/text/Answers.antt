@@ -1,6 +1,6 @@
 use Rattle.std.proofs.Common.{false, codes}
 use Rattle.std.specs.Fmt.{digits, digits_output}
-use Rattle.macho_fields.specs.RuleNames.{name_of}
+use Rattle.macho_fields.specs.RuleList.{name_of}
 use Rattle.macho_fields.proofs.Texts.{text_written}
 use Rattle.macho_fields.proofs.rule.Break.text.Goals as goal
 
