@@ -1,5 +1,6 @@
-# Read by ./macho-check and by ./test, which set `top` first: the record of the built program, which says of what
-# sources and by which kit it was built. A program that is not as recorded is not run.
+# shellcheck shell=sh disable=SC2034,SC2154 # ./macho-check and ./test read this, and set `top` first
+# The record of the built program: the kit, a hash of the sources, and a hash of the program, a line each. A program
+# that is not as recorded is not run. The record guards against mistakes, not against someone who may write to out/.
 
 crate=$top/crates/macho_check
 program=$crate/out/macho_check
@@ -7,17 +8,10 @@ kept=$crate/out/macho-check
 # Its time is that of the start of a build.
 started=$kept/started
 
-# Runs find over all that the program is made of. All crates count, and all of their files but the must-fail
-# edits: a build too many takes seconds, and a build too few would let an old program answer.
+# Runs find over all that the program is made of. All crates count, and all of their files but the must-fail edits: a
+# build too many takes seconds, and a build too few would let an old program answer.
 find_in_sources() (
-    cd "$top" || exit
-    for part in crates/*/*; do
-        case ${part##*/} in
-            out | must-fail) ;;
-            *) set -- "$part" "$@" ;;
-        esac
-    done
-    find crates.txt "$@"
+    cd "$top" && find crates.txt crates/*/* -regex 'crates/[^/]*/\(out\|must-fail\)' -prune -o "$@"
 )
 
 # Prints a hash of the names and contents of all sources. Of a link it takes the name alone, and rt refuses it.
@@ -26,53 +20,43 @@ hash_of_sources() {
     printf '%s\n' "$list" | LC_ALL=C sort | sha256sum
 }
 
-# Finds the kit, and how it names itself. `rt version` prints the file KIT-ID of the kit and takes 0.2 s, so the
-# file itself is read where it is there.
+# Finds the kit and its name. `rt version` prints the kit's file KIT-ID too, but takes 0.2 s.
 find_kit() {
-    kit=
-    rt=$(command -v rt) && rt=$(readlink -f -- "$rt") || return
-    if [ -r "${rt%/bin/*}/KIT-ID" ]; then
-        read -r kit <"${rt%/bin/*}/KIT-ID"
-    else
-        kit=$("$rt" version </dev/null)
-    fi
+    rt=$(readlink -f -- "$(command -v rt)") || return
+    kit=$(head -n 1 -- "${rt%/bin/*}/KIT-ID" 2>/dev/null || "$rt" version </dev/null)
     [ -n "$kit" ]
 }
 
-read_record() {
-    recorded_program=
-    [ -r "$kept/record" ] &&
-        { read -r recorded_kit && read -r recorded_sources && read -r recorded_program; } <"$kept/record"
-    [ -n "$recorded_program" ]
-}
-
-# Decides whether the program may run, and sets the reason where it may not. Where no kit is on the PATH, the
-# recorded one counts: what it has proved stands.
+# Decides whether the program may run, and sets the reason if it may not. Without a kit on the PATH the recorded one
+# counts: what it has proved still holds.
 is_current() {
     reason="no build of it is recorded"
-    [ -x "$program" ] && read_record || return
+    [ -x "$program" ] && [ -r "$kept/record" ] || return
+    { read -r old_kit && read -r old_sources && read -r built && [ -n "$built" ]; } <"$kept/record" || return
     reason="it is not the program that was built"
-    [ "$(sha256sum <"$program")" = "$recorded_program" ] || return
+    [ "$(sha256sum <"$program")" = "$built" ] || return
     reason="the sources have changed"
-    [ "$(hash_of_sources)" = "$recorded_sources" ] || return
+    [ "$(hash_of_sources)" = "$old_sources" ] || return
     reason="the kit has changed"
-    ! find_kit || [ "$kit" = "$recorded_kit" ]
+    ! find_kit || [ "$kit" = "$old_kit" ]
 }
 
-# Takes down the sources and the kit before a build. An edit that is undone during the build shows in the time of
-# its change.
+# Prints the kit and the hash of the sources as they stand.
+made_of() {
+    find_kit && sources=$(hash_of_sources) && printf '%s\n' "$kit" "$sources"
+}
+
+# Notes before a build what the program will be made of.
 begin_record() {
-    touch "$started" && find_kit && built_by=$kit && sources=$(hash_of_sources)
+    touch "$started" && before=$(made_of)
 }
 
-# Whether the sources and the kit are what they were before the build.
+# Whether that still stands. An edit that was undone during the build shows in the time of its change.
 is_unchanged() {
-    [ "$(hash_of_sources)" = "$sources" ] && [ -z "$(find_in_sources -cnewer "$started")" ] &&
-        find_kit && [ "$kit" = "$built_by" ]
+    [ "$(made_of)" = "$before" ] && [ -z "$(find_in_sources -cnewer "$started" -print)" ]
 }
 
 # Records the program, once it is built.
 write_record() {
-    built=$(sha256sum <"$program") && mkdir -p "$kept" &&
-        printf '%s\n' "$built_by" "$sources" "$built" >"$kept/record.new" && mv -f "$kept/record.new" "$kept/record"
+    built=$(sha256sum <"$program") && mkdir -p "$kept" && printf '%s\n' "$before" "$built" >"$kept/record"
 }
