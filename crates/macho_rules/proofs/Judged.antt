@@ -1,5 +1,5 @@
 -- A rule of an opened image that a search decides, where the rules before it are unbroken.
-use Rattle.std.proofs.Common.{◌≡◌, ℕ, ◌+◌, ◌≤◌, ◌<◌, List, [], ◌∷◌, length, get_or, Contains, Option, None, Some, MatchOption, Result, IsOk, IsErrAnd, Bool, Bor, true, false, refl, subst, sym, ap, ◌∙◌, arith, inl, inr, le_refl}
+use Rattle.std.proofs.Common.{◌≡◌, ℕ, ◌+◌, ◌≤◌, ◌<◌, List, [], ◌∷◌, length, get_or, Contains, Option, None, Some, MatchOption, Result, Bool, Bor, true, false, refl, subst, sym, ap, ◌∙◌, arith, inl, inr, le_refl}
 use Rattle.std.specs.List.{AllWithin, HoldsAt}
 use Rattle.std.specs.Option.{option_map}
 use Rattle.std.specs.Iterator.{FindsItem, YieldsFirst}
@@ -19,10 +19,9 @@ use Rattle.macho_fields.proofs.Layers.{kept_more, least_at}
 use Rattle.macho_fields.proofs.Opened.{OpenedFacts, keeps_rules}
 use Rattle.macho_fields.proofs.Ranks.{header_rule_rank}
 use Rattle.macho_image.specs.Opened.{IsOpened}
-use Rattle.macho_rules.specs.Check.{KeptBefore, JudgesUpTo, IsLeastPlace}
-use Rattle.macho_fields.specs.FirstPlace.{IsFirstOf}
+use Rattle.macho_rules.specs.Check.{KeptBefore, JudgesUpTo, AnswersAt}
+use Rattle.macho_fields.specs.FirstPlace.{IsFirstOf, IsLeastPlace}
 use Rattle.macho_fields.proofs.FirstPlaces.{AreBreaks, first_breaks, first_judged}
-use Rattle.macho_rules.specs.Scaffold.{AnswersAt}
 use Rattle.macho_rules.proofs.Searches.{Searching, search_found, search_ended, Rising, ordered_at}
 
 -- an opened image keeps the rules before those of segments, and only such an image does
@@ -76,7 +75,7 @@ module _ (image : List ℕ) (r : Rule) (late : rank rule.SegmentAddress ≤ rank
 
 -- of an opened image, the first item that breaks the rule has its least place
 pub least_place : {X : Type 0} (image : List ℕ) (opened : IsOpened image) (r : Rule) (late : rank rule.SegmentAddress ≤ rank r) (place : X → ℕ) (P : X → Type 0) (all : List X)
-    → AreBreaks (BreaksCommands image (commands_of image) r) place P all → (found : Option ℕ) → IsFirstOf place P all found → IsLeastPlace image r found
+    → AreBreaks (BreaksCommands image (commands_of image) r) place P all → (found : Option ℕ) → IsFirstOf place P all found → IsLeastPlace (BreaksImage image None r) found
 least_place image opened r late place P all breaking None first =
     let none = first_breaks (BreaksCommands image (commands_of image) r) place P all None breaking first in λ p broken. none p (by_commands image r p late broken)
 least_place image opened r late place P all breaking (Some found) first =
@@ -84,10 +83,10 @@ least_place image opened r late place P all breaking (Some found) first =
     (inr (commands_of image, opened_commands image opened, broken), λ p other. least p (by_commands image r p late other))
 
 -- what a survey answers of a rule, where it is of the image
-pub judged_first : {T : Type 0} (surveyed image : List ℕ) → surveyed ≡ image → (r : Rule) → KeptBefore image r → (found : Option ℕ) → IsLeastPlace surveyed r found → (answer : Result T Break)
-    → MatchOption found (IsOk answer) (λ place. IsErrAnd answer (λ b. (b.rule ≡ r) × (b.place ≡ place))) → JudgesUpTo image r answer
+pub judged_first : {T : Type 0} (surveyed image : List ℕ) → surveyed ≡ image → (r : Rule) → KeptBefore image r → (found : Option ℕ) → IsLeastPlace (BreaksImage surveyed None r) found → (answer : Result T Break)
+    → AnswersAt r found answer → JudgesUpTo image r answer
 judged_first surveyed image same r below found least answer is =
-    first_judged (BreaksImage image None) r found answer below (subst (λ (bytes : List ℕ). IsLeastPlace bytes r found) same least) is
+    first_judged (BreaksImage image None) r found answer below (subst (λ (bytes : List ℕ). IsLeastPlace (BreaksImage bytes None r) found) same least) is
 
 -- of all items this is the first with P, as `find` returns it, or none has P
 abbrev pub IsFound : {X : Type 0} → (X → Type 0) → List X → Option X → Type 0

@@ -22,9 +22,9 @@ use Rattle.macho_fields.specs.declared.span.Span.{Span}
 use Rattle.macho_fields.specs.declared.spans.Insert.{Insert}
 use Rattle.macho_fields.specs.declared.spans.Insert.TheVariants.{Added, Overlap}
 use Rattle.macho_image.specs.Opened.{IsOpened}
-use Rattle.macho_rules.specs.Mapped.{mapped_segments, memory_at}
+use Rattle.macho_rules.specs.Mapped.{mapped_segments, memory_at, numbered_memory}
 use Rattle.macho_rules.specs.Mapping.{source_past, source_from, sources_in, GivesSources}
-use Rattle.macho_rules.specs.Scaffold.{numbered_memory, file_at, FitsFile}
+use Rattle.macho_rules.specs.FilePart.{file_at, FitsFile}
 use Rattle.macho_rules.specs.declared.mapping.FilePart.{FilePart}
 use Rattle.macho_rules.proofs.Judged.{opened_commands}
 use Rattle.macho_rules.proofs.Mapped.{mapped_rise, mapped_among, among_mapped, mapped_positive}

@@ -8,7 +8,7 @@ use Rattle.std.proofs.lemmas.List.{append-nil, map-append, length-map}
 use Rattle.std.proofs.lemmas.List.Elements.{Contains-append_cases, Contains-append_left, Contains-append_right, filter-append}
 use Rattle.std.proofs.lemmas.List.Folds.{find-append}
 use Rattle.std.proofs.lemmas.List.Sums.{sum_by-cons, sum_by-append}
-use Rattle.macho_fields.specs.FirstPlace.{IsFirstOf}
+use Rattle.macho_fields.specs.FirstPlace.{IsFirstOf, IsNoted}
 use Rattle.macho_fields.specs.Image.{command_size, commands_of}
 use Rattle.macho_fields.specs.Segment.{segments_of, sections_in, section_count, nsects, vmaddr, vmsize, fileoff, filesize, shows_start, PassesLastAddress, IsLongerInFile, PassesImage, IsOutsideMemory, IsMisplaced, HasRelocsOutside}
 use Rattle.macho_fields.specs.SpanOrder.{IsOrderOf}
@@ -22,7 +22,7 @@ use Rattle.macho_fields.proofs.Parts.{with_cmd_is, with_cmd_among}
 use Rattle.macho_image.specs.Opened.{IsOpened}
 use Rattle.macho_image.specs.Segment.{SegmentView, SectionView, segment_at, section_at, sections_with}
 use Rattle.macho_rules.specs.Mapped.{memory_at, mapped_segments, tagged_memory}
-use Rattle.macho_rules.specs.Survey.{IsNoted, EndBy, sections_among, mapped_among, base_among, AreFirstSegments, AreFirstSections, AreMapped, IsSurveyOf}
+use Rattle.macho_rules.specs.Survey.{NotesSegment, NotesSection, EndBy, sections_among, mapped_among, base_among, AreFirstSegments, AreFirstSections, AreMapped, IsSurveyOf}
 use Rattle.macho_rules.specs.declared.survey.Mapped.{Mapped}
 use Rattle.macho_rules.specs.declared.survey.SectionBreaks.{SectionBreaks}
 use Rattle.macho_rules.specs.declared.survey.SegmentBreaks.{SegmentBreaks}
@@ -73,12 +73,11 @@ first_noted place P items x old new after (inr (kept, is)) first = subst (IsFirs
 -- One segment more
 
 pub segments_noted : (passed : List SegmentView) (s : SegmentView) (old new : SegmentBreaks) → EndBy (λ t. t.place) passed s.place
-    → IsNoted (PassesLastAddress s.image s.place) s.place old.address new.address → IsNoted (IsLongerInFile s.image s.place) s.place old.size new.size
-    → IsNoted (PassesImage s.image s.place) s.place old.file new.file → AreFirstSegments passed old → AreFirstSegments (passed ++ s ∷ []) new
-segments_noted passed s old new after address size file first = record {
-  address = first_noted (λ t. t.place) (λ t. PassesLastAddress t.image t.place) passed s old.address new.address after address first.address;
-  size = first_noted (λ t. t.place) (λ t. IsLongerInFile t.image t.place) passed s old.size new.size after size first.size;
-  file = first_noted (λ t. t.place) (λ t. PassesImage t.image t.place) passed s old.file new.file after file first.file;
+    → NotesSegment s old new → AreFirstSegments passed old → AreFirstSegments (passed ++ s ∷ []) new
+segments_noted passed s old new after noted first = record {
+  address = first_noted (λ t. t.place) (λ t. PassesLastAddress t.image t.place) passed s old.address new.address after noted.address first.address;
+  size = first_noted (λ t. t.place) (λ t. IsLongerInFile t.image t.place) passed s old.size new.size after noted.size first.size;
+  file = first_noted (λ t. t.place) (λ t. PassesImage t.image t.place) passed s old.file new.file after noted.file first.file;
 }
 
 module _ (passed : List SegmentView) (s : SegmentView) where
@@ -146,12 +145,11 @@ counted_more passed s old count new is here before =
 -- The sections of a segment
 
 pub sections_noted : (passed : List SectionView) (s : SectionView) (old new : SectionBreaks) → EndBy (λ t. t.place) passed s.place
-    → IsNoted (IsOutsideMemory s.image s.segment s.place) s.place old.address new.address → IsNoted (IsMisplaced s.image s.segment s.place) s.place old.file new.file
-    → IsNoted (HasRelocsOutside s.image s.place) s.place old.relocs new.relocs → AreFirstSections passed old → AreFirstSections (passed ++ s ∷ []) new
-sections_noted passed s old new after address file relocs first = record {
-  address = first_noted (λ t. t.place) (λ t. IsOutsideMemory t.image t.segment t.place) passed s old.address new.address after address first.address;
-  file = first_noted (λ t. t.place) (λ t. IsMisplaced t.image t.segment t.place) passed s old.file new.file after file first.file;
-  relocs = first_noted (λ t. t.place) (λ t. HasRelocsOutside t.image t.place) passed s old.relocs new.relocs after relocs first.relocs;
+    → NotesSection s old new → AreFirstSections passed old → AreFirstSections (passed ++ s ∷ []) new
+sections_noted passed s old new after noted first = record {
+  address = first_noted (λ t. t.place) (λ t. IsOutsideMemory t.image t.segment t.place) passed s old.address new.address after noted.address first.address;
+  file = first_noted (λ t. t.place) (λ t. IsMisplaced t.image t.segment t.place) passed s old.file new.file after noted.file first.file;
+  relocs = first_noted (λ t. t.place) (λ t. HasRelocsOutside t.image t.place) passed s old.relocs new.relocs after noted.relocs first.relocs;
 }
 
 module _ (s : SegmentView) (all : List SectionView) (are : all ≡ map (section_at s.image) (sections_with s.image s.place)) (seen : List SectionView) (x : SectionView) (rest : List SectionView)

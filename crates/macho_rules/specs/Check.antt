@@ -1,5 +1,5 @@
 -- The order of judgment of an image: its rules come one after the other.
-use Rattle.std.specs.Prelude.{ℕ, ◌+◌, ◌≤◌, List, Option, None, MatchOption, Result, MatchResult}
+use Rattle.std.specs.Prelude.{◌≡◌, ℕ, ◌+◌, List, Option, None, MatchOption, Result, MatchResult, IsOk, IsErrAnd}
 use Rattle.macho_fields.specs.Rules.{BreaksImage}
 use Rattle.macho_fields.specs.First.{rank}
 use Rattle.macho_fields.specs.Layers.{KeptBelow, Continues}
@@ -21,9 +21,8 @@ abbrev pub RefusesUpTo : {T : Type 0} → List ℕ → Rule → Result T Refusal
 RefusesUpTo image r answer =
     MatchResult answer (λ _. KeptBelow (BreaksImage image None) (rank r + 1)) (IsImageRefusal image None)
 
--- the least place at which an image breaks a rule, and none where it keeps the rule
-abbrev pub IsLeastPlace : List ℕ → Rule → Option ℕ → Type 0
-IsLeastPlace image r found =
-    MatchOption found ((place : ℕ) → ¬ BreaksImage image None r place)
-    (λ first. BreaksImage image None r first
-    × ((place : ℕ) → BreaksImage image None r place → first ≤ place))
+-- an answer reports a break of the rule at the place, and none where there is no place
+abbrev pub AnswersAt : {T : Type 0} → Rule → Option ℕ → Result T Break → Type 0
+AnswersAt r place answer =
+    MatchOption place (IsOk answer)
+    (λ at. IsErrAnd answer (λ b. (b.rule ≡ r) × (b.place ≡ at)))

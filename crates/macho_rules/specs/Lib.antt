@@ -4,4 +4,4 @@ pub mod Survey
 pub mod Verdict
 pub mod Source
 pub mod Mapping
-pub mod Scaffold
+pub mod FilePart

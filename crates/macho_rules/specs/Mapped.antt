@@ -1,5 +1,5 @@
 -- The mapped segments of an image, and their addresses.
-use Rattle.std.specs.Prelude.{ℕ, List, map}
+use Rattle.std.specs.Prelude.{ℕ, ◌+◌, List, [], ◌∷◌, map}
 use Rattle.macho_fields.specs.Overlap.{IsAscending, IsDescending}
 use Rattle.macho_fields.specs.Segment.{vmaddr, vmsize}
 use Rattle.macho_fields.specs.declared.span.Span.{Span}
@@ -16,6 +16,12 @@ mapped_memory image = map (memory_at image) (mapped_segments image)
 -- the same, each with the place of its command
 abbrev pub tagged_memory : List ℕ → List (Span × ℕ)
 tagged_memory image = map (λ segment. (memory_at image segment, segment)) (mapped_segments image)
+
+-- the addresses of each segment, with its index, counted from k on
+abbrev pub numbered_memory : List ℕ → ℕ → List ℕ → List (Span × ℕ)
+numbered_memory image k [] = []
+numbered_memory image k (segment ∷ segments) =
+    (memory_at image segment, k) ∷ numbered_memory image (k + 1) segments
 
 -- their addresses neither ascend nor descend from one to the next
 abbrev pub IsUnordered : List ℕ → Type 0

@@ -1,9 +1,10 @@
 -- What one walk over the segments of an image and their sections finds, and one over its symbols.
-use Rattle.std.specs.Prelude.{◌≡◌, ◌≢◌, ℕ, ◌+◌, ◌-◌, ◌^◌, ◌≤◌, ◌<◌, ◌⊎◌, ◌↔◌, min, nat_lt, List, length, map, filter, find, flat_map, Contains, Option, Some, unwrap_or}
+use Rattle.std.specs.Prelude.{◌≡◌, ◌≢◌, ℕ, ◌+◌, ◌-◌, ◌^◌, ◌≤◌, ◌<◌, ◌⊎◌, ◌↔◌, min, nat_lt, List, length, map, filter, find, flat_map, Contains, Option, None, Some}
 use Rattle.std.specs.Option.{option_map}
 use Rattle.macho_fields.specs.Field.{HasZero}
-use Rattle.macho_fields.specs.FirstPlace.{IsFirstOf}
+use Rattle.macho_fields.specs.FirstPlace.{IsFirstOf, IsNoted, IsLeastPlace}
 use Rattle.macho_fields.specs.Image.{commands_of}
+use Rattle.macho_fields.specs.Rules.{BreaksImage}
 use Rattle.macho_fields.specs.Segment.{vmaddr, vmsize, shows_start, base_of, section_count, PassesLastAddress, IsLongerInFile, PassesImage, IsOutsideMemory, IsMisplaced, HasRelocsOutside}
 use Rattle.macho_fields.specs.SpanOrder.{IsOrderOf}
 use Rattle.macho_fields.specs.Symbol.{stroff, strsize, IsSectionType}
@@ -14,16 +15,10 @@ use Rattle.macho_image.specs.Command.{first_with_cmd}
 use Rattle.macho_image.specs.Opened.{IsOpened}
 use Rattle.macho_image.specs.Segment.{SegmentView, SectionView, section_at, sections_with}
 use Rattle.macho_image.specs.declared.symbol.Symbol.{Symbol}
-use Rattle.macho_rules.specs.Check.{IsLeastPlace}
 use Rattle.macho_rules.specs.Mapped.{memory_at, mapped_segments, tagged_memory}
 use Rattle.macho_rules.specs.declared.survey.SegmentBreaks.{SegmentBreaks}
 use Rattle.macho_rules.specs.declared.survey.SectionBreaks.{SectionBreaks}
 use Rattle.macho_rules.specs.declared.survey.Mapped.{Mapped}
-
--- the place is noted where the rule is broken there, if none was noted before
-abbrev pub IsNoted : Type 0 → ℕ → Option ℕ → Option ℕ → Type 0
-IsNoted broken place old new =
-    (broken × (new ≡ Some (unwrap_or old place))) ⊎ ((¬ broken) × (new ≡ old))
 
 -- no item is past the place
 abbrev pub EndBy : {X : Type 0} → (X → ℕ) → List X → ℕ → Type 0
@@ -47,6 +42,13 @@ pub record AreFirstSegments (segments : List SegmentView) (breaks : SegmentBreak
   pub size : IsFirstOf (λ s. s.place) (λ s. IsLongerInFile s.image s.place) segments breaks.size
   pub file : IsFirstOf (λ s. s.place) (λ s. PassesImage s.image s.place) segments breaks.file
 
+-- what is noted of a segment, in each of their rules
+pub record NotesSegment (segment : SegmentView) (old new : SegmentBreaks) : Type 0 where
+  pub address : IsNoted (PassesLastAddress segment.image segment.place) segment.place old.address
+      new.address
+  pub size : IsNoted (IsLongerInFile segment.image segment.place) segment.place old.size new.size
+  pub file : IsNoted (PassesImage segment.image segment.place) segment.place old.file new.file
+
 -- where the sections first break each of theirs
 pub record AreFirstSections (sections : List SectionView) (breaks : SectionBreaks) : Type 0 where
   pub address : IsFirstOf (λ s. s.place) (λ s. IsOutsideMemory s.image s.segment s.place) sections
@@ -55,6 +57,15 @@ pub record AreFirstSections (sections : List SectionView) (breaks : SectionBreak
       breaks.file
   pub relocs : IsFirstOf (λ s. s.place) (λ s. HasRelocsOutside s.image s.place) sections
       breaks.relocs
+
+-- what is noted of a section
+pub record NotesSection (section : SectionView) (old new : SectionBreaks) : Type 0 where
+  pub address : IsNoted (IsOutsideMemory section.image section.segment section.place) section.place
+      old.address new.address
+  pub file : IsNoted (IsMisplaced section.image section.segment section.place) section.place
+      old.file new.file
+  pub relocs : IsNoted (HasRelocsOutside section.image section.place) section.place old.relocs
+      new.relocs
 
 -- the address of the first segment that shows the start of the file
 abbrev pub base_among : List SegmentView → Option ℕ
@@ -70,12 +81,12 @@ pub record AreMapped (segments : List SegmentView) (mapped : Mapped) : Type 0 wh
 -- of what image a survey is, and what it found
 pub record IsSurveyOf (image : List ℕ) (segments : SegmentBreaks) (sections : SectionBreaks) (mapped : Mapped) (count : ℕ) : Type 0 where
   pub opened : IsOpened image
-  pub segment_address : IsLeastPlace image rule.SegmentAddress segments.address
-  pub segment_size : IsLeastPlace image rule.SegmentSize segments.size
-  pub segment_file : IsLeastPlace image rule.SegmentFile segments.file
-  pub section_address : IsLeastPlace image rule.SectionAddress sections.address
-  pub section_file : IsLeastPlace image rule.SectionFile sections.file
-  pub section_relocs : IsLeastPlace image rule.SectionRelocs sections.relocs
+  pub segment_address : IsLeastPlace (BreaksImage image None rule.SegmentAddress) segments.address
+  pub segment_size : IsLeastPlace (BreaksImage image None rule.SegmentSize) segments.size
+  pub segment_file : IsLeastPlace (BreaksImage image None rule.SegmentFile) segments.file
+  pub section_address : IsLeastPlace (BreaksImage image None rule.SectionAddress) sections.address
+  pub section_file : IsLeastPlace (BreaksImage image None rule.SectionFile) sections.file
+  pub section_relocs : IsLeastPlace (BreaksImage image None rule.SectionRelocs) sections.relocs
   pub section_count : count ≡ section_count image (commands_of image)
   pub order : IsOrderOf (tagged_memory image) mapped.order
   pub mapped_count : mapped.count ≡ min (length (mapped_segments image)) (2 ^ 64 - 1)

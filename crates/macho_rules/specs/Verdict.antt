@@ -38,6 +38,10 @@ IsSliceRefusal file slice (refusal.Broken b) =
 IsSliceRefusal file slice refusal.Memory =
     IsImageRefusal (slice_bytes file slice) slice.arch refusal.Memory
 
+-- b is the first break of the image in a slice, with its place in the file
+abbrev pub IsSliceBreak : List ℕ → FileSlice → Break → Type 0
+IsSliceBreak file slice b = IsSliceRefusal file slice (refusal.Broken b)
+
 -- A refusal of a file is its first broken rule, or that there was no memory. That is answered only
 -- where the rules before fat-overlap are unbroken: the header and the table of the file are whole,
 -- and the slice of each entry begins after the table, lies in the file and is aligned.

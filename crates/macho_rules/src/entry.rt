@@ -11,8 +11,8 @@ use macho_fields::header::vm_prot::VM_PROT_EXECUTE;
 use macho_fields::{Break, Rule};
 use macho_image::{Image, MainCommand, Segment};
 
-/// The entry is at a byte of the file, in memory that may be executed. `base` is the base address of
-/// the image.
+// The entry is at a byte of the file, in memory that may be executed. `base` is the base address of
+// the image.
 pub(crate) fn entry(image: &Image, base: Option<u64>) -> Result<(), Break>
     requires kept { KeptBefore image.now Rule.Entry }
     requires base { base ≡ base_of image.now (commands_of image.now) }
@@ -27,7 +27,7 @@ pub(crate) fn entry(image: &Image, base: Option<u64>) -> Result<(), Break>
     Ok(())
 }
 
-/// Whether there is no base, or no segment runs at the address that `main` names.
+// Whether there is no base, or no segment runs at the address that `main` names.
 fn has_no_entry(image: &Image, base: Option<u64>, main: MainCommand) -> bool
     requires base { base ≡ base_of image.now (commands_of image.now) }
     requires main { main ≡ main_command_at image.now main.place }
@@ -39,7 +39,7 @@ fn has_no_entry(image: &Image, base: Option<u64>, main: MainCommand) -> bool
     !is_executable(image, u128::from(base) + u128::from(main.entryoff))
 }
 
-/// Whether a segment has a byte at the address that may be executed.
+// Whether a segment has a byte at the address that may be executed.
 fn is_executable(image: &Image, address: u128) -> bool
     ensures { IsTrue result
         ↔ IsExecutable image.now (commands_of image.now) address }
@@ -52,7 +52,7 @@ fn is_executable(image: &Image, address: u128) -> bool
     false
 }
 
-/// Whether the segment supplies the address, with a byte of the file, and may be executed.
+// Whether the segment supplies the address, with a byte of the file, and may be executed.
 fn runs_at(segment: &Segment, address: u128) -> bool
     ensures { IsTrue result ↔ RunsAt segment.now.image address segment.now.place }
 {

@@ -6,8 +6,8 @@ ghost use Rattle.macho_fields.specs.Layers.{NothingBreaks};
 ghost use Rattle.macho_fields.specs.Rules.{BreaksImage};
 ghost use Rattle.macho_fields.specs.Span.{Shares};
 ghost use Rattle.macho_fields.specs.Spans.{AreSorted, IsPlaced};
-ghost use Rattle.macho_rules.specs.Mapped.{mapped_segments};
-ghost use Rattle.macho_rules.specs.Scaffold.{file_at, numbered_memory, FitsFile};
+ghost use Rattle.macho_rules.specs.FilePart.{file_at, FitsFile};
+ghost use Rattle.macho_rules.specs.Mapped.{mapped_segments, numbered_memory};
 ghost use Rattle.macho_rules.specs.Verdict.{HasMapped};
 
 use crate::segments::{mapped_count, memory};
@@ -28,7 +28,7 @@ pub enum Source {
 /// The mapped segments of an image, which say what is at each address.
 #[derive(Drop)]
 pub struct Mapping {
-    /// The addresses of each mapped segment, with its index in `files`.
+    // The addresses of each mapped segment, with its index in `files`.
     memory: Spans,
     files: Vec<FilePart>,
     probes: u64,
@@ -38,7 +38,7 @@ pub struct Mapping {
     ghost fits: { All FitsFile files.items },
 }
 
-/// Where the bytes of a segment lie in its slice.
+// Where the bytes of a segment lie in its slice.
 #[derive(Clone, Copy)]
 struct FilePart {
     fileoff: u64,
@@ -131,8 +131,8 @@ impl Mapping {
     }
 }
 
-/// The addresses of the `count` mapped segments of an image that breaks no rule, each with its index
-/// among them. The list that is sorted is let go.
+// The addresses of the `count` mapped segments of an image that breaks no rule, each with its index
+// among them. The list that is sorted is let go.
 fn mapped_spans(alloc: Global, image: &Image, count: usize) -> Result<Spans, AllocError>
     requires unbroken { NothingBreaks (BreaksImage image.now None) }
     requires count { count ≡ min (length (mapped_segments image.now)) (2 ^ 64 - 1) }
@@ -146,8 +146,8 @@ fn mapped_spans(alloc: Global, image: &Image, count: usize) -> Result<Spans, All
     spans_of(alloc, &pairs)
 }
 
-/// The addresses of the `count` mapped segments, each with its index, in the order of the commands. One
-/// takes 24 bytes.
+// The addresses of the `count` mapped segments, each with its index, in the order of the commands. One
+// takes 24 bytes.
 fn numbered_spans(
     alloc: Global,
     image: &Image,
@@ -166,8 +166,8 @@ fn numbered_spans(
     Ok(pairs)
 }
 
-/// Where the bytes of each of the `count` mapped segments lie, in the order of the commands. One takes
-/// 16 bytes.
+// Where the bytes of each of the `count` mapped segments lie, in the order of the commands. One takes
+// 16 bytes.
 fn file_parts(alloc: Global, image: &Image, count: usize) -> Result<Vec<FilePart>, AllocError>
     requires { count ≡ min (length (mapped_segments image.now)) (2 ^ 64 - 1) }
     ensures files { IfOk result (λ files.
@@ -181,7 +181,7 @@ fn file_parts(alloc: Global, image: &Image, count: usize) -> Result<Vec<FilePart
     Ok(files)
 }
 
-/// The spans with their tags. Where they come in ascending order, no insertion moves a pair.
+// The spans with their tags. Where they come in ascending order, no insertion moves a pair.
 fn spans_of(alloc: Global, pairs: &[(Span, u64)]) -> Result<Spans, AllocError>
     requires placed { All (λ pair. IsPlaced pair.0) pairs.now }
     requires apart { AllPairs (λ pair later. ¬ Shares pair.0 later.0) pairs.now }
@@ -200,7 +200,7 @@ impl FilePart {
     ghost use Rattle.std.specs.Prelude.{◌≡◌};
     ghost use Rattle.macho_rules.specs.Source.{source_of};
     ghost use Rattle.macho_rules.specs.Mapping.{source_past};
-    ghost use Rattle.macho_rules.specs.Scaffold.{file_at, FitsFile};
+    ghost use Rattle.macho_rules.specs.FilePart.{file_at, FitsFile};
 
     fn new(segment: &Segment) -> FilePart
         ensures { result ≡ file_at segment.now.image segment.now.place }
@@ -211,7 +211,7 @@ impl FilePart {
         }
     }
 
-    /// What the segment has so many addresses past its first one.
+    // What the segment has so many addresses past its first one.
     fn source(self, past: u64) -> Source
         requires { FitsFile self }
         ensures { source_of result ≡ source_past past self }

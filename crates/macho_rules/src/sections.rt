@@ -12,7 +12,7 @@ use macho_fields::header::reloc::RELOCATION_INFO_SIZE;
 use macho_fields::{Break, Bytes, Rule, Span};
 use macho_image::{Image, Section};
 
-/// Whether the segment of the section is mapped, and the section has an address outside of it.
+// Whether the segment of the section is mapped, and the section has an address outside of it.
 pub(crate) fn is_outside_memory(section: &Section) -> bool
     ensures { IsTrue result
         ↔ IsOutsideMemory section.now.image section.now.segment section.now.place }
@@ -25,7 +25,7 @@ pub(crate) fn is_outside_memory(section: &Section) -> bool
     segment.vmsize() > 0 && section.size() > 0 && !addresses.inside(&memory(&segment))
 }
 
-/// Whether the section has bytes, and they are not where its segment puts them.
+// Whether the section has bytes, and they are not where its segment puts them.
 pub(crate) fn is_misplaced(image: Bytes, section: &Section) -> bool
     requires { bytes_of image ≡ section.now.image }
     ensures { IsTrue result ↔ IsMisplaced section.now.image section.now.segment section.now.place }
@@ -40,8 +40,8 @@ pub(crate) fn is_misplaced(image: Bytes, section: &Section) -> bool
     }
 }
 
-/// Whether the bytes of the section lie in those that its segment has in the file, at the same
-/// distance from their first as the address of the section has from the segment's.
+// Whether the bytes of the section lie in those that its segment has in the file, at the same
+// distance from their first as the address of the section has from the segment's.
 fn is_in_file_part(section: &Section) -> bool
     ensures { IsTrue result
         ↔ IsInFilePart section.now.image section.now.segment section.now.place }
@@ -56,7 +56,7 @@ fn is_in_file_part(section: &Section) -> bool
         && part.end() <= u128::from(segment.filesize())
 }
 
-/// Where the bytes of the section lie in the image.
+// Where the bytes of the section lie in the image.
 fn file_part(section: &Section) -> Span
     ensures start { result.start ≡ section_offset section.now.image section.now.place }
     ensures len { result.len ≡ section_size section.now.image section.now.place }
@@ -67,7 +67,7 @@ fn file_part(section: &Section) -> Span
     }
 }
 
-/// Whether the section has relocations, and they end past the image.
+// Whether the section has relocations, and they end past the image.
 pub(crate) fn has_relocs_outside(image: Bytes, section: &Section) -> bool
     requires { bytes_of image ≡ section.now.image }
     ensures { IsTrue result ↔ HasRelocsOutside section.now.image section.now.place }

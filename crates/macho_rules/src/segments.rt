@@ -15,24 +15,24 @@ use macho_fields::{Break, Bytes, Rule, Sharing, Span, SpanList};
 use macho_image::{Image, Segment};
 use std::alloc::{AllocError, Global};
 
-/// One past the last address.
+// One past the last address.
 const ADDRESS_END: u128 = 1 << 64;
 
-/// Whether the addresses of the segment end past 2^64.
+// Whether the addresses of the segment end past 2^64.
 pub(crate) fn passes_last_address(segment: &Segment) -> bool
     ensures { IsTrue result ↔ PassesLastAddress segment.now.image segment.now.place }
 {
     memory(segment).end() > ADDRESS_END
 }
 
-/// Whether the segment is mapped, and has more bytes in the file than in memory.
+// Whether the segment is mapped, and has more bytes in the file than in memory.
 pub(crate) fn is_longer_in_file(segment: &Segment) -> bool
     ensures { IsTrue result ↔ IsLongerInFile segment.now.image segment.now.place }
 {
     segment.vmsize() > 0 && segment.filesize() > segment.vmsize()
 }
 
-/// Whether the segment has bytes in the file, and they end past the image.
+// Whether the segment has bytes in the file, and they end past the image.
 pub(crate) fn passes_image(image: Bytes, segment: &Segment) -> bool
     requires { bytes_of image ≡ segment.now.image }
     ensures { IsTrue result ↔ PassesImage segment.now.image segment.now.place }
@@ -40,10 +40,10 @@ pub(crate) fn passes_image(image: Bytes, segment: &Segment) -> bool
     segment.filesize() > 0 && !image.contains(file_part(segment))
 }
 
-/// No mapped segment has an address in common with an earlier one.
-///
-/// For n mapped segments that ascend or descend it takes no time past the survey, and no memory. For
-/// others it may take time in the order of n log n, and 24 bytes of memory for each.
+// No mapped segment has an address in common with an earlier one.
+//
+// For n mapped segments that ascend or descend it takes no time past the survey, and no memory. For
+// others it may take time in the order of n log n, and 24 bytes of memory for each.
 pub(crate) fn segment_overlap(alloc: Global, image: &Image, survey: &Survey) -> Result<(), Refusal>
     requires survey { survey.now ≡ image.now }
     requires kept { KeptBefore image.now Rule.SegmentOverlap }
@@ -56,7 +56,7 @@ pub(crate) fn segment_overlap(alloc: Global, image: &Image, survey: &Survey) -> 
     }
 }
 
-/// The same for the `count` mapped segments, which are in no order: they are sorted.
+// The same for the `count` mapped segments, which are in no order: they are sorted.
 fn sorted_overlap(alloc: Global, image: &Image, count: usize) -> Result<(), Refusal>
     requires count { count ≡ min (length (mapped_segments image.now)) (2 ^ 64 - 1) }
     requires kept { KeptBefore image.now Rule.SegmentOverlap }
@@ -71,7 +71,7 @@ fn sorted_overlap(alloc: Global, image: &Image, count: usize) -> Result<(), Refu
     Err(Refusal::Broken(Break::at(Rule::SegmentOverlap, place)))
 }
 
-/// How many segments are mapped, or the largest `usize` where there are more.
+// How many segments are mapped, or the largest `usize` where there are more.
 pub(crate) fn mapped_count(image: &Image) -> usize
     ensures { result ≡ min (length (mapped_segments image.now)) (2 ^ 64 - 1) }
 {
@@ -82,8 +82,8 @@ pub(crate) fn mapped_count(image: &Image) -> usize
     count
 }
 
-/// The addresses of each of the `count` mapped segments, in the order of the commands. The memory for
-/// them is taken at once.
+// The addresses of each of the `count` mapped segments, in the order of the commands. The memory for
+// them is taken at once.
 fn mapped_memory(alloc: Global, image: &Image, count: usize) -> Result<SpanList, AllocError>
     requires { count ≡ min (length (mapped_segments image.now)) (2 ^ 64 - 1) }
     ensures memory { IfOk result (λ list.
@@ -97,7 +97,7 @@ fn mapped_memory(alloc: Global, image: &Image, count: usize) -> Result<SpanList,
     Ok(list)
 }
 
-/// The place of the mapped segment with this index among the mapped ones, counted from 0.
+// The place of the mapped segment with this index among the mapped ones, counted from 0.
 fn mapped_place(image: &Image, index: u64) -> u64
     requires { index < length (mapped_segments image.now) }
     ensures { Some result ≡ slice_get (mapped_segments image.now) index }
@@ -105,7 +105,7 @@ fn mapped_place(image: &Image, index: u64) -> u64
     image.mapped_segments().nth(index as usize).unwrap().place()
 }
 
-/// The addresses of the segment, which are none where it is not mapped.
+// The addresses of the segment, which are none where it is not mapped.
 pub(crate) fn memory(segment: &Segment) -> Span
     ensures start { result.start ≡ vmaddr segment.now.image segment.now.place }
     ensures len { result.len ≡ vmsize segment.now.image segment.now.place }
@@ -116,7 +116,7 @@ pub(crate) fn memory(segment: &Segment) -> Span
     }
 }
 
-/// Where the bytes of the segment lie in the image.
+// Where the bytes of the segment lie in the image.
 fn file_part(segment: &Segment) -> Span
     ensures start { result.start ≡ fileoff segment.now.image segment.now.place }
     ensures len { result.len ≡ filesize segment.now.image segment.now.place }

@@ -16,7 +16,7 @@ ghost use Rattle.macho_fields.specs.Layers.{Decides, KeptBelow, NothingBreaks};
 ghost use Rattle.macho_fields.specs.Rules.{BreaksFile, BreaksImage};
 ghost use Rattle.macho_fields.specs.Universal.{entry_count, entry_slice, slice_bytes, IsUniversal};
 ghost use Rattle.macho_fields.specs.declared.rule.Rule.{Rule};
-ghost use Rattle.macho_rules.specs.Scaffold.{IsSliceBreak};
+ghost use Rattle.macho_rules.specs.Verdict.{IsSliceBreak};
 
 use crate::entry::entry;
 use crate::symbols::indirect_index;
@@ -45,7 +45,7 @@ pub fn slow_first(file: &[u8]) -> Option<Break>
     judge_file(Bytes::new(file)).err()
 }
 
-/// Decides all rules of a file, in their order.
+// Decides all rules of a file, in their order.
 fn judge_file(file: Bytes) -> Result<(), Break>
     ensures unbroken { OnOk result (IsUnbroken (bytes_of file.entry)) }
     ensures first { IfErr result (IsFirstBroken (bytes_of file.entry)) }
@@ -58,7 +58,7 @@ fn judge_file(file: Bytes) -> Result<(), Break>
     }
 }
 
-/// Decides the rules of a universal file, and then those of its images.
+// Decides the rules of a universal file, and then those of its images.
 fn judge_universal(file: Bytes) -> Result<(), Break>
     requires universal { IsUniversal (bytes_of file) }
     requires kept { KeptBelow (BreaksFile (bytes_of file)) (rank Rule.FatTruncated) }
@@ -70,7 +70,7 @@ fn judge_universal(file: Bytes) -> Result<(), Break>
     judge_images(entries)
 }
 
-/// Decides the rules of the entries of a universal file, in their order.
+// Decides the rules of the entries of a universal file, in their order.
 fn judge_entries(entries: Entries) -> Result<(), Break>
     requires { KeptBelow (BreaksFile (bytes_of entries.file)) (rank Rule.FatSliceOutside) }
     ensures { Decides (BreaksFile (bytes_of entries.entry.file)) result }
@@ -84,7 +84,7 @@ fn judge_entries(entries: Entries) -> Result<(), Break>
     fat_empty(entries)
 }
 
-/// Decides the rules of each 64-bit slice, in the order of the table.
+// Decides the rules of each 64-bit slice, in the order of the table.
 fn judge_images(entries: Entries) -> Result<(), Break>
     requires { NothingBreaks (BreaksFile (bytes_of entries.file)) }
     ensures unbroken { OnOk result (IsUnbroken (bytes_of entries.entry.file)) }
@@ -98,8 +98,8 @@ fn judge_images(entries: Entries) -> Result<(), Break>
     Ok(())
 }
 
-/// Decides the rules of the image in the slice of entry `k`. The place of a break is its offset in
-/// the file.
+// Decides the rules of the image in the slice of entry `k`. The place of a break is its offset in
+// the file.
 fn judge_slice(entries: Entries, k: u32) -> Result<(), Break>
     requires entry { k < entry_count (bytes_of entries.file) }
     requires inside { (place : ℕ) → ¬ BreaksFile (bytes_of entries.file) Rule.FatSliceOutside place }
@@ -117,7 +117,7 @@ fn judge_slice(entries: Entries, k: u32) -> Result<(), Break>
     }
 }
 
-/// Decides the rules of an image, which a universal file may name for an architecture.
+// Decides the rules of an image, which a universal file may name for an architecture.
 fn judge_image(bytes: Bytes, arch: Option<(u32, u32)>) -> Result<(), Break>
     ensures { Decides (BreaksImage (bytes_of bytes.entry) arch) result }
 {
@@ -125,7 +125,7 @@ fn judge_image(bytes: Bytes, arch: Option<(u32, u32)>) -> Result<(), Break>
     judge_opened(&image)
 }
 
-/// Decides the rules of an opened image.
+// Decides the rules of an opened image.
 fn judge_opened(image: &Image) -> Result<(), Break>
     ensures { Decides (BreaksImage image.now None) result }
 {

@@ -1,11 +1,11 @@
 //! What one walk over the segments of an image and their sections finds: where each of their rules is
 //! first broken, and what other rules need of them.
 
-ghost use Rattle.std.specs.Prelude.{◌≡◌, ◌∷◌, [], IsTrue};
+ghost use Rattle.std.specs.Prelude.{◌≡◌, ◌∷◌, []};
 ghost use Rattle.std.specs.Option.{option_or};
 ghost use Rattle.macho_fields.specs.Bytes.{bytes_of};
 ghost use Rattle.macho_fields.specs.Segment.{shows_start};
-ghost use Rattle.macho_rules.specs.Survey.{IsNoted, base_among};
+ghost use Rattle.macho_rules.specs.Survey.{base_among};
 
 use crate::sections::{has_relocs_outside, is_misplaced, is_outside_memory};
 use crate::segments::{is_longer_in_file, memory, passes_image, passes_last_address};
@@ -13,15 +13,15 @@ use macho_fields::{Break, Bytes, FirstPlace, Rule, Sharing, SpanOrder};
 use macho_image::{Image, Section, Segment};
 use std::marker::Model;
 
-/// What one walk over the segments of an image and their sections finds.
+// What one walk over the segments of an image and their sections finds.
 #[derive(Drop)]
 pub(crate) struct Survey<'a> {
-    /// The image that was gone over.
+    // The image that was gone over.
     image: Bytes<'a>,
     segments: SegmentBreaks,
     sections: SectionBreaks,
     mapped: Mapped,
-    /// How many sections there are.
+    // How many sections there are.
     section_count: u64,
 }
 
@@ -47,7 +47,7 @@ impl<'a> Survey<'a> {
     ghost use Rattle.macho_rules.specs.Check.{KeptBefore, JudgesUpTo};
     ghost use Rattle.macho_rules.specs.Mapped.{mapped_segments, tagged_memory};
 
-    /// Goes over the segments of the image, and over the sections of each.
+    // Goes over the segments of the image, and over the sections of each.
     pub(crate) fn of(image: &Image<'a>) -> Survey<'a>
         ensures { result ≡ image.now }
     {
@@ -73,15 +73,15 @@ impl<'a> Survey<'a> {
         }
     }
 
-    /// No segment passes the last address. The rules before this one are unbroken in each opened
-    /// image.
+    // No segment passes the last address. The rules before this one are unbroken in each opened
+    // image.
     pub(crate) fn segment_address(&self) -> Result<(), Break>
         ensures { JudgesUpTo self.now Rule.SegmentAddress result }
     {
         self.segments.address.judge(Rule::SegmentAddress)
     }
 
-    /// No mapped segment has more bytes in the file than in memory.
+    // No mapped segment has more bytes in the file than in memory.
     pub(crate) fn segment_size(&self) -> Result<(), Break>
         requires { KeptBefore self.now Rule.SegmentSize }
         ensures { JudgesUpTo self.now Rule.SegmentSize result }
@@ -89,7 +89,7 @@ impl<'a> Survey<'a> {
         self.segments.size.judge(Rule::SegmentSize)
     }
 
-    /// The bytes of each segment lie inside the image.
+    // The bytes of each segment lie inside the image.
     pub(crate) fn segment_file(&self) -> Result<(), Break>
         requires { KeptBefore self.now Rule.SegmentFile }
         ensures { JudgesUpTo self.now Rule.SegmentFile result }
@@ -97,7 +97,7 @@ impl<'a> Survey<'a> {
         self.segments.file.judge(Rule::SegmentFile)
     }
 
-    /// Each section of a mapped segment lies within the addresses of the segment.
+    // Each section of a mapped segment lies within the addresses of the segment.
     pub(crate) fn section_address(&self) -> Result<(), Break>
         requires { KeptBefore self.now Rule.SectionAddress }
         ensures { JudgesUpTo self.now Rule.SectionAddress result }
@@ -105,7 +105,7 @@ impl<'a> Survey<'a> {
         self.sections.address.judge(Rule::SectionAddress)
     }
 
-    /// The bytes of each section are where its mapped segment puts them, or inside the image.
+    // The bytes of each section are where its mapped segment puts them, or inside the image.
     pub(crate) fn section_file(&self) -> Result<(), Break>
         requires { KeptBefore self.now Rule.SectionFile }
         ensures { JudgesUpTo self.now Rule.SectionFile result }
@@ -113,7 +113,7 @@ impl<'a> Survey<'a> {
         self.sections.file.judge(Rule::SectionFile)
     }
 
-    /// The relocations of each section, also of an empty one, lie inside the image.
+    // The relocations of each section, also of an empty one, lie inside the image.
     pub(crate) fn section_relocs(&self) -> Result<(), Break>
         requires { KeptBefore self.now Rule.SectionRelocs }
         ensures { JudgesUpTo self.now Rule.SectionRelocs result }
@@ -121,29 +121,29 @@ impl<'a> Survey<'a> {
         self.sections.relocs.judge(Rule::SectionRelocs)
     }
 
-    /// The number of sections of all segments.
+    // The number of sections of all segments.
     pub(crate) fn section_count(&self) -> u64
         ensures { result ≡ section_count self.now (commands_of self.now) }
     {
         self.section_count
     }
 
-    /// What the order of the mapped segments shows of those that share an address. The place of a
-    /// segment is its tag.
+    // What the order of the mapped segments shows of those that share an address. The place of a
+    // segment is its tag.
     pub(crate) fn sharing(&self) -> Sharing
         ensures { IsSharingOf (tagged_memory self.now) result }
     {
         self.mapped.order.sharing()
     }
 
-    /// How many segments are mapped, or the largest `usize` where there are more.
+    // How many segments are mapped, or the largest `usize` where there are more.
     pub(crate) fn mapped_count(&self) -> usize
         ensures { result ≡ min (length (mapped_segments self.now)) (2 ^ 64 - 1) }
     {
         self.mapped.count
     }
 
-    /// The base address of the image: that of the first segment that shows the start of the file.
+    // The base address of the image: that of the first segment that shows the start of the file.
     pub(crate) fn base(&self) -> Option<u64>
         ensures { result ≡ base_of self.now (commands_of self.now) }
     {
@@ -151,7 +151,7 @@ impl<'a> Survey<'a> {
     }
 }
 
-/// Where the rules of segments are first broken.
+// Where the rules of segments are first broken.
 #[derive(Clone, Copy)]
 struct SegmentBreaks {
     address: FirstPlace,
@@ -160,12 +160,11 @@ struct SegmentBreaks {
 }
 
 impl SegmentBreaks {
-    ghost use Rattle.std.specs.Prelude.{◌≡◌, ◌⊎◌, ◌↔◌, IsTrue, []};
+    ghost use Rattle.std.specs.Prelude.{◌≡◌, []};
     ghost use Rattle.macho_fields.specs.Bytes.{bytes_of};
-    ghost use Rattle.macho_fields.specs.Segment.{PassesLastAddress, IsLongerInFile, PassesImage};
-    ghost use Rattle.macho_rules.specs.Survey.{AreFirstSegments, IsNoted};
+    ghost use Rattle.macho_rules.specs.Survey.{AreFirstSegments, NotesSegment};
 
-    /// None is broken.
+    // None is broken.
     const fn none() -> SegmentBreaks
         ensures { AreFirstSegments [] result }
     {
@@ -176,15 +175,10 @@ impl SegmentBreaks {
         }
     }
 
-    /// Notes which of the rules the segment breaks.
+    // Notes which of the rules the segment breaks.
     fn note(&mut self, image: Bytes, segment: &Segment)
         requires { bytes_of image ≡ segment.now.image }
-        ensures address { IsNoted (PassesLastAddress segment.now.image segment.now.place)
-            segment.now.place self.old.address self.new.address }
-        ensures size { IsNoted (IsLongerInFile segment.now.image segment.now.place)
-            segment.now.place self.old.size self.new.size }
-        ensures file { IsNoted (PassesImage segment.now.image segment.now.place)
-            segment.now.place self.old.file self.new.file }
+        ensures { NotesSegment segment.now self.old self.new }
     {
         if passes_last_address(segment)
             || is_longer_in_file(segment)
@@ -194,26 +188,21 @@ impl SegmentBreaks {
         }
     }
 
-    /// The same, where it breaks one of them.
+    // The same, where it breaks one of them.
     #[cold]
     #[inline(never)]
     fn note_broken(&mut self, image: Bytes, segment: &Segment)
         requires { bytes_of image ≡ segment.now.image }
-        ensures address { IsNoted (PassesLastAddress segment.now.image segment.now.place)
-            segment.now.place self.old.address self.new.address }
-        ensures size { IsNoted (IsLongerInFile segment.now.image segment.now.place)
-            segment.now.place self.old.size self.new.size }
-        ensures file { IsNoted (PassesImage segment.now.image segment.now.place)
-            segment.now.place self.old.file self.new.file }
+        ensures { NotesSegment segment.now self.old self.new }
     {
         let place = segment.place();
-        note_if(&mut self.address, passes_last_address(segment), place);
-        note_if(&mut self.size, is_longer_in_file(segment), place);
-        note_if(&mut self.file, passes_image(image, segment), place);
+        self.address.note_if(passes_last_address(segment), place);
+        self.size.note_if(is_longer_in_file(segment), place);
+        self.file.note_if(passes_image(image, segment), place);
     }
 }
 
-/// Where the rules of sections are first broken.
+// Where the rules of sections are first broken.
 #[derive(Clone, Copy)]
 struct SectionBreaks {
     address: FirstPlace,
@@ -222,13 +211,12 @@ struct SectionBreaks {
 }
 
 impl SectionBreaks {
-    ghost use Rattle.std.specs.Prelude.{◌≡◌, ◌⊎◌, ◌↔◌, ◌++◌, [], List, map, IsTrue};
+    ghost use Rattle.std.specs.Prelude.{◌≡◌, ◌++◌, [], List, map};
     ghost use Rattle.macho_fields.specs.Bytes.{bytes_of};
-    ghost use Rattle.macho_fields.specs.Segment.{IsOutsideMemory, IsMisplaced, HasRelocsOutside};
     ghost use Rattle.macho_image.specs.Segment.{SectionView, section_at, sections_with};
-    ghost use Rattle.macho_rules.specs.Survey.{AreFirstSections, EndBy, IsNoted};
+    ghost use Rattle.macho_rules.specs.Survey.{AreFirstSections, EndBy, NotesSection};
 
-    /// None is broken.
+    // None is broken.
     const fn none() -> SectionBreaks
         ensures { AreFirstSections [] result }
     {
@@ -239,7 +227,7 @@ impl SectionBreaks {
         }
     }
 
-    /// Notes which of the rules the sections of the segment break.
+    // Notes which of the rules the sections of the segment break.
     fn note_all(&mut self, image: Bytes, segment: &Segment)
         requires { bytes_of image ≡ segment.now.image }
         ensures { (passed : List SectionView)
@@ -252,15 +240,10 @@ impl SectionBreaks {
         }
     }
 
-    /// Notes which of the rules the section breaks.
+    // Notes which of the rules the section breaks.
     fn note(&mut self, image: Bytes, section: &Section)
         requires { bytes_of image ≡ section.now.image }
-        ensures address { IsNoted (IsOutsideMemory section.now.image section.now.segment section.now.place)
-            section.now.place self.old.address self.new.address }
-        ensures file { IsNoted (IsMisplaced section.now.image section.now.segment section.now.place)
-            section.now.place self.old.file self.new.file }
-        ensures relocs { IsNoted (HasRelocsOutside section.now.image section.now.place)
-            section.now.place self.old.relocs self.new.relocs }
+        ensures { NotesSection section.now self.old self.new }
     {
         if is_outside_memory(section)
             || is_misplaced(image, section)
@@ -270,42 +253,29 @@ impl SectionBreaks {
         }
     }
 
-    /// The same, where it breaks one of them.
+    // The same, where it breaks one of them.
     #[cold]
     #[inline(never)]
     fn note_broken(&mut self, image: Bytes, section: &Section)
         requires { bytes_of image ≡ section.now.image }
-        ensures address { IsNoted (IsOutsideMemory section.now.image section.now.segment section.now.place)
-            section.now.place self.old.address self.new.address }
-        ensures file { IsNoted (IsMisplaced section.now.image section.now.segment section.now.place)
-            section.now.place self.old.file self.new.file }
-        ensures relocs { IsNoted (HasRelocsOutside section.now.image section.now.place)
-            section.now.place self.old.relocs self.new.relocs }
+        ensures { NotesSection section.now self.old self.new }
     {
         let place = section.place();
-        note_if(&mut self.address, is_outside_memory(section), place);
-        note_if(&mut self.file, is_misplaced(image, section), place);
-        note_if(&mut self.relocs, has_relocs_outside(image, section), place);
+        self.address.note_if(is_outside_memory(section), place);
+        self.file.note_if(is_misplaced(image, section), place);
+        self.relocs
+            .note_if(has_relocs_outside(image, section), place);
     }
 }
 
-/// Notes the place, where the rule is broken there.
-pub(crate) fn note_if(first: &mut FirstPlace, is_broken: bool, place: u64)
-    ensures { IsNoted (IsTrue is_broken) place first.old first.new }
-{
-    if is_broken {
-        first.note(place);
-    }
-}
-
-/// What is found of the mapped segments.
+// What is found of the mapped segments.
 #[derive(Clone, Copy)]
 struct Mapped {
-    /// In what order their addresses come. The place of a segment is its tag.
+    // In what order their addresses come. The place of a segment is its tag.
     order: SpanOrder,
-    /// How many there are, or the largest `usize` where there are more.
+    // How many there are, or the largest `usize` where there are more.
     count: usize,
-    /// The base address of the image.
+    // The base address of the image.
     base: Option<u64>,
 }
 
@@ -314,7 +284,7 @@ impl Mapped {
     ghost use Rattle.macho_image.specs.Segment.{SegmentView};
     ghost use Rattle.macho_rules.specs.Survey.{AreMapped};
 
-    /// There are none.
+    // There are none.
     const fn none() -> Mapped
         ensures { AreMapped [] result }
     {
@@ -325,7 +295,7 @@ impl Mapped {
         }
     }
 
-    /// Notes the segment, where it is mapped.
+    // Notes the segment, where it is mapped.
     fn note(&mut self, segment: &Segment)
         ensures { (passed : List SegmentView) → AreMapped passed self.old
             → AreMapped (passed ++ segment.now ∷ []) self.new }
@@ -339,7 +309,7 @@ impl Mapped {
     }
 }
 
-/// The base address, where it was found before, and otherwise what the segment gives.
+// The base address, where it was found before, and otherwise what the segment gives.
 fn base_with(base: Option<u64>, segment: &Segment) -> Option<u64>
     ensures { result ≡ option_or base (base_among (segment.now ∷ [])) }
 {
@@ -350,7 +320,7 @@ fn base_with(base: Option<u64>, segment: &Segment) -> Option<u64>
     }
 }
 
-/// Whether the segment is mapped, and begins with the first bytes of the image.
+// Whether the segment is mapped, and begins with the first bytes of the image.
 fn shows_start(segment: &Segment) -> bool
     ensures { result ≡ shows_start segment.now.image segment.now.place }
 {

@@ -10,32 +10,32 @@ ghost use Rattle.macho_fields.specs.declared.rule.Rule.{Rule};
 ghost use Rattle.macho_rules.specs.Check.{KeptBefore, JudgesUpTo};
 ghost use Rattle.macho_rules.specs.Survey.{IsNameLimit, BeginsPast, LacksSection};
 
-use crate::survey::note_if;
 use macho_fields::{Break, Bytes, FirstPlace, Rule, Span};
 use macho_image::{Image, Indirect, Symbol, Symtab};
 use std::marker::Model;
 
-/// What one walk over the symbols of an image finds: where each of their rules is first broken.
+// What one walk over the symbols of an image finds: where each of their rules is first broken.
 #[derive(Drop)]
 pub(crate) struct SymbolSurvey<'a> {
-    /// The image that was gone over.
+    // The image that was gone over.
     image: Bytes<'a>,
     name: FirstPlace,
     section: FirstPlace,
 }
 
 impl<'a> Model for SymbolSurvey<'a> {
-    ghost use Rattle.std.specs.Prelude.{List, ℕ};
+    ghost use Rattle.std.specs.Prelude.{List, ℕ, None};
     ghost use Rattle.macho_fields.specs.Bytes.{bytes_of};
+    ghost use Rattle.macho_fields.specs.FirstPlace.{IsLeastPlace};
+    ghost use Rattle.macho_fields.specs.Rules.{BreaksImage};
     ghost use Rattle.macho_fields.specs.declared.rule.Rule.TheVariants as rule;
-    ghost use Rattle.macho_rules.specs.Check.{IsLeastPlace};
 
     ghost Value = { List ℕ };
 
     ghost view = { λ survey. bytes_of survey.image };
 
-    ghost invariant = { λ survey. IsLeastPlace (bytes_of survey.image) rule.SymbolName survey.name
-        × IsLeastPlace (bytes_of survey.image) rule.SymbolSection survey.section };
+    ghost invariant = { λ survey. IsLeastPlace (BreaksImage (bytes_of survey.image) None rule.SymbolName) survey.name
+        × IsLeastPlace (BreaksImage (bytes_of survey.image) None rule.SymbolSection) survey.section };
 }
 
 impl<'a> SymbolSurvey<'a> {
@@ -45,7 +45,7 @@ impl<'a> SymbolSurvey<'a> {
     ghost use Rattle.macho_fields.specs.declared.rule.Rule.{Rule};
     ghost use Rattle.macho_rules.specs.Check.{KeptBefore, JudgesUpTo};
 
-    /// Goes over the symbols of the image, whose segments have `sections` sections in all.
+    // Goes over the symbols of the image, whose segments have `sections` sections in all.
     pub(crate) fn of(image: &Image<'a>, sections: u64) -> SymbolSurvey<'a>
         requires kept { KeptBefore image.now Rule.SymbolName }
         requires sections { sections ≡ section_count image.now (commands_of image.now) }
@@ -55,12 +55,8 @@ impl<'a> SymbolSurvey<'a> {
         let mut name = FirstPlace::none();
         let mut section = FirstPlace::none();
         for symbol in image.symbols() {
-            note_if(&mut name, has_endless_name(symbol, limit), symbol.place);
-            note_if(
-                &mut section,
-                is_in_no_section(symbol, sections),
-                symbol.place,
-            );
+            name.note_if(has_endless_name(symbol, limit), symbol.place);
+            section.note_if(is_in_no_section(symbol, sections), symbol.place);
         }
         SymbolSurvey {
             image: image.bytes(),
@@ -69,7 +65,7 @@ impl<'a> SymbolSurvey<'a> {
         }
     }
 
-    /// Each symbol that has a name has one that ends in the strings.
+    // Each symbol that has a name has one that ends in the strings.
     pub(crate) fn symbol_name(&self) -> Result<(), Break>
         requires { KeptBefore self.now Rule.SymbolName }
         ensures { JudgesUpTo self.now Rule.SymbolName result }
@@ -77,7 +73,7 @@ impl<'a> SymbolSurvey<'a> {
         self.name.judge(Rule::SymbolName)
     }
 
-    /// Each symbol that is defined in a section has the number of one.
+    // Each symbol that is defined in a section has the number of one.
     pub(crate) fn symbol_section(&self) -> Result<(), Break>
         requires { KeptBefore self.now Rule.SymbolSection }
         ensures { JudgesUpTo self.now Rule.SymbolSection result }
@@ -86,7 +82,7 @@ impl<'a> SymbolSurvey<'a> {
     }
 }
 
-/// The first offset in the strings from which on no name ends: the one after their last zero byte.
+// The first offset in the strings from which on no name ends: the one after their last zero byte.
 fn name_limit(image: &Image) -> u64
     ensures { IsNameLimit image.now result }
 {
@@ -99,7 +95,7 @@ fn name_limit(image: &Image) -> u64
     }
 }
 
-/// Where the last string ends: the place of the last zero byte of the strings of `symtab`.
+// Where the last string ends: the place of the last zero byte of the strings of `symtab`.
 fn last_end(image: Bytes, symtab: Symtab) -> Option<u64>
     ensures found { IsSome result ↔ HasZero (bytes_of image.entry) symtab.stroff
         (symtab.stroff + symtab.strsize) }
@@ -114,21 +110,21 @@ fn last_end(image: Bytes, symtab: Symtab) -> Option<u64>
     })
 }
 
-/// Whether the symbol has a name, and it begins at `limit` or past it.
+// Whether the symbol has a name, and it begins at `limit` or past it.
 fn has_endless_name(symbol: Symbol, limit: u64) -> bool
     ensures { IsTrue result ↔ BeginsPast limit symbol }
 {
     symbol.strx != 0 && u64::from(symbol.strx) >= limit
 }
 
-/// Whether the symbol is defined in a section, and none of `count` sections has its number.
+// Whether the symbol is defined in a section, and none of `count` sections has its number.
 pub(crate) fn is_in_no_section(symbol: Symbol, count: u64) -> bool
     ensures { IsTrue result ↔ LacksSection count symbol }
 {
     symbol.names_section() && (symbol.sect == 0 || u64::from(symbol.sect) > count)
 }
 
-/// Each indirect entry that is the index of a symbol is that of one.
+// Each indirect entry that is the index of a symbol is that of one.
 pub(crate) fn indirect_index(image: &Image) -> Result<(), Break>
     requires { KeptBefore image.now Rule.IndirectIndex }
     ensures { JudgesUpTo image.now Rule.IndirectIndex result }
@@ -142,14 +138,14 @@ pub(crate) fn indirect_index(image: &Image) -> Result<(), Break>
     Ok(())
 }
 
-/// Whether the entry is an index that none of `count` symbols has.
+// Whether the entry is an index that none of `count` symbols has.
 fn names_no_symbol(entry: Indirect, count: u64) -> bool
     ensures { IsTrue result ↔ NamesNoSymbol count entry.value }
 {
     entry.is_symbol_index() && u64::from(entry.value) >= count
 }
 
-/// How many symbols the image has: none where it has no symbol table.
+// How many symbols the image has: none where it has no symbol table.
 pub(crate) fn symbol_count(image: &Image) -> u64
     ensures { result ≡ symbol_count image.now (commands_of image.now) }
 {

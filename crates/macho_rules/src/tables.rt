@@ -16,7 +16,7 @@ use crate::symbols::symbol_count;
 use macho_fields::{Break, Bytes, Order, Rule, TableFields, Width, structure_of};
 use macho_image::{Dysymtab, Image};
 
-/// Each table that a command names and that has items lies inside the image.
+// Each table that a command names and that has items lies inside the image.
 pub(crate) fn table_range(image: &Image) -> Result<(), Break>
     requires { KeptBefore image.now Rule.TableRange }
     ensures { JudgesUpTo image.now Rule.TableRange result }
@@ -30,8 +30,8 @@ pub(crate) fn table_range(image: &Image) -> Result<(), Break>
     Ok(())
 }
 
-/// Whether one of the tables that the command at the place `command` names, whose number is `cmd`,
-/// has items and ends past the image.
+// Whether one of the tables that the command at the place `command` names, whose number is `cmd`,
+// has items and ends past the image.
 fn has_table_outside(image: Bytes, cmd: u32, command: u64) -> bool
     requires opened { IsOpened (bytes_of image) }
     requires listed { Contains (commands_of (bytes_of image)) command }
@@ -50,7 +50,7 @@ fn has_table_outside(image: Bytes, cmd: u32, command: u64) -> bool
     false
 }
 
-/// Whether the table that these fields of the command bound has items and ends past the image.
+// Whether the table that these fields of the command bound has items and ends past the image.
 fn is_outside(image: Bytes, command: u64, fields: TableFields) -> bool
     requires place { command + fields.place + width_size fields.width ≤ length (bytes_of image) }
     requires count { command + fields.count + width_size fields.width ≤ length (bytes_of image) }
@@ -62,18 +62,18 @@ fn is_outside(image: Bytes, command: u64, fields: TableFields) -> bool
     count > 0 && !image.contains_table(start, count, fields.item_size)
 }
 
-/// The field of this width at `place`.
+// The field of this width at `place`.
 fn number_at(image: Bytes, width: Width, place: u64) -> u64
     requires { place + width_size width ≤ length (bytes_of image) }
     ensures { result ≡ number_of width (bytes_of image.entry) place }
 {
     match width {
-        Width::Uint32 => u64::from(image.u32_at(Order::Little, place).unwrap()),
-        Width::Uint64 => image.u64_at(Order::Little, place).unwrap(),
+        Width::Uint32 => u64::from(image.read_u32(Order::Little, place)),
+        Width::Uint64 => image.read_u64(Order::Little, place),
     }
 }
 
-/// Each group of symbols that is not empty lies inside the symbol table.
+// Each group of symbols that is not empty lies inside the symbol table.
 pub(crate) fn symbol_group(image: &Image) -> Result<(), Break>
     requires { KeptBefore image.now Rule.SymbolGroup }
     ensures { JudgesUpTo image.now Rule.SymbolGroup result }
@@ -87,7 +87,7 @@ pub(crate) fn symbol_group(image: &Image) -> Result<(), Break>
     Ok(())
 }
 
-/// Whether one of the three groups ends past `count` symbols.
+// Whether one of the three groups ends past `count` symbols.
 fn has_group_past(dysymtab: Dysymtab, count: u64) -> bool
     ensures { (image : List ℕ) → dysymtab ≡ dysymtab_at image dysymtab.place
         → (IsTrue result ↔ Any (PassesSymbols count) (groups_of image dysymtab.place)) }
@@ -97,7 +97,7 @@ fn has_group_past(dysymtab: Dysymtab, count: u64) -> bool
         || is_past(dysymtab.iundefsym, dysymtab.nundefsym, count)
 }
 
-/// Whether the group of `number` symbols from the index `first` on ends past `count` symbols.
+// Whether the group of `number` symbols from the index `first` on ends past `count` symbols.
 fn is_past(first: u64, number: u64, count: u64) -> bool
     ensures { IsTrue result ↔ PassesSymbols count (first, number) }
 {

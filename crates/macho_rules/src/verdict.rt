@@ -61,7 +61,7 @@ pub fn verify<'a>(alloc: Global, file: &'a [u8]) -> Result<Verified<'a>, Refusal
     Ok(Verified { file, slices })
 }
 
-/// Decides the rules of each 64-bit slice, one slice after the other.
+// Decides the rules of each 64-bit slice, one slice after the other.
 fn check_slices(alloc: Global, file: Bytes, slices: &[Slice]) -> Result<(), Refusal>
     requires slices { AreSlices (bytes_of file) slices.now }
     requires file_rules { NothingBreaks (BreaksFile (bytes_of file)) }
@@ -76,14 +76,14 @@ fn check_slices(alloc: Global, file: Bytes, slices: &[Slice]) -> Result<(), Refu
     Ok(())
 }
 
-/// Decides the rules of one slice. The place of a break is its offset in the file.
+// Decides the rules of one slice. The place of a break is its offset in the file.
 fn check_slice(alloc: Global, file: Bytes, slice: &Slice) -> Result<(), Refusal>
     requires { (slice_of slice.now).start + (slice_of slice.now).size ≤ length (bytes_of file) }
     ensures unbroken { OnOk result (NothingBreaks
         (BreaksImage (slice_bytes (bytes_of file.entry) (slice_of slice.now)) slice.now.arch)) }
     ensures refused { IfErr result (IsSliceRefusal (bytes_of file.entry) (slice_of slice.now)) }
 {
-    let bytes = Bytes::new(file.part(slice.span).unwrap());
+    let bytes = file.slice(slice.span);
     match check_bytes(alloc, bytes, slice.arch) {
         Ok(()) => Ok(()),
         Err(Refusal::Broken(broken)) => {
@@ -94,7 +94,7 @@ fn check_slice(alloc: Global, file: Bytes, slice: &Slice) -> Result<(), Refusal>
     }
 }
 
-/// Decides the rules of an image, which a universal file may name for an architecture.
+// Decides the rules of an image, which a universal file may name for an architecture.
 fn check_bytes(alloc: Global, bytes: Bytes, arch: Option<(u32, u32)>) -> Result<(), Refusal>
     ensures unbroken { OnOk result (NothingBreaks (BreaksImage (bytes_of bytes.entry) arch)) }
     ensures refused { IfErr result (IsImageRefusal (bytes_of bytes.entry) arch) }
@@ -144,8 +144,8 @@ impl<'a> Verified<'a> {
         Some(Image::reopen(bytes))
     }
 
-    /// The bytes of the image in the slice with this index, or `None` where the slice is of another
-    /// kind, or there is none.
+    // The bytes of the image in the slice with this index, or `None` where the slice is of another
+    // kind, or there is none.
     fn image_bytes(&self, index: u64) -> Option<Bytes<'a>>
         ensures is_image { IsSome result ↔ HasImage self.now index }
         ensures bytes { IfSome result (λ bytes. IsSomeAnd (slice_get (slices_of self.now) index)
@@ -157,6 +157,7 @@ impl<'a> Verified<'a> {
         if !slice.read {
             return None;
         }
-        Some(Bytes::new(self.bytes().part(slice.span).unwrap()))
+        let bytes = self.bytes().slice(slice.span);
+        Some(bytes)
     }
 }

@@ -9,34 +9,34 @@ use macho_fields::header::fat::{FAT_ARCH_64_SIZE, FAT_ARCH_SIZE, FAT_HEADER_SIZE
 use macho_fields::header::machine::CPU_SUBTYPE_MASK;
 use macho_fields::{Break, Bytes, Order, Rule, Span};
 
-/// `fat_header.nfat_arch`
+// `fat_header.nfat_arch`
 pub(super) const NFAT_ARCH: u64 = 4;
 
-/// `fat_arch.cpusubtype`, `fat_arch_64.cpusubtype`
+// `fat_arch.cpusubtype`, `fat_arch_64.cpusubtype`
 const CPUSUBTYPE: u64 = 4;
 
-/// `fat_arch.offset`, `fat_arch_64.offset`
+// `fat_arch.offset`, `fat_arch_64.offset`
 const OFFSET: u64 = 8;
 
-/// `fat_arch.size`
+// `fat_arch.size`
 const SIZE: u64 = 12;
 
-/// `fat_arch_64.size`
+// `fat_arch_64.size`
 const SIZE_64: u64 = 16;
 
-/// `fat_arch.align`
+// `fat_arch.align`
 const ALIGN: u64 = 16;
 
-/// `fat_arch_64.align`
+// `fat_arch_64.align`
 const ALIGN_64: u64 = 24;
 
-/// The entries of a universal file whose table lies inside the file.
+// The entries of a universal file whose table lies inside the file.
 #[derive(Clone, Copy)]
 pub(super) struct Entries<'a> {
     pub(super) file: Bytes<'a>,
-    /// Whether they are `fat_arch_64`, and not `fat_arch`.
+    // Whether they are `fat_arch_64`, and not `fat_arch`.
     wide: bool,
-    /// How many there are.
+    // How many there are.
     pub(super) count: u32,
 
     ghost universal: { IsUniversal (bytes_of file) },
@@ -56,7 +56,7 @@ impl<'a> Entries<'a> {
     ghost use Rattle.macho_fields.specs.Universal.{entry_align, entry_count, entry_place};
     ghost use Rattle.macho_fields.specs.Universal.{entry_slice, slice_bytes, table_end, IsUniversal};
 
-    /// The entries of a universal file, or `None` where the header or the table ends past the file.
+    // The entries of a universal file, or `None` where the header or the table ends past the file.
     pub(super) fn of(file: Bytes<'a>) -> Option<Entries<'a>>
         requires { IsUniversal (bytes_of file) }
         ensures inside { IsSome result ↔ ((8 ≤ length (bytes_of file.entry))
@@ -71,14 +71,14 @@ impl<'a> Entries<'a> {
         Some(Entries { file, wide, count })
     }
 
-    /// Where the table ends.
+    // Where the table ends.
     pub(super) fn table_end(self) -> u64
         ensures { result ≡ table_end (bytes_of self.entry.file) }
     {
         FAT_HEADER_SIZE + u64::from(self.count) * entry_size(self.wide)
     }
 
-    /// The offset of entry `k` in the file.
+    // The offset of entry `k` in the file.
     fn place(self, k: u32) -> u64
         requires { k < entry_count (bytes_of self.file) }
         ensures { result ≡ entry_place (bytes_of self.entry.file) k }
@@ -86,7 +86,7 @@ impl<'a> Entries<'a> {
         FAT_HEADER_SIZE + u64::from(k) * entry_size(self.wide)
     }
 
-    /// The break of a rule at entry `k`.
+    // The break of a rule at entry `k`.
     pub(super) fn breaks(self, rule: Rule, k: u32) -> Break
         requires { k < entry_count (bytes_of self.file) }
         ensures rule { result.rule ≡ rule }
@@ -95,7 +95,7 @@ impl<'a> Entries<'a> {
         Break::at(rule, self.place(k))
     }
 
-    /// `cputype`, and `cpusubtype` without the capability bits.
+    // `cputype`, and `cpusubtype` without the capability bits.
     pub(super) fn arch(self, k: u32) -> (u32, u32)
         requires { k < entry_count (bytes_of self.file) }
         ensures { Some result ≡ (entry_slice (bytes_of self.entry.file) k).arch }
@@ -108,7 +108,7 @@ impl<'a> Entries<'a> {
         )
     }
 
-    /// `offset` and `size`: where the slice of entry `k` lies in the file.
+    // `offset` and `size`: where the slice of entry `k` lies in the file.
     pub(super) fn span(self, k: u32) -> Span
         requires { k < entry_count (bytes_of self.file) }
         ensures start { result.start ≡ (entry_slice (bytes_of self.entry.file) k).start }
@@ -128,7 +128,7 @@ impl<'a> Entries<'a> {
         }
     }
 
-    /// `align`: the exponent of a power of two.
+    // `align`: the exponent of a power of two.
     pub(super) fn align(self, k: u32) -> u32
         requires { k < entry_count (bytes_of self.file) }
         ensures { result ≡ entry_align (bytes_of self.entry.file) k }
@@ -137,7 +137,7 @@ impl<'a> Entries<'a> {
         self.file.read_u32(Order::Big, self.place(k) + field)
     }
 
-    /// The bytes of the slice of entry `k`, where each slice lies inside the file.
+    // The bytes of the slice of entry `k`, where each slice lies inside the file.
     pub(super) fn bytes(self, k: u32) -> Bytes<'a>
         requires entry { k < entry_count (bytes_of self.file) }
         requires inside { (place : ℕ) → ¬ BreaksFile (bytes_of self.file) Rule.FatSliceOutside place }
@@ -148,7 +148,7 @@ impl<'a> Entries<'a> {
     }
 }
 
-/// The size in bytes of an entry: a `fat_arch_64` where entries are wide, otherwise a `fat_arch`.
+// The size in bytes of an entry: a `fat_arch_64` where entries are wide, otherwise a `fat_arch`.
 fn entry_size(wide: bool) -> u64
     ensures { result ≡ (if wide then FAT_ARCH_64_SIZE else FAT_ARCH_SIZE) }
 {

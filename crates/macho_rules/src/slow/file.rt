@@ -17,7 +17,7 @@ use macho_fields::header::fat::{FAT_MAGIC, FAT_MAGIC_64};
 use macho_fields::header::loader::{MH_MAGIC, MH_MAGIC_64};
 use macho_fields::{Break, Bytes, Order, Rule};
 
-/// The file begins with the magic number of a universal file, or of a 64-bit image.
+// The file begins with the magic number of a universal file, or of a 64-bit image.
 pub(super) fn magic(file: Bytes) -> Result<(), Break>
     ensures continues { Continues (BreaksFile (bytes_of file.entry)) Rule.Magic result }
     ensures known { OnOk result (IsUniversal (bytes_of file.entry) ⊎ IsImage (bytes_of file.entry)) }
@@ -28,21 +28,21 @@ pub(super) fn magic(file: Bytes) -> Result<(), Break>
     Ok(())
 }
 
-/// Whether the file begins with one of the magic numbers of a universal file.
+// Whether the file begins with one of the magic numbers of a universal file.
 pub(super) fn is_universal(file: Bytes) -> bool
     ensures { IsTrue result ↔ IsUniversal (bytes_of file.entry) }
 {
     matches!(file.u32_at(Order::Big, 0), Some(FAT_MAGIC | FAT_MAGIC_64))
 }
 
-/// Whether the bytes begin with the magic number of a 64-bit little-endian image.
+// Whether the bytes begin with the magic number of a 64-bit little-endian image.
 pub(super) fn is_image(bytes: Bytes) -> bool
     ensures { IsTrue result ↔ IsImage (bytes_of bytes.entry) }
 {
     bytes.u32_at(Order::Little, 0) == Some(MH_MAGIC_64)
 }
 
-/// The header and the table of a universal file lie inside the file.
+// The header and the table of a universal file lie inside the file.
 pub(super) fn fat_truncated(file: Bytes) -> Result<Entries, Break>
     requires universal { IsUniversal (bytes_of file) }
     requires kept { KeptBelow (BreaksFile (bytes_of file)) (rank Rule.FatTruncated) }
@@ -52,7 +52,7 @@ pub(super) fn fat_truncated(file: Bytes) -> Result<Entries, Break>
     Entries::of(file).ok_or(Break::at(Rule::FatTruncated, NFAT_ARCH))
 }
 
-/// Each slice lies inside the file.
+// Each slice lies inside the file.
 pub(super) fn fat_slice_outside(entries: Entries) -> Result<(), Break>
     requires { KeptBelow (BreaksFile (bytes_of entries.file)) (rank Rule.FatSliceOutside) }
     ensures { Continues (BreaksFile (bytes_of entries.entry.file)) Rule.FatSliceOutside result }
@@ -65,7 +65,7 @@ pub(super) fn fat_slice_outside(entries: Entries) -> Result<(), Break>
     Ok(())
 }
 
-/// Each slice begins after the table.
+// Each slice begins after the table.
 pub(super) fn fat_slice_in_table(entries: Entries) -> Result<(), Break>
     requires { KeptBelow (BreaksFile (bytes_of entries.file)) (rank Rule.FatSliceInTable) }
     ensures { Continues (BreaksFile (bytes_of entries.entry.file)) Rule.FatSliceInTable result }
@@ -78,7 +78,7 @@ pub(super) fn fat_slice_in_table(entries: Entries) -> Result<(), Break>
     Ok(())
 }
 
-/// The offset of each slice is a multiple of its alignment.
+// The offset of each slice is a multiple of its alignment.
 pub(super) fn fat_align(entries: Entries) -> Result<(), Break>
     requires { KeptBelow (BreaksFile (bytes_of entries.file)) (rank Rule.FatAlign) }
     ensures { Continues (BreaksFile (bytes_of entries.entry.file)) Rule.FatAlign result }
@@ -91,7 +91,7 @@ pub(super) fn fat_align(entries: Entries) -> Result<(), Break>
     Ok(())
 }
 
-/// Whether 2 to the power of `align` divides an offset, which no power past the 63rd does.
+// Whether 2 to the power of `align` divides an offset, which no power past the 63rd does.
 fn is_aligned(offset: u64, align: u32) -> bool
     requires { 0 < offset }
     ensures { IsTrue result ↔ IsMultiple align offset }
@@ -99,7 +99,7 @@ fn is_aligned(offset: u64, align: u32) -> bool
     align < u64::BITS && offset % (1 << align) == 0
 }
 
-/// No slice has a byte in common with an earlier one.
+// No slice has a byte in common with an earlier one.
 pub(super) fn fat_overlap(entries: Entries) -> Result<(), Break>
     requires { KeptBelow (BreaksFile (bytes_of entries.file)) (rank Rule.FatOverlap) }
     ensures { Continues (BreaksFile (bytes_of entries.entry.file)) Rule.FatOverlap result }
@@ -112,7 +112,7 @@ pub(super) fn fat_overlap(entries: Entries) -> Result<(), Break>
     Ok(())
 }
 
-/// Whether the slice of entry `later` has a byte in common with that of an earlier entry.
+// Whether the slice of entry `later` has a byte in common with that of an earlier entry.
 fn shares_with_earlier(entries: Entries, later: u32) -> bool
     requires { later < entry_count (bytes_of entries.file) }
     ensures { IsTrue result ↔ OverlapsEarlierSlice (bytes_of entries.entry.file) later }
@@ -126,7 +126,7 @@ fn shares_with_earlier(entries: Entries, later: u32) -> bool
     false
 }
 
-/// No slice has the architecture of an earlier one.
+// No slice has the architecture of an earlier one.
 pub(super) fn fat_duplicate(entries: Entries) -> Result<(), Break>
     requires { KeptBelow (BreaksFile (bytes_of entries.file)) (rank Rule.FatDuplicate) }
     ensures { Continues (BreaksFile (bytes_of entries.entry.file)) Rule.FatDuplicate result }
@@ -139,7 +139,7 @@ pub(super) fn fat_duplicate(entries: Entries) -> Result<(), Break>
     Ok(())
 }
 
-/// Whether entry `later` names the architecture of an earlier entry.
+// Whether entry `later` names the architecture of an earlier entry.
 fn repeats_earlier(entries: Entries, later: u32) -> bool
     requires { later < entry_count (bytes_of entries.file) }
     ensures { IsTrue result ↔ RepeatsEarlierArch (bytes_of entries.entry.file) later }
@@ -153,8 +153,8 @@ fn repeats_earlier(entries: Entries, later: u32) -> bool
     false
 }
 
-/// Each slice begins with the magic number of an image, which may be one that is not read. The place
-/// is the least at which one does not, whatever the order of the entries.
+// Each slice begins with the magic number of an image, which may be one that is not read. The place
+// is the least at which one does not, whatever the order of the entries.
 pub(super) fn fat_slice_magic(entries: Entries) -> Result<(), Break>
     requires { KeptBelow (BreaksFile (bytes_of entries.file)) (rank Rule.FatSliceMagic) }
     ensures { Continues (BreaksFile (bytes_of entries.entry.file)) Rule.FatSliceMagic result }
@@ -171,22 +171,22 @@ pub(super) fn fat_slice_magic(entries: Entries) -> Result<(), Break>
     }
 }
 
-/// The lesser of two places, of which the first may be missing.
+// The lesser of two places, of which the first may be missing.
 fn lesser(least: Option<u64>, place: u64) -> u64
     ensures { MatchOption least (result ≡ place) (λ least. result ≡ min least place) }
 {
     least.map_or(place, |least| least.min(place))
 }
 
-/// Whether the bytes begin with the magic number of no image.
+// Whether the bytes begin with the magic number of no image.
 fn is_foreign(bytes: Bytes) -> bool
     ensures { IsTrue result ↔ IsForeign (bytes_of bytes.entry) }
 {
     !is_image(bytes) && !is_unread_image(bytes)
 }
 
-/// Whether the bytes begin with the magic number of an image that is not read: one of 32 bits, or
-/// a big-endian one.
+// Whether the bytes begin with the magic number of an image that is not read: one of 32 bits, or
+// a big-endian one.
 fn is_unread_image(bytes: Bytes) -> bool
     ensures { IsTrue result ↔ IsUnreadImage (bytes_of bytes.entry) }
 {
@@ -194,7 +194,7 @@ fn is_unread_image(bytes: Bytes) -> bool
         || matches!(bytes.u32_at(Order::Big, 0), Some(MH_MAGIC | MH_MAGIC_64))
 }
 
-/// Some slice is a 64-bit little-endian image.
+// Some slice is a 64-bit little-endian image.
 pub(super) fn fat_empty(entries: Entries) -> Result<(), Break>
     requires { KeptBelow (BreaksFile (bytes_of entries.file)) (rank Rule.FatEmpty) }
     ensures { Continues (BreaksFile (bytes_of entries.entry.file)) Rule.FatEmpty result }

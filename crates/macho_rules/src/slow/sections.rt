@@ -3,14 +3,13 @@
 ghost use Rattle.std.specs.Prelude.{◌≡◌};
 ghost use Rattle.std.specs.Option.{option_map};
 ghost use Rattle.macho_fields.specs.declared.rule.Rule.{Rule};
-ghost use Rattle.macho_rules.specs.Check.{KeptBefore, JudgesUpTo};
-ghost use Rattle.macho_rules.specs.Scaffold.{AnswersAt};
+ghost use Rattle.macho_rules.specs.Check.{KeptBefore, JudgesUpTo, AnswersAt};
 
 use crate::sections::{has_relocs_outside, is_misplaced, is_outside_memory};
 use macho_fields::{Break, Rule};
 use macho_image::{Image, Section};
 
-/// Each section of a mapped segment lies within the addresses of the segment.
+// Each section of a mapped segment lies within the addresses of the segment.
 pub(super) fn section_address(image: &Image) -> Result<(), Break>
     requires { KeptBefore image.now Rule.SectionAddress }
     ensures { JudgesUpTo image.now Rule.SectionAddress result }
@@ -19,7 +18,7 @@ pub(super) fn section_address(image: &Image) -> Result<(), Break>
     judge(Rule::SectionAddress, first)
 }
 
-/// The bytes of each section are where its mapped segment puts them, or inside the image.
+// The bytes of each section are where its mapped segment puts them, or inside the image.
 pub(super) fn section_file(image: &Image) -> Result<(), Break>
     requires { KeptBefore image.now Rule.SectionFile }
     ensures { JudgesUpTo image.now Rule.SectionFile result }
@@ -31,7 +30,7 @@ pub(super) fn section_file(image: &Image) -> Result<(), Break>
     judge(Rule::SectionFile, first)
 }
 
-/// The relocations of each section, also of an empty one, lie inside the image.
+// The relocations of each section, also of an empty one, lie inside the image.
 pub(super) fn section_relocs(image: &Image) -> Result<(), Break>
     requires { KeptBefore image.now Rule.SectionRelocs }
     ensures { JudgesUpTo image.now Rule.SectionRelocs result }

@@ -5,14 +5,13 @@ ghost use Rattle.std.specs.Option.{option_map};
 ghost use Rattle.macho_fields.specs.Image.{commands_of};
 ghost use Rattle.macho_fields.specs.Segment.{OverlapsEarlier};
 ghost use Rattle.macho_fields.specs.declared.rule.Rule.{Rule};
-ghost use Rattle.macho_rules.specs.Check.{KeptBefore, JudgesUpTo};
-ghost use Rattle.macho_rules.specs.Scaffold.{AnswersAt};
+ghost use Rattle.macho_rules.specs.Check.{KeptBefore, JudgesUpTo, AnswersAt};
 
 use crate::segments::{is_longer_in_file, memory, passes_image, passes_last_address};
 use macho_fields::{Break, Rule};
 use macho_image::{Image, Segment};
 
-/// No segment passes the last address. The rules before this one are unbroken in each opened image.
+// No segment passes the last address. The rules before this one are unbroken in each opened image.
 pub(super) fn segment_address(image: &Image) -> Result<(), Break>
     ensures { JudgesUpTo image.now Rule.SegmentAddress result }
 {
@@ -22,7 +21,7 @@ pub(super) fn segment_address(image: &Image) -> Result<(), Break>
     judge(Rule::SegmentAddress, first)
 }
 
-/// No mapped segment has more bytes in the file than in memory.
+// No mapped segment has more bytes in the file than in memory.
 pub(super) fn segment_size(image: &Image) -> Result<(), Break>
     requires { KeptBefore image.now Rule.SegmentSize }
     ensures { JudgesUpTo image.now Rule.SegmentSize result }
@@ -31,7 +30,7 @@ pub(super) fn segment_size(image: &Image) -> Result<(), Break>
     judge(Rule::SegmentSize, first)
 }
 
-/// The bytes of each segment lie inside the image.
+// The bytes of each segment lie inside the image.
 pub(super) fn segment_file(image: &Image) -> Result<(), Break>
     requires { KeptBefore image.now Rule.SegmentFile }
     ensures { JudgesUpTo image.now Rule.SegmentFile result }
@@ -43,8 +42,8 @@ pub(super) fn segment_file(image: &Image) -> Result<(), Break>
     judge(Rule::SegmentFile, first)
 }
 
-/// No mapped segment has an address in common with an earlier one. Each is compared with all earlier
-/// ones, which takes time in the order of n^2 for n segments.
+// No mapped segment has an address in common with an earlier one. Each is compared with all earlier
+// ones, which takes time in the order of n^2 for n segments.
 pub(super) fn segment_overlap(image: &Image) -> Result<(), Break>
     requires { KeptBefore image.now Rule.SegmentOverlap }
     ensures { JudgesUpTo image.now Rule.SegmentOverlap result }
@@ -57,7 +56,7 @@ pub(super) fn segment_overlap(image: &Image) -> Result<(), Break>
     Ok(())
 }
 
-/// Whether the segment has an address in common with an earlier one.
+// Whether the segment has an address in common with an earlier one.
 fn overlaps_earlier(image: &Image, segment: &Segment) -> bool
     requires { segment.now.image ≡ image.now }
     ensures { IsTrue result ↔ OverlapsEarlier image.now (commands_of image.now) segment.now.place }

@@ -12,8 +12,8 @@ use crate::symbols::is_in_no_section;
 use macho_fields::{Break, Bytes, Rule, Span};
 use macho_image::{Image, Symbol, Symtab};
 
-/// Each symbol that has a name has one that ends in the strings. The end of each name is searched for
-/// on its own, which takes time in proportion to the symbols times the strings.
+// Each symbol that has a name has one that ends in the strings. The end of each name is searched for
+// on its own, which takes time in proportion to the symbols times the strings.
 pub(super) fn symbol_name(image: &Image) -> Result<(), Break>
     requires { KeptBefore image.now Rule.SymbolName }
     ensures { JudgesUpTo image.now Rule.SymbolName result }
@@ -30,7 +30,7 @@ pub(super) fn symbol_name(image: &Image) -> Result<(), Break>
     Ok(())
 }
 
-/// Whether the symbol has a name, and no zero byte ends it in the strings of `symtab`.
+// Whether the symbol has a name, and no zero byte ends it in the strings of `symtab`.
 fn has_endless_name(image: Bytes, symtab: Symtab, symbol: Symbol) -> bool
     requires symtab { symtab ≡ symtab_at (bytes_of image) symtab.place }
     requires symbol { symbol ≡ symbol_at (bytes_of image) symbol.place }
@@ -52,7 +52,7 @@ fn has_endless_name(image: Bytes, symtab: Symtab, symbol: Symbol) -> bool
     image.first_zero(rest).is_none()
 }
 
-/// Each symbol that is defined in a section has the number of one.
+// Each symbol that is defined in a section has the number of one.
 pub(super) fn symbol_section(image: &Image) -> Result<(), Break>
     requires { KeptBefore image.now Rule.SymbolSection }
     ensures { JudgesUpTo image.now Rule.SymbolSection result }

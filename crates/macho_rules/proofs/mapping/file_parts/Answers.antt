@@ -1,7 +1,7 @@
 use Rattle.std.proofs.Common.{map, ap, ◌∙◌, arith}
 use Rattle.macho_image.specs.Segment.{SegmentView}
 use Rattle.macho_rules.specs.Mapped.{mapped_segments}
-use Rattle.macho_rules.specs.Scaffold.{file_at}
+use Rattle.macho_rules.specs.FilePart.{file_at}
 use Rattle.macho_rules.proofs.Mapped.{pushed, at_places, yielded_mapped, yielded_all, mapped_some}
 use Rattle.macho_rules.proofs.MappingItems.{on_err, no_room}
 use Rattle.macho_rules.proofs.mapping.file_parts.Goals as goal

@@ -1,5 +1,5 @@
 use Rattle.std.proofs.Common.{◌≡◌, map}
-use Rattle.macho_rules.specs.Scaffold.{file_at}
+use Rattle.macho_rules.specs.FilePart.{file_at}
 use Rattle.macho_rules.proofs.mapping.file_parts.Given as goal
 
 -- the parts are those of the segments that were yielded

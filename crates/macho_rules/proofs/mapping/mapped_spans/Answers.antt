@@ -3,8 +3,7 @@ use Rattle.std.specs.Prelude.{AllPairs, All, IsPermutation}
 use Rattle.std.proofs.lemmas.List.Sorted.{IsPermutation-trans}
 use Rattle.macho_fields.specs.Span.{Shares}
 use Rattle.macho_fields.specs.Spans.{SpansView, IsPlaced}
-use Rattle.macho_rules.specs.Mapped.{mapped_segments}
-use Rattle.macho_rules.specs.Scaffold.{numbered_memory}
+use Rattle.macho_rules.specs.Mapped.{mapped_segments, numbered_memory}
 use Rattle.macho_rules.proofs.Mapped.{mapped_some}
 use Rattle.macho_rules.proofs.MappingItems.{pairs_moved, moved_count, moved_placed, moved_apart, ok_for, err_for}
 use Rattle.macho_rules.proofs.Verdicts.{unbroken_opened}

@@ -1,8 +1,7 @@
 use Rattle.std.proofs.Common.{◌≡◌, [], ◌∷◌, map, length, vec_len, rules, sym, ap, ◌∙◌, arith}
 use Rattle.std.proofs.lemmas.List.{map-append}
 use Rattle.macho_image.specs.Segment.{SegmentView}
-use Rattle.macho_rules.specs.Mapped.{mapped_segments, memory_at}
-use Rattle.macho_rules.specs.Scaffold.{numbered_memory}
+use Rattle.macho_rules.specs.Mapped.{mapped_segments, memory_at, numbered_memory}
 use Rattle.macho_rules.proofs.Mapped.{span_is, mapped_all, yielded_image, yielded_mapped, yielded_all, mapped_some}
 use Rattle.macho_rules.proofs.MappingItems.{numbered_more, pairs_counted, on_err, no_room}
 use Rattle.macho_rules.proofs.mapping.numbered_spans.Goals as goal

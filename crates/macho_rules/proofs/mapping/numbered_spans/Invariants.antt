@@ -1,5 +1,5 @@
 use Rattle.std.proofs.Common.{◌≡◌, map}
-use Rattle.macho_rules.specs.Scaffold.{numbered_memory}
+use Rattle.macho_rules.specs.Mapped.{numbered_memory}
 use Rattle.macho_rules.proofs.mapping.numbered_spans.Given as goal
 
 -- the pairs are those of the segments that were yielded

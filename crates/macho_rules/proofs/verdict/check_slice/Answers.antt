@@ -14,26 +14,26 @@ pub overflow_add-place : goal.overflow_add-place
 overflow_add-place c =
     let file = bytes_of c.args.file in
     let slice = slice_of c.args.slice.now in
-    let same : bytes_of c.new-bytes.result ≡ slice_bytes file slice = c.new-bytes.ensures ∙ (rw c.unwrap.ensures at c.part.ensures.bytes) in
-    let near : c.in-Err-Broken.broken.place ≤ length (bytes_of c.new-bytes.result) =
-    first_inside (bytes_of c.new-bytes.result) c.args.slice.now.arch c.in-Err-Broken.broken (rw c.in-Err-Broken.field-0-is at c.in-Err-Broken.ensures.refused) in
+    let same : bytes_of c.slice-bytes.result ≡ slice_bytes file slice = c.slice-bytes.ensures in
+    let near : c.in-Err-Broken.broken.place ≤ length (bytes_of c.slice-bytes.result) =
+    first_inside (bytes_of c.slice-bytes.result) c.args.slice.now.arch c.in-Err-Broken.broken (rw c.in-Err-Broken.field-0-is at c.in-Err-Broken.ensures.refused) in
     let size : length (slice_bytes file slice) ≡ slice.size = part_length slice.start slice.size file c.requires in
     let inside : slice.start + slice.size ≤ length file = c.requires in
-    let counted : length (bytes_of c.new-bytes.result) ≡ slice.size = ap length same ∙ size in
+    let counted : length (bytes_of c.slice-bytes.result) ≡ slice.size = ap length same ∙ size in
     omega (arith, counted)
 
 pub returns-in-Ok-clause-unbroken : goal.returns-in-Ok-clause-unbroken
 returns-in-Ok-clause-unbroken c =
     let file = bytes_of c.args.file in
     let slice = slice_of c.args.slice.now in
-    let same : bytes_of c.new-bytes.result ≡ slice_bytes file slice = c.new-bytes.ensures ∙ (rw c.unwrap.ensures at c.part.ensures.bytes) in
+    let same : bytes_of c.slice-bytes.result ≡ slice_bytes file slice = c.slice-bytes.ensures in
     subst (λ (bytes : List ℕ). NothingBreaks (BreaksImage bytes c.args.slice.now.arch)) same c.in-Ok.ensures.unbroken
 
 pub returns-in-Err-Broken-clause-refused : goal.returns-in-Err-Broken-clause-refused
 returns-in-Err-Broken-clause-refused c =
     let file = bytes_of c.args.file in
     let slice = slice_of c.args.slice.now in
-    let same : bytes_of c.new-bytes.result ≡ slice_bytes file slice = c.new-bytes.ensures ∙ (rw c.unwrap.ensures at c.part.ensures.bytes) in
+    let same : bytes_of c.slice-bytes.result ≡ slice_bytes file slice = c.slice-bytes.ensures in
     let found = rw c.in-Err-Broken.field-0-is at c.in-Err-Broken.ensures.refused in
     (c.in-Err-Broken.broken, subst (λ (bytes : List ℕ). IsLeast (BreaksImage bytes c.args.slice.now.arch) c.in-Err-Broken.broken) same found, c.at.ensures.rule, c.at.ensures.place)
 
@@ -41,6 +41,6 @@ pub returns-in-Err-Memory-clause-refused : goal.returns-in-Err-Memory-clause-ref
 returns-in-Err-Memory-clause-refused c =
     let file = bytes_of c.args.file in
     let slice = slice_of c.args.slice.now in
-    let same : bytes_of c.new-bytes.result ≡ slice_bytes file slice = c.new-bytes.ensures ∙ (rw c.unwrap.ensures at c.part.ensures.bytes) in
+    let same : bytes_of c.slice-bytes.result ≡ slice_bytes file slice = c.slice-bytes.ensures in
     let found = rw c.in-Err-Memory.field-0-is at c.in-Err-Memory.ensures.refused in
     subst (λ (bytes : List ℕ). IsImageRefusal bytes c.args.slice.now.arch refusal.Memory) same found

@@ -23,8 +23,7 @@ loop-section-preserved c =
       walked_on _ seen _ x _ reached c.in-Some.ensures.steps,
       λ passed after before.
           subst (λ xs. AreFirstSections xs c.note.new.self) (append_assoc passed seen (x ∷ []))
-          (sections_noted (passed ++ seen) x c.loop-section.self c.note.new.self (sections_end_by c.args.segment.now _ are seen x _ here passed after) c.note.ensures.address c.note.ensures.file
-          c.note.ensures.relocs (first passed after before)),
+          (sections_noted (passed ++ seen) x c.loop-section.self c.note.new.self (sections_end_by c.args.segment.now _ are seen x _ here passed after) c.note.ensures (first passed after before)),
     )
 
 pub returns : goal.returns

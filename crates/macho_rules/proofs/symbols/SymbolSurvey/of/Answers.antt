@@ -1,6 +1,7 @@
-use Rattle.std.proofs.Common.{◌++◌, [], ◌∷◌, List, ℕ, sym, ◌∙◌, subst, lit≤, lit<}
+use Rattle.std.proofs.Common.{◌++◌, [], ◌∷◌, List, ℕ, None, sym, ◌∙◌, subst, lit≤, lit<}
+use Rattle.macho_fields.specs.FirstPlace.{IsLeastPlace}
+use Rattle.macho_fields.specs.Rules.{BreaksImage}
 use Rattle.macho_fields.specs.declared.rule.Rule.TheVariants as rule
-use Rattle.macho_rules.specs.Check.{IsLeastPlace}
 use Rattle.macho_rules.specs.Survey.{BeginsPast, LacksSection}
 use Rattle.macho_rules.proofs.Judged.{keeps_opened, least_place}
 use Rattle.macho_rules.proofs.Surveys.{walked, walked_on, walked_all, rising_end_by, noted_as, first_noted}
@@ -30,7 +31,7 @@ invariant_of-result c =
     let opened = keeps_opened image rule.SymbolName (lit≤ tt) c.requires.kept in
     let (seen, reached, names, sections) = c.loop-symbol.invariant.2 in
     let are = sym (walked_all _ seen _ reached c.in-None.ensures.steps.0) ∙ (c.into_iter-symbol-iterator.ensures.into_iter_gives ∙ c.symbols-symbol-items.ensures) in
-    subst (λ (bytes : List ℕ). IsLeastPlace bytes rule.SymbolName c.loop-symbol.name × IsLeastPlace bytes rule.SymbolSection c.loop-symbol.section) (sym c.bytes.ensures.bytes) (
+    subst (λ (bytes : List ℕ). IsLeastPlace (BreaksImage bytes None rule.SymbolName) c.loop-symbol.name × IsLeastPlace (BreaksImage bytes None rule.SymbolSection) c.loop-symbol.section) (sym c.bytes.ensures.bytes) (
       least_place image opened rule.SymbolName (lit≤ tt) _ _ seen (limit_breaks image seen are rule.SymbolName (lit< tt) c.requires.kept c.name_limit-limit.result c.name_limit-limit.ensures)
           c.loop-symbol.name names,
       least_place image opened rule.SymbolSection (lit≤ tt) _ _ seen (numbers_break image seen are rule.SymbolName (lit< tt) c.requires.kept c.args.sections c.requires.sections)
