@@ -4,7 +4,7 @@ use Rattle.std.proofs.lemmas.Bool.{eqb-true, eq-eqb}
 use Rattle.std.proofs.lemmas.List.{get_or-take, get_or-drop}
 use Rattle.std.proofs.lemmas.Option.{slice_get-get_or}
 use Rattle.memchr.specs.Find.{is_byte, IsFirstByte, IsLastByte, Nowhere, Passes}
-use Rattle.macho_fields.specs.Field.{part, HasZero}
+use Rattle.macho_fields.specs.Field.{part, Covers, HasZero}
 
 module _ (bytes within : List ℕ) (start len : ℕ) (are : within ≡ part start len bytes) where
   inside_part : (k : ℕ) → k < length within → (k < len) × (start + k < length bytes)
@@ -17,12 +17,12 @@ module _ (bytes within : List ℕ) (start len : ℕ) (are : within ≡ part star
   read_part : (k : ℕ) → k < length within → slice_index within k ≡ slice_index bytes (start + k)
   read_part k h = ap (λ xs. slice_index xs k) are ∙ (get_or-take len (drop start bytes) k 0 (inside_part k h).0 ∙ get_or-drop start bytes k 0)
 
-  -- an index of the part whose byte is zero
-  pub zero_in_part : (k : ℕ) → k < length within → Passes (is_byte 0) within k → (k < len) × (slice_get bytes (start + k) ≡ Some 0)
+  -- an index of the part whose byte is zero is a place of the bytes
+  pub zero_in_part : (k : ℕ) → k < length within → Passes (is_byte 0) within k → Covers start len (start + k) × (slice_get bytes (start + k) ≡ Some 0)
   zero_in_part k inside is =
       let (below, held) = inside_part k inside in
       let zero : slice_index bytes (start + k) ≡ 0 = sym (read_part k inside) ∙ eqb-true _ 0 is in
-      (below, slice_get-get_or bytes (start + k) 0 held ∙ ap Some zero)
+      ((omega arith, omega arith), slice_get-get_or bytes (start + k) 0 held ∙ ap Some zero)
 
   -- a place whose byte is zero is such an index
   zero_passes : (z : ℕ) → start ≤ z → z - start < length within → slice_index bytes z ≡ 0 → Passes (is_byte 0) within (z - start)

@@ -1,4 +1,3 @@
-use Rattle.std.proofs.Common.{arith}
 use Rattle.std.proofs.lemmas.Bool.{false≢true}
 use Rattle.macho_fields.proofs.Zeros.{zero_in_part, none_in_part, none_after}
 use Rattle.macho_fields.proofs.bytes.Bytes.last_zero.Goals as goal
@@ -9,10 +8,7 @@ returns-in_err-index-clause-found c =
     rw c.from_residual-in_err-index.ensures (λ h. absurd (false≢true h), λ h. absurd (none h))
 
 pub returns-clause-zero : goal.returns-clause-zero
-returns-clause-zero c =
-    let (below, zero) = zero_in_part c.args.self.bytes.now c.in_ok-within.within.now c.args.span.start c.args.span.len c.in_ok-within.ensures.bytes
-    c.in_ok-index.index c.in_ok-index.ensures.0.high c.in_ok-index.ensures.1 in
-    ((omega arith, omega (arith, below)), zero)
+returns-clause-zero c = zero_in_part c.args.self.bytes.now c.in_ok-within.within.now _ _ c.in_ok-within.ensures.bytes c.in_ok-index.index c.in_ok-index.ensures.0.high c.in_ok-index.ensures.1
 
 pub returns-clause-last : goal.returns-clause-last
-returns-clause-last c = none_after c.args.self.bytes.now c.in_ok-within.within.now c.args.span.start c.args.span.len c.in_ok-within.ensures.bytes c.in_ok-index.index c.in_ok-index.ensures
+returns-clause-last c = none_after c.args.self.bytes.now c.in_ok-within.within.now _ _ c.in_ok-within.ensures.bytes c.in_ok-index.index c.in_ok-index.ensures
