@@ -61,18 +61,6 @@ pub(crate) fn executable(alloc: Global) -> Result<Vec<u8>, Fail> {
     written(alloc, EXECUTABLE)
 }
 
-/// A universal file of three slices. The second is of 32 bits. The third, of 108 bytes at 132, has a
-/// segment of its last four bytes, which ends with the last address.
-pub(crate) fn three_slices(alloc: Global) -> Result<Vec<u8>, Fail> {
-    written(alloc, THREE_SLICES)
-}
-
-const THREE_SLICES: &str = "\
-    cafebabe 00000003 0100000c 00000000 00000060 00000020 .4 00000007 00000003 00000080 00000004 .4 \
-    00000007 00000009 00000084 0000006c .4 .28 cffaedfe 0c000001 00000000 02000000 .16 cefaedfe \
-    cffaedfe 07000000 09000000 02000000 01000000 48000000 .8 19000000 48000000 .16 \
-    f8ffffffffffffff 0800000000000000 6800000000000000 0400000000000000 .4 01000000 .8 .4";
-
 const EXECUTABLE: &str = "\
     cffaedfe 07000001 03000000 02000000 0a000000 c8020000 .8 19000000 48000000 5f5f5041 47455a45 \
     524f0000 .16 01000000 .32 19000000 98000000 5f5f5445 58540000 .12 01000000 00100000 .12 \

@@ -1,7 +1,6 @@
 //! What no clause says, and that the clauses say what was meant. The verdicts are vectors, in
 //! `macho_trials/data`.
 
-mod address;
 mod failing;
 mod faults;
 mod fields;

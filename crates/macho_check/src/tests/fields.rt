@@ -70,18 +70,6 @@ fn zeros_are_found_in_the_span_alone(rt: HostRuntime) {
     }
 }
 
-#[test]
-fn empty_spans_share_nothing(rt: HostRuntime) {
-    let (whole, empty) = (span(8, 4), span(10, 0));
-    same(&rt, &whole.end(), &12);
-    same(&rt, &empty.inside(&whole), &true);
-    same(
-        &rt,
-        &(whole.shares(&whole), empty.shares(&whole)),
-        &(true, false),
-    );
-}
-
 /// Tables by their starts, counts and sizes of an item, and where they end.
 const TABLE_ENDS: &[(u64, u64, u64, u128)] = &[
     (8, 3, 20, 68),
@@ -126,23 +114,27 @@ fn a_span_holds_its_first_place_and_not_its_end(rt: HostRuntime) {
     same(&rt, &(last.holds(u64::MAX), last.holds(7)), &(true, false));
 }
 
-/// Spans, and whether each is inside that of 4 from 8 on.
-const INSIDE: &[(u64, u64, bool)] = &[
-    (8, 4, true),
-    (9, 2, true),
-    (12, 0, true),
-    (7, 3, false),
-    (9, 4, false),
-    (7, 6, false),
-    (7, 0, false),
-    (13, 0, false),
+/// Spans, whether each is inside that of 4 from 8 on, and whether it shares a place with it.
+const INSIDE: &[(u64, u64, bool, bool)] = &[
+    (8, 4, true, true),
+    (9, 2, true, true),
+    (10, 0, true, false),
+    (12, 0, true, false),
+    (7, 3, false, true),
+    (9, 4, false, true),
+    (7, 6, false, true),
+    (7, 0, false, false),
+    (13, 0, false, false),
 ];
 
 #[test]
 fn a_span_is_inside_where_both_ends_are(rt: HostRuntime) {
-    for &(start, len, inside) in INSIDE {
-        let given = span(start, len).inside(&span(8, 4));
-        same(&rt, &(start, len, given), &(start, len, inside));
+    let whole = span(8, 4);
+    same(&rt, &whole.end(), &12);
+    for &(start, len, inside, shares) in INSIDE {
+        let part = span(start, len);
+        let given = (start, len, part.inside(&whole), part.shares(&whole));
+        same(&rt, &given, &(start, len, inside, shares));
     }
 }
 
@@ -168,23 +160,14 @@ fn a_break_shows_its_place_in_hexadecimal(rt: HostRuntime) -> Result<(), Fail> {
 }
 
 #[test]
-fn a_width_applies_to_the_name_of_a_rule(rt: HostRuntime) -> Result<(), Fail> {
+fn a_width_applies_to_the_whole_text(rt: HostRuntime) -> Result<(), Fail> {
     let rule = Rule::Entry;
     let text = format!(in rt.alloc(); "{rule:>8}|{rule:-<8}|{rule:4}")?;
     same(&rt, &text.as_str(), &"   entry|entry---|entry");
-    Ok(())
-}
-
-#[test]
-fn a_width_applies_to_the_whole_text_of_a_break(rt: HostRuntime) -> Result<(), Fail> {
-    let rule = Rule::Entry;
     let broken = Break { rule, place: 0x20 };
     let text = format!(in rt.alloc(); "{broken:>16}|{broken:^15}|{broken:2}")?;
-    same(
-        &rt,
-        &text.as_str(),
-        &"   entry at 0x20| entry at 0x20 |entry at 0x20",
-    );
+    let shown = "   entry at 0x20| entry at 0x20 |entry at 0x20";
+    same(&rt, &text.as_str(), &shown);
     Ok(())
 }
 

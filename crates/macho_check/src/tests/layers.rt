@@ -2,7 +2,7 @@
 
 use super::mapping::has_mapping;
 use super::same;
-use crate::notation::{executable, written};
+use crate::notation::written;
 use macho_fat::{FatFault, Slice, slices};
 use macho_fields::header::machine::{CPU_TYPE_ARM64, CPU_TYPE_X86_64};
 use macho_fields::{Break, Bytes, Rule, Span};
@@ -12,20 +12,17 @@ use std::process::Abort;
 use std::test::Fail;
 
 /// A slice of these bytes and this architecture, and whether it is read.
-fn slice(start: u64, len: u64, arch: Option<(u32, u32)>, read: bool) -> Slice {
-    let span = Span { start, len };
-    Slice { span, arch, read }
-}
-
-/// Compares the slices of a file that keeps all rules, in the list and in the verified file.
-fn check_slices(
-    rt: &(impl Abort + AllocGlobal),
-    file: &[u8],
-    expected: &[Slice],
-) -> Result<(), Fail> {
-    check_listed(rt, file, expected)?;
-    let verified = verify(rt.alloc(), file)?;
-    check_verified(rt, &verified, expected)
+macro_rules! slice {
+    ($start:expr, $len:expr, $arch:expr, $read:expr) => {
+        Slice {
+            span: Span {
+                start: $start,
+                len: $len,
+            },
+            arch: $arch,
+            read: $read,
+        }
+    };
 }
 
 /// Compares the slices of a file. No image of it is looked at.
@@ -94,103 +91,71 @@ fn check_image_of(rt: &impl Abort, image: &Image, slice: &Slice) {
     same(rt, &given, &wanted);
 }
 
-/// Compares the slices of a file that is written out, and keeps all rules.
-fn check_written(
-    rt: &(impl Abort + AllocGlobal),
-    bytes: &str,
-    expected: &[Slice],
-) -> Result<(), Fail> {
-    let file = written(rt.alloc(), bytes)?;
-    check_slices(rt, &file, expected)
-}
-
-#[test]
-fn slices_of_a_plain_file(rt: HostRuntime) -> Result<(), Fail> {
-    check_written(
-        &rt,
+/// Files that keep all rules, and their slices.
+const SLICES: &[(&str, &[Slice])] = &[
+    (
         "cffaedfe 07000001 03000000 02000000 .16",
-        &[slice(0, 32, None, true)],
-    )?;
-    let file = executable(rt.alloc())?;
-    check_slices(&rt, &file, &[slice(0, 0x202c, None, true)])
-}
-
-#[test]
-fn slices_of_twins(rt: HostRuntime) -> Result<(), Fail> {
+        &[slice!(0, 32, None, true)],
+    ),
     // Of the entries the second has a capability byte, and the third names an image of 32 bits.
-    check_written(
-        &rt,
+    (
         "cafebabe 00000003 0100000c 00000000 00000060 00000020 .4
         0100000c 80000002 00000080 00000020 .4 00000007 00000003 000000a0 00000004 .4 .28
         cffaedfe 0c000001 00000000 02000000 .16 cffaedfe 0c000001 02000000 02000000 .16 cefaedfe",
         &[
-            slice(96, 32, Some((CPU_TYPE_ARM64, 0)), true),
-            slice(128, 32, Some((CPU_TYPE_ARM64, 2)), true),
-            slice(160, 4, Some((7, 3)), false),
+            slice!(96, 32, Some((CPU_TYPE_ARM64, 0)), true),
+            slice!(128, 32, Some((CPU_TYPE_ARM64, 2)), true),
+            slice!(160, 4, Some((7, 3)), false),
         ],
-    )
-}
+    ),
+];
 
 #[test]
-fn unread_slice(rt: HostRuntime) -> Result<(), Fail> {
-    let file = written(
-        rt.alloc(),
-        "cafebabe 00000002 01000007 00000003 00000040 00000020 .4 00000007 00000003 00000060 00000004 .4
-        .16 cffaedfe 07000001 03000000 02000000 .16 cefaedfe",
-    )?;
-    let verified = verify(rt.alloc(), &file)?;
-    same(&rt, &verified.image(0).is_some(), &true);
-    same(&rt, &verified.image(1).is_none(), &true);
-    let read = slice(64, 32, Some((CPU_TYPE_X86_64, 3)), true);
-    let unread = slice(96, 4, Some((7, 3)), false);
-    check_verified(&rt, &verified, &[read, unread])
+fn slices_of_files(rt: HostRuntime) -> Result<(), Fail> {
+    for &(bytes, expected) in SLICES {
+        let file = written(rt.alloc(), bytes)?;
+        check_listed(&rt, &file, expected)?;
+        let verified = verify(rt.alloc(), &file)?;
+        check_verified(&rt, &verified, expected)?;
+    }
+    Ok(())
 }
 
-/// Compares the slices of a file that is written out.
-fn check_list(
-    rt: &(impl Abort + AllocGlobal),
-    bytes: &str,
-    expected: &[Slice],
-) -> Result<(), Fail> {
-    let file = written(rt.alloc(), bytes)?;
-    check_listed(rt, &file, expected)
-}
-
-#[test]
-fn lists_of_slices(rt: HostRuntime) -> Result<(), Fail> {
-    check_list(
-        &rt,
-        "cffaedfe 07000001 03000000",
-        &[slice(0, 12, None, true)],
-    )?;
-    check_list(
-        &rt,
+/// Files whose images are not looked at, and their slices. In the last one the second image and the
+/// last are of 32 bits, and the last two entries are not in the order of the file.
+const LISTS: &[(&str, &[Slice])] = &[
+    ("cffaedfe 07000001 03000000", &[slice!(0, 12, None, true)]),
+    (
         "cafebabf 00000001 01000007 00000003 0000000000000028 0000000000000004 00000003 .4 cffaedfe",
-        &[slice(40, 4, Some((CPU_TYPE_X86_64, 3)), true)],
-    )?;
-    // The second image and the fourth are of 32 bits. The last two entries are not in the order of
-    // the file.
-    let all = [
-        slice(108, 4, Some((12, 0)), true),
-        slice(112, 4, Some((12, 1)), false),
-        slice(116, 4, Some((12, 2)), true),
-        slice(124, 4, Some((12, 3)), true),
-        slice(120, 4, Some((12, 4)), false),
-    ];
-    check_list(
-        &rt,
+        &[slice!(40, 4, Some((CPU_TYPE_X86_64, 3)), true)],
+    ),
+    (
         "cafebabe 00000001 0000000c 00000000 0000006c 00000004 00000002 .80
         cffaedfe cefaedfe cffaedfe cefaedfe cffaedfe",
-        &all[..1],
-    )?;
-    check_list(
-        &rt,
+        &[slice!(108, 4, Some((12, 0)), true)],
+    ),
+    (
         "cafebabe 00000005 0000000c 00000000 0000006c 00000004 00000002
         0000000c 00000001 00000070 00000004 00000002 0000000c 00000002 00000074 00000004 00000002
         0000000c 00000003 0000007c 00000004 00000002 0000000c 00000004 00000078 00000004 00000002
         cffaedfe cefaedfe cffaedfe cefaedfe cffaedfe",
-        &all,
-    )
+        &[
+            slice!(108, 4, Some((12, 0)), true),
+            slice!(112, 4, Some((12, 1)), false),
+            slice!(116, 4, Some((12, 2)), true),
+            slice!(124, 4, Some((12, 3)), true),
+            slice!(120, 4, Some((12, 4)), false),
+        ],
+    ),
+];
+
+#[test]
+fn lists_of_slices(rt: HostRuntime) -> Result<(), Fail> {
+    for &(bytes, expected) in LISTS {
+        let file = written(rt.alloc(), bytes)?;
+        check_listed(&rt, &file, expected)?;
+    }
+    Ok(())
 }
 
 #[test]

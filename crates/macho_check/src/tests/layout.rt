@@ -149,19 +149,10 @@ fn shown<T: Debug + Copy>(
     }
 }
 
-/// Each symbol with its place, `n_strx`, `n_type`, `n_sect`, `n_desc` and `n_value`.
+/// Each symbol with its place and fields.
 fn symbols(text: &mut String, alloc: Global, image: &Image) -> Result<(), AllocError> {
     for symbol in image.symbols() {
-        let name = image.symbol_name(symbol.strx).unwrap_or(b"(none)");
-        let numbers = [
-            symbol.place,
-            u64::from(symbol.strx),
-            u64::from(symbol.kind),
-            u64::from(symbol.sect),
-            u64::from(symbol.desc),
-            symbol.value,
-        ];
-        line(text, alloc, "symbol", name, &numbers)?;
+        shown(text, alloc, Some(symbol))?;
     }
     Ok(())
 }
@@ -169,8 +160,15 @@ fn symbols(text: &mut String, alloc: Global, image: &Image) -> Result<(), AllocE
 /// Each indirect entry with its place and value.
 fn indirects(text: &mut String, alloc: Global, image: &Image) -> Result<(), AllocError> {
     for entry in image.indirects() {
-        let numbers = [entry.place, u64::from(entry.value)];
-        line(text, alloc, "indirect", b"", &numbers)?;
+        shown(text, alloc, Some(entry))?;
+    }
+    Ok(())
+}
+
+/// Each build version with its place and fields.
+fn builds(text: &mut String, alloc: Global, image: &Image) -> Result<(), AllocError> {
+    for build in image.builds() {
+        shown(text, alloc, Some(build))?;
     }
     Ok(())
 }
@@ -189,20 +187,6 @@ fn dylibs(text: &mut String, alloc: Global, image: &Image) -> Result<(), AllocEr
     Ok(())
 }
 
-/// Each build version with its place, platform, minos and sdk.
-fn builds(text: &mut String, alloc: Global, image: &Image) -> Result<(), AllocError> {
-    for build in image.builds() {
-        let numbers = [
-            build.place,
-            u64::from(build.platform),
-            u64::from(build.minos),
-            u64::from(build.sdk),
-        ];
-        line(text, alloc, "build", b"", &numbers)?;
-    }
-    Ok(())
-}
-
 /// The bytes of the uuid.
 fn uuid(text: &mut String, alloc: Global, image: &Image) -> Result<(), AllocError> {
     match image.uuid() {
@@ -213,17 +197,9 @@ fn uuid(text: &mut String, alloc: Global, image: &Image) -> Result<(), AllocErro
     }
 }
 
-/// The place of `LC_MAIN` with its two numbers; the base, and the entry.
+/// The fields of `LC_MAIN`; the base, and the entry.
 fn entry(text: &mut String, alloc: Global, image: &Image) -> Result<(), AllocError> {
-    if let Some(main) = image.main_command() {
-        line(
-            text,
-            alloc,
-            "main",
-            b"",
-            &[main.place, main.entryoff, main.stacksize],
-        )?;
-    }
+    shown(text, alloc, image.main_command())?;
     if let Some(base) = image.base() {
         line(text, alloc, "base", b"", &[base])?;
     }

@@ -1,21 +1,20 @@
 //! What stands at the addresses of verified images.
 
 use super::same;
-use crate::notation::{append, executable, three_slices, written};
+use crate::notation::{append, executable, written};
 use macho_rules::{Mapping, Source, Verified, verify};
 use std::alloc::{AllocError, Global};
 use std::process::Abort;
 use std::test::Fail;
 
-/// Compares what is at these addresses of an image of a file.
+/// Compares what is at these addresses of a file that is one image.
 fn check_sources(
     rt: &(impl Abort + AllocGlobal),
     file: &[u8],
-    index: u64,
     sources: &[(u64, Option<Source>)],
 ) -> Result<(), Fail> {
     let verified = verify(rt.alloc(), file)?;
-    let mut mapping = mapping_of(rt.alloc(), &verified, index)?;
+    let mut mapping = mapping_of(rt.alloc(), &verified)?;
     for (address, source) in sources {
         same(
             rt,
@@ -26,24 +25,10 @@ fn check_sources(
     Ok(())
 }
 
-/// The mapping of an image that is there.
-fn mapping_of(alloc: Global, verified: &Verified, index: u64) -> Result<Mapping, Fail> {
-    let mapping = Mapping::of(alloc, verified, index)?;
+/// The mapping of the first image.
+fn mapping_of(alloc: Global, verified: &Verified) -> Result<Mapping, Fail> {
+    let mapping = Mapping::of(alloc, verified, 0)?;
     Ok(mapping.ok_or("no mapping")?)
-}
-
-/// Looks for mappings of slices that are not there, or not read.
-fn check_no_mapping(
-    rt: &(impl Abort + AllocGlobal),
-    file: &[u8],
-    slices: &[u64],
-) -> Result<(), Fail> {
-    let verified = verify(rt.alloc(), file)?;
-    for &index in slices {
-        let found = has_mapping(rt.alloc(), &verified, index)?;
-        same(rt, &(index, found), &(index, false));
-    }
-    Ok(())
 }
 
 /// Whether the image of a slice has a mapping.
@@ -71,23 +56,7 @@ const SOURCES: &[(u64, Option<Source>)] = &[
 #[test]
 fn address_queries(rt: HostRuntime) -> Result<(), Fail> {
     let file = executable(rt.alloc())?;
-    check_sources(&rt, &file, 0, SOURCES)?;
-    check_no_mapping(&rt, &file, &[1, 1 << 32, u64::MAX])
-}
-
-/// What is at addresses of the third slice below. Places count from the start of the slice.
-const SOURCES_OF_A_SLICE: &[(u64, Option<Source>)] = &[
-    (0xffff_ffff_ffff_fffb, Some(Source::File(107))),
-    (u64::MAX, Some(Source::Zero)),
-    (0xffff_ffff_ffff_fff7, None),
-];
-
-#[test]
-fn slices_have_mappings_of_their_own(rt: HostRuntime) -> Result<(), Fail> {
-    let file = three_slices(rt.alloc())?;
-    check_sources(&rt, &file, 0, &[(0, None)])?;
-    check_no_mapping(&rt, &file, &[1])?;
-    check_sources(&rt, &file, 2, SOURCES_OF_A_SLICE)
+    check_sources(&rt, &file, SOURCES)
 }
 
 /// 1,024 segments of 0x1000 addresses each, from 0 on, and one of 16 bytes of the file.
@@ -125,14 +94,14 @@ const SOURCES_OF_MANY: &[(u64, Option<Source>)] = &[
 #[test]
 fn many_segments(rt: HostRuntime) -> Result<(), Fail> {
     let file = file_of_many_segments(rt.alloc())?;
-    check_sources(&rt, &file, 0, SOURCES_OF_MANY)
+    check_sources(&rt, &file, SOURCES_OF_MANY)
 }
 
 #[test]
 fn probes_of_look_ups(rt: HostRuntime) -> Result<(), Fail> {
     let file = executable(rt.alloc())?;
     let verified = verify(rt.alloc(), &file)?;
-    check_probes(&rt, &mut mapping_of(rt.alloc(), &verified, 0)?);
+    check_probes(&rt, &mut mapping_of(rt.alloc(), &verified)?);
     Ok(())
 }
 

@@ -17,22 +17,25 @@ use std::alloc::{AllocError, Global};
 use std::process::{Abort, ExitCode};
 use std::test::Fail;
 
+/// Three MiB: 48 pieces of 65,536 bytes.
+const THREE_MEBIBYTES: u32 = 3 << 20;
+
+/// Lengths of texts, and how many reads each takes: of its pieces of 65,536 bytes, and of the end. The
+/// last piece of the first has a single byte.
+const READS: &[(u32, u64)] = &[((1 << 20) + 1, 18), (THREE_MEBIBYTES, 49)];
+
 #[test]
 fn reads_a_reader_of_std(rt: HostRuntime) -> Result<(), Fail> {
-    let long = long_text(rt.alloc())?;
-    let mut counted = CountingReader::new(long.as_slice(), 0);
-    let mut reader = FromRead::new(&mut counted);
-    let read = read_all(rt.alloc(), 1 << 32, &mut reader);
-    same(&rt, &read.as_deref(), &Ok(long.as_slice()));
-    same(&rt, &reader.failed(), &false);
-    // 16 pieces of 65,536 bytes, one of a single byte, and the end.
-    same(&rt, &counted.reads, &18);
+    for &(len, reads) in READS {
+        let text = text_of(rt.alloc(), len)?;
+        let mut counted = CountingReader::new(&text, 0);
+        let mut reader = FromRead::new(&mut counted);
+        let read = read_all(rt.alloc(), 1 << 32, &mut reader);
+        same(&rt, &read.as_deref(), &Ok(text.as_slice()));
+        same(&rt, &reader.failed(), &false);
+        same(&rt, &counted.reads, &reads);
+    }
     Ok(())
-}
-
-/// A byte more than 16 pieces of 65,536 bytes.
-fn long_text(alloc: Global) -> Result<Vec<u8>, AllocError> {
-    text_of(alloc, (1 << 20) + 1)
 }
 
 /// A text of so many bytes.
@@ -42,21 +45,6 @@ fn text_of(alloc: Global, count: u32) -> Result<Vec<u8>, AllocError> {
         text.push((i % 251) as u8)?;
     }
     Ok(text)
-}
-
-/// Three MiB: 48 pieces of 65,536 bytes.
-const THREE_MEBIBYTES: u32 = 3 << 20;
-
-#[test]
-fn reads_three_mebibytes(rt: HostRuntime) -> Result<(), Fail> {
-    let text = text_of(rt.alloc(), THREE_MEBIBYTES)?;
-    let mut counted = CountingReader::new(&text, 0);
-    let mut reader = FromRead::new(&mut counted);
-    let read = read_all(rt.alloc(), 1 << 32, &mut reader);
-    same(&rt, &read.as_deref(), &Ok(text.as_slice()));
-    // Of the pieces, and of the end.
-    same(&rt, &counted.reads, &49);
-    Ok(())
 }
 
 #[test]

@@ -35,12 +35,14 @@ fn whole_executable(rt: HostRuntime) -> Result<(), Fail> {
         zeros __bss 0x198 0x100001010 0x20 0x0 0x0 0x0 0x1
         segment __LINKEDIT 0x1e8 0x100003000 0x1000 0x2000 0x2c 0x1 0x0
         Symtab { place: 560, symoff: 8192, nsyms: 2, stroff: 8224, strsize: 12 }
-        symbol _main 0x2000 0x1 0xf 0x1 0x0 0x100000f00
-        symbol _x 0x2010 0x7 0xf 0x2 0x0 0x100001000
+        Symbol { place: 8192, strx: 1, kind: 15, sect: 1, desc: 0, \
+            value: 4294971136 }
+        Symbol { place: 8208, strx: 7, kind: 15, sect: 2, desc: 0, \
+            value: 4294971392 }
         dylib /usr/lib/libSystem.B.dylib 0x2b0 0xc 0x5270000 0x10000
-        build  0x280 0x1 0xb0000 0xd0100
+        Build { place: 640, platform: 1, minos: 720896, sdk: 852224 }
         uuid 00112233445566778899aabbccddeeff
-        main  0x298 0xf00 0x0
+        MainCommand { place: 664, entryoff: 3840, stacksize: 0 }
         base  0x100000000
         entry  0x100000f00
         ",
@@ -81,7 +83,7 @@ cffaedfe 07000001 03000000 02000000 01000000 18000000 .8
 
 executable  0x38 0x1000007 0x3 0x0
 command  0x20 0x80000028 0x18 0x18
-main  0x20 0x7 0x9
+MainCommand { place: 32, entryoff: 7, stacksize: 9 }
 ",
     // A base without an entry: its sum with the entry's offset is 2^64.
     "
@@ -94,7 +96,7 @@ executable  0x80 0x1000007 0x3 0x0
 command  0x20 0x19 0x48 0x48
 command  0x68 0x80000028 0x18 0x18
 segment ABCDEFGHABCDEFGH 0x20 0x1000 0x1 0x0 0x1 0x5 0x0
-main  0x68 0xfffffffffffff000 0x0
+MainCommand { place: 104, entryoff: 18446744073709547520, stacksize: 0 }
 base  0x1000
 ",
     // The words of the groups.
@@ -110,8 +112,8 @@ Dysymtab { place: 32, ilocalsym: 1, nlocalsym: 2, iextdefsym: 3, nextdefsym: 4, 
     iundefsym: 5, nundefsym: 6, tocoff: 7, ntoc: 8, modtaboff: 9, nmodtab: 10, \
     extrefsymoff: 11, nextrefsyms: 12, indirectsymoff: 112, nindirectsyms: 2, \
     extreloff: 13, nextrel: 14, locreloff: 15, nlocrel: 16 }
-indirect  0x70 0x80000000
-indirect  0x74 0x5
+Indirect { place: 112, value: 2147483648 }
+Indirect { place: 116, value: 5 }
 ",
     // Of the two entries of the indirect table one byte is missing.
     "
