@@ -1,7 +1,7 @@
 -- Texts that are held in an array, and written later.
 use Rattle.std.proofs.Common.{◌≡◌, ℕ, List, [], ◌∷◌, ◌++◌, Option, Result, Ok, Err, IsErr, map, refl, sym, ap, ◌∙◌, append_assoc, append-nil, subst}
 use Rattle.macho_report.specs.Stream.{Wrote, WrotePrefix, Writes, joined}
-use Rattle.macho_report.specs.Held.{Writing, Holding}
+use Rattle.macho_report.specs.Progress.{Writing, Holding}
 use Rattle.macho_report.proofs.StreamLemmas.{wrote_nothing, wrote_then, wrote_prefix_then, wrote_prefix_more, writing_begins, writes_fault}
 use Rattle.macho_report.proofs.Puts.{joined_append}
 

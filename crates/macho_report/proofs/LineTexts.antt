@@ -5,7 +5,7 @@ use Rattle.std.specs.Option.{option_map, option_map_or}
 use Rattle.std.specs.Prelude.{codes}
 use Rattle.macho_report.specs.Stream.{Writes, joined}
 use Rattle.macho_report.specs.Line.{library_word}
-use Rattle.macho_report.specs.Scaffold.{library_start}
+use Rattle.macho_report.specs.LineParts.{library_start}
 
 library_begins : (kind : ℕ) (rest : List (List ℕ)) → joined (library_start kind ∷ rest) ≡ joined (codes "  " ∷ library_word kind ∷ codes " " ∷ rest)
 unfolding joined

@@ -5,7 +5,7 @@ use Rattle.std.specs.List.{enumerate_from}
 use Rattle.std.proofs.lemmas.Option.{same_Some}
 use Rattle.std.proofs.lemmas.Bool.{cases_Bool}
 use Rattle.macho_report.specs.Stream.{Wrote, WrotePrefix, joined}
-use Rattle.macho_report.specs.Held.{Writing}
+use Rattle.macho_report.specs.Progress.{Writing}
 use Rattle.macho_report.proofs.StreamLemmas.{writing_begins, writing_next, writing_fails, writing_ends}
 
 module _ {X : Type 0} (f : X → List ℕ) (a b c : Option (List ℕ)) (whole : List ℕ) (left : List X) where

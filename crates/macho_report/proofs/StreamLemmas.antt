@@ -7,13 +7,10 @@ use Rattle.std.proofs.Math.Seq.{take-add, take-append-add, take-append_seam}
 use Rattle.std.proofs.KnownBytes.{Appends-nil, Appends-trans}
 use Rattle.std.specs.Io.KnownBytes.{Keeps}
 use Rattle.macho_report.specs.Stream.{Wrote, WrotePrefix, Writes, joined}
-use Rattle.macho_report.specs.Held.{Writing}
+use Rattle.macho_report.specs.Progress.{Writing}
 
 pub wrote_nothing : (a : Option (List ℕ)) → Wrote a a []
 wrote_nothing a = record { appended = Appends-nil a }
-
-pub wrote_no_more : (a : Option (List ℕ)) (text : List ℕ) → WrotePrefix a a text
-wrote_no_more a text = record { count = 0; appended = Appends-nil a }
 
 pub wrote_then : (a b c : Option (List ℕ)) (xs ys : List ℕ) → Wrote a b xs → Wrote b c ys → Wrote a c (xs ++ ys)
 wrote_then a b c xs ys first second =
@@ -103,6 +100,10 @@ pub writes_next_text : {T E : Type 0} (a b c : Option (List ℕ)) (r : Result T 
     → Wrote a b text → Writes b c r (joined rest) → Writes a c r (joined (text ∷ rest))
 writes_next_text a b c (Ok x) text rest first second = wrote_next_text a b c text rest first second
 writes_next_text a b c (Err e) text rest first second = wrote_prefix_next_text a b c text rest first second
+
+-- a fault in the first text
+pub writes_fails_text : {T E : Type 0} (a b : Option (List ℕ)) (r : Result T E) (text : List ℕ) (rest : List (List ℕ)) → IsErr r → WrotePrefix a b text → Writes a b r (joined (text ∷ rest))
+writes_fails_text a b r text rest err h = writes_fault a b r (joined (text ∷ rest)) err (wrote_prefix_first_text a b text rest h)
 
 pub writes_last_text : {T E : Type 0} (a b : Option (List ℕ)) (r : Result T E) (text : List ℕ) → Writes a b r text → Writes a b r (joined (text ∷ []))
 writes_last_text a b (Ok x) text h = wrote_last_text a b text h

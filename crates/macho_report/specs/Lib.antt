@@ -3,9 +3,9 @@ pub mod Number
 pub mod Name
 pub mod Arch
 pub mod Line
-pub mod Held
+pub mod Progress
 pub mod Layout
 pub mod Text
 pub mod Run
 pub mod Where
-pub mod Scaffold
+pub mod LineParts

@@ -1,12 +1,14 @@
 -- What a run writes of its input.
-use Rattle.std.specs.Prelude.{◌≡◌, ℕ, ◌≤◌, List, length, Option, IfSome}
+use Rattle.std.specs.Prelude.{◌≡◌, ◌⊎◌, ◌↔◌, ℕ, ◌+◌, ◌<◌, ◌≤◌, Bool, List, length, Option, IfSome, Result, IsErrOf, IsTrue, IfErr, OnOk}
+use Rattle.std.specs.Io.KnownBytes.{IsAtEnd}
 use Rattle.macho_fields.specs.First.{IsUnbroken, IsFirstBroken}
 use Rattle.macho_fields.specs.declared.rule.Break.{Break}
-use Rattle.macho_report.specs.Stream.{Wrote, WrotePrefix}
+use Rattle.macho_report.specs.Stream.{TookAtMost, Wrote, WrotePrefix}
 use Rattle.macho_report.specs.Layout.{layout_text}
 use Rattle.macho_report.specs.Text.{break_text}
 use Rattle.macho_report.specs.declared.outcome.Outcome.{Outcome}
 use Rattle.macho_report.specs.declared.outcome.Outcome.TheVariants.{Accepted, Refused}
+use Rattle.macho_report.specs.declared.stream.Input as input
 use Rattle.macho_report.specs.declared.transfer.ReadFault.{ReadFault}
 use Rattle.macho_report.specs.declared.transfer.ReadFault.TheVariants as read
 use Rattle.macho_report.specs.declared.outcome.RunFault.{RunFault}
@@ -26,6 +28,22 @@ WroteVerdict input limit outcome old new =
 abbrev pub WroteVerdictPrefix : Option (List ℕ) → ℕ → Option (List ℕ) → Option (List ℕ) → Type 0
 WroteVerdictPrefix input limit old new =
     IfSome input (λ file. (length file ≤ limit) × ((outcome : Outcome) × (text : List ℕ) × IsVerdict file outcome text × WrotePrefix old new text))
+
+-- A run that reads an input of at most `limit` bytes whole: when each fault of reading comes, and what was taken.
+pub record ReadsRight {R T : Type 0} (i : input.Ghosts R) (limit : ℕ) (old new : R) (end : Result T RunFault) : Type 0 where
+  pub at_end : OnOk end (IsAtEnd (i.remaining new))
+  pub read : IsErrOf end fault.Read ↔ IsTrue (i.has_failed new)
+  pub too_long : IsErrOf end fault.TooLong → IfSome (i.remaining old) (λ all. limit < length all)
+  pub one_too_many : IsErrOf end fault.TooLong → TookAtMost (limit + 1) (i.remaining old) (i.remaining new)
+  pub memory : IsErrOf end fault.Memory → TookAtMost limit (i.remaining old) (i.remaining new)
+  pub few_reads : i.reads new ≤ i.reads old + limit + 1
+
+-- When a run fails that has read its input: `failed` is whether a write has failed, `in_part` holds where a prefix of the
+-- text was written, and `unwritten` where nothing was.
+pub record FailsRight {T : Type 0} (end : Result T RunFault) (failed : Bool) (in_part unwritten : Type 0) : Type 0 where
+  pub write : IsErrOf end fault.Write → IsTrue failed
+  pub prefix : IsErrOf end fault.Write → in_part
+  pub faults : IfErr end (λ e. (e ≡ fault.Write) ⊎ ((e ≡ fault.Memory) × unwritten))
 
 -- a fault of reading, as one of the run
 abbrev pub run_fault_of : ReadFault → RunFault

@@ -1,8 +1,8 @@
 //! From an input to what is at an address of it.
 
-ghost use Rattle.std.specs.Prelude.{◌≡◌, ◌≢◌, ◌≤◌, ◌<◌, ◌⊎◌, ◌+◌, ◌↔◌, List, ℕ, Ok, length, IfOk, IfErr, IfSome, OnOk, IsErrOf, IsTrue};
-ghost use Rattle.std.specs.Io.KnownBytes.{IsAtEnd};
-ghost use Rattle.macho_report.specs.Stream.{TookAtMost, Wrote, WrotePrefix};
+ghost use Rattle.std.specs.Prelude.{◌≡◌, ◌≢◌, ◌⊎◌, List, ℕ, Ok, IfOk, IfErr, IsErrOf, IsTrue};
+ghost use Rattle.macho_report.specs.Run.{FailsRight, ReadsRight};
+ghost use Rattle.macho_report.specs.Stream.{Wrote, WrotePrefix};
 ghost use Rattle.macho_report.specs.Where.{IsWhere, WroteWhere, WroteWherePrefix};
 ghost use Rattle.macho_report.specs.declared.address.WhereOutcome.{WhereOutcome};
 
@@ -36,26 +36,19 @@ pub fn run_where<R: Input, W: Output>(
     reader: &mut R,
     writer: &mut W,
 ) -> Result<WhereOutcome, RunFault>
-    // All of the input was read, the outcome is right for it, and exactly its text was written.
+    // All of the input was read, or a fault says why not. The outcome is right for it, and exactly its
+    // text was written.
     ensures verdict { IfOk result (λ outcome. WroteWhere (R.remaining reader.old) limit slice addr
         outcome (W.contents writer.old) (W.contents writer.new)) }
-    ensures at_end { OnOk result (IsAtEnd (R.remaining reader.new)) }
+    ensures input { ReadsRight R.Input limit reader.old reader.new result }
     ensures no_image { result ≡ Ok WhereOutcome.NoImage → writer.new ≡ writer.old }
 
-    // When each fault comes. Nothing was written but where a write failed.
-    ensures read { IsErrOf result RunFault.Read ↔ IsTrue (R.has_failed reader.new) }
-    ensures too_long { IsErrOf result RunFault.TooLong
-        → IfSome (R.remaining reader.old) (λ all. limit < length all) }
-    ensures one_too_many { IsErrOf result RunFault.TooLong
-        → TookAtMost (limit + 1) (R.remaining reader.old) (R.remaining reader.new) }
-    ensures memory { IsErrOf result RunFault.Memory
-        → TookAtMost limit (R.remaining reader.old) (R.remaining reader.new) }
+    // Nothing was written but where a write failed.
     ensures write { IsErrOf result RunFault.Write → IsTrue (W.has_failed writer.new) }
     ensures prefix { IsErrOf result RunFault.Write
         → WroteWherePrefix (R.remaining reader.old) limit slice addr
         (W.contents writer.old) (W.contents writer.new) }
     ensures unwritten { IfErr result (λ fault. (fault ≡ RunFault.Write) ⊎ (writer.new ≡ writer.old)) }
-    ensures few_reads { R.reads reader.new ≤ R.reads reader.old + limit + 1 }
 {
     let file = read_all(alloc, limit, reader)?;
     write_where(alloc, &file, slice, addr, writer)
@@ -73,12 +66,11 @@ fn write_where<W: Output>(
         × IsWhere file.now slice addr outcome text
         × Wrote (W.contents writer.old) (W.contents writer.new) text) }
     ensures no_image { result ≡ Ok WhereOutcome.NoImage → writer.new ≡ writer.old }
-    ensures write { IsErrOf result RunFault.Write → IsTrue (W.has_failed writer.new) }
-    ensures prefix { IsErrOf result RunFault.Write → (outcome : WhereOutcome) × (text : List ℕ)
+    ensures fails { FailsRight result (W.has_failed writer.new)
+        ((outcome : WhereOutcome) × (text : List ℕ)
         × IsWhere file.now slice addr outcome text × (outcome ≢ WhereOutcome.NoImage)
-        × WrotePrefix (W.contents writer.old) (W.contents writer.new) text }
-    ensures faults { IfErr result (λ fault. (fault ≡ RunFault.Write)
-        ⊎ ((fault ≡ RunFault.Memory) × (writer.new ≡ writer.old))) }
+        × WrotePrefix (W.contents writer.old) (W.contents writer.new) text)
+        (writer.new ≡ writer.old) }
 {
     let Some(verified) = accept(alloc, file, writer)? else {
         return Ok(WhereOutcome::Refused);

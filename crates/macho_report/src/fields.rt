@@ -3,7 +3,7 @@
 ghost use Rattle.std.specs.Prelude.{◌≡◌, ◌+◌, ◌*◌, ◌≤◌, [], ◌∷◌, ◌++◌, codes, length, map};
 ghost use Rattle.macho_report.specs.Line.{contents_text, grouped, letter, protection_text};
 ghost use Rattle.macho_report.specs.Number.{upper_byte_hex};
-ghost use Rattle.macho_report.specs.Scaffold.{extent_text};
+ghost use Rattle.macho_report.specs.LineParts.{extent_text};
 ghost use Rattle.macho_report.specs.Stream.{joined};
 
 use crate::line::{Line, PLACES};

@@ -8,7 +8,7 @@ ghost use Rattle.macho_fields.specs.Segment.{sections_in};
 ghost use Rattle.macho_fields.specs.Universal.{slices_of};
 ghost use Rattle.macho_image.specs.Library.{dylib_of};
 ghost use Rattle.macho_report.specs.Stream.{Writes, FailsAtFault, joined};
-ghost use Rattle.macho_report.specs.Scaffold.{linked_text};
+ghost use Rattle.macho_report.specs.LineParts.{linked_text};
 ghost use Rattle.macho_report.specs.Layout.{layout_text, slice_text, image_slice_text, image_text, id_text, uuid_text, builds_text, segments_text, segment_text, libraries_text, symbols_text};
 ghost use Rattle.macho_report.specs.Line.{section_line};
 

@@ -2,7 +2,7 @@
 
 ghost use Rattle.std.specs.Prelude.{◌≡◌, ◌+◌, ◌≤◌, ◌<◌, ◌↔◌, [], ◌++◌, codes, length, take, IsErr, IsTrue, OnOk};
 ghost use Rattle.macho_report.specs.Stream.{Writes, FailsAtFault};
-ghost use Rattle.macho_report.specs.Held.{Holding};
+ghost use Rattle.macho_report.specs.Progress.{Holding};
 
 use crate::stream::Output;
 use crate::transfer::{WriteFault, write_all};

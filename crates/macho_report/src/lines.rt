@@ -9,7 +9,7 @@ ghost use Rattle.macho_report.specs.Arch.{arch_text};
 ghost use Rattle.macho_report.specs.Line.{contents_of, count_line, slice_line, uuid_line, build_line, segment_line, section_line, library_line, symbols_line, entry_line};
 ghost use Rattle.macho_report.specs.Text.{break_text};
 ghost use Rattle.macho_report.specs.Where.{where_text};
-ghost use Rattle.macho_report.specs.Scaffold.{library_start};
+ghost use Rattle.macho_report.specs.LineParts.{library_start};
 
 use crate::line::Line;
 use crate::stream::Output;

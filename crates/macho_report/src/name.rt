@@ -3,7 +3,7 @@
 ghost use Rattle.std.specs.Prelude.{◌≡◌, ℕ, ◌+◌, ◌<◌, ◌≤◌, ◌↔◌, ◌++◌, false, length, map, slice_index, IsTrue, OnOk};
 ghost use Rattle.macho_report.specs.Stream.{FailsAtFault, joined};
 ghost use Rattle.macho_report.specs.Name.{is_plain, escaped, quoted};
-ghost use Rattle.macho_report.specs.Held.{Holding};
+ghost use Rattle.macho_report.specs.Progress.{Holding};
 
 use crate::line::{Line, PLACES, ROOM};
 use crate::number::byte_digits;

@@ -1,12 +1,11 @@
 //! From an input to its report: what was found, and the text of it.
 
-ghost use Rattle.std.specs.Prelude.{◌≡◌, ◌≤◌, ◌<◌, ◌⊎◌, ◌+◌, ◌↔◌, List, ℕ, length, IfOk, IfErr, IfNone, IfSome, OnOk, IsErrOf, IsTrue};
-ghost use Rattle.std.specs.Io.KnownBytes.{IsAtEnd};
-ghost use Rattle.macho_report.specs.Stream.{TookAtMost, Wrote, WrotePrefix};
+ghost use Rattle.std.specs.Prelude.{◌≡◌, ◌⊎◌, List, ℕ, IfOk, IfErr, IfNone, IfSome, IsErrOf, IsTrue};
+ghost use Rattle.macho_report.specs.Stream.{Wrote, WrotePrefix};
 ghost use Rattle.macho_fields.specs.First.{IsUnbroken, IsFirstBroken};
 ghost use Rattle.macho_fields.specs.declared.rule.Break.{Break};
 ghost use Rattle.macho_report.specs.Text.{break_text, run_fault_line};
-ghost use Rattle.macho_report.specs.Run.{IsVerdict, WroteVerdict, WroteVerdictPrefix, run_fault_of};
+ghost use Rattle.macho_report.specs.Run.{FailsRight, ReadsRight, IsVerdict, WroteVerdict, WroteVerdictPrefix, run_fault_of};
 ghost use Rattle.macho_report.specs.declared.outcome.Outcome.{Outcome};
 ghost use Rattle.macho_report.specs.declared.outcome.RunFault.TheVariants as fault;
 
@@ -104,24 +103,17 @@ pub fn run<R: Input, W: Output>(
     reader: &mut R,
     writer: &mut W,
 ) -> Result<Outcome, RunFault>
-    // All of the input was read, the outcome is right for it, and exactly its text was written.
+    // All of the input was read, or a fault says why not. The outcome is right for it, and exactly its
+    // text was written.
     ensures verdict { IfOk result (λ outcome. WroteVerdict (R.remaining reader.old) limit outcome
         (W.contents writer.old) (W.contents writer.new)) }
-    ensures at_end { OnOk result (IsAtEnd (R.remaining reader.new)) }
+    ensures input { ReadsRight R.Input limit reader.old reader.new result }
 
-    // When each fault comes. Nothing was written but where a write failed.
-    ensures read { IsErrOf result RunFault.Read ↔ IsTrue (R.has_failed reader.new) }
-    ensures too_long { IsErrOf result RunFault.TooLong
-        → IfSome (R.remaining reader.old) (λ all. limit < length all) }
-    ensures one_too_many { IsErrOf result RunFault.TooLong
-        → TookAtMost (limit + 1) (R.remaining reader.old) (R.remaining reader.new) }
-    ensures memory { IsErrOf result RunFault.Memory
-        → TookAtMost limit (R.remaining reader.old) (R.remaining reader.new) }
+    // Nothing was written but where a write failed.
     ensures write { IsErrOf result RunFault.Write → IsTrue (W.has_failed writer.new) }
     ensures prefix { IsErrOf result RunFault.Write → WroteVerdictPrefix (R.remaining reader.old) limit
         (W.contents writer.old) (W.contents writer.new) }
     ensures unwritten { IfErr result (λ fault. (fault ≡ RunFault.Write) ⊎ (writer.new ≡ writer.old)) }
-    ensures few_reads { R.reads reader.new ≤ R.reads reader.old + limit + 1 }
 {
     let file = read_all(alloc, limit, reader)?;
     write_verdict(alloc, &file, writer)
@@ -131,12 +123,10 @@ pub fn run<R: Input, W: Output>(
 fn write_verdict<W: Output>(alloc: Global, file: &[u8], writer: &mut W) -> Result<Outcome, RunFault>
     ensures verdict { IfOk result (λ outcome. (text : List ℕ) × IsVerdict file.now outcome text
         × Wrote (W.contents writer.old) (W.contents writer.new) text) }
-    ensures write { IsErrOf result RunFault.Write → IsTrue (W.has_failed writer.new) }
-    ensures prefix { IsErrOf result RunFault.Write → (outcome : Outcome) × (text : List ℕ)
-        × IsVerdict file.now outcome text
-        × WrotePrefix (W.contents writer.old) (W.contents writer.new) text }
-    ensures faults { IfErr result (λ fault. (fault ≡ RunFault.Write)
-        ⊎ ((fault ≡ RunFault.Memory) × (writer.new ≡ writer.old))) }
+    ensures fails { FailsRight result (W.has_failed writer.new)
+        ((outcome : Outcome) × (text : List ℕ) × IsVerdict file.now outcome text
+        × WrotePrefix (W.contents writer.old) (W.contents writer.new) text)
+        (writer.new ≡ writer.old) }
 {
     let Some(verified) = accept(alloc, file, writer)? else {
         return Ok(Outcome::Refused);
@@ -156,11 +146,10 @@ pub(crate) fn accept<'a, W: Output>(
         (verified ≡ file.now) × IsUnbroken file.now × (writer.new ≡ writer.old))) }
     ensures refused { IfOk result (λ answer. IfNone answer ((b : Break) × IsFirstBroken file.now b
         × Wrote (W.contents writer.old) (W.contents writer.new) (break_text b))) }
-    ensures write { IsErrOf result RunFault.Write → IsTrue (W.has_failed writer.new) }
-    ensures prefix { IsErrOf result RunFault.Write → (b : Break) × IsFirstBroken file.now b
-        × WrotePrefix (W.contents writer.old) (W.contents writer.new) (break_text b) }
-    ensures faults { IfErr result (λ fault. (fault ≡ RunFault.Write)
-        ⊎ ((fault ≡ RunFault.Memory) × (writer.new ≡ writer.old))) }
+    ensures fails { FailsRight result (W.has_failed writer.new)
+        ((b : Break) × IsFirstBroken file.now b
+        × WrotePrefix (W.contents writer.old) (W.contents writer.new) (break_text b))
+        (writer.new ≡ writer.old) }
 {
     match verify(alloc, file) {
         Ok(verified) => Ok(Some(verified)),

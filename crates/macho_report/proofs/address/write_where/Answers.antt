@@ -1,7 +1,7 @@
-use Rattle.std.proofs.Common.{refl, inl, inr}
+use Rattle.std.proofs.Common.{refl}
 use Rattle.std.proofs.lemmas.Bool.{false≢true}
 use Rattle.macho_report.specs.declared.address.WhereOutcome.TheVariants.{Told, Refused}
-use Rattle.macho_report.proofs.Faults.{at_fault, no_answer, no_fault, no_write_fault, other_answer, same_fault}
+use Rattle.macho_report.proofs.Faults.{at_fault, fails_as, fails_not, fails_to_write, lacks_memory, no_answer, other_answer}
 use Rattle.macho_report.proofs.StreamLemmas.{wrote_nothing}
 use Rattle.macho_report.proofs.Where.{refused_other, told, told_other}
 use Rattle.macho_report.proofs.address.write_where.Goals as goal
@@ -10,9 +10,7 @@ pub returns-in_err-verified : goal.returns-in_err-verified
 returns-in_err-verified g c = rw (at_fault _ _ c.from_residual.ensures.1) record {
   verdict = tt;
   no_image = λ e. absurd (no_answer _ _ e);
-  write = λ e. c.in_err-verified.ensures.write (same_fault _ _ e);
-  prefix = λ e. let (b, is, wrote) = c.in_err-verified.ensures.prefix (same_fault _ _ e) in (Refused, _, (b, is, refl), refused_other, wrote);
-  faults = c.in_err-verified.ensures.faults;
+  fails = fails_as _ _ _ _ _ (λ part. (Refused, _, (part.0, part.1, refl), refused_other, part.2)) c.in_err-verified.ensures.fails;
 }
 
 pub returns-in_default : goal.returns-in_default
@@ -20,9 +18,7 @@ returns-in_default g c =
     let (b, is, wrote) = rw c.in_default.is at c.in_ok-verified.ensures.refused in record {
       verdict = (_, (b, is, refl), wrote);
       no_image = λ e. absurd (other_answer _ _ _ refl refused_other e);
-      write = λ e. absurd (no_fault _ _ e);
-      prefix = λ e. absurd (no_fault _ _ e);
-      faults = tt;
+      fails = fails_not _ _ _ _;
     }
 
 pub returns-in_err-mapping : goal.returns-in_err-mapping
@@ -31,9 +27,7 @@ returns-in_err-mapping g c =
     rw (at_fault _ _ c.from_residual-in_err-mapping.ensures.1) record {
       verdict = tt;
       no_image = λ e. absurd (no_answer _ _ e);
-      write = λ e. absurd (no_write_fault e);
-      prefix = λ e. absurd (no_write_fault e);
-      faults = inr (refl, unwritten);
+      fails = lacks_memory _ _ _ unwritten;
     }
 
 pub returns-in_default-2 : goal.returns-in_default-2
@@ -42,9 +36,7 @@ returns-in_default-2 g c =
     let image = rw (c.in_default-2.is, same) at c.in_ok-mapping.ensures.is_image in record {
       verdict = (_, (unbroken, (λ has. false≢true (image.1 has)), refl), (rw unwritten (wrote_nothing _)));
       no_image = λ _. unwritten;
-      write = λ e. absurd (no_fault _ _ e);
-      prefix = λ e. absurd (no_fault _ _ e);
-      faults = tt;
+      fails = fails_not _ _ _ _;
     }
 
 pub returns-in_err-write_source : goal.returns-in_err-write_source
@@ -55,9 +47,7 @@ returns-in_err-write_source g c =
     rw (at_fault _ _ c.from_residual-in_err-write_source.ensures.1) record {
       verdict = tt;
       no_image = λ e. absurd (no_answer _ _ e);
-      write = λ _. c.in_err-write_source.ensures.failed;
-      prefix = λ _. (Told, _, (unbroken, image.0 refl, tells), told_other, (rw unwritten at c.in_err-write_source.ensures.bytes));
-      faults = inl refl;
+      fails = fails_to_write _ _ _ c.in_err-write_source.ensures.failed (Told, _, (unbroken, image.0 refl, tells), told_other, (rw unwritten at c.in_err-write_source.ensures.bytes));
     }
 
 pub returns : goal.returns
@@ -67,7 +57,5 @@ returns g c =
     let tells = told c.args.file.now _ _ _ _ _ _ same c.in-Some-2.is c.in_ok-mapping.ensures.sources c.source.ensures.source in record {
       verdict = (_, (unbroken, image.0 refl, tells), (rw unwritten at c.in_ok-write_source.ensures.bytes));
       no_image = λ e. absurd (other_answer _ _ _ refl told_other e);
-      write = λ e. absurd (no_fault _ _ e);
-      prefix = λ e. absurd (no_fault _ _ e);
-      faults = tt;
+      fails = fails_not _ _ _ _;
     }

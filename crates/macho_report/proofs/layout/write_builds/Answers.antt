@@ -24,6 +24,3 @@ returns-in_err-write_build-clause-bytes g c =
 
 pub returns-clause-bytes : goal.returns-clause-bytes
 returns-clause-bytes g c = items_end (λ b. build_line b.platform b.minos b.sdk) _ _ _ _ c.in-None.ensures.steps.0 c.loop-build.invariant.writing
-
-pub returns-clause-failed : goal.returns-clause-failed
-returns-clause-failed g c = c.loop-build.invariant.same

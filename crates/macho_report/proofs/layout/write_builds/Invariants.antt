@@ -2,7 +2,7 @@ use Rattle.std.proofs.Common.{◌≡◌, map}
 use Rattle.macho_fields.specs.Image.{commands_of}
 use Rattle.macho_report.specs.Layout.{builds_text}
 use Rattle.macho_report.specs.Line.{build_line}
-use Rattle.macho_report.specs.Held.{Writing}
+use Rattle.macho_report.specs.Progress.{Writing}
 use Rattle.macho_report.proofs.layout.write_builds.Given as goal
 
 -- the lines of the items that are left are still to be written

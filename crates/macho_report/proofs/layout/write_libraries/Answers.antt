@@ -5,7 +5,7 @@ use Rattle.macho_fields.specs.Image.{command_cmd}
 use Rattle.macho_fields.specs.declared.header.loader.TheConstants as loader
 use Rattle.macho_image.specs.Library.{dylib_at}
 use Rattle.macho_report.specs.Layout.{library_text}
-use Rattle.macho_report.specs.Scaffold.{linked_text}
+use Rattle.macho_report.specs.LineParts.{linked_text}
 use Rattle.macho_report.proofs.layout.write_libraries.Goals as goal
 
 pub loop-library-init : goal.loop-library-init
@@ -28,6 +28,3 @@ returns-in_err-write_linked_library-clause-bytes g c =
 
 pub returns-clause-bytes : goal.returns-clause-bytes
 returns-clause-bytes g c = items_end (linked_text) _ _ _ _ c.in-None.ensures.steps.0 c.loop-library.invariant.writing
-
-pub returns-clause-failed : goal.returns-clause-failed
-returns-clause-failed g c = c.loop-library.invariant.same

@@ -24,6 +24,3 @@ returns-in_err-write_section-clause-bytes g c =
 
 pub returns-clause-bytes : goal.returns-clause-bytes
 returns-clause-bytes g c = items_end (λ s. section_line s.image s.place) _ _ _ _ c.in-None.ensures.steps.0 c.loop-section.invariant.writing
-
-pub returns-clause-failed : goal.returns-clause-failed
-returns-clause-failed g c = c.loop-section.invariant.same

@@ -1,12 +1,9 @@
-use Rattle.macho_report.proofs.StreamLemmas.{writes_fault, writes_last_text, writes_next_text, wrote_prefix_first_text}
+use Rattle.std.proofs.Common.{rules}
+use Rattle.macho_report.proofs.StreamLemmas.{writes_fails_text, writes_last_text, writes_next_text}
 use Rattle.macho_report.proofs.layout.write_segment_lines.Goals as goal
 
 pub returns-in_err-write_segment-clause-bytes : goal.returns-in_err-write_segment-clause-bytes
-returns-in_err-write_segment-clause-bytes g c =
-    writes_fault _ _ _ _ c.from_residual.ensures.0
-    (wrote_prefix_first_text _ _ _ _ c.in_err-write_segment.ensures.bytes)
+returns-in_err-write_segment-clause-bytes g c = search (rules, writes_fails_text)
 
 pub returns-clause-bytes : goal.returns-clause-bytes
-returns-clause-bytes g c =
-    writes_next_text _ _ _ _ _ _ c.in_ok-write_segment.ensures.bytes
-    (writes_last_text _ _ _ _ c.write_sections.ensures.bytes)
+returns-clause-bytes g c = search (rules, writes_last_text, writes_next_text)

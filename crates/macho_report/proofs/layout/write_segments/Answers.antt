@@ -24,6 +24,3 @@ returns-in_err-write_segment_lines-clause-bytes g c =
 
 pub returns-clause-bytes : goal.returns-clause-bytes
 returns-clause-bytes g c = items_end (λ s. segment_text s.image s.place) _ _ _ _ c.in-None.ensures.steps.0 c.loop-segment.invariant.writing
-
-pub returns-clause-failed : goal.returns-clause-failed
-returns-clause-failed g c = c.loop-segment.invariant.same

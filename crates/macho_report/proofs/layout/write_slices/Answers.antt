@@ -28,6 +28,3 @@ returns-clause-bytes g c =
     let file = c.args.verified.now in
     let past : length (slices_of file) ≤ c.loop-index.index = omega (arith, c.slice_count-index-end.ensures) in
     items_end (slice_text file) _ _ _ _ (all_passed 0 c.loop-index.index (slices_of file) past) c.loop-index.invariant.writing
-
-pub returns-clause-failed : goal.returns-clause-failed
-returns-clause-failed g c = c.loop-index.invariant.same

@@ -1,5 +1,5 @@
 use Rattle.std.proofs.Common.{[], ◌∷◌}
-use Rattle.macho_report.specs.Scaffold.{library_start}
+use Rattle.macho_report.specs.LineParts.{library_start}
 use Rattle.macho_report.proofs.LineTexts.{library_writes}
 use Rattle.macho_report.proofs.Puts.{from_start, put_next, put_last, ended}
 use Rattle.macho_report.proofs.Holding.{line_fails, line_written}

@@ -1,6 +1,6 @@
 use Rattle.std.proofs.Common.{◌≡◌, ◌∷◌, ◌++◌, length, map}
 use Rattle.macho_report.specs.Stream.{joined}
-use Rattle.macho_report.specs.Held.{Writing}
+use Rattle.macho_report.specs.Progress.{Writing}
 use Rattle.macho_report.specs.Name.{escaped}
 use Rattle.macho_report.proofs.line.Line.escaped.Given as goal
 

@@ -1,4 +1,4 @@
--- What only proofs and private functions need.
+-- Parts of lines that the writers put at once, and the line of a library that the image does not name itself.
 use Rattle.std.specs.Prelude.{ℕ, ◌==◌, List, [], ◌∷◌, ◌++◌, codes, if◌then◌else◌}
 use Rattle.macho_fields.specs.declared.header.loader.TheConstants as loader
 use Rattle.macho_image.specs.Library.{DylibView}

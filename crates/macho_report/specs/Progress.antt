@@ -1,4 +1,4 @@
--- What is held of a line before it is written.
+-- How far a text is written, and what of it is held in a line.
 use Rattle.std.specs.Prelude.{◌≡◌, ℕ, List, [], ◌∷◌, ◌++◌, Option, Result, MatchResult}
 use Rattle.macho_report.specs.Stream.{Wrote, WrotePrefix, joined}
 
