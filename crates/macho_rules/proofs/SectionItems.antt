@@ -1,5 +1,5 @@
 -- The sections of an opened image, one after the other.
-use Rattle.std.proofs.Common.{◌≡◌, ℕ, ◌+◌, ◌*◌, ◌≤◌, ◌<◌, List, [], ◌∷◌, length, get_or, map, Contains, refl, sym, ap, subst, arith, inl, inr}
+use Rattle.std.proofs.Common.{◌≡◌, ℕ, ◌+◌, ◌*◌, ◌≤◌, ◌<◌, List, [], ◌∷◌, map, Contains, refl, sym, ap, subst, arith, inl, inr}
 use Rattle.std.specs.Prelude.{flat_map}
 use Rattle.std.proofs.lemmas.List.Elements.{Contains-append_left, Contains-append_right, Contains-append_cases}
 use Rattle.macho_fields.proofs.Lists.{none_in_nil, contains_first, contains_later, first_or_later, contains_mapped}
@@ -94,8 +94,3 @@ module _ (image : List ℕ) (all : List SectionView) (opened : IsOpened image) (
       any_of (λ segment. Contains (sections_in image segment) pair.1 × P image segment pair.1) (segments_of image (commands_of image)) pair.0 segment (among, here))
       (λ place broken. let (segment, has, (among, here)) = one_of (λ segment. Contains (sections_in image segment) place × P image segment place) (segments_of image (commands_of image)) broken in
       ((segment, place), to_segments image opened (segments_of image (commands_of image)) segment place has among, here, refl)))
-
-  pub section_image : (s : SectionView) (k : ℕ) → k < length all → s ≡ get_or all k s → s.image ≡ image
-  section_image s k less at =
-      let (pair, _, is) = mapped_has (section_at image) (sections_of image (commands_of image)) s (subst (λ xs. Contains xs s) are (k, less, sym at)) in
-      ap (λ (t : SectionView). t.image) (sym is)

@@ -1,5 +1,5 @@
 -- The segments of an opened image, one after the other.
-use Rattle.std.proofs.Common.{◌≡◌, ℕ, ◌+◌, ◌≤◌, ◌<◌, List, [], ◌∷◌, length, get_or, map, Any, Contains, refl, sym, ap, subst, arith}
+use Rattle.std.proofs.Common.{◌≡◌, ℕ, ◌+◌, ◌≤◌, ◌<◌, List, [], ◌∷◌, map, Any, Contains, refl, sym, ap, subst, arith}
 use Rattle.std.proofs.lemmas.List.Elements.{All-contains}
 use Rattle.macho_fields.proofs.Lists.{contains_mapped}
 use Rattle.macho_fields.specs.Image.{command_size, commands_of, Follow}
@@ -59,9 +59,6 @@ module _ (image : List ℕ) (all : List SegmentView) (are : AreSegments image al
 
   pub segment_of : (s : SegmentView) → Contains all s → s ≡ segment_at image s.place
   segment_of s has = let (p, _, at) = mapped_has (segment_at image) _ s (subst (λ xs. Contains xs s) are has) in subst (λ t. t ≡ segment_at image t.place) at refl
-
-  pub image_at : (s : SegmentView) (k : ℕ) → k < length all → s ≡ get_or all k s → s.image ≡ image
-  image_at s k less at = ap (λ (t : SegmentView). t.image) (segment_of s (k, less, sym at))
 
   pub segment_among : (s : SegmentView) → Contains all s → Contains (segments_of image (commands_of image)) s.place
   segment_among s has =

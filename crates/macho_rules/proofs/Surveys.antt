@@ -157,9 +157,6 @@ module _ (s : SegmentView) (all : List SectionView) (are : all ≡ map (section_
   found : (pair : ℕ × ℕ) × Contains (sections_with s.image s.place) pair × (section_at s.image pair ≡ x)
   found = mapped_has (section_at s.image) (sections_with s.image s.place) x (subst (λ xs. Contains xs x) are (reached_has all seen x rest here))
 
-  pub section_image : x.image ≡ s.image
-  section_image = sym (ap (λ (t : SectionView). t.image) found.2)
-
   past_segment : s.place ≤ x.place
   past_segment =
       let (same, among) = with_segment s.image s.place found.0 found.1 in
@@ -209,9 +206,6 @@ module _ (image : List ℕ) (opened : IsOpened image) (all : List SegmentView) (
         let before = section_before image opened t.place x.place pair.1 (segment_among image all are t (seen_among t among)) (spread t among)
         (subst (λ bytes. Contains (sections_in bytes t.place) pair.1) is inside) in
         let place : pair.1 ≡ q.place = ap (λ (u : SectionView). u.place) at in omega (arith, before, place)
-
-    pub walked_image : x.image ≡ image
-    walked_image = ap (λ (t : SegmentView). t.image) (segment_of image all are x (reached_has all seen x rest here))
 
 -- What is found at the end
 

@@ -1,15 +1,12 @@
 //! The rules of the sections of an image. (`mach-o/loader.h`: `section_64`)
 
 ghost use Rattle.std.specs.Prelude.{◌≡◌, ◌↔◌, IsTrue};
-ghost use Rattle.macho_fields.specs.Bytes.{bytes_of};
 ghost use Rattle.macho_fields.specs.Segment.{IsInFilePart, section_offset, section_size};
 ghost use Rattle.macho_fields.specs.Segment.{IsOutsideMemory, IsMisplaced, HasRelocsOutside};
-ghost use Rattle.macho_fields.specs.declared.rule.Rule.{Rule};
-ghost use Rattle.macho_rules.specs.Check.{KeptBefore, JudgesUpTo};
 
 use crate::segments::memory;
+use macho_fields::Span;
 use macho_fields::header::reloc::RELOCATION_INFO_SIZE;
-use macho_fields::{Break, Bytes, Rule, Span};
 use macho_image::{Image, Section};
 
 // Whether the segment of the section is mapped, and the section has an address outside of it.
@@ -26,17 +23,17 @@ pub(crate) fn is_outside_memory(section: &Section) -> bool
 }
 
 // Whether the section has bytes, and they are not where its segment puts them.
-pub(crate) fn is_misplaced(image: Bytes, section: &Section) -> bool
-    requires { bytes_of image ≡ section.now.image }
+pub(crate) fn is_misplaced(section: &Section) -> bool
     ensures { IsTrue result ↔ IsMisplaced section.now.image section.now.segment section.now.place }
 {
     if section.size() == 0 || section.is_zero_fill() {
         return false;
     }
-    if section.segment().vmsize() > 0 {
+    let segment = section.segment();
+    if segment.vmsize() > 0 {
         !is_in_file_part(section)
     } else {
-        !image.contains(file_part(section))
+        !segment.image().contains(file_part(section))
     }
 }
 
@@ -68,10 +65,12 @@ fn file_part(section: &Section) -> Span
 }
 
 // Whether the section has relocations, and they end past the image.
-pub(crate) fn has_relocs_outside(image: Bytes, section: &Section) -> bool
-    requires { bytes_of image ≡ section.now.image }
+pub(crate) fn has_relocs_outside(section: &Section) -> bool
     ensures { IsTrue result ↔ HasRelocsOutside section.now.image section.now.place }
 {
-    section.nreloc() > 0
-        && !image.contains_table(section.reloff(), section.nreloc(), RELOCATION_INFO_SIZE)
+    if section.nreloc() == 0 {
+        return false;
+    }
+    let image = section.segment().image();
+    !image.contains_table(section.reloff(), section.nreloc(), RELOCATION_INFO_SIZE)
 }

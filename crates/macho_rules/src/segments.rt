@@ -2,7 +2,6 @@
 
 ghost use Rattle.std.specs.Prelude.{◌≡◌, ◌+◌, ◌-◌, ◌*◌, ◌^◌, ◌<◌, ◌≤◌, ◌↔◌, min, max, length, map};
 ghost use Rattle.std.specs.Prelude.{slice_get, Some, IfOk, IsTrue};
-ghost use Rattle.macho_fields.specs.Bytes.{bytes_of};
 ghost use Rattle.macho_fields.specs.Segment.{vmaddr, vmsize, fileoff, filesize};
 ghost use Rattle.macho_fields.specs.Segment.{PassesLastAddress, IsLongerInFile, PassesImage};
 ghost use Rattle.macho_fields.specs.declared.rule.Rule.{Rule};
@@ -11,7 +10,7 @@ ghost use Rattle.macho_rules.specs.Mapped.{mapped_segments, memory_at, IsUnorder
 
 use crate::refusal::Refusal;
 use crate::survey::Survey;
-use macho_fields::{Break, Bytes, Rule, Sharing, Span, SpanList};
+use macho_fields::{Break, Rule, Sharing, Span, SpanList};
 use macho_image::{Image, Segment};
 use std::alloc::{AllocError, Global};
 
@@ -33,11 +32,10 @@ pub(crate) fn is_longer_in_file(segment: &Segment) -> bool
 }
 
 // Whether the segment has bytes in the file, and they end past the image.
-pub(crate) fn passes_image(image: Bytes, segment: &Segment) -> bool
-    requires { bytes_of image ≡ segment.now.image }
+pub(crate) fn passes_image(segment: &Segment) -> bool
     ensures { IsTrue result ↔ PassesImage segment.now.image segment.now.place }
 {
-    segment.filesize() > 0 && !image.contains(file_part(segment))
+    segment.filesize() > 0 && !segment.image().contains(file_part(segment))
 }
 
 // No mapped segment has an address in common with an earlier one.

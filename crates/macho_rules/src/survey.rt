@@ -3,7 +3,6 @@
 
 ghost use Rattle.std.specs.Prelude.{◌≡◌, ◌∷◌, []};
 ghost use Rattle.std.specs.Option.{option_or};
-ghost use Rattle.macho_fields.specs.Bytes.{bytes_of};
 ghost use Rattle.macho_fields.specs.Segment.{shows_start};
 ghost use Rattle.macho_rules.specs.Survey.{base_among};
 
@@ -59,8 +58,8 @@ impl<'a> Survey<'a> {
         let mut mapped = Mapped::none();
         let mut section_count: u64 = 0;
         for segment in image.segments() {
-            segments.note(bytes, &segment);
-            sections.note_all(bytes, &segment);
+            segments.note(&segment);
+            sections.note_all(&segment);
             mapped.note(&segment);
             section_count = section_count.saturating_add(segment.nsects());
         }
@@ -161,7 +160,6 @@ struct SegmentBreaks {
 
 impl SegmentBreaks {
     ghost use Rattle.std.specs.Prelude.{◌≡◌, []};
-    ghost use Rattle.macho_fields.specs.Bytes.{bytes_of};
     ghost use Rattle.macho_rules.specs.Survey.{AreFirstSegments, NotesSegment};
 
     // None is broken.
@@ -176,29 +174,24 @@ impl SegmentBreaks {
     }
 
     // Notes which of the rules the segment breaks.
-    fn note(&mut self, image: Bytes, segment: &Segment)
-        requires { bytes_of image ≡ segment.now.image }
+    fn note(&mut self, segment: &Segment)
         ensures { NotesSegment segment.now self.old self.new }
     {
-        if passes_last_address(segment)
-            || is_longer_in_file(segment)
-            || passes_image(image, segment)
-        {
-            self.note_broken(image, segment);
+        if passes_last_address(segment) || is_longer_in_file(segment) || passes_image(segment) {
+            self.note_broken(segment);
         }
     }
 
     // The same, where it breaks one of them.
     #[cold]
     #[inline(never)]
-    fn note_broken(&mut self, image: Bytes, segment: &Segment)
-        requires { bytes_of image ≡ segment.now.image }
+    fn note_broken(&mut self, segment: &Segment)
         ensures { NotesSegment segment.now self.old self.new }
     {
         let place = segment.place();
         self.address.note_if(passes_last_address(segment), place);
         self.size.note_if(is_longer_in_file(segment), place);
-        self.file.note_if(passes_image(image, segment), place);
+        self.file.note_if(passes_image(segment), place);
     }
 }
 
@@ -212,7 +205,6 @@ struct SectionBreaks {
 
 impl SectionBreaks {
     ghost use Rattle.std.specs.Prelude.{◌≡◌, ◌++◌, [], List, map};
-    ghost use Rattle.macho_fields.specs.Bytes.{bytes_of};
     ghost use Rattle.macho_image.specs.Segment.{SectionView, section_at, sections_with};
     ghost use Rattle.macho_rules.specs.Survey.{AreFirstSections, EndBy, NotesSection};
 
@@ -228,43 +220,36 @@ impl SectionBreaks {
     }
 
     // Notes which of the rules the sections of the segment break.
-    fn note_all(&mut self, image: Bytes, segment: &Segment)
-        requires { bytes_of image ≡ segment.now.image }
+    fn note_all(&mut self, segment: &Segment)
         ensures { (passed : List SectionView)
             → EndBy (λ s. s.place) passed segment.now.place → AreFirstSections passed self.old
             → AreFirstSections (passed ++ map (section_at segment.now.image)
             (sections_with segment.now.image segment.now.place)) self.new }
     {
         for section in segment.sections() {
-            self.note(image, &section);
+            self.note(&section);
         }
     }
 
     // Notes which of the rules the section breaks.
-    fn note(&mut self, image: Bytes, section: &Section)
-        requires { bytes_of image ≡ section.now.image }
+    fn note(&mut self, section: &Section)
         ensures { NotesSection section.now self.old self.new }
     {
-        if is_outside_memory(section)
-            || is_misplaced(image, section)
-            || has_relocs_outside(image, section)
-        {
-            self.note_broken(image, section);
+        if is_outside_memory(section) || is_misplaced(section) || has_relocs_outside(section) {
+            self.note_broken(section);
         }
     }
 
     // The same, where it breaks one of them.
     #[cold]
     #[inline(never)]
-    fn note_broken(&mut self, image: Bytes, section: &Section)
-        requires { bytes_of image ≡ section.now.image }
+    fn note_broken(&mut self, section: &Section)
         ensures { NotesSection section.now self.old self.new }
     {
         let place = section.place();
         self.address.note_if(is_outside_memory(section), place);
-        self.file.note_if(is_misplaced(image, section), place);
-        self.relocs
-            .note_if(has_relocs_outside(image, section), place);
+        self.file.note_if(is_misplaced(section), place);
+        self.relocs.note_if(has_relocs_outside(section), place);
     }
 }
 

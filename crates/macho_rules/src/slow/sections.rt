@@ -23,10 +23,7 @@ pub(super) fn section_file(image: &Image) -> Result<(), Break>
     requires { KeptBefore image.now Rule.SectionFile }
     ensures { JudgesUpTo image.now Rule.SectionFile result }
 {
-    let bytes = image.bytes();
-    let first = image
-        .sections()
-        .find(|section| is_misplaced(bytes, section));
+    let first = image.sections().find(|section| is_misplaced(section));
     judge(Rule::SectionFile, first)
 }
 
@@ -35,10 +32,7 @@ pub(super) fn section_relocs(image: &Image) -> Result<(), Break>
     requires { KeptBefore image.now Rule.SectionRelocs }
     ensures { JudgesUpTo image.now Rule.SectionRelocs result }
 {
-    let bytes = image.bytes();
-    let first = image
-        .sections()
-        .find(|section| has_relocs_outside(bytes, section));
+    let first = image.sections().find(|section| has_relocs_outside(section));
     judge(Rule::SectionRelocs, first)
 }
 

@@ -35,10 +35,7 @@ pub(super) fn segment_file(image: &Image) -> Result<(), Break>
     requires { KeptBefore image.now Rule.SegmentFile }
     ensures { JudgesUpTo image.now Rule.SegmentFile result }
 {
-    let bytes = image.bytes();
-    let first = image
-        .segments()
-        .find(|segment| passes_image(bytes, segment));
+    let first = image.segments().find(|segment| passes_image(segment));
     judge(Rule::SegmentFile, first)
 }
 

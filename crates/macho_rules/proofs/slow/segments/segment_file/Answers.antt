@@ -1,20 +1,9 @@
-use Rattle.std.proofs.Common.{◌≡◌, List, refl, sym, ap, ◌∙◌, lit≤, rules, tests}
-use Rattle.std.proofs.lemmas.Iterator.Adapters.{serves_from_places}
-use Rattle.std.proofs.lemmas.Iterator.Consumers.{YieldsList-from_first}
-use Rattle.macho_fields.specs.Bytes.{bytes_of}
+use Rattle.std.proofs.Common.{lit≤, rules, tests}
 use Rattle.macho_fields.specs.Segment.{PassesImage}
 use Rattle.macho_fields.specs.declared.rule.Rule.TheVariants as rule
-use Rattle.macho_image.specs.Segment.{SegmentView}
 use Rattle.macho_rules.proofs.Judged.{finds, judged_by_first}
-use Rattle.macho_rules.proofs.SegmentItems.{segments_rising, segments_break, image_at}
+use Rattle.macho_rules.proofs.SegmentItems.{segments_rising, segments_break}
 use Rattle.macho_rules.proofs.slow.segments.segment_file.Goals as goal
-
-pub find-first-requires-clause-callable : goal.find-first-requires-clause-callable
-find-first-requires-clause-callable c =
-    serves_from_places (YieldsList-from_first (λ (s : SegmentView). s) (λ (left : List SegmentView). left) c.segments.result refl) (λ s q k. search rules)
-    (λ s k less at.
-    let same : (t : SegmentView) → t ≡ s → bytes_of c.bytes-bytes.result ≡ t.image =
-    λ t is. c.bytes-bytes.ensures.bytes ∙ sym (ap (λ (u : SegmentView). u.image) is ∙ image_at c.args.image.now c.segments.result c.segments.ensures.segments s k less at) in search (rules, same))
 
 pub returns : goal.returns
 returns c =

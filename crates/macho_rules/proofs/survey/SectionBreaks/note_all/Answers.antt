@@ -1,17 +1,11 @@
 use Rattle.std.proofs.Common.{◌++◌, [], ◌∷◌, refl, sym, ◌∙◌, subst, append_assoc}
 use Rattle.std.proofs.lemmas.List.{append-nil}
 use Rattle.macho_rules.specs.Survey.{AreFirstSections}
-use Rattle.macho_rules.proofs.Surveys.{walked, walked_on, walked_all, section_image, sections_end_by, sections_noted}
+use Rattle.macho_rules.proofs.Surveys.{walked, walked_on, walked_all, sections_end_by, sections_noted}
 use Rattle.macho_rules.proofs.survey.SectionBreaks.note_all.Goals as goal
 
 pub loop-section-init : goal.loop-section-init
 loop-section-init c = ([], refl, λ passed after first. subst (λ xs. AreFirstSections xs c.args.self.now) (sym (append-nil passed)) first)
-
-pub note-requires : goal.note-requires
-note-requires c =
-    let are = c.into_iter-section-iterator.ensures.into_iter_gives ∙ c.sections-section-items.ensures in
-    let (seen, reached, first) = c.loop-section.invariant in
-    c.requires ∙ sym (section_image c.args.segment.now _ are seen c.in-Some.section _ (walked _ seen _ c.in-Some.section _ reached c.in-Some.ensures.steps))
 
 pub loop-section-preserved : goal.loop-section-preserved
 loop-section-preserved c =

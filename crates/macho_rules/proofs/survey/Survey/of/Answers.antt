@@ -1,21 +1,7 @@
 use Rattle.std.proofs.Common.{◌≡◌, ◌++◌, [], ◌∷◌, ◌<◌, ◌^◌, List, ℕ, length, sym, ap, ◌∙◌, subst, arith}
 use Rattle.macho_rules.specs.Survey.{AreFirstSections, IsSurveyOf, sections_among}
-use Rattle.macho_rules.proofs.Surveys.{walked, walked_on, walked_all, walked_image, segments_end_by, all_end_by, segments_noted, sections_append, counted_more, survey_found}
+use Rattle.macho_rules.proofs.Surveys.{walked, walked_on, walked_all, segments_end_by, all_end_by, segments_noted, sections_append, counted_more, survey_found}
 use Rattle.macho_rules.proofs.survey.Survey.of.Goals as goal
-
-pub note-requires : goal.note-requires
-note-requires c =
-    let are = c.into_iter-segment-iterator.ensures.into_iter_gives ∙ c.segments-segment-items.ensures.segments in
-    let (seen, reached, _, _, _, _) = c.loop-segment.invariant in
-    let here = walked _ seen _ c.in-Some.segment _ reached c.in-Some.ensures.steps in
-    c.bytes-bytes.ensures.bytes ∙ sym (walked_image c.args.image.now c.segments-segment-items.ensures.opened _ are seen c.in-Some.segment _ here)
-
-pub note_all-requires : goal.note_all-requires
-note_all-requires c =
-    let are = c.into_iter-segment-iterator.ensures.into_iter_gives ∙ c.segments-segment-items.ensures.segments in
-    let (seen, reached, _, _, _, _) = c.loop-segment.invariant in
-    let here = walked _ seen _ c.in-Some.segment _ reached c.in-Some.ensures.steps in
-    c.bytes-bytes.ensures.bytes ∙ sym (walked_image c.args.image.now c.segments-segment-items.ensures.opened _ are seen c.in-Some.segment _ here)
 
 pub loop-segment-preserved : goal.loop-segment-preserved
 loop-segment-preserved c =
