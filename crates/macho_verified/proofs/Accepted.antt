@@ -153,12 +153,6 @@ module _ (image : List ℕ) (keeps : IsUnbrokenImage image) where
       (All-map (λ p. IsVerifiedSymbol image (strings image) (symbol_at image p)) (λ k. symoff image t + 16 * k) (range_with_len 0 (nsyms image t))
       (numbers_all (λ k. IsVerifiedSymbol image (strings image) (symbol_at image (symoff image t + 16 * k))) 0 (nsyms image t) (λ k few. item_holds t k is (omega (arith, few)))))
 
-pub symbols_hold : (image : List ℕ) → IsAccepted image → All (IsVerifiedSymbol image (strings image)) (map (symbol_at image) (symbols_of image (commands_of image)))
-unfolding IsAccepted
-symbols_hold image keeps =
-    All-map (IsVerifiedSymbol image (strings image)) (symbol_at image) (symbols_of image (commands_of image)) (items_hold image keeps (first_with_cmd image loader.LC_SYMTAB (commands_of image)) refl)
-
--- some of them
 pub range_holds : (image : List ℕ) → IsAccepted image → (first count : ℕ)
     → All (IsVerifiedSymbol image (strings image)) (map (symbol_at image) (take count (drop first (symbols_of image (commands_of image)))))
 unfolding IsAccepted

@@ -1,10 +1,10 @@
 -- How many symbols and indirect entries an accepted image has, and that the entries name its symbols.
-use Rattle.std.proofs.Common.{◌≡◌, ℕ, zero, suc, ◌+◌, ◌*◌, ◌≤◌, ◌<◌, List, [], ◌∷◌, map, length, All, Contains, Option, Some, None, IsSome, IfSome, slice_get, refl, sym, ap, ◌∙◌, subst, arith, lit<, inl, inr}
+use Rattle.std.proofs.Common.{◌≡◌, take, ℕ, zero, suc, ◌+◌, ◌*◌, ◌≤◌, ◌<◌, List, [], ◌∷◌, map, length, All, Contains, Option, Some, None, IsSome, IfSome, slice_get, refl, sym, ap, ◌∙◌, subst, arith, lit<, inl, inr}
 use Rattle.std.specs.Prelude.{nat_le}
-use Rattle.std.specs.Option.{option_map_or}
+use Rattle.std.specs.Option.{option_map, option_map_or}
 use Rattle.std.proofs.Math.Nat.{mul_comm}
 use Rattle.std.proofs.lemmas.Bool.{cases_Bool, cases_lt, le-leb}
-use Rattle.std.proofs.lemmas.List.{length-map}
+use Rattle.std.proofs.lemmas.List.{length-map, take_all}
 use Rattle.std.proofs.lemmas.List.Elements.{All-map, All-contains_itself}
 use Rattle.std.proofs.lemmas.List.FromFn.{length-map-range_with_len}
 use Rattle.macho_fields.specs.Image.{word, commands_of}
@@ -16,8 +16,9 @@ use Rattle.macho_fields.specs.declared.load_command.Structure.TheVariants.{Symta
 use Rattle.macho_fields.specs.declared.rule.Rule.TheVariants as rule
 use Rattle.macho_fields.proofs.LoadCommands.{symbols_listed, indirects_listed}
 use Rattle.macho_image.specs.Command.{first_with_cmd}
-use Rattle.macho_image.specs.Symbol.{symbols_of, indirects_of, indirect_at, items_inside}
+use Rattle.macho_image.specs.Symbol.{symbols_of, symtab_at, indirects_of, indirect_at, items_inside}
 use Rattle.macho_image.specs.declared.indirect.Indirect.{Indirect}
+use Rattle.macho_image.specs.declared.symtab.Symtab.{Symtab}
 use Rattle.macho_rules.specs.Check.{KeptBefore}
 use Rattle.macho_rules.proofs.Judged.{keeps_opened, opened_commands}
 use Rattle.macho_rules.proofs.OneCommand.{is_with_cmd, symbols_counted}
@@ -92,6 +93,21 @@ module _ (image : List ℕ) (keeps : IsUnbrokenImage image) where
 pub symbols_are_counted : (image : List ℕ) → IsAccepted image → length (symbols_of image (commands_of image)) ≡ symbol_count image (commands_of image)
 unfolding IsAccepted
 symbols_are_counted image keeps = all_symbols image keeps
+
+-- the LC_SYMTAB of an image, as it was read
+abbrev pub IsSymtab : List ℕ → Option Symtab → Type 0
+IsSymtab image read = read ≡ option_map (symtab_at image) (first_with_cmd image loader.LC_SYMTAB (commands_of image))
+
+-- its nsyms symbols are all of them
+pub all_taken : (image : List ℕ) → IsAccepted image → (read : Option Symtab) (count : ℕ) → IsSymtab image read → count ≡ option_map_or (λ (symtab : Symtab). symtab.nsyms) read 0
+    → take count (symbols_of image (commands_of image)) ≡ symbols_of image (commands_of image)
+all_taken image keeps read count is many =
+    let counted = many ∙ (ap (λ r. option_map_or (λ (symtab : Symtab). symtab.nsyms) r 0) is ∙ (by (first_with_cmd image loader.LC_SYMTAB (commands_of image)) ∙ sym (symbols_counted image (commands_of image)))) in
+    take_all count (symbols_of image (commands_of image)) (omega (arith, counted, symbols_are_counted image keeps))
+  where
+    by : (o : Option ℕ) → option_map_or (λ (symtab : Symtab). symtab.nsyms) (option_map (symtab_at image) o) 0 ≡ option_map_or (nsyms image) o 0
+    by None = refl
+    by (Some s) = refl
 
 -- so all symbols come
 pub symbols_whole : (image : List ℕ) → IsAccepted image → (result : List SymbolView) → result ≡ map (symbol_view image) (symbols_of image (commands_of image))

@@ -2,7 +2,7 @@
 
 use crate::section::VerifiedSection;
 use crate::segment::VerifiedSegments;
-use crate::symbol::{VerifiedSymbol, VerifiedSymbols, strings_of};
+use crate::symbol::{VerifiedSymbol, VerifiedSymbols};
 use macho_fields::header::loader::LC_SYMTAB;
 use macho_image::Image;
 use macho_rules::Verified;
@@ -110,12 +110,8 @@ impl<'a> VerifiedImage<'a> {
         ensures whole { IfSome (first_with_cmd self.now LC_SYMTAB (commands_of self.now))
             (λ symtab. length result ≡ nsyms self.now symtab) }
     {
-        let symbols = self.image.symbols();
-        VerifiedSymbols {
-            image: self.image.bytes(),
-            strings: strings_of(&self.image),
-            symbols,
-        }
+        let count = self.image.symtab().map_or(0, |symtab| symtab.nsyms);
+        self.symbol_group((0, count))
     }
 
     /// The symbol with this index in the table of `LC_SYMTAB`, or `None` where there is none. The symbols
