@@ -4,6 +4,7 @@ printed. Nothing was taken from the sources of the first one. tests/oracle compa
 
     tests/oracle.py FILE                        prints what `macho-check check FILE` prints, and ends with its status
     tests/oracle.py where FILE SLICE ADDRESS    the same of `macho-check where FILE SLICE ADDRESS`
+    tests/oracle.py --strict FILE               the same of `macho-strict check FILE`
 
 It is written to be read beside docs/RULES.md, and has the same order. A rule is a function with its name. It yields
 each place at which the rule is broken. `first_broken` takes the rules one after the other, and of the first one that
@@ -86,7 +87,7 @@ VM_PROT_READ, VM_PROT_WRITE, VM_PROT_EXECUTE = 1, 2, 4
 
 # The commands that are looked for by name.
 LC_SYMTAB, LC_DYSYMTAB, LC_ID_DYLIB, LC_SEGMENT_64 = 0x2, 0xb, 0xd, 0x19
-LC_UUID, LC_BUILD_VERSION, LC_MAIN = 0x1b, 0x32, 0x80000028
+LC_UUID, LC_ENCRYPTION_INFO_64, LC_BUILD_VERSION, LC_MAIN = 0x1b, 0x2c, 0x32, 0x80000028
 
 # The listed commands, by `cmd`: the command, its structure, its least `cmdsize`, its least name offset.
 LISTED = {
@@ -549,6 +550,62 @@ def entry(image):
             return
     yield main_command.place
 
+# The strict profile. Its rules may take for granted that all above are unbroken as well.
+
+def first_stray(data, ranges):
+    """The place of the first byte that is not zero and lies in none of the ranges. A range is a start and a size."""
+    place = 0
+    for start, size in sorted(ranges) + [(len(data), 1)]:
+        if size > 0:
+            gap = data[place:start]
+            zeros = len(gap) - len(gap.lstrip(b"\0"))
+            if zeros < len(gap):
+                yield place + zeros
+                return
+            place = max(place, start + size)
+
+def fat_stray_byte(file):
+    """A byte that is not zero lies neither in the header or the table nor in a slice."""
+    return first_stray(file.data, [(0, file.table_end)] + [(entry.offset, entry.size) for entry in file.entries])
+
+def commands_end(image):
+    """The last command does not end at 32 + `sizeofcmds`."""
+    end = 32
+    for command in image.commands:
+        end = command.place + command.cmdsize
+    if end != image.commands_end:
+        yield 20
+
+def header_segment(image):
+    """No segment has `fileoff` 0 and a `filesize` of at least 32 + `sizeofcmds`."""
+    if not any(segment.fileoff == 0 and segment.filesize >= image.commands_end for segment in image.segments):
+        yield 20
+
+def segment_file_overlap(image):
+    """The segment shares a byte of the file with some segment earlier in command order."""
+    return first_sharing((segment.place, segment.fileoff, segment.filesize) for segment in image.segments)
+
+def elements(image):
+    """The elements, in their order: of each the place where it is described, its start and its size."""
+    sections = {segment.place: segment.sections for segment in image.segments}
+    yield 0, 0, image.commands_end
+    for command in image.listed:
+        for section in sections.get(command.place, []):
+            if not is_zero_fill(section):
+                yield section.place, section.offset, section.size
+            yield section.place, section.reloff, 8 * section.nreloc
+        if command.cmd != LC_ENCRYPTION_INFO_64:
+            for start, count, width in BOUNDED_TABLES.get(LISTED[command.cmd][1], []):
+                yield command.place, getattr(command, start), getattr(command, count) * width
+
+def element_overlap(image):
+    """The element shares a byte with some earlier element."""
+    return first_sharing(elements(image))
+
+def stray_byte(image):
+    """A byte that is not zero lies in no segment's bytes in the file."""
+    return first_stray(image.data, [(segment.fileoff, segment.filesize) for segment in image.segments])
+
 # Order of judgment
 
 RULES_OF_THE_FILE = [
@@ -560,20 +617,30 @@ RULES_OF_AN_IMAGE = [
     dylib_id, name, segment_address, segment_size, segment_file, segment_overlap, section_address, section_file,
     section_relocs, table_range, symbol_group, symbol_name, symbol_section, indirect_index, entry,
 ]
+STRICT_RULES_OF_THE_FILE = [fat_stray_byte]
+STRICT_RULES_OF_AN_IMAGE = [commands_end, header_segment, segment_file_overlap, element_overlap, stray_byte]
 
-def first_broken(file):
-    """The first broken rule, by name, and the least place in the file at which it is broken; or None."""
-    for rule in RULES_OF_THE_FILE if file.is_universal else [magic]:
+def first_of(file, rules_of_the_file, rules_of_an_image):
+    """The first broken one of these rules, by name, and the least place in the file at which it is broken; or None."""
+    for rule in rules_of_the_file:
         places = list(rule(file))
         if places:
             return rule.__name__.replace("_", "-"), min(places)
     for image in file.slices:
         if image.is_64_bit:
-            for rule in RULES_OF_AN_IMAGE:
+            for rule in rules_of_an_image:
                 places = list(rule(image))
                 if places:
                     return rule.__name__.replace("_", "-"), image.start + min(places)
     return None
+
+def first_broken(file):
+    return first_of(file, RULES_OF_THE_FILE if file.is_universal else [magic], RULES_OF_AN_IMAGE)
+
+def first_strictly_broken(file):
+    """The same with the strict profile, which is judged where no other rule is broken."""
+    return first_broken(file) or first_of(
+        file, STRICT_RULES_OF_THE_FILE if file.is_universal else [], STRICT_RULES_OF_AN_IMAGE)
 
 # The layout, as docs/COMMAND.md has its lines
 
@@ -657,9 +724,9 @@ def layout(file):
 
 # The answers: a status, what is written to standard output, and what is written to standard error
 
-def check(data):
+def check(data, is_strict=False):
     file = File(data)
-    broken = first_broken(file)
+    broken = first_strictly_broken(file) if is_strict else first_broken(file)
     if broken is not None:
         return 1, "refused: %s at 0x%x\n" % broken, ""
     return 0, "".join(line + "\n" for line in layout(file)), ""
@@ -690,21 +757,23 @@ def number(word):
     return None
 
 def answer(words):
-    """The answer to the words of a call: FILE, or `where` FILE SLICE ADDRESS."""
+    """The answer to the words of a call: FILE, `--strict` FILE, or `where` FILE SLICE ADDRESS."""
     is_where = len(words) == 4 and words[0] == "where"
-    if not is_where and len(words) != 1:
-        return 2, "", "usage: oracle.py FILE | where FILE SLICE ADDRESS\n"
+    is_strict = len(words) == 2 and words[0] == "--strict"
+    if not is_where and not is_strict and len(words) != 1:
+        return 2, "", "usage: oracle.py FILE | --strict FILE | where FILE SLICE ADDRESS\n"
     if is_where and (number(words[2]) is None or number(words[3]) is None):
         return 2, "", "macho-check: bad number\n"
-    path = words[1] if is_where else words[0]
+    path = words[0] if len(words) == 1 else words[1]
+    program = "macho-strict" if is_strict else "macho-check"
     try:
         with sys.stdin.buffer if path == "-" else open(path, "rb") as stream:
             data = stream.read()
     except OSError:
-        return 3, "", "macho-check: read failed\n"
+        return 3, "", program + ": read failed\n"
     if len(data) > 2 ** 32:
-        return 3, "", "macho-check: more than 4294967296 bytes\n"
-    return where(data, number(words[2]), number(words[3])) if is_where else check(data)
+        return 3, "", program + ": more than 4294967296 bytes\n"
+    return where(data, number(words[2]), number(words[3])) if is_where else check(data, is_strict)
 
 def main():
     status, out, err = answer(sys.argv[1:])
