@@ -1,0 +1,56 @@
+-- The strict verdict on a file, and where it takes memory.
+use Rattle.std.specs.Prelude.{ℕ, ◌⊎◌, ⊤, List, map}
+use Rattle.macho_fields.specs.First.{IsUnbroken, IsFirstBroken}
+use Rattle.macho_fields.specs.Overlap.{IsAscending, IsDescending}
+use Rattle.macho_fields.specs.Segment.{fileoff, filesize}
+use Rattle.macho_fields.specs.Universal.{slices_of}
+use Rattle.macho_fields.specs.declared.span.Span.{Span}
+use Rattle.macho_rules.specs.Verdict.{IsRefusal}
+use Rattle.macho_rules.specs.declared.refusal.Refusal.{Refusal}
+use Rattle.macho_rules.specs.declared.refusal.Refusal.TheVariants as refusal
+use Rattle.macho_strict.specs.Elements.{elements_of}
+use Rattle.macho_strict.specs.First.{IsFirstStrictlyBroken}
+use Rattle.macho_strict.specs.Rules.{all_segments}
+use Rattle.macho_strict.specs.declared.refusal.Fault.{Fault}
+use Rattle.macho_strict.specs.declared.refusal.Fault.TheVariants as fault
+use Rattle.macho_strict.specs.declared.refusal.StrictRefusal.{StrictRefusal}
+use Rattle.macho_strict.specs.declared.refusal.StrictRefusal.TheVariants as strict
+
+-- the places of the slices of a file, in table order
+abbrev pub slice_spans : List ℕ → List Span
+slice_spans file = map (λ slice. record { start = slice.start; len = slice.size }) (slices_of file)
+
+-- the file parts of the segments of an image, in the order of the commands
+abbrev pub file_parts : List ℕ → List Span
+file_parts image =
+    map (λ segment. record { start = fileoff image segment; len = filesize image segment })
+    (all_segments image)
+
+-- the places of the elements of an image, in their order
+abbrev pub element_spans : List ℕ → List Span
+element_spans image = map (λ element. element.span) (elements_of image)
+
+-- the spans neither ascend nor descend
+abbrev pub IsUnordered : List Span → Type 0
+IsUnordered spans = (¬ IsAscending spans) × (¬ IsDescending spans)
+
+-- the file parts of an image do not ascend, or its elements are in no order
+abbrev pub TakesMemory : List ℕ → Type 0
+TakesMemory image = (¬ IsAscending (file_parts image)) ⊎ IsUnordered (element_spans image)
+
+-- A refusal is the first broken rule of `verify`, or where none of these is broken the first broken
+-- strict rule, or that there was no memory, which says no more than it does of `verify`.
+abbrev pub IsStrictRefusal : List ℕ → StrictRefusal → Type 0
+IsStrictRefusal file (strict.Broken b) = IsFirstBroken file b
+IsStrictRefusal file (strict.BrokenStrictly b) = IsUnbroken file × IsFirstStrictlyBroken file b
+IsStrictRefusal file strict.Memory = IsRefusal file refusal.Memory
+
+-- a refusal of `verify`, as one of the strict verdict
+abbrev pub refusal_of : Refusal → StrictRefusal
+refusal_of (refusal.Broken b) = strict.Broken b
+refusal_of refusal.Memory = strict.Memory
+
+-- a fault of a file is its first broken strict rule, or that there was no memory
+abbrev pub IsStrictBreak : List ℕ → Fault → Type 0
+IsStrictBreak file (fault.Broken b) = IsFirstStrictlyBroken file b
+IsStrictBreak file fault.Memory = ⊤

@@ -1,0 +1,11 @@
+#![tactic(auto)]
+//! A strict verdict on a file that breaks no rule: no byte that is not zero is unaccounted for, and none
+//! is used twice.
+
+pub mod elements;
+pub mod refusal;
+pub mod rule;
+
+pub use elements::Element;
+pub use refusal::StrictRefusal;
+pub use rule::{StrictBreak, StrictRule};
