@@ -5,7 +5,6 @@ use Rattle.std.specs.Prelude.{ℕ, ◌*◌, ◌==◌, List, [], ◌∷◌, map, 
 use Rattle.macho_fields.specs.Image.{command_cmd, commands_end, commands_of}
 use Rattle.macho_fields.specs.Segment.{sections_in, section_offset, section_size, is_zero_fill, reloff, nreloc}
 use Rattle.macho_fields.specs.Symbol.{tables_of}
-use Rattle.macho_fields.specs.declared.span.Span.{Span}
 use Rattle.macho_fields.specs.declared.header.loader.TheConstants as loader
 use Rattle.macho_fields.specs.declared.header.reloc.TheConstants as reloc
 use Rattle.macho_strict.specs.declared.elements.Element.{Element}
