@@ -383,6 +383,8 @@ class Vector(NamedTuple):
     data: bytes
     # A verdict, or a whole layout.
     wanted: str
+    # Whether the verdict is that of the strict profile.
+    is_strict: bool = False
 
 
 def word_bytes(word: str, pieces: dict[str, bytes]) -> bytes:
@@ -416,19 +418,22 @@ def choices(words: str) -> list[str]:
 
 
 def read_vectors(path: Path) -> list[Vector]:
-    """The vectors of a file, each with a verdict. `cut` and `field` make none."""
+    """The vectors of a file, each with a verdict. `cut`, `field` and `strictly` make none."""
     # A line that begins with a space goes on with the one before.
     text = without_comments(path.read_text(encoding="ascii")).replace("\n ", " ")
     pieces: dict[str, bytes] = {}
     vectors = []
+    is_strict = False
     for line in map(str.rstrip, text.split("\n")):
-        if line.startswith("let "):
+        if line == "strictly":
+            is_strict = True
+        elif line.startswith("let "):
             name, words = line[4:].split("=", 1)
             pieces[name.strip()] = all_bytes(words, pieces)
         elif line and line != "cut" and not line.startswith("field "):
             # A name may have colons, but none with a space before and after it.
             name, words, verdict = line.split(" : ", 2)
-            vectors += [Vector(name, all_bytes(chosen, pieces), verdict) for chosen in choices(words)]
+            vectors += [Vector(name, all_bytes(chosen, pieces), verdict, is_strict) for chosen in choices(words)]
     return vectors
 
 
@@ -443,7 +448,7 @@ def read_reports(path: Path) -> list[Vector]:
 
 
 def write_all(vectors: list[Vector], folder: Path) -> None:
-    for number, (name, data, wanted) in enumerate(vectors, 1):
+    for number, (name, data, wanted, _) in enumerate(vectors, 1):
         (folder / str(number)).write_bytes(data)
         if wanted.endswith("\n"):
             (folder / f"{number}.layout").write_text(wanted)

@@ -2,12 +2,16 @@
 """Compares the answers of tests/oracle.py with those of the built program. tests/oracle calls it, and says how.
 
 It judges the vectors of crates/macho_trials/data, the reports of tests/reports.txt, the files of tests/real, those of
-folders that are named, and mutants of the vectors and of all files. Mutant N of a seed is always the same. For each case it prints a line of three texts with tabs between
-them: the case, what was found, and what is wanted. Of each disagreement it prints both answers on standard error, and
-keeps the file.
+folders that are named, and mutants of the vectors and of all files. Mutant N of a seed is always the same. For each
+case it prints a line of three texts with tabs between them: the case, what was found, and what is wanted. Of each
+disagreement it prints both answers on standard error, and keeps the file.
+
+With --strict the verdicts are those of the strict profile, and the program is macho-strict. It has no `where`, so
+nothing is asked of addresses.
 """
 
 import argparse
+import functools
 import importlib.util
 import multiprocessing
 import os
@@ -227,8 +231,32 @@ def set_magic(rng, data, _):
     start = rng.choice([0] + images(data))
     return data[:start] + rng.choice(MAGICS) + data[start + 4:]
 
-# With how often each is taken.
+def append(rng, data, _):
+    """Zeros stand after the file, and sometimes a byte after them."""
+    return data + bytes(rng.choice((0, 1, 7, 8))) + rng.choice((b"", b"\1", b"\xff"))
+
+def set_byte(rng, data, _):
+    """A byte that was zero is not."""
+    place = data.find(0, rng.randrange(len(data) + 1))
+    return data if place < 0 else data[:place] + bytes((rng.choice((1, 0x80, 0xff)),)) + data[place + 1:]
+
+def repeat_range(rng, data, _):
+    """The start and the count of one command are set to those of another one, or begin a little beside."""
+    found = commands(data, some_image(rng, data)[0])
+    if not found:
+        return data
+    width = rng.choice((4, 4, 8))
+    places = [place + offset for place, size in found for offset in range(8, size - 2 * width + 1, width)]
+    if not places:
+        return data
+    source, place = rng.choice(places), rng.choice(places)
+    start = number_at(data, source, width) + rng.choice((-8, -1, 0, 0, 1, 8))
+    count = data[source + width:source + 2 * width]
+    return data[:place] + (start % 2 ** (8 * width)).to_bytes(width, "little") + count + data[place + 2 * width:]
+
+# With how often each is taken; and the ways that are taken as well where the strict profile is judged.
 WAYS = {set_field: 65, set_range: 8, cut: 5, splice: 8, exchange: 6, add_command: 8, wrap: 6, set_magic: 1}
+STRICT_WAYS = {append: 10, set_byte: 20, repeat_range: 30}
 
 def weight(data, is_accepted):
     """How often a file is changed. An accepted one says more then, and so does one with many commands. A long file with
@@ -237,12 +265,12 @@ def weight(data, is_accepted):
         return 1
     return (8 if is_accepted else 1) * (1 + sum(min(len(commands(data, start)), 20) for start in images(data)))
 
-def mutant(seed, number, corpus, weights):
+def mutant(seed, number, corpus, weights, ways):
     """Mutant NUMBER of a seed: a file of the corpus, changed up to five times. And the random numbers that follow."""
     rng = random.Random("%d %d" % (seed, number))
     data = rng.choices(corpus, weights)[0]
     for _ in range(rng.choice((1, 1, 1, 2, 2, 3, 5))):
-        way = rng.choices(list(WAYS), list(WAYS.values()))[0]
+        way = rng.choices(list(ways), list(ways.values()))[0]
         data = way(rng, data, corpus)
     return data, rng
 
@@ -263,11 +291,13 @@ def written(rng, number):
 
 # The two answers
 
-def load(path):
+def load(path, is_strict):
     spec = importlib.util.spec_from_file_location("oracle", path)
     module = importlib.util.module_from_spec(spec)
     sys.dont_write_bytecode = True
     spec.loader.exec_module(module)
+    if is_strict:
+        module.check = functools.partial(module.check, is_strict=True)
     return module
 
 def oracle_answer(oracle, question):
@@ -327,10 +357,12 @@ def kind_of(says):
 def batch(bounds):
     """Makes and compares the mutants from a number up to another: of each the verdict, and then what is at addresses of
     most of those that the program accepts and of a few others."""
-    mutants = [mutant(work.seed, number, work.corpus, work.weights) for number in range(*bounds)]
+    mutants = [mutant(work.seed, number, work.corpus, work.weights, work.ways) for number in range(*bounds)]
     verdicts = [Question("mutant %d of seed %d" % (number, work.seed), data, "check", ())
                 for number, (data, _) in zip(range(*bounds), mutants)]
     differences, kinds, answers = compare(work.oracle, work.program, verdicts)
+    if work.is_strict:
+        return len(verdicts), differences, kinds
     addresses = []
     for question, (data, rng), answer in zip(verdicts, mutants, answers):
         last = max(len(images(data)) - 1, 0)
@@ -388,49 +420,66 @@ def says_verdict(answer, verdict):
         return status == 0 and text.startswith(b"accepted, slices ")
     return status == 1 and text.decode() == verdict + "\n"
 
-def read_all_vectors():
-    """The files of vectors, by their names."""
+def read_all_vectors(is_strict):
+    """The files of vectors, by their names. Some are for the strict profile alone, which is judged on all files: of the
+    others it has the refusals, and which of their acceptances it has is not known by hand."""
     names = sorted(name for name in os.listdir(DATA) if name.endswith(".txt"))
-    return [(name, read_vectors(Path(DATA, name))) for name in names]
+    files = [(name, read_vectors(Path(DATA, name))) for name in names]
+    if is_strict:
+        return [(name, [known_strictly(vector) for vector in vectors]) for name, vectors in files]
+    return [(name, vectors) for name, vectors in files if not vectors[0].is_strict]
+
+def known_strictly(vector):
+    return vector if vector.is_strict or vector.wanted != "accepted" else vector._replace(wanted="")
 
 def read_all_reports():
     return read_reports(Path(TOP, "tests", "reports.txt"))
 
-def judge_vectors(report, oracle, program):
+def judge_vectors(report, oracle, program, is_strict):
     """Three are compared: what stands in the data, the oracle, and the program. The counts are those of the crate."""
     with open(os.path.join(TOP, "crates", "macho_trials", "stdout"), encoding="ascii") as file:
         counts = dict(re.findall(r"^(\S+\.txt): (\d+) vectors agree", file.read(), re.MULTILINE))
     seen = Counter()
-    for name, vectors in read_all_vectors():
-        questions = [Question("%s: %s" % (name, vector), data, "check", ()) for vector, data, _ in vectors]
+    for name, vectors in read_all_vectors(is_strict):
+        questions = [Question("%s: %s" % (name, vector.name), vector.data, "check", ()) for vector in vectors]
         differences, kinds, _ = compare(oracle, program, questions)
         seen += kinds
         report.agreeing("the vectors of " + name, differences, len(questions), "answers")
-        right = 0
-        for question, (_, _, verdict) in zip(questions, vectors):
-            says = oracle_answer(oracle, question)
-            if says_verdict(says, verdict):
-                right += 1
-            else:
-                wanted = (0 if verdict == "accepted" else 1, verdict.encode() + b"\n")
-                report.show(Difference(question, says, wanted), "by hand")
-        report.case("the verdicts of %s, by hand" % name, "%d verdicts" % right, "%s verdicts" % counts.pop(name, "no"))
-    report.case("files of vectors without vectors", " ".join(counts) or "none", "none")
-    rules = [kind for kind in seen if kind != "accepted"]
-    report.case("rules that some vector breaks first", "%d of 31" % len(rules), "31 of 31")
+        right = sum(agrees_by_hand(report, oracle, question, vector.wanted)
+                    for question, vector in zip(questions, vectors))
+        known = sum(vector.wanted != "" for vector in vectors) if is_strict else counts.get(name, "no")
+        report.case("the verdicts of %s, by hand" % name, "%d verdicts" % right, "%s verdicts" % known)
+    missing = " ".join(set(counts) - set(os.listdir(DATA)))
+    report.case("files of vectors that are not there", missing or "none", "none")
+    rules = len([kind for kind in seen if kind != "accepted"])
+    wanted = 37 if is_strict else 31
+    report.case("rules that some vector breaks first", "%d of %d" % (rules, wanted), "%d of %d" % (wanted, wanted))
+
+def agrees_by_hand(report, oracle, question, verdict):
+    """Whether the oracle has this verdict, where one is known."""
+    says = oracle_answer(oracle, question)
+    if verdict and not says_verdict(says, verdict):
+        wanted = (0 if verdict == "accepted" else 1, verdict.encode() + b"\n")
+        report.show(Difference(question, says, wanted), "by hand")
+    return verdict != "" and says_verdict(says, verdict)
 
 def judge_reports(report, oracle, program):
     """The whole texts on accepted files, each written by hand from the bytes: three are compared."""
     reports = read_all_reports()
-    questions = [Question("the report %s" % name, data, "check", ()) for name, data, _ in reports]
+    questions = [Question("the report %s" % name, data, "check", ()) for name, data, *_ in reports]
     right = 0
-    for question, (_, _, layout) in zip(questions, reports):
+    for question, (_, _, layout, _) in zip(questions, reports):
         says = oracle_answer(oracle, question)
         if says == (0, layout.encode()):
             right += 1
         else:
             report.show(Difference(question, says, (0, layout.encode())), "by hand")
     report.case("the reports, by hand", "%d texts" % right, "%d texts" % len(reports))
+    report.agreeing("the reports", compare(oracle, program, questions)[0], len(questions), "answers")
+
+def judge_reports_strictly(report, oracle, program):
+    """Two are compared: the strict profile refuses some of the reports."""
+    questions = [Question("the report %s" % name, data, "check", ()) for name, data, *_ in read_all_reports()]
     report.agreeing("the reports", compare(oracle, program, questions)[0], len(questions), "answers")
 
 def read_file(folder, name):
@@ -468,6 +517,7 @@ def judge_real(report, oracle, program):
         report.case("the layout of the real %s, by hand" % name, "the same" if is_same else "another", "the same")
     report.agreeing("the real files", compare(oracle, program, questions)[0], len(questions), "answers")
 
+def judge_addresses(report, oracle, program):
     files = {name: data for name, data, _ in read_real()}
     questions = [Question("the real " + name, files[name], "where", (index, address))
                  for name, index, address, _ in ADDRESSES]
@@ -516,35 +566,42 @@ def judge_mutants(report, count, jobs, only_first):
 def main():
     global work  # pylint: disable=global-statement
     parser = argparse.ArgumentParser(prog="tests/oracle")
+    parser.add_argument("--strict", action="store_true", help="the strict profile, and macho-strict")
     parser.add_argument("--seed", type=int, default=1, help="of the mutants; 1 otherwise")
     parser.add_argument("--count", type=int, default=3000, help="of the mutants; 3000 otherwise")
     parser.add_argument("--jobs", type=int, default=2, help="how many processes; 2 otherwise")
     parser.add_argument("--keep", default=os.path.join(tempfile.gettempdir(), "macho-check-differences"),
                         help="the folder for files on which the two differ")
     parser.add_argument("--oracle", default=os.path.join(TOP, "tests", "oracle.py"), help="another oracle")
-    parser.add_argument("--program", default=os.path.join(TOP, "crates", "macho_check", "out", "macho_check"),
-                        help="another program")
+    parser.add_argument("--program", help="another program")
     parser.add_argument("--first", action="store_true", help="mutants alone, up to the first difference")
     parser.add_argument("folders", nargs="*", help="folders of other files, which are judged and mutated as well")
     words = parser.parse_args()
 
-    oracle = load(words.oracle)
+    crate = "macho_strict_check" if words.strict else "macho_check"
+    program = words.program or os.path.join(TOP, "crates", crate, "out", crate)
+    oracle = load(words.oracle, words.strict)
     report = Report(words.keep)
-    vectors = [vector for _, vectors in read_all_vectors() for vector in vectors]
+    vectors = [vector for _, vectors in read_all_vectors(words.strict) for vector in vectors]
     real = [data for _, data, _ in read_real()]
     others = [data for folder in words.folders for _, data in read_folder(folder)]
-    corpus = real + others + [data for _, data, _ in vectors]
+    corpus = real + others + [vector.data for vector in vectors]
     accepted = [True] * len(real) + [oracle_answer(oracle, Question("", data, "check", ()))[0] == 0 for data in others]
-    accepted += [verdict == "accepted" for _, _, verdict in vectors]
+    accepted += [vector.wanted == "accepted" for vector in vectors]
     weights = [weight(data, good) for data, good in zip(corpus, accepted)]
     work = argparse.Namespace(
-        seed=words.seed, oracle=oracle, program=words.program, corpus=corpus, weights=weights)
+        seed=words.seed, oracle=oracle, program=program, corpus=corpus, weights=weights, is_strict=words.strict,
+        ways={**WAYS, **STRICT_WAYS} if words.strict else WAYS)
     if not words.first:
-        judge_vectors(report, oracle, words.program)
-        judge_reports(report, oracle, words.program)
-        judge_real(report, oracle, words.program)
-        judge_numbers(report, oracle, words.program, real[0])
-        judge_folders(report, oracle, words.program, words.folders)
+        judge_vectors(report, oracle, program, words.strict)
+        judge_real(report, oracle, program)
+        judge_folders(report, oracle, program, words.folders)
+    if not words.first and words.strict:
+        judge_reports_strictly(report, oracle, program)
+    elif not words.first:
+        judge_reports(report, oracle, program)
+        judge_addresses(report, oracle, program)
+        judge_numbers(report, oracle, program, real[0])
     judge_mutants(report, words.count, words.jobs, words.first)
 
 if __name__ == "__main__":
