@@ -198,7 +198,7 @@ impl<'a> Bytes<'a> {
         self.bytes_at(span.start, end - span.start)
     }
 
-    /// The bytes at those places of `span` that are inside, or `None` where it begins past the end.
+    // The bytes at those places of `span` that are inside, or `None` where it begins past the end.
     fn clipped(self, span: Span) -> Option<&'a [u8]>
         ensures inside { IsSome result ↔ (span.start ≤ length (bytes_of self.entry)) }
         ensures bytes { IfSome result (λ bytes.
@@ -218,7 +218,7 @@ impl<'a> Bytes<'a> {
     }
 }
 
-/// The number in the first 2 bytes.
+// The number in the first 2 bytes.
 fn u16_from(order: Order, bytes: &[u8]) -> u16
     requires { 2 ≤ length bytes.now }
     ensures { result ≡ number order 2 bytes.now 0 }
@@ -229,7 +229,7 @@ fn u16_from(order: Order, bytes: &[u8]) -> u16
     }
 }
 
-/// The number in the first 4 bytes.
+// The number in the first 4 bytes.
 fn u32_from(order: Order, bytes: &[u8]) -> u32
     requires { 4 ≤ length bytes.now }
     ensures { result ≡ number order 4 bytes.now 0 }
@@ -240,7 +240,7 @@ fn u32_from(order: Order, bytes: &[u8]) -> u32
     }
 }
 
-/// The number in the first 8 bytes.
+// The number in the first 8 bytes.
 fn u64_from(order: Order, bytes: &[u8]) -> u64
     requires { 8 ≤ length bytes.now }
     ensures { result ≡ number order 8 bytes.now 0 }

@@ -30,7 +30,7 @@ pub struct FileType {
     pub names_itself: bool,
 }
 
-/// A line of the list: the number, the kind, the word, and whether the image names itself.
+// A line of the list: the number, the kind, the word, and whether the image names itself.
 macro_rules! file_type {
     ($number:ident, $kind:ident, $word:expr, $names_itself:expr) => {
         FileType {
@@ -42,7 +42,7 @@ macro_rules! file_type {
     };
 }
 
-/// The filetypes that are judged.
+// The filetypes that are judged.
 const FILE_TYPES: &[FileType] = &[
     file_type!(MH_EXECUTE, Execute, "execute", false),
     file_type!(MH_DYLIB, Dylib, "dylib", true),
@@ -56,7 +56,7 @@ pub fn file_type_of(number: u32) -> Option<FileType>
     first_of(number, FILE_TYPES).copied()
 }
 
-/// The first of the filetypes with this number.
+// The first of the filetypes with this number.
 fn first_of(number: u32, file_types: &[FileType]) -> Option<&FileType>
     ensures { option_map (λ found. found.now) result
         ≡ find (λ file_type. file_type.number == number) file_types.now }

@@ -105,8 +105,8 @@ pub struct TableFields {
     pub item_size: u64,
 }
 
-/// A table, by the offsets of the two fields that bound it, the width of these, and the size of an
-/// item.
+// A table, by the offsets of the two fields that bound it, the width of these, and the size of an
+// item.
 macro_rules! table {
     ($place:expr, $count:expr, $width:ident, $item_size:expr) => {
         TableFields {
@@ -118,13 +118,13 @@ macro_rules! table {
     };
 }
 
-/// The symbols and their strings.
+// The symbols and their strings.
 const SYMTAB_TABLES: &[TableFields] = &[
     table!(SYMOFF, NSYMS, Uint32, NLIST_64_SIZE),
     table!(STROFF, STRSIZE, Uint32, 1),
 ];
 
-/// The table of contents, modules, referenced symbols, indirect entries, and relocations.
+// The table of contents, modules, referenced symbols, indirect entries, and relocations.
 const DYSYMTAB_TABLES: &[TableFields] = &[
     table!(TOCOFF, NTOC, Uint32, DYLIB_TABLE_OF_CONTENTS_SIZE),
     table!(MODTABOFF, NMODTAB, Uint32, DYLIB_MODULE_64_SIZE),
@@ -134,10 +134,10 @@ const DYSYMTAB_TABLES: &[TableFields] = &[
     table!(LOCRELOFF, NLOCREL, Uint32, RELOCATION_INFO_SIZE),
 ];
 
-/// The data, as bytes.
+// The data, as bytes.
 const LINKEDIT_DATA_TABLES: &[TableFields] = &[table!(DATAOFF, DATASIZE, Uint32, 1)];
 
-/// Bytes of five kinds.
+// Bytes of five kinds.
 const DYLD_INFO_TABLES: &[TableFields] = &[
     table!(REBASE_OFF, REBASE_SIZE_OFFSET, Uint32, 1),
     table!(BIND_OFF, BIND_SIZE_OFFSET, Uint32, 1),
@@ -146,10 +146,10 @@ const DYLD_INFO_TABLES: &[TableFields] = &[
     table!(EXPORT_OFF, EXPORT_SIZE_OFFSET, Uint32, 1),
 ];
 
-/// The encrypted bytes.
+// The encrypted bytes.
 const ENCRYPTION_INFO_TABLES: &[TableFields] = &[table!(CRYPTOFF, CRYPTSIZE, Uint32, 1)];
 
-/// The data, as bytes.
+// The data, as bytes.
 const NOTE_TABLES: &[TableFields] = &[table!(OFFSET, SIZE_OFFSET, Uint64, 1)];
 
 impl Structure {
@@ -235,7 +235,7 @@ pub struct LoadCommand {
     pub structure: Structure,
 }
 
-/// A load command, by the name of its `cmd` and its structure.
+// A load command, by the name of its `cmd` and its structure.
 macro_rules! command {
     ($cmd:ident, $structure:ident) => {
         LoadCommand {
@@ -248,7 +248,7 @@ macro_rules! command {
 /// How many load commands there are of which an image has at most one.
 pub const UNIQUE_COUNT: usize = 5;
 
-/// The load commands of which an image has at most one, in the order of their numbers.
+// The load commands of which an image has at most one, in the order of their numbers.
 const UNIQUE_COMMANDS: [LoadCommand; UNIQUE_COUNT] = [
     command!(LC_SYMTAB, SymtabCommand),
     command!(LC_DYSYMTAB, DysymtabCommand),
@@ -257,7 +257,7 @@ const UNIQUE_COMMANDS: [LoadCommand; UNIQUE_COUNT] = [
     command!(LC_MAIN, EntryPointCommand),
 ];
 
-/// The load commands of which an image has any number, in the order of their numbers.
+// The load commands of which an image has any number, in the order of their numbers.
 const REPEATABLE_COMMANDS: &[LoadCommand] = &[
     command!(LC_LOAD_DYLIB, DylibCommand),
     command!(LC_LOAD_DYLINKER, DylinkerCommand),
@@ -293,7 +293,7 @@ pub fn load_command_of(cmd: u32) -> Option<LoadCommand>
         .copied()
 }
 
-/// The first of the commands with this `cmd`.
+// The first of the commands with this `cmd`.
 fn first_of(cmd: u32, commands: &[LoadCommand]) -> Option<&LoadCommand>
     ensures { option_map (λ found. found.now) result
         ≡ find (λ command. command.cmd == cmd) commands.now }

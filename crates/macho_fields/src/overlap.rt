@@ -14,7 +14,7 @@ pub struct SpanList {
     items: Vec<Numbered>,
 }
 
-/// A span, and how many spans were added before it.
+// A span, and how many spans were added before it.
 #[derive(Clone, Copy)]
 struct Numbered {
     span: Span,
@@ -92,8 +92,8 @@ impl SpanList {
     }
 }
 
-/// Whether two of the spans with an index below `count` share a place. The items are sorted by
-/// start.
+// Whether two of the spans with an index below `count` share a place. The items are sorted by
+// start.
 fn shares_below(items: &[Numbered], count: u64) -> bool
     requires { IsNonDecreasingBy (λ item. item.span.start) items.now }
     ensures { IsTrue result ↔ PairBelow items.now (length items.now) count }
@@ -110,8 +110,8 @@ fn shares_below(items: &[Numbered], count: u64) -> bool
     false
 }
 
-/// The least index of a span that shares a place with one of a lower index, by halves. The items are
-/// sorted by start.
+// The least index of a span that shares a place with one of a lower index, by halves. The items are
+// sorted by start.
 fn least_sharing(items: &[Numbered]) -> u64
     requires sorted { IsNonDecreasingBy (λ item. item.span.start) items.now }
     requires some { PairBelow items.now (length items.now) (length items.now) }

@@ -137,8 +137,8 @@ pub struct Break {
     pub place: u64,
 }
 
-/// The length in bytes of the longest text of a break: 18 of `fat-slice-in-table`, 6 of ` at 0x`,
-/// and 16 digits.
+// The length in bytes of the longest text of a break: 18 of `fat-slice-in-table`, 6 of ` at 0x`,
+// and 16 digits.
 const LONGEST_TEXT: usize = 40;
 
 impl Break {
@@ -150,7 +150,7 @@ impl Break {
         Break { rule, place }
     }
 
-    /// The text in reports, with room for the longest.
+    // The text in reports, with room for the longest.
     fn text(self) -> Result<InlineText<LONGEST_TEXT>, fmt::Error>
         ensures { IfOk result (λ text. inline_text text ≡ text_of self) }
     {

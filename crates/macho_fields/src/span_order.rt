@@ -16,25 +16,25 @@ pub enum Sharing {
 /// The order in which spans come. Empty spans share nothing, and are passed over.
 #[derive(Clone, Copy, Debug)]
 pub struct SpanOrder {
-    /// The last span that is not empty.
+    // The last span that is not empty.
     last: Span,
     trend: Trend,
 }
 
-/// In what order the spans come that are not empty.
+// In what order the spans come that are not empty.
 #[derive(Clone, Copy, Debug)]
 enum Trend {
-    /// There is none.
+    // There is none.
     Empty,
-    /// There is one.
+    // There is one.
     Single,
-    /// Each begins where the one before it ends, or after that.
+    // Each begins where the one before it ends, or after that.
     Ascending,
-    /// Each ends where the one before it begins, or before that.
+    // Each ends where the one before it begins, or before that.
     Descending,
-    /// No two before the one with this tag share a place, and it shares one with an earlier span.
+    // No two before the one with this tag share a place, and it shares one with an earlier span.
     Sharing(u64),
-    /// They neither ascend nor descend.
+    // They neither ascend nor descend.
     Unordered,
 }
 
@@ -64,7 +64,7 @@ impl SpanOrder {
         }
     }
 
-    /// The trend with one span more, which is not empty.
+    // The trend with one span more, which is not empty.
     fn trend_with(&self, span: Span, tag: u64) -> Trend
         requires { 0 < span.len }
         ensures { (spans : List Span) (tags : List ℕ) → length tags ≡ length spans

@@ -144,7 +144,7 @@ impl Spans {
     }
 }
 
-/// The index at which a span goes, or `None` where it shares a place with one that is held.
+// The index at which a span goes, or `None` where it shares a place with one that is held.
 fn gap_for(held: &mut CountedPairs, span: Span) -> Option<usize>
     requires sorted { AreSorted held.old.pairs.items }
     requires placed { IsPlaced span }

@@ -3,8 +3,8 @@
 ghost use Rattle.std.specs.Prelude.{◌≡◌, ◌+◌, ◌<◌, ◌^◌};
 ghost use Rattle.macho_fields.specs.Spans.{RoseBy};
 
-/// How often something was done, in the last call and in all calls. What it was in all is 0 again after
-/// 2^64 - 1.
+// How often something was done, in the last call and in all calls. What it was in all is 0 again after
+// 2^64 - 1.
 #[derive(Drop)]
 pub(super) struct Count {
     call: u64,
@@ -19,14 +19,14 @@ impl Count {
         Count { call: 0, all: 0 }
     }
 
-    /// How often it was done in the last call.
+    // How often it was done in the last call.
     pub(super) fn call(&self) -> u64
         ensures { result ≡ self.now.call }
     {
         self.call
     }
 
-    /// A call begins.
+    // A call begins.
     pub(super) fn begin(&mut self)
         ensures call { self.new.call ≡ 0 }
         ensures all { self.new.all ≡ self.old.all }
@@ -34,7 +34,7 @@ impl Count {
         self.call = 0;
     }
 
-    /// It is done once more.
+    // It is done once more.
     pub(super) fn raise(&mut self)
         requires { self.old.call < 2 ^ 32 }
         ensures call { self.new.call ≡ self.old.call + 1 }

@@ -9,7 +9,7 @@ use super::count::Count;
 use crate::span::Span;
 use std::alloc::{AllocError, Global};
 
-/// Pairs of a span and its tag, with how many probes and tests were made.
+// Pairs of a span and its tag, with how many probes and tests were made.
 #[derive(Drop)]
 pub(super) struct CountedPairs {
     pairs: Vec<(Span, u64)>,
@@ -38,7 +38,7 @@ impl CountedPairs {
         }
     }
 
-    /// None, with room for so many and no more.
+    // None, with room for so many and no more.
     pub(super) fn with_capacity(alloc: Global, count: usize) -> Result<CountedPairs, AllocError>
         ensures none { IfOk result (λ held. held.pairs.items ≡ []) }
         ensures capacity { IfOk result (λ held. vec_capacity held.pairs ≡ count) }
@@ -55,21 +55,21 @@ impl CountedPairs {
         })
     }
 
-    /// How many pairs there are.
+    // How many pairs there are.
     pub(super) fn len(&self) -> usize
         ensures { result ≡ length self.now.pairs.items }
     {
         self.pairs.len()
     }
 
-    /// How many probes the last call made.
+    // How many probes the last call made.
     pub(super) fn probes(&self) -> u64
         ensures { result ≡ self.now.probes.call }
     {
         self.probes.call()
     }
 
-    /// How many tests of one pair the last call made.
+    // How many tests of one pair the last call made.
     #[cfg(test)]
     pub(super) fn tests(&self) -> u64
         ensures { result ≡ self.now.tests.call }
@@ -77,7 +77,7 @@ impl CountedPairs {
         self.tests.call()
     }
 
-    /// A call begins, which has made no probe and no test.
+    // A call begins, which has made no probe and no test.
     fn begin_call(&mut self)
         ensures same { self.new.pairs ≡ self.old.pairs }
         ensures probes { self.new.probes.call ≡ 0 }
@@ -89,7 +89,7 @@ impl CountedPairs {
         self.tests.begin();
     }
 
-    /// How many of the spans start at the place or before it, by halves. A call begins with it.
+    // How many of the spans start at the place or before it, by halves. A call begins with it.
     pub(super) fn count_starts_by(&mut self, place: u64) -> usize
         requires { AreSorted self.old.pairs.items }
         ensures count { StartBy self.old.pairs.items place result }
@@ -113,7 +113,7 @@ impl CountedPairs {
         low
     }
 
-    /// Whether the span at the index starts at the place or before it. It counts as a probe.
+    // Whether the span at the index starts at the place or before it. It counts as a probe.
     fn starts_by(&mut self, index: usize, place: u64) -> bool
         requires index { index < length self.old.pairs.items }
         requires few { self.old.probes.call < 2 ^ 32 }
@@ -128,7 +128,7 @@ impl CountedPairs {
         self.pairs[index].0.start <= place
     }
 
-    /// Whether the span at the index shares a place with `span`. It counts as a test.
+    // Whether the span at the index shares a place with `span`. It counts as a test.
     pub(super) fn shares(&mut self, index: usize, span: Span) -> bool
         requires index { index < length self.old.pairs.items }
         requires few { self.old.tests.call < 2 }
@@ -143,7 +143,7 @@ impl CountedPairs {
         self.pairs[index].0.shares(&span)
     }
 
-    /// The pair at the index, where its span holds the place. It counts as a test.
+    // The pair at the index, where its span holds the place. It counts as a test.
     pub(super) fn holding(&mut self, index: usize, place: u64) -> Option<(Span, u64)>
         requires index { index < length self.old.pairs.items }
         requires few { self.old.tests.call < 2 }
@@ -163,7 +163,7 @@ impl CountedPairs {
         }
     }
 
-    /// Puts a pair before the one at the index, or last.
+    // Puts a pair before the one at the index, or last.
     pub(super) fn insert(&mut self, index: usize, span: Span, tag: u64) -> Result<(), AllocError>
         requires { index ≤ length self.old.pairs.items }
         ensures ok { OnOk result

@@ -8,7 +8,7 @@ use crate::span::Span;
 use std::process::Abort;
 use std::test::Fail;
 
-/// A span that is inserted, with its tag, what becomes of it, and how many probes that takes at most.
+// A span that is inserted, with its tag, what becomes of it, and how many probes that takes at most.
 #[derive(Clone, Copy)]
 struct Insertion {
     start: u64,
@@ -18,8 +18,8 @@ struct Insertion {
     most: u64,
 }
 
-/// A place that is looked for, the span that is found there, with its start, its length and its tag, and
-/// how many probes that takes at most.
+// A place that is looked for, the span that is found there, with its start, its length and its tag, and
+// how many probes that takes at most.
 #[derive(Clone, Copy)]
 struct LookUp {
     place: u64,
@@ -27,8 +27,8 @@ struct LookUp {
     most: u64,
 }
 
-/// Compares what the last call counted. Where it may make a probe it makes one, and never more than two
-/// tests of one pair.
+// Compares what the last call counted. Where it may make a probe it makes one, and never more than two
+// tests of one pair.
 fn check_counts(rt: &impl Abort, spans: &Spans, most: u64) {
     let (probes, tests) = (spans.probes(), spans.held.tests());
     assert!(rt; probes <= most, "{probes} probes, where {most} are right");
@@ -36,7 +36,7 @@ fn check_counts(rt: &impl Abort, spans: &Spans, most: u64) {
     assert!(rt; tests <= 2, "{tests} tests of one pair");
 }
 
-/// Inserts a span, and compares the answer and the counts.
+// Inserts a span, and compares the answer and the counts.
 fn check_insert(rt: &impl Abort, spans: &mut Spans, one: &Insertion) -> Result<(), Fail> {
     let span = Span {
         start: one.start,
@@ -51,7 +51,7 @@ fn check_insert(rt: &impl Abort, spans: &mut Spans, one: &Insertion) -> Result<(
     Ok(())
 }
 
-/// Looks for a place, and compares the answer and the counts.
+// Looks for a place, and compares the answer and the counts.
 fn check_find(rt: &impl Abort, spans: &mut Spans, one: &LookUp) {
     let given = spans.find(one.place);
     let found = given.map(|(span, tag)| (span.start, span.len, tag));
@@ -59,7 +59,7 @@ fn check_find(rt: &impl Abort, spans: &mut Spans, one: &LookUp) {
     check_counts(rt, spans, one.most);
 }
 
-/// An insertion, by the span, its tag, what becomes of it and the most probes.
+// An insertion, by the span, its tag, what becomes of it and the most probes.
 macro_rules! insertion {
     ($start:expr, $len:expr, $tag:expr, $insert:ident, $most:expr) => {
         Insertion {
@@ -72,7 +72,7 @@ macro_rules! insertion {
     };
 }
 
-/// A look-up, by the place, what is found and the most probes.
+// A look-up, by the place, what is found and the most probes.
 macro_rules! look_up {
     ($place:expr, $found:expr, $most:expr) => {
         LookUp {
@@ -83,7 +83,7 @@ macro_rules! look_up {
     };
 }
 
-/// Spans up to the last place. The third shares places with the first two.
+// Spans up to the last place. The third shares places with the first two.
 const SORTED: &[Insertion] = &[
     insertion!(0, 10, 7, Added, 0),
     insertion!(10, 5, 8, Added, 1),
@@ -91,7 +91,7 @@ const SORTED: &[Insertion] = &[
     insertion!(u64::MAX, 1, 9, Added, 2),
 ];
 
-/// Places, and what is found there of these spans.
+// Places, and what is found there of these spans.
 const SORTED_FINDS: &[LookUp] = &[
     look_up!(14, Some((10, 5, 8)), 2),
     look_up!(15, None, 2),
@@ -112,7 +112,7 @@ fn sorted_spans(rt: HostRuntime) -> Result<(), Fail> {
     Ok(())
 }
 
-/// Spans on both sides of a gap, of which three overlap one or both.
+// Spans on both sides of a gap, of which three overlap one or both.
 const AROUND: &[Insertion] = &[
     insertion!(0, 100, 1, Added, 0),
     insertion!(200, 1, 2, Added, 1),
@@ -132,8 +132,8 @@ fn spans_around_a_gap(rt: HostRuntime) -> Result<(), Fail> {
     Ok(())
 }
 
-/// Looks for the first place of one of a thousand spans, and for the place after it, which none has. A
-/// thousand has ten binary digits.
+// Looks for the first place of one of a thousand spans, and for the place after it, which none has. A
+// thousand has ten binary digits.
 fn check_one_of_many(rt: &impl Abort, spans: &mut Spans, tag: u64)
     requires { tag < 1000 }
 {
