@@ -1,14 +1,17 @@
 -- The fault of a rule is the fault of the file, whose bytes the table stands for.
-use Rattle.std.proofs.Common.{◌≡◌, ℕ, ◌≤◌, List, Result, MatchResult, Ok, Err, IfErr, IsErrAnd, sym, subst, arith}
+use Rattle.std.proofs.Common.{◌≡◌, ℕ, ◌≤◌, List, Option, Some, None, Result, MatchResult, Ok, Err, IfErr, IsErrAnd, refl, sym, subst, arith}
+use Rattle.std.proofs.lemmas.Bool.{false≢true}
 use Rattle.macho_fields.specs.First.{rank}
-use Rattle.macho_fields.specs.Layers.{IsLeast, KeptBelow, Continues}
+use Rattle.macho_fields.specs.FirstPlace.{IsLeastPlace}
+use Rattle.macho_fields.specs.Layers.{IsLeast, KeptBelow}
 use Rattle.macho_fields.specs.Rules.{BreaksFile}
 use Rattle.macho_fields.specs.declared.rule.Rule.{Rule}
 use Rattle.macho_fields.specs.declared.rule.Rule.TheVariants as rule
 use Rattle.macho_fields.specs.declared.rule.Break.{Break}
 use Rattle.macho_fat.specs.declared.fault.FatFault.{FatFault}
 use Rattle.macho_fat.specs.declared.fault.FatFault.TheVariants as fault
-use Rattle.macho_fat.specs.TableWalk.{IsRuleFault, ContinuesWithMemory}
+use Rattle.macho_fields.proofs.Layers.{kept_more, least_at}
+use Rattle.macho_fat.specs.TableWalk.{IsRuleFault, ContinuesWithMemory, IsJudged}
 use Rattle.macho_fat.specs.Slices.{IsFatFault}
 
 -- a fault of the table is passed on as one of the file
@@ -27,15 +30,12 @@ pub rule_fault : (file : List ℕ) (r : Rule) (P : Type 0) (found : FatFault) �
 rule_fault file r P (fault.Broken b) late least = least
 rule_fault file r P fault.Memory late (kept, where_asked) = λ other place less. kept other place (omega arith)
 
--- what a rule answers is passed on, its break as a fault
-pub answer_passed : {T : Type 0} (breaks : Rule → ℕ → Type 0) (r : Rule) (P : Type 0) (judged : Result T Break) (answer : Result T FatFault)
-    → MatchResult judged (λ x. answer ≡ Ok x) (λ b. IsErrAnd answer (λ given. given ≡ fault.Broken b)) → Continues breaks r judged → ContinuesWithMemory breaks r P answer
-answer_passed breaks r P (Ok x) answer is kept = subst (ContinuesWithMemory breaks r P) (sym is) kept
-answer_passed breaks r P (Err b) (Ok x) is least = absurd is
-answer_passed breaks r P (Err b) (Err given) is least = subst (IsRuleFault breaks r P) (sym is) least
-
--- want of memory, where the rules before this one are unbroken and memory is asked for
-pub memory_passed : {T : Type 0} (breaks : Rule → ℕ → Type 0) (r : Rule) (P : Type 0) (answer : Result T FatFault) → IsErrAnd answer (λ given. given ≡ fault.Memory) → KeptBelow breaks (rank r) → P
-    → ContinuesWithMemory breaks r P answer
-memory_passed breaks r P (Ok x) is kept asked = absurd is
-memory_passed breaks r P (Err given) is kept asked = subst (IsRuleFault breaks r P) (sym is) (kept, asked)
+-- what is found of a rule is its answer, and so is want of memory where memory is asked for
+pub found_judged : {T E : Type 0} (breaks : Rule → ℕ → Type 0) (r : Rule) (P : Type 0) (found : Result (Option ℕ) E) (answer : Result T FatFault) → KeptBelow breaks (rank r)
+    → MatchResult found (IsLeastPlace (breaks r)) (λ _. P) → IsJudged r found answer → ContinuesWithMemory breaks r P answer
+found_judged breaks r P (Ok None) (Ok x) kept none is = kept_more breaks r kept none
+found_judged breaks r P (Ok None) (Err given) kept none is = absurd (false≢true is)
+found_judged breaks r P (Ok (Some place)) (Ok x) kept first is = absurd is
+found_judged breaks r P (Ok (Some place)) (Err given) kept (broken, least) is = subst (IsRuleFault breaks r P) (sym is) (least_at breaks r (record { rule = r; place = place }) kept (refl, broken, least))
+found_judged breaks r P (Err e) (Ok x) kept asked is = absurd is
+found_judged breaks r P (Err e) (Err given) kept asked is = subst (IsRuleFault breaks r P) (sym is) (kept, asked)

@@ -1,13 +1,18 @@
 -- What a walk over the entries of a table finds of a rule of a single entry, entry by entry.
-use Rattle.std.proofs.Common.{◌≡◌, ℕ, ◌+◌, ◌<◌, List, [], ◌∷◌, ◌++◌, Contains, Option, Some, unwrap_or, Bool, false, IsTrue, ◌↔◌, refl, sym, ap, ◌∙◌, subst, arith, inl, inr}
+use Rattle.std.proofs.Common.{◌≡◌, ℕ, ◌+◌, ◌<◌, List, [], ◌∷◌, ◌++◌, Contains, Option, Some, MatchOption, unwrap_or, Result, IsOk, IsErrAnd, Bool, false, IsTrue, ◌↔◌, refl, sym, ap, ◌∙◌, subst, arith, inl, inr}
 use Rattle.std.specs.List.{range_with_len}
 use Rattle.std.proofs.lemmas.List.FromFn.{length-range_with_len, get_or-range_with_len, map-range_with_len_more}
 use Rattle.std.proofs.lemmas.List.{map-id}
 use Rattle.std.proofs.lemmas.Bool.{both_ways}
 use Rattle.macho_fields.specs.Universal.{IsUniversal, IsSliceOutside, IsSliceInTable, IsSliceMisaligned, entry_count, entry_place}
+use Rattle.macho_fields.specs.First.{rank}
 use Rattle.macho_fields.specs.FirstPlace.{IsLeastPlace, IsNoted}
+use Rattle.macho_fields.specs.Layers.{KeptBelow, Continues}
+use Rattle.macho_fields.specs.Rules.{BreaksFile}
+use Rattle.macho_fields.specs.declared.rule.Rule.{Rule}
+use Rattle.macho_fields.specs.declared.rule.Break.{Break}
 use Rattle.macho_fields.proofs.Entries.{Breaks, place_rises}
-use Rattle.macho_fields.proofs.FirstPlaces.{first_of_kept, first_of_broken, first_breaks}
+use Rattle.macho_fields.proofs.FirstPlaces.{first_of_kept, first_of_broken, first_breaks, first_judged}
 use Rattle.macho_fat.specs.TableWalk.{IsFirstEntry, BreaksAlone, AreFirstBreaks}
 use Rattle.macho_fat.specs.declared.survey.Notes.{Notes}
 
@@ -46,6 +51,13 @@ module _ (file : List ℕ) (P : ℕ → Type 0) where
     broken = λ k has here. (universal, (k, entry_below (entry_count file) k has, refl, here));
     only = λ place (u, (k, less, at, here)). (k, below_contained (entry_count file) k less, here, sym at);
   })
+
+-- and is the answer of the rule for the file that the table is of
+pub entry_judged : {T : Type 0} (table file : List ℕ) (P : List ℕ → ℕ → Type 0) (r : Rule) (found : Option ℕ) (answer : Result T Break) → table ≡ file → KeptBelow (BreaksFile file) (rank r)
+    → IsUniversal table → IsFirstEntry table (P table) (entry_count table) found → (IsLeastPlace (Breaks table (P table)) found → IsLeastPlace (BreaksFile table r) found)
+    → MatchOption found (IsOk answer) (λ place. IsErrAnd answer (λ b. (b.rule ≡ r) × (b.place ≡ place))) → Continues (BreaksFile file) r answer
+entry_judged table file P r found answer same kept universal first of_rule =
+    first_judged (BreaksFile file) r found answer kept (subst (λ (f : List ℕ). IsLeastPlace (BreaksFile f r) found) same (of_rule (first_entry_breaks table (P table) found universal first)))
 
 -- one entry more, which breaks none of the rules of a single entry
 pub none_broken : (file : List ℕ) (k : ℕ) (notes : Notes) (is_broken : Bool) → is_broken ≡ false → IsTrue is_broken ↔ BreaksAlone file k → AreFirstBreaks file k notes → AreFirstBreaks file (k + 1) notes

@@ -1,5 +1,5 @@
 -- The first entry whose span shares a place with that of an earlier one, and which rule it breaks.
-use Rattle.std.proofs.Common.{◌≡◌, ℕ, ◌+◌, ◌*◌, ◌^◌, ◌<◌, ◌↔◌, List, length, [], ◌∷◌, ◌++◌, map, slice_get, Option, Some, None, refl, sym, ap, ap₂, ◌∙◌, subst, arith, inl, inr, length-append}
+use Rattle.std.proofs.Common.{◌≡◌, ℕ, ◌+◌, ◌*◌, ◌^◌, ◌<◌, ◌↔◌, List, length, [], ◌∷◌, ◌++◌, map, slice_get, Option, Some, None, Result, Ok, Err, IfOk, OnErr, MatchResult, refl, sym, ap, ap₂, ◌∙◌, subst, arith, inl, inr, length-append}
 use Rattle.std.proofs.lemmas.Bool.{cases_lt}
 use Rattle.std.specs.List.{range_with_len}
 use Rattle.std.proofs.lemmas.List.FromFn.{length-map-range_with_len, get_or-map-range_with_len, map-range_with_len_more}
@@ -8,18 +8,23 @@ use Rattle.std.proofs.lemmas.Simd.{map-map}
 use Rattle.macho_fields.specs.Field.{number}
 use Rattle.macho_fields.specs.declared.bytes.Order.TheVariants.{Big}
 use Rattle.macho_fields.specs.Overlap.{span_at, SharesEarlier, IsLeastSharing}
+use Rattle.macho_fields.specs.First.{rank}
+use Rattle.macho_fields.specs.Layers.{KeptBelow}
 use Rattle.macho_fields.specs.Rules.{BreaksFile}
 use Rattle.macho_fields.specs.Span.{Shares}
 use Rattle.macho_fields.specs.SpanOrder.{spans_in, tags_in, IsOrderOf, IsSharingOf}
 use Rattle.macho_fields.specs.declared.span_order.SpanOrder.{SpanOrder}
 use Rattle.macho_fields.specs.Universal.{IsUniversal, masked, entry_count, entry_place, entry_slice, WithEarlier, SharePlace}
+use Rattle.macho_fields.specs.declared.rule.Rule.{Rule}
 use Rattle.macho_fields.specs.declared.rule.Rule.TheVariants as rule
 use Rattle.macho_fields.specs.declared.span.Span.{Span}
 use Rattle.macho_fields.specs.declared.span_order.Sharing.{Sharing}
 use Rattle.macho_fields.specs.declared.span_order.Sharing.TheVariants as sharing
 use Rattle.macho_fields.proofs.Entries.{Breaks, place_rises}
 use Rattle.macho_fields.specs.FirstPlace.{IsLeastPlace}
-use Rattle.macho_fat.specs.TableWalk.{IsEntry, entry_spans, placed_spans, slice_span, arch_span, ReturnsSpans, FindsFirstSharing, IsUnordered}
+use Rattle.macho_fat.specs.TableWalk.{IsEntry, entry_spans, placed_spans, slice_span, arch_span, ReturnsSpans, FindsFirstSharing, IsUnordered, IsJudged, ContinuesWithMemory}
+use Rattle.macho_fat.specs.declared.fault.FatFault.{FatFault}
+use Rattle.macho_fat.proofs.Faults.{found_judged}
 use Rattle.macho_fat.specs.declared.table.Entry.{Entry}
 
 module _ (file : List ℕ) (span : ℕ → Span) where
@@ -102,14 +107,24 @@ module _ (file : List ℕ) (span : ℕ → Span) (R : ℕ → ℕ → Type 0) (e
         ],
       )
 
--- What is found in a table is found in the file that it is of: the least place of the rule
+-- What is found in a table is the answer of the rule for the file that it is of
+pub sharing_judged : {T E : Type 0} (table file : List ℕ) (span : List ℕ → ℕ → Span) (r : Rule) (shown : Sharing) (found : Result (Option ℕ) E) (answer : Result T FatFault)
+    → table ≡ file → KeptBelow (BreaksFile file) (rank r) → IsSharingOf (placed_spans table (span table) (entry_count table)) shown
+    → ((first : Option ℕ) → FindsFirstSharing table (span table) first → IsLeastPlace (BreaksFile table r) first)
+    → IfOk found (FindsFirstSharing table (span table)) → OnErr found (shown ≡ sharing.Unknown) → IsJudged r found answer
+    → ContinuesWithMemory (BreaksFile file) r (IsUnordered (entry_spans file (span file))) answer
+sharing_judged {E = E} table file span r shown found answer same kept order least first asked judged =
+    found_judged (BreaksFile file) r _ found answer kept (subst (λ (f : List ℕ). MatchResult found (IsLeastPlace (BreaksFile f r)) (λ _. IsUnordered (entry_spans f (span f)))) same (known found first asked)) judged
+  where
+    known : (found : Result (Option ℕ) E) → IfOk found (FindsFirstSharing table (span table)) → OnErr found (shown ≡ sharing.Unknown)
+        → MatchResult found (IsLeastPlace (BreaksFile table r)) (λ _. IsUnordered (entry_spans table (span table)))
+    known (Ok first) is asked = least first is
+    known (Err e) is asked = unordered table (span table) shown asked order
 
 -- fat-overlap: the spans of two slices share a place exactly where the slices do
-pub least_overlap : (table file : List ℕ) (found place : Option ℕ) → table ≡ file → IsUniversal table → place ≡ found → FindsFirstSharing table (slice_span table) found
-    → IsLeastPlace (BreaksFile file rule.FatOverlap) place
-least_overlap table file found place same universal is first =
-    subst (λ (f : List ℕ). IsLeastPlace (BreaksFile f rule.FatOverlap) place) same (subst (IsLeastPlace (BreaksFile table rule.FatOverlap)) (sym is)
-    (sharing_breaks table (slice_span table) (λ i j. SharePlace (entry_slice table i) (entry_slice table j)) (λ i j. (λ shares. shares, λ shares. shares)) found universal first))
+pub least_overlap : (file : List ℕ) → IsUniversal file → (found : Option ℕ) → FindsFirstSharing file (slice_span file) found → IsLeastPlace (BreaksFile file rule.FatOverlap) found
+least_overlap file universal found =
+    sharing_breaks file (slice_span file) (λ i j. SharePlace (entry_slice file i) (entry_slice file j)) (λ i j. (λ shares. shares, λ shares. shares)) found universal
 
 first_of : Option (ℕ × ℕ) → ℕ
 first_of None = 0
@@ -150,11 +165,9 @@ arch_spans_share file i j =
     number_spans_share (type i) (subtype i) (type j) (subtype j)
 
 -- fat-duplicate, by the numbers of the architectures
-pub least_duplicate : (table file : List ℕ) (found place : Option ℕ) → table ≡ file → IsUniversal table → place ≡ found → FindsFirstSharing table (arch_span table) found
-    → IsLeastPlace (BreaksFile file rule.FatDuplicate) place
-least_duplicate table file found place same universal is first =
-    subst (λ (f : List ℕ). IsLeastPlace (BreaksFile f rule.FatDuplicate) place) same (subst (IsLeastPlace (BreaksFile table rule.FatDuplicate)) (sym is)
-    (sharing_breaks table (arch_span table) (λ i j. (entry_slice table i).arch ≡ (entry_slice table j).arch) (arch_spans_share table) found universal first))
+pub least_duplicate : (file : List ℕ) → IsUniversal file → (found : Option ℕ) → FindsFirstSharing file (arch_span file) found → IsLeastPlace (BreaksFile file rule.FatDuplicate) found
+least_duplicate file universal found =
+    sharing_breaks file (arch_span file) (λ i j. (entry_slice file i).arch ≡ (entry_slice file j).arch) (arch_spans_share file) found universal
 
 -- the spans of what was read of an entry
 

@@ -1,6 +1,6 @@
 -- What only proofs need: what is known of values between the functions of this crate. No public
 -- contract cites any of it.
-use Rattle.std.specs.Prelude.{◌≡◌, ◌⊎◌, ◌↔◌, ℕ, ◌+◌, ◌*◌, ◌^◌, ◌≤◌, ◌<◌, List, length, map, Option, Some, MatchOption, Result, MatchResult, Bool, false, IsTrue}
+use Rattle.std.specs.Prelude.{◌≡◌, ◌⊎◌, ◌↔◌, ℕ, ◌+◌, ◌*◌, ◌^◌, ◌≤◌, ◌<◌, List, length, map, Option, Some, MatchOption, Result, MatchResult, IsOk, IsErrAnd, Bool, false, IsTrue}
 use Rattle.std.specs.List.{range_with_len}
 use Rattle.macho_fields.specs.Field.{number}
 use Rattle.macho_fields.specs.First.{rank}
@@ -124,3 +124,11 @@ IsRuleFault breaks r P fault.Memory = KeptBelow breaks (rank r) × P
 abbrev pub ContinuesWithMemory : {T : Type 0} → (Rule → ℕ → Type 0) → Rule → Type 0 → Result T FatFault → Type 0
 ContinuesWithMemory breaks r P answer =
     MatchResult answer (λ _. KeptBelow breaks (rank r + 1)) (IsRuleFault breaks r P)
+
+-- the answer of rule r by what was found: its break at the place, or that memory ran out
+abbrev pub IsJudged : {T E : Type 0} → Rule → Result (Option ℕ) E → Result T FatFault → Type 0
+IsJudged r found answer =
+    MatchResult found
+    (λ first. MatchOption first (IsOk answer)
+    (λ place. IsErrAnd answer (λ given. given ≡ fault.Broken (record { rule = r; place = place }))))
+    (λ _. IsErrAnd answer (λ given. given ≡ fault.Memory))

@@ -16,16 +16,16 @@ use macho_fields::header::loader::{MH_MAGIC, MH_MAGIC_64};
 use macho_fields::{Break, Bytes, FirstPlace, Order, Rule};
 use std::marker::Model;
 
-/// What a file is, by the magic number with which it begins.
+// What a file is, by the magic number with which it begins.
 #[derive(Clone, Copy)]
 pub(crate) enum Format {
-    /// One 64-bit little-endian image.
+    // One 64-bit little-endian image.
     Image,
-    /// A universal file.
+    // A universal file.
     Universal,
 }
 
-/// The file begins with the magic number of a format that is read.
+// The file begins with the magic number of a format that is read.
 pub(crate) fn magic(file: Bytes) -> Result<Format, Break>
     ensures continues { Continues (BreaksFile (bytes_of file.entry)) Rule.Magic result }
     ensures format { IfOk result (IsFormat (bytes_of file.entry)) }
@@ -39,7 +39,7 @@ pub(crate) fn magic(file: Bytes) -> Result<Format, Break>
     }
 }
 
-/// The header and the table of a universal file lie inside the file.
+// The header and the table of a universal file lie inside the file.
 pub(crate) fn fat_truncated(file: Bytes) -> Result<Table, Break>
     requires universal { IsUniversal (bytes_of file) }
     requires kept { KeptBelow (BreaksFile (bytes_of file)) (rank Rule.FatTruncated) }
@@ -55,13 +55,13 @@ pub(crate) fn fat_truncated(file: Bytes) -> Result<Table, Break>
     Ok(Table::new(file, wide, count))
 }
 
-/// A table, and what a walk over its slices has found of the magic numbers with which they begin.
+// A table, and what a walk over its slices has found of the magic numbers with which they begin.
 #[derive(Drop)]
 pub(crate) struct Magics<'t, 'a> {
     table: &'t Table<'a>,
-    /// The least place of a slice that begins with the magic number of no image.
+    // The least place of a slice that begins with the magic number of no image.
     foreign: Option<u64>,
-    /// Whether some slice is a 64-bit little-endian image.
+    // Whether some slice is a 64-bit little-endian image.
     has_image: bool,
 }
 
@@ -83,7 +83,7 @@ impl<'t, 'a> Magics<'t, 'a> {
     ghost use Rattle.macho_fields.specs.Rules.{BreaksFile};
     ghost use Rattle.macho_fields.specs.declared.rule.Rule.{Rule};
 
-    /// Goes over the slices of a table once, all of which lie inside the file.
+    // Goes over the slices of a table once, all of which lie inside the file.
     pub(crate) fn of(table: &'t Table<'a>) -> Magics<'t, 'a>
         requires { (place : ℕ) → ¬ BreaksFile table.now Rule.FatSliceOutside place }
         ensures { result ≡ table.now }
@@ -106,7 +106,7 @@ impl<'t, 'a> Magics<'t, 'a> {
         }
     }
 
-    /// Each slice begins with the magic number of an image, which may be one that is not read.
+    // Each slice begins with the magic number of an image, which may be one that is not read.
     pub(crate) fn fat_slice_magic(&self) -> Result<(), Break>
         requires { KeptBelow (BreaksFile self.now) (rank Rule.FatSliceMagic) }
         ensures { Continues (BreaksFile self.now) Rule.FatSliceMagic result }
@@ -114,7 +114,7 @@ impl<'t, 'a> Magics<'t, 'a> {
         FirstPlace::of(self.foreign).judge(Rule::FatSliceMagic)
     }
 
-    /// Some slice is a 64-bit little-endian image.
+    // Some slice is a 64-bit little-endian image.
     pub(crate) fn fat_empty(&self) -> Result<(), Break>
         requires { KeptBelow (BreaksFile self.now) (rank Rule.FatEmpty) }
         ensures { Continues (BreaksFile self.now) Rule.FatEmpty result }
@@ -127,15 +127,15 @@ impl<'t, 'a> Magics<'t, 'a> {
     }
 }
 
-/// Whether the bytes begin with the magic number of a 64-bit little-endian image.
+// Whether the bytes begin with the magic number of a 64-bit little-endian image.
 pub(crate) fn is_image(bytes: Bytes) -> bool
     ensures { IsTrue result ↔ IsImage (bytes_of bytes.entry) }
 {
     bytes.u32_at(Order::Little, 0) == Some(MH_MAGIC_64)
 }
 
-/// Whether the bytes begin with the magic number of an image that is not read: one of 32 bits, or
-/// a big-endian one.
+// Whether the bytes begin with the magic number of an image that is not read: one of 32 bits, or
+// a big-endian one.
 fn is_unread_image(bytes: Bytes) -> bool
     ensures { IsTrue result ↔ IsUnreadImage (bytes_of bytes.entry) }
 {

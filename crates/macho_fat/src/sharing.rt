@@ -6,15 +6,16 @@ ghost use Rattle.macho_fields.specs.Universal.{entry_count};
 ghost use Rattle.macho_fields.specs.declared.span.Span.{Span};
 ghost use Rattle.macho_fields.specs.declared.span_order.Sharing.{Sharing};
 ghost use Rattle.macho_fat.specs.TableWalk.{ReturnsSpans, entry_spans, placed_spans};
-ghost use Rattle.macho_fat.specs.TableWalk.{FindsFirstSharing};
+ghost use Rattle.macho_fat.specs.TableWalk.{FindsFirstSharing, IsJudged};
 
+use crate::fault::FatFault;
 use crate::table::{Entry, Table};
-use macho_fields::{Sharing, Span, SpanList};
+use macho_fields::{FirstPlace, Rule, Sharing, Span, SpanList};
 use std::alloc::{AllocError, Global};
 
-/// The place of the first entry whose span, as `span_of` returns it, shares a place with that of an
-/// earlier entry. `sharing` is what the order of the spans shows of it. Where it shows nothing, the
-/// spans are sorted.
+// The place of the first entry whose span, as `span_of` returns it, shares a place with that of an
+// earlier entry. `sharing` is what the order of the spans shows of it. Where it shows nothing, the
+// spans are sorted.
 pub(crate) fn first_sharing<F: Fn(Entry) -> Span>(
     alloc: Global,
     table: &Table,
@@ -34,8 +35,15 @@ pub(crate) fn first_sharing<F: Fn(Entry) -> Span>(
     }
 }
 
-/// The same, whatever the order of the spans. This takes time in the order of n log n for n entries,
-/// and 24 bytes an entry.
+// The answer of the rule, where the search for its first place found this one, or had no memory.
+pub(crate) fn judge(rule: Rule, found: Result<Option<u64>, AllocError>) -> Result<(), FatFault>
+    ensures { IsJudged rule found result }
+{
+    Ok(FirstPlace::of(found?).judge(rule)?)
+}
+
+// The same, whatever the order of the spans. This takes time in the order of n log n for n entries,
+// and 24 bytes an entry.
 fn first_sorted<F: Fn(Entry) -> Span>(
     alloc: Global,
     table: &Table,
@@ -52,7 +60,7 @@ fn first_sorted<F: Fn(Entry) -> Span>(
     Ok(Some(table.entry(k as u32).place))
 }
 
-/// The spans of the entries in their order, with room for no more.
+// The spans of the entries in their order, with room for no more.
 fn listed_spans<F: Fn(Entry) -> Span>(
     alloc: Global,
     table: &Table,

@@ -50,7 +50,7 @@ pub fn slices(alloc: Global, file: Bytes) -> Result<Vec<Slice>, FatFault>
     }
 }
 
-/// The one slice of a file that is an image.
+// The one slice of a file that is an image.
 fn whole(alloc: Global, file: Bytes) -> Result<Vec<Slice>, AllocError>
     requires image { IsImage (bytes_of file) }
     requires plain { is_universal (bytes_of file) ≡ false }
@@ -70,7 +70,7 @@ fn whole(alloc: Global, file: Bytes) -> Result<Vec<Slice>, AllocError>
     Ok(slices)
 }
 
-/// The slices of a table, in order, in a file that breaks none of its rules.
+// The slices of a table, in order, in a file that breaks none of its rules.
 fn listed(alloc: Global, table: &Table) -> Result<Vec<Slice>, AllocError>
     requires { NothingBreaks (BreaksFile table.now) }
     ensures slices { IfOk result (λ slices. AreSlices table.now slices.items) }

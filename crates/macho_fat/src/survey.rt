@@ -6,13 +6,13 @@ ghost use Rattle.macho_fields.specs.Universal.{IsMultiple, IsSliceOutside, IsSli
 ghost use Rattle.macho_fat.specs.TableWalk.{IsEntry, BreaksAlone};
 
 use crate::fault::FatFault;
-use crate::sharing::first_sharing;
+use crate::sharing::{first_sharing, judge};
 use crate::table::{Entry, Table};
 use macho_fields::{Break, FirstPlace, Rule, SpanOrder};
 use std::alloc::Global;
 use std::marker::Model;
 
-/// A table, and what a walk over its entries has found.
+// A table, and what a walk over its entries has found.
 #[derive(Drop)]
 pub(crate) struct Survey<'t, 'a> {
     table: &'t Table<'a>,
@@ -39,7 +39,7 @@ impl<'t, 'a> Survey<'t, 'a> {
     ghost use Rattle.macho_fat.specs.TableWalk.{ContinuesWithMemory, IsUnordered};
     ghost use Rattle.macho_fat.specs.TableWalk.{entry_spans, slice_span, arch_span};
 
-    /// Goes over the entries of a table once.
+    // Goes over the entries of a table once.
     pub(crate) fn of(table: &'t Table<'a>) -> Survey<'t, 'a>
         ensures { result ≡ table.now }
     {
@@ -50,7 +50,7 @@ impl<'t, 'a> Survey<'t, 'a> {
         Survey { table, notes }
     }
 
-    /// Each slice lies inside the file.
+    // Each slice lies inside the file.
     pub(crate) fn fat_slice_outside(&self) -> Result<(), Break>
         requires { KeptBelow (BreaksFile self.now) (rank Rule.FatSliceOutside) }
         ensures { Continues (BreaksFile self.now) Rule.FatSliceOutside result }
@@ -58,7 +58,7 @@ impl<'t, 'a> Survey<'t, 'a> {
         self.notes.outside.judge(Rule::FatSliceOutside)
     }
 
-    /// Each slice begins after the table.
+    // Each slice begins after the table.
     pub(crate) fn fat_slice_in_table(&self) -> Result<(), Break>
         requires { KeptBelow (BreaksFile self.now) (rank Rule.FatSliceInTable) }
         ensures { Continues (BreaksFile self.now) Rule.FatSliceInTable result }
@@ -66,7 +66,7 @@ impl<'t, 'a> Survey<'t, 'a> {
         self.notes.in_table.judge(Rule::FatSliceInTable)
     }
 
-    /// The offset of each slice is a multiple of its alignment.
+    // The offset of each slice is a multiple of its alignment.
     pub(crate) fn fat_align(&self) -> Result<(), Break>
         requires { KeptBelow (BreaksFile self.now) (rank Rule.FatAlign) }
         ensures { Continues (BreaksFile self.now) Rule.FatAlign result }
@@ -74,47 +74,43 @@ impl<'t, 'a> Survey<'t, 'a> {
         self.notes.misaligned.judge(Rule::FatAlign)
     }
 
-    /// No slice has a byte in common with an earlier one. Memory is taken only where the slices
-    /// neither ascend nor descend.
+    // No slice has a byte in common with an earlier one. Memory is taken only where the slices
+    // neither ascend nor descend.
     pub(crate) fn fat_overlap(&self, alloc: Global) -> Result<(), FatFault>
         requires { KeptBelow (BreaksFile self.now) (rank Rule.FatOverlap) }
         ensures { ContinuesWithMemory (BreaksFile self.now) Rule.FatOverlap
             (IsUnordered (entry_spans self.now (slice_span self.now))) result }
     {
         let sharing = self.notes.spans.sharing();
-        let place = first_sharing(alloc, self.table, sharing, |entry| entry.span)?;
-        FirstPlace::of(place)
-            .judge(Rule::FatOverlap)
-            .map_err(FatFault::Broken)
+        let found = first_sharing(alloc, self.table, sharing, |entry| entry.span);
+        judge(Rule::FatOverlap, found)
     }
 
-    /// No slice has the architecture of an earlier one. Memory is taken only where the numbers of the
-    /// architectures neither ascend nor descend.
+    // No slice has the architecture of an earlier one. Memory is taken only where the numbers of the
+    // architectures neither ascend nor descend.
     pub(crate) fn fat_duplicate(&self, alloc: Global) -> Result<(), FatFault>
         requires { KeptBelow (BreaksFile self.now) (rank Rule.FatDuplicate) }
         ensures { ContinuesWithMemory (BreaksFile self.now) Rule.FatDuplicate
             (IsUnordered (entry_spans self.now (arch_span self.now))) result }
     {
         let sharing = self.notes.archs.sharing();
-        let place = first_sharing(alloc, self.table, sharing, Entry::arch_span)?;
-        FirstPlace::of(place)
-            .judge(Rule::FatDuplicate)
-            .map_err(FatFault::Broken)
+        let found = first_sharing(alloc, self.table, sharing, Entry::arch_span);
+        judge(Rule::FatDuplicate, found)
     }
 }
 
-/// What a walk has found of the entries that it has passed.
+// What a walk has found of the entries that it has passed.
 #[derive(Clone, Copy)]
 struct Notes {
-    /// The first slice that ends past the file.
+    // The first slice that ends past the file.
     outside: FirstPlace,
-    /// The first slice that begins before the table ends.
+    // The first slice that begins before the table ends.
     in_table: FirstPlace,
-    /// The first slice whose offset is no multiple of its alignment.
+    // The first slice whose offset is no multiple of its alignment.
     misaligned: FirstPlace,
-    /// The order of the slices.
+    // The order of the slices.
     spans: SpanOrder,
-    /// The order of the architectures, by their numbers.
+    // The order of the architectures, by their numbers.
     archs: SpanOrder,
 }
 
@@ -123,7 +119,7 @@ impl Notes {
     ghost use Rattle.macho_fields.specs.Universal.{entry_count};
     ghost use Rattle.macho_fat.specs.TableWalk.{IsEntry, AreNotes, AreFirstBreaks};
 
-    /// The notes before the first entry, of any table.
+    // The notes before the first entry, of any table.
     fn none() -> Notes
         ensures { (file : List ℕ) → AreNotes file 0 result }
     {
@@ -136,7 +132,7 @@ impl Notes {
         }
     }
 
-    /// Notes entry `k`, after those before it.
+    // Notes entry `k`, after those before it.
     fn note(&mut self, table: &Table, k: u32)
         requires { k < entry_count table.now }
         ensures { AreNotes table.now k self.old → AreNotes table.now (k + 1) self.new }
@@ -149,7 +145,7 @@ impl Notes {
         }
     }
 
-    /// Notes which of the rules of a single entry an entry breaks.
+    // Notes which of the rules of a single entry an entry breaks.
     #[cold]
     #[inline(never)]
     fn note_broken(&mut self, table: &Table, entry: Entry)
@@ -165,28 +161,28 @@ impl Notes {
     }
 }
 
-/// Whether an entry breaks one of the rules of a single entry.
+// Whether an entry breaks one of the rules of a single entry.
 fn is_broken(table: &Table, entry: Entry) -> bool
     ensures { (k : ℕ) → IsEntry table.now k entry → IsTrue result ↔ BreaksAlone table.now k }
 {
     is_outside(table, entry) || is_in_table(table, entry) || is_misaligned(entry)
 }
 
-/// Whether the slice of an entry ends past the file.
+// Whether the slice of an entry ends past the file.
 fn is_outside(table: &Table, entry: Entry) -> bool
     ensures { (k : ℕ) → IsEntry table.now k entry → IsTrue result ↔ IsSliceOutside table.now k }
 {
     !table.contains(entry.span)
 }
 
-/// Whether the slice of an entry begins before the table ends.
+// Whether the slice of an entry begins before the table ends.
 fn is_in_table(table: &Table, entry: Entry) -> bool
     ensures { (k : ℕ) → IsEntry table.now k entry → IsTrue result ↔ IsSliceInTable table.now k }
 {
     entry.span.start < table.end()
 }
 
-/// Whether the offset of an entry is no multiple of its alignment.
+// Whether the offset of an entry is no multiple of its alignment.
 fn is_misaligned(entry: Entry) -> bool
     ensures { (file : List ℕ) (k : ℕ) → IsEntry file k entry
         → IsTrue result ↔ IsSliceMisaligned file k }
@@ -194,7 +190,7 @@ fn is_misaligned(entry: Entry) -> bool
     !is_aligned(entry.span.start, entry.align)
 }
 
-/// Whether 2 to the power of `align` divides an offset. A power past the 63rd divides only 0.
+// Whether 2 to the power of `align` divides an offset. A power past the 63rd divides only 0.
 fn is_aligned(offset: u64, align: u32) -> bool
     ensures { IsTrue result ↔ IsMultiple align offset }
 {

@@ -8,13 +8,13 @@ use macho_fields::header::machine::CPU_SUBTYPE_MASK;
 use macho_fields::{Bytes, Order, Span};
 use std::marker::Model;
 
-/// `fat_header.nfat_arch`
+// `fat_header.nfat_arch`
 pub(crate) const NFAT_ARCH: u64 = 4;
 
-/// How many bits a `cpusubtype` has without the capability bits.
+// How many bits a `cpusubtype` has without the capability bits.
 const CPU_SUBTYPE_BITS: u32 = 24;
 
-/// Where an entry has its fields: their offsets from that of `cputype`, with which it begins.
+// Where an entry has its fields: their offsets from that of `cputype`, with which it begins.
 #[derive(Clone, Copy)]
 struct Fields {
     cpusubtype: u64,
@@ -23,7 +23,7 @@ struct Fields {
     align: u64,
 }
 
-/// `fat_arch`
+// `fat_arch`
 const FAT_ARCH: Fields = Fields {
     cpusubtype: 4,
     offset: 8,
@@ -31,7 +31,7 @@ const FAT_ARCH: Fields = Fields {
     align: 16,
 };
 
-/// `fat_arch_64`, whose `offset` and `size` have 64 bits.
+// `fat_arch_64`, whose `offset` and `size` have 64 bits.
 const FAT_ARCH_64: Fields = Fields {
     cpusubtype: 4,
     offset: 8,
@@ -39,7 +39,7 @@ const FAT_ARCH_64: Fields = Fields {
     align: 24,
 };
 
-/// The size in bytes of an entry: a `fat_arch_64` where entries are wide, otherwise a `fat_arch`.
+// The size in bytes of an entry: a `fat_arch_64` where entries are wide, otherwise a `fat_arch`.
 pub(crate) fn entry_size(wide: bool) -> u64
     ensures { result ≡ (if wide then FAT_ARCH_64_SIZE else FAT_ARCH_SIZE) }
 {
@@ -50,7 +50,7 @@ pub(crate) fn entry_size(wide: bool) -> u64
     }
 }
 
-/// The table of a universal file, which lies inside the file.
+// The table of a universal file, which lies inside the file.
 #[derive(Drop)]
 pub(crate) struct Table<'a> {
     file: Bytes<'a>,
@@ -73,24 +73,24 @@ impl<'a> Model for Table<'a> {
         × (table.count ≡ entry_count (bytes_of table.file)) };
 }
 
-/// An entry of the table: a slice of the file, and the processor that it is for.
+// An entry of the table: a slice of the file, and the processor that it is for.
 #[derive(Clone, Copy)]
 pub(crate) struct Entry {
-    /// The offset of the entry in the file.
+    // The offset of the entry in the file.
     pub(crate) place: u64,
-    /// `cputype`, and `cpusubtype` without the capability bits.
+    // `cputype`, and `cpusubtype` without the capability bits.
     pub(crate) arch: (u32, u32),
-    /// `offset` and `size`.
+    // `offset` and `size`.
     pub(crate) span: Span,
-    /// `align`: the exponent of a power of two.
+    // `align`: the exponent of a power of two.
     pub(crate) align: u32,
 }
 
 impl Entry {
     ghost use Rattle.std.specs.Prelude.{◌≡◌, ◌+◌, ◌*◌, ◌^◌};
 
-    /// A span of one place, whose start is the number of the architecture: the spans of two entries
-    /// share a place exactly where their architectures are the same.
+    // A span of one place, whose start is the number of the architecture: the spans of two entries
+    // share a place exactly where their architectures are the same.
     pub(crate) fn arch_span(self) -> Span
         ensures start { result.start ≡ self.arch.0 * 2 ^ 24 + self.arch.1 }
         ensures len { result.len ≡ 1 }
@@ -114,8 +114,8 @@ impl<'a> Table<'a> {
     ghost use Rattle.macho_fields.specs.Universal.{has_wide_entries, entry_count, entry_slice, table_end, slice_bytes};
     ghost use Rattle.macho_fat.specs.TableWalk.{HasTable, IsEntry};
 
-    /// The table of a universal file. Its entries are `fat_arch_64` where they are wide, otherwise
-    /// `fat_arch`.
+    // The table of a universal file. Its entries are `fat_arch_64` where they are wide, otherwise
+    // `fat_arch`.
     pub(crate) fn new(file: Bytes<'a>, wide: bool, count: u32) -> Table<'a>
         requires table { HasTable (bytes_of file) }
         requires wide { wide ≡ has_wide_entries (bytes_of file) }
@@ -125,7 +125,7 @@ impl<'a> Table<'a> {
         Table { file, wide, count }
     }
 
-    /// How many entries there are.
+    // How many entries there are.
     pub(crate) fn count(&self) -> u32
         ensures count { result ≡ entry_count self.now }
         ensures table { HasTable self.now }
@@ -133,21 +133,21 @@ impl<'a> Table<'a> {
         self.count
     }
 
-    /// Whether a span ends within the file.
+    // Whether a span ends within the file.
     pub(crate) fn contains(&self, span: Span) -> bool
         ensures { IsTrue result ↔ (end_of span ≤ length self.now) }
     {
         self.file.contains(span)
     }
 
-    /// The offset at which the table ends.
+    // The offset at which the table ends.
     pub(crate) fn end(&self) -> u64
         ensures { result ≡ table_end self.now }
     {
         FAT_HEADER_SIZE + u64::from(self.count) * entry_size(self.wide)
     }
 
-    /// Entry `k`, counted from 0.
+    // Entry `k`, counted from 0.
     pub(crate) fn entry(&self, k: u32) -> Entry
         requires { k < entry_count self.now }
         ensures { IsEntry self.now k result }
@@ -169,7 +169,7 @@ impl<'a> Table<'a> {
         }
     }
 
-    /// The bytes of the slice of entry `k`, where each slice lies inside the file.
+    // The bytes of the slice of entry `k`, where each slice lies inside the file.
     pub(crate) fn slice_bytes(&self, k: u32) -> Bytes<'a>
         requires entry { k < entry_count self.now }
         requires inside { (place : ℕ) → ¬ BreaksFile self.now Rule.FatSliceOutside place }
@@ -178,7 +178,7 @@ impl<'a> Table<'a> {
         self.file.slice(self.entry(k).span)
     }
 
-    /// A field that has 64 bits in a `fat_arch_64`, and 32 bits in a `fat_arch`.
+    // A field that has 64 bits in a `fat_arch_64`, and 32 bits in a `fat_arch`.
     fn offset_at(&self, place: u64) -> u64
         requires { place + 8 ≤ length self.now }
         ensures { result ≡ (if has_wide_entries self.now
