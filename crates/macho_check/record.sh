@@ -1,12 +1,16 @@
 # shellcheck shell=sh disable=SC2034,SC2154 # ./macho-check and ./test read this, and set `top` first
-# The record of the built program: the kit, a hash of the sources, and a hash of the program, a line each. A program
+# The record of a built program: the kit, a hash of the sources, and a hash of the program, a line each. A program
 # that is not as recorded is not run. The record guards against mistakes, not against someone who may write to out/.
 
-crate=$top/crates/macho_check
-program=$crate/out/macho_check
-kept=$crate/out/macho-check
-# Its time is that of the start of a build.
-started=$kept/started
+# take_program NAME: takes the program of a command, and its record.
+take_program() {
+    case $1 in
+        macho-check) crate=$top/crates/macho_check ;;
+        macho-strict) crate=$top/crates/macho_strict_check ;;
+    esac
+    program=$crate/out/${crate##*/}
+    kept=$crate/out/$1
+}
 
 # Runs find over all that the program is made of. All crates count, and all of their files but the must-fail edits: a
 # build too many takes seconds, and a build too few would let an old program answer.
@@ -46,8 +50,9 @@ made_of() {
     find_kit && sources=$(hash_of_sources) && printf '%s\n' "$kit" "$sources"
 }
 
-# Notes before a build what the program will be made of.
+# begin_record FILE: notes before a build what the program will be made of. The time of the file is that of its start.
 begin_record() {
+    started=$1
     touch "$started" && before=$(made_of)
 }
 
