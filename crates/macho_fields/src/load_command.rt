@@ -6,6 +6,7 @@ ghost use Rattle.std.specs.Option.{option_map};
 ghost use Rattle.macho_fields.specs.LoadCommands.{load_command_of, structure_of};
 ghost use Rattle.macho_fields.specs.LoadCommands.{names_library, unique_index};
 
+use crate::bytes::{Bytes, Order};
 use crate::header::loader::build_version_command::NTOOLS;
 use crate::header::loader::dyld_info_command::{
     BIND_OFF, BIND_SIZE_OFFSET, EXPORT_OFF, EXPORT_SIZE_OFFSET, LAZY_BIND_OFF,
@@ -78,8 +79,10 @@ pub enum Width {
 }
 
 impl Width {
-    ghost use Rattle.std.specs.Prelude.{◌≡◌};
+    ghost use Rattle.std.specs.Prelude.{◌≡◌, ◌+◌, ◌*◌, ◌^◌, ◌≤◌, ◌<◌, length};
+    ghost use Rattle.macho_fields.specs.Bytes.{bytes_of};
     ghost use Rattle.macho_fields.specs.LoadCommands.{width_size};
+    ghost use Rattle.macho_fields.specs.Symbol.{number_of};
 
     /// The size in bytes of a field of this width.
     pub const fn size(self) -> u64
@@ -88,6 +91,18 @@ impl Width {
         match self {
             Width::Uint32 => 4,
             Width::Uint64 => 8,
+        }
+    }
+
+    // The number in the field of this width at `place`.
+    fn read(self, image: Bytes, place: u64) -> u64
+        requires { place + width_size self ≤ length (bytes_of image) }
+        ensures number { result ≡ number_of self (bytes_of image.entry) place }
+        ensures near { result < 2 ^ (8 * width_size self) }
+    {
+        match self {
+            Width::Uint32 => u64::from(image.read_u32(Order::Little, place)),
+            Width::Uint64 => image.read_u64(Order::Little, place),
         }
     }
 }
@@ -103,6 +118,30 @@ pub struct TableFields {
     pub width: Width,
     /// The size in bytes of an item.
     pub item_size: u64,
+}
+
+impl TableFields {
+    ghost use Rattle.std.specs.Prelude.{◌≡◌, ◌+◌, ◌*◌, ◌^◌, ◌≤◌, ◌<◌, length};
+    ghost use Rattle.macho_fields.specs.Bytes.{bytes_of};
+    ghost use Rattle.macho_fields.specs.LoadCommands.{width_size};
+    ghost use Rattle.macho_fields.specs.Symbol.{table_place, item_count};
+
+    /// Where the table begins that the command at the place `command` bounds.
+    pub fn table_place(self, image: Bytes, command: u64) -> u64
+        requires { command + self.place + width_size self.width ≤ length (bytes_of image) }
+        ensures { result ≡ table_place (bytes_of image.entry) command self }
+    {
+        self.width.read(image, command + self.place)
+    }
+
+    /// How many items the table has that the command at the place `command` bounds.
+    pub fn item_count(self, image: Bytes, command: u64) -> u64
+        requires { command + self.count + width_size self.width ≤ length (bytes_of image) }
+        ensures count { result ≡ item_count (bytes_of image.entry) command self }
+        ensures near { result < 2 ^ (8 * width_size self.width) }
+    {
+        self.width.read(image, command + self.count)
+    }
 }
 
 // A table, by the offsets of the two fields that bound it, the width of these, and the size of an

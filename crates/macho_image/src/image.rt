@@ -5,8 +5,8 @@ use crate::landmarks::Landmarks;
 use crate::rules::dylib_id;
 use crate::survey::Survey;
 use crate::walk::{
-    Candidate, arch_mismatch, arch_of, commands_outside, file_type, header_truncated,
-    listed_file_type,
+    Candidate, arch_mismatch, arch_of, commands_outside, end_of_commands, file_type,
+    header_truncated, listed_file_type,
 };
 use macho_fields::{Break, Bytes};
 pub use macho_fields::{FileType, Kind};
@@ -32,14 +32,15 @@ impl<'a> Model for Image<'a> {
 }
 
 impl<'a> Image<'a> {
-    ghost use Rattle.std.specs.Prelude.{◌≡◌, ◌+◌, ◌≤◌, length, IfOk, IfSome, Some, map};
+    ghost use Rattle.std.specs.Prelude.{◌≡◌, ◌+◌, ◌^◌, ◌≤◌, ◌<◌, length, IfOk, IfSome, Some, map};
     ghost use Rattle.std.specs.Option.{option_map, option_map_or};
     ghost use Rattle.macho_fields.specs.Bytes.{bytes_of};
     ghost use Rattle.macho_fields.specs.FileTypes.{file_type_of, file_type_view};
     ghost use Rattle.macho_fields.specs.LoadCommands.{structure_of, structure_size, IsUnique};
     ghost use Rattle.macho_fields.specs.Rules.{BreaksImage};
     ghost use Rattle.macho_fields.specs.Layers.{Continues};
-    ghost use Rattle.macho_fields.specs.Image.{cpu_type, cpu_subtype, file_type, commands_of};
+    ghost use Rattle.macho_fields.specs.Image.{cpu_type, cpu_subtype, file_type};
+    ghost use Rattle.macho_fields.specs.Image.{commands_end, commands_of};
     ghost use Rattle.macho_fields.specs.Universal.{masked};
     ghost use Rattle.macho_fields.specs.declared.rule.Rule.{Rule};
     ghost use Rattle.macho_image.specs.Command.{command_of, command_at, first_with_cmd};
@@ -116,6 +117,15 @@ impl<'a> Image<'a> {
         ensures cpu_subtype { result.1 ≡ masked (cpu_subtype self.now) }
     {
         arch_of(self.bytes)
+    }
+
+    /// The offset just past the bytes that the header gives to the load commands.
+    /// (`mach_header_64.sizeofcmds`)
+    pub fn commands_end(&self) -> u64
+        ensures end { result ≡ commands_end self.now }
+        ensures near { result < 2 ^ 33 }
+    {
+        end_of_commands(self.bytes)
     }
 
     /// The `ncmds` load commands, in the order of the file.

@@ -32,7 +32,7 @@ impl<'a> Model for Section<'a> {
 }
 
 impl<'a> Section<'a> {
-    ghost use Rattle.std.specs.Prelude.{◌≡◌, ◌%◌};
+    ghost use Rattle.std.specs.Prelude.{◌≡◌, ◌%◌, ◌^◌, ◌<◌};
     ghost use Rattle.macho_fields.specs.Segment.{section_address, section_size, section_offset};
     ghost use Rattle.macho_fields.specs.Segment.{reloff, nreloc, section_flags, is_zero_fill};
     ghost use Rattle.macho_image.specs.Segment.{segment_at, section_name, section_align};
@@ -99,7 +99,8 @@ impl<'a> Section<'a> {
 
     /// The number of its relocations, of 8 bytes each.
     pub fn nreloc(&self) -> u64
-        ensures { result ≡ nreloc self.now.image self.now.place }
+        ensures number { result ≡ nreloc self.now.image self.now.place }
+        ensures near { result < 2 ^ 32 }
     {
         u64::from(word_in(self.image, self.place, NRELOC))
     }

@@ -5,7 +5,7 @@ ghost use Rattle.std.specs.Prelude.{◌≡◌, ◌+◌, ◌≤◌, ◌↔◌, �
 ghost use Rattle.macho_fields.specs.Bytes.{bytes_of};
 ghost use Rattle.macho_fields.specs.Image.{command_cmd, commands_of};
 ghost use Rattle.macho_fields.specs.LoadCommands.{width_size};
-ghost use Rattle.macho_fields.specs.Symbol.{number_of, table_at, tables_of, IsOutside};
+ghost use Rattle.macho_fields.specs.Symbol.{table_at, tables_of, IsOutside};
 ghost use Rattle.macho_fields.specs.Symbol.{groups_of, PassesSymbols};
 ghost use Rattle.macho_fields.specs.declared.rule.Rule.{Rule};
 ghost use Rattle.macho_image.specs.Opened.{IsOpened};
@@ -13,7 +13,7 @@ ghost use Rattle.macho_image.specs.Symbol.{dysymtab_at};
 ghost use Rattle.macho_rules.specs.Check.{KeptBefore, JudgesUpTo};
 
 use crate::symbols::symbol_count;
-use macho_fields::{Break, Bytes, Order, Rule, TableFields, Width, structure_of};
+use macho_fields::{Break, Bytes, Rule, TableFields, structure_of};
 use macho_image::{Dysymtab, Image};
 
 // Each table that a command names and that has items lies inside the image.
@@ -57,20 +57,9 @@ fn is_outside(image: Bytes, command: u64, fields: TableFields) -> bool
     ensures { IsTrue result
         ↔ IsOutside (bytes_of image.entry) (table_at (bytes_of image.entry) command fields) }
 {
-    let start = number_at(image, fields.width, command + fields.place);
-    let count = number_at(image, fields.width, command + fields.count);
+    let start = fields.table_place(image, command);
+    let count = fields.item_count(image, command);
     count > 0 && !image.contains_table(start, count, fields.item_size)
-}
-
-// The field of this width at `place`.
-fn number_at(image: Bytes, width: Width, place: u64) -> u64
-    requires { place + width_size width ≤ length (bytes_of image) }
-    ensures { result ≡ number_of width (bytes_of image.entry) place }
-{
-    match width {
-        Width::Uint32 => u64::from(image.read_u32(Order::Little, place)),
-        Width::Uint64 => image.read_u64(Order::Little, place),
-    }
 }
 
 // Each group of symbols that is not empty lies inside the symbol table.
