@@ -16,11 +16,11 @@ use macho_fields::{Bytes, Structure, structure_of};
 // The commands from the first that is noted to the last.
 #[derive(Clone, Copy)]
 pub(crate) struct CommandRange {
-    /// Where the first is.
+    // Where the first is.
     pub(crate) place: u64,
-    /// How many commands come before it.
+    // How many commands come before it.
     pub(crate) before: u32,
-    /// How many commands there are from it to the last, both included. None where none is noted.
+    // How many commands there are from it to the last, both included. None where none is noted.
     pub(crate) count: u32,
 }
 

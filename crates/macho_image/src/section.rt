@@ -197,9 +197,9 @@ impl<'a> Iterator for Sections<'a> {
 /// The sections of all segments of an image that remain, in the order of the commands.
 #[derive(Drop)]
 pub struct AllSections<'a> {
-    /// Those of the segment that is reached.
+    // Those of the segment that is reached.
     sections: Sections<'a>,
-    /// The segments after it.
+    // The segments after it.
     segments: Segments<'a>,
 }
 

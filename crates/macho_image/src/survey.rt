@@ -15,7 +15,7 @@ pub(crate) struct Survey<'a> {
     pub(crate) landmarks: Landmarks,
     command_short: FirstPlace,
     command_repeated: FirstPlace,
-    /// Of the commands that are not short.
+    // Of the commands that are not short.
     name: FirstPlace,
 }
 
