@@ -16,6 +16,7 @@ pub mod ExampleNoSlices
 pub mod ExampleTwins
 pub mod Layers
 pub mod Zeros
+pub mod NonZeros
 pub mod Strings
 pub mod Opened
 pub mod Inside

@@ -1,5 +1,6 @@
 pub mod Header
 pub mod Field
+pub mod NonZero
 pub mod Bytes
 pub mod Span
 pub mod Spans

@@ -3,11 +3,15 @@
 ghost use Rattle.std.specs.Prelude.{◌≡◌, ◌+◌, ◌*◌, ◌^◌, ◌≤◌, ◌<◌, ◌↔◌, [], length, slice_get, slice_index, IsTrue, IsSome, IfSome};
 ghost use Rattle.macho_fields.specs.Bytes.{bytes_of};
 ghost use Rattle.macho_fields.specs.Field.{field, number, part, string_from, HasZero};
+ghost use Rattle.macho_fields.specs.NonZero.{IsNonZero, HasNonZero};
 ghost use Rattle.macho_fields.specs.Span.{end_of, Holds};
 
 use crate::span::{Span, table_end};
 use byteorder::{BigEndian, ByteOrder, LittleEndian};
 use memchr::{memchr, memrchr};
+
+// The size in bytes of a word, by which bytes are searched.
+const WORD: usize = 8;
 
 /// The order of the bytes of a field.
 #[derive(Clone, Copy, Debug, PartialEq, Eq)]
@@ -187,6 +191,19 @@ impl<'a> Bytes<'a> {
         Some(span.start + index as u64)
     }
 
+    /// The first place of `span` whose byte is not zero. A span may end, or begin, past the bytes.
+    pub fn first_nonzero(self, span: Span) -> Option<u64>
+        ensures found { IsSome result ↔ HasNonZero (bytes_of self.entry) span.start (end_of span) }
+        ensures nonzero { IfSome result (λ place.
+            Holds span place × IsNonZero (bytes_of self.entry) place) }
+        ensures first { IfSome result (λ place.
+            ¬ HasNonZero (bytes_of self.entry) span.start place) }
+    {
+        let within = self.clipped(span)?;
+        let index = nonzero_index(within)?;
+        Some(span.start + index as u64)
+    }
+
     /// The bytes of `span` before the first zero byte in it, which are not copied, or `None` where
     /// none of its bytes is zero.
     pub fn string_in(self, span: Span) -> Option<&'a [u8]>
@@ -216,6 +233,34 @@ impl<'a> Bytes<'a> {
         let rest = self.bytes.get(place as usize..)?;
         rest.get(..width as usize)
     }
+}
+
+// The index of the first byte that is not zero.
+fn nonzero_index(bytes: &[u8]) -> Option<usize>
+    ensures found { IsSome result ↔ HasNonZero bytes.now 0 (length bytes.now) }
+    ensures nonzero { IfSome result (IsNonZero bytes.now) }
+    ensures first { IfSome result (λ index. ¬ HasNonZero bytes.now 0 index) }
+{
+    for index in zeros_by_words(bytes)..bytes.len() {
+        if bytes[index] != 0 {
+            return Some(index);
+        }
+    }
+    None
+}
+
+// How many bytes the first words take that are zero, up to the first word that is not. The bytes
+// that are left after the last whole word belong to none.
+fn zeros_by_words(bytes: &[u8]) -> usize
+    ensures within { result ≤ length bytes.now }
+    ensures zero { ¬ HasNonZero bytes.now 0 result }
+    ensures all { result + WORD ≤ length bytes.now → HasNonZero bytes.now result (result + WORD) }
+{
+    let mut index = 0;
+    while bytes.len() - index >= WORD && u64_from(Order::Little, &bytes[index..]) == 0 {
+        index += WORD;
+    }
+    index
 }
 
 // The number in the first 2 bytes.

@@ -1,9 +1,10 @@
 -- What the strict rules promise of a file: no byte is unaccounted for, and none is used twice.
 use Rattle.std.specs.Prelude.{◌≡◌, ℕ, ◌<◌, ◌⊎◌, List, slice_get, Some, All}
+use Rattle.macho_fields.specs.NonZero.{IsNonZero}
 use Rattle.macho_fields.specs.Span.{Holds}
 use Rattle.macho_fields.specs.Universal.{IsUniversal, table_end, slices_of, slice_bytes, HasPlace, IsImage}
 use Rattle.macho_strict.specs.Elements.{elements_of}
-use Rattle.macho_strict.specs.Rules.{IsNonZero, IsInFilePart, all_segments}
+use Rattle.macho_strict.specs.Rules.{IsInFilePart, all_segments}
 use Rattle.macho_strict.specs.declared.elements.Element.{Element}
 
 -- exactly one item of the list has P: that with one index has it, and no other index has an item with P

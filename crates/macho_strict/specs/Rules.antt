@@ -1,8 +1,9 @@
 -- Where each strict rule is broken, by a file that breaks no other rule: the rule, and the place that
 -- is reported. docs/RULES.md says the same in words.
-use Rattle.std.specs.Prelude.{◌≡◌, ◌≢◌, ℕ, ◌≤◌, ◌<◌, List, length, slice_get, slice_index, Some, All, Any, Contains}
+use Rattle.std.specs.Prelude.{◌≡◌, ℕ, ◌≤◌, ◌<◌, List, slice_get, Some, All, Any, Contains}
 use Rattle.macho_fields.specs.Field.{Covers}
 use Rattle.macho_fields.specs.Image.{commands_of, commands_end, IsChain}
+use Rattle.macho_fields.specs.NonZero.{IsNonZero}
 use Rattle.macho_fields.specs.Segment.{segments_of, fileoff, filesize}
 use Rattle.macho_fields.specs.Span.{Shares}
 use Rattle.macho_fields.specs.Universal.{IsUniversal, table_end, slices_of, HasPlace}
@@ -10,10 +11,6 @@ use Rattle.macho_strict.specs.Elements.{elements_of}
 use Rattle.macho_strict.specs.declared.elements.Element.{Element}
 use Rattle.macho_strict.specs.declared.rule.StrictRule.{StrictRule}
 use Rattle.macho_strict.specs.declared.rule.StrictRule.TheVariants as rule
-
--- the place has a byte that is not zero
-abbrev pub IsNonZero : List ℕ → ℕ → Type 0
-IsNonZero bytes place = (place < length bytes) × (slice_index bytes place ≢ 0)
 
 -- a universal file has such a byte after its table, in no slice
 abbrev pub BreaksFile : List ℕ → StrictRule → ℕ → Type 0

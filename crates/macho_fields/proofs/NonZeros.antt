@@ -1,0 +1,57 @@
+-- A search for a byte that is not zero in a part of the bytes, which may be cut at their end.
+use Rattle.std.proofs.Common.{◌≡◌, ℕ, suc, zero, ◌+◌, ◌-◌, ◌≤◌, ◌<◌, ◌⊎◌, List, length, drop, slice_index, sym, ap, ◌∙◌, arith, inl, inr, length-drop, length-take}
+use Rattle.std.specs.Prelude.{◌≢◌}
+use Rattle.std.proofs.lemmas.Bool.{cases_lt}
+use Rattle.std.proofs.lemmas.List.{get_or-take, get_or-drop}
+use Rattle.byteorder.specs.Endian.{little_from}
+use Rattle.macho_fields.specs.Field.{part, number, Covers}
+use Rattle.macho_fields.specs.NonZero.{IsNonZero, HasNonZero}
+use Rattle.macho_fields.specs.declared.bytes.Order.TheVariants.{Little}
+
+zero_or_more : (n : ℕ) → (n ≡ 0) ⊎ (0 < n)
+zero_or_more n = elim (cases_lt 0 n) [ inl more ↦ inr more | inr none ↦ inl (omega arith) ]
+
+-- a number that is not zero has a byte that is not
+byte_of_number : (i n : ℕ) (xs : List ℕ) → little_from i n xs ≢ 0 → (k : ℕ) × (i ≤ k) × (k < i + n) × (slice_index xs k ≢ 0)
+byte_of_number i zero xs more = absurd (omega (arith, more))
+byte_of_number i (suc n) xs more =
+    elim (zero_or_more (slice_index xs i)) [
+      | inl none ↦ let (k, low, high, is) = byte_of_number (suc i) n xs (λ e. more (omega arith)) in (k, omega arith, omega arith, is)
+      | inr some ↦ (i, omega arith, omega arith, λ e. absurd (omega arith))
+    ]
+
+module _ (bytes within : List ℕ) (start len : ℕ) (are : within ≡ part start len bytes) where
+  inside_part : (k : ℕ) → k < length within → (k < len) × (start + k < length bytes)
+  inside_part k h =
+      let size = ap length are in (omega (arith, size, length-take len (drop start bytes)), omega (arith, size, length-take len (drop start bytes), length-drop start bytes))
+
+  in_part : (z : ℕ) → start ≤ z → z < start + len → z < length bytes → z - start < length within
+  in_part z low high inside = omega (arith, ap length are, length-take len (drop start bytes), length-drop start bytes)
+
+  read_part : (k : ℕ) → k < length within → slice_index within k ≡ slice_index bytes (start + k)
+  read_part k h = ap (λ xs. slice_index xs k) are ∙ (get_or-take len (drop start bytes) k 0 (inside_part k h).0 ∙ get_or-drop start bytes k 0)
+
+  -- a byte of the part that is not zero is one of the bytes
+  pub nonzero_in_part : (k : ℕ) → IsNonZero within k → Covers start len (start + k) × IsNonZero bytes (start + k)
+  nonzero_in_part k (inside, is) =
+      let (below, held) = inside_part k inside in
+      ((omega arith, omega arith), (held, λ e. is (read_part k inside ∙ e)))
+
+  -- a word of the part that is not zero has such a byte
+  pub nonzero_in_word : 8 ≤ length within → number Little 8 within 0 ≢ 0 → HasNonZero bytes start (start + 8)
+  nonzero_in_word whole word =
+      let (k, low, high, is) = byte_of_number 0 8 within word in
+      (start + k, omega arith, omega arith, (nonzero_in_part k (omega arith, is)).1)
+
+  -- where no byte of the part before an index is, none of the bytes before its place is
+  pub none_in_part : (k : ℕ) → k ≤ length within → ¬ HasNonZero within 0 k → ¬ HasNonZero bytes start (start + k)
+  none_in_part k fits none (z, low, high, (inside, is)) =
+      let here : z - start < length within = omega arith in
+      let at : start + (z - start) ≡ z = omega arith in
+      none (z - start, omega arith, omega arith, (here, λ e. is (ap (slice_index bytes) (sym at) ∙ (sym (read_part (z - start) here) ∙ e))))
+
+  -- where none of the part is, none of the span is
+  pub none_in_span : ¬ HasNonZero within 0 (length within) → ¬ HasNonZero bytes start (start + len)
+  none_in_span none (z, low, high, (inside, is)) =
+      let here = in_part z low high inside in
+      none_in_part (length within) (omega arith) none (z, low, omega arith, (inside, is))
