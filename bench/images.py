@@ -31,6 +31,11 @@ no segment. That breaks the last rule, so all rules are judged and one line is w
                                     the last has the architecture of the first
     slices-N-report                 ascending and accepted
     sections-N                      N empty sections in one segment
+    sections-N-ascending, -descending, -shuffled
+                                    N sections of 16 bytes in one segment, by their bytes in the file, and a last byte
+                                    in no segment. That breaks the last rule of the strict profile
+    padding-Nm                      a universal file of two slices with N MiB of zeros between them, accepted
+    gap-Nm                          two segments with N MiB of zeros between them, accepted
     sections-N-in-M                 M segments with N sections in all, all with bytes in the file
     symbols-N                       N symbols and their names, accepted
     commands-N                      N commands of 8 bytes, of a kind that is not listed
@@ -60,6 +65,7 @@ MIB = 1 << 20
 # mach-o/loader.h, fat.h, nlist.h, and mach/machine.h
 FAT_MAGIC, MH_MAGIC_64 = 0xCAFEBABE, 0xFEEDFACF
 CPU_TYPE_X86_64, CPU_SUBTYPE_X86_64_ALL = 0x01000007, 3
+CPU_TYPE_ARM64, CPU_SUBTYPE_ARM64_ALL = 0x0100000C, 0
 MH_OBJECT, MH_EXECUTE = 1, 2
 LC_SYMTAB, LC_DYSYMTAB, LC_LOAD_DYLIB, LC_SEGMENT_64, LC_MAIN = 0x2, 0xB, 0xC, 0x19, 0x80000028
 LC_UNLISTED = 0x7FFFFFFF
@@ -125,6 +131,12 @@ def symbols(strx: Iterable[int]) -> Iterator[bytes]:
             yield b"".join(parts)
             parts.clear()
     yield b"".join(parts)
+
+
+def zeros(mebibytes: int) -> Iterator[bytes]:
+    """So many MiB of zeros, a MiB a part."""
+    block = bytes(MIB)
+    return (block for _ in range(mebibytes))
 
 
 def filler(size: int) -> Iterator[bytes]:
@@ -265,6 +277,43 @@ def empty_sections(out: BinaryIO, count: int) -> str:
     return image(out, segment(b"__TEXT", BASE, PAGE, 0, HEADER_SIZE, sections), 1)
 
 
+def ordered_sections(out: BinaryIO, count: int, order: str) -> str:
+    """One segment of so many sections of 16 bytes, which cover the rest of the file but for its last byte."""
+    start = HEADER_SIZE + SEGMENT_SIZE + SECTION_SIZE * count + MAIN_SIZE
+    size = start + 16 * count
+    offsets = [start + 16 * number for number in ordered(count, order)]
+    sections = b"".join(section(b"__const", BASE + offset, 16, offset) for offset in offsets)
+    image(out, segment(b"__TEXT", BASE, size, 0, size, sections), 1, filler(16 * count + 1), accepted=True)
+    return refused("stray-byte", size)
+
+
+def gap(out: BinaryIO, mebibytes: int) -> str:
+    """An executable of two segments: the headers, and a page after the gap."""
+    end = HEADER_SIZE + 2 * SEGMENT_SIZE + MAIN_SIZE
+    commands = segment(b"__TEXT", BASE, PAGE, 0, end)
+    commands += segment(b"__DATA", FAR, PAGE, end + mebibytes * MIB, PAGE)
+
+    def tail() -> Iterator[bytes]:
+        yield from zeros(mebibytes)
+        yield from filler(PAGE)
+
+    return image(out, commands, 2, tail(), accepted=True)
+
+
+def padding(out: BinaryIO, mebibytes: int) -> str:
+    """A universal file of two images of the headers alone."""
+    archs = [(CPU_TYPE_X86_64, CPU_SUBTYPE_X86_64_ALL), (CPU_TYPE_ARM64, CPU_SUBTYPE_ARM64_ALL)]
+    size = HEADER_SIZE + SEGMENT_SIZE
+    first = FAT_HEADER_SIZE + 2 * FAT_ARCH_SIZE
+    offsets = [first, first + size + mebibytes * MIB]
+    entries = [struct.pack(">5I", *arch, offset, size, 3) for arch, offset in zip(archs, offsets)]
+    images = [header(1, SEGMENT_SIZE, arch) + segment(b"__TEXT", BASE, PAGE, 0, size) for arch in archs]
+    out.write(struct.pack(">2I", FAT_MAGIC, 2) + b"".join(entries) + images[0])
+    out.writelines(zeros(mebibytes))
+    out.write(images[1])
+    return accepted_with(2)
+
+
 def slices_start(count: int) -> int:
     """Where the first of so many slices begins."""
     return (FAT_HEADER_SIZE + FAT_ARCH_SIZE * count + 31) // 32 * 32
@@ -319,6 +368,8 @@ SIZED = {
     "text": text,
     "executable": executable,
     "sections": empty_sections,
+    "gap": gap,
+    "padding": padding,
     "indirect": indirect,
     "string": one_string,
     "endless": endless,
@@ -343,6 +394,8 @@ def maker(name: str) -> Callable[[BinaryIO], str]:
         return partial(slices, count=size, order=order, repeated="repeated" in words, accepted=accepted)
     if kind == "sections" and order == "in":
         return partial(segments_of_sections, count=int(words[1]), each=size // int(words[1]))
+    if kind == "sections" and order:
+        return partial(ordered_sections, count=size, order=order)
     return lambda out: SIZED[kind](out, size)
 
 
