@@ -1,11 +1,10 @@
 -- What is returned at a fault.
 use Rattle.std.proofs.Common.{◌≡◌, ℕ, Bool, List, Result, Ok, Err, IsErrOf, IsTrue, inl, inr, refl, ap, subst}
 use Rattle.std.specs.Prelude.{IsErrAnd}
-use Rattle.macho_fields.specs.First.{IsFirstBroken}
-use Rattle.macho_fields.specs.declared.rule.Break.{Break}
-use Rattle.macho_rules.specs.Verdict.{IsRefusal}
-use Rattle.macho_rules.specs.declared.refusal.Refusal.{Refusal}
-use Rattle.macho_rules.specs.declared.refusal.Refusal.TheVariants.{Broken}
+use Rattle.std.specs.Borrow.{Bor}
+use Rattle.macho_report.specs.Judge.{IsRejectionBy}
+use Rattle.macho_report.specs.declared.judge.Rejection.{Rejection}
+use Rattle.macho_report.specs.declared.judge.Rejection.TheVariants.{Broken}
 use Rattle.macho_report.specs.Run.{FailsRight}
 use Rattle.macho_report.specs.declared.outcome.RunFault.{RunFault}
 use Rattle.macho_report.specs.declared.outcome.RunFault.TheVariants as fault
@@ -19,9 +18,10 @@ at_fault (Err e) fault is = ap Err is
 pub same_fault : {T U E : Type 0} (e f : E) → IsErrOf {T = T} (Err e) f → IsErrOf {T = U} (Err e) f
 same_fault e f is = let same : e ≡ f = cc in ap Err same
 
--- a refusal for a broken rule is for the first
-pub refused_first : (file : List ℕ) (refusal : Refusal) (b : Break) → refusal ≡ Broken b → IsRefusal file refusal → IsFirstBroken file b
-refused_first file refusal b is refused = subst (IsRefusal file) is refused
+-- a rejection for a broken rule is for one that the file is refused for
+pub refused_for : (refuses : List ℕ → List ℕ → ℕ → Type 0) (file : List ℕ) (why : Rejection) (rule : Bor (List ℕ)) (place : ℕ) → why ≡ Broken rule place
+    → IsRejectionBy refuses file why → refuses file rule.now place
+refused_for refuses file why rule place is refused = subst (IsRejectionBy refuses file) is refused
 
 -- what has an answer has no fault
 pub no_fault : {T E : Type 0} (x : T) (e : E) → ¬ IsErrOf (Ok x) e

@@ -1,44 +1,56 @@
 -- What a run says of its input, from what it says of the bytes that it read.
-use Rattle.std.proofs.Common.{◌≡◌, ℕ, ◌≤◌, List, Option, Some, None, Result, Ok, Err, IfOk, IsErrOf, length, inl, inr, refl, ap, arith, subst}
-use Rattle.std.specs.Prelude.{◌≢◌, ◌⊎◌, ◌↔◌, ◌+◌, ◌<◌, IfErr, IfSome, IsTrue, OnOk}
+use Rattle.std.proofs.Common.{◌≡◌, ℕ, ◌≤◌, List, Option, Some, None, Result, Ok, Err, IfOk, IsErrOf, length, inl, inr, refl, ap, ap₂, ◌∙◌, arith, subst}
+use Rattle.std.specs.Prelude.{◌⊎◌, ◌↔◌, ◌+◌, ◌<◌, IfErr, IfSome, IsTrue, OnOk}
 use Rattle.std.specs.Io.KnownBytes.{IsAtEnd}
-use Rattle.macho_report.specs.Stream.{TookAtMost, Wrote, WrotePrefix}
-use Rattle.macho_report.specs.Run.{IsVerdict, ReadsRight, WroteVerdict, WroteVerdictPrefix, run_fault_of}
-use Rattle.macho_report.specs.Where.{IsWhere, WroteWhere, WroteWherePrefix}
-use Rattle.macho_report.specs.declared.address.WhereOutcome.{WhereOutcome}
-use Rattle.macho_report.specs.declared.address.WhereOutcome.TheVariants.{NoImage}
+use Rattle.macho_report.specs.Stream.{TookAtMost}
+use Rattle.macho_fields.specs.First.{IsUnbroken, IsFirstBroken}
+use Rattle.macho_fields.specs.declared.rule.Break.{Break}
+use Rattle.macho_report.specs.Judge.{IsNamedFirstBroken}
+use Rattle.macho_report.specs.Text.{break_text, refusal_text}
+use Rattle.macho_report.specs.Run.{IsVerdict, IsVerdictBy, ReadsRight, WroteVerdict, WroteVerdictPrefix, run_fault_of}
+use Rattle.macho_report.specs.declared.judge.Judge as judge
 use Rattle.macho_report.specs.declared.outcome.Outcome.{Outcome}
+use Rattle.macho_report.specs.declared.outcome.Outcome.TheVariants.{Accepted, Refused}
 use Rattle.macho_report.specs.declared.outcome.RunFault.{RunFault}
 use Rattle.macho_report.specs.declared.outcome.RunFault.TheVariants as fault
 use Rattle.macho_report.specs.declared.stream.Input as input
 use Rattle.macho_report.specs.declared.transfer.ReadFault.{ReadFault}
 use Rattle.macho_report.specs.declared.transfer.ReadFault.TheVariants.{Read, TooLong, Memory}
 
-pub input_verdict : (input old new : Option (List ℕ)) (bytes : List ℕ) (limit : ℕ) (r : Result Outcome RunFault) → IfSome input (λ all. bytes ≡ all) → length bytes ≤ limit
-    → IfOk r (λ outcome. (text : List ℕ) × IsVerdict bytes outcome text × Wrote old new text) → IfOk r (λ outcome. WroteVerdict input limit outcome old new)
-input_verdict input old new bytes limit (Err fault) is within wrote = tt
-input_verdict None old new bytes limit (Ok outcome) is within wrote = tt
-input_verdict (Some file) old new bytes limit (Ok outcome) is within wrote =
-    subst (λ all. (length all ≤ limit) × ((text : List ℕ) × IsVerdict all outcome text × Wrote old new text)) is (within, wrote)
+-- what holds of the bytes that were read, of which there are at most `limit`, holds of the input
+pub input_is : (input : Option (List ℕ)) (bytes : List ℕ) (limit : ℕ) (P : List ℕ → Type 0) → IfSome input (λ all. bytes ≡ all) → length bytes ≤ limit
+    → P bytes → IfSome input (λ file. (length file ≤ limit) × P file)
+input_is None bytes limit P is within h = tt
+input_is (Some file) bytes limit P is within h = subst (λ all. (length all ≤ limit) × P all) is (within, h)
 
-pub input_verdict_prefix : (input old new : Option (List ℕ)) (bytes : List ℕ) (limit : ℕ) → IfSome input (λ all. bytes ≡ all) → length bytes ≤ limit
-    → (outcome : Outcome) × (text : List ℕ) × IsVerdict bytes outcome text × WrotePrefix old new text → WroteVerdictPrefix input limit old new
-input_verdict_prefix None old new bytes limit is within wrote = tt
-input_verdict_prefix (Some file) old new bytes limit is within wrote =
-    subst (λ all. (length all ≤ limit) × ((outcome : Outcome) × (text : List ℕ) × IsVerdict all outcome text × WrotePrefix old new text)) is (within, wrote)
+pub input_ok : {T E : Type 0} (input : Option (List ℕ)) (bytes : List ℕ) (limit : ℕ) (P : List ℕ → T → Type 0) (r : Result T E)
+    → IfSome input (λ all. bytes ≡ all) → length bytes ≤ limit → IfOk r (P bytes) → IfOk r (λ found. IfSome input (λ file. (length file ≤ limit) × P file found))
+input_ok input bytes limit P (Err fault) is within h = tt
+input_ok input bytes limit P (Ok found) is within h = input_is input bytes limit (λ file. P file found) is within h
 
-pub input_where : (input old new : Option (List ℕ)) (bytes : List ℕ) (limit index address : ℕ) (r : Result WhereOutcome RunFault) → IfSome input (λ all. bytes ≡ all) → length bytes ≤ limit
-    → IfOk r (λ outcome. (text : List ℕ) × IsWhere bytes index address outcome text × Wrote old new text) → IfOk r (λ outcome. WroteWhere input limit index address outcome old new)
-input_where input old new bytes limit index address (Err fault) is within wrote = tt
-input_where None old new bytes limit index address (Ok outcome) is within wrote = tt
-input_where (Some file) old new bytes limit index address (Ok outcome) is within wrote =
-    subst (λ all. (length all ≤ limit) × ((text : List ℕ) × IsWhere all index address outcome text × Wrote old new text)) is (within, wrote)
+-- a refusal by the rules of the layout is for their first break
+pub named_break : (file name : List ℕ) (place : ℕ) → IsNamedFirstBroken file name place → (b : Break) × IsFirstBroken file b × (refusal_text name place ≡ break_text b)
+named_break file name place (b, first, named, at) = (b, first, ap₂ refusal_text named at)
 
-pub input_where_prefix : (input old new : Option (List ℕ)) (bytes : List ℕ) (limit index address : ℕ) → IfSome input (λ all. bytes ≡ all) → length bytes ≤ limit
-    → (outcome : WhereOutcome) × (text : List ℕ) × IsWhere bytes index address outcome text × (outcome ≢ NoImage) × WrotePrefix old new text → WroteWherePrefix input limit index address old new
-input_where_prefix None old new bytes limit index address is within wrote = tt
-input_where_prefix (Some file) old new bytes limit index address is within wrote =
-    subst (λ all. (length all ≤ limit) × ((outcome : WhereOutcome) × (text : List ℕ) × IsWhere all index address outcome text × (outcome ≢ NoImage) × WrotePrefix old new text)) is (within, wrote)
+-- a verdict by the rules of the layout
+pub layout_verdict : {J : Type 0} (j : judge.Ghosts J) → ((file : List ℕ) → j.accepts file → IsUnbroken file)
+    → ((file name : List ℕ) (place : ℕ) → j.refuses file name place → IsNamedFirstBroken file name place)
+    → (file : List ℕ) (outcome : Outcome) (text : List ℕ) → IsVerdictBy j file outcome text → IsVerdict file outcome text
+layout_verdict j accepted refused file Accepted text (right, is) = (accepted file right, is)
+layout_verdict j accepted refused file Refused text (name, place, right, is) =
+    let (b, first, same) = named_break file name place (refused file name place right) in (b, first, is ∙ same)
+
+-- what is right by one definition of a verdict, and so by another
+module _ (V V' : List ℕ → Outcome → List ℕ → Type 0) (means : (file : List ℕ) (outcome : Outcome) (text : List ℕ) → V file outcome text → V' file outcome text) where
+  pub verdict_as : {E : Type 0} (input old new : Option (List ℕ)) (limit : ℕ) (r : Result Outcome E)
+      → IfOk r (λ outcome. WroteVerdict V input limit outcome old new) → IfOk r (λ outcome. WroteVerdict V' input limit outcome old new)
+  verdict_as input old new limit (Err fault) h = tt
+  verdict_as None old new limit (Ok outcome) h = tt
+  verdict_as (Some file) old new limit (Ok outcome) (within, (text, right, wrote)) = (within, (text, means file outcome text right, wrote))
+
+  pub verdict_prefix_as : (input old new : Option (List ℕ)) (limit : ℕ) → WroteVerdictPrefix V input limit old new → WroteVerdictPrefix V' input limit old new
+  verdict_prefix_as None old new limit h = tt
+  verdict_prefix_as (Some file) old new limit (within, (outcome, text, right, wrote)) = (within, (outcome, text, means file outcome text right, wrote))
 
 -- a fault of reading, which the run returns as its own
 fault_passed : {T U : Type 0} (e f : ReadFault) → IsErrOf {T = T} (Err (run_fault_of e)) (run_fault_of f) → IsErrOf {T = U} (Err e) f

@@ -6,6 +6,7 @@ pub mod Line
 pub mod Progress
 pub mod Layout
 pub mod Text
+pub mod Judge
 pub mod Run
 pub mod Where
 pub mod LineParts

@@ -5,7 +5,8 @@ use Rattle.macho_fields.specs.First.{IsUnbroken, IsFirstBroken}
 use Rattle.macho_fields.specs.declared.rule.Break.{Break}
 use Rattle.macho_report.specs.Stream.{TookAtMost, Wrote, WrotePrefix}
 use Rattle.macho_report.specs.Layout.{layout_text}
-use Rattle.macho_report.specs.Text.{break_text}
+use Rattle.macho_report.specs.Text.{break_text, refusal_text}
+use Rattle.macho_report.specs.declared.judge.Judge as judge
 use Rattle.macho_report.specs.declared.outcome.Outcome.{Outcome}
 use Rattle.macho_report.specs.declared.outcome.Outcome.TheVariants.{Accepted, Refused}
 use Rattle.macho_report.specs.declared.stream.Input as input
@@ -19,15 +20,21 @@ abbrev pub IsVerdict : List ℕ → Outcome → List ℕ → Type 0
 IsVerdict file Accepted text = IsUnbroken file × (text ≡ layout_text file)
 IsVerdict file Refused text = (b : Break) × IsFirstBroken file b × (text ≡ break_text b)
 
--- the input is within the limit, and the text of the outcome, which is right for it, was written
-abbrev pub WroteVerdict : Option (List ℕ) → ℕ → Outcome → Option (List ℕ) → Option (List ℕ) → Type 0
-WroteVerdict input limit outcome old new =
-    IfSome input (λ file. (length file ≤ limit) × ((text : List ℕ) × IsVerdict file outcome text × Wrote old new text))
+-- the same by any judge
+abbrev pub IsVerdictBy : {J : Type 0} → judge.Ghosts J → List ℕ → Outcome → List ℕ → Type 0
+IsVerdictBy j file Accepted text = j.accepts file × (text ≡ layout_text file)
+IsVerdictBy j file Refused text =
+    (name : List ℕ) × (place : ℕ) × j.refuses file name place × (text ≡ refusal_text name place)
+
+-- the input is within the limit, and the text of the outcome was written. `IsRight` holds where an outcome and its text are right for a file
+abbrev pub WroteVerdict : (List ℕ → Outcome → List ℕ → Type 0) → Option (List ℕ) → ℕ → Outcome → Option (List ℕ) → Option (List ℕ) → Type 0
+WroteVerdict IsRight input limit outcome old new =
+    IfSome input (λ file. (length file ≤ limit) × ((text : List ℕ) × IsRight file outcome text × Wrote old new text))
 
 -- the same of a prefix of the text
-abbrev pub WroteVerdictPrefix : Option (List ℕ) → ℕ → Option (List ℕ) → Option (List ℕ) → Type 0
-WroteVerdictPrefix input limit old new =
-    IfSome input (λ file. (length file ≤ limit) × ((outcome : Outcome) × (text : List ℕ) × IsVerdict file outcome text × WrotePrefix old new text))
+abbrev pub WroteVerdictPrefix : (List ℕ → Outcome → List ℕ → Type 0) → Option (List ℕ) → ℕ → Option (List ℕ) → Option (List ℕ) → Type 0
+WroteVerdictPrefix IsRight input limit old new =
+    IfSome input (λ file. (length file ≤ limit) × ((outcome : Outcome) × (text : List ℕ) × IsRight file outcome text × WrotePrefix old new text))
 
 -- A run that reads an input of at most `limit` bytes whole: when each fault of reading comes, and what was taken.
 pub record ReadsRight {R T : Type 0} (i : input.Ghosts R) (limit : ℕ) (old new : R) (end : Result T RunFault) : Type 0 where

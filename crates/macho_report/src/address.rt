@@ -6,6 +6,7 @@ ghost use Rattle.macho_report.specs.Stream.{Wrote, WrotePrefix};
 ghost use Rattle.macho_report.specs.Where.{IsWhere, WroteWhere, WroteWherePrefix};
 ghost use Rattle.macho_report.specs.declared.address.WhereOutcome.{WhereOutcome};
 
+use crate::judge::LayoutRules;
 use crate::lines::write_source;
 use crate::outcome::{RunFault, accept};
 use crate::stream::{Input, Output};
@@ -72,7 +73,7 @@ fn write_where<W: Output>(
         × WrotePrefix (W.contents writer.old) (W.contents writer.new) text)
         (writer.new ≡ writer.old) }
 {
-    let Some(verified) = accept(alloc, file, writer)? else {
+    let Some(verified) = accept(alloc, &LayoutRules, file, writer)? else {
         return Ok(WhereOutcome::Refused);
     };
     let Some(mut mapping) = Mapping::of(alloc, &verified, slice)? else {

@@ -7,7 +7,7 @@ ghost use Rattle.macho_rules.specs.Source.{source_of};
 ghost use Rattle.macho_report.specs.Stream.{Writes, FailsAtFault};
 ghost use Rattle.macho_report.specs.Arch.{arch_text};
 ghost use Rattle.macho_report.specs.Line.{contents_of, count_line, slice_line, uuid_line, build_line, segment_line, section_line, library_line, symbols_line, entry_line};
-ghost use Rattle.macho_report.specs.Text.{break_text};
+ghost use Rattle.macho_report.specs.Text.{break_text, refusal_text};
 ghost use Rattle.macho_report.specs.Where.{where_text};
 ghost use Rattle.macho_report.specs.LineParts.{library_start};
 
@@ -29,11 +29,25 @@ pub fn write_break<W: Output>(broken: &Break, writer: &mut W) -> Result<(), Writ
     ensures failed { FailsAtFault (W.has_failed writer.old) (W.has_failed writer.new) result }
     ensures stays_failed { IsTrue (W.has_failed writer.old) → IsErr result }
 {
+    write_refusal(broken.rule.name(), broken.place, writer)
+}
+
+/// Writes the line of a refusal: the name of the broken rule, and the place.
+pub(crate) fn write_refusal<W: Output>(
+    rule: &str,
+    place: u64,
+    writer: &mut W,
+) -> Result<(), WriteFault>
+    ensures bytes { Writes (W.contents writer.old) (W.contents writer.new) result
+        (refusal_text rule.now place) }
+    ensures failed { FailsAtFault (W.has_failed writer.old) (W.has_failed writer.new) result }
+    ensures stays_failed { IsTrue (W.has_failed writer.old) → IsErr result }
+{
     let mut line = Line::new();
     line.text(b"refused: ");
-    line.word(broken.rule.name().as_bytes(), writer)?;
+    line.word(rule.as_bytes(), writer)?;
     line.text(b" at ");
-    line.hex(broken.place);
+    line.hex(place);
     line.write(writer)
 }
 

@@ -2,18 +2,17 @@
 
 ghost use Rattle.std.specs.Prelude.{◌≡◌, ◌⊎◌, List, ℕ, IfOk, IfErr, IfNone, IfSome, IsErrOf, IsTrue};
 ghost use Rattle.macho_report.specs.Stream.{Wrote, WrotePrefix};
-ghost use Rattle.macho_fields.specs.First.{IsUnbroken, IsFirstBroken};
-ghost use Rattle.macho_fields.specs.declared.rule.Break.{Break};
-ghost use Rattle.macho_report.specs.Text.{break_text, run_fault_line};
-ghost use Rattle.macho_report.specs.Run.{FailsRight, ReadsRight, IsVerdict, WroteVerdict, WroteVerdictPrefix, run_fault_of};
+ghost use Rattle.macho_report.specs.Text.{refusal_text, run_fault_line};
+ghost use Rattle.macho_report.specs.Run.{FailsRight, ReadsRight, IsVerdict, IsVerdictBy, WroteVerdict, WroteVerdictPrefix, run_fault_of};
 ghost use Rattle.macho_report.specs.declared.outcome.Outcome.{Outcome};
 ghost use Rattle.macho_report.specs.declared.outcome.RunFault.TheVariants as fault;
 
+use crate::judge::{Judge, LayoutRules, Rejection};
 use crate::layout::write_layout;
-use crate::lines::write_break;
+use crate::lines::write_refusal;
 use crate::stream::{Input, Output};
 use crate::transfer::{ReadFault, WriteFault, read_all};
-use macho_rules::{Refusal, Verified, verify};
+use macho_rules::Verified;
 use std::alloc::{AllocError, Global};
 use thiserror::Error;
 
@@ -105,58 +104,91 @@ pub fn run<R: Input, W: Output>(
 ) -> Result<Outcome, RunFault>
     // All of the input was read, or a fault says why not. The outcome is right for it, and exactly its
     // text was written.
-    ensures verdict { IfOk result (λ outcome. WroteVerdict (R.remaining reader.old) limit outcome
-        (W.contents writer.old) (W.contents writer.new)) }
+    ensures verdict { IfOk result (λ outcome. WroteVerdict IsVerdict (R.remaining reader.old) limit
+        outcome (W.contents writer.old) (W.contents writer.new)) }
     ensures input { ReadsRight R.Input limit reader.old reader.new result }
 
     // Nothing was written but where a write failed.
     ensures write { IsErrOf result RunFault.Write → IsTrue (W.has_failed writer.new) }
-    ensures prefix { IsErrOf result RunFault.Write → WroteVerdictPrefix (R.remaining reader.old) limit
-        (W.contents writer.old) (W.contents writer.new) }
+    ensures prefix { IsErrOf result RunFault.Write → WroteVerdictPrefix IsVerdict
+        (R.remaining reader.old) limit (W.contents writer.old) (W.contents writer.new) }
+    ensures unwritten { IfErr result (λ fault. (fault ≡ RunFault.Write) ⊎ (writer.new ≡ writer.old)) }
+{
+    run_with(alloc, &LayoutRules, limit, reader, writer)
+}
+
+/// The same by any judge: reads all of the input, hands it to the judge, and writes the text of the
+/// verdict. It does not flush. Of the input it reads at most `limit + 1` bytes, in at most `limit + 1`
+/// reads.
+pub fn run_with<J: Judge, R: Input, W: Output>(
+    alloc: Global,
+    judge: &J,
+    limit: u64,
+    reader: &mut R,
+    writer: &mut W,
+) -> Result<Outcome, RunFault>
+    // All of the input was read, or a fault says why not. The outcome is right for it, and exactly its
+    // text was written.
+    ensures verdict { IfOk result (λ outcome. WroteVerdict (IsVerdictBy J.Judge)
+        (R.remaining reader.old) limit outcome (W.contents writer.old) (W.contents writer.new)) }
+    ensures input { ReadsRight R.Input limit reader.old reader.new result }
+
+    // Nothing was written but where a write failed.
+    ensures write { IsErrOf result RunFault.Write → IsTrue (W.has_failed writer.new) }
+    ensures prefix { IsErrOf result RunFault.Write → WroteVerdictPrefix (IsVerdictBy J.Judge)
+        (R.remaining reader.old) limit (W.contents writer.old) (W.contents writer.new) }
     ensures unwritten { IfErr result (λ fault. (fault ≡ RunFault.Write) ⊎ (writer.new ≡ writer.old)) }
 {
     let file = read_all(alloc, limit, reader)?;
-    write_verdict(alloc, &file, writer)
+    write_verdict(alloc, judge, &file, writer)
 }
 
-// Decides the rules of a file, and writes the text of the verdict.
-fn write_verdict<W: Output>(alloc: Global, file: &[u8], writer: &mut W) -> Result<Outcome, RunFault>
-    ensures verdict { IfOk result (λ outcome. (text : List ℕ) × IsVerdict file.now outcome text
+// Hands a file to the judge, and writes the text of the verdict.
+fn write_verdict<J: Judge, W: Output>(
+    alloc: Global,
+    judge: &J,
+    file: &[u8],
+    writer: &mut W,
+) -> Result<Outcome, RunFault>
+    ensures verdict { IfOk result (λ outcome. (text : List ℕ)
+        × IsVerdictBy J.Judge file.now outcome text
         × Wrote (W.contents writer.old) (W.contents writer.new) text) }
     ensures fails { FailsRight result (W.has_failed writer.new)
-        ((outcome : Outcome) × (text : List ℕ) × IsVerdict file.now outcome text
+        ((outcome : Outcome) × (text : List ℕ) × IsVerdictBy J.Judge file.now outcome text
         × WrotePrefix (W.contents writer.old) (W.contents writer.new) text)
         (writer.new ≡ writer.old) }
 {
-    let Some(verified) = accept(alloc, file, writer)? else {
+    let Some(verified) = accept(alloc, judge, file, writer)? else {
         return Ok(Outcome::Refused);
     };
     write_layout(&verified, writer)?;
     Ok(Outcome::Accepted)
 }
 
-/// Decides the rules of a file. Where one is broken, it writes the line of the first, and returns
+/// Hands a file to the judge. Where it is refused, it writes the line of the refusal, and returns
 /// `None`.
-pub(crate) fn accept<'a, W: Output>(
+pub(crate) fn accept<'a, J: Judge, W: Output>(
     alloc: Global,
+    judge: &J,
     file: &'a [u8],
     writer: &mut W,
 ) -> Result<Option<Verified<'a>>, RunFault>
     ensures accepted { IfOk result (λ answer. IfSome answer (λ verified.
-        (verified ≡ file.now) × IsUnbroken file.now × (writer.new ≡ writer.old))) }
-    ensures refused { IfOk result (λ answer. IfNone answer ((b : Break) × IsFirstBroken file.now b
-        × Wrote (W.contents writer.old) (W.contents writer.new) (break_text b))) }
+        (verified ≡ file.now) × J.accepts file.now × (writer.new ≡ writer.old))) }
+    ensures refused { IfOk result (λ answer. IfNone answer ((name : List ℕ) × (place : ℕ)
+        × J.refuses file.now name place
+        × Wrote (W.contents writer.old) (W.contents writer.new) (refusal_text name place))) }
     ensures fails { FailsRight result (W.has_failed writer.new)
-        ((b : Break) × IsFirstBroken file.now b
-        × WrotePrefix (W.contents writer.old) (W.contents writer.new) (break_text b))
+        ((name : List ℕ) × (place : ℕ) × J.refuses file.now name place
+        × WrotePrefix (W.contents writer.old) (W.contents writer.new) (refusal_text name place))
         (writer.new ≡ writer.old) }
 {
-    match verify(alloc, file) {
+    match judge.judge(alloc, file) {
         Ok(verified) => Ok(Some(verified)),
-        Err(Refusal::Broken(broken)) => {
-            write_break(&broken, writer)?;
+        Err(Rejection::Broken { rule, place }) => {
+            write_refusal(rule, place, writer)?;
             Ok(None)
         }
-        Err(Refusal::Memory) => Err(RunFault::Memory),
+        Err(Rejection::Memory) => Err(RunFault::Memory),
     }
 }

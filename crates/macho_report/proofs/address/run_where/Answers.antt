@@ -1,6 +1,6 @@
 use Rattle.std.proofs.Common.{◌≤◌, length, refl, inr, arith}
 use Rattle.macho_report.proofs.Faults.{at_fault, no_answer, no_fault}
-use Rattle.macho_report.proofs.Runs.{input_where, input_where_prefix, reading_ends, reading_fails, reading_not_writing, write_or_unwritten}
+use Rattle.macho_report.proofs.Runs.{input_is, input_ok, reading_ends, reading_fails, reading_not_writing, write_or_unwritten}
 use Rattle.macho_report.proofs.address.run_where.Goals as goal
 
 pub returns-in_err-file : goal.returns-in_err-file
@@ -16,10 +16,10 @@ returns-in_err-file g c = rw (at_fault _ _ c.from_residual.ensures.1) record {
 pub returns : goal.returns
 returns g c =
     let within : length c.in_ok-file.file.items ≤ c.args.limit = omega (arith, c.in_ok-file.file.ok.0, c.in_ok-file.ensures.within_limit) in record {
-      verdict = input_where _ _ _ _ _ c.args.slice c.args.addr _ c.in_ok-file.ensures.all within (rw c.deref.ensures.value at c.write_where.ensures.verdict);
+      verdict = input_ok _ _ _ _ _ c.in_ok-file.ensures.all within (rw c.deref.ensures.value at c.write_where.ensures.verdict);
       input = reading_ends g.R.Input _ _ _ _ _ _ c.write_where.ensures.fails.faults c.in_ok-file.ensures.all within c.in_ok-file.ensures.at_end (λ f. no_fault _ _ (c.in_ok-file.ensures.failed.1 f)) c.in_ok-file.ensures.few_reads;
       no_image = c.write_where.ensures.no_image;
       write = c.write_where.ensures.fails.write;
-      prefix = λ failed. input_where_prefix _ _ _ _ _ c.args.slice c.args.addr c.in_ok-file.ensures.all within (rw c.deref.ensures.value at (c.write_where.ensures.fails.prefix failed));
+      prefix = λ failed. input_is _ _ _ _ c.in_ok-file.ensures.all within (rw c.deref.ensures.value at (c.write_where.ensures.fails.prefix failed));
       unwritten = write_or_unwritten _ _ c.write_where.ensures.fails.faults;
     }

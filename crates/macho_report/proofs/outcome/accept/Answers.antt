@@ -1,5 +1,5 @@
 use Rattle.std.proofs.Common.{refl}
-use Rattle.macho_report.proofs.Faults.{at_fault, fails_not, fails_to_write, lacks_memory, refused_first}
+use Rattle.macho_report.proofs.Faults.{at_fault, fails_not, fails_to_write, lacks_memory, refused_for}
 use Rattle.macho_report.proofs.outcome.accept.Goals as goal
 
 pub returns-in-Ok : goal.returns-in-Ok
@@ -9,17 +9,17 @@ returns-in-Ok g c = record {
   fails = fails_not _ _ _ _;
 }
 
-pub returns-in_err-write_break-in-Err-Broken : goal.returns-in_err-write_break-in-Err-Broken
-returns-in_err-write_break-in-Err-Broken g c = rw (at_fault _ _ c.from_residual.ensures.1) record {
+pub returns-in_err-write_refusal-in-Err-Broken : goal.returns-in_err-write_refusal-in-Err-Broken
+returns-in_err-write_refusal-in-Err-Broken g c = rw (at_fault _ _ c.from_residual.ensures.1) record {
   accepted = tt;
   refused = tt;
-  fails = fails_to_write _ _ _ c.in_err-write_break-in-Err-Broken.ensures.failed (_, refused_first _ _ _ c.in-Err-Broken.field-0-is c.in-Err-Broken.ensures.refused, c.in_err-write_break-in-Err-Broken.ensures.bytes);
+  fails = fails_to_write _ _ _ c.in_err-write_refusal-in-Err-Broken.ensures.failed (_, _, refused_for g.J.Judge.refuses c.args.file.now _ _ _ c.in-Err-Broken.field-0-is c.in-Err-Broken.ensures.refused, c.in_err-write_refusal-in-Err-Broken.ensures.bytes);
 }
 
-pub returns-in_ok-write_break-in-Err-Broken : goal.returns-in_ok-write_break-in-Err-Broken
-returns-in_ok-write_break-in-Err-Broken g c = record {
+pub returns-in_ok-write_refusal-in-Err-Broken : goal.returns-in_ok-write_refusal-in-Err-Broken
+returns-in_ok-write_refusal-in-Err-Broken g c = record {
   accepted = tt;
-  refused = (_, refused_first _ _ _ c.in-Err-Broken.field-0-is c.in-Err-Broken.ensures.refused, c.in_ok-write_break-in-Err-Broken.ensures.bytes);
+  refused = (_, _, refused_for g.J.Judge.refuses c.args.file.now _ _ _ c.in-Err-Broken.field-0-is c.in-Err-Broken.ensures.refused, c.in_ok-write_refusal-in-Err-Broken.ensures.bytes);
   fails = fails_not _ _ _ _;
 }
 

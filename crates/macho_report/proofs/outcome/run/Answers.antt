@@ -1,23 +1,9 @@
-use Rattle.std.proofs.Common.{◌≤◌, length, refl, inr, arith}
-use Rattle.macho_report.proofs.Faults.{at_fault, no_fault}
-use Rattle.macho_report.proofs.Runs.{input_verdict, input_verdict_prefix, reading_ends, reading_fails, reading_not_writing, write_or_unwritten}
+use Rattle.macho_report.specs.declared.judge.LayoutRules.{LayoutRules}
+use Rattle.macho_report.proofs.Runs.{layout_verdict, verdict_as, verdict_prefix_as}
 use Rattle.macho_report.proofs.outcome.run.Goals as goal
 
-pub returns-in_err-file : goal.returns-in_err-file
-returns-in_err-file g c = rw (at_fault _ _ c.from_residual.ensures.1) record {
-  verdict = tt;
-  input = reading_fails g.R.Input _ _ _ c.in_err-file.field-0.0 c.in_err-file.ensures.failed c.in_err-file.ensures.too_long c.in_err-file.ensures.one_too_many c.in_err-file.ensures.memory c.in_err-file.ensures.few_reads;
-  write = λ e. absurd (reading_not_writing c.in_err-file.field-0.0 e);
-  prefix = λ e. absurd (reading_not_writing c.in_err-file.field-0.0 e);
-  unwritten = inr refl;
-}
+pub returns-clause-verdict : goal.returns-clause-verdict
+returns-clause-verdict g c = verdict_as _ _ (layout_verdict {J = LayoutRules} _ (λ _ right. right) (λ _ _ _ right. right)) _ _ _ _ _ c.run_with.ensures.verdict
 
-pub returns : goal.returns
-returns g c =
-    let within : length c.in_ok-file.file.items ≤ c.args.limit = omega (arith, c.in_ok-file.file.ok.0, c.in_ok-file.ensures.within_limit) in record {
-      verdict = input_verdict _ _ _ _ _ _ c.in_ok-file.ensures.all within (rw c.deref.ensures.value at c.write_verdict.ensures.verdict);
-      input = reading_ends g.R.Input _ _ _ _ _ _ c.write_verdict.ensures.fails.faults c.in_ok-file.ensures.all within c.in_ok-file.ensures.at_end (λ f. no_fault _ _ (c.in_ok-file.ensures.failed.1 f)) c.in_ok-file.ensures.few_reads;
-      write = c.write_verdict.ensures.fails.write;
-      prefix = λ failed. input_verdict_prefix _ _ _ _ _ c.in_ok-file.ensures.all within (rw c.deref.ensures.value at (c.write_verdict.ensures.fails.prefix failed));
-      unwritten = write_or_unwritten _ _ c.write_verdict.ensures.fails.faults;
-    }
+pub returns-clause-prefix : goal.returns-clause-prefix
+returns-clause-prefix g c failed = verdict_prefix_as _ _ (layout_verdict {J = LayoutRules} _ (λ _ right. right) (λ _ _ _ right. right)) _ _ _ _ (c.run_with.ensures.prefix failed)

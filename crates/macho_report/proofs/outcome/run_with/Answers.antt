@@ -1,0 +1,23 @@
+use Rattle.std.proofs.Common.{◌≤◌, length, refl, inr, arith, rules}
+use Rattle.macho_report.proofs.Faults.{at_fault, no_fault}
+use Rattle.macho_report.proofs.Runs.{input_is, input_ok, reading_ends, reading_fails, reading_not_writing, write_or_unwritten}
+use Rattle.macho_report.proofs.outcome.run_with.Goals as goal
+
+pub returns-in_err-file : goal.returns-in_err-file
+returns-in_err-file g c = rw (at_fault _ _ c.from_residual.ensures.1) record {
+  verdict = tt;
+  input = reading_fails g.R.Input _ _ _ c.in_err-file.field-0.0 c.in_err-file.ensures.failed c.in_err-file.ensures.too_long c.in_err-file.ensures.one_too_many c.in_err-file.ensures.memory c.in_err-file.ensures.few_reads;
+  write = λ e. absurd (reading_not_writing c.in_err-file.field-0.0 e);
+  prefix = λ e. absurd (reading_not_writing c.in_err-file.field-0.0 e);
+  unwritten = inr refl;
+}
+
+pub returns : goal.returns
+returns g c =
+    let within : length c.in_ok-file.file.items ≤ c.args.limit = omega (arith, c.in_ok-file.file.ok.0, c.in_ok-file.ensures.within_limit) in record {
+      verdict = input_ok _ _ _ _ _ c.in_ok-file.ensures.all within (search rules);
+      input = reading_ends g.R.Input _ _ _ _ _ _ c.write_verdict.ensures.fails.faults c.in_ok-file.ensures.all within c.in_ok-file.ensures.at_end (λ f. no_fault _ _ (c.in_ok-file.ensures.failed.1 f)) c.in_ok-file.ensures.few_reads;
+      write = c.write_verdict.ensures.fails.write;
+      prefix = λ failed. input_is _ _ _ _ c.in_ok-file.ensures.all within (search rules);
+      unwritten = write_or_unwritten _ _ c.write_verdict.ensures.fails.faults;
+    }
