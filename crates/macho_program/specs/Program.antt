@@ -7,6 +7,7 @@ use Rattle.macho_report.specs.Stream.{TookAtMost}
 use Rattle.macho_report.specs.Run.{WroteVerdict, WroteVerdictPrefix}
 use Rattle.macho_report.specs.Where.{WroteWhere, WroteWherePrefix}
 use Rattle.macho_report.specs.declared.address.WhereOutcome.TheVariants.{NoImage}
+use Rattle.macho_report.specs.declared.outcome.Outcome.{Outcome}
 use Rattle.macho_report.specs.declared.outcome.RunFault.TheVariants as run
 use Rattle.macho_report.specs.declared.stream.Input as input
 use Rattle.macho_report.specs.declared.stream.Output as output
@@ -25,18 +26,23 @@ abbrev pub input_of : Option (List ℕ) → (List ℕ → Option (List ℕ)) →
 input_of standard files request =
     if bytes_eq (file_of request) (codes "-") then standard else files (file_of request)
 
+-- where an outcome of a check and its text are right for a file
+abbrev pub Verdict : Type 1
+Verdict = List ℕ → Outcome → List ℕ → Type 0
+
 -- what was asked for was found of the input, which has at most 2^32 bytes, and exactly its text was written
-abbrev pub WroteFound : Asked → Option (List ℕ) → Found → Option (List ℕ) → Option (List ℕ) → Type 0
-WroteFound (verdict name) input (kind.Check outcome) old new =
-    WroteVerdict input (2 ^ 32) outcome old new
-WroteFound (place name slice address) input (kind.Where outcome) old new =
+abbrev pub WroteFound : Verdict → Asked → Option (List ℕ) → Found → Option (List ℕ) → Option (List ℕ) → Type 0
+WroteFound IsRight (verdict name) input (kind.Check outcome) old new =
+    WroteVerdict IsRight input (2 ^ 32) outcome old new
+WroteFound IsRight (place name slice address) input (kind.Where outcome) old new =
     WroteWhere input (2 ^ 32) slice address outcome old new
-WroteFound _ _ _ _ _ = ⊥
+WroteFound _ _ _ _ _ _ = ⊥
 
 -- the same of a prefix of the text
-abbrev pub WroteFoundPrefix : Asked → Option (List ℕ) → Option (List ℕ) → Option (List ℕ) → Type 0
-WroteFoundPrefix (verdict name) input old new = WroteVerdictPrefix input (2 ^ 32) old new
-WroteFoundPrefix (place name slice address) input old new =
+abbrev pub WroteFoundPrefix : Verdict → Asked → Option (List ℕ) → Option (List ℕ) → Option (List ℕ) → Type 0
+WroteFoundPrefix IsRight (verdict name) input old new =
+    WroteVerdictPrefix IsRight input (2 ^ 32) old new
+WroteFoundPrefix IsRight (place name slice address) input old new =
     WroteWherePrefix input (2 ^ 32) slice address old new
 
 -- what is asked for, or the fault of the words
@@ -66,13 +72,13 @@ abbrev pub IsOfStandardInput : Asked → Type 0
 IsOfStandardInput request = file_of request ≡ codes "-"
 
 -- The program ended right: `end` and what became of both streams are right for what is asked.
--- `bytes` are those of the file that a request asks about, and `Reads` holds where that file is the input.
-pub record EndsRight {R W : Type 0} (i : input.Ghosts R) (o : output.Ghosts W) (f : flush.Ghosts W)
+-- `IsRight` is what a check finds, `bytes` are those of the file that a request asks about, and `Reads` holds where that file is the input.
+pub record EndsRight {R W : Type 0} (IsRight : Verdict) (i : input.Ghosts R) (o : output.Ghosts W) (f : flush.Ghosts W)
     (asked : Result Asked ProgramFault) (bytes : Asked → Option (List ℕ)) (Reads : Asked → Type 0)
     (reader reader' : R) (writer writer' : W) (end : Result Found ProgramFault) : Type 0 where
   -- What is found is right for the file that is asked about, and exactly its text is written.
   pub found : IfOk end (λ what. IsOkAnd asked (λ request.
-      WroteFound request (bytes request) what (o.contents writer) (o.contents writer')))
+      WroteFound IsRight request (bytes request) what (o.contents writer) (o.contents writer')))
   pub at_end : IfOk asked (λ request. Reads request → OnOk end (IsAtEnd (i.remaining reader')))
   pub flushed : IfOk end (λ what. what ≢ kind.Where NoImage → IsTrue (f.is_flushed writer'))
   pub no_image : end ≡ Ok (kind.Where NoImage) → writer' ≡ writer
@@ -86,7 +92,7 @@ pub record EndsRight {R W : Type 0} (i : input.Ghosts R) (o : output.Ghosts W) (
       → IsOkAnd asked (λ request. IfSome (bytes request) (λ all. 2 ^ 32 < length all))
   pub write : IsErrOf end (program.Run run.Write) → IsTrue (o.has_failed writer')
   pub prefix : IsErrOf end (program.Run run.Write) → IsOkAnd asked (λ request.
-      WroteFoundPrefix request (bytes request) (o.contents writer) (o.contents writer'))
+      WroteFoundPrefix IsRight request (bytes request) (o.contents writer) (o.contents writer'))
   pub unwritten : IfErr end (λ fault. (fault ≡ program.Run run.Write) ⊎ (writer' ≡ writer))
   -- Where the input is not asked about, it is not read.
   pub unread : ¬ IsOkAnd asked Reads → reader' ≡ reader

@@ -2,6 +2,7 @@
 //! and the line on standard error.
 
 ghost use Rattle.std.specs.Prelude.{◌≡◌, ⊤, option_map, IfNone, IfSome, Ok, Err};
+ghost use Rattle.macho_report.specs.Run.{IsVerdict};
 ghost use Rattle.macho_report.specs.Stream.{WritesUnlessFailed};
 ghost use Rattle.macho_report.specs.declared.outcome.RunFault.TheVariants as fault;
 ghost use Rattle.macho_program.specs.Program.{AnswersWords, EndsRight, IsOfStandardInput, input_of, request_of};
@@ -80,7 +81,7 @@ fn find_in<R: Input, W: Flush>(
     reader: &mut R,
     writer: &mut W,
 ) -> Result<Found, ProgramFault>
-    ensures { EndsRight R.Input W.Output W.Flush.own (Ok (asked_by request.now))
+    ensures { EndsRight IsVerdict R.Input W.Output W.Flush.own (Ok (asked_by request.now))
         (λ _. R.remaining reader.old) (λ _. ⊤)
         reader.old reader.new writer.old writer.new result }
 {
@@ -118,7 +119,7 @@ fn find_asked<S: AsStr, O: Open, R: Input, W: Flush>(
     standard: &mut R,
     writer: &mut W,
 ) -> Result<Found, ProgramFault>
-    ensures { EndsRight R.Input W.Output W.Flush.own (request_of S.text words.entry)
+    ensures { EndsRight IsVerdict R.Input W.Output W.Flush.own (request_of S.text words.entry)
         (input_of (R.remaining standard.old) (O.bytes files.now)) IsOfStandardInput
         standard.old standard.new writer.old writer.new result }
 {
@@ -146,7 +147,7 @@ pub fn run_program<S: AsStr, O: Open, R: Input, W: Flush, E: Output>(
     errors: &mut E,
 ) -> Result<Found, ProgramFault>
     // What is found and written, and when each fault comes.
-    ensures ended { EndsRight R.Input W.Output W.Flush.own (request_of S.text words.entry)
+    ensures ended { EndsRight IsVerdict R.Input W.Output W.Flush.own (request_of S.text words.entry)
         (input_of (R.remaining standard.old) (O.bytes files.now)) IsOfStandardInput
         standard.old standard.new writer.old writer.new result }
 

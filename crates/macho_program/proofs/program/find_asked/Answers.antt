@@ -4,7 +4,7 @@ use Rattle.std.specs.Str.{bytes_eq}
 use Rattle.macho_report.specs.declared.stream.Input as input
 use Rattle.macho_report.specs.declared.stream.Output as output
 use Rattle.macho_report.specs.declared.stream.Flush as flush
-use Rattle.macho_program.specs.Program.{EndsRight, IsOfStandardInput, WroteFound, WroteFoundPrefix}
+use Rattle.macho_program.specs.Program.{EndsRight, IsOfStandardInput, Verdict, WroteFound, WroteFoundPrefix}
 use Rattle.macho_program.specs.Words.{Asked, verdict, place}
 use Rattle.macho_program.specs.declared.program.Found.{Found}
 use Rattle.macho_program.specs.declared.program.Found.TheVariants as kind
@@ -12,33 +12,33 @@ use Rattle.macho_program.specs.declared.program.ProgramFault.{ProgramFault}
 use Rattle.macho_program.proofs.program.find_asked.Goals as goal
 
 -- what is found of the bytes that a file gives, where those of its name are known
-found_in : (asked : Asked) (known given old new : Option (List ℕ)) (end : Result Found ProgramFault) → IfSome known (λ all. given ≡ Some all)
-    → IfOk end (λ what. WroteFound asked given what old new) → IfOk end (λ what. WroteFound asked known what old new)
-found_in asked (Some all) given old new end is wrote = rw is at wrote
-found_in asked None given old new (Err fault) is wrote = tt
-found_in (verdict name) None given old new (Ok (kind.Check outcome)) is wrote = tt
-found_in (place name slice address) None given old new (Ok (kind.Where outcome)) is wrote = tt
-found_in (verdict name) None given old new (Ok (kind.Where outcome)) is wrote = absurd wrote
-found_in (place name slice address) None given old new (Ok (kind.Check outcome)) is wrote = absurd wrote
+found_in : (IsRight : Verdict) (asked : Asked) (known given old new : Option (List ℕ)) (end : Result Found ProgramFault) → IfSome known (λ all. given ≡ Some all)
+    → IfOk end (λ what. WroteFound IsRight asked given what old new) → IfOk end (λ what. WroteFound IsRight asked known what old new)
+found_in IsRight asked (Some all) given old new end is wrote = rw is at wrote
+found_in IsRight asked None given old new (Err fault) is wrote = tt
+found_in IsRight (verdict name) None given old new (Ok (kind.Check outcome)) is wrote = tt
+found_in IsRight (place name slice address) None given old new (Ok (kind.Where outcome)) is wrote = tt
+found_in IsRight (verdict name) None given old new (Ok (kind.Where outcome)) is wrote = absurd wrote
+found_in IsRight (place name slice address) None given old new (Ok (kind.Check outcome)) is wrote = absurd wrote
 
-prefix_in : (asked : Asked) (known given old new : Option (List ℕ)) → IfSome known (λ all. given ≡ Some all)
-    → WroteFoundPrefix asked given old new → WroteFoundPrefix asked known old new
-prefix_in asked (Some all) given old new is wrote = rw is at wrote
-prefix_in (verdict name) None given old new is wrote = tt
-prefix_in (place name slice address) None given old new is wrote = tt
+prefix_in : (IsRight : Verdict) (asked : Asked) (known given old new : Option (List ℕ)) → IfSome known (λ all. given ≡ Some all)
+    → WroteFoundPrefix IsRight asked given old new → WroteFoundPrefix IsRight asked known old new
+prefix_in IsRight asked (Some all) given old new is wrote = rw is at wrote
+prefix_in IsRight (verdict name) None given old new is wrote = tt
+prefix_in IsRight (place name slice address) None given old new is wrote = tt
 
 long_in : (known given : Option (List ℕ)) → IfSome known (λ all. given ≡ Some all) → IfSome given (λ all. 2 ^ 32 < length all) → IfSome known (λ all. 2 ^ 32 < length all)
 long_in (Some all) given is long = rw is at long
 long_in None given is long = tt
 
 -- a run over another input than standard input, which is not read
-in_file : {R S W : Type 0} {i : input.Ghosts R} {j : input.Ghosts S} {o : output.Ghosts W} {f : flush.Ghosts W} (asked : Asked) (words : Result Asked ProgramFault)
+in_file : {R S W : Type 0} {i : input.Ghosts R} {j : input.Ghosts S} {o : output.Ghosts W} {f : flush.Ghosts W} (IsRight : Verdict) (asked : Asked) (words : Result Asked ProgramFault)
     (bytes : Asked → Option (List ℕ)) (standard : R) (file file' : S) (writer writer' : W) (end : Result Found ProgramFault)
     → words ≡ Ok asked → ¬ IsOfStandardInput asked → IfSome (bytes asked) (λ all. j.remaining file ≡ Some all)
-    → EndsRight j o f (Ok asked) (λ _. j.remaining file) (λ _. ⊤) file file' writer writer' end
-    → EndsRight i o f words bytes IsOfStandardInput standard standard writer writer' end
-in_file asked words bytes standard file file' writer writer' end is other known h = rw is record {
-  found = found_in asked (bytes asked) _ _ _ end known h.found;
+    → EndsRight IsRight j o f (Ok asked) (λ _. j.remaining file) (λ _. ⊤) file file' writer writer' end
+    → EndsRight IsRight i o f words bytes IsOfStandardInput standard standard writer writer' end
+in_file IsRight asked words bytes standard file file' writer writer' end is other known h = rw is record {
+  found = found_in IsRight asked (bytes asked) _ _ _ end known h.found;
   at_end = λ is. absurd (other is);
   flushed = h.flushed;
   no_image = h.no_image;
@@ -47,7 +47,7 @@ in_file asked words bytes standard file file' writer writer' end is other known 
   memory = λ is. absurd (other is);
   too_long = λ e. long_in (bytes asked) _ known (h.too_long e);
   write = h.write;
-  prefix = λ e. prefix_in asked (bytes asked) _ _ _ known (h.prefix e);
+  prefix = λ e. prefix_in IsRight asked (bytes asked) _ _ _ known (h.prefix e);
   unwritten = h.unwritten;
   unread = λ _. refl;
 }
@@ -58,5 +58,5 @@ not_standard name file eq name_is eq_is fails = ap (λ (n : List ℕ). bytes_eq 
 pub returns-in-Ok : goal.returns-in-Ok
 returns-in-Ok g c =
     let other = not_standard _ _ _ c.file.ensures c.eq.ensures c.if-eq.false in
-    in_file _ _ _ _ _ _ _ _ _ c.in_ok-request.ensures (λ is. let bad : true ≡ false = ap (λ (n : List ℕ). bytes_eq n (codes "-")) (sym is) ∙ other in cc)
+    in_file _ _ _ _ _ _ _ _ _ _ c.in_ok-request.ensures (λ is. let bad : true ≡ false = ap (λ (n : List ℕ). bytes_eq n (codes "-")) (sym is) ∙ other in cc)
     (rw other (search rules)) c.find_in-in-Ok.ensures
