@@ -30,7 +30,7 @@ got_from_one y (suc i) x e = cc
 
 -- Of a file that breaks none of its own rules
 module _ (file : List ℕ) (keeps_file : (r : Rule) (place : ℕ) → ¬ BreaksFile file r place) where
-  begins : 4 ≤ length file
+  pub begins : 4 ≤ length file
   begins = elim (cases_lt (length file) 4) [
     | inl h ↦ absurd (keeps_file rule.Magic 0 (
       refl,

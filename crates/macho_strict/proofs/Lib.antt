@@ -1,2 +1,5 @@
 pub mod Ranks
 pub mod Order
+pub mod Scopes
+pub mod Accounted
+pub mod Unique

@@ -3,6 +3,7 @@
 //! is used twice.
 
 pub mod elements;
+pub mod law;
 pub mod refusal;
 pub mod rule;
 
