@@ -259,8 +259,8 @@ WAYS = {set_field: 65, set_range: 8, cut: 5, splice: 8, exchange: 6, add_command
 STRICT_WAYS = {append: 10, set_byte: 20, repeat_range: 30}
 
 def weight(data, is_accepted):
-    """How often a file is changed. An accepted one says more then, and so does one with many commands. A long file with
-    hundreds of them takes long, and says no more."""
+    """How often a file is changed. An accepted one says more then, or one that the strict profile alone refuses, and so
+    does one with many commands. A long file with hundreds of them takes long, and says no more."""
     if len(data) > 50000:
         return 1
     return (8 if is_accepted else 1) * (1 + sum(min(len(commands(data, start)), 20) for start in images(data)))
@@ -587,7 +587,7 @@ def main():
     others = [data for folder in words.folders for _, data in read_folder(folder)]
     corpus = real + others + [vector.data for vector in vectors]
     accepted = [True] * len(real) + [oracle_answer(oracle, Question("", data, "check", ()))[0] == 0 for data in others]
-    accepted += [vector.wanted == "accepted" for vector in vectors]
+    accepted += [vector.wanted == "accepted" or vector.is_strict for vector in vectors]
     weights = [weight(data, good) for data, good in zip(corpus, accepted)]
     work = argparse.Namespace(
         seed=words.seed, oracle=oracle, program=program, corpus=corpus, weights=weights, is_strict=words.strict,
