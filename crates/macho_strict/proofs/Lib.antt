@@ -3,3 +3,4 @@ pub mod Order
 pub mod Scopes
 pub mod Accounted
 pub mod Unique
+pub mod ElementWalks

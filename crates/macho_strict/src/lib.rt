@@ -7,6 +7,6 @@ pub mod law;
 pub mod refusal;
 pub mod rule;
 
-pub use elements::Element;
+pub use elements::{Element, Elements};
 pub use refusal::StrictRefusal;
 pub use rule::{StrictBreak, StrictRule};

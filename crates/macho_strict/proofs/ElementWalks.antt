@@ -1,0 +1,178 @@
+-- A walk over the elements of an image, step by step.
+use Rattle.std.proofs.Common.{◌≡◌, ℕ, ◌+◌, ◌-◌, ◌*◌, ◌^◌, ◌≤◌, ◌<◌, ◌==◌, List, [], ◌∷◌, ◌++◌, map, filter, Bool, true, false, All, Contains, Option, Some, None, Fits, w64, refl, sym, ap, ap₂, ◌∙◌, subst, arith, inl, inr}
+use Rattle.std.specs.Prelude.{nat_lt, flat_map, if◌then◌else◌}
+use Rattle.std.specs.List.{list_all}
+use Rattle.std.specs.Option.{option_map_or}
+use Rattle.std.proofs.Math.Nat.{mul-le-mul_right}
+use Rattle.std.proofs.lemmas.Bool.{cases_Bool, ltb-true, eqb-true, eq-eqb, ne_eqb}
+use Rattle.std.proofs.lemmas.List.{append-nil, map-append}
+use Rattle.std.proofs.lemmas.List.Elements.{All-nil, All-map, All-tail, All-contains_itself}
+use Rattle.std.proofs.lemmas.List.Folds.{flat_map-map}
+use Rattle.std.proofs.lemmas.List.Sums.{AllPass-from_list_all}
+use Rattle.macho_fields.specs.Image.{command_cmd, commands_of}
+use Rattle.macho_fields.specs.LoadCommands.{structure_of, width_size, table_fields}
+use Rattle.macho_fields.specs.Segment.{sections_in}
+use Rattle.macho_fields.specs.Symbol.{table_at, tables_of}
+use Rattle.macho_fields.specs.declared.header.loader.TheConstants as loader
+use Rattle.macho_fields.specs.declared.load_command.Structure.{Structure}
+use Rattle.macho_fields.specs.declared.load_command.Structure.TheVariants as structure
+use Rattle.macho_fields.specs.declared.load_command.TableFields.{TableFields}
+use Rattle.macho_fields.proofs.Opened.{table_fields_inside}
+use Rattle.macho_image.specs.Command.{CommandView, command_at}
+use Rattle.macho_image.specs.Opened.{IsOpened}
+use Rattle.macho_image.specs.Segment.{SegmentView, SectionView, segment_at, section_at, sections_with, segments_left}
+use Rattle.macho_rules.proofs.Judged.{opened_facts, opened_commands}
+use Rattle.macho_strict.specs.Elements.{headers, section_elements, table_element, command_elements, elements_of}
+use Rattle.macho_strict.specs.ElementWalk.{described_tables, tables_left, sections_left, commands_left, all_of, HoldsTable, CanDescribe}
+use Rattle.macho_strict.specs.declared.elements.Element.{Element}
+
+-- Tables
+
+-- the size of a table of so many items has 64 bits, where that of one with the most items has
+pub size_fits : (count bound size : ℕ) → count < bound → (bound - 1) * size < 2 ^ 64 → Fits w64 (count * size)
+size_fits count bound size few all = let most : count * size ≤ (bound - 1) * size = mul-le-mul_right size (omega arith) in omega arith
+
+-- of each structure the fields of a table are wide enough for the size of an item
+is_near : TableFields → Bool
+is_near fields = nat_lt ((2 ^ (8 * width_size fields.width) - 1) * fields.item_size) (2 ^ 64)
+
+all_near : (s : Structure) → list_all is_near (table_fields s) ≡ true
+unfolding is_near
+all_near structure.SymtabCommand = refl
+all_near other = refl
+
+module _ (image : List ℕ) (opened : IsOpened image) (command : ℕ) (listed : Contains (commands_of image) command) where
+  of_structure : (o : Option Structure) → structure_of (command_cmd image command) ≡ o → All (HoldsTable image command) (option_map_or table_fields o [])
+  unfolding is_near
+  of_structure None is = All-nil (HoldsTable image command)
+  of_structure (Some s) is = λ k d less.
+      let (place, count) = table_fields_inside image (commands_of image) (opened_facts image opened) (opened_commands image opened) command s listed is k d less in
+      record { place = place; count = count; near = ltb-true _ _ (AllPass-from_list_all is_near (table_fields s) (all_near s) k d less) }
+
+  pub tables_hold : (cmd : ℕ) → cmd ≡ command_cmd image command → All (HoldsTable image command) (described_tables cmd)
+  tables_hold cmd is = elim (cases_Bool (cmd == loader.LC_ENCRYPTION_INFO_64)) [
+    | inl t ↦ rw t (All-nil (HoldsTable image command))
+    | inr f ↦ rw f (of_structure (structure_of cmd) (ap structure_of (sym is)))
+  ]
+
+-- Sections
+
+pub sections_same : (image : List ℕ) (segment : ℕ) → sections_left (map (section_at image) (sections_with image segment)) ≡ flat_map (section_elements image) (sections_in image segment)
+sections_same image segment =
+    flat_map-map (λ (s : SectionView). section_elements s.image s.place) (section_at image) (sections_with image segment)
+    ∙ flat_map-map (λ (pair : ℕ × ℕ). section_elements image pair.1) (λ section. (segment, section)) (sections_in image segment)
+
+-- Commands
+
+tables_same : (image : List ℕ) (command : ℕ) (o : Option Structure)
+    → tables_left image command (option_map_or table_fields o []) ≡ map (table_element command) (option_map_or (λ s. map (table_at image command) (table_fields s)) o [])
+tables_same image command None = refl
+tables_same image command (Some s) = each (table_fields s)
+  where
+    each : (all : List TableFields) → map (λ fields. table_element command (table_at image command fields)) all ≡ map (table_element command) (map (table_at image command) all)
+    each [] = refl
+    each (fields ∷ rest) = ap (λ more. table_element command (table_at image command fields) ∷ more) (each rest)
+
+-- what a command describes that is no segment
+pub other_elements : (image : List ℕ) (command : ℕ) → (command_cmd image command == loader.LC_SEGMENT_64) ≡ false
+    → command_elements image command ≡ tables_left image command (described_tables (command_cmd image command))
+other_elements image command not_segment = elim (cases_Bool (command_cmd image command == loader.LC_ENCRYPTION_INFO_64)) [
+  | inl t ↦ rw (not_segment, t) refl
+  | inr f ↦ rw (not_segment, f) (sym (tables_same image command (structure_of (command_cmd image command))))
+]
+
+-- what a segment describes
+pub segment_elements : (image : List ℕ) (command : ℕ) → (command_cmd image command == loader.LC_SEGMENT_64) ≡ true
+    → command_elements image command ≡ sections_left (map (section_at image) (sections_with image command)) ++ tables_left image command (described_tables (command_cmd image command))
+segment_elements image command is =
+    rw is
+    (sym (sections_same image command) ∙ (sym (append-nil (sections_left (map (section_at image) (sections_with image command))))
+    ∙ ap (λ cmd. sections_left (map (section_at image) (sections_with image command)) ++ tables_left image command (described_tables cmd)) (sym (eqb-true (command_cmd image command) loader.LC_SEGMENT_64 is))))
+
+module _ (image : List ℕ) (all rest : List CommandView) (c : CommandView) (next : all ≡ c ∷ rest) (segments : List SegmentView) (can : CanDescribe image all segments) where
+  here : Contains (commands_of image) c.place × (c ≡ command_at image c.place)
+  here = subst (All (λ v. Contains (commands_of image) v.place × (v ≡ command_at image v.place))) next can.listed 0 c (omega arith)
+
+  pub is_listed : Contains (commands_of image) c.place
+  is_listed = here.0
+
+  pub has_cmd : c.cmd ≡ command_cmd image c.place
+  has_cmd = ap (λ (v : CommandView). v.cmd) here.1
+
+  later : All (λ (v : CommandView). Contains (commands_of image) v.place × (v ≡ command_at image v.place)) rest
+  later = All-tail (λ (v : CommandView). Contains (commands_of image) v.place × (v ≡ command_at image v.place)) c rest (subst (All (λ v. Contains (commands_of image) v.place × (v ≡ command_at image v.place))) next can.listed)
+
+  at_first : commands_left image all ≡ command_elements image c.place ∷ commands_left image rest
+  at_first = ap (commands_left image) next
+
+  -- the command is no segment
+  module _ (other : c.cmd ≡ loader.LC_SEGMENT_64 → ⊥) where
+    not_segment : (c.cmd == loader.LC_SEGMENT_64) ≡ false
+    not_segment = ne_eqb c.cmd loader.LC_SEGMENT_64 other
+
+    pub past_other : CanDescribe image rest segments
+    past_other = record {
+      opened = can.opened;
+      listed = later;
+      among = can.among ∙ (ap (segments_left image) next ∙ rw not_segment refl);
+    }
+
+    pub other_described : (tables : List TableFields) → tables ≡ described_tables c.cmd → commands_left image all ≡ tables_left image c.place tables ∷ commands_left image rest
+    other_described tables are =
+        at_first
+        ∙ ap (λ list. list ∷ commands_left image rest)
+        (other_elements image c.place (subst (λ cmd. (cmd == loader.LC_SEGMENT_64) ≡ false) has_cmd not_segment) ∙ ap (tables_left image c.place) (ap described_tables (sym has_cmd) ∙ sym are))
+
+  -- it is a segment
+  module _ (is : c.cmd ≡ loader.LC_SEGMENT_64) where
+    segment : (c.cmd == loader.LC_SEGMENT_64) ≡ true
+    segment = eq-eqb c.cmd loader.LC_SEGMENT_64 is
+
+    left_here : segments ≡ segment_at image c.place ∷ segments_left image rest
+    left_here = can.among ∙ (ap (segments_left image) next ∙ rw segment refl)
+
+    module _ (s : SegmentView) (more : List SegmentView) (first : segments ≡ s ∷ more) where
+      segment_is : s ≡ segment_at image c.place
+      segment_is = let both = sym first ∙ left_here in cc
+
+      pub past_segment : CanDescribe image rest more
+      past_segment = record {
+        opened = can.opened;
+        listed = later;
+        among = let both = sym first ∙ left_here in cc;
+      }
+
+      pub segment_described : (sections : List SectionView) (tables : List TableFields) → sections ≡ map (section_at s.image) (sections_with s.image s.place) → tables ≡ described_tables c.cmd
+          → commands_left image all ≡ (sections_left sections ++ tables_left image c.place tables) ∷ commands_left image rest
+      segment_described sections tables have are =
+          at_first
+          ∙ ap (λ list. list ∷ commands_left image rest)
+          (segment_elements image c.place (subst (λ cmd. (cmd == loader.LC_SEGMENT_64) ≡ true) has_cmd segment)
+          ∙ ap₂ (λ ss ts. sections_left ss ++ tables_left image c.place ts)
+          (sym (have ∙ ap (λ (t : SegmentView). map (section_at t.image) (sections_with t.image t.place)) segment_is)) (ap described_tables (sym has_cmd) ∙ sym are))
+
+-- The walk begins
+
+segments_seen : (image commands : List ℕ) → map (segment_at image) (filter (λ p. command_cmd image p == loader.LC_SEGMENT_64) commands) ≡ segments_left image (map (command_at image) commands)
+segments_seen image [] = refl
+segments_seen image (p ∷ ps) = elim (cases_Bool (command_cmd image p == loader.LC_SEGMENT_64)) [
+  | inl t ↦ rw t (ap (λ more. segment_at image p ∷ more) (segments_seen image ps))
+  | inr f ↦ rw f (segments_seen image ps)
+]
+
+pub can_begin : (image : List ℕ) (commands : List CommandView) (segments : List SegmentView) → IsOpened image → commands ≡ map (command_at image) (commands_of image)
+    → segments ≡ map (segment_at image) (filter (λ p. command_cmd image p == loader.LC_SEGMENT_64) (commands_of image)) → CanDescribe image commands segments
+can_begin image commands segments opened all some = record {
+  opened = opened;
+  listed = subst (All (λ c. Contains (commands_of image) c.place × (c ≡ command_at image c.place))) (sym all)
+      (All-map (λ (c : CommandView). Contains (commands_of image) c.place × (c ≡ command_at image c.place)) (command_at image) (commands_of image)
+      (λ k d less. (All-contains_itself (commands_of image) k d less, refl)));
+  among = some ∙ (segments_seen image (commands_of image) ∙ ap (segments_left image) (sym all));
+}
+
+pub all_described : (image : List ℕ) (commands : List CommandView) → commands ≡ map (command_at image) (commands_of image) → headers image ∷ all_of (commands_left image commands) ≡ elements_of image
+all_described image commands all =
+    ap (λ rest. headers image ∷ rest)
+    (ap (λ cs. all_of (commands_left image cs)) all
+    ∙ (flat_map-map (λ (list : List Element). list) (λ (c : CommandView). command_elements image c.place) (map (command_at image) (commands_of image))
+    ∙ flat_map-map (λ (c : CommandView). command_elements image c.place) (command_at image) (commands_of image)))

@@ -1,0 +1,53 @@
+-- A walk over the elements of an image: what is left of them.
+use Rattle.std.specs.Prelude.{◌≡◌, ℕ, ◌+◌, ◌-◌, ◌*◌, ◌^◌, ◌≤◌, ◌<◌, ◌==◌, List, [], ◌∷◌, ◌++◌, length, map, flat_map, fold, All, Contains, Option, option_to_list, if◌then◌else◌}
+use Rattle.std.specs.Option.{option_map_or}
+use Rattle.macho_fields.specs.Image.{commands_of}
+use Rattle.macho_fields.specs.LoadCommands.{structure_of, width_size, table_fields}
+use Rattle.macho_fields.specs.Symbol.{table_at}
+use Rattle.macho_fields.specs.declared.load_command.TableFields.{TableFields}
+use Rattle.macho_fields.specs.declared.header.loader.TheConstants as loader
+use Rattle.macho_image.specs.Command.{CommandView, command_at}
+use Rattle.macho_image.specs.Opened.{IsOpened}
+use Rattle.macho_image.specs.Segment.{SegmentView, SectionView, segments_left}
+use Rattle.macho_strict.specs.Elements.{section_elements, table_element, command_elements}
+use Rattle.macho_strict.specs.declared.elements.Element.{Element}
+
+-- the tables of a command with the cmd that are elements
+abbrev pub described_tables : ℕ → List TableFields
+described_tables cmd =
+    if cmd == loader.LC_ENCRYPTION_INFO_64 then [] else option_map_or table_fields (structure_of cmd) []
+
+-- the tables of a command that remain
+abbrev pub tables_left : List ℕ → ℕ → List TableFields → List Element
+tables_left image command tables =
+    map (λ fields. table_element command (table_at image command fields)) tables
+
+-- the elements of the sections that remain
+abbrev pub sections_left : List SectionView → List Element
+sections_left sections = flat_map (λ s. section_elements s.image s.place) sections
+
+-- what a command describes that remains: an element that is next, those of its sections and its tables
+abbrev pub described_left : Option Element → Option (List SectionView) → List Element → List Element
+described_left pending sections tables =
+    option_to_list pending ++ (option_map_or sections_left sections [] ++ tables)
+
+-- what each of the commands that remain describes
+abbrev pub commands_left : List ℕ → List CommandView → List (List Element)
+commands_left image commands = map (λ c. command_elements image c.place) commands
+
+-- one list after the other
+abbrev pub all_of : List (List Element) → List Element
+all_of lists = flat_map (λ list. list) lists
+
+-- the fields that bound a table lie inside the image, and its size in bytes has 64 bits
+pub record HoldsTable (image : List ℕ) (command : ℕ) (fields : TableFields) : Type 0 where
+  pub place : command + fields.place + width_size fields.width ≤ length image
+  pub count : command + fields.count + width_size fields.width ≤ length image
+  pub near : (2 ^ (8 * width_size fields.width) - 1) * fields.item_size < 2 ^ 64
+
+-- the commands that remain are of an opened image, and the segments are those among them
+pub record CanDescribe (image : List ℕ) (commands : List CommandView) (segments : List SegmentView)
+    : Type 0 where
+  pub opened : IsOpened image
+  pub listed : All (λ c. Contains (commands_of image) c.place × (c ≡ command_at image c.place)) commands
+  pub among : segments ≡ segments_left image commands
