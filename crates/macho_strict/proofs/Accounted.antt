@@ -9,6 +9,7 @@ use Rattle.macho_fields.specs.Field.{Covers}
 use Rattle.macho_fields.specs.First.{IsUnbroken}
 use Rattle.macho_fields.specs.Image.{commands_of, AreCommands}
 use Rattle.macho_fields.specs.Loader.{IsSound}
+use Rattle.macho_fields.specs.NonZero.{IsNonZero}
 use Rattle.macho_fields.specs.Segment.{fileoff, filesize}
 use Rattle.macho_fields.specs.Span.{Holds}
 use Rattle.macho_fields.specs.Universal.{FileSlice, is_universal, IsUniversal, table_end, slices_of, slice_bytes, HasPlace, IsImage}
@@ -24,7 +25,7 @@ use Rattle.macho_strict.specs.Accounted.{ExactlyOne, IsAccountedImage, IsAccount
 use Rattle.macho_strict.specs.Elements.{elements_of}
 use Rattle.macho_strict.specs.First.{IsStrictlyUnbroken}
 use Rattle.macho_strict.specs.Order.{NothingBreaks}
-use Rattle.macho_strict.specs.Rules.{IsNonZero, IsInFilePart, all_segments, BreaksImage}
+use Rattle.macho_strict.specs.Rules.{IsInFilePart, all_segments, BreaksImage}
 use Rattle.macho_strict.specs.declared.elements.Element.{Element}
 use Rattle.macho_strict.specs.declared.rule.StrictRule.TheVariants as rule
 use Rattle.macho_strict.proofs.Scopes as strict
