@@ -1,7 +1,9 @@
 // Decides what macho-check decides of standard input, and prints the same text with the same status: the layout of a
 // file that breaks no rule of docs/RULES.md (status 0), or the first rule that is broken and its place (status 1).
 //
-//     cc -std=c99 -O2 -o floor bench/floor.c && ./floor <FILE
+//     cc -std=c99 -O2 -o floor bench/floor.c && ./floor [--strict] <FILE
+//
+// With --strict it decides what macho-strict decides.
 //
 // It shows how fast C can be at this. bench/speed runs it beside the program, and tests/floor tries its answers.
 // Nothing is walked twice without need: one walk over the load commands judges each command, segment and section, and
@@ -11,7 +13,7 @@
 //
 // Structures and constants have their public names. The rules stand in the order of docs/RULES.md, a function for each:
 // of the file, of the header and the load commands, of segments and sections, of tables and symbols, and of the entry.
-// After them stand the walk and the judgment, which call them, and the report.
+// After them stand the walk and the judgment, which call them, then the strict profile, and the report.
 
 #define _GNU_SOURCE // memrchr
 #include <stdbool.h>
@@ -251,6 +253,7 @@ enum rule {
     SEGMENT_ADDRESS, SEGMENT_SIZE, SEGMENT_FILE, SEGMENT_OVERLAP, SECTION_ADDRESS, SECTION_FILE, SECTION_RELOCS,
     TABLE_RANGE, SYMBOL_GROUP, SYMBOL_NAME, SYMBOL_SECTION, INDIRECT_INDEX,
     ENTRY,
+    FAT_STRAY_BYTE, COMMANDS_END, HEADER_SEGMENT, SEGMENT_FILE_OVERLAP, ELEMENT_OVERLAP, STRAY_BYTE,
     RULE_COUNT
 };
 
@@ -286,17 +289,23 @@ static const char *const rule_names[RULE_COUNT] = {
     [SYMBOL_SECTION] = "symbol-section",
     [INDIRECT_INDEX] = "indirect-index",
     [ENTRY] = "entry",
+    [FAT_STRAY_BYTE] = "fat-stray-byte",
+    [COMMANDS_END] = "commands-end",
+    [HEADER_SEGMENT] = "header-segment",
+    [SEGMENT_FILE_OVERLAP] = "segment-file-overlap",
+    [ELEMENT_OVERLAP] = "element-overlap",
+    [STRAY_BYTE] = "stray-byte",
 };
 
 // The rules that were found broken, a bit for each, and the least place in the file at which each of these is. The
 // first broken rule is that of the least bit, once all rules before it have been judged.
 struct breaks {
-    uint32_t broken;
+    uint64_t broken;
     uint64_t places[RULE_COUNT];
 };
 
 __attribute__((cold, noinline)) static void note(struct breaks *breaks, enum rule rule, uint64_t place) {
-    uint32_t bit = (uint32_t)1 << rule;
+    uint64_t bit = (uint64_t)1 << rule;
     if ((breaks->broken & bit) == 0 || place < breaks->places[rule]) {
         breaks->places[rule] = place;
     }
@@ -305,7 +314,7 @@ __attribute__((cold, noinline)) static void note(struct breaks *breaks, enum rul
 
 // Whether no rule before this one was found broken.
 static bool is_kept_below(const struct breaks *breaks, enum rule rule) {
-    return (breaks->broken & (((uint32_t)1 << rule) - 1)) == 0;
+    return (breaks->broken & (((uint64_t)1 << rule) - 1)) == 0;
 }
 
 // Ends the program without a verdict.
@@ -627,6 +636,7 @@ struct image {
     struct arch arch;
     uint64_t filetype, ncmds;
     uint64_t commands_end;
+    uint64_t walked_end; // where the last command ends
     // The places of commands that stand once; 0 where there is none.
     uint64_t symtab, dysymtab, id_dylib, uuid, main;
     bool has_base;
@@ -1155,6 +1165,7 @@ static void walk(struct image *image) {
         }
         place += size;
     }
+    image->walked_end = place;
 }
 
 // The judgment
@@ -1244,6 +1255,208 @@ static void judge_slices(const struct file *file, const struct universal *univer
     }
     if (is_empty) {
         note(breaks, FAT_EMPTY, offsetof(struct fat_header, nfat_arch));
+    }
+}
+
+// The strict profile, of files that break no rule above
+
+// The first place from `start` up to `end` with a byte that is not zero; `end` where there is none.
+static uint64_t first_nonzero(const uint8_t *bytes, uint64_t start, uint64_t end) {
+    uint64_t place = start;
+    while (end - place >= sizeof(uint64_t) && read_little(bytes + place, sizeof(uint64_t)) == 0) {
+        place += sizeof(uint64_t);
+    }
+    while (place < end && bytes[place] == 0) {
+        place++;
+    }
+    return place;
+}
+
+// Notes the rule at the first byte that is not zero and lies in none of the spans, which ascend.
+static void judge_strays(struct breaks *breaks, enum rule rule, const struct image *image, const struct span *spans,
+                         size_t count) {
+    uint64_t place = 0;
+    for (size_t k = 0; k <= count; k++) {
+        uint64_t end = k < count ? spans[k].start : image->size;
+        uint64_t stray = first_nonzero(image->bytes, place, end);
+        if (stray < end) {
+            note(breaks, rule, image->start + stray);
+            return;
+        }
+        place = k < count ? spans[k].last + 1 : end;
+    }
+}
+
+// Spans by ascending places, which are counted and, if there is room, kept.
+struct gathered {
+    struct order order;
+    struct span *spans;
+};
+
+static inline void gather(struct gathered *gathered, uint64_t start, uint64_t size, uint64_t place) {
+    if (size == 0) {
+        return;
+    }
+    struct span span = {start, start + (size - 1), place};
+    if (gathered->spans != NULL) {
+        gathered->spans[gathered->order.count] = span;
+    }
+    follow(&gathered->order, span.start, span.last, place);
+}
+
+// Gathers once more what was counted, with room for it.
+static void begin_gathered(struct gathered *gathered, uint64_t count) {
+    gathered->spans = count == 0 ? NULL : room_for(count);
+    begin_order(&gathered->order);
+}
+
+// The bytes of the file that segments have. Returns whether one of them has the header and all commands.
+static bool gather_file_parts(const struct image *image, struct gathered *parts) {
+    bool has_headers = false;
+    const struct range *segments = &image->segments;
+    for (uint64_t place = segments->first; place != 0; place = next_place(image, segments, place)) {
+        if (is_command(image, place, LC_SEGMENT_64)) {
+            struct segment segment = read_segment(image->bytes + place);
+            has_headers = has_headers || (segment.fileoff == 0 && segment.filesize >= image->commands_end);
+            gather(parts, segment.fileoff, segment.filesize, image->start + place);
+        }
+    }
+    return has_headers;
+}
+
+static void gather_sections(const struct image *image, uint64_t segment, struct gathered *elements) {
+    uint64_t place = segment + sizeof(struct segment_command_64);
+    uint64_t nsects = FIELD(image->bytes + segment, segment_command_64, nsects);
+    for (uint64_t k = 0; k < nsects; k++, place += sizeof(struct section_64)) {
+        struct section section = read_section(image->bytes + place);
+        if (!section.is_zero_fill) {
+            gather(elements, section.offset, section.size, image->start + place);
+        }
+        gather(elements, section.reloff, RELOCATION_INFO_SIZE * section.nreloc, image->start + place);
+    }
+}
+
+static void gather_tables(const struct image *image, uint64_t place, const struct table *tables, size_t count,
+                          struct gathered *elements) {
+    const uint8_t *command = image->bytes + place;
+    for (size_t k = 0; k < count; k++) {
+        uint64_t start = read_little(command + tables[k].start, sizeof(uint32_t));
+        uint64_t entries = read_little(command + tables[k].count, sizeof(uint32_t));
+        gather(elements, start, entries * tables[k].entry, image->start + place);
+    }
+}
+
+#define GATHER_TABLES(image, place, tables, elements) \
+    gather_tables(image, place, tables, sizeof(tables) / sizeof((tables)[0]), elements)
+
+// What is encrypted is no element: it is in a section.
+static inline void gather_command(const struct image *image, uint64_t place, struct gathered *elements) {
+    const uint8_t *command = image->bytes + place;
+    switch (listed_command(FIELD(command, load_command, cmd)).kind) {
+    case SEGMENT:
+        gather_sections(image, place, elements);
+        break;
+    case SYMBOLS:
+        GATHER_TABLES(image, place, symtab_tables, elements);
+        break;
+    case GROUPS:
+        GATHER_TABLES(image, place, dysymtab_tables, elements);
+        break;
+    case LINKEDIT_DATA:
+        GATHER_TABLES(image, place, linkedit_data_tables, elements);
+        break;
+    case DYLD_INFO:
+        GATHER_TABLES(image, place, dyld_info_tables, elements);
+        break;
+    case DATA_NOTE:
+        gather(elements, FIELD(command, note_command, offset), FIELD(command, note_command, size),
+               image->start + place);
+        break;
+    default:
+        break;
+    }
+}
+
+static void gather_elements(const struct image *image, struct gathered *elements) {
+    gather(elements, 0, image->commands_end, image->start);
+    uint64_t place = sizeof(struct mach_header_64);
+    for (uint64_t k = 0; k < image->ncmds; k++) {
+        gather_command(image, place, elements);
+        place += FIELD(image->bytes + place, load_command, cmdsize);
+    }
+}
+
+static void judge_element_overlap(const struct image *image) {
+    struct gathered elements = {.spans = NULL};
+    begin_order(&elements.order);
+    gather_elements(image, &elements);
+    if (elements.order.shared != NOWHERE) {
+        note(image->breaks, ELEMENT_OVERLAP, elements.order.shared);
+    } else if (!is_in_order(&elements.order)) {
+        begin_gathered(&elements, elements.order.count);
+        gather_elements(image, &elements);
+        judge_spans(image->breaks, ELEMENT_OVERLAP, elements.spans, elements.order.count);
+    }
+}
+
+// The rules of the strict profile for an image that was surveyed, from header-segment on.
+static void judge_file_parts(const struct image *image) {
+    struct gathered parts = {.spans = NULL};
+    begin_order(&parts.order);
+    if (!gather_file_parts(image, &parts)) {
+        note_in(image, HEADER_SEGMENT, offsetof(struct mach_header_64, sizeofcmds));
+        return;
+    }
+    begin_gathered(&parts, parts.order.count);
+    gather_file_parts(image, &parts);
+    size_t count = parts.order.count;
+    struct span *sorted = sort(parts.spans, count);
+    uint64_t shared = least_shared(sorted, count);
+    if (shared != NOWHERE) {
+        note(image->breaks, SEGMENT_FILE_OVERLAP, shared);
+    } else {
+        judge_element_overlap(image);
+        if (image->breaks->broken == 0) {
+            judge_strays(image->breaks, STRAY_BYTE, image, sorted, count);
+        }
+    }
+    free(parts.spans);
+}
+
+static void judge_image_strictly(const struct image *image) {
+    if (image->walked_end != image->commands_end) {
+        note_in(image, COMMANDS_END, offsetof(struct mach_header_64, sizeofcmds));
+    } else {
+        judge_file_parts(image);
+    }
+}
+
+// The bytes of the header, the table and the slices share none.
+static void judge_fat_stray_byte(const struct file *file, const struct universal *universal, struct breaks *breaks) {
+    struct gathered parts;
+    struct image whole = {.bytes = file->bytes, .size = file->size, .start = 0};
+    begin_gathered(&parts, universal->nfat_arch + 1);
+    gather(&parts, 0, entry_place(universal, universal->nfat_arch), 0);
+    for (uint64_t k = 0; k < universal->nfat_arch; k++) {
+        struct entry entry = read_entry(universal, k);
+        gather(&parts, entry.offset, entry.size, entry_place(universal, k));
+    }
+    judge_strays(breaks, FAT_STRAY_BYTE, &whole, sort(parts.spans, parts.order.count), parts.order.count);
+    free(parts.spans);
+}
+
+// Of a universal file, up to the first slice that breaks one of the rules.
+static void judge_universal_strictly(const struct file *file, const struct universal *universal,
+                                     struct breaks *breaks) {
+    struct image image;
+    judge_fat_stray_byte(file, universal, breaks);
+    for (uint64_t k = 0; k < universal->nfat_arch && breaks->broken == 0; k++) {
+        struct entry entry = read_entry(universal, k);
+        if (is_read(universal, &entry)) {
+            begin_image(&image, file, entry.offset, entry.size, breaks);
+            survey(&image, &entry.arch);
+            judge_image_strictly(&image);
+        }
     }
 }
 
@@ -1381,7 +1594,7 @@ static const char *library_word(uint64_t cmd) {
 }
 
 static void print_break(const struct breaks *breaks) {
-    int first = __builtin_ctz(breaks->broken);
+    int first = __builtin_ctzll(breaks->broken);
     PUT("refused: ");
     put_word(rule_names[first]);
     PUT_LABELLED(" at ", breaks->places[first]);
@@ -1588,11 +1801,14 @@ static struct file read_input(void) {
 }
 
 // Judges a file that is an image, and prints its layout where it breaks no rule.
-static void check_image(const struct file *file, struct breaks *breaks) {
+static void check_image(const struct file *file, struct breaks *breaks, bool is_strict) {
     struct image image;
     begin_image(&image, file, 0, file->size, breaks);
     survey(&image, NULL);
     judge_surveyed(&image);
+    if (breaks->broken == 0 && is_strict) {
+        judge_image_strictly(&image);
+    }
     if (breaks->broken == 0) {
         print_accepted(1);
         print_image(0, &image);
@@ -1600,7 +1816,7 @@ static void check_image(const struct file *file, struct breaks *breaks) {
 }
 
 // The same of a universal file.
-static void check_universal(const struct file *file, struct breaks *breaks) {
+static void check_universal(const struct file *file, struct breaks *breaks, bool is_strict) {
     struct universal universal;
     if (breaks_fat_truncated(file, &universal)) {
         note(breaks, FAT_TRUNCATED, offsetof(struct fat_header, nfat_arch));
@@ -1611,20 +1827,24 @@ static void check_universal(const struct file *file, struct breaks *breaks) {
         return;
     }
     judge_slices(file, &universal, breaks);
+    if (breaks->broken == 0 && is_strict) {
+        judge_universal_strictly(file, &universal, breaks);
+    }
     if (breaks->broken == 0) {
         print_universal(file, &universal, breaks);
     }
 }
 
-int main(void) {
+int main(int argc, char **argv) {
+    bool is_strict = argc > 1 && strcmp(argv[1], "--strict") == 0;
     struct file file = read_input();
     struct breaks breaks = {.broken = 0};
     if (breaks_magic(&file)) {
         note(&breaks, MAGIC, 0);
     } else if (is_fat_magic(read_big(file.bytes, sizeof(uint32_t)))) {
-        check_universal(&file, &breaks);
+        check_universal(&file, &breaks, is_strict);
     } else {
-        check_image(&file, &breaks);
+        check_image(&file, &breaks, is_strict);
     }
     if (breaks.broken != 0) {
         print_break(&breaks);
