@@ -4,3 +4,4 @@ pub mod Scopes
 pub mod Accounted
 pub mod Unique
 pub mod ElementWalks
+pub mod Sharings

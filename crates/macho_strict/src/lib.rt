@@ -4,6 +4,7 @@
 
 pub mod elements;
 pub mod law;
+mod overlap;
 pub mod refusal;
 pub mod rule;
 
