@@ -7,7 +7,8 @@
     bench/images.py --vectors FILE FOLDER   makes FOLDER/1, FOLDER/2 and so on, the files of the vectors of FILE, and
                                             prints a line for each: its number, the verdict and the name, with tabs
     bench/images.py --reports FILE FOLDER   the same of reports, with the layout of each in FOLDER/N.layout
-    bench/images.py --random COUNT KIND     prints so many vectors with random ranges: of `segments` or of `slices`
+    bench/images.py --random COUNT KIND     prints so many vectors with random ranges: of `segments` or of `slices`; or,
+                                            for the strict profile, of `parts`, the bytes of segments, or of `elements`
 
 Vectors and words are explained in crates/macho_trials/data/README.md, reports in tests/reports.txt. bench/speed and the
 scripts of tests/ have their files from here.
@@ -72,6 +73,8 @@ LC_UNLISTED = 0x7FFFFFFF
 HEADER_SIZE, SEGMENT_SIZE, SECTION_SIZE = 32, 72, 80
 SYMTAB_SIZE, DYSYMTAB_SIZE, MAIN_SIZE, SYMBOL_SIZE = 24, 80, 24, 16
 FAT_HEADER_SIZE, FAT_ARCH_SIZE = 8, 20
+S_ZEROFILL = 1
+RELOCATION_SIZE = 8
 N_SECT = 0xE
 
 BASE = 0x1_0000_0000
@@ -92,8 +95,8 @@ def segment(name: bytes, vmaddr: int, vmsize: int, fileoff: int = 0, filesize: i
     return struct.pack("<2I16s4Q4I", LC_SEGMENT_64, SEGMENT_SIZE + len(sections), name, *fields) + sections
 
 
-def section(name: bytes, addr: int, size: int, offset: int) -> bytes:
-    return struct.pack("<16s16s2Q8I", name, b"__TEXT", addr, size, offset, *[0] * 7)
+def section(name: bytes, addr: int, size: int, offset: int, reloff: int = 0, nreloc: int = 0, flags: int = 0) -> bytes:
+    return struct.pack("<16s16s2Q8I", name, b"__TEXT", addr, size, offset, 0, reloff, nreloc, flags, 0, 0, 0)
 
 
 def symtab(symoff: int, nsyms: int, stroff: int, strsize: int) -> bytes:
@@ -560,9 +563,54 @@ def random_slices(rng: random.Random, count: int) -> str:
     return f"slices : {data.hex()} .71 : {verdict}"
 
 
+def random_parts(rng: random.Random, count: int) -> str:
+    """A vector: an executable of a segment with the headers, and segments with some of 71 bytes. Of these few are in no
+    segment and not zero."""
+    ranges = random_ranges(rng, count)
+    end = HEADER_SIZE + SEGMENT_SIZE * (count + 1)
+    commands = [segment(b"", 0, 0, 0, end)]
+    commands += [segment(b"", 0, 0, end + it.start, it.stop - it.start) for it in ranges]
+    covered = [any(place in it for it in ranges) for place in range(71)]
+    tail = bytes(rng.random() < (0.5 if is_covered else 0.02) for is_covered in covered)
+    overlap = first_alike(ranges, share)
+    strays = [place for place in range(71) if tail[place] and not covered[place]]
+    verdict = "accepted"
+    if overlap < count:
+        verdict = refused("segment-file-overlap", HEADER_SIZE + SEGMENT_SIZE * (overlap + 1))
+    elif strays:
+        verdict = refused("stray-byte", end + strays[0])
+    return f"parts : {(header(count + 1, end - HEADER_SIZE) + b''.join(commands) + tail).hex()} : {verdict}"
+
+
+def random_elements(rng: random.Random, count: int) -> str:
+    """A vector: an executable of one segment with the whole file, whose sections have some of 71 bytes, or would if they
+    were not zero-fill. Some have a relocation."""
+    end = HEADER_SIZE + SEGMENT_SIZE + SECTION_SIZE * count
+    sections = b""
+    # The elements of the sections, and of which section each is. No range is in the headers.
+    elements: list[tuple[range, int]] = []
+    for number, it in enumerate(random_ranges(rng, count)):
+        flags, nreloc, reloff = rng.choice((0, 0, 0, S_ZEROFILL)), rng.choice((0, 0, 1)), rng.randrange(64)
+        size = it.stop - it.start
+        sections += section(b"", 0, size, end + it.start, end + reloff, nreloc, flags)
+        elements += [(it if flags == 0 else range(0), number)]
+        elements += [(range(reloff, reloff + RELOCATION_SIZE * nreloc), number)]
+    alike = first_alike(elements, lambda one, other: share(one[0], other[0]))
+    verdict = "accepted"
+    if alike < len(elements):
+        verdict = refused("element-overlap", HEADER_SIZE + SEGMENT_SIZE + SECTION_SIZE * elements[alike][1])
+    data = header(1, SEGMENT_SIZE + len(sections)) + segment(b"", 0, 0, 0, end + 71, sections)
+    return f"elements : {data.hex()} .71 : {verdict}"
+
+
+RANDOM = {"segments": random_segments, "slices": random_slices, "parts": random_parts, "elements": random_elements}
+
+
 def print_random(count: int, kind: str) -> None:
     rng = random.Random(kind)
-    make = {"segments": random_segments, "slices": random_slices}[kind]
+    make = RANDOM[kind]
+    if kind in ("parts", "elements"):
+        print("strictly")
     for number in range(count):
         print(make(rng, number % 9))
 
