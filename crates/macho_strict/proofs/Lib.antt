@@ -5,3 +5,4 @@ pub mod Accounted
 pub mod Unique
 pub mod ElementWalks
 pub mod Sharings
+pub mod Passed

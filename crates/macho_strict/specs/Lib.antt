@@ -7,3 +7,4 @@ pub mod First
 pub mod Order
 pub mod Accounted
 pub mod Verdict
+pub mod Gaps

@@ -3,6 +3,7 @@
 //! is used twice.
 
 pub mod elements;
+mod gaps;
 pub mod law;
 mod overlap;
 pub mod refusal;

@@ -1,0 +1,217 @@
+-- One span more in a walk over spans that come by their starts.
+use Rattle.std.proofs.Common.{◌≡◌, ℕ, ◌≤◌, ◌<◌, ◌⊎◌, Bool, true, false, max, List, [], ◌∷◌, ◌++◌, length, Contains, Option, Some, None, sym, ap, ◌∙◌, subst, arith, inl, inr, length-append}
+use Rattle.std.specs.Prelude.{MatchOption, IsPermutation}
+use Rattle.std.specs.List.Sorted.{IsNonDecreasingBy}
+use Rattle.std.proofs.Math.ListN.{get_or-append}
+use Rattle.std.proofs.Math.Seq.{get_or-append_seam}
+use Rattle.std.proofs.lemmas.Bool.{true≢false, cases_lt, cases_eq, cases_Bool}
+use Rattle.std.proofs.lemmas.List.{get_or_default, get_or_past}
+use Rattle.std.proofs.lemmas.List.Sorted.{IsPermutation-sym, Contains-permutation}
+use Rattle.macho_fields.specs.Bytes.{bytes_of}
+use Rattle.macho_fields.specs.FirstPlace.{IsLeastPlace}
+use Rattle.macho_fields.specs.NonZero.{IsNonZero}
+use Rattle.macho_fields.specs.Overlap.{span_at, IsAscending}
+use Rattle.macho_fields.specs.Span.{end_of, Holds}
+use Rattle.macho_fields.specs.declared.span.Span.{Span}
+use Rattle.macho_strict.specs.Gaps.{IsStray, ComeByStart, Walked, ArePassed, IsLeastNext}
+use Rattle.macho_strict.specs.declared.gaps.Gaps.{Gaps}
+
+abbrev no_span : Span
+no_span = record { start = 0; len = 0 }
+
+-- a least place of one of two predicates, of which the second is decided where the first has none
+pub least_of_two : (First Next All : ℕ → Type 0) (old new : Option ℕ) → IsLeastPlace First old
+    → MatchOption old (IsLeastPlace Next new) (λ place. new ≡ Some place)
+    → ((p : ℕ) → First p → All p) → ((p : ℕ) → Next p → All p) → ((p : ℕ) → All p → First p ⊎ Next p)
+    → ((p q : ℕ) → First p → Next q → p ≤ q) → IsLeastPlace All new
+least_of_two First Next All None None first next one other which before =
+    λ p all. elim (which p all) [ inl here ↦ first p here | inr there ↦ next p there ]
+least_of_two First Next All None (Some place) first next one other which before =
+    (other place next.0, λ p all. elim (which p all) [ inl here ↦ absurd (first p here) | inr there ↦ next.1 p there ])
+least_of_two First Next All (Some place) new first next one other which before =
+    subst (IsLeastPlace All) (sym next) (one place first.0, λ p all. elim (which p all) [ inl here ↦ first.1 p here | inr there ↦ before place p first.0 there ])
+
+pub least_same : (P Q : ℕ → Type 0) → ((p : ℕ) → P p → Q p) → ((p : ℕ) → Q p → P p) → (found : Option ℕ) → IsLeastPlace P found → IsLeastPlace Q found
+least_same P Q to from None none = λ p q. none p (from p q)
+least_same P Q to from (Some place) (here, least) = (to place here, λ p q. least p (from p q))
+
+module _ (bytes : List ℕ) (spans : List Span) (start end : ℕ) (stray : Option ℕ) (walked : Walked bytes spans start end stray) where
+  begins_before_end : start ≤ end
+  begins_before_end = elim walked.last [
+    | inl none ↦ omega (arith, none)
+    | inr (j, filled, same) ↦ let low = walked.ends j filled in omega (arith, low, same)
+  ]
+
+  past_all : (p : ℕ) → end ≤ p → (i : ℕ) → ¬ Holds (span_at spans i) p
+  past_all p past i held = let low = walked.ends i (omega (arith, held.0, held.1)) in absurd (omega (arith, low, held.1))
+
+  -- a stray place was passed, or comes after all spans
+  before_or_past : (p : ℕ) → IsStray bytes spans p → ((p < start) × IsStray bytes spans p) ⊎ (end ≤ p)
+  before_or_past p is = elim (cases_lt p start) [
+    | inl before ↦ inl (before, is)
+    | inr from ↦
+        elim (cases_lt p end) [
+          | inl within ↦ let (i, held) = walked.covered p from within in absurd (is.1 i held)
+          | inr past ↦ inr past
+        ]
+  ]
+
+module _ (spans : List Span) (x : Span) where
+  abbrev more : List Span
+  more = spans ++ x ∷ []
+
+  at_old : (k : ℕ) → k < length spans → span_at more k ≡ span_at spans k
+  at_old k less = get_or-append spans (x ∷ []) _ k less
+
+  at_last : span_at more (length spans) ≡ x
+  at_last = get_or-append_seam spans x [] _
+
+  -- what holds of no place, of the old spans and of the last one holds of all
+  each_more : (P : Span → Type 0) → P no_span → ((i : ℕ) → P (span_at spans i)) → P x → (i : ℕ) → P (span_at more i)
+  each_more P none old last i = elim (cases_lt i (length spans)) [
+    | inl less ↦ subst P (sym (at_old i less)) (old i)
+    | inr most ↦
+        elim (cases_eq i (length spans)) [
+          | inl same ↦ subst P (sym (ap (span_at more) same ∙ at_last)) last
+          | inr other ↦ subst P (sym (get_or_past more i no_span (omega (arith, length-append spans (x ∷ []))))) none
+        ]
+  ]
+
+  each_old : (P : Span → Type 0) → P no_span → ((i : ℕ) → P (span_at more i)) → (i : ℕ) → P (span_at spans i)
+  each_old P none all i = elim (cases_lt i (length spans)) [
+    | inl less ↦ subst P (at_old i less) (all i)
+    | inr past ↦ subst P (sym (get_or_past spans i no_span past)) none
+  ]
+
+  the_last : (P : Span → Type 0) → ((i : ℕ) → P (span_at more i)) → P x
+  the_last P all = subst P at_last (all (length spans))
+
+  -- a span that is not empty is among the old ones
+  filled_old : (i : ℕ) → 0 < (span_at spans i).len → (i < length spans) × (span_at more i ≡ span_at spans i)
+  filled_old i filled = elim (cases_lt i (length spans)) [
+    | inl less ↦ (less, at_old i less)
+    | inr past ↦ absurd (omega (arith, ap (λ s. s.len) (get_or_past spans i no_span past), filled))
+  ]
+
+  by_start_old : ComeByStart more → ComeByStart spans
+  by_start_old all i j less filled_i filled_j =
+      let (under_i, same_i) = filled_old i filled_i in
+      let (under_j, same_j) = filled_old j filled_j in
+      let here = all i j less (omega (arith, ap (λ s. s.len) same_i, filled_i)) (omega (arith, ap (λ s. s.len) same_j, filled_j)) in
+      omega (arith, here, ap (λ s. s.start) same_i, ap (λ s. s.start) same_j)
+
+  pub still_unsorted : ¬ ComeByStart spans → ¬ ComeByStart more
+  still_unsorted not all = not (by_start_old all)
+
+  pub now_unsorted : (bytes : List ℕ) (start end : ℕ) (stray : Option ℕ) → Walked bytes spans start end stray → 0 < x.len → x.start < start → ¬ ComeByStart more
+  now_unsorted bytes start end stray walked filled before all = elim walked.last [
+    | inl none ↦ absurd (omega (arith, none))
+    | inr (j, filled_j, same) ↦
+        let (under, at) = filled_old j filled_j in
+        let here = all j (length spans) under (omega (arith, ap (λ s. s.len) at, filled_j)) (omega (arith, ap (λ s. s.len) at_last, filled)) in
+        absurd (omega (arith, here, ap (λ s. s.start) at, ap (λ s. s.start) at_last, same))
+  ]
+
+  module _ (bytes : List ℕ) where
+    stray_old : (p : ℕ) → IsStray bytes more p → IsStray bytes spans p
+    stray_old p (is, free) = (is, each_old (λ s. ¬ Holds s p) (λ held. absurd (omega (arith, held.1))) free)
+
+    stray_more : (p : ℕ) → IsStray bytes spans p → ¬ Holds x p → IsStray bytes more p
+    stray_more p (is, free) past = (is, each_more (λ s. ¬ Holds s p) (λ held. absurd (omega (arith, held.1))) free past)
+
+    -- an empty span
+    pub walked_empty : (start end : ℕ) (stray : Option ℕ) → x.len ≡ 0 → Walked bytes spans start end stray → Walked bytes more start end stray
+    walked_empty start end stray empty walked = record {
+      last = elim walked.last [
+        | inl none ↦ inl none
+        | inr (j, filled, same) ↦ let at = (filled_old j filled).1 in inr (j, omega (arith, ap (λ s. s.len) at, filled), ap (λ s. s.start) at ∙ same)
+      ];
+      starts = each_more (λ s. 0 < s.len → s.start ≤ start) (λ none. absurd (omega (arith, none))) walked.starts (λ none. absurd (omega (arith, none, empty)));
+      ends = each_more (λ s. 0 < s.len → end_of s ≤ end) (λ none. absurd (omega (arith, none))) walked.ends (λ none. absurd (omega (arith, none, empty)));
+      covered = λ p low high. let (i, held) = walked.covered p low high in (i, subst (λ s. Holds s p) (sym (filled_old i (omega (arith, held.0, held.1))).1) held);
+      least = least_same (λ p. (p < start) × IsStray bytes spans p) (λ p. (p < start) × IsStray bytes more p)
+          (λ p (low, is). (low, stray_more p is (λ held. absurd (omega (arith, held.0, held.1, empty)))))
+          (λ p (low, is). (low, stray_old p is)) stray walked.least;
+    }
+
+    -- one that begins with the last one or after it
+    pub walked_more : (start end : ℕ) (old new : Option ℕ) → 0 < x.len → start ≤ x.start → Walked bytes spans start end old → IsLeastNext bytes end x.start old new
+        → Walked bytes more x.start (max end (end_of x)) new
+    walked_more start end old new filled after walked next = record {
+      last = inr (length spans, omega (arith, ap (λ s. s.len) at_last, filled), ap (λ s. s.start) at_last);
+      starts = each_more (λ s. 0 < s.len → s.start ≤ x.start) (λ none. absurd (omega (arith, none))) (λ i one. let low = walked.starts i one in omega (arith, low)) (λ _. omega arith);
+      ends = each_more (λ s. 0 < s.len → end_of s ≤ max end (end_of x)) (λ none. absurd (omega (arith, none))) (λ i one. let low = walked.ends i one in omega (arith, low)) (λ _. omega arith);
+      covered = covers;
+      least = least_of_two (λ p. (p < start) × IsStray bytes spans p) (λ p. (end ≤ p) × (p < x.start) × IsNonZero bytes p) (λ p. (p < x.start) × IsStray bytes more p) old new walked.least next
+          (λ p (low, is). (omega arith, stray_more p is (λ held. absurd (omega (arith, held.0)))))
+          (λ p (past, low, is). (low, stray_more p (is, past_all bytes spans start end old walked p past) (λ held. absurd (omega (arith, held.0)))))
+          (λ p (low, is). elim (before_or_past bytes spans start end old walked p (stray_old p is)) [ inl before ↦ inl before | inr past ↦ inr (past, low, is.0) ])
+          (λ p q (low, is) (past, high, other). let order = begins_before_end bytes spans start end old walked in omega (arith, order, low, past));
+    }
+      where
+        covers : (p : ℕ) → x.start ≤ p → p < max end (end_of x) → (i : ℕ) × Holds (span_at more i) p
+        covers p low high = elim (cases_lt p (end_of x)) [
+          | inl here ↦ (length spans, subst (λ s. Holds s p) (sym at_last) (low, here))
+          | inr past ↦
+              let (i, held) = walked.covered p (omega arith) (omega arith) in
+              (i, subst (λ s. Holds s p) (sym (filled_old i (omega (arith, held.0, held.1))).1) held)
+        ]
+
+-- One span more was passed
+
+module _ (bytes : List ℕ) (spans : List Span) (x : Span) (old : Gaps) (are : ArePassed bytes spans old) where
+  pub passed_empty : x.len ≡ 0 → ArePassed bytes (spans ++ x ∷ []) old
+  passed_empty empty = record {
+    of = are.of;
+    unsorted = λ e. still_unsorted spans x (are.unsorted e);
+    walked = λ e. walked_empty spans x bytes old.start old.end old.stray empty (are.walked e);
+  }
+
+  pub passed_on : (by_start : Bool) (end : ℕ) (stray : Option ℕ) → by_start ≡ true → old.by_start ≡ true → 0 < x.len → old.start ≤ x.start
+      → IsLeastNext (bytes_of old.bytes) old.end x.start old.stray stray → end ≡ max old.end (end_of x)
+      → ArePassed bytes (spans ++ x ∷ []) (record { bytes = old.bytes; by_start = by_start; start = x.start; end = end; stray = stray })
+  passed_on by_start end stray set was filled after next ends = record {
+    of = are.of;
+    unsorted = λ e. absurd (true≢false (sym set ∙ e));
+    walked = λ _.
+        subst (λ e. Walked bytes (spans ++ x ∷ []) x.start e stray) (sym ends)
+        (walked_more spans x bytes old.start old.end old.stray stray filled after (are.walked was) (subst (λ (bs : List ℕ). IsLeastNext bs old.end x.start old.stray stray) are.of next));
+  }
+
+  pub passed_back : (by_start : Bool) → by_start ≡ false → ¬ ComeByStart (spans ++ x ∷ [])
+      → ArePassed bytes (spans ++ x ∷ []) (record { bytes = old.bytes; by_start = by_start; start = old.start; end = old.end; stray = old.stray })
+  passed_back by_start unset unsorted = record { of = are.of; unsorted = λ _. unsorted; walked = λ e. absurd (true≢false (sym e ∙ unset)) }
+
+-- All were passed
+
+pub by_start_where_sorted : (bytes : List ℕ) (spans : List Span) (gaps : Gaps) → ArePassed bytes spans gaps → ComeByStart spans → gaps.by_start ≡ true
+by_start_where_sorted bytes spans gaps are sorted = elim (cases_Bool gaps.by_start) [
+  | inl set ↦ set
+  | inr unset ↦ absurd (are.unsorted unset sorted)
+]
+
+among : (spans : List Span) (i : ℕ) → 0 < (span_at spans i).len → i < length spans
+among spans i filled = elim (cases_lt i (length spans)) [
+  | inl less ↦ less
+  | inr past ↦ absurd (omega (arith, ap (λ s. s.len) (get_or_past spans i no_span past), filled))
+]
+
+pub sorted_by_start : (spans : List Span) → IsNonDecreasingBy (λ s. s.start) spans → ComeByStart spans
+sorted_by_start spans sorted i j less filled_i filled_j = sorted i j no_span (omega arith) (among spans j filled_j)
+
+pub ascending_by_start : (spans : List Span) → IsAscending spans → ComeByStart spans
+ascending_by_start spans up i j less filled_i filled_j = let here = up i j less filled_i filled_j in omega (arith, here)
+
+-- a place in none of some spans is in none of those among them
+free_among : (spans others : List Span) (p : ℕ) → ((x : Span) → Contains others x → Contains spans x) → ((i : ℕ) → ¬ Holds (span_at spans i) p) → (i : ℕ) → ¬ Holds (span_at others i) p
+free_among spans others p has free i held =
+    let less = among others i (omega (arith, held.0, held.1)) in
+    let there = has (span_at others i) (i, less, get_or_default others i _ no_span less) in
+    free there.0 (subst (λ s. Holds s p) (sym (get_or_default spans there.0 no_span _ there.1 ∙ there.2)) held)
+
+-- the order of the spans does not matter
+pub least_sorted : (bytes : List ℕ) (spans sorted : List Span) → IsPermutation spans sorted → (found : Option ℕ) → IsLeastPlace (IsStray bytes sorted) found → IsLeastPlace (IsStray bytes spans) found
+least_sorted bytes spans sorted moved found least =
+    least_same (IsStray bytes sorted) (IsStray bytes spans)
+    (λ p is. (is.0, free_among sorted spans p (λ x. Contains-permutation spans sorted x moved) is.1))
+    (λ p is. (is.0, free_among spans sorted p (λ x. Contains-permutation sorted spans x (IsPermutation-sym spans sorted moved)) is.1)) found least
