@@ -583,8 +583,8 @@ def random_parts(rng: random.Random, count: int) -> str:
 
 
 def random_elements(rng: random.Random, count: int) -> str:
-    """A vector: an executable of one segment with the whole file, whose sections have some of 71 bytes. Some sections are
-    zero-fill and have none, and some have a relocation."""
+    """A vector: an executable of one segment with the whole file, whose sections have some of 71 bytes. Some of these
+    are zero-fill and have none, and some have a relocation."""
     end = HEADER_SIZE + SEGMENT_SIZE + SECTION_SIZE * count
     sections = b""
     # The elements of the sections, and of which section each is. No range is in the headers.
