@@ -6,16 +6,20 @@ use Rattle.std.proofs.lemmas.Option.{same_Some}
 use Rattle.clap.specs.Words.{IsAmong, Kinds, Row, Text, fault_of, is_simple, is_simple_and_free, subcommand_of}
 use Rattle.clap.specs.declared.error.kind.ErrorKind.{ErrorKind}
 use Rattle.clap.specs.declared.error.kind.ErrorKind.TheVariants.{OutOfMemory}
+use Rattle.macho_program.specs.declared.tools.ProgramName.{ProgramName}
+use Rattle.macho_program.specs.declared.tools.ProgramName.TheVariants.{MachoCheck, MachoStrict}
 use Rattle.macho_program.specs.declared.words.Request.{Request}
 use Rattle.macho_program.specs.declared.words.WordFault.{WordFault}
 use Rattle.macho_program.specs.declared.words.WordFault.TheVariants.{Usage, Memory}
-use Rattle.macho_program.specs.Words.{Answers, asked, asked_in, asked_unless, verdict, program_command, word_fault_of}
+use Rattle.macho_program.specs.Words.{Answers, asked_in, asked_of, asked_unless, verdict, program_command, word_fault_of}
 
-pub command_is_simple : is_simple program_command ≡ true
-command_is_simple = refl
+pub command_is_simple : (program : ProgramName) → is_simple (program_command program) ≡ true
+command_is_simple MachoCheck = refl
+command_is_simple MachoStrict = refl
 
-pub command_is_free : is_simple_and_free program_command ≡ true
-command_is_free = refl
+pub command_is_free : (program : ProgramName) → is_simple_and_free (program_command program) ≡ true
+command_is_free MachoCheck = refl
+command_is_free MachoStrict = refl
 
 pub some_words : {X : Type 0} (text : X → Text) (words : List X) (empty : Bool) → empty ≡ (length words == 0) → empty ≡ false → 0 < length (map text words)
 some_words text [] empty is not = let bad : true ≡ false = sym is ∙ not in cc
@@ -26,12 +30,12 @@ no_words : {X : Type 0} (text : X → Text) (words : List X) (empty : Bool) → 
 no_words text [] empty is holds = refl
 no_words text (word ∷ words) empty is holds = grind (arith, is, holds)
 
-asked_of_none : (words : List Text) (name : Text) → words ≡ [] → name ≡ codes "-" → asked words ≡ Ok (verdict name)
-asked_of_none words name none is = rw (none, is) refl
+asked_of_none : (program : ProgramName) (words : List Text) (name : Text) → words ≡ [] → name ≡ codes "-" → asked_of program words ≡ Ok (verdict name)
+asked_of_none program words name none is = rw (none, is) refl
 
-pub asked_where_empty : {X : Type 0} (text : X → Text) (words : List X) (empty : Bool) (name : Text) → empty ≡ (length words == 0) → empty ≡ true → name ≡ codes "-"
-    → asked (map text words) ≡ Ok (verdict name)
-asked_where_empty text words empty name is holds name_is = asked_of_none (map text words) name (no_words text words empty is holds) name_is
+pub asked_where_empty : {X : Type 0} (program : ProgramName) (text : X → Text) (words : List X) (empty : Bool) (name : Text) → empty ≡ (length words == 0) → empty ≡ true → name ≡ codes "-"
+    → asked_of program (map text words) ≡ Ok (verdict name)
+asked_where_empty program text words empty name is holds name_is = asked_of_none program (map text words) name (no_words text words empty is holds) name_is
 
 -- a subcommand, by its name and by its rows
 pub subcommand_met : {X : Type 0} (o : Option X) (f : X → Text × List Row) (name : Text) (rows : List Row)
@@ -40,18 +44,33 @@ subcommand_met None f name rows name_is rows_are = cc
 subcommand_met (Some x) f name rows name_is rows_are =
     ap Some (rw (same_Some _ _ name_is, same_Some _ _ rows_are) refl)
 
-asked_of_some : (words : List Text) → 0 < length words → asked_unless (fault_of program_command words) (subcommand_of program_command words) ≡ asked words
-asked_of_some [] some = absurd (omega arith)
-asked_of_some (word ∷ words) some = refl
+pub no_subcommand : {X : Type 0} (given : Option X) (f : X → List Row) (o : Option (Text × List Row)) → given ≡ None → option_map f given ≡ option_map (λ p. p.1) o → o ≡ None
+no_subcommand None f None is rows = refl
+no_subcommand None f (Some x) is rows = absurd (cc)
+no_subcommand (Some y) f o is rows = absurd (cc)
+
+asked_of_some : (program : ProgramName) (words : List Text) → 0 < length words
+    → asked_unless (fault_of (program_command program) words) (subcommand_of (program_command program) words) ≡ asked_of program words
+asked_of_some program [] some = absurd (omega arith)
+asked_of_some program (word ∷ words) some = refl
 
 -- the answer of a subcommand that `clap` takes
 taken : (faults : Kinds) (sub : Option (Text × List Row)) (name : Text) (rows : List Row) (r : Result Request WordFault)
     → faults ≡ [] → sub ≡ Some (name, rows) → Answers r (asked_in name rows) → Answers r (asked_unless faults sub)
 taken faults sub name rows r none met answers = rw (none, met) answers
 
-pub asked_and_taken : (words : List Text) (name : Text) (rows : List Row) (r : Result Request WordFault) → 0 < length words
-    → fault_of program_command words ≡ [] → subcommand_of program_command words ≡ Some (name, rows) → Answers r (asked_in name rows) → Answers r (asked words)
-asked_and_taken words name rows r some none met answers = subst (Answers r) (asked_of_some words some) (taken _ _ name rows r none met answers)
+pub asked_and_taken : (program : ProgramName) (words : List Text) (name : Text) (rows : List Row) (r : Result Request WordFault) → 0 < length words
+    → fault_of (program_command program) words ≡ [] → subcommand_of (program_command program) words ≡ Some (name, rows) → Answers r (asked_in name rows)
+    → Answers r (asked_of program words)
+asked_and_taken program words name rows r some none met answers = subst (Answers r) (asked_of_some program words some) (taken _ _ name rows r none met answers)
+
+-- `clap` takes the words, and no subcommand is among them
+without_subcommand : (faults : Kinds) (sub : Option (Text × List Row)) → faults ≡ [] → sub ≡ None → asked_unless faults sub ≡ Err Usage
+without_subcommand faults sub none is = rw (none, is) refl
+
+pub asked_without_subcommand : (program : ProgramName) (words : List Text) → 0 < length words → fault_of (program_command program) words ≡ [] → subcommand_of (program_command program) words ≡ None
+    → asked_of program words ≡ Err Usage
+asked_without_subcommand program words some none is = sym (asked_of_some program words some) ∙ without_subcommand _ _ none is
 
 with_cmd : (kind : ErrorKind) → (word_fault_of kind ≡ Usage) ⊎ (word_fault_of kind ≡ Memory)
 with_cmd OutOfMemory = inr refl
@@ -68,6 +87,6 @@ refused (k ∷ ks) sub kind (Err fault) (inr among) is = elim (with_cmd kind) [
   | inr memory ↦ let out : fault ≡ Memory = is ∙ memory in rw out tt
 ]
 
-pub asked_and_refused : (words : List Text) (kind : ErrorKind) (r : Result Request WordFault) → 0 < length words
-    → (kind ≡ OutOfMemory) ⊎ IsAmong kind (fault_of program_command words) → IsErrAnd r (λ fault. fault ≡ word_fault_of kind) → Answers r (asked words)
-asked_and_refused words kind r some why is = subst (Answers r) (asked_of_some words some) (refused _ _ kind r why is)
+pub asked_and_refused : (program : ProgramName) (words : List Text) (kind : ErrorKind) (r : Result Request WordFault) → 0 < length words
+    → (kind ≡ OutOfMemory) ⊎ IsAmong kind (fault_of (program_command program) words) → IsErrAnd r (λ fault. fault ≡ word_fault_of kind) → Answers r (asked_of program words)
+asked_and_refused program words kind r some why is = subst (Answers r) (asked_of_some program words some) (refused _ _ kind r why is)

@@ -12,7 +12,9 @@ use Rattle.macho_report.specs.declared.outcome.RunFault.TheVariants as run
 use Rattle.macho_report.specs.declared.stream.Input as input
 use Rattle.macho_report.specs.declared.stream.Output as output
 use Rattle.macho_report.specs.declared.stream.Flush as flush
-use Rattle.macho_program.specs.Words.{Asked, verdict, place, asked, asked_by, file_of}
+use Rattle.macho_program.specs.Words.{Asked, verdict, place, asked_by, asked_of, file_of}
+use Rattle.macho_program.specs.declared.tools.ProgramName.{ProgramName}
+use Rattle.macho_program.specs.declared.tools.ProgramName.TheVariants.{MachoCheck}
 use Rattle.macho_program.specs.declared.words.Request.{Request}
 use Rattle.macho_program.specs.declared.words.WordFault.{WordFault}
 use Rattle.macho_program.specs.declared.words.WordFault.TheVariants as words
@@ -50,10 +52,15 @@ abbrev pub with_program_fault : Result Asked WordFault → Result Asked ProgramF
 with_program_fault (Ok request) = Ok request
 with_program_fault (Err fault) = Err (program.Words fault)
 
--- what the words ask for, of which the first is the program's name. Where the system does not hand them over, that is a failed read
+-- what the words ask of the program of this name. The first of them is how it was called. Where the system does not hand
+-- them over, that is a failed read
+abbrev pub request_to : {S : Type 0} → ProgramName → (S → List ℕ) → Option (Bor (List S)) → Result Asked ProgramFault
+request_to name text None = Err (program.Run run.Read)
+request_to name text (Some words) = with_program_fault (asked_of name (map text (drop 1 words.now)))
+
+-- the same of `macho-check`
 abbrev pub request_of : {S : Type 0} → (S → List ℕ) → Option (Bor (List S)) → Result Asked ProgramFault
-request_of text None = Err (program.Run run.Read)
-request_of text (Some words) = with_program_fault (asked (map text (drop 1 words.now)))
+request_of text words = request_to MachoCheck text words
 
 -- the answer is what is asked, or memory ran out
 abbrev pub AnswersWords : Result Request ProgramFault → Result Asked ProgramFault → Type 0

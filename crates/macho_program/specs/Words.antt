@@ -7,6 +7,8 @@ use Rattle.clap.specs.Simple.{on_top}
 use Rattle.clap.specs.declared.error.kind.ErrorKind.{ErrorKind}
 use Rattle.clap.specs.declared.error.kind.ErrorKind.TheVariants.{OutOfMemory}
 use Rattle.macho_program.specs.Number.{number_of}
+use Rattle.macho_program.specs.declared.tools.ProgramName.{ProgramName}
+use Rattle.macho_program.specs.declared.tools.ProgramName.TheVariants.{MachoCheck, MachoStrict}
 use Rattle.macho_program.specs.declared.words.Request.{Request}
 use Rattle.macho_program.specs.declared.words.Request.TheVariants.{Check, Where}
 use Rattle.macho_program.specs.declared.words.WordFault.{WordFault}
@@ -26,16 +28,22 @@ where_command = with_rule (with_rule (with_rule (new_app (codes "where")) (requi
     (required (codes "SLICE"))) (required (codes "ADDRESS"))
 
 -- no program's name comes first, a subcommand has to be there, and there is no help
-abbrev pub bare_command : App
-bare_command = on_top (λ s. record s {
+abbrev pub bare_command : Text → App
+bare_command name = on_top (λ s. record s {
   no_binary_name = true;
   subcommand_required = true;
   disable_help_flag = true;
   disable_help_subcommand = true;
-}) (new_app (codes "macho-check"))
+}) (new_app name)
 
-abbrev pub program_command : App
-program_command = with_subcommand (with_subcommand bare_command check_command.top) where_command.top
+-- a program of this name, with `check FILE`
+abbrev pub checking_command : Text → App
+checking_command name = with_subcommand (bare_command name) check_command.top
+
+abbrev pub program_command : ProgramName → App
+program_command MachoCheck =
+    with_subcommand (checking_command (codes "macho-check")) where_command.top
+program_command MachoStrict = checking_command (codes "macho-strict")
 
 -- what is asked for: a file's verdict, or what is at an address of a slice of it
 pub data Asked : Type 0 where
@@ -88,11 +96,16 @@ abbrev pub asked_unless : Kinds → Option (Text × List Row) → Result Asked W
 asked_unless [] subcommand = asked_under subcommand
 asked_unless (fault ∷ faults) subcommand = Err Usage
 
--- what the words ask for, or why they ask for nothing
+-- what the words ask of the program of this name, or why they ask for nothing
+abbrev pub asked_of : ProgramName → List Text → Result Asked WordFault
+asked_of program [] = Ok (verdict (codes "-"))
+asked_of program (word ∷ words) =
+    asked_unless (fault_of (program_command program) (word ∷ words))
+    (subcommand_of (program_command program) (word ∷ words))
+
+-- the same of `macho-check`
 abbrev pub asked : List Text → Result Asked WordFault
-asked [] = Ok (verdict (codes "-"))
-asked (word ∷ words) = asked_unless (fault_of program_command (word ∷ words))
-    (subcommand_of program_command (word ∷ words))
+asked words = asked_of MachoCheck words
 
 -- the answer is what is asked, or memory ran out
 abbrev pub Answers : Result Request WordFault → Result Asked WordFault → Type 0

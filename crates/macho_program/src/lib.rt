@@ -1,15 +1,19 @@
 #![tactic(auto)]
-//! The program `macho-check` over any words, files and streams: what the words ask for, what is found
-//! and written, and the status of the end. The crate `macho_check` hands it those of the process.
+//! The programs over any words, files and streams: what the words ask for, what is found and written,
+//! and the status of the end. The crate of each program hands it those of the process.
 
 mod files;
 mod number;
 mod program;
 mod status;
+mod tools;
 mod words;
 
 pub use files::{Open, SystemFiles};
 pub use number::read_number;
-pub use program::{Found, ProgramFault, run_program, without_memory};
+pub use program::{
+    Found, ProgramFault, run_program, run_tool, tool_without_memory, without_memory,
+};
 pub use status::{check_status, exit_code, where_status};
-pub use words::{Request, WordFault, parse_words};
+pub use tools::{ProgramName, Tool};
+pub use words::{Request, WordFault, parse_words, parse_words_of};

@@ -4,10 +4,12 @@ ghost use Rattle.std.specs.Prelude.{◌≡◌, map, option_map, IfOk, false};
 ghost use Rattle.clap.specs.Words.{app_of, first_of, found_of, kind_of, rows_of, rule_of};
 ghost use Rattle.clap.specs.declared.builder.command.Command.TheViews.{out-Command as fields_of};
 ghost use Rattle.macho_program.specs.Text.{word_fault_line};
-ghost use Rattle.macho_program.specs.Words.{Answers, asked, asked_by, asked_in, bare_command, check_asked, check_command, file_of, program_command, required, where_asked, where_command, word_fault_of};
+ghost use Rattle.macho_program.specs.Words.{Answers, asked, asked_by, asked_in, asked_of, bare_command, check_asked, check_command, checking_command, file_of, program_command, required, where_asked, where_command, word_fault_of};
+ghost use Rattle.macho_program.specs.declared.tools.ProgramName.TheVariants.{MachoCheck};
 ghost use Rattle.macho_program.specs.declared.words.WordFault.TheVariants.{Memory};
 
 use crate::number::read_number;
+use crate::tools::ProgramName;
 use clap::error::ErrorKind;
 use clap::{Arg, ArgMatches, Command};
 use macho_report::RunFault;
@@ -95,36 +97,64 @@ impl Request {
     }
 }
 
-/// Reads the words after the program's name. No words ask for a check of standard input. `BadNumber`
+/// Reads the words after the name of `macho-check`. No words ask for a check of standard input. `BadNumber`
 /// is answered only where the words are otherwise those of the program.
 pub fn parse_words<'a, S: AsStr>(alloc: Global, words: &'a [S]) -> Result<Request, WordFault>
     ensures { Answers result (asked (map S.text words.now)) }
+{
+    parse_words_of(alloc, ProgramName::MachoCheck, words)
+}
+
+/// The same of the words after the name of any of the programs.
+pub fn parse_words_of<'a, S: AsStr>(
+    alloc: Global,
+    program: ProgramName,
+    words: &'a [S],
+) -> Result<Request, WordFault>
+    ensures { Answers result (asked_of program (map S.text words.now)) }
 {
     if words.is_empty() {
         let file = String::from_str(alloc, STANDARD_INPUT)?;
         return Ok(Request::Check { file });
     }
-    let matches = command(alloc)?.try_get_matches_from(words)?;
+    let matches = program_command(alloc, program)?.try_get_matches_from(words)?;
     let Some((name, arguments)) = matches.subcommand() else {
         return Err(WordFault::Usage);
     };
     request_in(alloc, name, arguments)
 }
 
+// The command of a program, with its subcommands.
+fn program_command<'a>(alloc: Global, program: ProgramName) -> Result<Command<'a>, AllocError>
+    ensures { IfOk result (λ command. app_of command ≡ program_command program) }
+{
+    match program {
+        ProgramName::MachoCheck => searching_command(alloc),
+        ProgramName::MachoStrict => checking_command(alloc, "macho-strict"),
+    }
+}
+
 // `check FILE` and `where FILE SLICE ADDRESS`.
-fn command<'a>(alloc: Global) -> Result<Command<'a>, AllocError>
-    ensures { IfOk result (λ command. app_of command ≡ program_command) }
+fn searching_command<'a>(alloc: Global) -> Result<Command<'a>, AllocError>
+    ensures { IfOk result (λ command. app_of command ≡ program_command MachoCheck) }
+{
+    let place = where_command(alloc)?;
+    checking_command(alloc, "macho-check")?.subcommand(place)
+}
+
+// `check FILE`, of a program of this name.
+fn checking_command<'a>(alloc: Global, name: &'a str) -> Result<Command<'a>, AllocError>
+    ensures { IfOk result (λ command. app_of command ≡ checking_command name.entry.now) }
 {
     let check = check_command(alloc)?;
-    let place = where_command(alloc)?;
-    bare_command(alloc).subcommand(check)?.subcommand(place)
+    bare_command(alloc, name).subcommand(check)
 }
 
 // The command without its subcommands. Of clap's own it takes none.
-fn bare_command<'a>(alloc: Global) -> Command<'a>
-    ensures { app_of result ≡ bare_command }
+fn bare_command<'a>(alloc: Global, name: &'a str) -> Command<'a>
+    ensures { app_of result ≡ bare_command name.entry.now }
 {
-    Command::new(alloc, "macho-check")
+    Command::new(alloc, name)
         .no_binary_name(true)
         .subcommand_required(true)
         .disable_help_flag(true)
