@@ -1,12 +1,5 @@
 -- A rule of an opened image that a search decides, where the rules before it are unbroken.
-use Rattle.std.proofs.Common.{◌≡◌, ℕ, ◌+◌, ◌≤◌, ◌<◌, List, [], ◌∷◌, length, get_or, Contains, Option, None, Some, MatchOption, Result, Bool, Bor, true, false, refl, subst, sym, ap, ◌∙◌, arith, inl, inr, le_refl}
-use Rattle.std.specs.List.{AllWithin, HoldsAt}
-use Rattle.std.specs.Option.{option_map}
-use Rattle.std.specs.Iterator.{FindsItem, YieldsFirst}
-use Rattle.std.specs.Fn.{Mut, CalledAt}
-use Rattle.std.proofs.lemmas.Bool.{cases_order}
-use Rattle.std.proofs.lemmas.Iterator.{first_from_find}
-use Rattle.std.proofs.lemmas.Iterator.Consumers.{YieldsList-from_first}
+use Rattle.std.proofs.Common.{◌≡◌, ℕ, ◌+◌, ◌≤◌, List, [], ◌∷◌, Option, None, Some, Result, subst, sym, arith, inl, inr}
 use Rattle.macho_fields.specs.Image.{commands_of, AreCommands}
 use Rattle.macho_fields.specs.Rules.{BreaksCommands, BreaksImage}
 use Rattle.macho_fields.specs.First.{rank}
@@ -22,7 +15,7 @@ use Rattle.macho_image.specs.Opened.{IsOpened}
 use Rattle.macho_rules.specs.Check.{KeptBefore, JudgesUpTo, AnswersAt}
 use Rattle.macho_fields.specs.FirstPlace.{IsFirstOf, IsLeastPlace}
 use Rattle.macho_fields.proofs.FirstPlaces.{AreBreaks, first_breaks, first_judged}
-use Rattle.macho_rules.proofs.Searches.{Searching, search_found, search_ended, Rising, ordered_at}
+use Rattle.macho_rules.proofs.Searches.{Searching, search_found, search_ended}
 
 -- an opened image keeps the rules before those of segments, and only such an image does
 pub opened_keeps : (image : List ℕ) → IsOpened image → KeptBefore image rule.SegmentAddress
@@ -87,33 +80,3 @@ pub judged_first : {T : Type 0} (surveyed image : List ℕ) → surveyed ≡ ima
     → AnswersAt r found answer → JudgesUpTo image r answer
 judged_first surveyed image same r below found least answer is =
     first_judged (BreaksImage image None) r found answer below (subst (λ (bytes : List ℕ). IsLeastPlace (BreaksImage bytes None r) found) same least) is
-
--- of all items this is the first with P, as `find` returns it, or none has P
-abbrev pub IsFound : {X : Type 0} → (X → Type 0) → List X → Option X → Type 0
-IsFound P all found =
-    MatchOption found (AllWithin (λ x. ¬ P x) all 0 (length all)) (λ x. P x × (i : ℕ) × (i < length all) × HoldsAt (λ y. y ≡ x) all i × AllWithin (λ y. ¬ P y) all 0 i)
-
-pub finds : {X F : Type 0} {g : Mut F (Bor X × Unit {0}) Bool} {all : List X} {f : F} (rest : List X) (P : X → Type 0) (found : Option X)
-    → FindsItem (YieldsFirst (λ (left : List X). left)) g all f found rest → ((x : X) (q : F) → CalledAt g f x true q → P x) → ((x : X) (q : F) → CalledAt g f x false q → (q ≡ f) × ¬ P x)
-    → IsFound P all found
-finds {X = X} {all = all} {f = f} rest P found ran hit miss =
-    first_from_find rest f found P (λ x. ¬ P x) ran (YieldsList-from_first (λ (x : X). x) (λ (left : List X). left) all refl) hit miss
-
-found_first : {X : Type 0} (place : X → ℕ) (P : X → Type 0) (all : List X) → Rising place all → (found : Option X) → IsFound P all found → IsFirstOf place P all (option_map place found)
-found_first place P all rising None none = λ x (k, less, at) here. none k x (omega arith) less (subst P (sym at) here)
-found_first {X = X} place P all rising (Some x) (here, i, less, is, none) = ((x, (i, less, is x), here, refl), least)
-  where
-    least : (y : X) → Contains all y → P y → place x ≤ place y
-    least y (k, within, at) broken = elim (cases_order i k) [
-      | inl same ↦ subst (λ z. place x ≤ place z) (sym (is y) ∙ (ap (λ n. get_or all n y) same ∙ at)) (le_refl (place x))
-      | inr (inl before) ↦ subst (λ z. place x ≤ place z) at (subst (λ z. place z ≤ place (get_or all k y)) (is y) (ordered_at (λ a b. place a ≤ place b) all y i k rising before within))
-      | inr (inr after) ↦ absurd (none k y (omega arith) after (subst P (sym at) broken))
-    ]
-
--- a rule that is decided by the first item that breaks it
-pub judged_by_first : {T X : Type 0} (image : List ℕ) (r : Rule) (late : rank rule.SegmentAddress ≤ rank r) → KeptBefore image r → (place : X → ℕ) (P : X → Type 0) (all : List X) → Rising place all
-    → AreBreaks (BreaksCommands image (commands_of image) r) place P all → (found : Option X) → IsFound P all found → (answer : Result T Break) → AnswersAt r (option_map place found) answer
-    → JudgesUpTo image r answer
-judged_by_first image r late below place P all rising breaking found first answer is =
-    judged_first image image refl r below (option_map place found)
-    (least_place image (keeps_opened image r late below) r late place P all breaking (option_map place found) (found_first place P all rising found first)) answer is

@@ -6,7 +6,7 @@ use Rattle.std.proofs.lemmas.List.Elements.{Contains-get_or}
 use Rattle.std.proofs.lemmas.Option.{get_or_from_slice_get}
 use Rattle.macho_fields.specs.Image.{commands_of}
 use Rattle.macho_fields.specs.Overlap.{SharesEarlier, IsLeastSharing, span_at, IsAscending, IsDescending}
-use Rattle.macho_fields.specs.Segment.{segments_of, Supplies}
+use Rattle.macho_fields.specs.Segment.{segments_of, Supplies, OverlapsEarlier}
 use Rattle.macho_fields.specs.Span.{Shares}
 use Rattle.macho_fields.specs.SpanOrder.{IsSharingOf, spans_in, tags_in}
 use Rattle.macho_fields.specs.declared.span_order.Sharing.TheVariants as sharing
@@ -20,7 +20,6 @@ use Rattle.macho_rules.specs.declared.refusal.Refusal.{Refusal}
 use Rattle.macho_rules.specs.declared.refusal.Refusal.TheVariants as refusal
 use Rattle.macho_rules.proofs.Mapped.{mapped_rise, mapped_among, among_mapped, mapped_some}
 use Rattle.macho_rules.proofs.Searches.{any_of, ordered_at}
-use Rattle.macho_rules.proofs.SegmentItems.{Overlaps}
 
 module _ (image : List ℕ) (opened : IsOpened image) where
   abbrev mapped : List ℕ
@@ -31,7 +30,7 @@ module _ (image : List ℕ) (opened : IsOpened image) where
 
   -- a segment with an address in common with an earlier one
   abbrev pub IsOverlapping : ℕ → Type 0
-  IsOverlapping p = Contains (segments_of image (commands_of image)) p × Overlaps image p
+  IsOverlapping p = Contains (segments_of image (commands_of image)) p × OverlapsEarlier image (commands_of image) p
 
   span_is : (i : ℕ) → i < length mapped → span_at spans i ≡ memory_at image (get_or mapped i 0)
   span_is i less = get_or-map (memory_at image) mapped i 0 (record { start = 0; len = 0 }) less

@@ -1,5 +1,5 @@
 -- A search for the first item that breaks a rule, over items whose places do not fall.
-use Rattle.std.proofs.Common.{◌≡◌, ℕ, suc, zero, ◌+◌, ◌≤◌, ◌<◌, ◌⊎◌, List, [], ◌∷◌, ◌++◌, map, filter, get_or, length, Any, Bool, Contains, sym, subst, arith, inl, inr, le_refl}
+use Rattle.std.proofs.Common.{◌≡◌, ◌↔◌, ℕ, suc, zero, ◌+◌, ◌≤◌, ◌<◌, ◌⊎◌, List, [], ◌∷◌, ◌++◌, map, filter, get_or, length, Any, Bool, Contains, sym, subst, arith, inl, inr, le_refl}
 use Rattle.std.specs.Prelude.{⊤}
 use Rattle.std.specs.List.{range_with_len}
 use Rattle.std.proofs.lemmas.Bool.{cases_Bool, cases_eq}
@@ -158,6 +158,11 @@ are_breaks_at {A = A} {X = X} breaks place P at ps to from = record {
   where
     here_too : (x : X) → P x → (p : A) × Contains ps p × (at p ≡ x) → breaks (place x)
     here_too x here (p, has, is) = subst (λ z. breaks (place z)) is (to p has (subst P (sym is) here))
+
+-- a rule that is broken where another is
+pub are_breaks_as : {X : Type 0} {breaks others : ℕ → Type 0} {place : X → ℕ} {P : X → Type 0} {all : List X} → ((p : ℕ) → breaks p ↔ others p) → AreBreaks others place P all
+    → AreBreaks breaks place P all
+are_breaks_as {place = place} same are = record { broken = λ x has here. (same (place x)).1 (are.broken x has here); only = λ p broken. are.only p ((same p).0 broken) }
 
 -- whether some item has P, as a search finds it
 

@@ -5,14 +5,17 @@ use Rattle.std.proofs.lemmas.List.Elements.{Contains-append_left, Contains-appen
 use Rattle.macho_fields.proofs.Lists.{none_in_nil, contains_first, contains_later, first_or_later, contains_mapped}
 use Rattle.macho_fields.specs.Image.{commands_of}
 use Rattle.macho_fields.specs.Segment.{segments_of, sections_in, nsects, AtSection}
+use Rattle.macho_fields.specs.Rules.{BreaksCommands}
+use Rattle.macho_fields.specs.declared.rule.Rule.{Rule}
 use Rattle.macho_fields.specs.declared.header.loader.TheConstants as loader
 use Rattle.macho_fields.proofs.Opened.{sections_inside}
 use Rattle.macho_fields.proofs.Parts.{with_cmd_is, with_cmd_among}
 use Rattle.macho_image.specs.Opened.{IsOpened}
 use Rattle.macho_image.specs.Segment.{SectionView, section_at, sections_with, sections_of}
+use Rattle.macho_rules.specs.Survey.{BreaksSection, IsSectionRule}
 use Rattle.macho_rules.proofs.Searches.{mapped_has, has_number, numbers_rise, Ordered}
 use Rattle.macho_fields.proofs.FirstPlaces.{AreBreaks}
-use Rattle.macho_rules.proofs.Searches.{ordered_append, ordered_map, Rising, are_breaks_at, any_of, one_of}
+use Rattle.macho_rules.proofs.Searches.{ordered_append, ordered_map, Rising, are_breaks_at, are_breaks_as, any_of, one_of}
 use Rattle.macho_rules.proofs.Judged.{opened_facts, opened_commands}
 use Rattle.macho_rules.proofs.SegmentItems.{EndsBefore, segments_spread}
 
@@ -86,7 +89,7 @@ module _ (image : List ℕ) (all : List SectionView) (opened : IsOpened image) (
       (rise_from image opened (segments_of image (commands_of image)) (segments_spread image opened) (λ s has. has)))
 
   -- what breaks a rule of sections
-  pub sections_break : (P : List ℕ → ℕ → ℕ → Type 0) → AreBreaks (AtSection image (commands_of image) (P image)) (λ s. s.place) (λ s. P s.image s.segment s.place) all
+  sections_break : (P : List ℕ → ℕ → ℕ → Type 0) → AreBreaks (AtSection image (commands_of image) (P image)) (λ s. s.place) (λ s. P s.image s.segment s.place) all
   sections_break P =
       subst (AreBreaks (AtSection image (commands_of image) (P image)) (λ s. s.place) (λ s. P s.image s.segment s.place)) (sym are)
       (are_breaks_at (AtSection image (commands_of image) (P image)) (λ (s : SectionView). s.place) (λ s. P s.image s.segment s.place) (section_at image) (sections_of image (commands_of image))
@@ -94,3 +97,6 @@ module _ (image : List ℕ) (all : List SectionView) (opened : IsOpened image) (
       any_of (λ segment. Contains (sections_in image segment) pair.1 × P image segment pair.1) (segments_of image (commands_of image)) pair.0 segment (among, here))
       (λ place broken. let (segment, has, (among, here)) = one_of (λ segment. Contains (sections_in image segment) place × P image segment place) (segments_of image (commands_of image)) broken in
       ((segment, place), to_segments image opened (segments_of image (commands_of image)) segment place has among, here, refl)))
+
+  pub section_rule_breaks : (r : Rule) → IsSectionRule image r → AreBreaks (BreaksCommands image (commands_of image) r) (λ s. s.place) (BreaksSection r) all
+  section_rule_breaks r is = are_breaks_as is (sections_break (λ bytes segment section. BreaksSection r (section_at bytes (segment, section))))

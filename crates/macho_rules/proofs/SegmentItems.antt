@@ -3,13 +3,16 @@ use Rattle.std.proofs.Common.{◌≡◌, ℕ, ◌+◌, ◌≤◌, ◌<◌, List,
 use Rattle.std.proofs.lemmas.List.Elements.{All-contains}
 use Rattle.macho_fields.proofs.Lists.{contains_mapped}
 use Rattle.macho_fields.specs.Image.{command_size, commands_of, Follow}
-use Rattle.macho_fields.specs.Segment.{segments_of, Supplies, OverlapsEarlier}
+use Rattle.macho_fields.specs.Segment.{segments_of, Supplies}
 use Rattle.macho_fields.proofs.Chains.{places_above}
+use Rattle.macho_fields.specs.Rules.{BreaksCommands}
+use Rattle.macho_fields.specs.declared.rule.Rule.{Rule}
 use Rattle.macho_image.specs.Opened.{IsOpened}
 use Rattle.macho_image.specs.Segment.{SegmentView, segment_at}
+use Rattle.macho_rules.specs.Survey.{BreaksSegment, IsSegmentRule}
 use Rattle.macho_rules.proofs.Searches.{mapped_has, Ordered, ordered_weaken, ordered_filter, ordered_map, Rising}
 use Rattle.macho_fields.proofs.FirstPlaces.{AreBreaks}
-use Rattle.macho_rules.proofs.Searches.{Searching, search_all, first_among, are_breaks_at, any_of, one_of}
+use Rattle.macho_rules.proofs.Searches.{Searching, search_all, first_among, are_breaks_at, are_breaks_as, any_of, one_of}
 use Rattle.macho_rules.proofs.Judged.{opened_commands}
 
 -- a command ends before each later one begins
@@ -47,15 +50,15 @@ module _ (image : List ℕ) (all : List SegmentView) (are : AreSegments image al
   segments_search P opened =
       search_all (λ s. s.place) P all (subst (Rising (λ s. s.place)) (sym are) (ordered_map (λ (s t : SegmentView). s.place ≤ t.place) (segment_at image) _ (segments_rise image opened)))
 
-  pub segments_rising : IsOpened image → Rising (λ s. s.place) all
-  segments_rising opened = subst (Rising (λ s. s.place)) (sym are) (ordered_map (λ (s t : SegmentView). s.place ≤ t.place) (segment_at image) _ (segments_rise image opened))
-
   -- what breaks a rule of segments
-  pub segments_break : (P : List ℕ → ℕ → Type 0) → AreBreaks (λ p. Contains (segments_of image (commands_of image)) p × P image p) (λ s. s.place) (λ s. P s.image s.place) all
+  segments_break : (P : List ℕ → ℕ → Type 0) → AreBreaks (λ p. Contains (segments_of image (commands_of image)) p × P image p) (λ s. s.place) (λ s. P s.image s.place) all
   segments_break P =
       subst (AreBreaks (λ p. Contains (segments_of image (commands_of image)) p × P image p) (λ s. s.place) (λ s. P s.image s.place)) (sym are)
       (are_breaks_at (λ p. Contains (segments_of image (commands_of image)) p × P image p) (λ (s : SegmentView). s.place) (λ s. P s.image s.place) (segment_at image) _
       (λ p has here. (has, here)) (λ p broken. (p, broken.0, broken.1, refl)))
+
+  pub segment_rule_breaks : (r : Rule) → IsSegmentRule image r → AreBreaks (BreaksCommands image (commands_of image) r) (λ s. s.place) (BreaksSegment r) all
+  segment_rule_breaks r is = are_breaks_as is (segments_break (λ bytes place. BreaksSegment r (segment_at bytes place)))
 
   pub segment_of : (s : SegmentView) → Contains all s → s ≡ segment_at image s.place
   segment_of s has = let (p, _, at) = mapped_has (segment_at image) _ s (subst (λ xs. Contains xs s) are has) in subst (λ t. t ≡ segment_at image t.place) at refl
@@ -81,6 +84,3 @@ module _ (image : List ℕ) (all : List SegmentView) (are : AreSegments image al
 -- an earlier segment supplies an address of the one at the place
 abbrev pub SharesBefore : ℕ → List ℕ → ℕ → Type 0
 SharesBefore place image earlier = (earlier < place) × ((address : ℕ) × Supplies image earlier address × Supplies image place address)
-
-abbrev pub Overlaps : List ℕ → ℕ → Type 0
-Overlaps image = OverlapsEarlier image (commands_of image)

@@ -1,6 +1,7 @@
 -- What the walk over segments and sections notes, one after the other, and what it has found at the end.
-use Rattle.std.proofs.Common.{◌≡◌, ◌↔◌, ℕ, ◌+◌, ◌-◌, ◌*◌, ◌^◌, ◌≤◌, ◌<◌, min, List, [], ◌∷◌, ◌++◌, length, map, filter, Bool, true, false, IsTrue, Contains, Option, None, Some, refl, sym, ap, ◌∙◌, subst, arith, lit≤, inl, inr, length-append, append_assoc}
+use Rattle.std.proofs.Common.{◌≡◌, ◌↔◌, ℕ, ◌+◌, ◌-◌, ◌*◌, ◌^◌, ◌≤◌, ◌<◌, min, List, [], ◌∷◌, ◌++◌, length, map, filter, Bool, true, false, IsTrue, Contains, Option, None, Some, refl, sym, ap, ◌∙◌, subst, arith, rules, tests, inl, inr, length-append, append_assoc}
 use Rattle.std.specs.Prelude.{◌&&◌, ◌==◌, nat_lt, flat_map, find, sum_by, if◌then◌else◌}
+use Rattle.std.specs.List.{AllByRecursion}
 use Rattle.std.specs.Option.{option_map, option_or}
 use Rattle.std.proofs.lemmas.Bool.{cases_Bool, lt-ltb}
 use Rattle.std.proofs.lemmas.Grind.{flat_map-append}
@@ -9,27 +10,30 @@ use Rattle.std.proofs.lemmas.List.Elements.{Contains-append_cases, Contains-appe
 use Rattle.std.proofs.lemmas.List.Folds.{find-append}
 use Rattle.std.proofs.lemmas.List.Sums.{sum_by-cons, sum_by-append}
 use Rattle.macho_fields.specs.FirstPlace.{IsFirstOf, IsNoted}
+use Rattle.macho_fields.specs.First.{rank}
+use Rattle.macho_fields.specs.Rules.{BreaksCommands}
 use Rattle.macho_fields.specs.Image.{command_size, commands_of}
-use Rattle.macho_fields.specs.Segment.{segments_of, sections_in, section_count, nsects, vmaddr, vmsize, fileoff, filesize, shows_start, PassesLastAddress, IsLongerInFile, PassesImage, IsOutsideMemory, IsMisplaced, HasRelocsOutside}
+use Rattle.macho_fields.specs.Segment.{segments_of, sections_in, section_count, nsects, vmaddr, vmsize, fileoff, filesize, shows_start}
 use Rattle.macho_fields.specs.SpanOrder.{IsOrderOf}
 use Rattle.macho_fields.specs.declared.header.loader.TheConstants as loader
+use Rattle.macho_fields.specs.declared.rule.Rule.{Rule}
 use Rattle.macho_fields.specs.declared.rule.Rule.TheVariants as rule
 use Rattle.macho_fields.specs.declared.span.Span.{Span}
-use Rattle.macho_fields.proofs.FirstPlaces.{first_of_kept, first_of_broken}
+use Rattle.macho_fields.proofs.FirstPlaces.{AreBreaks, first_of_kept, first_of_broken}
 use Rattle.macho_fields.proofs.Lists.{none_in_nil, contains_first, contains_later, first_or_later}
 use Rattle.macho_fields.proofs.Opened.{sections_inside, command_inside}
 use Rattle.macho_fields.proofs.Parts.{with_cmd_is, with_cmd_among}
 use Rattle.macho_image.specs.Opened.{IsOpened}
 use Rattle.macho_image.specs.Segment.{SegmentView, SectionView, segment_at, section_at, sections_with}
 use Rattle.macho_rules.specs.Mapped.{memory_at, mapped_segments, tagged_memory}
-use Rattle.macho_rules.specs.Survey.{NotesSegment, NotesSection, EndBy, sections_among, mapped_among, base_among, AreFirstSegments, AreFirstSections, AreMapped, IsSurveyOf}
+use Rattle.macho_rules.specs.Survey.{Notes, AreNoted, AreFirst, AreLeast, BreaksSegment, BreaksSection, segment_notes, section_notes, EndBy, sections_among, mapped_among, base_among, AreFirstSegments, AreFirstSections, AreMapped, IsSurveyOf}
 use Rattle.macho_rules.specs.declared.survey.Mapped.{Mapped}
 use Rattle.macho_rules.specs.declared.survey.SectionBreaks.{SectionBreaks}
 use Rattle.macho_rules.specs.declared.survey.SegmentBreaks.{SegmentBreaks}
 use Rattle.macho_rules.proofs.Judged.{opened_facts, opened_commands, least_place}
 use Rattle.macho_rules.proofs.Searches.{Ordered, Rising, ordered_map, mapped_has}
-use Rattle.macho_rules.proofs.SectionItems.{after_segment, sections_rise, with_segment, section_before, sections_break}
-use Rattle.macho_rules.proofs.SegmentItems.{AreSegments, EndsBefore, segments_break, segments_spread, segment_of, segment_among}
+use Rattle.macho_rules.proofs.SectionItems.{after_segment, sections_rise, with_segment, section_before, section_rule_breaks}
+use Rattle.macho_rules.proofs.SegmentItems.{AreSegments, EndsBefore, segment_rule_breaks, segments_spread, segment_of, segment_among}
 
 -- A walk: these items were seen, and those are left
 
@@ -70,15 +74,14 @@ pub first_noted : {X : Type 0} (place : X → ℕ) (P : X → Type 0) (items : L
 first_noted place P items x old new after (inl (broken, is)) first = subst (IsFirstOf place P (items ++ x ∷ [])) (sym is) (first_of_broken place P items x old after broken first)
 first_noted place P items x old new after (inr (kept, is)) first = subst (IsFirstOf place P (items ++ x ∷ [])) (sym is) (first_of_kept place P items x old kept first)
 
--- One segment more
+-- and so of each rule that is noted
+pub noted_more : {X B : Type 0} (place : X → ℕ) (Breaks : Rule → X → Type 0) (notes : Notes B) (items : List X) (x : X) (old new : B) → EndBy place items (place x)
+    → AreNoted place Breaks notes x old new → AreFirst place Breaks notes items old → AreFirst place Breaks notes (items ++ x ∷ []) new
+noted_more place Breaks [] items x old new after noted first = tt
+noted_more place Breaks ((r, field) ∷ notes) items x old new after (noted, others) (first, rest) =
+    (first_noted place (Breaks r) items x (field old) (field new) after noted first, noted_more place Breaks notes items x old new after others rest)
 
-pub segments_noted : (passed : List SegmentView) (s : SegmentView) (old new : SegmentBreaks) → EndBy (λ t. t.place) passed s.place
-    → NotesSegment s old new → AreFirstSegments passed old → AreFirstSegments (passed ++ s ∷ []) new
-segments_noted passed s old new after noted first = record {
-  address = first_noted (λ t. t.place) (λ t. PassesLastAddress t.image t.place) passed s old.address new.address after noted.address first.address;
-  size = first_noted (λ t. t.place) (λ t. IsLongerInFile t.image t.place) passed s old.size new.size after noted.size first.size;
-  file = first_noted (λ t. t.place) (λ t. PassesImage t.image t.place) passed s old.file new.file after noted.file first.file;
-}
+-- One segment more
 
 module _ (passed : List SegmentView) (s : SegmentView) where
   mapped_append : mapped_among (passed ++ s ∷ []) ≡ mapped_among passed ++ mapped_among (s ∷ [])
@@ -144,14 +147,6 @@ counted_more passed s old count new is here before =
 
 -- The sections of a segment
 
-pub sections_noted : (passed : List SectionView) (s : SectionView) (old new : SectionBreaks) → EndBy (λ t. t.place) passed s.place
-    → NotesSection s old new → AreFirstSections passed old → AreFirstSections (passed ++ s ∷ []) new
-sections_noted passed s old new after noted first = record {
-  address = first_noted (λ t. t.place) (λ t. IsOutsideMemory t.image t.segment t.place) passed s old.address new.address after noted.address first.address;
-  file = first_noted (λ t. t.place) (λ t. IsMisplaced t.image t.segment t.place) passed s old.file new.file after noted.file first.file;
-  relocs = first_noted (λ t. t.place) (λ t. HasRelocsOutside t.image t.place) passed s old.relocs new.relocs after noted.relocs first.relocs;
-}
-
 module _ (s : SegmentView) (all : List SectionView) (are : all ≡ map (section_at s.image) (sections_with s.image s.place)) (seen : List SectionView) (x : SectionView) (rest : List SectionView)
     (here : all ≡ seen ++ x ∷ rest) where
   found : (pair : ℕ × ℕ) × Contains (sections_with s.image s.place) pair × (section_at s.image pair ≡ x)
@@ -173,6 +168,14 @@ module _ (s : SegmentView) (all : List SectionView) (are : all ≡ map (section_
   ]
 
 -- All segments of an opened image
+
+-- of each rule that was noted of all items, the image breaks it first where it is noted
+least_places : {X B : Type 0} (image : List ℕ) (opened : IsOpened image) (place : X → ℕ) (Breaks : Rule → X → Type 0) (all : List X) (notes : Notes B) (breaks : B)
+    → AllByRecursion (λ note. (rank rule.SegmentAddress ≤ rank note.0) × AreBreaks (BreaksCommands image (commands_of image) note.0) place (Breaks note.0) all) notes
+    → AreFirst place Breaks notes all breaks → AreLeast image notes breaks
+least_places image opened place Breaks all [] breaks are first = tt
+least_places image opened place Breaks all ((r, field) ∷ notes) breaks ((late, breaking), others) (first, rest) =
+    (least_place image opened r late place (Breaks r) all breaking (field breaks) first, least_places image opened place Breaks all notes breaks others rest)
 
 of_sections : (segments : List SegmentView) (q : SectionView) → Contains (sections_among segments) q
     → (t : SegmentView) × Contains segments t × Contains (map (section_at t.image) (sections_with t.image t.place)) q
@@ -254,12 +257,8 @@ module _ (image : List ℕ) where
       → count ≡ min (sum_by (λ s. nsects s.image s.place) all) (2 ^ 64 - 1) → IsSurveyOf image segments sections mapped count
   survey_found opened all are segments sections mapped count short first_segments first_sections are_mapped counted = record {
     opened = opened;
-    segment_address = least_place image opened rule.SegmentAddress (lit≤ tt) _ _ all (segments_break image all are PassesLastAddress) segments.address first_segments.address;
-    segment_size = least_place image opened rule.SegmentSize (lit≤ tt) _ _ all (segments_break image all are IsLongerInFile) segments.size first_segments.size;
-    segment_file = least_place image opened rule.SegmentFile (lit≤ tt) _ _ all (segments_break image all are PassesImage) segments.file first_segments.file;
-    section_address = least_place image opened rule.SectionAddress (lit≤ tt) _ _ _ (sections_break image _ opened are_sections IsOutsideMemory) sections.address first_sections.address;
-    section_file = least_place image opened rule.SectionFile (lit≤ tt) _ _ _ (sections_break image _ opened are_sections IsMisplaced) sections.file first_sections.file;
-    section_relocs = least_place image opened rule.SectionRelocs (lit≤ tt) _ _ _ (sections_break image _ opened are_sections (λ bytes segment. HasRelocsOutside bytes)) sections.relocs first_sections.relocs;
+    segment_rules = least_places image opened (λ s. s.place) BreaksSegment all segment_notes segments (search (rules, tests, segment_rule_breaks image all are)) first_segments;
+    section_rules = least_places image opened (λ s. s.place) BreaksSection (sections_among all) section_notes sections (search (rules, tests, section_rule_breaks image _ opened are_sections)) first_sections;
     section_count =
         let sum = ap (sum_by (λ s. nsects s.image s.place)) are ∙ counted_all (segments_of image (commands_of image)) in
         let fits = count_fits opened in omega (arith, counted, sum, fits, short);

@@ -1,19 +1,21 @@
 -- What one walk over the segments of an image and their sections finds, and one over its symbols.
-use Rattle.std.specs.Prelude.{◌≡◌, ◌≢◌, ℕ, ◌+◌, ◌-◌, ◌^◌, ◌≤◌, ◌<◌, ◌⊎◌, ◌↔◌, min, nat_lt, List, length, map, filter, find, flat_map, Contains, Option, None, Some}
+use Rattle.std.specs.Prelude.{◌≡◌, ◌≢◌, ℕ, ◌+◌, ◌-◌, ◌^◌, ◌≤◌, ◌<◌, ◌⊎◌, ◌↔◌, min, nat_lt, List, length, map, filter, find, flat_map, [], ◌∷◌, Contains, Option, None, Some}
+use Rattle.std.specs.List.{AllByRecursion}
 use Rattle.std.specs.Option.{option_map}
 use Rattle.macho_fields.specs.Field.{HasZero}
 use Rattle.macho_fields.specs.FirstPlace.{IsFirstOf, IsNoted, IsLeastPlace}
 use Rattle.macho_fields.specs.Image.{commands_of}
-use Rattle.macho_fields.specs.Rules.{BreaksImage}
-use Rattle.macho_fields.specs.Segment.{vmaddr, vmsize, shows_start, base_of, section_count, PassesLastAddress, IsLongerInFile, PassesImage, IsOutsideMemory, IsMisplaced, HasRelocsOutside}
+use Rattle.macho_fields.specs.Rules.{BreaksCommands, BreaksImage}
+use Rattle.macho_fields.specs.Segment.{segments_of, vmaddr, vmsize, shows_start, base_of, section_count, PassesLastAddress, IsLongerInFile, PassesImage, OverlapsEarlier, IsOutsideMemory, IsMisplaced, HasRelocsOutside, AtSection}
 use Rattle.macho_fields.specs.SpanOrder.{IsOrderOf}
 use Rattle.macho_fields.specs.Symbol.{stroff, strsize, IsSectionType}
 use Rattle.macho_fields.specs.declared.header.loader.TheConstants as loader
+use Rattle.macho_fields.specs.declared.rule.Rule.{Rule}
 use Rattle.macho_fields.specs.declared.rule.Rule.TheVariants as rule
 use Rattle.macho_fields.specs.declared.span.Span.{Span}
 use Rattle.macho_image.specs.Command.{first_with_cmd}
 use Rattle.macho_image.specs.Opened.{IsOpened}
-use Rattle.macho_image.specs.Segment.{SegmentView, SectionView, section_at, sections_with}
+use Rattle.macho_image.specs.Segment.{SegmentView, SectionView, segment_at, section_at, sections_with}
 use Rattle.macho_image.specs.declared.symbol.Symbol.{Symbol}
 use Rattle.macho_rules.specs.Mapped.{memory_at, mapped_segments, tagged_memory}
 use Rattle.macho_rules.specs.declared.survey.SegmentBreaks.{SegmentBreaks}
@@ -35,37 +37,77 @@ mapped_among segments =
     map (λ s. (memory_at s.image s.place, s.place))
     (filter (λ s. nat_lt 0 (vmsize s.image s.place)) segments)
 
--- where the segments first break each of their rules
-pub record AreFirstSegments (segments : List SegmentView) (breaks : SegmentBreaks) : Type 0 where
-  pub address : IsFirstOf (λ s. s.place) (λ s. PassesLastAddress s.image s.place) segments
-      breaks.address
-  pub size : IsFirstOf (λ s. s.place) (λ s. IsLongerInFile s.image s.place) segments breaks.size
-  pub file : IsFirstOf (λ s. s.place) (λ s. PassesImage s.image s.place) segments breaks.file
+-- what breaks each rule of segments, of a segment: no other rule is one of them
+abbrev pub BreaksSegment : Rule → SegmentView → Type 0
+BreaksSegment rule.SegmentAddress s = PassesLastAddress s.image s.place
+BreaksSegment rule.SegmentSize s = IsLongerInFile s.image s.place
+BreaksSegment rule.SegmentFile s = PassesImage s.image s.place
+BreaksSegment rule.SegmentOverlap s = OverlapsEarlier s.image (commands_of s.image) s.place
+BreaksSegment _ s = ⊥
 
--- what is noted of a segment, in each of their rules
-pub record NotesSegment (segment : SegmentView) (old new : SegmentBreaks) : Type 0 where
-  pub address : IsNoted (PassesLastAddress segment.image segment.place) segment.place old.address
-      new.address
-  pub size : IsNoted (IsLongerInFile segment.image segment.place) segment.place old.size new.size
-  pub file : IsNoted (PassesImage segment.image segment.place) segment.place old.file new.file
+-- the same of sections
+abbrev pub BreaksSection : Rule → SectionView → Type 0
+BreaksSection rule.SectionAddress s = IsOutsideMemory s.image s.segment s.place
+BreaksSection rule.SectionFile s = IsMisplaced s.image s.segment s.place
+BreaksSection rule.SectionRelocs s = HasRelocsOutside s.image s.place
+BreaksSection _ s = ⊥
 
--- where the sections first break each of theirs
-pub record AreFirstSections (sections : List SectionView) (breaks : SectionBreaks) : Type 0 where
-  pub address : IsFirstOf (λ s. s.place) (λ s. IsOutsideMemory s.image s.segment s.place) sections
-      breaks.address
-  pub file : IsFirstOf (λ s. s.place) (λ s. IsMisplaced s.image s.segment s.place) sections
-      breaks.file
-  pub relocs : IsFirstOf (λ s. s.place) (λ s. HasRelocsOutside s.image s.place) sections
-      breaks.relocs
+-- the rule is one of segments, or one of sections
+abbrev pub IsSegmentRule : List ℕ → Rule → Type 0
+IsSegmentRule image r =
+    (place : ℕ) → BreaksCommands image (commands_of image) r place
+    ↔ (Contains (segments_of image (commands_of image)) place × BreaksSegment r (segment_at image place))
 
--- what is noted of a section
-pub record NotesSection (section : SectionView) (old new : SectionBreaks) : Type 0 where
-  pub address : IsNoted (IsOutsideMemory section.image section.segment section.place) section.place
-      old.address new.address
-  pub file : IsNoted (IsMisplaced section.image section.segment section.place) section.place
-      old.file new.file
-  pub relocs : IsNoted (HasRelocsOutside section.image section.place) section.place old.relocs
-      new.relocs
+abbrev pub IsSectionRule : List ℕ → Rule → Type 0
+IsSectionRule image r =
+    (place : ℕ) → BreaksCommands image (commands_of image) r place
+    ↔ AtSection image (commands_of image)
+    (λ segment section. BreaksSection r (section_at image (segment, section))) place
+
+-- the rules that a walk notes, each with the field that has the first break of the rule
+abbrev pub Notes : Type 0 → Type 0
+Notes B = List (Rule × (B → Option ℕ))
+
+abbrev pub segment_notes : Notes SegmentBreaks
+segment_notes =
+    (rule.SegmentAddress, λ breaks. breaks.address) ∷ (rule.SegmentSize, λ breaks. breaks.size)
+    ∷ (rule.SegmentFile, λ breaks. breaks.file) ∷ []
+
+abbrev pub section_notes : Notes SectionBreaks
+section_notes =
+    (rule.SectionAddress, λ breaks. breaks.address) ∷ (rule.SectionFile, λ breaks. breaks.file)
+    ∷ (rule.SectionRelocs, λ breaks. breaks.relocs) ∷ []
+
+-- where the items first break each of these rules
+abbrev pub AreFirst : {X B : Type 0} → (X → ℕ) → (Rule → X → Type 0) → Notes B → List X → B → Type 0
+AreFirst place Breaks notes items breaks =
+    AllByRecursion (λ note. IsFirstOf place (Breaks note.0) items (note.1 breaks)) notes
+
+-- what is noted of an item, of each rule
+abbrev pub AreNoted : {X B : Type 0} → (X → ℕ) → (Rule → X → Type 0) → Notes B → X → B → B → Type 0
+AreNoted place Breaks notes item old new =
+    AllByRecursion (λ note. IsNoted (Breaks note.0 item) (place item) (note.1 old) (note.1 new)) notes
+
+-- where the image breaks each of the rules for the first time
+abbrev pub AreLeast : {B : Type 0} → List ℕ → Notes B → B → Type 0
+AreLeast image notes breaks =
+    AllByRecursion (λ note. IsLeastPlace (BreaksImage image None note.0) (note.1 breaks)) notes
+
+abbrev pub AreFirstSegments : List SegmentView → SegmentBreaks → Type 0
+AreFirstSegments segments breaks =
+    AreFirst (λ s. s.place) BreaksSegment segment_notes segments breaks
+
+abbrev pub NotesSegment : SegmentView → SegmentBreaks → SegmentBreaks → Type 0
+NotesSegment segment old new =
+    AreNoted (λ s. s.place) BreaksSegment segment_notes segment old new
+
+abbrev pub AreFirstSections : List SectionView → SectionBreaks → Type 0
+AreFirstSections sections breaks =
+    AreFirst (λ s. s.place) BreaksSection section_notes sections breaks
+
+abbrev pub NotesSection : SectionView → SectionBreaks → SectionBreaks → Type 0
+NotesSection section old new =
+    AreNoted (λ s. s.place) BreaksSection section_notes section old new
 
 -- the address of the first segment that shows the start of the file
 abbrev pub base_among : List SegmentView → Option ℕ
@@ -81,12 +123,8 @@ pub record AreMapped (segments : List SegmentView) (mapped : Mapped) : Type 0 wh
 -- of what image a survey is, and what it found
 pub record IsSurveyOf (image : List ℕ) (segments : SegmentBreaks) (sections : SectionBreaks) (mapped : Mapped) (count : ℕ) : Type 0 where
   pub opened : IsOpened image
-  pub segment_address : IsLeastPlace (BreaksImage image None rule.SegmentAddress) segments.address
-  pub segment_size : IsLeastPlace (BreaksImage image None rule.SegmentSize) segments.size
-  pub segment_file : IsLeastPlace (BreaksImage image None rule.SegmentFile) segments.file
-  pub section_address : IsLeastPlace (BreaksImage image None rule.SectionAddress) sections.address
-  pub section_file : IsLeastPlace (BreaksImage image None rule.SectionFile) sections.file
-  pub section_relocs : IsLeastPlace (BreaksImage image None rule.SectionRelocs) sections.relocs
+  pub segment_rules : AreLeast image segment_notes segments
+  pub section_rules : AreLeast image section_notes sections
   pub section_count : count ≡ section_count image (commands_of image)
   pub order : IsOrderOf (tagged_memory image) mapped.order
   pub mapped_count : mapped.count ≡ min (length (mapped_segments image)) (2 ^ 64 - 1)

@@ -18,7 +18,7 @@ use std::alloc::Global;
 /// tables, its symbols and its entry. It returns the first broken one, with its place in the image.
 ///
 /// One walk over the segments and their sections, and one over the symbols, note where each of their
-/// rules is first broken. The list below reads what they noted.
+/// rules is first broken. The lines below read what they noted.
 ///
 /// `Memory` is returned only where the rules up to `segment-file` are kept, and the addresses of the
 /// mapped segments neither ascend nor descend in the order of the commands. It takes memory for
@@ -28,18 +28,13 @@ pub fn check_image(alloc: Global, image: &Image) -> Result<(), Refusal>
     ensures refused { IfErr result (IsImageRefusal image.now None) }
 {
     let survey = Survey::of(image);
-    survey.segment_address()?;
-    survey.segment_size()?;
-    survey.segment_file()?;
+    survey.judge_segments()?;
     segment_overlap(alloc, image, &survey)?;
-    survey.section_address()?;
-    survey.section_file()?;
-    survey.section_relocs()?;
+    survey.judge_sections()?;
     table_range(image)?;
     symbol_group(image)?;
     let symbols = SymbolSurvey::of(image, survey.section_count());
-    symbols.symbol_name()?;
-    symbols.symbol_section()?;
+    symbols.judge()?;
     indirect_index(image)?;
     entry(image, survey.base())?;
     Ok(())

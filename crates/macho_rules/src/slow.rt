@@ -16,6 +16,7 @@ ghost use Rattle.macho_fields.specs.Layers.{Decides, KeptBelow, NothingBreaks};
 ghost use Rattle.macho_fields.specs.Rules.{BreaksFile, BreaksImage};
 ghost use Rattle.macho_fields.specs.Universal.{entry_count, entry_slice, slice_bytes, IsUniversal};
 ghost use Rattle.macho_fields.specs.declared.rule.Rule.{Rule};
+ghost use Rattle.macho_rules.specs.Check.{KeptBefore};
 ghost use Rattle.macho_rules.specs.Verdict.{IsSliceBreak};
 
 use crate::entry::entry;
@@ -28,9 +29,9 @@ use file::{
 };
 use macho_fields::{Break, Bytes};
 use macho_image::Image;
-use sections::{section_address, section_file, section_relocs};
-use segments::{segment_address, segment_file, segment_overlap, segment_size};
-use symbols::{symbol_name, symbol_section};
+use sections::judge_sections;
+use segments::judge_segments;
+use symbols::judge_symbols;
 
 /// The first broken rule of a file, with its place in the file, or `None` where no rule is broken.
 ///
@@ -127,19 +128,14 @@ fn judge_image(bytes: Bytes, arch: Option<(u32, u32)>) -> Result<(), Break>
 
 // Decides the rules of an opened image.
 fn judge_opened(image: &Image) -> Result<(), Break>
+    requires { KeptBefore image.now Rule.SegmentAddress }
     ensures { Decides (BreaksImage image.now None) result }
 {
-    segment_address(image)?;
-    segment_size(image)?;
-    segment_file(image)?;
-    segment_overlap(image)?;
-    section_address(image)?;
-    section_file(image)?;
-    section_relocs(image)?;
+    judge_segments(image)?;
+    judge_sections(image)?;
     table_range(image)?;
     symbol_group(image)?;
-    symbol_name(image)?;
-    symbol_section(image)?;
+    judge_symbols(image)?;
     indirect_index(image)?;
     entry(image, image.base())
 }

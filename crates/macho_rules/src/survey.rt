@@ -37,6 +37,7 @@ impl<'a> Model for Survey<'a> {
         survey.sections survey.mapped survey.section_count };
 }
 
+#[tactic(auto, using(crate::proofs::Judged::judged_first))]
 impl<'a> Survey<'a> {
     ghost use Rattle.std.specs.Prelude.{◌≡◌, ◌-◌, ◌^◌, min, length};
     ghost use Rattle.macho_fields.specs.SpanOrder.{IsSharingOf};
@@ -72,16 +73,35 @@ impl<'a> Survey<'a> {
         }
     }
 
-    // No segment passes the last address. The rules before this one are unbroken in each opened
-    // image.
-    pub(crate) fn segment_address(&self) -> Result<(), Break>
+    // Decides the rules of segments up to `segment-file`, in their order. The rules before them are
+    // unbroken in each opened image.
+    pub(crate) fn judge_segments(&self) -> Result<(), Break>
+        ensures { JudgesUpTo self.now Rule.SegmentFile result }
+    {
+        self.segment_address()?;
+        self.segment_size()?;
+        self.segment_file()
+    }
+
+    // Decides the rules of sections, in their order.
+    pub(crate) fn judge_sections(&self) -> Result<(), Break>
+        requires { KeptBefore self.now Rule.SectionAddress }
+        ensures { JudgesUpTo self.now Rule.SectionRelocs result }
+    {
+        self.section_address()?;
+        self.section_file()?;
+        self.section_relocs()
+    }
+
+    // No segment passes the last address.
+    fn segment_address(&self) -> Result<(), Break>
         ensures { JudgesUpTo self.now Rule.SegmentAddress result }
     {
         self.segments.address.judge(Rule::SegmentAddress)
     }
 
     // No mapped segment has more bytes in the file than in memory.
-    pub(crate) fn segment_size(&self) -> Result<(), Break>
+    fn segment_size(&self) -> Result<(), Break>
         requires { KeptBefore self.now Rule.SegmentSize }
         ensures { JudgesUpTo self.now Rule.SegmentSize result }
     {
@@ -89,7 +109,7 @@ impl<'a> Survey<'a> {
     }
 
     // The bytes of each segment lie inside the image.
-    pub(crate) fn segment_file(&self) -> Result<(), Break>
+    fn segment_file(&self) -> Result<(), Break>
         requires { KeptBefore self.now Rule.SegmentFile }
         ensures { JudgesUpTo self.now Rule.SegmentFile result }
     {
@@ -97,7 +117,7 @@ impl<'a> Survey<'a> {
     }
 
     // Each section of a mapped segment lies within the addresses of the segment.
-    pub(crate) fn section_address(&self) -> Result<(), Break>
+    fn section_address(&self) -> Result<(), Break>
         requires { KeptBefore self.now Rule.SectionAddress }
         ensures { JudgesUpTo self.now Rule.SectionAddress result }
     {
@@ -105,7 +125,7 @@ impl<'a> Survey<'a> {
     }
 
     // The bytes of each section are where its mapped segment puts them, or inside the image.
-    pub(crate) fn section_file(&self) -> Result<(), Break>
+    fn section_file(&self) -> Result<(), Break>
         requires { KeptBefore self.now Rule.SectionFile }
         ensures { JudgesUpTo self.now Rule.SectionFile result }
     {
@@ -113,7 +133,7 @@ impl<'a> Survey<'a> {
     }
 
     // The relocations of each section, also of an empty one, lie inside the image.
-    pub(crate) fn section_relocs(&self) -> Result<(), Break>
+    fn section_relocs(&self) -> Result<(), Break>
         requires { KeptBefore self.now Rule.SectionRelocs }
         ensures { JudgesUpTo self.now Rule.SectionRelocs result }
     {

@@ -38,6 +38,7 @@ impl<'a> Model for SymbolSurvey<'a> {
         × IsLeastPlace (BreaksImage (bytes_of survey.image) None rule.SymbolSection) survey.section };
 }
 
+#[tactic(auto, using(crate::proofs::Judged::judged_first))]
 impl<'a> SymbolSurvey<'a> {
     ghost use Rattle.std.specs.Prelude.{◌≡◌};
     ghost use Rattle.macho_fields.specs.Image.{commands_of};
@@ -65,8 +66,17 @@ impl<'a> SymbolSurvey<'a> {
         }
     }
 
+    // Decides the rules of symbols, in their order.
+    pub(crate) fn judge(&self) -> Result<(), Break>
+        requires { KeptBefore self.now Rule.SymbolName }
+        ensures { JudgesUpTo self.now Rule.SymbolSection result }
+    {
+        self.symbol_name()?;
+        self.symbol_section()
+    }
+
     // Each symbol that has a name has one that ends in the strings.
-    pub(crate) fn symbol_name(&self) -> Result<(), Break>
+    fn symbol_name(&self) -> Result<(), Break>
         requires { KeptBefore self.now Rule.SymbolName }
         ensures { JudgesUpTo self.now Rule.SymbolName result }
     {
@@ -74,7 +84,7 @@ impl<'a> SymbolSurvey<'a> {
     }
 
     // Each symbol that is defined in a section has the number of one.
-    pub(crate) fn symbol_section(&self) -> Result<(), Break>
+    fn symbol_section(&self) -> Result<(), Break>
         requires { KeptBefore self.now Rule.SymbolSection }
         ensures { JudgesUpTo self.now Rule.SymbolSection result }
     {

@@ -1,62 +1,56 @@
 //! The rules of the segments of an image, each with a search of its own. Each two segments are compared.
 
-ghost use Rattle.std.specs.Prelude.{◌≡◌, ◌↔◌, IsTrue};
-ghost use Rattle.std.specs.Option.{option_map};
+ghost use Rattle.std.specs.Prelude.{◌≡◌, ◌≤◌, ◌↔◌, Bool, IsTrue};
+ghost use Rattle.std.specs.Fn.{FnReturnsAt};
+ghost use Rattle.macho_fields.specs.First.{rank};
 ghost use Rattle.macho_fields.specs.Image.{commands_of};
 ghost use Rattle.macho_fields.specs.Segment.{OverlapsEarlier};
 ghost use Rattle.macho_fields.specs.declared.rule.Rule.{Rule};
-ghost use Rattle.macho_rules.specs.Check.{KeptBefore, JudgesUpTo, AnswersAt};
+ghost use Rattle.macho_image.specs.Segment.{SegmentView};
+ghost use Rattle.macho_rules.specs.Check.{KeptBefore, JudgesUpTo};
+ghost use Rattle.macho_rules.specs.Survey.{BreaksSegment, IsSegmentRule};
 
 use crate::segments::{is_longer_in_file, memory, passes_image, passes_last_address};
 use macho_fields::{Break, Rule};
 use macho_image::{Image, Segment};
 
-// No segment passes the last address. The rules before this one are unbroken in each opened image.
-pub(super) fn segment_address(image: &Image) -> Result<(), Break>
-    ensures { JudgesUpTo image.now Rule.SegmentAddress result }
-{
-    let first = image
-        .segments()
-        .find(|segment| passes_last_address(segment));
-    judge(Rule::SegmentAddress, first)
-}
-
-// No mapped segment has more bytes in the file than in memory.
-pub(super) fn segment_size(image: &Image) -> Result<(), Break>
-    requires { KeptBefore image.now Rule.SegmentSize }
-    ensures { JudgesUpTo image.now Rule.SegmentSize result }
-{
-    let first = image.segments().find(|segment| is_longer_in_file(segment));
-    judge(Rule::SegmentSize, first)
-}
-
-// The bytes of each segment lie inside the image.
-pub(super) fn segment_file(image: &Image) -> Result<(), Break>
-    requires { KeptBefore image.now Rule.SegmentFile }
-    ensures { JudgesUpTo image.now Rule.SegmentFile result }
-{
-    let first = image.segments().find(|segment| passes_image(segment));
-    judge(Rule::SegmentFile, first)
-}
-
-// No mapped segment has an address in common with an earlier one. Each is compared with all earlier
-// ones, which takes time in the order of n^2 for n segments.
-pub(super) fn segment_overlap(image: &Image) -> Result<(), Break>
-    requires { KeptBefore image.now Rule.SegmentOverlap }
+// Decides the rules of segments, in their order. The rules before them are unbroken in each opened
+// image.
+pub(super) fn judge_segments(image: &Image) -> Result<(), Break>
+    requires { KeptBefore image.now Rule.SegmentAddress }
     ensures { JudgesUpTo image.now Rule.SegmentOverlap result }
 {
+    judge(image, Rule::SegmentAddress, passes_last_address)?;
+    judge(image, Rule::SegmentSize, is_longer_in_file)?;
+    judge(image, Rule::SegmentFile, passes_image)?;
+    judge(image, Rule::SegmentOverlap, |segment| {
+        overlaps_earlier(image, segment)
+    })
+}
+
+// Decides one rule of segments, which `is_broken` decides for one segment of the image.
+fn judge<F: Fn(&Segment) -> bool>(image: &Image, rule: Rule, is_broken: F) -> Result<(), Break>
+    requires late { rank Rule.SegmentAddress ≤ rank rule }
+    requires segments { IsSegmentRule image.now rule }
+    requires kept { KeptBefore image.now rule }
+    requires callable { F.IsAlwaysCallable is_broken }
+    requires decides { (segment : SegmentView) → segment.image ≡ image.now → (broken : Bool)
+        → FnReturnsAt F.Fn is_broken segment broken → (IsTrue broken ↔ BreaksSegment rule segment) }
+    ensures { JudgesUpTo image.now rule result }
+{
     for segment in image.segments() {
-        if overlaps_earlier(image, &segment) {
-            return Err(Break::at(Rule::SegmentOverlap, segment.place()));
+        if is_broken(&segment) {
+            return Err(Break::at(rule, segment.place()));
         }
     }
     Ok(())
 }
 
-// Whether the segment has an address in common with an earlier one.
+// Whether the segment has an address in common with an earlier one. Each is compared with all earlier
+// ones, which takes time in the order of n^2 for n segments.
 fn overlaps_earlier(image: &Image, segment: &Segment) -> bool
-    requires { segment.now.image ≡ image.now }
-    ensures { IsTrue result ↔ OverlapsEarlier image.now (commands_of image.now) segment.now.place }
+    ensures { segment.now.image ≡ image.now → (IsTrue result
+        ↔ OverlapsEarlier segment.now.image (commands_of segment.now.image) segment.now.place) }
 {
     for earlier in image.segments() {
         if earlier.place() >= segment.place() {
@@ -67,14 +61,4 @@ fn overlaps_earlier(image: &Image, segment: &Segment) -> bool
         }
     }
     false
-}
-
-// The break of the rule at the segment, or `Ok` where there is none.
-fn judge(rule: Rule, broken: Option<Segment>) -> Result<(), Break>
-    ensures { AnswersAt rule (option_map (λ segment. segment.place) broken.entry) result }
-{
-    match broken {
-        Some(segment) => Err(Break::at(rule, segment.place())),
-        None => Ok(()),
-    }
 }

@@ -12,9 +12,18 @@ use crate::symbols::is_in_no_section;
 use macho_fields::{Break, Bytes, Rule, Span};
 use macho_image::{Image, Symbol, Symtab};
 
+// Decides the rules of symbols, in their order.
+pub(super) fn judge_symbols(image: &Image) -> Result<(), Break>
+    requires { KeptBefore image.now Rule.SymbolName }
+    ensures { JudgesUpTo image.now Rule.SymbolSection result }
+{
+    symbol_name(image)?;
+    symbol_section(image)
+}
+
 // Each symbol that has a name has one that ends in the strings. The end of each name is searched for
 // on its own, which takes time in proportion to the symbols times the strings.
-pub(super) fn symbol_name(image: &Image) -> Result<(), Break>
+fn symbol_name(image: &Image) -> Result<(), Break>
     requires { KeptBefore image.now Rule.SymbolName }
     ensures { JudgesUpTo image.now Rule.SymbolName result }
 {
@@ -53,7 +62,7 @@ fn has_endless_name(image: Bytes, symtab: Symtab, symbol: Symbol) -> bool
 }
 
 // Each symbol that is defined in a section has the number of one.
-pub(super) fn symbol_section(image: &Image) -> Result<(), Break>
+fn symbol_section(image: &Image) -> Result<(), Break>
     requires { KeptBefore image.now Rule.SymbolSection }
     ensures { JudgesUpTo image.now Rule.SymbolSection result }
 {

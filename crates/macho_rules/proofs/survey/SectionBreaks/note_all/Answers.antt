@@ -1,7 +1,8 @@
 use Rattle.std.proofs.Common.{◌++◌, [], ◌∷◌, refl, sym, ◌∙◌, subst, append_assoc}
 use Rattle.std.proofs.lemmas.List.{append-nil}
-use Rattle.macho_rules.specs.Survey.{AreFirstSections}
-use Rattle.macho_rules.proofs.Surveys.{walked, walked_on, walked_all, sections_end_by, sections_noted}
+use Rattle.macho_image.specs.Segment.{SectionView}
+use Rattle.macho_rules.specs.Survey.{AreFirstSections, BreaksSection, section_notes}
+use Rattle.macho_rules.proofs.Surveys.{walked, walked_on, walked_all, sections_end_by, noted_more}
 use Rattle.macho_rules.proofs.survey.SectionBreaks.note_all.Goals as goal
 
 pub loop-section-init : goal.loop-section-init
@@ -17,7 +18,7 @@ loop-section-preserved c =
       walked_on _ seen _ x _ reached c.in-Some.ensures.steps,
       λ passed after before.
           subst (λ xs. AreFirstSections xs c.note.new.self) (append_assoc passed seen (x ∷ []))
-          (sections_noted (passed ++ seen) x c.loop-section.self c.note.new.self (sections_end_by c.args.segment.now _ are seen x _ here passed after) c.note.ensures (first passed after before)),
+          (noted_more (λ (t : SectionView). t.place) BreaksSection section_notes (passed ++ seen) x c.loop-section.self c.note.new.self (sections_end_by c.args.segment.now _ are seen x _ here passed after) c.note.ensures (first passed after before)),
     )
 
 pub returns : goal.returns

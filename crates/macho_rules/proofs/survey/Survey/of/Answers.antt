@@ -1,6 +1,7 @@
 use Rattle.std.proofs.Common.{◌≡◌, ◌++◌, [], ◌∷◌, ◌<◌, ◌^◌, List, ℕ, length, sym, ap, ◌∙◌, subst, arith}
-use Rattle.macho_rules.specs.Survey.{AreFirstSections, IsSurveyOf, sections_among}
-use Rattle.macho_rules.proofs.Surveys.{walked, walked_on, walked_all, segments_end_by, all_end_by, segments_noted, sections_append, counted_more, survey_found}
+use Rattle.macho_image.specs.Segment.{SegmentView}
+use Rattle.macho_rules.specs.Survey.{AreFirstSections, BreaksSegment, segment_notes, IsSurveyOf, sections_among}
+use Rattle.macho_rules.proofs.Surveys.{walked, walked_on, walked_all, segments_end_by, all_end_by, noted_more, sections_append, counted_more, survey_found}
 use Rattle.macho_rules.proofs.survey.Survey.of.Goals as goal
 
 pub loop-segment-preserved : goal.loop-segment-preserved
@@ -13,7 +14,7 @@ loop-segment-preserved c =
     let here = walked _ seen _ s _ reached c.in-Some.ensures.steps in (
       seen ++ s ∷ [],
       walked_on _ seen _ s _ reached c.in-Some.ensures.steps,
-      segments_noted seen s c.loop-segment.segments c.note.new.self (segments_end_by image opened _ are seen s _ here) c.note.ensures segments,
+      noted_more (λ (t : SegmentView). t.place) BreaksSegment segment_notes seen s c.loop-segment.segments c.note.new.self (segments_end_by image opened _ are seen s _ here) c.note.ensures segments,
       subst (λ xs. AreFirstSections xs c.note_all.new.self) (sym (sections_append seen s)) (c.note_all.ensures (sections_among seen) (all_end_by image opened _ are seen s _ here) sections),
       c.note-in-loop-segment.ensures seen mapped,
       counted_more seen s c.loop-segment.section_count c.nsects.result c.saturating_add-section_count.result (omega (arith, c.saturating_add-section_count.ensures)) c.nsects.ensures count,
