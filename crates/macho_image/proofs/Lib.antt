@@ -18,6 +18,5 @@ pub mod ReadParts
 pub mod Alone
 pub mod FirstWithCmd
 pub mod Repeated
-pub mod Items
 pub mod Ranges
 pub mod DysymtabWords

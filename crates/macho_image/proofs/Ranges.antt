@@ -1,12 +1,37 @@
--- A range of the items of a table, and the item at an index.
-use Rattle.std.proofs.Common.{◌≡◌, ℕ, zero, suc, ◌+◌, ◌-◌, ◌*◌, min, List, [], ◌∷◌, map, take, drop, Option, Some, None, refl, sym, ap, ap₂, ◌∙◌, arith}
-use Rattle.std.specs.Prelude.{slice_get}
+-- The items of a table, a range of them, and the item at an index.
+use Rattle.std.proofs.Common.{◌≡◌, ℕ, zero, suc, ◌+◌, ◌-◌, ◌*◌, ◌≤◌, ◌<◌, min, List, [], ◌∷◌, length, map, take, drop, true, Option, Some, None, refl, sym, ap, ap₂, ◌∙◌, subst, arith}
+use Rattle.std.specs.Prelude.{nat_le, slice_get}
+use Rattle.std.specs.List.{range_with_len}
 use Rattle.std.specs.Option.{MatchOption}
 use Rattle.std.proofs.lemmas.List.{drop-map, take-map}
-use Rattle.macho_image.specs.Symbol.{items_from, symbols_from, indirects_from, symbol_at, indirect_at}
-use Rattle.macho_image.proofs.Items.{items-step}
+use Rattle.std.proofs.lemmas.Bool.{le-leb}
+use Rattle.std.proofs.lemmas.List.Elements.{All-nil, All-take, All-drop}
+use Rattle.macho_image.specs.Symbol.{items_inside, items_from}
+use Rattle.macho_image.specs.Views.{HoldItems}
 
--- The items of a table
+-- where some remain, the first is the one at the place
+pub items-step : (each place left : ℕ) → 0 < left → items_from each place left ≡ place ∷ items_from each (place + each) (left - 1)
+items-step each place zero some = absurd (omega arith)
+items-step each place (suc left) some = ap (λ n. place ∷ items_from each (place + each) n) (let e : left ≡ suc left - 1 = omega arith in e)
+
+items_counted : (start each i n : ℕ) → map (λ k. start + each * k) (range_with_len i n) ≡ items_from each (start + each * i) n
+items_counted start each i zero = refl
+items_counted start each i (suc n) =
+    let next : start + each * (i + 1) ≡ start + each * i + each = omega arith in
+    ap (λ (ys : List ℕ). (start + each * i) ∷ ys) (items_counted start each (i + 1) n ∙ ap (λ p. items_from each p n) next)
+
+-- a table that lies inside the image has all its items
+pub inside_all : (image : List ℕ) (start each count : ℕ) → start + count * each ≤ length image → items_from each start count ≡ items_inside image start each count
+inside_all image start each count fits =
+    let first : start ≡ start + each * 0 = omega arith in
+    let inside : nat_le (start + each * count) (length image) ≡ true = le-leb _ _ (omega (arith, fits)) in
+    rw inside (ap (λ p. items_from each p count) first ∙ sym (items_counted start each 0 count))
+
+-- and its items lie inside the image
+pub items_held : (image : List ℕ) (each place left : ℕ) → place + left * each ≤ length image → HoldItems image each (items_from each place left)
+items_held image each place zero fits k d less = absurd (omega arith)
+items_held image each place (suc left) fits zero d less = omega (arith, fits)
+items_held image each place (suc left) fits (suc k) d less = items_held image each (place + each) left (omega (arith, fits)) k d (omega arith)
 
 -- those after the first n
 items-drop : (each place left n f : ℕ) → f ≡ min n left → items_from each (place + each * f) (left - f) ≡ drop n (items_from each place left)
@@ -27,16 +52,31 @@ items-take each place zero (suc n) m is = ap (items_from each place) (let e : m 
 items-take each place (suc left) (suc n) m is =
     items-step each place m (omega arith) ∙ ap (λ ys. place ∷ ys) (items-take each (place + each) left n (m - 1) (omega arith))
 
-items-range : (each place left first count f m : ℕ) → f ≡ min first left → m ≡ min count (left - f)
+pub items-range : (each place left first count f m : ℕ) → f ≡ min first left → m ≡ min count (left - f)
     → items_from each (place + each * f) m ≡ take count (drop first (items_from each place left))
 items-range each place left first count f m first_is count_is =
     items-take each (place + each * f) (left - f) count m count_is ∙ ap (take count) (items-drop each place left first f first_is)
 
+-- those of a range lie inside the image where all do
+pub range_held : (image : List ℕ) (each : ℕ) (items ranged : List ℕ) (first count : ℕ) → ranged ≡ take count (drop first items) → HoldItems image each items → HoldItems image each ranged
+range_held image each items ranged first count is held =
+    let Held = λ (place : ℕ). place + each ≤ length image in subst (HoldItems image each) (sym is) (All-take Held count (drop first items) (All-drop Held first items held))
+
+-- where there are none, all do
+pub none_held : (image : List ℕ) (each : ℕ) (items : List ℕ) → items ≡ [] → HoldItems image each items
+none_held image each items none = subst (HoldItems image each) (sym none) (All-nil (λ place. place + each ≤ length image))
+
 -- The items of any list
 
 -- what f reads of a range of them
-pub range-map : {X Y : Type 0} (f : X → Y) (xs : List X) (first count : ℕ) → take count (drop first (map f xs)) ≡ map f (take count (drop first xs))
+range-map : {X Y : Type 0} (f : X → Y) (xs : List X) (first count : ℕ) → take count (drop first (map f xs)) ≡ map f (take count (drop first xs))
 range-map f xs first count = ap (take count) (drop-map f first xs) ∙ take-map f count (drop first xs)
+
+-- a range of what is read of the items is what is read of a range of all
+pub range_read : {X Y : Type 0} (f g : X → Y) (items ranged all : List X) (first count : ℕ) → ranged ≡ take count (drop first items) → map f items ≡ map g all
+    → map f ranged ≡ map g (take count (drop first all))
+range_read f g items ranged all first count is same =
+    ap (map f) is ∙ (sym (range-map f items first count) ∙ (ap (λ ys. take count (drop first ys)) same ∙ range-map g all first count))
 
 -- the first of a range
 head_of_range : {X : Type 0} (xs : List X) (i : ℕ) → slice_get (take 1 (drop i xs)) 0 ≡ slice_get xs i
@@ -50,21 +90,7 @@ head_is old new None none = ap (λ ys. slice_get ys 0) (sym none.0)
 head_is old new (Some x) steps = ap (λ ys. slice_get ys 0) (sym steps)
 
 -- what is first in a range of one item is the item at the index
-pub item_at : {X : Type 0} (xs : List X) (i : ℕ) (old new : List X) (r : Option X) → old ≡ take 1 (drop i xs) → MatchOption r ((old ≡ []) × (new ≡ [])) (λ x. old ≡ x ∷ new)
-    → r ≡ slice_get xs i
-item_at xs i old new r is steps = head_is old new r steps ∙ (ap (λ ys. slice_get ys 0) is ∙ head_of_range xs i)
-
--- Those of an image
-
-range_seen : {X : Type 0} (f : ℕ → X) (each place left first count n m : ℕ) → n ≡ min first left → m ≡ min count (left - n)
-    → map f (items_from each (place + each * n) m) ≡ take count (drop first (map f (items_from each place left)))
-range_seen f each place left first count n m first_is count_is =
-    ap (map f) (items-range each place left first count n m first_is count_is) ∙ sym (range-map f (items_from each place left) first count)
-
-pub symbols_range : (image : List ℕ) (place left first count n m : ℕ) → n ≡ min first left → m ≡ min count (left - n)
-    → symbols_from image (place + 16 * n) m ≡ take count (drop first (symbols_from image place left))
-symbols_range image = range_seen (symbol_at image) 16
-
-pub indirects_range : (image : List ℕ) (place left first count n m : ℕ) → n ≡ min first left → m ≡ min count (left - n)
-    → indirects_from image (place + 4 * n) m ≡ take count (drop first (indirects_from image place left))
-indirects_range image = range_seen (indirect_at image) 4
+pub item_read : {X Y : Type 0} (g : X → Y) (all : List X) (i : ℕ) (old new : List Y) (r : Option Y) → old ≡ map g (take 1 (drop i all))
+    → MatchOption r ((old ≡ []) × (new ≡ [])) (λ y. old ≡ y ∷ new) → r ≡ slice_get (map g all) i
+item_read g all i old new r is steps =
+    head_is old new r steps ∙ (ap (λ ys. slice_get ys 0) (is ∙ sym (range-map g all i 1)) ∙ head_of_range (map g all) i)

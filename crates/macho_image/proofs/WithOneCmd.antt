@@ -20,9 +20,9 @@ pub map-places : {B : Type 0} (g : ℕ → B) (image xs : List ℕ) → map (λ 
 map-places g image [] = refl
 map-places g image (x ∷ xs) = ap (λ ys. g x ∷ ys) (map-places g image xs)
 
--- what holds of all commands that remain holds of the first, and of the others
-pub first_has : (P : CommandView → Type 0) (old rest : List CommandView) (c : CommandView) → old ≡ c ∷ rest → All P old → P c
-first_has P old rest c is all = subst (All P) is all 0 c (omega arith)
+-- what holds of all that remain holds of the first, and of the others
+pub first_has : {X : Type 0} (P : X → Type 0) (old rest : List X) (x : X) → old ≡ x ∷ rest → All P old → P x
+first_has P old rest x is all = subst (All P) is all 0 x (omega arith)
 
-pub rest_has : (P : CommandView → Type 0) (old rest : List CommandView) (c : CommandView) → old ≡ c ∷ rest → All P old → All P rest
-rest_has P old rest c is all = All-tail P c rest (subst (All P) is all)
+pub rest_has : {X : Type 0} (P : X → Type 0) (old rest : List X) (x : X) → old ≡ x ∷ rest → All P old → All P rest
+rest_has P old rest x is all = All-tail P x rest (subst (All P) is all)

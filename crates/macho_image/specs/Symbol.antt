@@ -111,11 +111,3 @@ IsNameAt image commands strx name =
 abbrev pub items_from : ℕ → ℕ → ℕ → List ℕ
 items_from each place zero = []
 items_from each place (suc left) = place ∷ items_from each (place + each) left
-
--- `left` symbols, or indirect entries, from a place on
-abbrev pub symbols_from : List ℕ → ℕ → ℕ → List Symbol
-symbols_from image place left = map (symbol_at image) (items_from nlist.NLIST_64_SIZE place left)
-
-abbrev pub indirects_from : List ℕ → ℕ → ℕ → List Indirect
-indirects_from image place left =
-    map (indirect_at image) (items_from loader.INDIRECT_ENTRY_SIZE place left)

@@ -64,3 +64,7 @@ abbrev pub HoldBuilds : List ℕ → List CommandView → Type 0
 HoldBuilds image commands =
     LieInside image (structure_size BuildVersionCommand)
     (left_with_cmd loader.LC_BUILD_VERSION commands)
+
+-- the items of `each` bytes at these places lie inside the image
+abbrev pub HoldItems : List ℕ → ℕ → List ℕ → Type 0
+HoldItems image each places = All (λ place. place + each ≤ length image) places

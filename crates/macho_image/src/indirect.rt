@@ -2,6 +2,7 @@
 
 use crate::command::word_at;
 use crate::image::Image;
+use crate::items::Items;
 use macho_fields::Bytes;
 use macho_fields::header::loader::{
     INDIRECT_ENTRY_SIZE, INDIRECT_SYMBOL_ABS, INDIRECT_SYMBOL_LOCAL,
@@ -34,23 +35,23 @@ impl Indirect {
 #[derive(Drop)]
 pub struct Indirects<'a> {
     image: Bytes<'a>,
-    place: u64,
-    left: u64,
+    items: Items,
 }
 
 impl<'a> Model for Indirects<'a> {
-    ghost use Rattle.std.specs.Prelude.{◌+◌, ◌*◌, ◌≤◌, List, length};
+    ghost use Rattle.std.specs.Prelude.{List, map};
     ghost use Rattle.macho_fields.specs.Bytes.{bytes_of};
-    ghost use Rattle.macho_image.specs.declared.indirect.Indirect.{Indirect};
     ghost use Rattle.macho_fields.specs.declared.header.loader.TheConstants.{INDIRECT_ENTRY_SIZE};
-    ghost use Rattle.macho_image.specs.Symbol.{indirects_from};
+    ghost use Rattle.macho_image.specs.declared.indirect.Indirect.{Indirect};
+    ghost use Rattle.macho_image.specs.Symbol.{indirect_at};
+    ghost use Rattle.macho_image.specs.Views.{HoldItems};
 
     ghost Value = { List Indirect };
 
-    ghost view = { λ entries. indirects_from (bytes_of entries.image) entries.place entries.left };
+    ghost view = { λ entries. map (indirect_at (bytes_of entries.image)) entries.items };
 
     ghost invariant = { λ entries.
-        entries.place + INDIRECT_ENTRY_SIZE * entries.left ≤ length (bytes_of entries.image) };
+        HoldItems (bytes_of entries.image) INDIRECT_ENTRY_SIZE entries.items };
 }
 
 impl<'a> Iterator for Indirects<'a> {
@@ -63,32 +64,9 @@ impl<'a> Iterator for Indirects<'a> {
     ghost remaining = { item_count (λ left. left) };
 
     fn next(&mut self) -> Option<Indirect> {
-        if self.left == 0 {
-            return None;
-        }
-        let entry = Indirect {
-            place: self.place,
-            value: word_at(self.image, self.place),
-        };
-        self.place += INDIRECT_ENTRY_SIZE;
-        self.left -= 1;
-        Some(entry)
-    }
-}
-
-impl<'a> Indirects<'a> {
-    ghost use Rattle.std.specs.Prelude.{◌≡◌, take, drop};
-
-    // Those whose indices are from `first` on, `count` of them, those that there are.
-    fn range(&self, first: u64, count: u64) -> Indirects<'a>
-        ensures { result ≡ take count (drop first self.now) }
-    {
-        let first = first.min(self.left);
-        Indirects {
-            image: self.image,
-            place: self.place + INDIRECT_ENTRY_SIZE * first,
-            left: count.min(self.left - first),
-        }
+        let place = self.items.next()?;
+        let value = word_at(self.image, place);
+        Some(Indirect { place, value })
     }
 }
 
@@ -104,23 +82,14 @@ impl<'a> Image<'a> {
             (indirects_of self.now (commands_of self.now)) }
     {
         let image = self.bytes();
-        match self.dysymtab() {
-            Some(table)
-                if image.contains_table(
-                    table.indirectsymoff,
-                    table.nindirectsyms,
-                    INDIRECT_ENTRY_SIZE,
-                ) => Indirects {
-                image,
-                place: table.indirectsymoff,
-                left: table.nindirectsyms,
-            },
-            _ => Indirects {
-                image,
-                place: 0,
-                left: 0,
-            },
-        }
+        let items = match self.dysymtab() {
+            Some(table) => {
+                let (place, count) = (table.indirectsymoff, table.nindirectsyms);
+                Items::inside(image, place, count, INDIRECT_ENTRY_SIZE)
+            }
+            None => Items::none(),
+        };
+        Indirects { image, items }
     }
 
     /// The indirect entry with this index in the table, or `None` where there is none. The entries
@@ -129,6 +98,11 @@ impl<'a> Image<'a> {
         ensures { result ≡ slice_get (map (indirect_at self.now)
             (indirects_of self.now (commands_of self.now))) index }
     {
-        self.indirects().range(index, 1).next()
+        let all = self.indirects();
+        let mut one = Indirects {
+            image: all.image,
+            items: all.items.range(index, 1),
+        };
+        one.next()
     }
 }

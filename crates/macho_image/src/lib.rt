@@ -10,6 +10,7 @@ pub mod dysymtab;
 pub mod entry;
 pub mod image;
 pub mod indirect;
+mod items;
 mod landmarks;
 pub mod library;
 pub mod main_command;

@@ -6,6 +6,7 @@ ghost use Rattle.macho_image.specs.Symbol.{symbol_at};
 
 use crate::command::{long_at, word_at};
 use crate::image::Image;
+use crate::items::Items;
 use macho_fields::header::nlist::{N_SECT, N_STAB, N_TYPE, NLIST_64_SIZE};
 use macho_fields::{Bytes, Order};
 use std::marker::Model;
@@ -44,23 +45,22 @@ impl Symbol {
 #[derive(Drop)]
 pub struct Symbols<'a> {
     image: Bytes<'a>,
-    place: u64,
-    left: u64,
+    items: Items,
 }
 
 impl<'a> Model for Symbols<'a> {
-    ghost use Rattle.std.specs.Prelude.{◌+◌, ◌*◌, ◌≤◌, List, length};
+    ghost use Rattle.std.specs.Prelude.{List, map};
     ghost use Rattle.macho_fields.specs.Bytes.{bytes_of};
     ghost use Rattle.macho_fields.specs.declared.header.nlist.TheConstants.{NLIST_64_SIZE};
     ghost use Rattle.macho_image.specs.declared.symbol.Symbol.{Symbol};
-    ghost use Rattle.macho_image.specs.Symbol.{symbols_from};
+    ghost use Rattle.macho_image.specs.Symbol.{symbol_at};
+    ghost use Rattle.macho_image.specs.Views.{HoldItems};
 
     ghost Value = { List Symbol };
 
-    ghost view = { λ symbols. symbols_from (bytes_of symbols.image) symbols.place symbols.left };
+    ghost view = { λ symbols. map (symbol_at (bytes_of symbols.image)) symbols.items };
 
-    ghost invariant = { λ symbols.
-        symbols.place + NLIST_64_SIZE * symbols.left ≤ length (bytes_of symbols.image) };
+    ghost invariant = { λ symbols. HoldItems (bytes_of symbols.image) NLIST_64_SIZE symbols.items };
 }
 
 impl<'a> Iterator for Symbols<'a> {
@@ -73,29 +73,8 @@ impl<'a> Iterator for Symbols<'a> {
     ghost remaining = { item_count (λ left. left) };
 
     fn next(&mut self) -> Option<Symbol> {
-        if self.left == 0 {
-            return None;
-        }
-        let symbol = symbol_from(self.image, self.place);
-        self.place += NLIST_64_SIZE;
-        self.left -= 1;
-        Some(symbol)
-    }
-}
-
-impl<'a> Symbols<'a> {
-    ghost use Rattle.std.specs.Prelude.{◌≡◌, take, drop};
-
-    // Those whose indices are from `first` on, `count` of them, those that there are.
-    fn range(&self, first: u64, count: u64) -> Symbols<'a>
-        ensures { result ≡ take count (drop first self.now) }
-    {
-        let first = first.min(self.left);
-        Symbols {
-            image: self.image,
-            place: self.place + NLIST_64_SIZE * first,
-            left: count.min(self.left - first),
-        }
+        let place = self.items.next()?;
+        Some(symbol_from(self.image, place))
     }
 }
 
@@ -110,19 +89,11 @@ impl<'a> Image<'a> {
         ensures { result ≡ map (symbol_at self.now) (symbols_of self.now (commands_of self.now)) }
     {
         let image = self.bytes();
-        match self.symtab() {
-            Some(table) if image.contains_table(table.symoff, table.nsyms, NLIST_64_SIZE) =>
-                Symbols {
-                    image,
-                    place: table.symoff,
-                    left: table.nsyms,
-                },
-            _ => Symbols {
-                image,
-                place: 0,
-                left: 0,
-            },
-        }
+        let items = match self.symtab() {
+            Some(table) => Items::inside(image, table.symoff, table.nsyms, NLIST_64_SIZE),
+            None => Items::none(),
+        };
+        Symbols { image, items }
     }
 
     /// The symbols whose indices in the table are from `first` on, `count` of them, those that there
@@ -131,7 +102,11 @@ impl<'a> Image<'a> {
         ensures { result ≡ map (symbol_at self.now)
             (take count (drop first (symbols_of self.now (commands_of self.now)))) }
     {
-        self.symbols().range(first, count)
+        let all = self.symbols();
+        Symbols {
+            image: all.image,
+            items: all.items.range(first, count),
+        }
     }
 
     /// The symbol with this index in the table, or `None` where there is none. The symbols before it
@@ -140,7 +115,7 @@ impl<'a> Image<'a> {
         ensures { result ≡ slice_get (map (symbol_at self.now)
             (symbols_of self.now (commands_of self.now))) index }
     {
-        self.symbols().range(index, 1).next()
+        self.symbol_range(index, 1).next()
     }
 }
 

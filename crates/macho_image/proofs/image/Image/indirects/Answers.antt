@@ -1,10 +1,13 @@
-use Rattle.std.proofs.Common.{arith}
-use Rattle.std.proofs.lemmas.Bool.{le-leb}
+use Rattle.std.proofs.Common.{◌∙◌, sym, subst}
 use Rattle.macho_fields.specs.Bytes.{bytes_of}
-use Rattle.macho_image.proofs.Items.{indirects_seen}
+use Rattle.macho_image.specs.Views.{HoldItems}
+use Rattle.macho_image.proofs.Ranges.{none_held}
 use Rattle.macho_image.proofs.image.Image.indirects.Goals as goal
+use Rattle.macho_image.proofs.image.Image.indirects.Goals.{in-Some, in-None}
 
-pub returns-in-Some : goal.returns-in-Some
-returns-in-Some c =
-    indirects_seen c.args.self.now (bytes_of c.bytes-image.result) c.dysymtab.result c.in-Some.table c.bytes-image.ensures.bytes c.dysymtab.ensures c.in-Some.is
-    (le-leb _ _ (omega (arith, c.contains_table.ensures.0 c.if-contains_table.true)))
+pub invariant_of-result : goal.invariant_of-result
+invariant_of-result c =
+    elim c.match-dysymtab.branch [
+      | in-Some w ↦ subst (HoldItems (bytes_of c.bytes-image.result) 4) (sym w.items-is) w.inside-items.ensures.held
+      | in-None w ↦ none_held (bytes_of c.bytes-image.result) 4 _ (w.items-is ∙ w.none-items.ensures)
+    ]

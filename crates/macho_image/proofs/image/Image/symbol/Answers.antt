@@ -1,8 +1,9 @@
-use Rattle.std.proofs.Common.{ap, ◌∙◌, slice_get}
-use Rattle.macho_image.proofs.Ranges.{item_at}
+use Rattle.macho_fields.specs.Image.{commands_of}
+use Rattle.macho_image.specs.Symbol.{symbol_at, symbols_of}
+use Rattle.macho_image.proofs.Ranges.{item_read}
 use Rattle.macho_image.proofs.image.Image.symbol.Goals as goal
 
 pub returns : goal.returns
 returns c =
-    item_at c.symbols.result c.args.index c.range.result c.next.new.self c.next.result c.range.ensures c.next.ensures.steps
-    ∙ ap (λ symbols. slice_get symbols c.args.index) c.symbols.ensures
+    let image = c.args.self.now in
+    item_read (symbol_at image) (symbols_of image (commands_of image)) c.args.index c.symbol_range.result c.next.new.self c.next.result c.symbol_range.ensures c.next.ensures.steps
