@@ -1,21 +1,24 @@
 -- The segments of an opened image, and their sections.
-use Rattle.std.proofs.Common.{◌≡◌, ℕ, suc, zero, ◌+◌, ◌*◌, ◌≤◌, ◌==◌, List, [], ◌∷◌, ◌++◌, length, map, cond, Bool, true, false, All, Contains, refl, sym, ap, ap₂, ◌∙◌, subst, arith}
-use Rattle.std.specs.List.{sum_by, range_with_len, flat_map}
+use Rattle.std.proofs.Common.{◌≡◌, ℕ, ◌+◌, ◌*◌, ◌≤◌, ◌==◌, List, [], ◌∷◌, ◌++◌, length, map, cond, Bool, true, false, All, Contains, refl, sym, ap, ◌∙◌, subst, arith}
+use Rattle.std.specs.List.{sum_by, flat_map}
 use Rattle.std.proofs.lemmas.List.{map-append}
+use Rattle.std.proofs.lemmas.Simd.{map-map}
 use Rattle.std.proofs.lemmas.Bool.{eqb-true}
 use Rattle.std.proofs.lemmas.List.Elements.{All-contains_itself, All-map, All-tail}
 use Rattle.std.proofs.lemmas.List.Sums.{sum_by-cons}
 use Rattle.macho_fields.specs.Image.{command_cmd, command_size, commands_end, commands_of, Follow, AreCommands}
-use Rattle.macho_fields.specs.Segment.{nsects, segments_of, section_count}
+use Rattle.macho_fields.specs.Segment.{nsects, segments_of, sections_in, section_count}
 use Rattle.macho_fields.specs.declared.header.loader.TheConstants as loader
 use Rattle.macho_fields.proofs.Opened.{OpenedFacts, sections_inside, command_inside}
 use Rattle.macho_fields.proofs.Parts.{with_cmd_is, with_cmd_among}
 use Rattle.macho_image.specs.Opened.{IsOpened}
 use Rattle.macho_image.specs.Command.{CommandView, command_at}
-use Rattle.macho_image.specs.Segment.{sections_from, sections_among, SegmentView, segment_at, section_at, sections_with, sections_of}
-use Rattle.macho_image.specs.Views.{HaveSegments, HoldsSegment, HoldSegments}
+use Rattle.macho_image.specs.Segment.{sections_among, SegmentView, SectionView, segment_at, section_at, sections_with, sections_of}
+use Rattle.macho_image.specs.Views.{HaveSegments, HoldsSegment, HoldSegments, HoldsSection}
+use Rattle.macho_image.specs.Symbol.{items_from}
 use Rattle.macho_image.proofs.Opened.{opened_keeps}
 use Rattle.macho_image.proofs.OpenedWalk.{opened_commands}
+use Rattle.macho_image.proofs.Ranges.{items_are, items_held}
 
 held_segment : (image commands : List ℕ) (segment : ℕ) → OpenedFacts image → AreCommands image commands → Contains (segments_of image commands) segment → HoldsSegment image segment
 held_segment image commands segment opened are has =
@@ -32,14 +35,23 @@ all_segments_hold image all opened have =
 
 -- Sections
 
-sections_from_by : (image : List ℕ) (segment start place a n : ℕ) → place ≡ start + 80 * a
-    → sections_from image segment place n ≡ map (section_at image) (map (λ section. (segment, section)) (map (λ k. start + 80 * k) (range_with_len a n)))
-sections_from_by image segment start place a zero is = refl
-sections_from_by image segment start place a (suc n) is =
-    ap₂ (λ p rest. section_at image (segment, p) ∷ rest) is (sections_from_by image segment start (place + 80) (a + 1) n (omega arith))
+-- those of a segment that lies inside the image do too
+pub sections_held : (image : List ℕ) (segment : ℕ) → HoldsSegment image segment → All (HoldsSection image segment) (items_from 80 (segment + 72) (nsects image segment))
+sections_held image segment held k d less = record {
+  held = held;
+  inside = items_held image 80 (segment + 72) (nsects image segment) (omega (arith, held)) k d less;
+}
 
-pub sections_seen : (image : List ℕ) (segment : ℕ) → sections_from image segment (segment + 72) (nsects image segment) ≡ map (section_at image) (sections_with image segment)
-sections_seen image segment = sections_from_by image segment (segment + 72) (segment + 72) 0 (nsects image segment) (omega arith)
+-- the items that are counted by what is seen of the segment
+pub items_counted_by : (image : List ℕ) (segment count : ℕ) (seen : SegmentView) (items : List ℕ) → segment_at image segment ≡ seen → count ≡ nsects seen.image seen.place
+    → items ≡ items_from 80 (segment + 72) count → items ≡ items_from 80 (segment + 72) (nsects image segment)
+items_counted_by image segment count seen items same counts are =
+    are ∙ ap (items_from 80 (segment + 72)) (counts ∙ sym (ap (λ (s : SegmentView). nsects s.image s.place) same))
+
+pub sections_seen : (image : List ℕ) (segment : ℕ) → map (λ place. section_at image (segment, place)) (items_from 80 (segment + 72) (nsects image segment)) ≡ map (section_at image) (sections_with image segment)
+sections_seen image segment =
+    ap (map (λ place. section_at image (segment, place))) (items_are (segment + 72) 80 (nsects image segment))
+    ∙ sym (map-map (section_at image) (λ section. (segment, section)) (sections_in image segment))
 
 -- the sections of some segments
 sections_by_segment : (image segments : List ℕ) → sections_among (map (segment_at image) segments) ≡ map (section_at image) (flat_map (sections_with image) segments)
@@ -47,9 +59,11 @@ sections_by_segment image [] = refl
 sections_by_segment image (x ∷ xs) =
     ap (λ rest. map (section_at image) (sections_with image x) ++ rest) (sections_by_segment image xs) ∙ sym (map-append (section_at image) (sections_with image x) (flat_map (sections_with image) xs))
 
-pub all_sections_seen : (image commands : List ℕ) (all : List SegmentView) → all ≡ map (segment_at image) (segments_of image commands)
-    → sections_among all ≡ map (section_at image) (sections_of image commands)
-all_sections_seen image commands all is = ap sections_among is ∙ sections_by_segment image (segments_of image commands)
+-- after none of another segment
+pub all_sections_seen : (image commands : List ℕ) (read : ℕ → SectionView) (none : List ℕ) (all : List SegmentView) → none ≡ [] → all ≡ map (segment_at image) (segments_of image commands)
+    → map read none ++ sections_among all ≡ map (section_at image) (sections_of image commands)
+all_sections_seen image commands read none all empty is =
+    ap (λ places. map read places ++ sections_among all) empty ∙ (ap sections_among is ∙ sections_by_segment image (segments_of image commands))
 
 -- The number of sections
 

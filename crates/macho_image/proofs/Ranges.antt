@@ -20,12 +20,13 @@ items_counted start each i (suc n) =
     let next : start + each * (i + 1) ≡ start + each * i + each = omega arith in
     ap (λ (ys : List ℕ). (start + each * i) ∷ ys) (items_counted start each (i + 1) n ∙ ap (λ p. items_from each p n) next)
 
+pub items_are : (start each count : ℕ) → items_from each start count ≡ map (λ k. start + each * k) (range_with_len 0 count)
+items_are start each count = let first : start ≡ start + each * 0 = omega arith in ap (λ p. items_from each p count) first ∙ sym (items_counted start each 0 count)
+
 -- a table that lies inside the image has all its items
 pub inside_all : (image : List ℕ) (start each count : ℕ) → start + count * each ≤ length image → items_from each start count ≡ items_inside image start each count
 inside_all image start each count fits =
-    let first : start ≡ start + each * 0 = omega arith in
-    let inside : nat_le (start + each * count) (length image) ≡ true = le-leb _ _ (omega (arith, fits)) in
-    rw inside (ap (λ p. items_from each p count) first ∙ sym (items_counted start each 0 count))
+    let inside : nat_le (start + each * count) (length image) ≡ true = le-leb _ _ (omega (arith, fits)) in rw inside (items_are start each count)
 
 -- and its items lie inside the image
 pub items_held : (image : List ℕ) (each place left : ℕ) → place + left * each ≤ length image → HoldItems image each (items_from each place left)

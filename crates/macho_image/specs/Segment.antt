@@ -1,6 +1,6 @@
 -- The segments of an opened image, and their sections. (mach-o/loader.h: segment_command_64,
 -- section_64)
-use Rattle.std.specs.Prelude.{ℕ, zero, suc, ◌+◌, ◌==◌, List, [], ◌∷◌, map, flat_map}
+use Rattle.std.specs.Prelude.{ℕ, ◌+◌, ◌==◌, List, map, flat_map}
 use Rattle.std.specs.List.{before_first}
 use Rattle.macho_fields.specs.Field.{part}
 use Rattle.macho_fields.specs.Image.{word}
@@ -63,13 +63,6 @@ reserved2 image section = word image (section + 72)
 abbrev pub segments_left : List ℕ → List CommandView → List SegmentView
 segments_left image commands =
     map (λ c. segment_at image c.place) (left_with_cmd loader.LC_SEGMENT_64 commands)
-
--- `left` sections of a segment from a place on, one after another
-abbrev pub sections_from : List ℕ → ℕ → ℕ → ℕ → List SectionView
-sections_from image segment place zero = []
-sections_from image segment place (suc left) =
-    section_at image (segment, place)
-    ∷ sections_from image segment (place + loader.SECTION_64_SIZE) left
 
 -- the sections of the segments that remain
 abbrev pub sections_among : List SegmentView → List SectionView

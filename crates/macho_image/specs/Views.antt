@@ -1,5 +1,5 @@
 -- What the views of an opened image need of it.
-use Rattle.std.specs.Prelude.{◌≡◌, ℕ, ◌+◌, ◌*◌, ◌≤◌, ◌<◌, List}
+use Rattle.std.specs.Prelude.{◌≡◌, ℕ, ◌+◌, ◌*◌, ◌≤◌, List}
 use Rattle.std.specs.Prelude.{length, map, All}
 use Rattle.macho_fields.specs.Command.{name_start}
 use Rattle.macho_fields.specs.Field.{HasZero}
@@ -33,12 +33,6 @@ HoldSegments image commands =
 pub record HoldsSection (image : List ℕ) (segment section : ℕ) : Type 0 where
   pub held : HoldsSegment image segment
   pub inside : section + loader.SECTION_64_SIZE ≤ length image
-
--- `left` sections from a place on lie inside the image, and so does their segment, where there are
--- any
-pub record HoldSections (image : List ℕ) (segment place left : ℕ) : Type 0 where
-  pub held : 0 < left → HoldsSegment image segment
-  pub inside : place + loader.SECTION_64_SIZE * left ≤ length image
 
 -- the lc_str of a command lies inside the image, and so does the zero byte that ends its name
 pub record HoldsName (image : List ℕ) (command : ℕ) : Type 0 where

@@ -1,11 +1,7 @@
 //! The base address of an image and the address of its entry point. (`mach-o/loader.h`:
 //! `segment_command_64`, `entry_point_command`)
 
-ghost use Rattle.std.specs.Prelude.{◌≡◌};
-ghost use Rattle.macho_fields.specs.Segment.{shows_start};
-
 use crate::image::Image;
-use crate::segment::Segment;
 
 impl<'a> Image<'a> {
     ghost use Rattle.std.specs.Prelude.{◌≡◌};
@@ -19,7 +15,7 @@ impl<'a> Image<'a> {
         ensures { result ≡ base_of self.now (commands_of self.now) }
     {
         for segment in self.segments() {
-            if shows_start(&segment) {
+            if segment.shows_start() {
                 return Some(segment.vmaddr());
             }
         }
@@ -35,11 +31,4 @@ impl<'a> Image<'a> {
         let main = self.main_command()?;
         base.checked_add(main.entryoff)
     }
-}
-
-// Whether `segment` is mapped, and begins with the first bytes of the image.
-fn shows_start(segment: &Segment) -> bool
-    ensures { result ≡ shows_start segment.now.image segment.now.place }
-{
-    segment.fileoff() == 0 && segment.filesize() > 0 && segment.vmsize() > 0
 }

@@ -43,10 +43,22 @@ impl Iterator for Items {
 }
 
 impl Items {
-    ghost use Rattle.std.specs.Prelude.{◌≡◌, [], take, drop};
+    ghost use Rattle.std.specs.Prelude.{◌≡◌, ◌+◌, ◌*◌, ◌^◌, ◌<◌, [], take, drop};
     ghost use Rattle.macho_fields.specs.Bytes.{bytes_of};
-    ghost use Rattle.macho_image.specs.Symbol.{items_inside};
+    ghost use Rattle.macho_image.specs.Symbol.{items_from, items_inside};
     ghost use Rattle.macho_image.specs.Views.{HoldItems};
+
+    // The `count` items of `each` bytes from `place` on.
+    pub(crate) fn new(place: u64, count: u64, each: u64) -> Items
+        requires { place + count * each < 2 ^ 64 }
+        ensures { result ≡ items_from each place count }
+    {
+        Items {
+            place,
+            each,
+            left: count,
+        }
+    }
 
     // The `count` items of `each` bytes from `place` on, where they lie inside the image, and none
     // otherwise.
@@ -55,11 +67,7 @@ impl Items {
         ensures held { HoldItems (bytes_of image.entry) each result }
     {
         if image.contains_table(place, count, each) {
-            Items {
-                place,
-                each,
-                left: count,
-            }
+            Items::new(place, count, each)
         } else {
             Items::none()
         }

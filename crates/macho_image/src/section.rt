@@ -2,10 +2,11 @@
 
 use crate::command::{long_in, word_in};
 use crate::image::Image;
+use crate::items::Items;
 use crate::segment::{Segment, Segments, short_name};
 use macho_fields::Bytes;
 use macho_fields::header::loader::{
-    S_GB_ZEROFILL, S_THREAD_LOCAL_ZEROFILL, S_ZEROFILL, SECTION_64_SIZE, SECTION_TYPE,
+    S_GB_ZEROFILL, S_THREAD_LOCAL_ZEROFILL, S_ZEROFILL, SECTION_TYPE,
 };
 use std::marker::Model;
 
@@ -151,23 +152,23 @@ impl<'a> Section<'a> {
 pub struct Sections<'a> {
     pub(crate) image: Bytes<'a>,
     pub(crate) segment: u64,
-    pub(crate) place: u64,
-    pub(crate) left: u64,
+    pub(crate) items: Items,
 }
 
 impl<'a> Model for Sections<'a> {
-    ghost use Rattle.std.specs.Prelude.{List};
+    ghost use Rattle.std.specs.Prelude.{List, map, All};
     ghost use Rattle.macho_fields.specs.Bytes.{bytes_of};
-    ghost use Rattle.macho_image.specs.Segment.{SectionView, sections_from};
-    ghost use Rattle.macho_image.specs.Views.{HoldSections};
+    ghost use Rattle.macho_image.specs.Segment.{SectionView, section_at};
+    ghost use Rattle.macho_image.specs.Views.{HoldsSection};
 
     ghost Value = { List SectionView };
 
     ghost view = { λ sections.
-        sections_from (bytes_of sections.image) sections.segment sections.place sections.left };
+        map (λ place. section_at (bytes_of sections.image) (sections.segment, place))
+        sections.items };
 
     ghost invariant = { λ sections.
-        HoldSections (bytes_of sections.image) sections.segment sections.place sections.left };
+        All (HoldsSection (bytes_of sections.image) sections.segment) sections.items };
 }
 
 impl<'a> Iterator for Sections<'a> {
@@ -180,17 +181,12 @@ impl<'a> Iterator for Sections<'a> {
     ghost remaining = { item_count (λ left. left) };
 
     fn next(&mut self) -> Option<Section<'a>> {
-        if self.left == 0 {
-            return None;
-        }
-        let section = Section {
+        let place = self.items.next()?;
+        Some(Section {
             image: self.image,
             segment: self.segment,
-            place: self.place,
-        };
-        self.place += SECTION_64_SIZE;
-        self.left -= 1;
-        Some(section)
+            place,
+        })
     }
 }
 
@@ -248,8 +244,7 @@ impl<'a> Image<'a> {
             sections: Sections {
                 image: self.bytes(),
                 segment: 0,
-                place: 0,
-                left: 0,
+                items: Items::none(),
             },
             segments: self.segments(),
         }

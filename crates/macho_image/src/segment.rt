@@ -6,9 +6,10 @@ ghost use Rattle.macho_image.specs.Segment.{short_name};
 
 use crate::command::{Commands, long_in, word_in};
 use crate::image::Image;
+use crate::items::Items;
 use crate::section::Sections;
 use macho_fields::header::loader::segment_command_64::NSECTS;
-use macho_fields::header::loader::{LC_SEGMENT_64, SEGMENT_COMMAND_64_SIZE};
+use macho_fields::header::loader::{LC_SEGMENT_64, SECTION_64_SIZE, SEGMENT_COMMAND_64_SIZE};
 use macho_fields::{Bytes, Span};
 use std::marker::Model;
 
@@ -35,6 +36,7 @@ impl<'a> Segment<'a> {
     ghost use Rattle.std.specs.Prelude.{◌≡◌, map};
     ghost use Rattle.macho_fields.specs.Bytes.{bytes_of};
     ghost use Rattle.macho_fields.specs.Segment.{vmaddr, vmsize, fileoff, filesize, initprot, nsects};
+    ghost use Rattle.macho_fields.specs.Segment.{shows_start};
     ghost use Rattle.macho_image.specs.Segment.{maxprot, section_at, sections_with, segment_name};
 
     /// All bytes of the image that it is a segment of.
@@ -107,16 +109,24 @@ impl<'a> Segment<'a> {
         u64::from(word_in(self.image, self.place, NSECTS))
     }
 
+    /// Whether it is mapped, and begins with the first bytes of the image. The base of the image is the
+    /// address of the first such segment.
+    pub fn shows_start(&self) -> bool
+        ensures { result ≡ shows_start self.now.image self.now.place }
+    {
+        self.fileoff() == 0 && self.filesize() > 0 && self.vmsize() > 0
+    }
+
     /// Its sections, in the order of the file.
     pub fn sections(&self) -> Sections<'a>
         ensures { result ≡ map (section_at self.now.image)
             (sections_with self.now.image self.now.place) }
     {
+        let start = self.place + SEGMENT_COMMAND_64_SIZE;
         Sections {
             image: self.image,
             segment: self.place,
-            place: self.place + SEGMENT_COMMAND_64_SIZE,
-            left: self.nsects(),
+            items: Items::new(start, self.nsects(), SECTION_64_SIZE),
         }
     }
 }

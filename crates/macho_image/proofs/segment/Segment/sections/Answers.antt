@@ -1,11 +1,19 @@
-use Rattle.std.proofs.Common.{◌+◌, ap, ◌∙◌}
-use Rattle.macho_image.specs.Segment.{SegmentView, sections_from}
-use Rattle.macho_image.proofs.HeldSegments.{sections_seen}
+use Rattle.std.proofs.Common.{map, All, sym, ap, ◌∙◌, subst}
+use Rattle.macho_fields.specs.Bytes.{bytes_of}
+use Rattle.macho_image.specs.Segment.{SegmentView, section_at, sections_with}
+use Rattle.macho_image.specs.Views.{HoldsSection}
+use Rattle.macho_image.proofs.HeldSegments.{sections_held, items_counted_by, sections_seen}
 use Rattle.macho_image.proofs.segment.Segment.sections.Goals as goal
+
+pub invariant_of-result : goal.invariant_of-result
+invariant_of-result c =
+    let image = bytes_of c.self.inside.image in
+    let segment = c.self.inside.place in
+    subst (All (HoldsSection image segment)) (sym (items_counted_by image segment _ _ _ c.self.view_is c.nsects.ensures c.new.ensures)) (sections_held image segment c.self.invariant)
 
 pub returns : goal.returns
 returns c =
-    let image = c.args.self.now.image in
-    let place = c.args.self.now.place in
-    ap (λ (s : SegmentView). sections_from s.image s.place (s.place + 72) c.nsects.result) c.self.view_is
-    ∙ (ap (sections_from image place (place + 72)) c.nsects.ensures ∙ sections_seen image place)
+    let image = bytes_of c.self.inside.image in
+    let segment = c.self.inside.place in
+    ap (map (λ place. section_at image (segment, place))) (items_counted_by image segment _ _ _ c.self.view_is c.nsects.ensures c.new.ensures)
+    ∙ (sections_seen image segment ∙ ap (λ (s : SegmentView). map (section_at s.image) (sections_with s.image s.place)) c.self.view_is)
