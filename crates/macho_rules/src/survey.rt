@@ -3,7 +3,6 @@
 
 ghost use Rattle.std.specs.Prelude.{◌≡◌, ◌∷◌, []};
 ghost use Rattle.std.specs.Option.{option_or};
-ghost use Rattle.macho_fields.specs.Segment.{shows_start};
 ghost use Rattle.macho_rules.specs.Survey.{base_among};
 
 use crate::sections::{has_relocs_outside, is_misplaced, is_outside_memory};
@@ -318,16 +317,9 @@ impl Mapped {
 fn base_with(base: Option<u64>, segment: &Segment) -> Option<u64>
     ensures { result ≡ option_or base (base_among (segment.now ∷ [])) }
 {
-    if base.is_none() && shows_start(segment) {
+    if base.is_none() && segment.shows_start() {
         Some(segment.vmaddr())
     } else {
         base
     }
-}
-
-// Whether the segment is mapped, and begins with the first bytes of the image.
-fn shows_start(segment: &Segment) -> bool
-    ensures { result ≡ shows_start segment.now.image segment.now.place }
-{
-    segment.fileoff() == 0 && segment.filesize() > 0 && segment.vmsize() > 0
 }

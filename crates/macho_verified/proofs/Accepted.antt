@@ -1,7 +1,7 @@
 -- What the parts of an accepted image keep.
-use Rattle.std.proofs.Common.{◌≡◌, ◌≢◌, ℕ, zero, suc, ◌+◌, ◌-◌, ◌*◌, ◌≤◌, ◌<◌, List, [], ◌∷◌, ◌++◌, map, flat_map, length, All, Contains, Option, Some, None, IsSome, IfSome, IsSomeAnd, Bool, true, false, nat_le, slice_get, take, drop, length-drop, if◌then◌else◌, ◌↔◌, refl, sym, ap, ◌∙◌, subst, arith, inr, le_refl}
+use Rattle.std.proofs.Common.{◌≡◌, ◌≢◌, ℕ, zero, suc, ◌+◌, ◌-◌, ◌*◌, ◌≤◌, ◌<◌, List, [], ◌∷◌, ◌++◌, map, flat_map, length, All, Contains, Option, Some, None, IsSome, IfSome, IsSomeAnd, Bool, true, false, nat_le, slice_get, take, drop, if◌then◌else◌, ◌↔◌, refl, sym, ap, ◌∙◌, subst, arith, inr, le_refl}
 use Rattle.std.proofs.lemmas.List.Elements.{All-map, All-tail, All-take, All-drop, All-contains_itself}
-use Rattle.std.proofs.lemmas.List.{drop-take, drop-drop, length-take-le}
+use Rattle.std.proofs.lemmas.List.{drop-take, drop-drop}
 use Rattle.std.proofs.lemmas.Option.{none-some, same_Some}
 use Rattle.std.specs.List.{range_with_len}
 use Rattle.std.specs.Option.{option_map, option_map_or}
@@ -34,10 +34,6 @@ accepted_unbroken image keeps = keeps.unbroken
 pub accepted_sound : (image : List ℕ) → IsAccepted image → IsSoundImage image (commands_of image)
 unfolding IsAccepted
 accepted_sound image keeps = keeps.sound
-
--- what holds of all that remain holds of all but the first
-pub rest_has : {X : Type 0} (P : X → Type 0) (old rest : List X) (x : X) → old ≡ x ∷ rest → All P old → All P rest
-rest_has P old rest x is all = All-tail P x rest (subst (All P) is all)
 
 -- a range of places that are all inside ends inside, where it has a place
 pub range_inside : (n start len : ℕ) → 0 < len → ((place : ℕ) → Covers start len place → place < n) → start + len ≤ n
@@ -207,9 +203,6 @@ part_part start len past few xs fits =
     let whole : len ≡ past + (len - past) = omega arith in
     ap (λ n. take few (drop past (take n (drop start xs)))) whole
     ∙ (ap (take few) (drop-take past (len - past) (drop start xs) ∙ ap (take (len - past)) (drop-drop past start xs)) ∙ take_take few (len - past) (drop (start + past) xs) (omega arith))
-
-pub length_part : (start len : ℕ) (xs : List ℕ) → start + len ≤ length xs → length (part start len xs) ≡ len
-length_part start len xs within = length-take-le len (drop start xs) (let rest : length (drop start xs) ≡ length xs - start = length-drop start xs in omega arith)
 
 -- so many bytes from an offset on are those at so many addresses
 pub fits_in : (size vmsize low vmaddr long filesize start address len : ℕ) → size ≡ vmsize → ¬ (size ≡ 0) → low ≡ vmaddr → low ≤ address → start ≡ address - low → long ≡ filesize

@@ -1,13 +1,10 @@
-use Rattle.std.proofs.Common.{◌∙◌, map, sym}
 use Rattle.macho_fields.specs.Image.{commands_of}
 use Rattle.macho_image.specs.Symbol.{symbols_of}
-use Rattle.macho_image.proofs.Ranges.{range-map, item_at}
+use Rattle.macho_image.proofs.Ranges.{item_read}
 use Rattle.macho_verified.specs.Image.{symbol_view}
 use Rattle.macho_verified.proofs.image.VerifiedImage.symbol.Goals as goal
 
 pub returns : goal.returns
 returns c =
     let image = c.args.self.now in
-    let all = symbols_of image (commands_of image) in
-    item_at (map (symbol_view image) all) c.args.index c.symbol_group.result c.next.new.self c.next.result
-    (c.symbol_group.ensures.symbols ∙ sym (range-map (symbol_view image) all c.args.index 1)) c.next.ensures.steps
+    item_read (symbol_view image) (symbols_of image (commands_of image)) c.args.index c.symbol_group.result c.next.new.self c.next.result c.symbol_group.ensures.symbols c.next.ensures.steps

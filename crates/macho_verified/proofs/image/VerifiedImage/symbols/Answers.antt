@@ -1,4 +1,4 @@
-use Rattle.std.proofs.Common.{◌≡◌, ◌∙◌, List, ℕ, map, ap, subst, rules}
+use Rattle.std.proofs.Common.{◌∙◌, List, ℕ, map, ap, subst, rules}
 use Rattle.macho_verified.specs.Image.{symbol_view}
 use Rattle.macho_verified.proofs.Counted.{IsSymtab, all_taken, symbols_whole}
 use Rattle.macho_verified.proofs.image.VerifiedImage.symbols.Goals as goal

@@ -1,6 +1,6 @@
 use Rattle.macho_fields.specs.Bytes.{bytes_of}
 use Rattle.macho_verified.specs.Accepted.{IsVerifiedSymbol}
-use Rattle.macho_verified.proofs.Accepted.{rest_has}
+use Rattle.macho_image.proofs.WithOneCmd.{rest_has}
 use Rattle.macho_verified.proofs.symbol.VerifiedSymbolsIterator.next.Goals as goal
 
 pub invariant_of-self-2 : goal.invariant_of-self-2
