@@ -6,3 +6,5 @@ pub mod Unique
 pub mod ElementWalks
 pub mod Sharings
 pub mod Passed
+pub mod Judged
+pub mod SliceSpans

@@ -8,3 +8,4 @@ pub mod Order
 pub mod Accounted
 pub mod Verdict
 pub mod Gaps
+pub mod Stray

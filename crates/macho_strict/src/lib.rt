@@ -8,6 +8,7 @@ pub mod law;
 mod overlap;
 pub mod refusal;
 pub mod rule;
+mod stray;
 
 pub use elements::{Element, Elements};
 pub use refusal::StrictRefusal;

@@ -1,6 +1,6 @@
 //! The strict rules by name, and where one is broken. A place is an offset in bytes.
 
-ghost use Rattle.std.specs.Prelude.{◌≡◌, IfOk, Some};
+ghost use Rattle.std.specs.Prelude.{◌≡◌, IfOk, IsOk, IsErrAnd, MatchOption, Some};
 ghost use Rattle.std.specs.Fmt.{styled_text};
 ghost use Rattle.std.specs.Fmt.InlineText.{inline_text};
 ghost use Rattle.macho_strict.specs.RuleList.{name_of, text_of};
@@ -37,6 +37,17 @@ impl StrictRule {
             StrictRule::SegmentFileOverlap => "segment-file-overlap",
             StrictRule::ElementOverlap => "element-overlap",
             StrictRule::StrayByte => "stray-byte",
+        }
+    }
+
+    // The answer of the rule: its break at the least place, if there is one.
+    pub(crate) fn judge(self, least: Option<u64>) -> Result<(), StrictBreak>
+        ensures { MatchOption least (IsOk result)
+            (λ place. IsErrAnd result (λ b. (b.rule ≡ self) × (b.place ≡ place))) }
+    {
+        match least {
+            Some(place) => Err(StrictBreak::at(self, place)),
+            None => Ok(()),
         }
     }
 }

@@ -1,0 +1,35 @@
+use Rattle.std.proofs.Common.{◌∷◌, ℕ, Ok, Err, subst}
+use Rattle.macho_fields.specs.FirstPlace.{IsLeastPlace}
+use Rattle.macho_fields.specs.Overlap.{IsAscending}
+use Rattle.macho_fields.specs.declared.span.Span.{Span}
+use Rattle.macho_strict.specs.Gaps.{IsStray, ComeByStart}
+use Rattle.macho_strict.specs.Order.{IsLeast}
+use Rattle.macho_strict.specs.Rules.{BreaksFile}
+use Rattle.macho_strict.specs.Verdict.{slice_spans}
+use Rattle.macho_strict.specs.declared.rule.StrictRule.TheVariants as rule
+use Rattle.macho_strict.proofs.Judged.{first_judged, none_before, without_memory, refused}
+use Rattle.macho_strict.proofs.SliceSpans.{least_of_file, ascend_after_table}
+use Rattle.macho_strict.proofs.stray.fat_stray_byte.Goals as goal
+
+pub returns-in_err-stray : goal.returns-in_err-stray
+returns-in_err-stray c =
+    let file = c.args.verified.now in
+    let unordered : ¬ ComeByStart (c.in-Some.table ∷ slice_spans file) = c.in_err-stray.ensures.memory in
+    let descend : ¬ IsAscending (slice_spans file) = λ up. subst (λ (table : Span). ¬ ComeByStart (table ∷ slice_spans file)) c.in-Some.ensures.1 unordered (ascend_after_table file up) in
+    without_memory (BreaksFile file) rule.FatStrayByte (¬ IsAscending (slice_spans file)) descend c.from_residual.result c.from_residual.ensures.1
+
+pub returns-in_err-judge : goal.returns-in_err-judge
+returns-in_err-judge c =
+    let file = c.args.verified.now in
+    let stray = c.in_ok-stray.stray in
+    let b = c.in_err-judge.field-0.0 in
+    let found = least_of_file file c.in-Some.ensures.0 stray (subst (λ (table : Span). IsLeastPlace (IsStray file (table ∷ slice_spans file)) stray) c.in-Some.ensures.1 c.in_ok-stray.ensures.found) in
+    let least : IsLeast (BreaksFile file) b = first_judged {T = Unit {0}} (BreaksFile file) rule.FatStrayByte stray (Err b) (none_before (BreaksFile file)) found c.in_err-judge.ensures in
+    refused (BreaksFile file) rule.FatStrayByte (¬ IsAscending (slice_spans file)) b least c.from_residual-in_err-judge.result c.from_residual-in_err-judge.ensures.1
+
+pub returns : goal.returns
+returns c =
+    let file = c.args.verified.now in
+    let stray = c.in_ok-stray.stray in
+    let found = least_of_file file c.in-Some.ensures.0 stray (subst (λ (table : Span). IsLeastPlace (IsStray file (table ∷ slice_spans file)) stray) c.in-Some.ensures.1 c.in_ok-stray.ensures.found) in
+    first_judged {T = Unit {0}} (BreaksFile file) rule.FatStrayByte stray (Ok c.in_ok-judge.field-0) (none_before (BreaksFile file)) found c.in_ok-judge.ensures
