@@ -4,6 +4,7 @@ pub mod Scopes
 pub mod Accounted
 pub mod Unique
 pub mod ElementWalks
+pub mod ElementPlaces
 pub mod Sharings
 pub mod Passed
 pub mod Judged

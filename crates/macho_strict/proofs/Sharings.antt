@@ -1,17 +1,23 @@
 -- Which of the elements of a list is the first that shares a place with an earlier one.
-use Rattle.std.proofs.Common.{◌≡◌, ℕ, ◌<◌, List, [], ◌∷◌, length, map, Option, None, Some, MatchOption, slice_get, refl, sym, ap, ◌∙◌, subst, arith}
-use Rattle.std.specs.Iterator.{Drains, YieldsFirst, SkipsThenYields}
+use Rattle.std.proofs.Common.{◌≡◌, ℕ, ◌≤◌, ◌<◌, List, [], ◌∷◌, ◌++◌, length, map, get_or, Option, None, Some, MatchOption, slice_get, refl, sym, ap, ◌∙◌, subst, arith, inl, inr}
+use Rattle.std.specs.Iterator.{Yields, Drains, YieldsFirst, SkipsThenYields}
 use Rattle.std.specs.Option.{option_map}
 use Rattle.std.specs.Prelude.{IsSomeAnd}
 use Rattle.std.proofs.lemmas.Iterator.{YieldsList}
 use Rattle.std.proofs.lemmas.Iterator.Adapters.{option_map_id}
 use Rattle.std.proofs.lemmas.Iterator.Consumers.{YieldsList-from_first, YieldsList-end, nth_from_yields_List}
-use Rattle.std.proofs.lemmas.List.{length-map, map-id}
-use Rattle.std.proofs.lemmas.Option.{slice_get-get_or, slice_get-map, none-some}
-use Rattle.macho_fields.specs.Overlap.{SharesEarlier, IsLeastSharing}
-use Rattle.macho_fields.specs.SpanOrder.{spans_in, tags_in}
+use Rattle.std.proofs.lemmas.Bool.{cases_order}
+use Rattle.std.proofs.lemmas.List.{get_or-map, length-map, map-append, map-id}
+use Rattle.std.proofs.lemmas.Option.{slice_get-get_or, slice_get-map, slice_get_within, get_or_from_slice_get, none-some, same_Some}
+use Rattle.macho_fields.specs.Overlap.{span_at, SharesEarlier, IsLeastSharing}
+use Rattle.macho_fields.specs.SpanOrder.{spans_in, tags_in, IsOrderOf, IsSharingOf}
 use Rattle.macho_fields.specs.declared.span.Span.{Span}
+use Rattle.macho_fields.specs.declared.span_order.Sharing.TheVariants as sharing
+use Rattle.macho_fields.specs.declared.span_order.SpanOrder.{SpanOrder}
+use Rattle.macho_rules.proofs.Searches.{Rising, ordered_at}
+use Rattle.macho_strict.specs.Rules.{SharesEarlierElement}
 use Rattle.macho_strict.specs.Sharing.{tagged, IsFirstSharing}
+use Rattle.macho_strict.specs.Verdict.{IsUnordered}
 use Rattle.macho_strict.specs.declared.elements.Element.{Element}
 
 -- What is read of each element
@@ -45,6 +51,11 @@ module _ (all given : List Element) (is : given ≡ all) where
   drained : (xs : List Element) → Drains (YieldsFirst (λ (left : List Element). left)) given xs → xs ≡ all
   drained xs (u, (t, yielded, ended)) = let (same, _) = YieldsList-end road xs t yielded None u refl ended in sym (map-id xs) ∙ same
 
+  -- in a loop over them that has ended
+  pub all_yielded : (yielded left rest : List Element) (next : Option Element) → Yields (YieldsFirst (λ (these : List Element). these)) given yielded left
+      → YieldsFirst (λ (these : List Element). these) left next rest → next ≡ None → yielded ≡ all
+  all_yielded yielded left rest next came steps ended = let (same, _) = YieldsList-end road yielded left came next rest ended steps in sym (map-id yielded) ∙ same
+
   module _ (spans : List Span) (xs : List Element) (ran : Drains (YieldsFirst (λ (left : List Element). left)) given xs) (are : spans ≡ map span_of xs) where
     all_spans : spans ≡ spans_in (tagged all)
     all_spans = are ∙ (ap (map span_of) (drained xs ran) ∙ sym (spans_tagged all))
@@ -71,3 +82,64 @@ module _ (all given : List Element) (is : given ≡ all) where
         subst (λ ss. IsLeastSharing ss j) all_spans least,
         ap (λ ts. slice_get ts j) (tags_tagged all) ∙ (slice_get-map tag_of all j ∙ sym (at ∙ ap (option_map tag_of) found_at)),
       )
+
+-- What their order shows
+
+pub order_noted : (noted : List Element) (e : Element) (order : SpanOrder) → IsOrderOf (tagged noted ++ (e.span, e.described) ∷ []) order → IsOrderOf (tagged (noted ++ e ∷ [])) order
+order_noted noted e order is = subst (λ pairs. IsOrderOf pairs order) (sym (map-append (λ (x : Element). (x.span, x.described)) noted (e ∷ []))) is
+
+pub unordered_shown : (all : List Element) → IsSharingOf (tagged all) sharing.Unknown → IsUnordered (map span_of all)
+unordered_shown all shown = subst IsUnordered (spans_tagged all) shown
+
+-- Which elements share a place with an earlier one, where the places of what describes them do not fall
+
+abbrev no_span : Span
+no_span = record { start = 0; len = 0 }
+
+module _ (all : List Element) where
+  span_is : (k : ℕ) (e : Element) → slice_get all k ≡ Some e → span_at (spans_in (tagged all)) k ≡ e.span
+  span_is k e at =
+      ap (λ ss. span_at ss k) (spans_tagged all)
+      ∙ (get_or-map span_of all k e no_span (slice_get_within all k e at) ∙ ap span_of (get_or_from_slice_get all k e e at))
+
+  counted : length (spans_in (tagged all)) ≡ length all
+  counted = ap length (spans_tagged all) ∙ length-map all span_of
+
+  spans_share : (j : ℕ) (later : Element) → SharesEarlierElement all j later → SharesEarlier (spans_in (tagged all)) j
+  spans_share j later (at, (i, earlier, less, before, shares)) =
+      let within = slice_get_within all j later at in
+      (omega (arith, counted, within), (i, less, rw (span_is i earlier before, span_is j later at) shares))
+
+  elements_share : (j : ℕ) (later : Element) → slice_get all j ≡ Some later → SharesEarlier (spans_in (tagged all)) j → SharesEarlierElement all j later
+  elements_share j later at (inside, (i, less, shares)) =
+      let earlier : Element = get_or all i later in
+      let before : slice_get all i ≡ Some earlier = slice_get-get_or all i later (omega (arith, counted, slice_get_within all j later at)) in
+      (at, (i, earlier, less, before, rw (span_is i earlier before, span_is j later at) at shares))
+
+  pub none_shares : IsFirstSharing (tagged all) None → (j : ℕ) (later : Element) → ¬ SharesEarlierElement all j later
+  none_shares none j later shares = none j (spans_share j later shares)
+
+  pub first_shares : Rising tag_of all → (place : ℕ) → IsFirstSharing (tagged all) (Some place)
+      → ((j : ℕ) × (later : Element) × SharesEarlierElement all j later × (place ≡ later.described))
+      × ((k : ℕ) (other : Element) → SharesEarlierElement all k other → place ≤ other.described)
+  first_shares rising place (j, (shares, least), at) = ((j, first, elements_share j first here shares, is), not_before)
+    where
+      within : j < length all
+      within = omega (arith, shares.0, counted)
+
+      first : Element
+      first = get_or all j (record { described = 0; span = no_span })
+
+      here : slice_get all j ≡ Some first
+      here = slice_get-get_or all j (record { described = 0; span = no_span }) within
+
+      is : place ≡ first.described
+      is = same_Some place first.described (sym at ∙ (ap (λ ts. slice_get ts j) (tags_tagged all) ∙ (slice_get-map tag_of all j ∙ ap (option_map tag_of) here)))
+
+      not_before : (k : ℕ) (other : Element) → SharesEarlierElement all k other → place ≤ other.described
+      not_before k other shared = elim (cases_order j k) [
+        | inl same ↦ let one = same_Some first other (sym here ∙ (ap (slice_get all) same ∙ shared.0)) in let tags = ap tag_of one in omega (arith, is)
+        | inr (inl before) ↦ (let up = ordered_at (λ (a b : Element). a.described ≤ b.described) all other j k rising before (slice_get_within all k other shared.0) in
+            let low = ap tag_of (get_or_from_slice_get all j first other here) in let high = ap tag_of (get_or_from_slice_get all k other other shared.0) in omega (arith, is))
+        | inr (inr after) ↦ absurd (least k after (spans_share k other shared))
+      ]

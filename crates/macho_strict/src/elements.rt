@@ -1,15 +1,27 @@
 //! The elements of an image: the parts of it that its structures describe. (`mach-o/loader.h`)
 
-ghost use Rattle.std.specs.Prelude.{◌≡◌, ◌+◌, ◌≤◌, length};
-ghost use Rattle.macho_fields.specs.Bytes.{bytes_of};
+ghost use Rattle.std.specs.Prelude.{◌≡◌, None, IfOk, OnErr};
+ghost use Rattle.macho_fields.specs.Layers.{NothingBreaks};
+ghost use Rattle.macho_fields.specs.Rules.{BreaksImage as Breaks};
+ghost use Rattle.macho_fields.specs.SpanOrder.{IsOrderOf};
 ghost use Rattle.macho_strict.specs.Elements.{contents as contents_of, relocations as relocations_of};
 ghost use Rattle.macho_strict.specs.Elements.{headers as headers_of};
 ghost use Rattle.macho_strict.specs.ElementWalk.{described_tables};
+ghost use Rattle.macho_strict.specs.Order.{KeptBelow, ContinuesWithMemory};
+ghost use Rattle.macho_strict.specs.RuleList.{rank};
+ghost use Rattle.macho_strict.specs.Rules.{BreaksImage};
+ghost use Rattle.macho_strict.specs.Sharing.{IsFirstSharing, tagged_elements};
+ghost use Rattle.macho_strict.specs.Verdict.{element_spans, IsUnordered};
+ghost use Rattle.macho_strict.specs.declared.rule.StrictRule.{StrictRule};
 
+use crate::overlap::sorted_element_overlap;
+use crate::refusal::Fault;
+use crate::rule::{StrictBreak, StrictRule};
 use macho_fields::header::loader::{LC_ENCRYPTION_INFO_64, LC_SEGMENT_64};
 use macho_fields::header::reloc::RELOCATION_INFO_SIZE;
-use macho_fields::{Bytes, Span, TableFields, structure_of};
+use macho_fields::{Bytes, Sharing, Span, SpanOrder, TableFields, structure_of};
 use macho_image::{Commands, Image, Section, Sections, Segments};
+use std::alloc::{AllocError, Global};
 use std::marker::Model;
 
 /// A part of an image that a structure describes.
@@ -257,12 +269,14 @@ impl<'a> Iterator for Elements<'a> {
 
 impl<'a> Elements<'a> {
     ghost use Rattle.std.specs.Prelude.{◌≡◌};
+    ghost use Rattle.macho_image.specs.Opened.{IsOpened};
     ghost use Rattle.macho_strict.specs.Elements.{elements_of};
 
     /// The elements of the image: the headers, and what each load command describes, in the order of
     /// the commands. They take no memory.
     pub fn of(image: &Image<'a>) -> Elements<'a>
-        ensures { result ≡ elements_of image.now }
+        ensures elements { result ≡ elements_of image.now }
+        ensures opened { IsOpened image.now }
     {
         let bytes = image.bytes();
         Elements {
@@ -282,4 +296,44 @@ impl<'a> Elements<'a> {
             },
         }
     }
+}
+
+// No element shares a byte with an earlier one.
+//
+// For n elements that ascend or descend it takes one walk, and no memory. For others it may take time
+// in the order of n log n, and 24 bytes of memory for each.
+pub(crate) fn element_overlap(alloc: Global, image: &Image) -> Result<(), Fault>
+    requires unbroken { NothingBreaks (Breaks image.now None) }
+    requires kept { KeptBelow (BreaksImage image.now) (rank StrictRule.ElementOverlap) }
+    ensures { ContinuesWithMemory (BreaksImage image.now) StrictRule.ElementOverlap
+        (IsUnordered (element_spans image.now)) result }
+{
+    match first_overlap(alloc, image)? {
+        Some(place) => Err(Fault::Broken(StrictBreak::at(StrictRule::ElementOverlap, place))),
+        None => Ok(()),
+    }
+}
+
+// Where the first element is described that shares a byte with an earlier one, or `None` where none
+// does.
+fn first_overlap(alloc: Global, image: &Image) -> Result<Option<u64>, AllocError>
+    ensures first { IfOk result (IsFirstSharing (tagged_elements image.now)) }
+    ensures memory { OnErr result (IsUnordered (element_spans image.now)) }
+{
+    match element_order(image).sharing() {
+        Sharing::None => Ok(None),
+        Sharing::First(place) => Ok(Some(place)),
+        Sharing::Unknown => sorted_element_overlap(alloc, image),
+    }
+}
+
+// The order in which the elements come. What describes one is its tag.
+fn element_order(image: &Image) -> SpanOrder
+    ensures { IsOrderOf (tagged_elements image.now) result }
+{
+    let mut order = SpanOrder::new();
+    for element in Elements::of(image) {
+        order.note(element.span, element.described);
+    }
+    order
 }
