@@ -1,6 +1,7 @@
 #!/usr/bin/env python3
 """A second verifier of the layout of Mach-O files. It was written from docs/RULES.md, and from docs/COMMAND.md for what is
-printed. Nothing was taken from the sources of the first one. tests/oracle compares the two.
+printed. It reads the filetypes and the listed commands in the tables of docs/RULES.md. Nothing was taken from the
+sources of the first one. tests/oracle compares the two.
 
     tests/oracle.py FILE                        prints what `macho-check check FILE` prints, and ends with its status
     tests/oracle.py where FILE SLICE ADDRESS    the same of `macho-check where FILE SLICE ADDRESS`
@@ -13,6 +14,7 @@ whole numbers without a limit, so no sum wraps. Offsets and widths are in bytes.
 """
 
 import bisect
+import os
 import re
 import sys
 from functools import cached_property
@@ -75,8 +77,6 @@ ARCHITECTURES = {
 }
 
 # mach-o/loader.h
-MH_EXECUTE, MH_DYLIB, MH_BUNDLE = 2, 6, 8
-KINDS = {MH_EXECUTE: "execute", MH_DYLIB: "dylib", MH_BUNDLE: "bundle"}
 SECTION_TYPE = 0x000000ff
 S_ZEROFILL, S_GB_ZEROFILL, S_THREAD_LOCAL_ZEROFILL = 0x1, 0xc, 0x12
 INDIRECT_SYMBOL_LOCAL, INDIRECT_SYMBOL_ABS = 0x80000000, 0x40000000
@@ -89,36 +89,22 @@ VM_PROT_READ, VM_PROT_WRITE, VM_PROT_EXECUTE = 1, 2, 4
 LC_SYMTAB, LC_DYSYMTAB, LC_ID_DYLIB, LC_SEGMENT_64 = 0x2, 0xb, 0xd, 0x19
 LC_UUID, LC_ENCRYPTION_INFO_64, LC_BUILD_VERSION, LC_MAIN = 0x1b, 0x2c, 0x32, 0x80000028
 
-# The listed commands, by `cmd`: the command, its structure, its least `cmdsize`, its least name offset.
+def rows_of(row):
+    """The cells of the rows of docs/RULES.md that have this form."""
+    top = os.path.dirname(os.path.dirname(os.path.realpath(__file__)))
+    with open(os.path.join(top, "docs", "RULES.md"), encoding="utf-8") as page:
+        return re.findall(row, page.read(), re.MULTILINE)
+
+# The filetypes, by `filetype`: whether an image names itself, and the word of the layout.
+FILETYPES = {
+    int(filetype): (names_itself == "yes", word)
+    for filetype, names_itself, word in rows_of(r"^\| `MH_\w+` \| (\d+) \| (yes|no) \| `(\w+)` \|$")
+}
+
+# The listed commands, by `cmd`: the structure, the least `cmdsize` with nothing counted, the least name offset.
 LISTED = {
-    0x2: ("LC_SYMTAB", "symtab_command", 24, None),
-    0xb: ("LC_DYSYMTAB", "dysymtab_command", 80, None),
-    0xc: ("LC_LOAD_DYLIB", "dylib_command", 24, 24),
-    0xd: ("LC_ID_DYLIB", "dylib_command", 24, 24),
-    0xe: ("LC_LOAD_DYLINKER", "dylinker_command", 12, 12),
-    0xf: ("LC_ID_DYLINKER", "dylinker_command", 12, 12),
-    0x19: ("LC_SEGMENT_64", "segment_command_64", 72, None),  # and 80 * `nsects`
-    0x1b: ("LC_UUID", "uuid_command", 24, None),
-    0x1d: ("LC_CODE_SIGNATURE", "linkedit_data_command", 16, None),
-    0x1e: ("LC_SEGMENT_SPLIT_INFO", "linkedit_data_command", 16, None),
-    0x20: ("LC_LAZY_LOAD_DYLIB", "dylib_command", 24, 24),
-    0x22: ("LC_DYLD_INFO", "dyld_info_command", 48, None),
-    0x26: ("LC_FUNCTION_STARTS", "linkedit_data_command", 16, None),
-    0x27: ("LC_DYLD_ENVIRONMENT", "dylinker_command", 12, 12),
-    0x29: ("LC_DATA_IN_CODE", "linkedit_data_command", 16, None),
-    0x2b: ("LC_DYLIB_CODE_SIGN_DRS", "linkedit_data_command", 16, None),
-    0x2c: ("LC_ENCRYPTION_INFO_64", "encryption_info_command_64", 24, None),
-    0x2e: ("LC_LINKER_OPTIMIZATION_HINT", "linkedit_data_command", 16, None),
-    0x31: ("LC_NOTE", "note_command", 40, None),
-    0x32: ("LC_BUILD_VERSION", "build_version_command", 24, None),  # and 8 * `ntools`
-    0x80000018: ("LC_LOAD_WEAK_DYLIB", "dylib_command", 24, 24),
-    0x8000001c: ("LC_RPATH", "rpath_command", 12, 12),
-    0x8000001f: ("LC_REEXPORT_DYLIB", "dylib_command", 24, 24),
-    0x80000022: ("LC_DYLD_INFO_ONLY", "dyld_info_command", 48, None),
-    0x80000023: ("LC_LOAD_UPWARD_DYLIB", "dylib_command", 24, 24),
-    0x80000028: ("LC_MAIN", "entry_point_command", 24, None),
-    0x80000033: ("LC_DYLD_EXPORTS_TRIE", "linkedit_data_command", 16, None),
-    0x80000034: ("LC_DYLD_CHAINED_FIXUPS", "linkedit_data_command", 16, None),
+    int(cmd, 16): (structure, int(size), int(name) if name else None)
+    for cmd, structure, size, name in rows_of(r"^\| `LC_\w+` \| (0x\w+) \| `(\w+)` \| (\d+)[^|]* \| (\d*) ?\|$")
 }
 
 # The bounded tables of a command, by its structure: the start, the count, the bytes per entry.
@@ -223,7 +209,7 @@ class Image:
     @cached_property
     def listed(self):
         """The listed commands, with their structures. (Known after `command-short`.)"""
-        return [read(self.data, c.place, LISTED[c.cmd][1]) for c in self.commands if c.cmd in LISTED]
+        return [read(self.data, c.place, LISTED[c.cmd][0]) for c in self.commands if c.cmd in LISTED]
 
     def only(self, cmd):
         """The command of a kind that is not repeated, or None."""
@@ -370,8 +356,8 @@ def arch_mismatch(image):
             yield 4
 
 def file_type(image):
-    """`filetype` is none of `MH_EXECUTE`, `MH_DYLIB` and `MH_BUNDLE`."""
-    if image.header.filetype not in (MH_EXECUTE, MH_DYLIB, MH_BUNDLE):
+    """`filetype` is none of those that are judged."""
+    if image.header.filetype not in FILETYPES:
         yield 12
 
 def commands_outside(image):
@@ -399,7 +385,7 @@ def least_size(image, command):
             return 0
         return int.from_bytes(image.data[command.place + offset:command.place + offset + 4], "little")
 
-    least = LISTED[command.cmd][2]
+    least = LISTED[command.cmd][1]
     if command.cmd == LC_SEGMENT_64:
         return least + 80 * count_at(64)
     if command.cmd == LC_BUILD_VERSION:
@@ -422,15 +408,15 @@ def command_repeated(image):
             earlier.add(command.cmd)
 
 def dylib_id(image):
-    """A dylib has no `LC_ID_DYLIB`, or an executable or a bundle has one."""
+    """An image whose filetype names itself has no `LC_ID_DYLIB`, or another image has one."""
     has_id = image.only(LC_ID_DYLIB) is not None
-    if has_id != (image.header.filetype == MH_DYLIB):
+    if has_id != FILETYPES[image.header.filetype][0]:
         yield 12
 
 def name(image):
     """The name offset is below its least, or there is no zero byte from there up to the command's end."""
     for command in image.listed:
-        least = LISTED[command.cmd][3]
+        least = LISTED[command.cmd][2]
         if least is not None:
             offset = name_offset(command)
             content = image.data[command.place:command.place + command.cmdsize]
@@ -493,7 +479,7 @@ def section_relocs(image):
 def table_range(image):
     """One of the command's tables has a count that is not 0, and ends past the slice."""
     for command in image.listed:
-        for start, count, width in BOUNDED_TABLES.get(LISTED[command.cmd][1], []):
+        for start, count, width in BOUNDED_TABLES.get(LISTED[command.cmd][0], []):
             entries = getattr(command, count)
             if entries != 0 and getattr(command, start) + entries * width > image.length:
                 yield command.place
@@ -595,7 +581,7 @@ def elements(image):
                 yield section.place, section.offset, section.size
             yield section.place, section.reloff, 8 * section.nreloc
         if command.cmd != LC_ENCRYPTION_INFO_64:
-            for start, count, width in BOUNDED_TABLES.get(LISTED[command.cmd][1], []):
+            for start, count, width in BOUNDED_TABLES.get(LISTED[command.cmd][0], []):
                 yield command.place, getattr(command, start), getattr(command, count) * width
 
 def element_overlap(image):
@@ -687,7 +673,7 @@ def segment_line(segment):
 def slice_line(index, image):
     """The architecture is that of the image's header, or of the entry where the slice is not read."""
     source = image.header if image.is_64_bit else image.entry
-    kind = KINDS[image.header.filetype] if image.is_64_bit else "not read"
+    kind = FILETYPES[image.header.filetype][1] if image.is_64_bit else "not read"
     numbers = (image.start, image.length)
     return "slice %d %s at 0x%x size 0x%x %s" % (
         (index, architecture(source.cputype, source.cpusubtype)) + numbers + (kind,))
