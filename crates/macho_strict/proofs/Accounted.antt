@@ -118,4 +118,4 @@ module _ (file : List ℕ) (unbroken : IsUnbroken file) (strictly : IsStrictlyUn
           image_accounted (slice_bytes file slice)
           (commands_of_walk (slice_bytes file slice) slice.arch (λ place broken. unbroken (record { scope = suc k; rule = base.CommandWalk; place = place })
           (of_slice file k slice base.CommandWalk place at image (inl broken))))
-          (λ r place broken. strictly (record { scope = suc k; rule = r; place = place }) (strict.of_slice file k slice at r place image broken))
+          (λ r place broken. strictly (record { scope = suc k; rule = r; place = place }) (strict.of_slice file k slice at image r place broken))

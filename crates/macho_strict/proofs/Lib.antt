@@ -9,3 +9,5 @@ pub mod Sharings
 pub mod Passed
 pub mod Judged
 pub mod SliceSpans
+pub mod CommandsEnd
+pub mod Verdicts

@@ -2,8 +2,9 @@
 use Rattle.std.proofs.Common.{◌≡◌, ℕ, suc, ◌≤◌, List, refl, arith, lit≤}
 use denote.Enum.Bare.{tag_one}
 use denote.Enum.Declared.{tag_of}
+use Rattle.macho_strict.specs.Order.{KeptBelow}
 use Rattle.macho_strict.specs.RuleList.{rank}
-use Rattle.macho_strict.specs.Rules.{BreaksFile}
+use Rattle.macho_strict.specs.Rules.{BreaksFile, BreaksImage}
 use Rattle.macho_strict.specs.contracts.rule.StrictRule.{the_type}
 use Rattle.macho_strict.specs.declared.rule.StrictRule.{StrictRule}
 use Rattle.macho_strict.specs.declared.rule.StrictRule.TheVariants as rule
@@ -26,3 +27,8 @@ rank_most other = lit≤ tt
 pub file_rule_rank : (file : List ℕ) (r : StrictRule) (place : ℕ) → BreaksFile file r place → rank r ≤ rank rule.FatStrayByte
 file_rule_rank file rule.FatStrayByte place broken = lit≤ tt
 file_rule_rank file other place broken = absurd broken
+
+-- and an image none before the second
+pub none_before : (image : List ℕ) → KeptBelow (BreaksImage image) (rank rule.CommandsEnd)
+none_before image rule.FatStrayByte place early broken = broken
+none_before image other place early broken = absurd (omega arith)

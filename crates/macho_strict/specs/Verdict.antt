@@ -1,6 +1,6 @@
 -- The strict verdict on a file, and where it takes memory.
-use Rattle.std.specs.Prelude.{ℕ, ◌⊎◌, ⊤, List, map}
-use Rattle.macho_fields.specs.First.{IsUnbroken, IsFirstBroken}
+use Rattle.std.specs.Prelude.{◌≡◌, ℕ, ◌+◌, ◌⊎◌, ⊤, List, map}
+use Rattle.macho_fields.specs.First.{IsUnbroken, IsFirstBroken, scope_start}
 use Rattle.macho_fields.specs.Overlap.{IsAscending, IsDescending}
 use Rattle.macho_fields.specs.Segment.{fileoff, filesize}
 use Rattle.macho_fields.specs.Universal.{slices_of}
@@ -9,12 +9,14 @@ use Rattle.macho_rules.specs.Verdict.{IsRefusal}
 use Rattle.macho_rules.specs.declared.refusal.Refusal.{Refusal}
 use Rattle.macho_rules.specs.declared.refusal.Refusal.TheVariants as refusal
 use Rattle.macho_strict.specs.Elements.{elements_of}
-use Rattle.macho_strict.specs.First.{IsFirstStrictlyBroken}
+use Rattle.macho_strict.specs.First.{IsBrokenIn, IsFirstStrictlyBroken}
+use Rattle.macho_strict.specs.Order.{IsLeast}
 use Rattle.macho_strict.specs.Rules.{all_segments}
 use Rattle.macho_strict.specs.declared.refusal.Fault.{Fault}
 use Rattle.macho_strict.specs.declared.refusal.Fault.TheVariants as fault
 use Rattle.macho_strict.specs.declared.refusal.StrictRefusal.{StrictRefusal}
 use Rattle.macho_strict.specs.declared.refusal.StrictRefusal.TheVariants as strict
+use Rattle.macho_strict.specs.declared.rule.StrictBreak.{StrictBreak}
 
 -- the places of the slices of a file, in table order
 abbrev pub slice_spans : List ℕ → List Span
@@ -54,3 +56,11 @@ refusal_of refusal.Memory = strict.Memory
 abbrev pub IsStrictBreak : List ℕ → Fault → Type 0
 IsStrictBreak file (fault.Broken b) = IsFirstStrictlyBroken file b
 IsStrictBreak file fault.Memory = ⊤
+
+-- a fault of a scope is its first broken strict rule, with its place in the file, or that there was no
+-- memory
+abbrev pub IsScopeBreak : List ℕ → ℕ → Fault → Type 0
+IsScopeBreak file scope (fault.Broken b) =
+    (found : StrictBreak) × IsLeast (IsBrokenIn file scope) found
+    × (b.rule ≡ found.rule) × (b.place ≡ scope_start file scope + found.place)
+IsScopeBreak file scope fault.Memory = ⊤

@@ -1,0 +1,60 @@
+-- Where the last command of an image ends.
+use Rattle.std.proofs.Common.{◌≡◌, ◌≢◌, ℕ, ◌+◌, ◌≤◌, List, [], ◌∷◌, map, refl, sym, ap, ◌∙◌, subst, arith}
+use Rattle.macho_fields.specs.Image.{command_size, commands_of, commands_end, Follow, IsChain, AreCommands}
+use Rattle.macho_image.specs.Command.{CommandView, command_at}
+use Rattle.macho_strict.specs.Rules.{BreaksImage}
+use Rattle.macho_strict.specs.declared.rule.StrictRule.TheVariants as rule
+
+-- the commands that are left follow one another from a place on, and end where all commands end
+pub record AreLeft (image : List ℕ) (end : ℕ) (left : List CommandView) : Type 0 where
+  pub places : List ℕ
+  pub are : left ≡ map (command_at image) places
+  pub chain : (next : ℕ) → IsChain image (commands_of image) next → Follow image end places next
+
+pub all_left : (image : List ℕ) (left : List CommandView) → left ≡ map (command_at image) (commands_of image) → AreLeft image 32 left
+all_left image left are = record { places = commands_of image; are = are; chain = λ next chain. chain }
+
+module _ (image : List ℕ) (end : ℕ) (left : List CommandView) (are : AreLeft image end left) where
+  module _ (x : CommandView) (rest : List CommandView) (is : left ≡ x ∷ rest) where
+    first : (places : List ℕ) → left ≡ map (command_at image) places → ((next : ℕ) → IsChain image (commands_of image) next → Follow image end places next)
+        → AreLeft image (x.place + x.size) rest × ((next : ℕ) → IsChain image (commands_of image) next → x.place + x.size ≤ commands_end image)
+    first [] none chain = cc
+    first (p ∷ ps) same chain =
+        let here : command_at image p ≡ x = cc in
+        let later : rest ≡ map (command_at image) ps = cc in
+        let place : p ≡ x.place = ap (λ (c : CommandView). c.place) here in
+        let size : command_size image p ≡ x.size = ap (λ (c : CommandView). c.size) here in (
+          record {
+            places = ps;
+            are = later;
+            chain = λ next all. subst (λ n. Follow image n ps next) (let e : p + command_size image p ≡ x.place + x.size = omega (arith, place, size) in e) (chain next all).2;
+          },
+          λ next all. let inside = (chain next all).1.inside in omega (arith, place, size),
+        )
+
+    -- one command less
+    pub left_after : AreLeft image (x.place + x.size) rest
+    left_after = (first are.places are.are are.chain).0
+
+    -- which ends within the bytes of the commands
+    pub left_inside : AreCommands image (commands_of image) → x.place + x.size ≤ commands_end image
+    left_inside (count, next, chain) = (first are.places are.are are.chain).1 next chain
+
+  module _ (none : left ≡ []) where
+    -- where none is left, all commands end there
+    ends : (next : ℕ) → IsChain image (commands_of image) next → end ≡ next
+    ends next chain = last are.places (none_left are.places are.are) (are.chain next chain)
+      where
+        none_left : (places : List ℕ) → left ≡ map (command_at image) places → places ≡ []
+        none_left [] same = refl
+        none_left (p ∷ ps) same = cc
+
+        last : (places : List ℕ) → places ≡ [] → Follow image end places next → end ≡ next
+        last [] same at = at
+        last (p ∷ ps) same at = cc
+
+    pub ends_right : AreCommands image (commands_of image) → end ≡ commands_end image → (place : ℕ) → ¬ BreaksImage image rule.CommandsEnd place
+    ends_right (count, next, chain) same place (at, wrong) = wrong (subst (IsChain image (commands_of image)) (sym (ends next chain) ∙ same) chain)
+
+    pub ends_wrong : end ≢ commands_end image → ¬ IsChain image (commands_of image) (commands_end image)
+    ends_wrong other chain = other (ends (commands_end image) chain)
