@@ -7,8 +7,9 @@ ghost use Rattle.macho_fields.specs.declared.rule.Rule.{Rule};
 ghost use Rattle.macho_image.specs.Single.{main_command_at};
 ghost use Rattle.macho_rules.specs.Check.{KeptBefore, JudgesUpTo};
 
+use crate::segments::memory;
 use macho_fields::header::vm_prot::VM_PROT_EXECUTE;
-use macho_fields::{Break, Rule};
+use macho_fields::{Break, Rule, Span};
 use macho_image::{Image, MainCommand, Segment};
 
 // The entry is at a byte of the file, in memory that may be executed. `base` is the base address of
@@ -27,8 +28,10 @@ pub(crate) fn entry(image: &Image, base: Option<u64>) -> Result<(), Break>
     Ok(())
 }
 
-// Whether there is no base, or no segment runs at the address that `main` names.
+// Whether there is no base, or no segment runs at the address that `main` names. No segment has an
+// address past the last one.
 fn has_no_entry(image: &Image, base: Option<u64>, main: MainCommand) -> bool
+    requires kept { KeptBefore image.now Rule.Entry }
     requires base { base ≡ base_of image.now (commands_of image.now) }
     requires main { main ≡ main_command_at image.now main.place }
     ensures { IsTrue result ↔ HasNoEntry image.now (commands_of image.now) main.place }
@@ -36,11 +39,14 @@ fn has_no_entry(image: &Image, base: Option<u64>, main: MainCommand) -> bool
     let Some(base) = base else {
         return true;
     };
-    !is_executable(image, u128::from(base) + u128::from(main.entryoff))
+    let Some(address) = base.checked_add(main.entryoff) else {
+        return true;
+    };
+    !is_executable(image, address)
 }
 
 // Whether a segment has a byte at the address that may be executed.
-fn is_executable(image: &Image, address: u128) -> bool
+fn is_executable(image: &Image, address: u64) -> bool
     ensures { IsTrue result
         ↔ IsExecutable image.now (commands_of image.now) address }
 {
@@ -53,12 +59,13 @@ fn is_executable(image: &Image, address: u128) -> bool
 }
 
 // Whether the segment supplies the address, with a byte of the file, and may be executed.
-fn runs_at(segment: &Segment, address: u128) -> bool
+fn runs_at(segment: &Segment, address: u64) -> bool
     ensures { IsTrue result ↔ RunsAt segment.now.image address segment.now.place }
 {
-    let start = u128::from(segment.vmaddr());
-    let in_memory = start <= address && address < start + u128::from(segment.vmsize());
-    let in_file = address < start + u128::from(segment.filesize());
+    let from_file = Span {
+        start: segment.vmaddr(),
+        len: segment.filesize(),
+    };
     let may_run = segment.initprot() & u64::from(VM_PROT_EXECUTE) != 0;
-    in_memory && in_file && may_run
+    memory(segment).holds(address) && from_file.holds(address) && may_run
 }
