@@ -1,6 +1,6 @@
 -- A rule of an opened image that a search decides, where the rules before it are unbroken.
 use Rattle.std.proofs.Common.{◌≡◌, ℕ, ◌+◌, ◌≤◌, List, [], ◌∷◌, Option, None, Some, Result, subst, sym, arith, inl, inr}
-use Rattle.macho_fields.specs.Image.{commands_of, AreCommands}
+use Rattle.macho_fields.specs.Image.{commands_of}
 use Rattle.macho_fields.specs.Rules.{BreaksCommands, BreaksImage}
 use Rattle.macho_fields.specs.First.{rank}
 use Rattle.macho_fields.specs.Layers.{KeptBelow, IsLeast}
@@ -9,31 +9,19 @@ use Rattle.macho_fields.specs.declared.rule.Rule.TheVariants as rule
 use Rattle.macho_fields.specs.declared.rule.Break.{Break}
 use Rattle.macho_fields.proofs.Chains.{counted_off}
 use Rattle.macho_fields.proofs.Layers.{kept_more, least_at}
-use Rattle.macho_fields.proofs.Opened.{OpenedFacts, keeps_rules}
 use Rattle.macho_fields.proofs.Ranks.{header_rule_rank}
 use Rattle.macho_image.specs.Opened.{IsOpened}
+use Rattle.macho_image.proofs.Opened.{may_open}
+pub use Rattle.macho_image.proofs.Opened.{opened_keeps as opened_facts, opened_below as opened_keeps}
+pub use Rattle.macho_image.proofs.OpenedWalk.{opened_commands}
 use Rattle.macho_rules.specs.Check.{KeptBefore, JudgesUpTo, AnswersAt}
 use Rattle.macho_fields.specs.FirstPlace.{IsFirstOf, IsLeastPlace}
 use Rattle.macho_fields.proofs.FirstPlaces.{AreBreaks, first_breaks, first_judged}
 use Rattle.macho_rules.proofs.Searches.{Searching, search_found, search_ended}
 
--- an opened image keeps the rules before those of segments, and only such an image does
-pub opened_keeps : (image : List ℕ) → IsOpened image → KeptBefore image rule.SegmentAddress
-unfolding IsOpened
-opened_keeps image opened = opened
-
+-- only an opened image keeps the rules before those of segments
 pub keeps_opened : (image : List ℕ) (r : Rule) → rank rule.SegmentAddress ≤ rank r → KeptBefore image r → IsOpened image
-unfolding IsOpened
-keeps_opened image r late below other place early broken = below other place (omega (arith, late)) broken
-
-pub opened_facts : (image : List ℕ) → IsOpened image → OpenedFacts image
-opened_facts image opened = keeps_rules image None (opened_keeps image opened)
-
--- and it has its commands
-pub opened_commands : (image : List ℕ) → IsOpened image → AreCommands image (commands_of image)
-opened_commands image opened =
-    let (commands, are) = (opened_facts image opened).commands in
-    subst (AreCommands image) (counted_off image commands are) are
+keeps_opened image r late below = may_open image (λ other place early broken. below other place (omega (arith, late)) broken)
 
 -- a rule that is broken past the walk is broken by the commands
 pub by_commands : (image : List ℕ) (r : Rule) (place : ℕ) → rank rule.SegmentAddress ≤ rank r → BreaksImage image None r place → BreaksCommands image (commands_of image) r place

@@ -1,6 +1,6 @@
 -- What a mapping says of the addresses of an unbroken image.
 use Rattle.std.proofs.Common.{◌≡◌, ℕ, suc, zero, ◌+◌, ◌-◌, ◌^◌, ◌<◌, ◌++◌, List, [], ◌∷◌, length, map, take, get_or, All, Contains}
-use Rattle.std.proofs.Common.{false, eqb, Option, None, Some, IsSomeAnd, Result, Ok, Err, IsOk, IfOk, OnErr, refl, sym, ap, ◌∙◌, subst, arith, inl, inr}
+use Rattle.std.proofs.Common.{false, eqb, Option, None, Some, IsSomeAnd, Result, Ok, Err, IsOk, OnErr, refl, sym, ap, ◌∙◌, subst, arith, inl, inr}
 use Rattle.std.specs.Prelude.{AllPairs, IsPermutation}
 use Rattle.std.specs.List.{IsDistinct}
 use Rattle.std.specs.Option.{option_map}
@@ -26,6 +26,7 @@ use Rattle.macho_rules.specs.Mapped.{mapped_segments, memory_at, numbered_memory
 use Rattle.macho_rules.specs.Mapping.{source_past, source_from, sources_in, GivesSources}
 use Rattle.macho_rules.specs.FilePart.{file_at, FitsFile}
 use Rattle.macho_rules.specs.declared.mapping.FilePart.{FilePart}
+use Rattle.macho_fields.proofs.Overlaps.{flips}
 use Rattle.macho_rules.proofs.Judged.{opened_commands}
 use Rattle.macho_rules.proofs.Mapped.{mapped_rise, mapped_among, among_mapped, mapped_positive}
 use Rattle.macho_rules.proofs.Memory.{none_holds, one_holds}
@@ -50,9 +51,6 @@ next_apart pairs held i less apart moved (k, pair, within, at, shares) =
     let here = sym (get_or-take i pairs j pair (omega (arith, below, count))) ∙ is in
     let same = get_or_default pairs j no_pair pair (omega (arith, below, count)) ∙ here in
     apart j i no_pair (omega (arith, below, count)) less (subst (λ (one : Span × ℕ). Shares one.0 (get_or pairs i no_pair).0) (sym same) shares)
-
-flips : (x y : ℕ) → eqb x y ≡ eqb y x
-flips x y = grind (arith, nat_tests)
 
 abbrev tag_of : Span × ℕ → ℕ
 tag_of pair = pair.1
@@ -231,9 +229,6 @@ no_room {count = count} answer succeeds is = elim (cases_lt 0 count) [
   | inr none ↦ absurd (false≢true (subst IsOk is (succeeds (omega arith))))
 ]
 
-pub ok_for : {T E : Type 0} (P Q : T → Type 0) → ((x : T) → P x → Q x) → (answer : Result T E) → IfOk answer P → IfOk answer Q
-ok_for P Q to (Ok x) p = to x p
-ok_for P Q to (Err e) p = tt
 
 pub err_for : {T E P Q : Type 0} → (P → Q) → (answer : Result T E) → OnErr answer P → OnErr answer Q
 err_for to (Ok x) p = tt

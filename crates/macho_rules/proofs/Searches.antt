@@ -5,6 +5,7 @@ use Rattle.std.specs.List.{range_with_len}
 use Rattle.std.proofs.lemmas.Bool.{cases_Bool, cases_eq}
 use Rattle.std.proofs.lemmas.List.Elements.{Contains-append_cases, Contains-append_left, All-contains, All-filter, All-contains_itself, Contains-get_or}
 use Rattle.macho_fields.proofs.FirstPlaces.{AreBreaks}
+pub use Rattle.macho_fields.proofs.Lists.{any_of}
 use Rattle.macho_fields.proofs.Lists.{none_in_nil, contains_first, contains_later, contains_mapped, first_or_later}
 
 -- each item and each later one have R
@@ -165,9 +166,6 @@ pub are_breaks_as : {X : Type 0} {breaks others : ℕ → Type 0} {place : X →
 are_breaks_as {place = place} same are = record { broken = λ x has here. (same (place x)).1 (are.broken x has here); only = λ p broken. are.only p ((same p).0 broken) }
 
 -- whether some item has P, as a search finds it
-
-pub any_of : {X : Type 0} (P : X → Type 0) (xs : List X) (x : X) → Contains xs x → P x → Any P xs
-any_of P xs x (k, less, at) here = (k, x, less, at, here)
 
 pub one_of : {X : Type 0} (P : X → Type 0) (xs : List X) → Any P xs → (x : X) × Contains xs x × P x
 one_of P xs (k, x, less, at, here) = (x, (k, less, at), here)

@@ -1,12 +1,11 @@
 -- From the answers on slices and images to the verdict on a file.
-use Rattle.std.proofs.Common.{◌≡◌, ◌↔◌, ℕ, suc, ◌+◌, ◌-◌, ◌≤◌, ◌<◌, List, length, map, drop, slice_get, slice_index_or, false, Option, Some, None}
-use Rattle.std.proofs.Common.{Result, Ok, Err, IfErr, OnOk, IfSome, IsErrAnd, IsTrue, Bor, nat_lt, inl, inr, sym, ap, ◌∙◌, subst, arith, length-drop}
+use Rattle.std.proofs.Common.{◌≡◌, ◌↔◌, ℕ, suc, ◌+◌, ◌≤◌, ◌<◌, List, length, map, slice_get, slice_index_or, false, Option, Some, None}
+use Rattle.std.proofs.Common.{Result, Ok, Err, IfErr, OnOk, IfSome, IsErrAnd, IsTrue, Bor, nat_lt, inl, inr, sym, ap, ◌∙◌, subst, arith}
 use Rattle.std.specs.Option.{option_map}
-use Rattle.std.proofs.lemmas.List.{length-take-le, length-map}
+use Rattle.std.proofs.lemmas.List.{length-map}
 use Rattle.std.proofs.lemmas.Option.{slice_get-map, slice_get-get_or, slice_get_past}
 use Rattle.std.proofs.lemmas.Bool.{false≢true, cases_lt, lt-ltb, ltb-true}
 use Rattle.std.specs.Option.{is_some}
-use Rattle.macho_fields.specs.Field.{part}
 use Rattle.macho_fields.specs.Universal.{FileSlice, slices_of, slice_bytes, IsImage}
 use Rattle.macho_fields.specs.First.{rank, IsUnbroken}
 use Rattle.macho_fields.specs.Rules.{BreaksImage}
@@ -50,17 +49,9 @@ module _ (image : List ℕ) (arch : Option (ℕ × ℕ)) (opening : KeptBelow (B
   opened_refused (refusal.Broken b) (here, least) = (image_alone image arch b.rule b.place here, λ r place broken. least r place (alone r place broken))
   opened_refused refusal.Memory (below, mapped, unordered) = (λ r place early broken. below r place early (alone r place broken), mapped, unordered)
 
--- what refuses one thing refuses another
-pub refused_for : {T E : Type 0} (P Q : E → Type 0) → ((e : E) → P e → Q e) → (answer : Result T E) → IfErr answer P → IfErr answer Q
-refused_for P Q to (Ok x) is = tt
-refused_for P Q to (Err e) is = to e is
-
 pub kept_for : {T E P Q : Type 0} → (P → Q) → (answer : Result T E) → OnOk answer P → OnOk answer Q
 kept_for to (Ok x) p = to p
 kept_for to (Err e) p = tt
-
-pub part_length : (start len : ℕ) (bytes : List ℕ) → start + len ≤ length bytes → length (part start len bytes) ≡ len
-part_length start len bytes inside = length-take-le len (drop start bytes) (let rest : length (drop start bytes) ≡ length bytes - start = length-drop start bytes in omega arith)
 
 pub answered : {T E : Type 0} (P : E → Type 0) (answer : Result T E) (given e : E) → answer ≡ Err given → given ≡ e → P e → IfErr answer P
 answered P answer given e is same p = subst (λ a. IfErr a P) (sym is) (subst P (sym same) p)

@@ -1,11 +1,12 @@
 use Rattle.std.proofs.Common.{length, ap, sym, subst, arith}
 use Rattle.std.specs.Prelude.{AllPairs, All, IsPermutation}
 use Rattle.std.proofs.lemmas.List.Sorted.{IsPermutation-trans}
+use Rattle.std.proofs.lemmas.Result.{IfOk-weaker}
 use Rattle.macho_fields.specs.Span.{Shares}
 use Rattle.macho_fields.specs.Spans.{SpansView, IsPlaced}
 use Rattle.macho_rules.specs.Mapped.{mapped_segments, numbered_memory}
 use Rattle.macho_rules.proofs.Mapped.{mapped_some}
-use Rattle.macho_rules.proofs.MappingItems.{pairs_moved, moved_count, moved_placed, moved_apart, ok_for, err_for}
+use Rattle.macho_rules.proofs.MappingItems.{pairs_moved, moved_count, moved_placed, moved_apart, err_for}
 use Rattle.macho_rules.proofs.Verdicts.{unbroken_opened}
 use Rattle.macho_rules.proofs.mapping.mapped_spans.Goals as goal
 
@@ -25,8 +26,8 @@ pub returns-clause-held : goal.returns-clause-held
 returns-clause-held c =
     let image = c.args.image.now in
     let moved = pairs_moved image _ c.sort_unstable_by_key.new.self.items c.in_ok-pairs.ensures.pairs c.sort_unstable_by_key.ensures.permutation in
-    ok_for (λ (spans : SpansView). IsPermutation c.deref.result.now spans.pairs) (λ (spans : SpansView). IsPermutation (numbered_memory image 0 (mapped_segments image)) spans.pairs)
-    (λ spans held. IsPermutation-trans _ _ _ moved (subst (λ pairs. IsPermutation pairs spans.pairs) c.deref.ensures.value held)) c.spans_of.result c.spans_of.ensures.held
+    IfOk-weaker c.spans_of.result (λ (spans : SpansView). IsPermutation c.deref.result.now spans.pairs) (λ (spans : SpansView). IsPermutation (numbered_memory image 0 (mapped_segments image)) spans.pairs)
+    (λ spans held. IsPermutation-trans _ _ _ moved (subst (λ pairs. IsPermutation pairs spans.pairs) c.deref.ensures.value held)) c.spans_of.ensures.held
 
 pub returns-clause-memory : goal.returns-clause-memory
 returns-clause-memory c =

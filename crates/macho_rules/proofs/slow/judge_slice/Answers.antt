@@ -5,7 +5,7 @@ use Rattle.macho_fields.specs.Rules.{BreaksImage}
 use Rattle.macho_fields.specs.Layers.{IsLeast, NothingBreaks}
 use Rattle.macho_fields.proofs.Entries.{ends_inside}
 use Rattle.macho_fields.proofs.Inside.{first_inside}
-use Rattle.macho_rules.proofs.Verdicts.{part_length}
+use Rattle.macho_image.proofs.ReadParts.{length-part}
 use Rattle.macho_rules.proofs.slow.judge_slice.Goals as goal
 
 pub overflow_add-place : goal.overflow_add-place
@@ -14,7 +14,7 @@ overflow_add-place c =
     let slice : FileSlice = entry_slice file c.args.k in
     let inside : slice.start + slice.size ≤ length file = ends_inside file c.args.k c.args.entries.universal c.requires.entry c.requires.inside in
     let near : c.in-Err.broken.place ≤ length (bytes_of c.bytes.result) = first_inside (bytes_of c.bytes.result) (Some c.arch.result) c.in-Err.broken c.in-Err.ensures in
-    let size : length (slice_bytes file slice) ≡ slice.size = part_length slice.start slice.size file inside in
+    let size : length (slice_bytes file slice) ≡ slice.size = length-part slice.start slice.size file inside in
     let counted : length (bytes_of c.bytes.result) ≡ slice.size = ap length c.bytes.ensures ∙ size in
     omega (arith, counted, c.span.ensures.start)
 

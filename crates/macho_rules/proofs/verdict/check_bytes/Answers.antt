@@ -1,10 +1,11 @@
 use Rattle.std.proofs.Common.{List, ℕ, None, OnOk, IfErr, subst}
+use Rattle.std.proofs.lemmas.Result.{IfErr-weaker}
 use Rattle.macho_fields.specs.Bytes.{bytes_of}
 use Rattle.macho_fields.specs.Layers.{NothingBreaks}
 use Rattle.macho_fields.specs.Rules.{BreaksImage}
 use Rattle.macho_rules.specs.Verdict.{IsImageRefusal}
 use Rattle.macho_rules.specs.declared.refusal.Refusal.TheVariants as refusal
-use Rattle.macho_rules.proofs.Verdicts.{passed_on, opened_unbroken, opened_refused, kept_for, refused_for}
+use Rattle.macho_rules.proofs.Verdicts.{passed_on, opened_unbroken, opened_refused, kept_for}
 use Rattle.macho_rules.proofs.verdict.check_bytes.Goals as goal
 
 pub returns-in_err-image-clause-refused : goal.returns-in_err-image-clause-refused
@@ -19,5 +20,5 @@ returns-clause-unbroken c =
 
 pub returns-clause-refused : goal.returns-clause-refused
 returns-clause-refused c =
-    refused_for _ _ (opened_refused (bytes_of c.args.bytes) c.args.arch c.in_ok-image.ensures.decides) c.check_image.result
+    IfErr-weaker c.check_image.result _ _ (opened_refused (bytes_of c.args.bytes) c.args.arch c.in_ok-image.ensures.decides)
     (subst (λ (image : List ℕ). IfErr c.check_image.result (IsImageRefusal image None)) c.in_ok-image.ensures.image c.check_image.ensures.refused)

@@ -7,7 +7,7 @@ use Rattle.macho_fields.proofs.Inside.{first_inside}
 use Rattle.macho_fat.specs.Slices.{slice_of}
 use Rattle.macho_rules.specs.Verdict.{IsImageRefusal}
 use Rattle.macho_rules.specs.declared.refusal.Refusal.TheVariants as refusal
-use Rattle.macho_rules.proofs.Verdicts.{part_length}
+use Rattle.macho_image.proofs.ReadParts.{length-part}
 use Rattle.macho_rules.proofs.verdict.check_slice.Goals as goal
 
 pub overflow_add-place : goal.overflow_add-place
@@ -17,7 +17,7 @@ overflow_add-place c =
     let same : bytes_of c.slice-bytes.result ≡ slice_bytes file slice = c.slice-bytes.ensures in
     let near : c.in-Err-Broken.broken.place ≤ length (bytes_of c.slice-bytes.result) =
     first_inside (bytes_of c.slice-bytes.result) c.args.slice.now.arch c.in-Err-Broken.broken (rw c.in-Err-Broken.field-0-is at c.in-Err-Broken.ensures.refused) in
-    let size : length (slice_bytes file slice) ≡ slice.size = part_length slice.start slice.size file c.requires in
+    let size : length (slice_bytes file slice) ≡ slice.size = length-part slice.start slice.size file c.requires in
     let inside : slice.start + slice.size ≤ length file = c.requires in
     let counted : length (bytes_of c.slice-bytes.result) ≡ slice.size = ap length same ∙ size in
     omega (arith, counted)
