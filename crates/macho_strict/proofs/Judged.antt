@@ -1,5 +1,5 @@
 -- A strict rule that is decided by its least place, where the rules before it are unbroken.
-use Rattle.std.proofs.Common.{◌≡◌, ℕ, ◌+◌, ◌≤◌, ◌<◌, Option, None, Some, MatchOption, Result, Ok, Err, IsOk, IsErrAnd, sym, subst, arith, lit≤}
+use Rattle.std.proofs.Common.{◌≡◌, ℕ, ◌≤◌, Option, None, Some, MatchOption, Result, Ok, Err, IsOk, IsErrAnd, sym, subst, arith, lit≤}
 use Rattle.std.proofs.lemmas.Bool.{false≢true}
 use Rattle.macho_fields.specs.FirstPlace.{IsLeastPlace}
 use Rattle.macho_strict.specs.Order.{IsLeast, KeptBelow, Continues, IsFault, ContinuesWithMemory}

@@ -9,6 +9,7 @@ use Rattle.std.proofs.lemmas.Iterator.Consumers.{YieldsList-from_first, YieldsLi
 use Rattle.std.proofs.lemmas.Bool.{cases_order}
 use Rattle.std.proofs.lemmas.List.{get_or-map, length-map, map-append, map-id}
 use Rattle.std.proofs.lemmas.Option.{slice_get-get_or, slice_get-map, slice_get_within, get_or_from_slice_get, none-some, same_Some}
+use Rattle.macho_fields.specs.FirstPlace.{IsLeastPlace}
 use Rattle.macho_fields.specs.Overlap.{span_at, SharesEarlier, IsLeastSharing}
 use Rattle.macho_fields.specs.SpanOrder.{spans_in, tags_in, IsOrderOf, IsSharingOf}
 use Rattle.macho_fields.specs.declared.span.Span.{Span}
@@ -116,13 +117,10 @@ module _ (all : List Element) where
       let before : slice_get all i ≡ Some earlier = slice_get-get_or all i later (omega (arith, counted, slice_get_within all j later at)) in
       (at, (i, earlier, less, before, rw (span_is i earlier before, span_is j later at) at shares))
 
-  pub none_shares : IsFirstSharing (tagged all) None → (j : ℕ) (later : Element) → ¬ SharesEarlierElement all j later
-  none_shares none j later shares = none j (spans_share j later shares)
-
-  pub first_shares : Rising tag_of all → (place : ℕ) → IsFirstSharing (tagged all) (Some place)
-      → ((j : ℕ) × (later : Element) × SharesEarlierElement all j later × (place ≡ later.described))
-      × ((k : ℕ) (other : Element) → SharesEarlierElement all k other → place ≤ other.described)
-  first_shares rising place (j, (shares, least), at) = ((j, first, elements_share j first here shares, is), not_before)
+  -- the first that does has the least place
+  pub least_sharing : Rising tag_of all → (found : Option ℕ) → IsFirstSharing (tagged all) found → IsLeastPlace (λ place. (j : ℕ) × (later : Element) × SharesEarlierElement all j later × (place ≡ later.described)) found
+  least_sharing rising None none = λ place broken. let (j, later, shares, at) = broken in none j (spans_share j later shares)
+  least_sharing rising (Some place) (j, (shares, least), at) = ((j, first, elements_share j first here shares, is), λ q broken. let (k, other, shared, same) = broken in let low = not_before k other shared in omega (arith, low, same))
     where
       within : j < length all
       within = omega (arith, shares.0, counted)
@@ -140,6 +138,7 @@ module _ (all : List Element) where
       not_before k other shared = elim (cases_order j k) [
         | inl same ↦ let one = same_Some first other (sym here ∙ (ap (slice_get all) same ∙ shared.0)) in let tags = ap tag_of one in omega (arith, is)
         | inr (inl before) ↦ (let up = ordered_at (λ (a b : Element). a.described ≤ b.described) all other j k rising before (slice_get_within all k other shared.0) in
-            let low = ap tag_of (get_or_from_slice_get all j first other here) in let high = ap tag_of (get_or_from_slice_get all k other other shared.0) in omega (arith, is))
+            let low = ap tag_of (get_or_from_slice_get all j first other here) in
+            let high = ap tag_of (get_or_from_slice_get all k other other shared.0) in omega (arith, is))
         | inr (inr after) ↦ absurd (least k after (spans_share k other shared))
       ]

@@ -16,7 +16,7 @@ ghost use Rattle.macho_strict.specs.declared.rule.StrictRule.{StrictRule};
 
 use crate::overlap::sorted_element_overlap;
 use crate::refusal::Fault;
-use crate::rule::{StrictBreak, StrictRule};
+use crate::rule::StrictRule;
 use macho_fields::header::loader::{LC_ENCRYPTION_INFO_64, LC_SEGMENT_64};
 use macho_fields::header::reloc::RELOCATION_INFO_SIZE;
 use macho_fields::{Bytes, Sharing, Span, SpanOrder, TableFields, structure_of};
@@ -308,10 +308,9 @@ pub(crate) fn element_overlap(alloc: Global, image: &Image) -> Result<(), Fault>
     ensures { ContinuesWithMemory (BreaksImage image.now) StrictRule.ElementOverlap
         (IsUnordered (element_spans image.now)) result }
 {
-    match first_overlap(alloc, image)? {
-        Some(place) => Err(Fault::Broken(StrictBreak::at(StrictRule::ElementOverlap, place))),
-        None => Ok(()),
-    }
+    let first = first_overlap(alloc, image)?;
+    StrictRule::ElementOverlap.judge(first)?;
+    Ok(())
 }
 
 // Where the first element is described that shares a byte with an earlier one, or `None` where none
