@@ -10,7 +10,7 @@ use crate::line::{Line, PLACES};
 use macho_fields::header::vm_prot::{VM_PROT_EXECUTE, VM_PROT_READ, VM_PROT_WRITE};
 
 impl Line {
-    /// Puts a part of memory or of a file: a word, its first place, and its size.
+    // Puts a part of memory or of a file: a word, its first place, and its size.
     pub(crate) fn extent(&mut self, word: &[u8], start: u64, size: u64)
         requires room { length self.old + length word.now + 50 ≤ PLACES }
         ensures text { self.new ≡ self.old ++ extent_text word.now start size }
@@ -22,7 +22,7 @@ impl Line {
         self.hex(size);
     }
 
-    /// Puts a UUID, its bytes in groups of 4, 2, 2, 2 and 6.
+    // Puts a UUID, its bytes in groups of 4, 2, 2, 2 and 6.
     pub(crate) fn uuid(&mut self, uuid: &[u8; 16])
         requires room { length self.old + 36 ≤ PLACES }
         ensures text { self.new ≡ self.old ++ grouped uuid.now }
@@ -46,7 +46,7 @@ impl Line {
         self.upper_bytes(bytes);
     }
 
-    /// Puts where the bytes of a section begin, or that they are zeros.
+    // Puts where the bytes of a section begin, or that they are zeros.
     pub(crate) fn contents(&mut self, place: Option<u64>)
         requires room { length self.old + 27 ≤ PLACES }
         ensures text { self.new ≡ self.old ++ contents_text place }
@@ -60,7 +60,7 @@ impl Line {
         self.hex(place);
     }
 
-    /// Puts a protection in three letters, as `r-x`.
+    // Puts a protection in three letters, as `r-x`.
     pub(crate) fn protection(&mut self, bits: u64)
         requires room { length self.old + 3 ≤ PLACES }
         ensures text { self.new ≡ self.old ++ protection_text bits }

@@ -8,13 +8,13 @@ use crate::stream::Output;
 use crate::transfer::{WriteFault, write_all};
 use std::marker::Model;
 
-/// How many bytes of a line are held before they are written.
+// How many bytes of a line are held before they are written.
 pub(crate) const PLACES: usize = 320;
 
-/// How many bytes there is room for after a name or a word.
+// How many bytes there is room for after a name or a word.
 pub(crate) const ROOM: usize = 160;
 
-/// The bytes of a line that are not written yet.
+// The bytes of a line that are not written yet.
 #[derive(Drop)]
 pub(crate) struct Line {
     places: [u8; PLACES],
@@ -32,7 +32,7 @@ impl Model for Line {
 }
 
 impl Line {
-    /// A line without bytes.
+    // A line without bytes.
     #[inline(always)]
     pub(crate) fn new() -> Line
         ensures { result ≡ [] }
@@ -43,7 +43,7 @@ impl Line {
         }
     }
 
-    /// Puts a text.
+    // Puts a text.
     #[inline(always)]
     pub(crate) fn text(&mut self, text: &[u8])
         requires room { length self.old + length text.now ≤ PLACES }
@@ -52,8 +52,8 @@ impl Line {
         self.front(text, text.len());
     }
 
-    /// Puts the first `count` of these bytes. All of them are copied: where their number is a constant,
-    /// this takes a few instructions.
+    // Puts the first `count` of these bytes. All of them are copied: where their number is a constant,
+    // this takes a few instructions.
     #[inline(always)]
     pub(crate) fn front(&mut self, bytes: &[u8], count: usize)
         requires room { length self.old + length bytes.now ≤ PLACES }
@@ -65,8 +65,8 @@ impl Line {
         self.len += count;
     }
 
-    /// Puts a word of any length. Where there is no room for it, the bytes that are held are written
-    /// before it, and so is the word where it is very long.
+    // Puts a word of any length. Where there is no room for it, the bytes that are held are written
+    // before it, and so is the word where it is very long.
     #[inline(always)]
     pub(crate) fn word<W: Output>(&mut self, word: &[u8], writer: &mut W) -> Result<(), WriteFault>
         ensures room { OnOk result (length self.new + ROOM ≤ PLACES) }
@@ -97,7 +97,7 @@ impl Line {
         write_all(word, writer)
     }
 
-    /// Whether there is room for so many bytes, and for `ROOM` bytes after them.
+    // Whether there is room for so many bytes, and for `ROOM` bytes after them.
     #[inline(always)]
     pub(crate) fn has_room(&self, count: usize) -> bool
         ensures { IsTrue result ↔ (length self.now + count + ROOM ≤ PLACES) }
@@ -116,7 +116,7 @@ impl Line {
         Ok(())
     }
 
-    /// Ends the line with a line feed, and writes it.
+    // Ends the line with a line feed, and writes it.
     pub(crate) fn write<W: Output>(&mut self, writer: &mut W) -> Result<(), WriteFault>
         requires room { length self.old < PLACES }
         ensures bytes { Writes (W.contents writer.old) (W.contents writer.new) result

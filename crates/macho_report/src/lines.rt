@@ -32,7 +32,7 @@ pub fn write_break<W: Output>(broken: &Break, writer: &mut W) -> Result<(), Writ
     write_refusal(broken.rule.name(), broken.place, writer)
 }
 
-/// Writes the line of a refusal: the name of the broken rule, and the place.
+// Writes the line of a refusal: the name of the broken rule, and the place.
 pub(crate) fn write_refusal<W: Output>(
     rule: &str,
     place: u64,
@@ -51,7 +51,7 @@ pub(crate) fn write_refusal<W: Output>(
     line.write(writer)
 }
 
-/// Writes the first line of a layout: how many slices there are.
+// Writes the first line of a layout: how many slices there are.
 pub(crate) fn write_count<W: Output>(slices: u64, writer: &mut W) -> Result<(), WriteFault>
     ensures bytes { Writes (W.contents writer.old) (W.contents writer.new) result
         (count_line slices) }
@@ -64,7 +64,7 @@ pub(crate) fn write_count<W: Output>(slices: u64, writer: &mut W) -> Result<(), 
     line.write(writer)
 }
 
-/// Writes the line of a slice: its index, its architecture, its part of the file, and its kind.
+// Writes the line of a slice: its index, its architecture, its part of the file, and its kind.
 pub(crate) fn write_slice<W: Output>(
     index: u64,
     arch: Option<(u32, u32)>,
@@ -87,7 +87,7 @@ pub(crate) fn write_slice<W: Output>(
     line.write(writer)
 }
 
-/// Writes the line of a UUID.
+// Writes the line of a UUID.
 pub(crate) fn write_uuid<W: Output>(uuid: &[u8; 16], writer: &mut W) -> Result<(), WriteFault>
     ensures bytes { Writes (W.contents writer.old) (W.contents writer.new) result
         (uuid_line uuid.now) }
@@ -99,7 +99,7 @@ pub(crate) fn write_uuid<W: Output>(uuid: &[u8; 16], writer: &mut W) -> Result<(
     line.write(writer)
 }
 
-/// Writes the line of a build: its platform and two versions.
+// Writes the line of a build: its platform and two versions.
 pub(crate) fn write_build<W: Output>(build: &Build, writer: &mut W) -> Result<(), WriteFault>
     ensures bytes { Writes (W.contents writer.old) (W.contents writer.new) result
         (build_line build.now.platform build.now.minos build.now.sdk) }
@@ -115,7 +115,7 @@ pub(crate) fn write_build<W: Output>(build: &Build, writer: &mut W) -> Result<()
     line.write(writer)
 }
 
-/// Writes the line of a segment: its name, its memory, its bytes in the image, and its protection.
+// Writes the line of a segment: its name, its memory, its bytes in the image, and its protection.
 pub(crate) fn write_segment<W: Output>(segment: &Segment, writer: &mut W) -> Result<(), WriteFault>
     ensures bytes { Writes (W.contents writer.old) (W.contents writer.new) result
         (segment_line segment.now.image segment.now.place) }
@@ -131,7 +131,7 @@ pub(crate) fn write_segment<W: Output>(segment: &Segment, writer: &mut W) -> Res
     line.write(writer)
 }
 
-/// Writes the line of a section: its name, its memory, and where its bytes begin in the image.
+// Writes the line of a section: its name, its memory, and where its bytes begin in the image.
 pub(crate) fn write_section<W: Output>(section: &Section, writer: &mut W) -> Result<(), WriteFault>
     ensures bytes { Writes (W.contents writer.old) (W.contents writer.new) result
         (section_line section.now.image section.now.place) }
@@ -157,7 +157,7 @@ fn contents_of(section: &Section) -> Option<u64>
     }
 }
 
-/// Writes the line of a library: the word of its command, its name, and two versions.
+// Writes the line of a library: the word of its command, its name, and two versions.
 pub(crate) fn write_library<W: Output>(library: &Dylib, writer: &mut W) -> Result<(), WriteFault>
     ensures bytes { Writes (W.contents writer.old) (W.contents writer.new) result
         (library_line library.now.cmd library.now.name.now library.now.current
@@ -189,7 +189,7 @@ fn library_start(cmd: u32) -> &'static str
     }
 }
 
-/// Writes the line that counts the symbols.
+// Writes the line that counts the symbols.
 pub(crate) fn write_symbols<W: Output>(nsyms: u64, writer: &mut W) -> Result<(), WriteFault>
     ensures bytes { Writes (W.contents writer.old) (W.contents writer.new) result
         (symbols_line nsyms) }
@@ -201,7 +201,7 @@ pub(crate) fn write_symbols<W: Output>(nsyms: u64, writer: &mut W) -> Result<(),
     line.write(writer)
 }
 
-/// Writes the line of the entry point: its address, or that there is none.
+// Writes the line of the entry point: its address, or that there is none.
 pub(crate) fn write_entry<W: Output>(entry: Option<u64>, writer: &mut W) -> Result<(), WriteFault>
     ensures bytes { Writes (W.contents writer.old) (W.contents writer.new) result
         (entry_line entry) }
@@ -216,7 +216,7 @@ pub(crate) fn write_entry<W: Output>(entry: Option<u64>, writer: &mut W) -> Resu
     line.write(writer)
 }
 
-/// Writes the line of what is at an address: a place of the slice, a zero, or nothing.
+// Writes the line of what is at an address: a place of the slice, a zero, or nothing.
 pub(crate) fn write_source<W: Output>(
     source: Option<Source>,
     writer: &mut W,

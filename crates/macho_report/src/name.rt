@@ -11,8 +11,8 @@ use crate::stream::Output;
 use crate::transfer::WriteFault;
 
 impl Line {
-    /// Puts a name in double quotes. A double quote, a backslash and every byte that is not printable
-    /// ASCII are put as `\x` and two lower-case digits in base 16.
+    // Puts a name in double quotes. A double quote, a backslash and every byte that is not printable
+    // ASCII are put as `\x` and two lower-case digits in base 16.
     pub(crate) fn name<W: Output>(&mut self, name: &[u8], writer: &mut W) -> Result<(), WriteFault>
         ensures room { OnOk result (length self.new + ROOM ≤ PLACES) }
         ensures bytes { Holding (W.contents writer.old) (W.contents writer.new) result self.new

@@ -7,7 +7,7 @@ ghost use Rattle.macho_report.specs.Number.{prefixed_hex, upper_byte_hex, versio
 
 use crate::line::{Line, PLACES};
 
-/// How many digits a number of 64 bits has at most, in base 10.
+// How many digits a number of 64 bits has at most, in base 10.
 const DIGITS: usize = 20;
 
 static LOWER_DIGITS: [u8; 16] = *b"0123456789abcdef";
@@ -95,7 +95,7 @@ impl Line {
         self.front(&digits[start..start + DIGITS], DIGITS - start);
     }
 
-    /// Puts a number in base 10.
+    // Puts a number in base 10.
     pub(crate) fn decimal(&mut self, number: u64)
         requires room { length self.old + 20 ≤ PLACES }
         ensures text { self.new ≡ self.old ++ decimal number }
@@ -104,7 +104,7 @@ impl Line {
         self.number::<10>(number);
     }
 
-    /// Puts a number in base 16, as `0x1e8`.
+    // Puts a number in base 16, as `0x1e8`.
     pub(crate) fn hex(&mut self, number: u64)
         requires room { length self.old + 22 ≤ PLACES }
         ensures text { self.new ≡ self.old ++ prefixed_hex number }
@@ -114,7 +114,7 @@ impl Line {
         self.number::<16>(number);
     }
 
-    /// Puts a version X.Y.Z that has the form `xxxx.yy.zz`, 16, 8 and 8 bits.
+    // Puts a version X.Y.Z that has the form `xxxx.yy.zz`, 16, 8 and 8 bits.
     pub(crate) fn version(&mut self, version: u32)
         requires room { length self.old + 62 ≤ PLACES }
         ensures text { self.new ≡ self.old ++ version_text version }
@@ -128,7 +128,7 @@ impl Line {
         self.decimal(u64::from(patch));
     }
 
-    /// Puts each byte as two upper-case digits in base 16.
+    // Puts each byte as two upper-case digits in base 16.
     pub(crate) fn upper_bytes(&mut self, bytes: &[u8])
         requires room { length self.old + 2 * length bytes.now ≤ PLACES }
         ensures text { self.new ≡ self.old ++ joined (map upper_byte_hex bytes.now) }
@@ -140,7 +140,7 @@ impl Line {
     }
 }
 
-/// The two digits of a byte in base 16.
+// The two digits of a byte in base 16.
 pub(crate) fn byte_digits(byte: u8, upper: bool) -> [u8; 2]
     ensures { result ≡ digit_glyph upper (byte / 16) ∷ digit_glyph upper (byte % 16) ∷ [] }
 {

@@ -165,8 +165,8 @@ fn write_verdict<J: Judge, W: Output>(
     Ok(Outcome::Accepted)
 }
 
-/// Hands a file to the judge. Where it is refused, it writes the line of the refusal, and returns
-/// `None`.
+// Hands a file to the judge. Where it is refused, it writes the line of the refusal, and returns
+// `None`.
 pub(crate) fn accept<'a, J: Judge, W: Output>(
     alloc: Global,
     judge: &J,

@@ -50,7 +50,7 @@ impl From<Failed> for WriteFault {
     }
 }
 
-/// How many bytes one read asks for at most.
+// How many bytes one read asks for at most.
 const PIECE_SIZE: usize = 65_536;
 
 /// Reads all of the input into memory, in at most `limit + 1` reads.
