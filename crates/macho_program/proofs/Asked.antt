@@ -3,7 +3,7 @@ use Rattle.std.proofs.Common.{◌≡◌, ◌⊎◌, ◌∙◌, ◌<◌, ◌==◌
 use Rattle.std.proofs.Common.{arith, refl, sym, ap, subst, inl, inr, codes, Option, Some, None, Result, Ok, Err, option_map}
 use Rattle.std.specs.Prelude.{IsErrAnd}
 use Rattle.std.proofs.lemmas.Option.{same_Some}
-use Rattle.clap.specs.Words.{IsAmong, Kinds, Row, Text, fault_of, is_simple, is_simple_and_free, subcommand_of}
+use Rattle.clap.specs.Words.{App, IsAmong, Kinds, Row, Text, fault_of, is_simple, is_simple_and_free, subcommand_of}
 use Rattle.clap.specs.declared.error.kind.ErrorKind.{ErrorKind}
 use Rattle.clap.specs.declared.error.kind.ErrorKind.TheVariants.{OutOfMemory}
 use Rattle.macho_program.specs.declared.tools.ProgramName.{ProgramName}
@@ -13,13 +13,23 @@ use Rattle.macho_program.specs.declared.words.WordFault.{WordFault}
 use Rattle.macho_program.specs.declared.words.WordFault.TheVariants.{Usage, Memory}
 use Rattle.macho_program.specs.Words.{Answers, asked_in, asked_of, asked_unless, verdict, program_command, word_fault_of}
 
-pub command_is_simple : (program : ProgramName) → is_simple (program_command program) ≡ true
+command_is_simple : (program : ProgramName) → is_simple (program_command program) ≡ true
 command_is_simple MachoCheck = refl
 command_is_simple MachoStrict = refl
 
 pub command_is_free : (program : ProgramName) → is_simple_and_free (program_command program) ≡ true
 command_is_free MachoCheck = refl
 command_is_free MachoStrict = refl
+
+-- the words have no fault for the command of a program, where they have none for the command that was built
+pub no_faults : (program : ProgramName) (app : App) (words : List Text) → app ≡ program_command program → (is_simple_and_free app ≡ true → fault_of app words ≡ [])
+    → fault_of (program_command program) words ≡ []
+no_faults program app words is none = subst (λ (a : App). fault_of a words ≡ []) is (none (ap is_simple_and_free is ∙ command_is_free program))
+
+-- the subcommand that was found with the command that was built is that of the program
+pub subcommand_is : (program : ProgramName) (app : App) (words : List Text) (given : Option (Text × List Row)) → app ≡ program_command program
+    → (is_simple app ≡ true → given ≡ subcommand_of app words) → subcommand_of (program_command program) words ≡ given
+subcommand_is program app words given is found = subst (λ (a : App). subcommand_of a words ≡ given) is (sym (found (ap is_simple is ∙ command_is_simple program)))
 
 pub some_words : {X : Type 0} (text : X → Text) (words : List X) (empty : Bool) → empty ≡ (length words == 0) → empty ≡ false → 0 < length (map text words)
 some_words text [] empty is not = let bad : true ≡ false = sym is ∙ not in cc

@@ -3,9 +3,9 @@
 ghost use Rattle.std.specs.Prelude.{◌≡◌, ◌≤◌};
 ghost use Rattle.macho_program.specs.Number.{number_in, number_of};
 
-/// How many hexadecimal digits a number has at most.
+// How many hexadecimal digits a number has at most.
 const HEXADECIMAL_DIGITS: usize = 16;
-/// How many decimal digits a number has at most.
+// How many decimal digits a number has at most.
 const DECIMAL_DIGITS: usize = 20;
 
 /// The number of a text: `0x` and 1 to 16 hexadecimal digits of either case, or 1 to 20 decimal

@@ -21,7 +21,7 @@ use std::alloc::Global;
 use std::convert::AsStr;
 use thiserror::Error;
 
-/// How many bytes an input has at most. The line of `RunFault::TooLong` names it.
+// How many bytes an input has at most. The line of `RunFault::TooLong` names it.
 const LIMIT: u64 = 1 << 32;
 
 const NO_IMAGE: &str = "macho-check: no such image\n";
