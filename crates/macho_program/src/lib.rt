@@ -4,6 +4,7 @@
 
 mod files;
 mod number;
+mod process;
 mod program;
 mod status;
 mod tools;
@@ -11,6 +12,7 @@ mod words;
 
 pub use files::{Open, SystemFiles};
 pub use number::read_number;
+pub use process::run_process;
 pub use program::{
     Found, ProgramFault, run_program, run_tool, tool_without_memory, without_memory,
 };
