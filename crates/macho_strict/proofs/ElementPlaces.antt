@@ -9,7 +9,7 @@ use Rattle.macho_fields.specs.Symbol.{tables_of}
 use Rattle.macho_fields.specs.declared.header.loader.TheConstants as loader
 use Rattle.macho_fields.proofs.Lists.{none_in_nil, contains_first, contains_later, first_or_later}
 use Rattle.macho_image.specs.Opened.{IsOpened}
-use Rattle.macho_rules.proofs.Judged.{opened_commands}
+use Rattle.macho_image.proofs.OpenedWalk.{opened_commands}
 use Rattle.macho_rules.proofs.Mapped.{filtered}
 use Rattle.macho_rules.proofs.Searches.{numbers_rise, ordered_append, Rising}
 use Rattle.macho_rules.proofs.SectionItems.{after_segment, section_before}
@@ -20,7 +20,7 @@ abbrev pub place_of : Element → ℕ
 place_of element = element.described
 
 -- each element is described from the one place to the other
-abbrev Between : ℕ → ℕ → List Element → Type 0
+abbrev pub Between : ℕ → ℕ → List Element → Type 0
 Between low high elements = (e : Element) → Contains elements e → (low ≤ e.described) × (e.described ≤ high)
 
 module _ (image : List ℕ) where
@@ -67,7 +67,7 @@ module _ (image : List ℕ) where
   ]
 
   module _ (opened : IsOpened image) where
-    command_between : (command : ℕ) → Contains (commands_of image) command → Between command (command + command_size image command) (command_elements image command)
+    pub command_between : (command : ℕ) → Contains (commands_of image) command → Between command (command + command_size image command) (command_elements image command)
     command_between command listed = elim (cases_Bool (command_cmd image command == loader.LC_SEGMENT_64)) [
       | inl t ↦ rw t (λ e has. let among = by_section (sections_in image command) e has in (
         after_segment image command e.described among,

@@ -11,3 +11,4 @@ pub mod Judged
 pub mod SliceSpans
 pub mod CommandsEnd
 pub mod Verdicts
+pub mod InImage
