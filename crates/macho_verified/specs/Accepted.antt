@@ -44,13 +44,6 @@ strings image =
     (λ symtab. record { start = stroff image symtab; len = strsize image symtab })
     (first_with_cmd image loader.LC_SYMTAB (commands_of image)) (record { start = 0; len = 0 })
 
--- the first index and the number of symbols of a group, by two fields of LC_DYSYMTAB; 0 and 0 where
--- there is none
-abbrev pub group_bounds : (List ℕ → ℕ → ℕ) → (List ℕ → ℕ → ℕ) → List ℕ → ℕ × ℕ
-group_bounds first count image =
-    option_map_or (λ dysymtab. (first image dysymtab, count image dysymtab))
-    (first_with_cmd image loader.LC_DYSYMTAB (commands_of image)) (0, 0)
-
 -- a symbol of such an image, with the strings that its name is among, where it has one
 unfoldable pub IsVerifiedSymbol : List ℕ → Span → Symbol → Type 0
 IsVerifiedSymbol image among symbol =
