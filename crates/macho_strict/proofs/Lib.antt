@@ -12,3 +12,4 @@ pub mod SliceSpans
 pub mod CommandsEnd
 pub mod Verdicts
 pub mod InImage
+pub mod InFile

@@ -13,7 +13,7 @@ use Rattle.macho_strict.specs.declared.rule.StrictRule.{StrictRule}
 use Rattle.macho_strict.specs.declared.rule.StrictBreak.{StrictBreak}
 
 -- the slice is an image that breaks the rule at the place
-abbrev Breaks : List ℕ → StrictRule → ℕ → FileSlice → Type 0
+abbrev pub Breaks : List ℕ → StrictRule → ℕ → FileSlice → Type 0
 Breaks file r place slice = IsImage (slice_bytes file slice) × BreaksImage (slice_bytes file slice) r place
 
 -- What is broken in the scope of a slice is what its image breaks

@@ -1,5 +1,5 @@
 -- From the answers on a file, on its slices and on its images to the strict verdict.
-use Rattle.std.proofs.Common.{◌≡◌, ℕ, ◌+◌, List, Result, IsErrAnd, IfErr, refl, subst, arith}
+use Rattle.std.proofs.Common.{◌≡◌, ℕ, ◌+◌, List, Result, IsErrAnd, IfErr, refl, arith}
 use Rattle.macho_fields.specs.First.{IsUnbroken}
 use Rattle.macho_rules.proofs.Verdicts.{passed_on}
 use Rattle.macho_rules.specs.Verdict.{IsRefusal}
@@ -17,13 +17,12 @@ use Rattle.macho_strict.specs.declared.rule.StrictRule.TheVariants as rule
 use Rattle.macho_strict.proofs.Ranks.{rank_most, file_rule_rank}
 use Rattle.macho_strict.proofs.Scopes.{KeptScopes, none_kept, one_more, scope_first}
 
--- a fault of what was surveyed, which is the image, that is passed on
-pub passed_of : {T : Type 0} (image surveyed : List ℕ) → surveyed ≡ image → (P : List ℕ → Type 0) → (P image → TakesMemory image) → (f : Fault) → IsFault (BreaksImage surveyed) (P surveyed) f
-    → (answer : Result T Fault) → IsErrAnd answer (λ given. given ≡ f) → IfErr answer (IsFault (BreaksImage image) (TakesMemory image))
-passed_of image surveyed same P to f found answer is =
-    passed_on (IsFault (BreaksImage image) (TakesMemory image)) answer f is (taken f (subst (λ (bytes : List ℕ). IsFault (BreaksImage bytes) (P bytes) f) same found))
+-- a fault that is passed on, where memory may run out in more cases
+pub passed_of : {T : Type 0} (image : List ℕ) (P : Type 0) → (P → TakesMemory image) → (f : Fault) → IsFault (BreaksImage image) P f → (answer : Result T Fault)
+    → IsErrAnd answer (λ given. given ≡ f) → IfErr answer (IsFault (BreaksImage image) (TakesMemory image))
+passed_of image P to f found answer is = passed_on (IsFault (BreaksImage image) (TakesMemory image)) answer f is (taken f found)
   where
-    taken : (given : Fault) → IsFault (BreaksImage image) (P image) given → IsFault (BreaksImage image) (TakesMemory image) given
+    taken : (given : Fault) → IsFault (BreaksImage image) P given → IsFault (BreaksImage image) (TakesMemory image) given
     taken (fault.Broken b) least = least
     taken fault.Memory p = to p
 
