@@ -3,7 +3,7 @@ use Rattle.macho_fields.specs.Bytes.{bytes_of}
 use Rattle.macho_fields.specs.Field.{part}
 use Rattle.macho_fields.specs.Segment.{vmaddr, vmsize, fileoff, filesize}
 use Rattle.macho_image.specs.Segment.{SegmentView}
-use Rattle.macho_rules.proofs.Verdicts.{part_length}
+use Rattle.macho_image.proofs.ReadParts.{length-part}
 use Rattle.macho_verified.proofs.Accepted.{some_given, part_part, fits_in}
 use Rattle.macho_verified.proofs.segment.VerifiedSegment.bytes_at.Goals as goal
 
@@ -36,4 +36,4 @@ pub returns-clause-whole : goal.returns-clause-whole
 returns-clause-whole c =
     some_given (λ bytes. bytes.now ≡ part c.in_ok-start.start c.args.len (bytes_of c.new.result)) (λ bytes. length bytes.now ≡ c.args.len)
     (c.in_ok-start.start + c.args.len ≤ length (bytes_of c.new.result)) c.part.result c.part.ensures.inside.0
-    (λ fits bytes found. ap length found ∙ part_length c.in_ok-start.start c.args.len (bytes_of c.new.result) fits) c.part.ensures.bytes
+    (λ fits bytes found. ap length found ∙ length-part c.in_ok-start.start c.args.len (bytes_of c.new.result) fits) c.part.ensures.bytes
