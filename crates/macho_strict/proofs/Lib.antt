@@ -13,3 +13,4 @@ pub mod CommandsEnd
 pub mod Verdicts
 pub mod InImage
 pub mod InFile
+pub mod Surveyed

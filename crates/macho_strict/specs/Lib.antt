@@ -9,3 +9,4 @@ pub mod Accounted
 pub mod Verdict
 pub mod Gaps
 pub mod Stray
+pub mod FileParts

@@ -8,6 +8,7 @@ pub mod law;
 mod overlap;
 pub mod refusal;
 pub mod rule;
+mod segments;
 mod stray;
 
 pub use elements::{Element, Elements};

@@ -1,4 +1,4 @@
-use Rattle.std.proofs.Common.{◌∷◌, ℕ, Ok, Err, subst}
+use Rattle.std.proofs.Common.{◌∷◌, Ok, Err, subst}
 use Rattle.macho_fields.specs.FirstPlace.{IsLeastPlace}
 use Rattle.macho_fields.specs.Overlap.{IsAscending}
 use Rattle.macho_fields.specs.declared.span.Span.{Span}

@@ -1,5 +1,4 @@
-use Rattle.std.proofs.Common.{◌≡◌, ◌+◌, ◌∷◌, ◌++◌, [], List, take, sym, ◌∙◌, subst, arith}
-use Rattle.macho_fields.specs.Overlap.{span_at}
+use Rattle.std.proofs.Common.{◌∷◌, ◌++◌, [], List, take, sym, subst, arith}
 use Rattle.macho_fields.specs.declared.span.Span.{Span}
 use Rattle.macho_strict.specs.Gaps.{ArePassed}
 use Rattle.macho_strict.specs.Verdict.{slice_spans}

@@ -1,5 +1,4 @@
-use Rattle.std.proofs.Common.{◌≡◌, ◌+◌, ◌*◌, ◌≤◌, ap, arith}
-use Rattle.macho_fields.specs.Universal.{IsUniversal, table_end}
+use Rattle.std.proofs.Common.{ap, arith}
 use Rattle.macho_fields.specs.declared.span.Span.{Span}
 use Rattle.macho_fields.specs.Bytes.{bytes_of}
 use Rattle.macho_strict.proofs.SliceSpans.{table_found}

@@ -1,0 +1,202 @@
+-- What one walk over the segments of an image finds of their file parts.
+use Rattle.std.proofs.Common.{◌≡◌, ◌↔◌, ℕ, ◌+◌, ◌≤◌, ◌<◌, ◌⊎◌, List, [], ◌∷◌, ◌++◌, length, map, get_or, slice_get, Bool, true, false, IsTrue, Any, Contains, Option, None, Some, refl, sym, ap, ◌∙◌, subst, arith, inl, inr}
+use Rattle.std.proofs.lemmas.Bool.{true≢false, cases_lt}
+use Rattle.std.proofs.lemmas.List.{get_or_default, get_or_past, get_or-map, length-map, map_push}
+use Rattle.std.proofs.lemmas.List.Elements.{Contains-append_cases, Contains-append_left, Contains-append_right}
+use Rattle.std.proofs.lemmas.Option.{get_or_from_slice_get}
+use Rattle.std.proofs.lemmas.Simd.{map-map}
+use Rattle.macho_fields.specs.FirstPlace.{IsLeastPlace}
+use Rattle.macho_fields.specs.Image.{commands_of, command_size}
+use Rattle.macho_fields.specs.Overlap.{span_at, SharesEarlier, IsLeastSharing}
+use Rattle.macho_fields.specs.Span.{Holds}
+use Rattle.macho_fields.specs.SpanOrder.{IsOrderOf, spans_in, tags_in}
+use Rattle.macho_fields.specs.declared.span.Span.{Span}
+use Rattle.macho_fields.specs.declared.span_order.SpanOrder.{SpanOrder}
+use Rattle.macho_fields.proofs.Lists.{contains_first, any_of, only_one}
+use Rattle.macho_fields.proofs.Parts.{command_good, with_cmd_among}
+use Rattle.macho_fields.specs.declared.header.loader.TheConstants as loader
+use Rattle.macho_image.specs.Opened.{IsOpened}
+use Rattle.macho_rules.proofs.Searches.{ordered_at, mapped_has}
+use Rattle.macho_rules.proofs.SegmentItems.{segments_spread}
+use Rattle.macho_rules.proofs.Judged.{opened_commands}
+use Rattle.macho_strict.specs.FileParts.{HoldsHeaders, AreSurveyed}
+use Rattle.macho_strict.specs.Gaps.{IsStray, ArePassed}
+use Rattle.macho_strict.specs.Rules.{BreaksImage, HasHeaders, SharesFilePart, all_segments}
+use Rattle.macho_strict.specs.Sharing.{file_part, all_parts, tagged, tagged_parts, IsFirstSharing}
+use Rattle.macho_strict.specs.Verdict.{file_parts, IsUnordered}
+use Rattle.macho_strict.specs.declared.elements.Element.{Element}
+use Rattle.macho_strict.specs.declared.gaps.Gaps.{Gaps}
+use Rattle.macho_strict.specs.declared.rule.StrictRule.TheVariants as rule
+use Rattle.macho_strict.proofs.Passed.{least_same}
+use Rattle.macho_strict.proofs.Sharings.{spans_tagged, tags_tagged}
+
+abbrev span_of : Element → Span
+span_of part = part.span
+
+abbrev no_span : Span
+no_span = record { start = 0; len = 0 }
+
+-- One file part more
+
+any_more : (P : Element → Type 0) (xs : List Element) (x : Element) (old new : Bool) → (IsTrue old ↔ Any P xs) → (IsTrue new ↔ (IsTrue old ⊎ P x)) → IsTrue new ↔ Any P (xs ++ x ∷ [])
+any_more P xs x old new before here = (to, from)
+  where
+    to : IsTrue new → Any P (xs ++ x ∷ [])
+    to is = elim (here.0 is) [
+      | inl early ↦ let (k, y, less, at, p) = before.0 early in any_of P (xs ++ x ∷ []) y (Contains-append_left xs (x ∷ []) y (k, less, at)) p
+      | inr late ↦ any_of P (xs ++ x ∷ []) x (Contains-append_right xs (x ∷ []) x (contains_first x [])) late
+    ]
+
+    from : Any P (xs ++ x ∷ []) → IsTrue new
+    from (k, y, less, at, p) = elim (Contains-append_cases xs (x ∷ []) y (k, less, at)) [
+      | inl early ↦ here.1 (inl (before.1 (any_of P xs y early p)))
+      | inr late ↦ here.1 (inr (subst P (sym (only_one x y late)) p))
+    ]
+
+pub surveyed_more : (image : List ℕ) (parts : List Element) (part : Element) (old new : Bool) (order order' : SpanOrder) (gaps gaps' : Gaps) → AreSurveyed image parts old order gaps
+    → (IsTrue new ↔ (IsTrue old ⊎ HoldsHeaders image part))
+    → (IsOrderOf (tagged parts) order → IsOrderOf (tagged parts ++ (part.span, part.described) ∷ []) order')
+    → (ArePassed image (map span_of parts) gaps → ArePassed image (map span_of parts ++ part.span ∷ []) gaps')
+    → AreSurveyed image (parts ++ part ∷ []) new order' gaps'
+surveyed_more image parts part old new order order' gaps gaps' are headers ordered passed = record {
+  headers = any_more (HoldsHeaders image) parts part old new are.headers headers;
+  ordered = subst (λ pairs. IsOrderOf pairs order') (sym (map_push (λ (e : Element). (e.span, e.described)) parts part)) (ordered are.ordered);
+  passed = subst (λ (spans : List Span). ArePassed image spans gaps') (sym (map_push span_of parts part)) (passed are.passed);
+}
+
+-- All file parts of an image
+
+module _ (image : List ℕ) where
+  abbrev segments : List ℕ
+  segments = all_segments image
+
+  abbrev part_of : ℕ → Span
+  part_of segment = (file_part image segment).span
+
+  pub parts_are : map span_of (all_parts image) ≡ file_parts image
+  parts_are = map-map span_of (file_part image) segments
+
+  pub passed_parts : (gaps : Gaps) → ArePassed image (map span_of (all_parts image)) gaps → ArePassed image (file_parts image) gaps
+  passed_parts gaps = subst (λ (spans : List Span). ArePassed image spans gaps) parts_are
+
+  spans_are : spans_in (tagged_parts image) ≡ file_parts image
+  spans_are = spans_tagged (all_parts image) ∙ parts_are
+
+  tags_are : tags_in (tagged_parts image) ≡ map (λ segment. segment) segments
+  tags_are = tags_tagged (all_parts image) ∙ map-map (λ (e : Element). e.described) (file_part image) segments
+
+  pub unordered_parts : IsUnordered (spans_in (tagged_parts image)) → IsUnordered (file_parts image)
+  unordered_parts = subst IsUnordered spans_are
+
+  -- The rule header-segment
+
+  some_part : Any (HasHeaders image) segments → Any (HoldsHeaders image) (all_parts image)
+  some_part (k, segment, less, at, has) =
+      (k, file_part image segment, omega (arith, less, length-map segments (file_part image)), get_or-map (file_part image) segments k segment (file_part image segment) less ∙ ap (file_part image) at, has)
+
+  some_segment : Any (HoldsHeaders image) (all_parts image) → Any (HasHeaders image) segments
+  some_segment (k, part, less, at, has) =
+      let (segment, among, same) = mapped_has (file_part image) segments part (k, less, at) in
+      any_of (HasHeaders image) segments segment among (subst (HoldsHeaders image) (sym same) has)
+
+  pub with_headers : (has : Bool) → (IsTrue has ↔ Any (HoldsHeaders image) (all_parts image)) → has ≡ true → IsLeastPlace (BreaksImage image rule.HeaderSegment) None
+  with_headers has found is = λ place (at, none). none (some_segment (found.0 is))
+
+  pub without_headers : (has : Bool) → (IsTrue has ↔ Any (HoldsHeaders image) (all_parts image)) → has ≡ false → IsLeastPlace (BreaksImage image rule.HeaderSegment) (Some 20)
+  without_headers has found unset = ((refl, λ some. true≢false (sym (found.1 (some_part some)) ∙ unset)), λ place (at, none). omega (arith, at))
+
+  -- The rule stray-byte
+
+  pub least_stray : (found : Option ℕ) → IsLeastPlace (IsStray image (file_parts image)) found → IsLeastPlace (BreaksImage image rule.StrayByte) found
+  least_stray found least = least_same (IsStray image (file_parts image)) (BreaksImage image rule.StrayByte) to from found least
+    where
+      to : (p : ℕ) → IsStray image (file_parts image) p → BreaksImage image rule.StrayByte p
+      to p (is, free) = (is, λ k other less held. free k (subst (λ s. Holds s p) (sym (get_or-map part_of segments k other no_span less)) held))
+
+      from : (p : ℕ) → BreaksImage image rule.StrayByte p → IsStray image (file_parts image) p
+      from p (is, none) = (
+        is,
+        λ k held. elim (cases_lt k (length segments)) [
+          | inl less ↦ none k 0 less (subst (λ s. Holds s p) (get_or-map part_of segments k 0 no_span less) held)
+          | inr past ↦ absurd (omega (arith, held.0, held.1, ap (λ s. s.len) (get_or_past (file_parts image) k no_span (omega (arith, past, length-map segments part_of)))))
+        ],
+      )
+
+  -- The rule segment-file-overlap
+
+  part_at : (k : ℕ) → k < length segments → span_at (file_parts image) k ≡ part_of (get_or segments k 0)
+  part_at k less = get_or-map part_of segments k 0 no_span less
+
+  module _ (opened : IsOpened image) where
+    rises : (i j : ℕ) → i < j → j < length segments → get_or segments i 0 < get_or segments j 0
+    rises i j less within =
+        let has : Contains segments (get_or segments i 0) = (i, omega arith, get_or_default segments i (get_or segments i 0) 0 (omega arith)) in
+        let good = command_good image (commands_of image) (get_or segments i 0) (opened_commands image opened) (with_cmd_among image (commands_of image) loader.LC_SEGMENT_64 (get_or segments i 0) has) in
+        let apart = ordered_at (λ a b. a + command_size image a ≤ b) segments 0 i j (segments_spread image opened) less within in
+        omega (arith, apart, good.least)
+
+    by_index : (k : ℕ) → SharesEarlier (file_parts image) k → (k < length segments) × BreaksImage image rule.SegmentFileOverlap (get_or segments k 0)
+    by_index k (within, (i, less, (place, first, second))) =
+        let here : k < length segments = omega (arith, within, length-map segments part_of) in
+        let has : Contains segments (get_or segments k 0) = (k, here, get_or_default segments k (get_or segments k 0) 0 here) in
+        let earlier : i < length segments = omega arith in
+        let shares : SharesFilePart image (get_or segments k 0) = (
+          i,
+          get_or segments i 0,
+          earlier,
+          get_or_default segments i (get_or segments i 0) 0 earlier,
+          (rises i k less here, (place, subst (λ s. Holds s place) (part_at i earlier) first, subst (λ s. Holds s place) (part_at k here) second)),
+        ) in
+        (here, (has, shares))
+
+    index_of : (q : ℕ) → BreaksImage image rule.SegmentFileOverlap q → (k : ℕ) × SharesEarlier (file_parts image) k × (get_or segments k 0 ≡ q)
+    index_of q ((k, within, at), (i, e, below, at_i, (earlier, (place, first, second)))) =
+        let is : get_or segments k 0 ≡ q = get_or_default segments k 0 q within ∙ at in
+        let is_i : get_or segments i 0 ≡ e = get_or_default segments i 0 e below ∙ at_i in
+        let before : i < k = elim (cases_lt i k) [
+          | inl less ↦ less
+          | inr most ↦ absurd (not_before i k q e is is_i earlier below most)
+        ] in (
+          k,
+          (
+            omega (arith, within, length-map segments part_of),
+            (
+              i,
+              before,
+              (
+                place,
+                subst (λ s. Holds s place) (sym (part_at i below ∙ ap part_of is_i)) first,
+                subst (λ s. Holds s place) (sym (part_at k within ∙ ap part_of is)) second,
+              ),
+            ),
+          ),
+          is,
+        )
+      where
+        not_before : (i k q e : ℕ) → get_or segments k 0 ≡ q → get_or segments i 0 ≡ e → e < q → i < length segments → k ≤ i → ⊥
+        not_before i k q e is is_i earlier below most = elim (cases_lt k i) [
+          | inl less ↦ let rise = rises k i less below in absurd (omega (arith, rise, is, is_i))
+          | inr same ↦ let one : k ≡ i = omega arith in absurd (omega (arith, is, is_i, ap (λ n. get_or segments n 0) one))
+        ]
+
+    pub least_overlap : (found : Option ℕ) → IsFirstSharing (tagged_parts image) found → IsLeastPlace (BreaksImage image rule.SegmentFileOverlap) found
+    least_overlap None none = λ q broken. let (k, shares, is) = index_of q broken in none k (subst (λ (spans : List Span). SharesEarlier spans k) (sym spans_are) shares)
+    least_overlap (Some tag) (j, least, at) =
+        let (shares, first) = subst (λ (spans : List Span). IsLeastSharing spans j) spans_are least in
+        let (within, broken) = by_index j shares in
+        let here : get_or segments j 0 ≡ tag = tag_is j tag within at in
+        (subst (BreaksImage image rule.SegmentFileOverlap) here broken, λ q other. let (k, also, is) = index_of q other in low j tag here first within k also q is)
+      where
+        tag_is : (j tag : ℕ) → j < length segments → slice_get (tags_in (tagged_parts image)) j ≡ Some tag → get_or segments j 0 ≡ tag
+        tag_is j tag within at =
+            sym (get_or-map (λ (s : ℕ). s) segments j 0 0 within) ∙ (ap (λ tags. get_or tags j 0) (sym tags_are) ∙ get_or_from_slice_get (tags_in (tagged_parts image)) j tag 0 at)
+
+        low : (j tag : ℕ) → get_or segments j 0 ≡ tag → ((k : ℕ) → k < j → ¬ SharesEarlier (file_parts image) k) → j < length segments → (k : ℕ) → SharesEarlier (file_parts image) k → (q : ℕ) → get_or segments k 0 ≡ q → tag ≤ q
+        low j tag here first within k also q is = elim (cases_lt k j) [
+          | inl less ↦ absurd (first k less also)
+          | inr most ↦
+              elim (cases_lt j k) [
+                | inl above ↦ let rise = rises j k above (let inside = also.0 in omega (arith, inside, length-map segments part_of)) in omega (arith, rise, here, is)
+                | inr same ↦ let one : j ≡ k = omega arith in omega (arith, here, is, ap (λ n. get_or segments n 0) one)
+              ]
+        ]
