@@ -18,7 +18,7 @@ use Rattle.macho_fields.specs.declared.header.loader.TheConstants as loader
 use Rattle.macho_image.specs.Opened.{IsOpened}
 use Rattle.macho_rules.proofs.Searches.{ordered_at, mapped_has}
 use Rattle.macho_rules.proofs.SegmentItems.{segments_spread}
-use Rattle.macho_rules.proofs.Judged.{opened_commands}
+use Rattle.macho_image.proofs.OpenedWalk.{opened_commands}
 use Rattle.macho_strict.specs.FileParts.{HoldsHeaders, AreSurveyed}
 use Rattle.macho_strict.specs.Gaps.{IsStray, ArePassed}
 use Rattle.macho_strict.specs.Rules.{BreaksImage, HasHeaders, SharesFilePart, all_segments}
