@@ -24,7 +24,6 @@ use Rattle.macho_fat.specs.declared.fault.FatFault.{FatFault}
 use Rattle.macho_fat.specs.declared.fault.FatFault.TheVariants as fault
 use Rattle.macho_fat.specs.declared.slice.Slice.{Slice}
 use Rattle.macho_image.specs.Opened.{IsOpened}
-pub use Rattle.macho_image.proofs.ReadParts.{length-part as part_length}
 use Rattle.macho_rules.specs.Verdict.{IsVerified, IsRefusal, IsImageRefusal, IsSliceRefusal, refusal_of}
 use Rattle.macho_rules.specs.declared.refusal.Refusal.{Refusal}
 use Rattle.macho_rules.specs.declared.refusal.Refusal.TheVariants as refusal
