@@ -1,4 +1,4 @@
-use Rattle.std.proofs.Common.{◌≡◌, List, ℕ, None, Result, IfErr, IsErrAnd, ◌∙◌, ap, sym, subst, arith}
+use Rattle.std.proofs.Common.{◌≡◌, List, ℕ, None, Result, IfErr, IsErrAnd, ◌∙◌, ap, sym, subst, arith, rules}
 use Rattle.macho_fields.specs.Image.{commands_of}
 use Rattle.macho_fields.specs.Layers.{IsLeast}
 use Rattle.macho_fields.specs.Rules.{BreaksImage}
@@ -36,7 +36,7 @@ pub table_range-requires : goal.table_range-requires
 table_range-requires c = subst (λ (image : List ℕ). KeptBefore image rule.TableRange) c.of-survey.ensures c.in_ok-judge_sections.ensures
 
 pub symbol_group-requires : goal.symbol_group-requires
-symbol_group-requires c = c.in_ok-table_range.ensures
+symbol_group-requires c = search rules
 
 pub of-symbols-requires-clause-sections : goal.of-symbols-requires-clause-sections
 of-symbols-requires-clause-sections c = c.section_count.ensures ∙ ap (λ (image : List ℕ). section_count image (commands_of image)) c.of-survey.ensures
