@@ -229,7 +229,6 @@ no_room {count = count} answer succeeds is = elim (cases_lt 0 count) [
   | inr none ↦ absurd (false≢true (subst IsOk is (succeeds (omega arith))))
 ]
 
-
 pub err_for : {T E P Q : Type 0} → (P → Q) → (answer : Result T E) → OnErr answer P → OnErr answer Q
 err_for to (Ok x) p = tt
 err_for to (Err e) p = to p
