@@ -1,5 +1,5 @@
 -- The place of the first broken strict rule lies in the file, or just after its last byte.
-use Rattle.std.proofs.Common.{◌≡◌, ℕ, suc, zero, ◌+◌, ◌≤◌, List, length, slice_get, sym, arith}
+use Rattle.std.proofs.Common.{ℕ, suc, zero, ◌+◌, ◌≤◌, List, length, slice_get, sym, arith}
 use Rattle.macho_fields.specs.First.{IsUnbroken, scope_start}
 use Rattle.macho_fields.specs.Universal.{slices_of, slice_bytes}
 use Rattle.macho_fields.proofs.Options.{some_of}

@@ -18,7 +18,7 @@ use std::alloc::{AllocError, Global};
 use std::marker::Model;
 
 // `mach_header_64.sizeofcmds`
-const SIZEOFCMDS: u64 = 20;
+pub(crate) const SIZEOFCMDS: u64 = 20;
 
 // What one walk over the segments of an image finds of their file parts.
 #[derive(Drop)]

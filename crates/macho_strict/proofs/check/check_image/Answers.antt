@@ -1,0 +1,19 @@
+use Rattle.std.proofs.Common.{inl}
+use Rattle.macho_fields.specs.Overlap.{IsAscending}
+use Rattle.macho_strict.specs.Rules.{BreaksImage}
+use Rattle.macho_strict.specs.Verdict.{IsUnordered, file_parts}
+use Rattle.macho_strict.proofs.Verdicts.{passed_of, all_unbroken}
+use Rattle.macho_strict.proofs.check.check_image.Goals as goal
+
+pub returns-in_err-segment_file_overlap-clause-refused : goal.returns-in_err-segment_file_overlap-clause-refused
+returns-in_err-segment_file_overlap-clause-refused c =
+    passed_of c.args.image.now (IsUnordered (file_parts c.args.image.now)) (λ unordered. inl unordered.0) c.in_err-segment_file_overlap.field-0.0 c.in_err-segment_file_overlap.ensures
+    c.from_residual-in_err-segment_file_overlap.result c.from_residual-in_err-segment_file_overlap.ensures.1
+
+pub returns-in_err-stray_byte-clause-refused : goal.returns-in_err-stray_byte-clause-refused
+returns-in_err-stray_byte-clause-refused c =
+    passed_of c.args.image.now (¬ IsAscending (file_parts c.args.image.now)) (λ not. inl not) c.in_err-stray_byte.field-0.0 c.in_err-stray_byte.ensures
+    c.from_residual-in_err-stray_byte.result c.from_residual-in_err-stray_byte.ensures.1
+
+pub returns-clause-unbroken : goal.returns-clause-unbroken
+returns-clause-unbroken c = all_unbroken (BreaksImage c.args.image.now) c.in_ok-stray_byte.ensures

@@ -1,0 +1,79 @@
+//! The strict verdict on a file.
+
+ghost use Rattle.std.specs.Prelude.{◌≡◌, suc, OnOk, IfOk, IfErr};
+ghost use Rattle.macho_fields.specs.First.{IsUnbroken};
+ghost use Rattle.macho_fields.specs.Loader.{IsSound};
+ghost use Rattle.macho_strict.specs.Accounted.{IsAccounted};
+ghost use Rattle.macho_strict.specs.First.{IsBrokenIn, IsStrictlyUnbroken};
+ghost use Rattle.macho_strict.specs.Order.{NothingBreaks};
+ghost use Rattle.macho_strict.specs.Verdict.{IsStrictRefusal, IsStrictBreak, IsScopeBreak};
+
+use crate::check::check_image;
+use crate::refusal::{Fault, StrictRefusal};
+use crate::rule::StrictBreak;
+use crate::stray::fat_stray_byte;
+use macho_rules::{Verified, verify};
+use std::alloc::Global;
+
+/// Decides the rules of a file as `macho_rules::verify` does, and then the strict rules, in their order:
+/// accepts it, or returns the first broken one, with its place in the file.
+///
+/// The strict rule of the file comes first; then those of its 64-bit slices, in the order of the table.
+/// It takes memory as `verify` does, and past that only where slices, segments or elements do not come in
+/// the order of their bytes: at most 24 bytes for each of one kind at a time, to sort them.
+pub fn verify_strictly<'a>(alloc: Global, file: &'a [u8]) -> Result<Verified<'a>, StrictRefusal>
+    // It accepts only a file that breaks no rule and no strict rule, and refuses only one that breaks
+    // one of them, unless there is no memory.
+    ensures accepted { OnOk result (IsUnbroken file.now) }
+    ensures strictly { OnOk result (IsStrictlyUnbroken file.now) }
+    ensures refused { IfErr result (IsStrictRefusal file.now) }
+
+    // What it accepts is sound, and accounted for.
+    ensures sound { OnOk result (IsSound file.now) }
+    ensures accounted { OnOk result (IsAccounted file.now) }
+    ensures file { IfOk result (λ verified. verified ≡ file.now) }
+{
+    let verified = verify(alloc, file)?;
+    match check_strictly(alloc, &verified) {
+        Ok(()) => Ok(verified),
+        Err(Fault::Broken(broken)) => Err(StrictRefusal::BrokenStrictly(broken)),
+        Err(Fault::Memory) => Err(StrictRefusal::Memory),
+    }
+}
+
+// Decides the strict rules of a file, and of each of its 64-bit slices, one slice after the other. The
+// place of a break is its offset in the file.
+fn check_strictly(alloc: Global, verified: &Verified) -> Result<(), Fault>
+    ensures unbroken { OnOk result (IsStrictlyUnbroken verified.now) }
+    ensures refused { IfErr result (IsStrictBreak verified.now) }
+{
+    fat_stray_byte(alloc, verified)?;
+    for index in 0..verified.slice_count() {
+        check_slice(alloc, verified, index)?;
+    }
+    Ok(())
+}
+
+// Decides the strict rules of the slice with this index, if it has an image. The place of a break is
+// its offset in the file.
+fn check_slice(alloc: Global, verified: &Verified, index: u64) -> Result<(), Fault>
+    ensures unbroken { OnOk result (NothingBreaks (IsBrokenIn verified.now (suc index))) }
+    ensures refused { IfErr result (IsScopeBreak verified.now (suc index)) }
+{
+    let Some(slice) = verified.slice(index) else {
+        return Ok(());
+    };
+    let Some(image) = verified.image(index) else {
+        return Ok(());
+    };
+    match check_image(alloc, &image) {
+        Ok(()) => Ok(()),
+        Err(Fault::Broken(broken)) => {
+            // The image lies in the file, so its places do too.
+            prove!(verified.bytes().len() <= u64::MAX);
+            let place = slice.span.start + broken.place;
+            Err(Fault::Broken(StrictBreak::at(broken.rule, place)))
+        }
+        Err(Fault::Memory) => Err(Fault::Memory),
+    }
+}
