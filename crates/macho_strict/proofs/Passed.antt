@@ -1,11 +1,11 @@
 -- One span more in a walk over spans that come by their starts.
-use Rattle.std.proofs.Common.{◌≡◌, ℕ, ◌≤◌, ◌<◌, ◌⊎◌, Bool, true, false, max, List, [], ◌∷◌, ◌++◌, length, Contains, Option, Some, None, sym, ap, ◌∙◌, subst, arith, inl, inr, length-append}
+use Rattle.std.proofs.Common.{◌≡◌, ℕ, ◌≤◌, ◌<◌, ◌⊎◌, Bool, true, false, max, List, [], ◌∷◌, ◌++◌, length, map, All, Contains, Option, Some, None, sym, ap, ◌∙◌, subst, arith, inl, inr, length-append}
 use Rattle.std.specs.Prelude.{MatchOption, IsPermutation}
 use Rattle.std.specs.List.Sorted.{IsNonDecreasingBy}
 use Rattle.std.proofs.Math.ListN.{get_or-append}
 use Rattle.std.proofs.Math.Seq.{get_or-append_seam}
 use Rattle.std.proofs.lemmas.Bool.{true≢false, cases_lt, cases_eq, cases_Bool}
-use Rattle.std.proofs.lemmas.List.{get_or_default, get_or_past}
+use Rattle.std.proofs.lemmas.List.{get_or_default, get_or_past, get_or-map, length-map}
 use Rattle.std.proofs.lemmas.List.Sorted.{IsPermutation-sym, Contains-permutation}
 use Rattle.macho_fields.specs.Bytes.{bytes_of}
 use Rattle.macho_fields.specs.FirstPlace.{IsLeastPlace}
@@ -208,6 +208,15 @@ free_among spans others p has free i held =
     let less = among others i (omega (arith, held.0, held.1)) in
     let there = has (span_at others i) (i, less, get_or_default others i _ no_span less) in
     free there.0 (subst (λ s. Holds s p) (sym (get_or_default spans there.0 no_span _ there.1 ∙ there.2)) held)
+
+-- a place in none of the spans of some items, item by item
+pub all_of_free : {X : Type 0} (span : X → Span) (items : List X) (p : ℕ) → ((i : ℕ) → ¬ Holds (span_at (map span items) i) p) → All (λ x. ¬ Holds (span x) p) items
+all_of_free span items p free k x less held = free k (subst (λ s. Holds s p) (sym (get_or-map span items k x no_span less)) held)
+
+pub free_of_all : {X : Type 0} (span : X → Span) (items : List X) (x : X) (p : ℕ) → All (λ y. ¬ Holds (span y) p) items → (i : ℕ) → ¬ Holds (span_at (map span items) i) p
+free_of_all span items x p none i held =
+    let less : i < length items = omega (arith, among (map span items) i (omega (arith, held.0, held.1)), length-map items span) in
+    none i x less (subst (λ s. Holds s p) (get_or-map span items i x no_span less) held)
 
 -- the order of the spans does not matter
 pub least_sorted : (bytes : List ℕ) (spans sorted : List Span) → IsPermutation spans sorted → (found : Option ℕ) → IsLeastPlace (IsStray bytes sorted) found → IsLeastPlace (IsStray bytes spans) found

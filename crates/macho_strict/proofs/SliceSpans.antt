@@ -1,7 +1,7 @@
 -- The table and the slices of a universal file, and what lies between them.
-use Rattle.std.proofs.Common.{◌≡◌, ℕ, suc, zero, ◌+◌, ◌*◌, ◌≤◌, ◌<◌, List, [], ◌∷◌, ◌++◌, length, take, Option, None, All, refl, sym, ap, ◌∙◌, subst, arith, inl, inr}
+use Rattle.std.proofs.Common.{◌≡◌, ℕ, suc, zero, ◌+◌, ◌*◌, ◌≤◌, ◌<◌, List, [], ◌∷◌, ◌++◌, length, take, Option, None, All, refl, ap, ◌∙◌, subst, arith, inl, inr}
 use Rattle.std.proofs.lemmas.Bool.{cases_lt}
-use Rattle.std.proofs.lemmas.List.{get_or_past, get_or-map, length-map, take_all, take_more}
+use Rattle.std.proofs.lemmas.List.{length-map, take_all, take_more}
 use Rattle.macho_fields.specs.First.{IsUnbroken}
 use Rattle.macho_fields.specs.FirstPlace.{IsLeastPlace}
 use Rattle.macho_fields.specs.Overlap.{span_at, IsAscending}
@@ -15,7 +15,7 @@ use Rattle.macho_strict.specs.Rules.{BreaksFile}
 use Rattle.macho_strict.specs.Stray.{table_span}
 use Rattle.macho_strict.specs.Verdict.{slice_spans}
 use Rattle.macho_strict.specs.declared.rule.StrictRule.TheVariants as rule
-use Rattle.macho_strict.proofs.Passed.{least_same, ascending_by_start}
+use Rattle.macho_strict.proofs.Passed.{least_same, ascending_by_start, all_of_free, free_of_all}
 
 abbrev no_span : Span
 no_span = record { start = 0; len = 0 }
@@ -63,19 +63,14 @@ module _ (file : List ℕ) (universal : IsUniversal file) where
       ]
 
       none : All (λ slice. ¬ HasPlace slice p) (slices_of file)
-      none k other less held = free (suc k) (subst (λ s. Holds s p) (sym (get_or-map span_of (slices_of file) k other no_span less)) held)
+      none = all_of_free span_of (slices_of file) p (λ k. free (suc k))
 
   strays : (p : ℕ) → BreaksFile file rule.FatStrayByte p → IsStray file (table_span file ∷ slice_spans file) p
   strays p (_, is, past, none) = (is, free)
     where
       free : (i : ℕ) → ¬ Holds (span_at (table_span file ∷ slice_spans file) i) p
       free zero held = absurd (omega (arith, held.1))
-      free (suc k) held = elim (cases_lt k (length (slices_of file))) [
-        | inl less ↦
-            let slice : FileSlice = record { start = 0; size = 0; arch = None } in
-            none k slice less (subst (λ s. Holds s p) (get_or-map span_of (slices_of file) k slice no_span less) held)
-        | inr over ↦ absurd (omega (arith, held.0, held.1, ap (λ s. s.len) (get_or_past (slice_spans file) k no_span (omega (arith, length-map (slices_of file) span_of)))))
-      ]
+      free (suc k) held = free_of_all span_of (slices_of file) (record { start = 0; size = 0; arch = None }) p none k held
 
   pub least_of_file : (found : Option ℕ) → IsLeastPlace (IsStray file (table_span file ∷ slice_spans file)) found → IsLeastPlace (BreaksFile file rule.FatStrayByte) found
   least_of_file found least = least_same (IsStray file (table_span file ∷ slice_spans file)) (BreaksFile file rule.FatStrayByte) breaks strays found least

@@ -1,7 +1,7 @@
 -- What one walk over the segments of an image finds of their file parts.
 use Rattle.std.proofs.Common.{◌≡◌, ◌↔◌, ℕ, ◌+◌, ◌≤◌, ◌<◌, ◌⊎◌, List, [], ◌∷◌, ◌++◌, length, map, get_or, slice_get, Bool, true, false, IsTrue, Any, Contains, Option, None, Some, refl, sym, ap, ◌∙◌, subst, arith, inl, inr}
 use Rattle.std.proofs.lemmas.Bool.{true≢false, cases_lt}
-use Rattle.std.proofs.lemmas.List.{get_or_default, get_or_past, get_or-map, length-map, map_push}
+use Rattle.std.proofs.lemmas.List.{get_or_default, get_or-map, length-map, map_push}
 use Rattle.std.proofs.lemmas.List.Elements.{Contains-append_cases, Contains-append_left, Contains-append_right}
 use Rattle.std.proofs.lemmas.Option.{get_or_from_slice_get}
 use Rattle.std.proofs.lemmas.Simd.{map-map}
@@ -27,7 +27,7 @@ use Rattle.macho_strict.specs.Verdict.{file_parts, IsUnordered}
 use Rattle.macho_strict.specs.declared.elements.Element.{Element}
 use Rattle.macho_strict.specs.declared.gaps.Gaps.{Gaps}
 use Rattle.macho_strict.specs.declared.rule.StrictRule.TheVariants as rule
-use Rattle.macho_strict.proofs.Passed.{least_same}
+use Rattle.macho_strict.proofs.Passed.{least_same, all_of_free, free_of_all}
 use Rattle.macho_strict.proofs.Sharings.{spans_tagged, tags_tagged}
 
 abbrev span_of : Element → Span
@@ -111,16 +111,10 @@ module _ (image : List ℕ) where
   least_stray found least = least_same (IsStray image (file_parts image)) (BreaksImage image rule.StrayByte) to from found least
     where
       to : (p : ℕ) → IsStray image (file_parts image) p → BreaksImage image rule.StrayByte p
-      to p (is, free) = (is, λ k other less held. free k (subst (λ s. Holds s p) (sym (get_or-map part_of segments k other no_span less)) held))
+      to p (is, free) = (is, all_of_free part_of segments p free)
 
       from : (p : ℕ) → BreaksImage image rule.StrayByte p → IsStray image (file_parts image) p
-      from p (is, none) = (
-        is,
-        λ k held. elim (cases_lt k (length segments)) [
-          | inl less ↦ none k 0 less (subst (λ s. Holds s p) (get_or-map part_of segments k 0 no_span less) held)
-          | inr past ↦ absurd (omega (arith, held.0, held.1, ap (λ s. s.len) (get_or_past (file_parts image) k no_span (omega (arith, past, length-map segments part_of)))))
-        ],
-      )
+      from p (is, none) = (is, free_of_all part_of segments 0 p none)
 
   -- The rule segment-file-overlap
 
