@@ -1,0 +1,33 @@
+//! Who decides for `macho-strict` whether a file is accepted.
+
+ghost use Rattle.macho_strict_check.specs.Judge.{IsStrictlyAccepted, IsNamedFirst};
+
+use macho_report::{Judge, Rejection};
+use macho_rules::Verified;
+use macho_strict::{StrictRefusal, verify_strictly};
+use std::alloc::Global;
+
+/// Accepts the files that break no rule of the layout and no strict rule, as [`verify_strictly`] decides.
+#[derive(Clone, Copy, Debug, PartialEq, Eq)]
+pub struct StrictRules;
+
+impl Judge for StrictRules {
+    ghost accepts = { IsStrictlyAccepted };
+
+    ghost refuses = { IsNamedFirst };
+
+    fn judge<'a>(&self, alloc: Global, file: &'a [u8]) -> Result<Verified<'a>, Rejection> {
+        match verify_strictly(alloc, file) {
+            Ok(verified) => Ok(verified),
+            Err(StrictRefusal::Broken(broken)) => Err(Rejection::Broken {
+                rule: broken.rule.name(),
+                place: broken.place,
+            }),
+            Err(StrictRefusal::BrokenStrictly(broken)) => Err(Rejection::Broken {
+                rule: broken.rule.name(),
+                place: broken.place,
+            }),
+            Err(StrictRefusal::Memory) => Err(Rejection::Memory),
+        }
+    }
+}

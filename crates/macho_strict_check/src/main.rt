@@ -1,0 +1,18 @@
+#![tactic(auto)]
+//! `macho-strict`: reads a file, and prints its layout, or the rule that it breaks first: a rule of the
+//! layout or a strict one.
+
+mod judge;
+
+use judge::StrictRules;
+use macho_program::{ProgramName, Tool, run_process};
+use std::process::ExitCode;
+
+// Runs the tool on the words, the files and the streams of the process.
+fn main(rt: HostRuntime) -> ExitCode {
+    let tool = Tool {
+        name: ProgramName::MachoStrict,
+        judge: StrictRules,
+    };
+    run_process(&rt, &tool, &mut rt.stdin(), rt.stdout(), &mut rt.stderr())
+}
