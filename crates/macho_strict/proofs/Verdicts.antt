@@ -1,6 +1,7 @@
 -- From the answers on a file, on its slices and on its images to the strict verdict.
 use Rattle.std.proofs.Common.{◌≡◌, ℕ, ◌+◌, List, Result, IsErrAnd, IfErr, refl, arith}
 use Rattle.macho_fields.specs.First.{IsUnbroken}
+use Rattle.macho_fields.specs.Overlap.{IsAscending}
 use Rattle.macho_rules.proofs.Verdicts.{passed_on}
 use Rattle.macho_rules.specs.Verdict.{IsRefusal}
 use Rattle.macho_rules.specs.declared.refusal.Refusal.{Refusal}
@@ -8,7 +9,7 @@ use Rattle.macho_rules.specs.declared.refusal.Refusal.TheVariants as refusal
 use Rattle.macho_strict.specs.Order.{NothingBreaks, KeptBelow, IsFault}
 use Rattle.macho_strict.specs.RuleList.{rank}
 use Rattle.macho_strict.specs.Rules.{BreaksFile, BreaksImage}
-use Rattle.macho_strict.specs.Verdict.{IsStrictRefusal, IsStrictBreak, IsScopeBreak, TakesMemory, refusal_of}
+use Rattle.macho_strict.specs.Verdict.{IsStrictRefusal, IsStrictBreak, IsScopeBreak, TakesMemory, refusal_of, slice_spans}
 use Rattle.macho_strict.specs.declared.refusal.Fault.{Fault}
 use Rattle.macho_strict.specs.declared.refusal.Fault.TheVariants as fault
 use Rattle.macho_strict.specs.declared.refusal.StrictRefusal.TheVariants as strict
@@ -37,12 +38,12 @@ file_unbroken file kept = one_more file 0 (none_kept file) (λ r place broken. k
 -- a fault of a scope is one of the file, where nothing is broken in the scopes before it
 pub scope_refused : (file : List ℕ) (n : ℕ) → KeptScopes file n → (f : Fault) → IsScopeBreak file n f → IsStrictBreak file f
 scope_refused file n kept (fault.Broken b) (found, least, same, at) = scope_first file n found b kept least same at
-scope_refused file n kept fault.Memory none = tt
+scope_refused file n kept fault.Memory takes = (n, takes)
 
 -- so is one of the file itself
-pub file_refused : (file : List ℕ) (P : Type 0) (f : Fault) → IsFault (BreaksFile file) P f → IsStrictBreak file f
-file_refused file P (fault.Broken b) least = scope_first file 0 b b (none_kept file) least refl (omega arith)
-file_refused file P fault.Memory none = tt
+pub file_refused : (file : List ℕ) (f : Fault) → IsFault (BreaksFile file) (¬ IsAscending (slice_spans file)) f → IsStrictBreak file f
+file_refused file (fault.Broken b) least = scope_first file 0 b b (none_kept file) least refl (omega arith)
+file_refused file fault.Memory takes = (0, takes)
 
 -- a refusal of the verdict is one of the strict verdict
 pub verdict_refused : (file : List ℕ) (r : Refusal) → IsRefusal file r → IsStrictRefusal file (refusal_of r)

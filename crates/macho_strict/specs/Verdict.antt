@@ -1,9 +1,9 @@
 -- The strict verdict on a file, and where it takes memory.
-use Rattle.std.specs.Prelude.{◌≡◌, ℕ, ◌+◌, ◌⊎◌, ⊤, List, map}
+use Rattle.std.specs.Prelude.{◌≡◌, ℕ, suc, zero, ◌+◌, ◌⊎◌, List, map, slice_get, IsSomeAnd}
 use Rattle.macho_fields.specs.First.{IsUnbroken, IsFirstBroken, scope_start}
 use Rattle.macho_fields.specs.Overlap.{IsAscending, IsDescending}
 use Rattle.macho_fields.specs.Segment.{fileoff, filesize}
-use Rattle.macho_fields.specs.Universal.{slices_of}
+use Rattle.macho_fields.specs.Universal.{slices_of, slice_bytes}
 use Rattle.macho_fields.specs.declared.span.Span.{Span}
 use Rattle.macho_rules.specs.Verdict.{IsRefusal}
 use Rattle.macho_rules.specs.declared.refusal.Refusal.{Refusal}
@@ -52,15 +52,22 @@ abbrev pub refusal_of : Refusal → StrictRefusal
 refusal_of (refusal.Broken b) = strict.Broken b
 refusal_of refusal.Memory = strict.Memory
 
--- a fault of a file is its first broken strict rule, or that there was no memory
+-- the slices of a file do not ascend, or the image in a slice takes memory
+abbrev pub TakesMemoryIn : List ℕ → ℕ → Type 0
+TakesMemoryIn file zero = ¬ IsAscending (slice_spans file)
+TakesMemoryIn file (suc k) =
+    IsSomeAnd (slice_get (slices_of file) k) (λ slice. TakesMemory (slice_bytes file slice))
+
+-- a fault of a file is its first broken strict rule, or that there was no memory, where a scope takes
+-- some
 abbrev pub IsStrictBreak : List ℕ → Fault → Type 0
 IsStrictBreak file (fault.Broken b) = IsFirstStrictlyBroken file b
-IsStrictBreak file fault.Memory = ⊤
+IsStrictBreak file fault.Memory = (scope : ℕ) × TakesMemoryIn file scope
 
 -- a fault of a scope is its first broken strict rule, with its place in the file, or that there was no
--- memory
+-- memory, where it takes some
 abbrev pub IsScopeBreak : List ℕ → ℕ → Fault → Type 0
 IsScopeBreak file scope (fault.Broken b) =
     (found : StrictBreak) × IsLeast (IsBrokenIn file scope) found
     × (b.rule ≡ found.rule) × (b.place ≡ scope_start file scope + found.place)
-IsScopeBreak file scope fault.Memory = ⊤
+IsScopeBreak file scope fault.Memory = TakesMemoryIn file scope

@@ -1,7 +1,6 @@
 use Rattle.std.proofs.Common.{suc, arith}
-use Rattle.macho_fields.specs.Overlap.{IsAscending}
 use Rattle.macho_rules.proofs.Verdicts.{passed_on}
-use Rattle.macho_strict.specs.Verdict.{IsStrictBreak, slice_spans}
+use Rattle.macho_strict.specs.Verdict.{IsStrictBreak}
 use Rattle.macho_strict.proofs.Scopes.{one_more, all_kept}
 use Rattle.macho_strict.proofs.Verdicts.{file_unbroken, file_refused, scope_refused}
 use Rattle.macho_strict.proofs.verdict.check_strictly.Goals as goal
@@ -10,7 +9,7 @@ pub returns-in_err-fat_stray_byte-clause-refused : goal.returns-in_err-fat_stray
 returns-in_err-fat_stray_byte-clause-refused c =
     let file = c.args.verified.now in
     passed_on (IsStrictBreak file) c.from_residual.result c.in_err-fat_stray_byte.field-0.0 c.from_residual.ensures.1
-    (file_refused file (¬ IsAscending (slice_spans file)) c.in_err-fat_stray_byte.field-0.0 c.in_err-fat_stray_byte.ensures)
+    (file_refused file c.in_err-fat_stray_byte.field-0.0 c.in_err-fat_stray_byte.ensures)
 
 pub loop-index-init : goal.loop-index-init
 loop-index-init c = file_unbroken c.args.verified.now c.in_ok-fat_stray_byte.ensures
