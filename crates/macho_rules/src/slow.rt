@@ -1,5 +1,5 @@
-//! A second verdict, without memory. Each rule of the file, of segments, of sections and of symbols has
-//! a loop of its own here, which shares no walk with the first verdict; `segment-overlap` and
+//! A second verdict, without memory. Each rule of the file, of segments, of sections and of symbols is
+//! decided by a walk of its own, and none is shared with the first verdict; `segment-overlap` and
 //! `symbol-name` are decided in another way too. What is tested of one segment, section or symbol is
 //! the same in both, and so are the other rules of an opened image.
 
