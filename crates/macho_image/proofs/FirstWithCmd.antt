@@ -62,6 +62,11 @@ first_none image cmd p (x ∷ xs) is (suc k, less, at) same = elim (cases_Bool (
   | inr other ↦ first_none image cmd p xs (rw other at is) (k, omega arith, at) same
 ]
 
+-- what a reader gives of the first command of a kind
+pub first_given : {X : Type 0} (at : List ℕ → ℕ → X) (x : X) (read image : List ℕ) (place : ℕ) (first : Option ℕ) → x ≡ at read place → read ≡ image → Some place ≡ first
+    → Some x ≡ option_map (at image) first
+first_given at x read image place first is same found = ap Some (is ∙ ap (λ bytes. at bytes place) same) ∙ ap (option_map (at image)) found
+
 -- A value for each item of a list
 
 abbrev Distinct : List ℕ → Type 0

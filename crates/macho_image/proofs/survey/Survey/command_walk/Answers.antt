@@ -74,3 +74,6 @@ pub returns-clause-passed : goal.returns-clause-passed
 returns-clause-passed c =
     let all : c.loop-index.index ≡ command_count (bytes_of c.args.self.now.candidate.bytes) = omega (arith, c.word_at-index-end.ensures) in
     subst (λ (o : Candidate). HasPassed c.loop-index.self (command_count (bytes_of o.bytes))) (sym c.loop-index.invariant.same) (subst (HasPassed c.loop-index.self) all c.loop-index.invariant.passed)
+
+pub returns-in_default-clause-passed : goal.returns-in_default-clause-passed
+returns-in_default-clause-passed c = tt
