@@ -27,3 +27,6 @@ sorted_overlap-requires-clause-unordered c =
     let opened = keeps_opened image rule.SegmentOverlap (lit≤ tt) c.requires.kept in
     let shown = subst (IsSharingOf (tagged_memory image)) c.in-Unknown.is (subst (λ (bytes : List ℕ). IsSharingOf (tagged_memory bytes) c.sharing.result) c.requires.survey c.sharing.ensures) in
     unordered_shown image opened shown
+
+pub returns-in-Unknown : goal.returns-in-Unknown
+returns-in-Unknown c = c.sorted_overlap.ensures
