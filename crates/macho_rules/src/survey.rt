@@ -36,7 +36,6 @@ impl<'a> Model for Survey<'a> {
         survey.sections survey.mapped survey.section_count };
 }
 
-#[tactic(auto, using(crate::proofs::Judged::judged_first))]
 impl<'a> Survey<'a> {
     ghost use Rattle.std.specs.Prelude.{◌≡◌, ◌-◌, ◌^◌, min, length};
     ghost use Rattle.macho_fields.specs.SpanOrder.{IsSharingOf};
