@@ -29,12 +29,14 @@ from images import read_reports, read_vectors  # pylint: disable=wrong-import-po
 
 DATA = os.path.join(TOP, "crates", "macho_trials", "data")
 REAL = os.path.join(TOP, "tests", "real")
-BATCH = 250
+BATCH = 50
 SHOWN = 20
 
 # What is asked of a file: its name in the reports, its bytes, and the words before and after its path.
 Question = namedtuple("Question", "name data before after")
 Difference = namedtuple("Difference", "question oracle program")
+# The differences, how often the oracle gave each kind of answer, and the answers of both to the questions.
+Compared = namedtuple("Compared", "differences kinds oracle program")
 
 # Mutants. Nothing of the oracle is used here, so that a mistake in it does not hide itself.
 
@@ -338,16 +340,10 @@ def program_answers(program, questions):
         return answers
 
 def compare(oracle, program, questions):
-    """The differences, how often the oracle gave each kind of answer, and the answers of the program."""
-    differences = []
-    kinds = Counter()
-    answers = program_answers(program, questions)
-    for question, program_says in zip(questions, answers):
-        oracle_says = oracle_answer(oracle, question)
-        kinds[kind_of(oracle_says)] += 1
-        if oracle_says != program_says:
-            differences.append(Difference(question, oracle_says, program_says))
-    return differences, kinds, answers
+    program_says = program_answers(program, questions)
+    oracle_says = [oracle_answer(oracle, question) for question in questions]
+    differences = [Difference(*row) for row in zip(questions, oracle_says, program_says) if row[1] != row[2]]
+    return Compared(differences, Counter(map(kind_of, oracle_says)), oracle_says, program_says)
 
 def kind_of(says):
     """A rule, `accepted`, or what `where` prints, without its numbers."""
@@ -360,18 +356,18 @@ def batch(bounds):
     mutants = [mutant(work.seed, number, work.corpus, work.weights, work.ways) for number in range(*bounds)]
     verdicts = [Question("mutant %d of seed %d" % (number, work.seed), data, "check", ())
                 for number, (data, _) in zip(range(*bounds), mutants)]
-    differences, kinds, answers = compare(work.oracle, work.program, verdicts)
+    judged = compare(work.oracle, work.program, verdicts)
     if work.is_strict:
-        return len(verdicts), differences, kinds
+        return len(verdicts), judged.differences, judged.kinds
     addresses = []
-    for question, (data, rng), answer in zip(verdicts, mutants, answers):
+    for question, (data, rng), answer in zip(verdicts, mutants, judged.program):
         last = max(len(images(data)) - 1, 0)
         for _ in range(2 if rng.random() < (0.7 if answer[0] == 0 else 0.05) else 0):
             words = (written(rng, rng.choice((0, rng.randint(0, last), last, last + 1))),
                      written(rng, some_address(rng, data)))
             addresses.append(Question(question.name, data, "where", words))
-    others, told, _ = compare(work.oracle, work.program, addresses)
-    return len(verdicts) + len(addresses), differences + others, kinds + told
+    located = compare(work.oracle, work.program, addresses)
+    return (len(verdicts) + len(addresses), judged.differences + located.differences, judged.kinds + located.kinds)
 
 # What is set before the processes begin, and is the same in all of them.
 work = None
@@ -442,11 +438,11 @@ def judge_vectors(report, oracle, program, is_strict):
     seen = Counter()
     for name, vectors in read_all_vectors(is_strict):
         questions = [Question("%s: %s" % (name, vector.name), vector.data, "check", ()) for vector in vectors]
-        differences, kinds, _ = compare(oracle, program, questions)
-        seen += kinds
-        report.agreeing("the vectors of " + name, differences, len(questions), "answers")
-        right = sum(agrees_by_hand(report, oracle, question, vector.wanted)
-                    for question, vector in zip(questions, vectors))
+        judged = compare(oracle, program, questions)
+        seen += judged.kinds
+        report.agreeing("the vectors of " + name, judged.differences, len(questions), "answers")
+        right = sum(agrees_by_hand(report, question, says, vector.wanted)
+                    for question, says, vector in zip(questions, judged.oracle, vectors))
         known = sum(vector.wanted != "" for vector in vectors) if is_strict else counts.get(name, "no")
         report.case("the verdicts of %s, by hand" % name, "%d verdicts" % right, "%s verdicts" % known)
     missing = " ".join(set(counts) - set(os.listdir(DATA)))
@@ -455,9 +451,8 @@ def judge_vectors(report, oracle, program, is_strict):
     wanted = 37 if is_strict else 31
     report.case("rules that some vector breaks first", "%d of %d" % (rules, wanted), "%d of %d" % (wanted, wanted))
 
-def agrees_by_hand(report, oracle, question, verdict):
-    """Whether the oracle has this verdict, where one is known."""
-    says = oracle_answer(oracle, question)
+def agrees_by_hand(report, question, says, verdict):
+    """Whether the oracle, which says this, has the verdict, where one is known."""
     if verdict and not says_verdict(says, verdict):
         wanted = (0 if verdict == "accepted" else 1, verdict.encode() + b"\n")
         report.show(Difference(question, says, wanted), "by hand")
@@ -475,12 +470,12 @@ def judge_reports(report, oracle, program):
         else:
             report.show(Difference(question, says, (0, layout.encode())), "by hand")
     report.case("the reports, by hand", "%d texts" % right, "%d texts" % len(reports))
-    report.agreeing("the reports", compare(oracle, program, questions)[0], len(questions), "answers")
+    report.agreeing("the reports", compare(oracle, program, questions).differences, len(questions), "answers")
 
 def judge_reports_strictly(report, oracle, program):
     """Two are compared: the strict profile refuses some of the reports."""
     questions = [Question("the report %s" % name, data, "check", ()) for name, data, *_ in read_all_reports()]
-    report.agreeing("the reports", compare(oracle, program, questions)[0], len(questions), "answers")
+    report.agreeing("the reports", compare(oracle, program, questions).differences, len(questions), "answers")
 
 def read_file(folder, name):
     with open(os.path.join(folder, name), "rb") as file:
@@ -515,7 +510,7 @@ def judge_real(report, oracle, program):
         questions.append(Question("the real " + name, data, "check", ()))
         is_same = oracle_answer(oracle, questions[-1]) == (0, layout)
         report.case("the layout of the real %s, by hand" % name, "the same" if is_same else "another", "the same")
-    report.agreeing("the real files", compare(oracle, program, questions)[0], len(questions), "answers")
+    report.agreeing("the real files", compare(oracle, program, questions).differences, len(questions), "answers")
 
 def judge_addresses(report, oracle, program):
     files = {name: data for name, data, _ in read_real()}
@@ -524,7 +519,8 @@ def judge_addresses(report, oracle, program):
     right = sum(oracle_answer(oracle, question)[1].decode() == told + "\n"
                 for question, (_, _, _, told) in zip(questions, ADDRESSES))
     report.case("what is at %d addresses of them, by hand" % len(ADDRESSES), right, len(ADDRESSES))
-    report.agreeing("addresses of the real files", compare(oracle, program, questions)[0], len(questions), "answers")
+    differences = compare(oracle, program, questions).differences
+    report.agreeing("addresses of the real files", differences, len(questions), "answers")
 
 def judge_numbers(report, oracle, program, data):
     """What is a number, and what is none, in the words of `where`."""
@@ -533,7 +529,7 @@ def judge_numbers(report, oracle, program, data):
              "0xABCDEF", "0x100000440", "0x100000FFF", "0xg", "", " 0", "0 ", "+0", "1_0", "0b1", "a", "1e3", "\u0660"]
     questions = [Question("the number '%s'" % word, data, "where", pair)
                  for word in words for pair in ((word, "0x100000440"), ("0", word))]
-    differences = compare(oracle, program, questions)[0]
+    differences = compare(oracle, program, questions).differences
     report.agreeing("words that are numbers, and others", differences, len(questions), "answers")
 
 def read_folder(folder):
@@ -543,7 +539,7 @@ def read_folder(folder):
 def judge_folders(report, oracle, program, folders):
     for folder in folders:
         questions = [Question(name, data, "check", ()) for name, data in read_folder(folder)]
-        report.agreeing(folder, compare(oracle, program, questions)[0], len(questions), "answers")
+        report.agreeing(folder, compare(oracle, program, questions).differences, len(questions), "answers")
 
 def judge_mutants(report, count, jobs, only_first):
     total = 0
