@@ -10,3 +10,9 @@ returns-in-Ok-clause-accounted c =
 
 pub returns-clause-refused : goal.returns-clause-refused
 returns-clause-refused c = unbroken_without_memory c.args.file.now c.in_ok-verified.ensures.accepted
+
+pub returns-in-Err-Broken-clause-strictly : goal.returns-in-Err-Broken-clause-strictly
+returns-in-Err-Broken-clause-strictly c = tt
+
+pub returns-in-Err-Broken-clause-accounted : goal.returns-in-Err-Broken-clause-accounted
+returns-in-Err-Broken-clause-accounted c = tt
