@@ -39,7 +39,7 @@ impl Read for CountingReader<'_> {
 }
 
 /// What one call of a `CountingWriter` does in place of its work.
-#[derive(Clone, Copy, PartialEq, Eq)]
+#[derive(Clone, Copy)]
 pub(crate) enum Fault {
     /// It fails.
     Error,

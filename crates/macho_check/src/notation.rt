@@ -1,48 +1,46 @@
 //! Files for tests, written out.
 
 use std::alloc::Global;
-use std::test::Fail;
+use std::process::Abort;
 
 /// The bytes of pairs of hexadecimal digits, with `.N` for N zeros.
-pub(crate) fn written(alloc: Global, text: &str) -> Result<Vec<u8>, Fail> {
+pub(crate) fn written(rt: &(impl Abort + AllocGlobal), text: &str) -> Vec<u8> {
+    bytes_of(rt.alloc(), text).expect(rt, "pairs of digits, and memory")
+}
+
+/// The same, or `None` where the text is another one, and where there is no memory.
+fn bytes_of(alloc: Global, text: &str) -> Option<Vec<u8>> {
     let mut bytes = Vec::new(alloc);
-    append(&mut bytes, text)?;
-    Ok(bytes)
-}
-
-/// Appends the bytes of this text.
-pub(crate) fn append(bytes: &mut Vec<u8>, text: &str) -> Result<(), Fail> {
     for word in text.split_whitespace() {
-        append_word(bytes, word)?;
+        append_word(&mut bytes, word)?;
     }
-    Ok(())
+    Some(bytes)
 }
 
-fn append_word(bytes: &mut Vec<u8>, word: &str) -> Result<(), Fail> {
+fn append_word(bytes: &mut Vec<u8>, word: &str) -> Option<()> {
     match word.strip_prefix('.') {
-        Some(count) => append_zeros(bytes, count.parse()?),
+        Some(count) => append_zeros(bytes, count.parse().ok()?),
         None => append_pairs(bytes, word),
     }
 }
 
-fn append_zeros(bytes: &mut Vec<u8>, count: u32) -> Result<(), Fail> {
+fn append_zeros(bytes: &mut Vec<u8>, count: u32) -> Option<()> {
     for _ in 0..count {
-        bytes.push(0)?;
+        bytes.push(0).ok()?;
     }
-    Ok(())
+    Some(())
 }
 
-fn append_pairs(bytes: &mut Vec<u8>, digits: &str) -> Result<(), Fail> {
+fn append_pairs(bytes: &mut Vec<u8>, digits: &str) -> Option<()> {
     for pair in digits.as_bytes().chunks(2) {
-        bytes.push(byte(pair)?)?;
+        bytes.push(byte(pair)?).ok()?;
     }
-    Ok(())
+    Some(())
 }
 
 /// The byte of a pair of hexadecimal digits.
-fn byte(pair: &[u8]) -> Result<u8, Fail> {
-    let digits = str::from_utf8(pair)?;
-    Ok(u8::from_str_radix(digits, 16)?)
+fn byte(pair: &[u8]) -> Option<u8> {
+    u8::from_str_radix(str::from_utf8(pair).ok()?, 16).ok()
 }
 
 /// A header alone, which keeps every rule.
@@ -57,8 +55,8 @@ slice 0 x86_64 at 0x0 size 0x20 execute
 ";
 
 /// An executable with segments, symbols, a library, versions and an entry: 0x202c bytes.
-pub(crate) fn executable(alloc: Global) -> Result<Vec<u8>, Fail> {
-    written(alloc, EXECUTABLE)
+pub(crate) fn executable(rt: &(impl Abort + AllocGlobal)) -> Vec<u8> {
+    written(rt, EXECUTABLE)
 }
 
 const EXECUTABLE: &str = "\

@@ -5,10 +5,8 @@ mod failing;
 mod faults;
 mod fields;
 mod layers;
-mod layout;
 mod mapping;
 mod streams;
-mod transfers;
 mod views;
 mod words;
 
