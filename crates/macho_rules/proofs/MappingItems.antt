@@ -218,6 +218,10 @@ pub some_and : {X : Type 0} (o : Option X) (P Q : X → Type 0) → ((x : X) →
 some_and None P Q to h = h
 some_and (Some x) P Q to h = to x h
 
+pub some_both : {X : Type 0} (o : Option X) (P Q R : X → Type 0) → ((x : X) → Q x → R x) → IsSomeAnd o P → IsSomeAnd o Q → IsSomeAnd o (λ x. P x × R x)
+some_both None P Q R to h also = h
+some_both (Some x) P Q R to h also = (h, to x also)
+
 pub on_err : {T E P : Type 0} (answer : Result T E) → P → OnErr answer P
 on_err (Ok x) p = tt
 on_err (Err e) p = p
