@@ -1,7 +1,10 @@
 -- The table and the slices of a universal file, and what lies between them.
-use Rattle.std.proofs.Common.{◌≡◌, ℕ, suc, zero, ◌+◌, ◌*◌, ◌≤◌, ◌<◌, List, [], ◌∷◌, ◌++◌, length, take, Option, None, All, refl, ap, ◌∙◌, subst, arith, inl, inr}
+use Rattle.std.proofs.Common.{◌≡◌, ℕ, suc, zero, ◌+◌, ◌*◌, ◌≤◌, ◌<◌, List, [], ◌∷◌, ◌++◌, length, take, Option, None, Some, All, refl, sym, ap, ◌∙◌, subst, arith, inl, inr}
 use Rattle.std.proofs.lemmas.Bool.{cases_lt}
 use Rattle.std.proofs.lemmas.List.{length-map, take_all, take_more}
+use Rattle.std.proofs.lemmas.Option.{slice_get-map, slice_get_cases, get_or_from_slice_get}
+use Rattle.std.specs.Option.{option_map, IsSome}
+use Rattle.std.specs.Prelude.{slice_get}
 use Rattle.macho_fields.specs.First.{IsUnbroken}
 use Rattle.macho_fields.specs.FirstPlace.{IsLeastPlace}
 use Rattle.macho_fields.specs.Overlap.{span_at, IsAscending}
@@ -23,6 +26,16 @@ no_span = record { start = 0; len = 0 }
 abbrev span_of : FileSlice → Span
 span_of slice = record { start = slice.start; len = slice.size }
 
+-- one of so many is found
+pub is_found : {A X : Type 0} (f : A → X) (o : Option A) (xs : List X) (i : ℕ) → i < length xs → option_map f o ≡ slice_get xs i → IsSome o
+is_found f None xs i less is = elim (slice_get_cases xs i).1 [ inl (x, _, at, _) ↦ absurd (cc) | inr (past, _) ↦ absurd (omega arith) ]
+is_found f (Some a) xs i less is = refl
+
+-- the slice that is found has the span with its index
+pub span_found : (file : List ℕ) (i : ℕ) (slice : FileSlice) → Some slice ≡ slice_get (slices_of file) i → span_of slice ≡ span_at (slice_spans file) i
+span_found file i slice is =
+    sym (get_or_from_slice_get (slice_spans file) i (span_of slice) no_span (slice_get-map span_of (slices_of file) i ∙ ap (option_map span_of) (sym is)))
+
 table_inside : (file : List ℕ) → IsUnbroken file → IsUniversal file → table_end file ≤ length file
 table_inside file unbroken universal = elim (cases_lt (length file) (table_end file)) [
   | inl short ↦ absurd (unbroken (record { scope = 0; rule = field_rule.FatTruncated; place = 4 }) (refl, universal, inr short))
@@ -42,6 +55,11 @@ module _ (file : List ℕ) (table : Span) where
   -- one slice more, and all of them
   pub spans_more : (i : ℕ) → i < length (slices_of file) → table ∷ take (i + 1) (slice_spans file) ≡ (table ∷ take i (slice_spans file)) ++ span_at (slice_spans file) i ∷ []
   spans_more i less = ap (λ spans. table ∷ spans) (take_more (slice_spans file) i no_span (omega (arith, length-map (slices_of file) span_of)))
+
+  -- .. which is pushed
+  pub spans_pushed : (i : ℕ) → i < length (slices_of file) → (items new : List Span) (span : Span) → new ≡ items ++ span ∷ [] → items ≡ table ∷ take i (slice_spans file)
+      → span ≡ span_at (slice_spans file) i → new ≡ table ∷ take (i + 1) (slice_spans file)
+  spans_pushed i less items new span pushed are is = let more = spans_more i less in cc
 
   pub spans_all : (i : ℕ) → length (slices_of file) ≤ i → table ∷ take i (slice_spans file) ≡ table ∷ slice_spans file
   spans_all i past = ap (λ spans. table ∷ spans) (take_all i (slice_spans file) (omega (arith, length-map (slices_of file) span_of)))
