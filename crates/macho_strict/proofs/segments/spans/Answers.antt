@@ -1,16 +1,19 @@
-use Rattle.std.proofs.Common.{◌++◌, ◌∷◌, [], map, sym, ap, ◌∙◌}
+use Rattle.std.proofs.Common.{◌≡◌, ◌++◌, ◌∷◌, [], List, map, sym, ap, ◌∙◌}
 use Rattle.std.proofs.lemmas.List.{map_push}
 use Rattle.macho_rules.proofs.Surveys.{walked_on, walked_all}
+use Rattle.macho_fields.specs.declared.span.Span.{Span}
 use Rattle.macho_strict.specs.declared.elements.Element.{Element}
 use Rattle.macho_strict.proofs.Surveyed.{parts_are}
 use Rattle.macho_strict.proofs.segments.spans.Goals as goal
+
+pushed : (seen : List Element) (part : Element) (items new : List Span) → new ≡ items ++ part.span ∷ [] → items ≡ map (λ e. e.span) seen → new ≡ map (λ e. e.span) (seen ++ part ∷ [])
+pushed seen part items new is are = is ∙ (ap (λ spans. spans ++ part.span ∷ []) are ∙ sym (map_push (λ (e : Element). e.span) seen part))
 
 pub loop-part-preserved : goal.loop-part-preserved
 loop-part-preserved c =
     let (seen, reached, are) = c.loop-part.invariant in
     let part = c.in-Some.part in
-    let pushed = map_push (λ (e : Element). e.span) seen part in
-    (seen ++ part ∷ [], walked_on _ seen _ part _ reached c.in-Some.ensures.steps, c.in_ok-push.ensures.items ∙ (ap (λ spans. spans ++ part.span ∷ []) are ∙ sym pushed))
+    (seen ++ part ∷ [], walked_on _ seen _ part _ reached c.in-Some.ensures.steps, pushed seen part _ _ c.in_ok-push.ensures.items are)
 
 pub returns : goal.returns
 returns c =
