@@ -35,7 +35,7 @@ pub(crate) fn read(rt: &HostRuntime, words: Args<Global>) -> u8 {
 }
 
 /// Prints the image of the slice that the first word names, and what is at the addresses.
-fn tell(rt: &(impl AllocGlobal + Print), file: &[u8], mut words: Args<Global>) -> Option<()> {
+fn tell(rt: &HostRuntime, file: &[u8], mut words: Args<Global>) -> Option<()> {
     let slice = words.next()?.parse().ok()?;
     let verified = verify(rt.alloc(), file).ok()?;
     let image = VerifiedImage::of(&verified, slice)?;
@@ -44,7 +44,7 @@ fn tell(rt: &(impl AllocGlobal + Print), file: &[u8], mut words: Args<Global>) -
 }
 
 /// Prints all but what is at addresses.
-fn write_image(rt: &impl Print, image: &VerifiedImage) -> io::Result<()> {
+fn write_image(rt: &HostRuntime, image: &VerifiedImage) -> io::Result<()> {
     write_commands(rt, image.image())?;
     write_segments(rt, image)?;
     write_numbers(rt, image)?;

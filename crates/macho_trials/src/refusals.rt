@@ -12,7 +12,7 @@ mod spans;
 use fault::{Fault, status};
 use image::Mapper;
 use macho_report::transfer::read_all;
-use macho_report::{FromRead, FromWrite, Input, Output, RunFault, run, run_where, write_break};
+use macho_report::{FromRead, FromWrite, RunFault, run, run_where, write_break};
 use std::alloc::Global;
 use std::env::Args;
 
@@ -23,11 +23,11 @@ const ADDRESS: u64 = 0x1_0000_0000;
 /// rule, 1 where want of memory changed something, 2 where there was no call, 3 where a run read or wrote
 /// no further, and 4 where the call answered want of memory.
 pub(crate) fn call(rt: &HostRuntime, words: Args<Global>) -> u8 {
-    let mut stdout = rt.stdout();
-    let mut writer = FromWrite::new(&mut stdout);
-    let ended = make_call(rt, words, &mut FromRead::new(&mut rt.stdin()), &mut writer);
+    let ended = make_call(rt, words);
     let printed = match ended {
-        Err(Fault::Broken(broken)) => write_break(&broken, &mut writer).is_ok(),
+        Err(Fault::Broken(broken)) => {
+            write_break(&broken, &mut FromWrite::new(&mut rt.stdout())).is_ok()
+        }
         Err(Fault::Run(fault)) => eprint!(rt; "{}", fault.line()).is_ok(),
         _ => true,
     };
@@ -35,17 +35,11 @@ pub(crate) fn call(rt: &HostRuntime, words: Args<Global>) -> u8 {
 }
 
 /// Makes the call that the first word names, with the limit that the second one is.
-fn make_call<R: Input, W: Output>(
-    rt: &(impl AllocGlobal + Print + Eprint),
-    mut words: Args<Global>,
-    reader: &mut R,
-    writer: &mut W,
-) -> Result<(), Fault> {
+fn make_call(rt: &HostRuntime, mut words: Args<Global>) -> Result<(), Fault> {
     let (Some(name), Some(limit)) = (words.next(), words.next()) else {
         return Err(Fault::NoCall);
     };
-    let limit = limit_of(limit.as_str())?;
-    call_named(rt, name.as_str(), limit, reader, writer)
+    call_named(rt, name.as_str(), limit_of(limit.as_str())?)
 }
 
 /// The limit that a word is.
@@ -57,31 +51,19 @@ fn limit_of(word: &str) -> Result<u64, Fault> {
 }
 
 /// Makes the call of this name, with the limit.
-fn call_named<R: Input, W: Output>(
-    rt: &(impl AllocGlobal + Print + Eprint),
-    name: &str,
-    limit: u64,
-    reader: &mut R,
-    writer: &mut W,
-) -> Result<(), Fault> {
+fn call_named(rt: &HostRuntime, name: &str, limit: u64) -> Result<(), Fault> {
     match name {
-        "run" | "run_where" => call_run(rt, name, limit, reader, writer),
-        "read_all" => call_read_all(rt, limit, reader),
-        name => {
-            let input = read_all(rt.alloc(), limit, reader).map_err(RunFault::from)?;
-            call_on(rt, name, &input, writer)
-        }
+        "run" | "run_where" => call_run(rt, name, limit),
+        "read_all" => call_read_all(rt, limit),
+        name => call_on(rt, name, &read_input(rt, limit)?),
     }
 }
 
 /// Calls `run_where`, where it has this name, and otherwise `run`.
-fn call_run<R: Input, W: Output>(
-    rt: &(impl AllocGlobal + Eprint),
-    name: &str,
-    limit: u64,
-    reader: &mut R,
-    writer: &mut W,
-) -> Result<(), Fault> {
+fn call_run(rt: &HostRuntime, name: &str, limit: u64) -> Result<(), Fault> {
+    let (mut stdin, mut stdout) = (rt.stdin(), rt.stdout());
+    let reader = &mut FromRead::new(&mut stdin);
+    let writer = &mut FromWrite::new(&mut stdout);
     announce(rt)?;
     if name == "run_where" {
         run_where(rt.alloc(), limit, 0, ADDRESS, reader, writer)?;
@@ -91,42 +73,39 @@ fn call_run<R: Input, W: Output>(
     Ok(())
 }
 
+/// Calls `read_all`.
+fn read_input(rt: &HostRuntime, limit: u64) -> Result<Vec<u8>, Fault> {
+    let input = read_all(rt.alloc(), limit, &mut FromRead::new(&mut rt.stdin()));
+    Ok(input.map_err(RunFault::from)?)
+}
+
 /// Calls `read_all`, and prints how many bytes it has read.
-fn call_read_all<R: Input>(
-    rt: &(impl AllocGlobal + Print + Eprint),
-    limit: u64,
-    reader: &mut R,
-) -> Result<(), Fault> {
+fn call_read_all(rt: &HostRuntime, limit: u64) -> Result<(), Fault> {
     announce(rt)?;
-    let input = read_all(rt.alloc(), limit, reader).map_err(RunFault::from)?;
+    let input = read_input(rt, limit)?;
     println!(rt; "{} bytes", input.len())?;
     Ok(())
 }
 
 /// Makes the call of this name on the input.
-fn call_on<W: Output>(
-    rt: &(impl AllocGlobal + Print + Eprint),
-    name: &str,
-    input: &[u8],
-    writer: &mut W,
-) -> Result<(), Fault> {
+fn call_on(rt: &HostRuntime, name: &str, input: &[u8]) -> Result<(), Fault> {
     match name {
         "slices" => image::call_slices(rt, input),
-        "verify" => image::call_verify(rt, input, writer),
+        "verify" => image::call_verify(rt, input),
         "check_image" => image::call_check_image(rt, input),
-        "Mapping::of" => image::call_mapping(rt, input),
+        "Mapping::of" => image::call_mapper(rt, input, Mapper::Of),
         "Mapping::of_image" => image::call_mapper(rt, input, Mapper::OfImage),
         "VerifiedImage::mapping" => image::call_mapper(rt, input, Mapper::OfVerified),
-        "try_insert" => spans::call_try_insert(rt, input),
-        "push" => spans::call_push(rt, input),
-        "SpanList::with_capacity" => spans::call_list_with_capacity(rt, input),
-        "Spans::with_capacity" => spans::call_spans_with_capacity(rt, input),
+        "try_insert" => spans::call_try_insert(rt, input, false),
+        "Spans::with_capacity" => spans::call_try_insert(rt, input, true),
+        "push" => spans::call_push(rt, input, false),
+        "SpanList::with_capacity" => spans::call_push(rt, input, true),
         _ => Err(Fault::NoCall),
     }
 }
 
 /// Says that the call comes now.
-pub(crate) fn announce(rt: &impl Eprint) -> Result<(), Fault> {
+pub(crate) fn announce(rt: &HostRuntime) -> Result<(), Fault> {
     eprintln!(rt; "calls")?;
     Ok(())
 }

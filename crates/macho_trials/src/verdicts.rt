@@ -18,16 +18,10 @@ use lines::{Line, Place, join_lines};
 use std::alloc::Global;
 use std::env::Args;
 use std::fs;
-use std::rt::Files;
 use tally::Tally;
 
 /// Does what the lines of the text of a file ask for.
-fn judge_text(
-    rt: &(impl AllocGlobal + Print + Eprint),
-    tally: &mut Tally,
-    path: &str,
-    text: &str,
-) -> Result<(), Fault> {
+fn judge_text(rt: &HostRuntime, tally: &mut Tally, path: &str, text: &str) -> Result<(), Fault> {
     let lines = join_lines(rt.alloc(), text)?;
     let mut named = Named::new(rt.alloc());
     for line in &lines {
@@ -38,7 +32,7 @@ fn judge_text(
 
 /// Does what a line asks for. It prints what is wrong with the line.
 fn judge_line<'a>(
-    rt: &(impl AllocGlobal + Print + Eprint),
+    rt: &HostRuntime,
     tally: &mut Tally,
     path: &str,
     named: &mut Named<'a>,
@@ -54,11 +48,7 @@ fn judge_line<'a>(
 }
 
 /// Judges the file at the path. It prints what does not agree, and how many do.
-fn judge_file(
-    rt: &(impl AllocGlobal + Eprint + Files + Print),
-    tally: &mut Tally,
-    path: &str,
-) -> Result<(), Fault> {
+fn judge_file(rt: &HostRuntime, tally: &mut Tally, path: &str) -> Result<(), Fault> {
     let text = fs::read_to_string(rt, path)?;
     let (agreed, same) = (tally.agreed, tally.same);
     judge_text(rt, tally, path, text.as_str())?;
@@ -69,11 +59,7 @@ fn judge_file(
 }
 
 /// Does so for each file that the words name.
-fn judge_files(
-    rt: &(impl AllocGlobal + Eprint + Files + Print),
-    tally: &mut Tally,
-    paths: Args<Global>,
-) -> Result<(), Fault> {
+fn judge_files(rt: &HostRuntime, tally: &mut Tally, paths: Args<Global>) -> Result<(), Fault> {
     for path in paths {
         judge_file(rt, tally, path.as_str())?;
     }
@@ -81,11 +67,7 @@ fn judge_files(
 }
 
 /// Judges the files, and prints the tally of all.
-fn judge_all(
-    rt: &(impl AllocGlobal + Eprint + Files + Print),
-    tally: &mut Tally,
-    paths: Args<Global>,
-) -> Result<(), Fault> {
+fn judge_all(rt: &HostRuntime, tally: &mut Tally, paths: Args<Global>) -> Result<(), Fault> {
     judge_files(rt, tally, paths)?;
     tally.print(rt)?;
     Ok(())
@@ -94,10 +76,7 @@ fn judge_all(
 /// Judges the files that the words name. The status is 0 where all vectors and verdicts agree, and each
 /// rule is the first broken one of some file; 1 where that is not so; and 2 where a file is no file of
 /// vectors or cannot be read.
-pub(crate) fn judge_vectors(
-    rt: &(impl AllocGlobal + Eprint + Files + Print),
-    paths: Args<Global>,
-) -> u8 {
+pub(crate) fn judge_vectors(rt: &HostRuntime, paths: Args<Global>) -> u8 {
     let mut tally = Tally::new();
     match judge_all(rt, &mut tally, paths) {
         Ok(()) => u8::from(!tally.is_good()),

@@ -12,7 +12,7 @@ const ASKED: u64 = 4;
 
 /// Prints a line for each address, or answers `None` where a word is none, and where anything failed.
 pub(crate) fn write_addresses(
-    rt: &(impl AllocGlobal + Print),
+    rt: &HostRuntime,
     image: &VerifiedImage,
     words: Args<Global>,
 ) -> Option<()> {
@@ -25,7 +25,7 @@ pub(crate) fn write_addresses(
 
 /// Prints a line for the address that the word is.
 fn write_address(
-    rt: &impl Print,
+    rt: &HostRuntime,
     image: &VerifiedImage,
     mapping: &mut Mapping,
     word: &str,
@@ -37,7 +37,7 @@ fn write_address(
 }
 
 /// Prints the bytes at the addresses from this one on, where one segment has them all.
-fn write_bytes_at(rt: &impl Print, image: &VerifiedImage, address: u64) -> io::Result<()> {
+fn write_bytes_at(rt: &HostRuntime, image: &VerifiedImage, address: u64) -> io::Result<()> {
     match image.bytes_at(address, ASKED) {
         Some(bytes) => write_bytes(rt, bytes),
         None => println!(rt; ""),

@@ -5,7 +5,7 @@ use std::fmt::Debug;
 use std::io;
 
 /// Prints the base of an image, its commands, and the fields of `LC_SYMTAB` and `LC_DYSYMTAB`.
-pub(crate) fn write_commands(rt: &impl Print, image: &Image) -> io::Result<()> {
+pub(crate) fn write_commands(rt: &HostRuntime, image: &Image) -> io::Result<()> {
     if let Some(base) = image.base() {
         println!(rt; "base {base:#x}")?;
     }
@@ -15,7 +15,7 @@ pub(crate) fn write_commands(rt: &impl Print, image: &Image) -> io::Result<()> {
 }
 
 /// Prints each command: its place, its number and its size.
-fn write_each(rt: &impl Print, image: &Image) -> io::Result<()> {
+fn write_each(rt: &HostRuntime, image: &Image) -> io::Result<()> {
     for command in image.commands() {
         let (place, cmd, size) = (command.place, command.cmd, command.size);
         println!(rt; "command {place:#x} {cmd:#x} size {size:#x}")?;
@@ -24,7 +24,7 @@ fn write_each(rt: &impl Print, image: &Image) -> io::Result<()> {
 }
 
 /// Prints the fields of a command that the image may have.
-fn write_fields<T: Debug + Copy>(rt: &impl Print, command: Option<T>) -> io::Result<()> {
+fn write_fields<T: Debug + Copy>(rt: &HostRuntime, command: Option<T>) -> io::Result<()> {
     match command {
         Some(command) => println!(rt; "{command:?}"),
         None => Ok(()),

@@ -19,7 +19,7 @@ const COMMANDS: [u32; 6] = [
 ];
 
 /// Prints the path of the dynamic linker, and each path of `LC_RPATH`.
-pub(crate) fn write_paths(rt: &impl Print, image: &VerifiedImage) -> io::Result<()> {
+pub(crate) fn write_paths(rt: &HostRuntime, image: &VerifiedImage) -> io::Result<()> {
     if let Some(path) = image.image().dylinker() {
         println!(rt; "dylinker {:?}", text_of(path))?;
     }
@@ -30,7 +30,7 @@ pub(crate) fn write_paths(rt: &impl Print, image: &VerifiedImage) -> io::Result<
 }
 
 /// Prints the data of each of the commands that the image has.
-pub(crate) fn write_linkedit(rt: &impl Print, image: &VerifiedImage) -> io::Result<()> {
+pub(crate) fn write_linkedit(rt: &HostRuntime, image: &VerifiedImage) -> io::Result<()> {
     for command in COMMANDS {
         if let Some(data) = image.linkedit_data(command) {
             print!(rt; "data {command:#x}")?;

@@ -8,7 +8,7 @@ use std::io;
 const SHOWN: usize = 8;
 
 /// Prints each segment, with its sections.
-pub(crate) fn write_segments(rt: &impl Print, image: &VerifiedImage) -> io::Result<()> {
+pub(crate) fn write_segments(rt: &HostRuntime, image: &VerifiedImage) -> io::Result<()> {
     for segment in image.segments() {
         write_segment(rt, &segment)?;
     }
@@ -16,7 +16,7 @@ pub(crate) fn write_segments(rt: &impl Print, image: &VerifiedImage) -> io::Resu
 }
 
 /// Prints the `maxprot` of a segment and its bytes, and its sections.
-fn write_segment(rt: &impl Print, segment: &VerifiedSegment) -> io::Result<()> {
+fn write_segment(rt: &HostRuntime, segment: &VerifiedSegment) -> io::Result<()> {
     let name = text_of(segment.segment().name());
     let maxprot = segment.segment().maxprot();
     print!(rt; "segment {name} maxprot {maxprot}")?;
@@ -28,7 +28,7 @@ fn write_segment(rt: &impl Print, segment: &VerifiedSegment) -> io::Result<()> {
 }
 
 /// Prints the fields of a section that no layout has, and its bytes.
-fn write_section(rt: &impl Print, section: &VerifiedSection) -> io::Result<()> {
+fn write_section(rt: &HostRuntime, section: &VerifiedSection) -> io::Result<()> {
     write_fields(rt, section.section())?;
     match section.bytes() {
         Some(bytes) => write_bytes(rt, bytes),
@@ -37,7 +37,7 @@ fn write_section(rt: &impl Print, section: &VerifiedSection) -> io::Result<()> {
 }
 
 /// Prints the place and the name of a section, its relocations, its flags, and its other numbers.
-fn write_fields(rt: &impl Print, section: &Section) -> io::Result<()> {
+fn write_fields(rt: &HostRuntime, section: &Section) -> io::Result<()> {
     let (place, name) = (section.place(), text_of(section.name()));
     let (reloff, nreloc) = (section.reloff(), section.nreloc());
     let (flags, align) = (section.flags(), section.align());
@@ -47,7 +47,7 @@ fn write_fields(rt: &impl Print, section: &Section) -> io::Result<()> {
 }
 
 /// Prints the name of the section with each number, from 0 to the first from 1 on that has none.
-pub(crate) fn write_numbers(rt: &impl Print, image: &VerifiedImage) -> io::Result<()> {
+pub(crate) fn write_numbers(rt: &HostRuntime, image: &VerifiedImage) -> io::Result<()> {
     print!(rt; "numbers")?;
     for number in 0..=u8::MAX {
         match image.section(number) {
@@ -60,7 +60,7 @@ pub(crate) fn write_numbers(rt: &impl Print, image: &VerifiedImage) -> io::Resul
 }
 
 /// Prints how many bytes there are, and those at the start and at the end, and ends the line.
-pub(crate) fn write_bytes(rt: &impl Print, bytes: &[u8]) -> io::Result<()> {
+pub(crate) fn write_bytes(rt: &HostRuntime, bytes: &[u8]) -> io::Result<()> {
     print!(rt; " size {}", bytes.len())?;
     write_digits(rt, bytes, 0)?;
     if bytes.len() > SHOWN {
@@ -71,7 +71,7 @@ pub(crate) fn write_bytes(rt: &impl Print, bytes: &[u8]) -> io::Result<()> {
 }
 
 /// Prints so many bytes from a place on, in hexadecimal digits.
-fn write_digits(rt: &impl Print, bytes: &[u8], start: usize) -> io::Result<()> {
+fn write_digits(rt: &HostRuntime, bytes: &[u8], start: usize) -> io::Result<()> {
     for byte in bytes.iter().skip(start).take(SHOWN) {
         print!(rt; " {byte:02x}")?;
     }

@@ -6,7 +6,7 @@ use macho_verified::{VerifiedImage, VerifiedIndirect, VerifiedSymbol, VerifiedSy
 use std::io;
 
 /// Prints each symbol by its index, the groups, and the indirect entries.
-pub(crate) fn write_symbols(rt: &impl Print, image: &VerifiedImage) -> io::Result<()> {
+pub(crate) fn write_symbols(rt: &HostRuntime, image: &VerifiedImage) -> io::Result<()> {
     write_each(rt, image)?;
     write_group(rt, "all", image.symbols())?;
     write_group(rt, "local", image.local_symbols())?;
@@ -16,7 +16,7 @@ pub(crate) fn write_symbols(rt: &impl Print, image: &VerifiedImage) -> io::Resul
 }
 
 /// Prints each symbol: its index, its name, its fields, and the section that it names.
-fn write_each(rt: &impl Print, image: &VerifiedImage) -> io::Result<()> {
+fn write_each(rt: &HostRuntime, image: &VerifiedImage) -> io::Result<()> {
     for index in 0..=u64::MAX {
         let Some(symbol) = image.symbol(index) else {
             break;
@@ -28,7 +28,7 @@ fn write_each(rt: &impl Print, image: &VerifiedImage) -> io::Result<()> {
 
 /// Prints a symbol.
 fn write_symbol(
-    rt: &impl Print,
+    rt: &HostRuntime,
     image: &VerifiedImage,
     index: u64,
     symbol: &VerifiedSymbol,
@@ -43,7 +43,7 @@ fn write_symbol(
 }
 
 /// Prints the fields of a symbol.
-fn write_fields(rt: &impl Print, symbol: Symbol) -> io::Result<()> {
+fn write_fields(rt: &HostRuntime, symbol: Symbol) -> io::Result<()> {
     let Symbol {
         place,
         strx,
@@ -56,7 +56,7 @@ fn write_fields(rt: &impl Print, symbol: Symbol) -> io::Result<()> {
 }
 
 /// Prints the names of a group, on one line.
-fn write_group(rt: &impl Print, word: &str, symbols: VerifiedSymbols) -> io::Result<()> {
+fn write_group(rt: &HostRuntime, word: &str, symbols: VerifiedSymbols) -> io::Result<()> {
     print!(rt; "{word}")?;
     for symbol in symbols {
         print!(rt; " {}", name_of(&symbol))?;
@@ -65,7 +65,7 @@ fn write_group(rt: &impl Print, word: &str, symbols: VerifiedSymbols) -> io::Res
 }
 
 /// Prints each indirect entry that is also found by its index, with the name of its symbol.
-fn write_indirects(rt: &impl Print, image: &VerifiedImage) -> io::Result<()> {
+fn write_indirects(rt: &HostRuntime, image: &VerifiedImage) -> io::Result<()> {
     let mut entries = image.indirects();
     for index in 0..=u64::MAX {
         let Some(entry) = entries.next() else {
@@ -80,7 +80,7 @@ fn write_indirects(rt: &impl Print, image: &VerifiedImage) -> io::Result<()> {
 }
 
 /// Prints an indirect entry.
-fn write_indirect(rt: &impl Print, entry: &VerifiedIndirect) -> io::Result<()> {
+fn write_indirect(rt: &HostRuntime, entry: &VerifiedIndirect) -> io::Result<()> {
     let Indirect { place, value } = entry.indirect();
     match entry.symbol() {
         Some(symbol) => println!(rt; "indirect {value:#x} at {place:#x} {}", name_of(&symbol)),

@@ -9,22 +9,14 @@ use crate::refusals::fault::Fault;
 use macho_fields::{Insert, Span, SpanList, Spans};
 use std::alloc::Global;
 
-/// Calls `try_insert` for each span, and prints how many are held in the end. After want of memory and
-/// in the end, what is held is compared with a plain list.
-pub(crate) fn call_try_insert(
-    rt: &(impl AllocGlobal + Print + Eprint),
-    input: &[u8],
-) -> Result<(), Fault> {
+/// Makes `Spans` with room for all spans or for none, inserts each, and prints how many are held in the
+/// end. After want of memory and in the end, what is held is compared with a plain list.
+pub(crate) fn call_try_insert(rt: &HostRuntime, input: &[u8], has_room: bool) -> Result<(), Fault> {
     let all = spans_of(rt.alloc(), input)?;
-    insert_all(rt, &all)
-}
-
-/// Does so for these spans.
-fn insert_all(rt: &(impl AllocGlobal + Print + Eprint), all: &[Span]) -> Result<(), Fault> {
     let mut pairs = Vec::with_capacity(rt.alloc(), all.len())?;
-    let mut spans = Spans::new(rt.alloc());
     announce(rt)?;
-    let refused = insert_each(&mut spans, &mut pairs, all)?;
+    let mut spans = Spans::with_capacity(rt.alloc(), if has_room { all.len() } else { 0 })?;
+    let refused = insert_each(&mut spans, &mut pairs, &all)?;
     println!(rt; "{} held", spans.len())?;
     end(refused)
 }
@@ -74,21 +66,13 @@ fn end(refused: bool) -> Result<(), Fault> {
     Ok(())
 }
 
-/// Calls `push` for each span, and prints the index of the first that shares a place with an earlier
-/// one.
-pub(crate) fn call_push(
-    rt: &(impl AllocGlobal + Print + Eprint),
-    input: &[u8],
-) -> Result<(), Fault> {
+/// Makes a `SpanList` with room for all spans or for none, pushes each, and prints the index of the
+/// first that shares a place with an earlier one.
+pub(crate) fn call_push(rt: &HostRuntime, input: &[u8], has_room: bool) -> Result<(), Fault> {
     let all = spans_of(rt.alloc(), input)?;
-    push_all(rt, &all)
-}
-
-/// Does so for these spans.
-fn push_all(rt: &(impl AllocGlobal + Print + Eprint), all: &[Span]) -> Result<(), Fault> {
-    let mut list = SpanList::with_capacity(rt.alloc(), 0)?;
     announce(rt)?;
-    let refused = push_each(&mut list, all)?;
+    let mut list = SpanList::with_capacity(rt.alloc(), if has_room { all.len() } else { 0 })?;
+    let refused = push_each(&mut list, &all)?;
     println!(rt; "{:?}", list.least_overlap())?;
     end(refused)
 }
@@ -103,33 +87,6 @@ fn push_each(list: &mut SpanList, all: &[Span]) -> Result<bool, Fault> {
         }
     }
     Ok(refused)
-}
-
-/// Makes a `SpanList` with room for all spans, pushes each, and prints what `push` does.
-pub(crate) fn call_list_with_capacity(
-    rt: &(impl AllocGlobal + Print + Eprint),
-    input: &[u8],
-) -> Result<(), Fault> {
-    let all = spans_of(rt.alloc(), input)?;
-    announce(rt)?;
-    let mut list = SpanList::with_capacity(rt.alloc(), all.len())?;
-    let refused = push_each(&mut list, &all)?;
-    println!(rt; "{:?}", list.least_overlap())?;
-    end(refused)
-}
-
-/// Makes `Spans` with room for all spans, inserts each, and prints what `try_insert` does.
-pub(crate) fn call_spans_with_capacity(
-    rt: &(impl AllocGlobal + Print + Eprint),
-    input: &[u8],
-) -> Result<(), Fault> {
-    let all = spans_of(rt.alloc(), input)?;
-    let mut pairs = Vec::with_capacity(rt.alloc(), all.len())?;
-    announce(rt)?;
-    let mut spans = Spans::with_capacity(rt.alloc(), all.len())?;
-    let refused = insert_each(&mut spans, &mut pairs, &all)?;
-    println!(rt; "{} held", spans.len())?;
-    end(refused)
 }
 
 /// The spans of the lines `START LEN`.

@@ -41,7 +41,7 @@ impl<'a> Named<'a> {
     /// Does what a line asks for.
     pub(crate) fn judge_line(
         &mut self,
-        rt: &(impl AllocGlobal + Print),
+        rt: &HostRuntime,
         tally: &mut Tally,
         place: Place,
         line: &'a str,
@@ -60,7 +60,7 @@ impl<'a> Named<'a> {
     /// Does a task for the file of each choice.
     fn judge_choices(
         &self,
-        rt: &(impl AllocGlobal + Print),
+        rt: &HostRuntime,
         tally: &mut Tally,
         place: Place,
         task: Task,
@@ -75,7 +75,7 @@ impl<'a> Named<'a> {
     /// Does a task for the file of a choice.
     fn judge_choice(
         &self,
-        rt: &(impl AllocGlobal + Print),
+        rt: &HostRuntime,
         tally: &mut Tally,
         place: Place,
         task: Task,
@@ -116,7 +116,7 @@ fn name_piece<'a>(alloc: Global, pieces: &mut Vec<Piece<'a>>, line: &'a str) -> 
 
 /// Does what is asked for, of one file.
 fn do_task(
-    rt: &(impl AllocGlobal + Print),
+    rt: &HostRuntime,
     tally: &mut Tally,
     task: Task,
     wanted: &str,
@@ -133,12 +133,7 @@ fn do_task(
 }
 
 /// Compares the verdict on a file with the one that is wanted. It prints another one.
-fn judge(
-    rt: &(impl AllocGlobal + Print),
-    tally: &mut Tally,
-    wanted: &str,
-    case: Case,
-) -> Result<(), Fault> {
+fn judge(rt: &HostRuntime, tally: &mut Tally, wanted: &str, case: Case) -> Result<(), Fault> {
     let agrees = agrees(rt.alloc(), case.file, wanted)?;
     tally.count_vector(agrees);
     if agrees {
@@ -148,7 +143,7 @@ fn judge(
 }
 
 /// Prints the verdict that is wanted, and the one that is given.
-fn print_verdict(rt: &(impl AllocGlobal + Print), wanted: &str, case: Case) -> Result<(), Fault> {
+fn print_verdict(rt: &HostRuntime, wanted: &str, case: Case) -> Result<(), Fault> {
     let given = verdict(rt.alloc(), case.file)?;
     println!(rt; "{case}: wanted {wanted}, given {given}")?;
     Ok(())

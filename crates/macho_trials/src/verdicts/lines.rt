@@ -29,24 +29,28 @@ pub(crate) struct Line {
 pub(crate) fn join_lines(alloc: Global, text: &str) -> Result<Vec<Line>, AllocError> {
     let mut lines = Vec::new(alloc);
     let mut number = 0u64;
-    let mut first = 0;
-    let mut joined = String::new(alloc);
     for line in text.lines() {
         number = number.saturating_add(1);
         let (line, _) = line.split_once('#').unwrap_or((line, ""));
-        if !line.starts_with(' ') {
-            lines.push(Line {
-                number: first,
-                text: joined,
-            })?;
-            first = number;
-            joined = String::new(alloc);
-        }
-        joined.push_str(line.trim_end())?;
+        join_line(alloc, &mut lines, number, line)?;
     }
-    lines.push(Line {
-        number: first,
-        text: joined,
-    })?;
     Ok(lines)
+}
+
+/// Adds a line, or its text to the line that it goes on with.
+fn join_line(
+    alloc: Global,
+    lines: &mut Vec<Line>,
+    number: u64,
+    line: &str,
+) -> Result<(), AllocError> {
+    let text = line.trim_end();
+    if line.starts_with(' ')
+        && let Some(before) = lines.last_mut()
+    {
+        return before.text.push_str(text);
+    }
+    let text = String::from_str(alloc, text)?;
+    lines.push(Line { number, text })?;
+    Ok(())
 }

@@ -6,13 +6,11 @@ use crate::verdicts::compare::{Comparison, compare};
 use crate::verdicts::fault::Fault;
 use crate::verdicts::fields::{Field, read_places};
 use crate::verdicts::tally::Tally;
-use crate::verdicts::vectors::{Case, line_of};
-use macho_fields::Break;
+use crate::verdicts::vectors::Case;
 use std::alloc::{AllocError, Global};
-use std::fmt;
 
 /// What is done to the file of a vector.
-#[derive(Clone, Copy)]
+#[derive(Clone, Copy, Debug)]
 enum Mutation<'a> {
     /// Nothing.
     Unchanged,
@@ -26,35 +24,13 @@ enum Mutation<'a> {
     },
 }
 
-impl fmt::Display for Mutation<'_> {
-    fn fmt<W: fmt::Write>(&self, f: &mut fmt::Formatter<W>) -> fmt::Result {
-        match *self {
-            Mutation::Unchanged => write!(f, "unchanged"),
-            Mutation::Cut(length) => write!(f, "cut to {length} bytes"),
-            Mutation::Set {
-                name,
-                place,
-                number,
-            } => write!(f, "{name} at {place} set to {number:?}"),
-        }
-    }
-}
-
 /// Compares both verdicts on the file.
-pub(crate) fn compare_whole(
-    rt: &(impl AllocGlobal + Print),
-    tally: &mut Tally,
-    case: Case,
-) -> Result<(), Fault> {
+pub(crate) fn compare_whole(rt: &HostRuntime, tally: &mut Tally, case: Case) -> Result<(), Fault> {
     compare_mutant(rt, tally, case, Mutation::Unchanged, case.file)
 }
 
 /// Compares both verdicts on the file cut at each length, from 0 to one less than its own.
-pub(crate) fn compare_cuts(
-    rt: &(impl AllocGlobal + Print),
-    tally: &mut Tally,
-    case: Case,
-) -> Result<(), Fault> {
+pub(crate) fn compare_cuts(rt: &HostRuntime, tally: &mut Tally, case: Case) -> Result<(), Fault> {
     for length in 0..case.file.len() {
         let mutant = &case.file[..length];
         compare_mutant(rt, tally, case, Mutation::Cut(length), mutant)?;
@@ -65,7 +41,7 @@ pub(crate) fn compare_cuts(
 /// Compares both verdicts on the file with one field set to 0, to 1 and to its greatest number, for
 /// each place of the field.
 pub(crate) fn compare_field(
-    rt: &(impl AllocGlobal + Print),
+    rt: &HostRuntime,
     tally: &mut Tally,
     case: Case,
     field: Field,
@@ -78,7 +54,7 @@ pub(crate) fn compare_field(
 
 /// Does so for each place in the structures that a word names.
 fn compare_places(
-    rt: &(impl AllocGlobal + Print),
+    rt: &HostRuntime,
     tally: &mut Tally,
     case: Case,
     field: Field,
@@ -95,7 +71,7 @@ fn compare_places(
 
 /// Compares both verdicts on the file with the field at this place set to each of its numbers.
 fn compare_numbers(
-    rt: &(impl AllocGlobal + Print),
+    rt: &HostRuntime,
     tally: &mut Tally,
     case: Case,
     field: Field,
@@ -139,34 +115,20 @@ fn join(alloc: Global, front: &[u8], number: &[u8], back: &[u8]) -> Result<Vec<u
 
 /// Compares both verdicts on the mutant, and counts it. It prints two that are not the same.
 fn compare_mutant(
-    rt: &(impl AllocGlobal + Print),
+    rt: &HostRuntime,
     tally: &mut Tally,
     case: Case,
     mutation: Mutation,
     mutant: &[u8],
 ) -> Result<(), Fault> {
     match compare(rt.alloc(), mutant)? {
-        Comparison::Same(first) => {
-            tally.count_same(first);
-            Ok(())
-        }
+        Comparison::Same(first) => tally.count_same(first),
         Comparison::Different { verify, slow_first } => {
             tally.count_different();
-            print_reports(rt, case, mutation, verify, slow_first)
+            println!(rt;
+                "{case}, {mutation:?}: verify reports {verify:?}, slow_first {slow_first:?}"
+            )?;
         }
     }
-}
-
-/// Prints what both report of a mutant.
-fn print_reports(
-    rt: &(impl AllocGlobal + Print),
-    case: Case,
-    mutation: Mutation,
-    verify: Option<Break>,
-    slow_first: Option<Break>,
-) -> Result<(), Fault> {
-    let verify = line_of(rt.alloc(), verify)?;
-    let slow_first = line_of(rt.alloc(), slow_first)?;
-    println!(rt; "{case}, {mutation}: verify reports {verify}, slow_first {slow_first}")?;
     Ok(())
 }

@@ -4,4 +4,4 @@ use Rattle.macho_fields.specs.Rules.{BreaksImage}
 use Rattle.macho_trials.proofs.refusals.image.call_mapper.Goals as goal
 
 pub of_image-requires : goal.of_image-requires
-of_image-requires g c = subst (λ (image : List ℕ). NothingBreaks (BreaksImage image None)) (sym c.image.ensures.image) c.image.ensures.unbroken
+of_image-requires c = subst (λ (image : List ℕ). NothingBreaks (BreaksImage image None)) (sym c.image.ensures.image) c.image.ensures.unbroken
