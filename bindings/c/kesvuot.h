@@ -1,0 +1,295 @@
+/* kesvuot.h: judges the layout of a Mach-O file, and reads the parts of an accepted one. C99 and C++; see kesvuot(3).
+ *
+ *     struct kesvuot_verdict verdict;
+ *     struct kesvuot_image image;
+ *     struct kesvuot_segment rows[16];
+ *     if (kesvuot_verify(file, size, &verdict) == KESVUOT_OK && kesvuot_image(file, size, 0, &image) == KESVUOT_OK)
+ *         for (uint64_t first = 0, n; (n = kesvuot_segments(&image, first, rows, 16)) > 0; first += n)
+ *             ; // rows[0].bytes to rows[n - 1].bytes are all that the segments have in the file: test no offset.
+ *
+ * THE BYTES MUST NOT CHANGE WHILE A CALL RUNS. A call that reads a byte twice and finds two values may crash. Map a
+ * file only if nobody else can write to it or cut it. Read any other file into memory first.
+ *
+ * Every call is safe on any bytes, and on any numbers in the structures below. It trusts no earlier call: neither that
+ * kesvuot_verify accepted the file, nor that a structure is still as kesvuot_image wrote it. What would lie outside the
+ * bytes is left empty. What the verdict adds is that nothing is left empty, and what RULES.md says of each part.
+ *
+ * What you have to ensure:
+ * - Each pointer is valid, for as many bytes or rows as you say. It may be null only beside the size or count 0.
+ * - What a call writes to overlaps nothing that it reads.
+ * - The bytes of the file stay for as long as you use what was read from them: every `struct kesvuot_bytes` that a call
+ *   writes points into the file, or to a constant of the library. Nothing is copied, and there is nothing to free.
+ *
+ * No call keeps state, prints, or ends the process, and any threads may call at once. Only kesvuot_verify and
+ * kesvuot_verify_strictly take memory, by malloc and realloc, and they give it back before they return.
+ */
+#ifndef KESVUOT_H
+#define KESVUOT_H
+
+#include <stddef.h>
+#include <stdint.h>
+
+#ifdef __cplusplus
+extern "C" {
+#endif
+
+/* The version of this header: major << 16 | minor << 8 | patch. */
+#define KESVUOT_VERSION 0x010000
+
+/* The version of the library that is linked, in the same form. */
+uint32_t kesvuot_version(void);
+
+/* Some bytes of the file. Where len is 0, `at` is any pointer: never read it. */
+struct kesvuot_bytes {
+    const uint8_t *at;
+    size_t len;
+};
+
+/* What a call answers. Each call says which of these it gives. */
+enum {
+    KESVUOT_OK = 0,
+    KESVUOT_REFUSED = 1,   /* the bytes break a rule */
+    KESVUOT_NO_MEMORY = 2, /* memory ran out: there is no verdict */
+    KESVUOT_NONE = 3,      /* there is no such thing */
+    KESVUOT_UNREAD = 4,    /* the slice is of 32 bits or big-endian: what is in it was not judged */
+    KESVUOT_ZERO = 5       /* the address is mapped, but to no byte of the file: a loader puts a zero there */
+};
+
+/* The rules, in the order in which they are judged. RULES.md says when each is broken, what usually breaks it, and what
+ * its place is. */
+enum {
+    /* of the file */
+    KESVUOT_MAGIC = 1,
+    KESVUOT_FAT_TRUNCATED = 2,
+    KESVUOT_FAT_SLICE_OUTSIDE = 3,
+    KESVUOT_FAT_SLICE_IN_TABLE = 4,
+    KESVUOT_FAT_ALIGN = 5,
+    KESVUOT_FAT_OVERLAP = 6,
+    KESVUOT_FAT_DUPLICATE = 7,
+    KESVUOT_FAT_SLICE_MAGIC = 8,
+    KESVUOT_FAT_EMPTY = 9,
+    /* of an image */
+    KESVUOT_HEADER_TRUNCATED = 10,
+    KESVUOT_ARCH_MISMATCH = 11,
+    KESVUOT_FILE_TYPE = 12,
+    KESVUOT_COMMANDS_OUTSIDE = 13,
+    KESVUOT_COMMAND_WALK = 14,
+    KESVUOT_COMMAND_SHORT = 15,
+    KESVUOT_COMMAND_REPEATED = 16,
+    KESVUOT_DYLIB_ID = 17,
+    KESVUOT_NAME = 18,
+    KESVUOT_SEGMENT_ADDRESS = 19,
+    KESVUOT_SEGMENT_SIZE = 20,
+    KESVUOT_SEGMENT_FILE = 21,
+    KESVUOT_SEGMENT_OVERLAP = 22,
+    KESVUOT_SECTION_ADDRESS = 23,
+    KESVUOT_SECTION_FILE = 24,
+    KESVUOT_SECTION_RELOCS = 25,
+    KESVUOT_TABLE_RANGE = 26,
+    KESVUOT_SYMBOL_GROUP = 27,
+    KESVUOT_SYMBOL_NAME = 28,
+    KESVUOT_SYMBOL_SECTION = 29,
+    KESVUOT_INDIRECT_INDEX = 30,
+    KESVUOT_ENTRY = 31,
+    /* of the strict profile */
+    KESVUOT_FAT_STRAY_BYTE = 32,
+    KESVUOT_COMMANDS_END = 33,
+    KESVUOT_HEADER_SEGMENT = 34,
+    KESVUOT_SEGMENT_FILE_OVERLAP = 35,
+    KESVUOT_ELEMENT_OVERLAP = 36,
+    KESVUOT_STRAY_BYTE = 37
+};
+
+/* The verdict on a file */
+
+struct kesvuot_verdict {
+    uint64_t place;    /* REFUSED: the least offset in the file at which `rule` is broken */
+    uint64_t slices;   /* OK: how many slices the file has, 1 where it is not universal */
+    uint32_t rule;     /* REFUSED: the first broken rule */
+    uint32_t reserved; /* 0 */
+};
+
+/* Judges a file by the rules of the file and of an image. OK: no rule is broken. REFUSED: `rule` is the first one that
+ * is, at `place`. NO_MEMORY: there is no verdict. The fields that this does not name are 0. */
+uint32_t kesvuot_verify(const void *file, size_t size, struct kesvuot_verdict *verdict);
+
+/* The same, by the rules of the strict profile too: no byte that is not zero is unaccounted for, and none is used
+ * twice. Whatever is OK here is OK for kesvuot_verify. */
+uint32_t kesvuot_verify_strictly(const void *file, size_t size, struct kesvuot_verdict *verdict);
+
+/* The name of a rule, such as "section-file". A zero byte follows it in memory, which len does not count.
+ * OK. NONE: no rule has this number, and the name is empty. */
+uint32_t kesvuot_rule(uint32_t rule, struct kesvuot_bytes *name);
+
+/* An image
+ *
+ * Fields that <mach-o/loader.h> and <mach-o/nlist.h> have are named and numbered as there. Offsets count from the start
+ * of the slice, but `place` of an image counts from the start of the file. Names end before their zero byte. Reserved
+ * fields are 0. */
+
+/* Which parts an image has: bits of `has`. */
+enum {
+    KESVUOT_HAS_UUID = 1,
+    KESVUOT_HAS_BASE = 2,
+    KESVUOT_HAS_ENTRY = 4,
+    KESVUOT_HAS_SYMTAB = 8,
+    KESVUOT_HAS_DYSYMTAB = 16
+};
+
+struct kesvuot_image {
+    struct kesvuot_bytes bytes; /* the slice */
+    uint64_t place;             /* where the slice begins in the file */
+    uint64_t base;              /* HAS_BASE: the address of the header, before any slide */
+    uint64_t entry;             /* HAS_ENTRY: the address that LC_MAIN names, before any slide */
+    uint64_t symbols;           /* HAS_SYMTAB: symoff, nsyms, stroff, strsize of LC_SYMTAB */
+    uint64_t symbol_count;
+    uint64_t strings;
+    uint64_t strings_size;
+    uint64_t indirects; /* HAS_DYSYMTAB: indirectsymoff, nindirectsyms of LC_DYSYMTAB */
+    uint64_t indirect_count;
+    uint64_t command_count; /* how many rows each table below has */
+    uint64_t segment_count;
+    uint64_t section_count;
+    uint64_t library_count;
+    uint64_t build_count;
+    uint32_t cputype;
+    uint32_t cpusubtype; /* without the capability byte, CPU_SUBTYPE_MASK */
+    uint32_t filetype;
+    uint32_t flags;
+    uint32_t has;         /* KESVUOT_HAS_.. */
+    uint32_t groups[6];   /* HAS_DYSYMTAB: ilocalsym, nlocalsym, iextdefsym, nextdefsym, iundefsym, nundefsym */
+    uint8_t uuid[16];     /* HAS_UUID */
+    uint32_t reserved[5]; /* 0 */
+};
+
+/* The image of a slice, from 0 on. It walks over the load commands of that slice once, however many slices there are.
+ * OK: all fields are written. Those of parts that the image does not have are 0.
+ * UNREAD: the slice is of 32 bits or big-endian. bytes, place, and cputype and cpusubtype of the universal table are
+ * written, and all else is 0.
+ * NONE: the file has no such slice. REFUSED: no accepted file has such bytes there. All fields are 0. */
+uint32_t kesvuot_image(const void *file, size_t size, uint64_t slice, struct kesvuot_image *image);
+
+/* Tables of an image
+ *
+ * Each call writes the rows from the index `first` on, at most `max`, and returns how many it wrote. It leaves the rows
+ * after those as they were. kesvuot_symbols and kesvuot_indirects begin at the row itself, so batches of any size cost
+ * the same. Every other call walks over the load commands once: ask for all rows, or for many, at a time. */
+
+struct kesvuot_segment { /* LC_SEGMENT_64 */
+    struct kesvuot_bytes name;
+    struct kesvuot_bytes bytes; /* all filesize bytes from fileoff on */
+    uint64_t vmaddr;
+    uint64_t vmsize;
+    uint64_t fileoff;
+    uint64_t filesize;
+    uint32_t first_section; /* the index of its first section in the table of sections */
+    uint32_t section_count; /* nsects */
+    uint32_t maxprot;
+    uint32_t initprot;
+};
+
+struct kesvuot_section { /* section_64. The section n_sect of a symbol has the index n_sect - 1. */
+    struct kesvuot_bytes name;
+    struct kesvuot_bytes segment; /* the name of the segment that it is in */
+    struct kesvuot_bytes bytes;   /* all size bytes from offset on, none where it is zero-fill */
+    uint64_t addr;
+    uint64_t size;
+    uint32_t offset;
+    uint32_t align; /* the exponent of a power of 2 */
+    uint32_t reloff;
+    uint32_t nreloc;
+    uint32_t flags;
+    uint32_t reserved1;
+    uint32_t reserved2;
+    uint32_t zero_fill; /* 1: a loader fills it with zeros. 0: it has bytes in the file */
+};
+
+struct kesvuot_library { /* dylib_command: LC_ID_DYLIB, the name of the library itself, and each LC_LOAD_DYLIB or kin */
+    struct kesvuot_bytes name;
+    uint32_t cmd;
+    uint32_t current; /* x << 16 | y << 8 | z */
+    uint32_t compatible;
+    uint32_t reserved;
+};
+
+struct kesvuot_build { /* build_version_command */
+    uint32_t platform;
+    uint32_t minos; /* x << 16 | y << 8 | z */
+    uint32_t sdk;
+    uint32_t reserved;
+};
+
+struct kesvuot_command { /* load_command */
+    struct kesvuot_bytes bytes; /* all cmdsize bytes */
+    struct kesvuot_bytes name;  /* of a library, LC_RPATH, LC_LOAD_DYLINKER and their kin, else none */
+    uint64_t place;             /* where it begins in the slice */
+    uint32_t cmd;
+    uint32_t reserved;
+};
+
+struct kesvuot_symbol { /* nlist_64 */
+    struct kesvuot_bytes name; /* none where strx is 0 */
+    uint64_t value;
+    uint32_t strx;
+    uint16_t desc;
+    uint8_t type;
+    uint8_t sect;
+};
+
+size_t kesvuot_segments(const struct kesvuot_image *image, uint64_t first, struct kesvuot_segment *rows, size_t max);
+size_t kesvuot_sections(const struct kesvuot_image *image, uint64_t first, struct kesvuot_section *rows, size_t max);
+size_t kesvuot_libraries(const struct kesvuot_image *image, uint64_t first, struct kesvuot_library *rows, size_t max);
+size_t kesvuot_builds(const struct kesvuot_image *image, uint64_t first, struct kesvuot_build *rows, size_t max);
+size_t kesvuot_commands(const struct kesvuot_image *image, uint64_t first, struct kesvuot_command *rows, size_t max);
+size_t kesvuot_symbols(const struct kesvuot_image *image, uint64_t first, struct kesvuot_symbol *rows, size_t max);
+
+/* The indirect symbol table: the index of a symbol, or INDIRECT_SYMBOL_LOCAL or INDIRECT_SYMBOL_ABS or both. */
+size_t kesvuot_indirects(const struct kesvuot_image *image, uint64_t first, uint32_t *rows, size_t max);
+
+/* The data of the first linkedit_data_command with this cmd: LC_CODE_SIGNATURE, LC_FUNCTION_STARTS and so on.
+ * OK: all datasize bytes from dataoff on. NONE: the image has no such command, or cmd is of another structure. */
+uint32_t kesvuot_linkedit(const struct kesvuot_image *image, uint32_t cmd, struct kesvuot_bytes *data);
+
+/* What is at an address, before any slide. OK: the bytes from there to the end of what its segment has in the file.
+ * ZERO: the segment has the address, but the file no byte for it. NONE: no segment has the address. */
+uint32_t kesvuot_at(const struct kesvuot_image *image, uint64_t address, struct kesvuot_bytes *bytes);
+
+/* Where bytes of an image, of which len is not 0, begin in the file. */
+static inline uint64_t kesvuot_place(const struct kesvuot_image *image, struct kesvuot_bytes bytes) {
+    return image->place + ((uint64_t)(uintptr_t)bytes.at - (uint64_t)(uintptr_t)image->bytes.at);
+}
+
+/* The library has the same layout, and is for 64-bit machines. C99 has no way to say so. */
+#if defined(__cplusplus) || (defined(__STDC_VERSION__) && __STDC_VERSION__ >= 201112L)
+#ifdef __cplusplus
+#define KESVUOT_HOLDS(condition) static_assert(condition, #condition)
+#else
+#define KESVUOT_HOLDS(condition) _Static_assert(condition, #condition)
+#endif
+KESVUOT_HOLDS(sizeof(struct kesvuot_bytes) == 16);
+KESVUOT_HOLDS(sizeof(struct kesvuot_verdict) == 24);
+KESVUOT_HOLDS(sizeof(struct kesvuot_image) == 208);
+KESVUOT_HOLDS(sizeof(struct kesvuot_segment) == 80);
+KESVUOT_HOLDS(sizeof(struct kesvuot_section) == 96);
+KESVUOT_HOLDS(sizeof(struct kesvuot_library) == 32);
+KESVUOT_HOLDS(sizeof(struct kesvuot_build) == 16);
+KESVUOT_HOLDS(sizeof(struct kesvuot_command) == 48);
+KESVUOT_HOLDS(sizeof(struct kesvuot_symbol) == 32);
+KESVUOT_HOLDS(offsetof(struct kesvuot_verdict, rule) == 16);
+KESVUOT_HOLDS(offsetof(struct kesvuot_image, symbols) == 40);
+KESVUOT_HOLDS(offsetof(struct kesvuot_image, command_count) == 88);
+KESVUOT_HOLDS(offsetof(struct kesvuot_image, cputype) == 128);
+KESVUOT_HOLDS(offsetof(struct kesvuot_image, groups) == 148);
+KESVUOT_HOLDS(offsetof(struct kesvuot_image, uuid) == 172);
+KESVUOT_HOLDS(offsetof(struct kesvuot_segment, first_section) == 64);
+KESVUOT_HOLDS(offsetof(struct kesvuot_section, offset) == 64);
+KESVUOT_HOLDS(offsetof(struct kesvuot_command, place) == 32);
+KESVUOT_HOLDS(offsetof(struct kesvuot_symbol, desc) == 28);
+#undef KESVUOT_HOLDS
+#endif
+
+#ifdef __cplusplus
+}
+#endif
+
+#endif
