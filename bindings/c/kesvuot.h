@@ -123,9 +123,8 @@ uint32_t kesvuot_rule(uint32_t rule, struct kesvuot_bytes *name);
 
 /* An image
  *
- * Fields that <mach-o/loader.h> and <mach-o/nlist.h> have are named and numbered as there. Offsets count from the start
- * of the slice, but `place` of an image counts from the start of the file. Names end before their zero byte. Reserved
- * fields are 0. */
+ * <mach-o/loader.h> and <mach-o/nlist.h> explain the fields. Offsets count from the start of the slice, but `place` of an
+ * image counts from the start of the file. A name ends before its zero byte. Reserved fields are 0. */
 
 /* Which parts an image has: bits of `has`. */
 enum {
@@ -163,7 +162,7 @@ struct kesvuot_image {
 };
 
 /* The image of a slice, from 0 on. It walks over the load commands of that slice once, however many slices there are.
- * OK: all fields are written. Those of parts that the image does not have are 0.
+ * OK: all fields are written. Those of parts that the image does not have are 0. This is no verdict on the file.
  * UNREAD: the slice is of 32 bits or big-endian. bytes, place, and cputype and cpusubtype of the universal table are
  * written, and all else is 0.
  * NONE: the file has no such slice. REFUSED: no accepted file has such bytes there. All fields are 0. */
