@@ -246,7 +246,8 @@ size_t kesvuot_symbols(const struct kesvuot_image *image, uint64_t first, struct
 size_t kesvuot_indirects(const struct kesvuot_image *image, uint64_t first, uint32_t *rows, size_t max);
 
 /* The data of the first linkedit_data_command with this cmd: LC_CODE_SIGNATURE, LC_FUNCTION_STARTS and so on.
- * OK: all datasize bytes from dataoff on. NONE: the image has no such command, or cmd is of another structure. */
+ * OK: all datasize bytes from dataoff on. If datasize is 0, these are none, wherever dataoff is.
+ * NONE: the image has no such command, or cmd is of another structure. */
 uint32_t kesvuot_linkedit(const struct kesvuot_image *image, uint32_t cmd, struct kesvuot_bytes *data);
 
 /* What is at an address, before any slide. OK: the bytes from there to the end of what its segment has in the file.
