@@ -1,0 +1,135 @@
+// Takes a file apart: writes each slice, and the bytes of each section of each image, to files of their own in FOLDER.
+//
+//     extract FILE FOLDER
+//
+// It prints a line for each file that it writes: the name, the place of the bytes in FILE, and how many there are.
+//
+//     1.slice             the slice with index 1, of which the first has 0. A file that is not universal is one slice
+//     1.0.__TEXT.__text   the first section of that image, with the name of its segment and its own. Of these, any byte
+//                         but a letter, a digit, _ and - is written as % and two digits. A section that is empty or
+//                         zero-fill has no bytes, and none is written
+//
+//     cc -std=c99 -O2 -Ibindings/c -o extract examples/extract.c build/lib/libkesvuot.a
+//
+// The file may be from a stranger. The library judges it once. After that nothing here tests an offset of the file: a
+// comment at each read says which rule of docs/RULES.md promises that the bytes are there.
+
+#include <inttypes.h>
+#include <stdbool.h>
+#include <stdint.h>
+#include <stdio.h>
+#include <stdlib.h>
+#include <string.h>
+
+#include "judged.h"
+#include "kesvuot.h"
+
+// Two numbers, and two names of 16 bytes, each byte of which may become three.
+#define NAME_SIZE 160
+
+// The folder to write to, and the image that is taken apart.
+struct work {
+    const char *folder;
+    char *path;
+    size_t path_size;
+    struct kesvuot_image image;
+};
+
+static int out_of_memory(void) {
+    return fail("extract", "out of memory");
+}
+
+// Writes the bytes to a file of the folder, and prints the line.
+static int write_file(const struct work *work, const char *name, struct kesvuot_bytes bytes) {
+    snprintf(work->path, work->path_size, "%s/%s", work->folder, name);
+    FILE *out = fopen(work->path, "wb");
+    if (out == NULL) {
+        return fail(work->path, "it cannot be opened");
+    }
+    bool is_written = fwrite(bytes.at, 1, bytes.len, out) == bytes.len;
+    if (fclose(out) != 0 || !is_written) {
+        return fail(work->path, "it cannot be written");
+    }
+    printf("%s 0x%" PRIx64 " 0x%zx\n", name, kesvuot_place(&work->image, bytes), bytes.len);
+    return ACCEPTED;
+}
+
+// Appends a name to a text, which has room for it. What is left of a name is no path: it has neither a slash nor a dot.
+static void append_name(char *text, struct kesvuot_bytes name) {
+    text += strlen(text);
+    *text++ = '.';
+    for (size_t k = 0; k < name.len; k++) {
+        uint8_t byte = name.at[k];
+        bool is_letter = (byte >= 'A' && byte <= 'Z') || (byte >= 'a' && byte <= 'z');
+        bool is_plain = is_letter || (byte >= '0' && byte <= '9') || byte == '_' || byte == '-';
+        text += sprintf(text, is_plain ? "%c" : "%%%02x", byte);
+    }
+    *text = '\0';
+}
+
+static int write_section(const struct work *work, uint64_t slice, uint64_t index,
+                         const struct kesvuot_section *section) {
+    char name[NAME_SIZE];
+    if (section->bytes.len == 0) {
+        return ACCEPTED;
+    }
+    sprintf(name, "%" PRIu64 ".%" PRIu64, slice, index);
+    append_name(name, section->segment);
+    append_name(name, section->name);
+    // section-file: all bytes of the section are in the slice and, where its segment is mapped, in that segment.
+    return write_file(work, name, section->bytes);
+}
+
+static int write_sections(const struct work *work, uint64_t slice) {
+    // command-short: the headers of all sections are in the file, so there are fewer of them than bytes.
+    size_t count = (size_t)work->image.section_count;
+    struct kesvuot_section *sections = calloc(count + 1, sizeof *sections);
+    if (sections == NULL) {
+        return out_of_memory();
+    }
+    // The call writes a row for each section: command-walk and command-short promise that the table is whole.
+    kesvuot_sections(&work->image, 0, sections, count);
+    int status = ACCEPTED;
+    for (size_t k = 0; k < count && status == ACCEPTED; k++) {
+        status = write_section(work, slice, k, &sections[k]);
+    }
+    free(sections);
+    return status;
+}
+
+static int write_slice(struct work *work, const struct judged *file, uint64_t index) {
+    char name[NAME_SIZE];
+    // fat-truncated: the table of slices is in the file. fat-slice-magic: each slice is an image of some kind.
+    uint32_t kind = kesvuot_image(file->bytes, file->size, index, &work->image);
+    sprintf(name, "%" PRIu64 ".slice", index);
+    // fat-slice-outside: all bytes of the slice are in the file. fat-overlap: no other slice has one of them.
+    int status = write_file(work, name, work->image.bytes);
+    // Nothing is promised of what is inside a slice of 32 bits or of the other byte order.
+    return status == ACCEPTED && kind == KESVUOT_OK ? write_sections(work, index) : status;
+}
+
+static int write_slices(const struct judged *file, const char *folder) {
+    struct work work = {.folder = folder, .path_size = strlen(folder) + NAME_SIZE + 1};
+    work.path = malloc(work.path_size);
+    if (work.path == NULL) {
+        return out_of_memory();
+    }
+    int status = ACCEPTED;
+    for (uint64_t k = 0; k < file->slices && status == ACCEPTED; k++) {
+        status = write_slice(&work, file, k);
+    }
+    free(work.path);
+    return status;
+}
+
+int main(int argc, char **argv) {
+    struct judged file;
+    if (argc != 3) {
+        return fail("usage", "extract FILE FOLDER");
+    }
+    int status = judge(argv[1], &file);
+    if (status == ACCEPTED) {
+        status = write_slices(&file, argv[2]);
+    }
+    return finish(&file, status);
+}
