@@ -1,0 +1,172 @@
+#!/usr/bin/env python3
+"""What tests/examples asks the examples, and what they must answer. Nothing here comes from the library or its program.
+
+    tests/examples_trials.py lines FILE NM OBJDUMP      prints what `symbolize FILE` must print of addresses that begin
+                                                        and end its symbols and sections, by llvm-nm and llvm-objdump
+    tests/examples_trials.py parts FILE FOLDER          makes the files that `extract FILE` must make, and prints its
+                                                        lines, by the readers of tests/oracle.py
+    tests/examples_trials.py mutants COUNT FOLDER [FILE..]
+                                                        makes FOLDER/1, FOLDER/2 and so on, so many mutants that
+                                                        tests/oracle.py accepts: of the vectors, of tests/real, and of
+                                                        other files
+"""
+
+from __future__ import annotations
+
+import re
+import subprocess
+import sys
+from pathlib import Path
+from typing import Iterator, NamedTuple
+
+sys.dont_write_bytecode = True
+import oracle  # pylint: disable=wrong-import-position
+import oracle_trials  # pylint: disable=wrong-import-position
+
+SEED = 1
+MOST_ADDRESSES = 500
+
+
+# Symbols
+
+
+class Section(NamedTuple):
+    segment: str
+    name: str
+    addr: int
+    size: int
+
+    def has(self, address: int) -> bool:
+        return self.addr <= address < self.addr + self.size
+
+
+class Symbol(NamedTuple):
+    value: int
+    segment: str
+    section: str
+    name: str
+
+
+def said(*command: str) -> str:
+    return subprocess.run(command, stdout=subprocess.PIPE, check=True).stdout.decode("utf-8")
+
+
+def first_architecture(path: Path) -> str:
+    """That of the first slice that is read, as LLVM names it."""
+    image = next(image for image in oracle.File(path.read_bytes()).slices if image.is_64_bit)
+    return oracle.architecture(image.header.cputype, image.header.cpusubtype)
+
+
+def read_sections(objdump: str, path: Path) -> Iterator[Section]:
+    """The sections of mapped segments. Of the others, addr is no address."""
+    text = said(objdump, "--macho", "--private-headers", f"--arch={first_architecture(path)}", str(path))
+    for command in text.split("\nLoad command ")[1:]:
+        found = re.findall(r"sectname (\S+)\n *segname (\S+)\n *addr (\S+)\n *size (\S+)", command)
+        if re.search(r"\n *vmsize 0x0*[1-9a-f]", command):
+            for name, segname, addr, size in found:
+                yield Section(segname, name, int(addr, 16), int(size, 16))
+
+
+# Of a symbol of a section: the value, the section, and the name. Names may have blanks.
+SYMBOL = re.compile(r"([0-9a-f]{16}) \(([^(),]+),([^(),]+)\) (?:\[[^]]+\] )*(?:weak |private )?(?:non-)?external "
+                    r"(?:automatically hidden )?(?:\(was a private external\) )?(.+)")
+
+
+def read_symbols(nm: str, path: Path) -> list[Symbol]:
+    """The symbols of sections, in the order of the table."""
+    lines = said(nm, "-m", "-p", f"--arch={first_architecture(path)}", str(path)).splitlines()
+    defined = [line for line in lines if re.match(r"[0-9a-f]{16} \([^(),]+,[^(),]+\) ", line)]
+    found = [SYMBOL.fullmatch(line) for line in defined]
+    assert all(found), "a line of llvm-nm that is not understood"
+    return [Symbol(int(match[1], 16), *match.groups()[1:]) for match in found if match]
+
+
+def line_of(address: int, sections: list[Section], symbols: list[Symbol]) -> str:
+    """The line of an address."""
+    section = next((section for section in sections if section.has(address)), None)
+    if section is None:
+        return f"{address:#x} ?"
+    nearest = None
+    for symbol in symbols:
+        if (symbol.segment, symbol.section) == section[:2] and symbol.value <= address:
+            if nearest is None or symbol.value >= nearest.value:
+                nearest = symbol
+    text = f"{nearest.name} + {address - nearest.value:#x}" if nearest else "?"
+    return f"{address:#x} {text} ({section.segment},{section.name})"
+
+
+def print_lines(path: Path, nm: str, objdump: str) -> None:
+    sections, symbols = list(read_sections(objdump, path)), read_symbols(nm, path)
+    assert sections and symbols
+    assert len({section[:2] for section in sections}) == len(sections), "LLVM does not say which section a symbol is of"
+    addresses = {0, 2 ** 64 - 1}
+    for symbol in symbols[::len(symbols) * 3 // MOST_ADDRESSES + 1]:
+        addresses |= {max(symbol.value - 1, 0), symbol.value, symbol.value + 1}
+    for section in sections:
+        end = section.addr + section.size
+        addresses |= {max(section.addr - 1, 0), section.addr, end - 1, end}
+    for address in sorted(addresses):
+        print(line_of(address, sections, symbols))
+
+
+# Parts
+
+
+def plain(name: bytes) -> str:
+    """A name as a part of a path."""
+    return "".join(chr(byte) if re.match(rb"[A-Za-z0-9_-]", bytes([byte])) else f"%{byte:02x}"
+                   for byte in oracle.up_to_zero(name))
+
+
+def parts(data: bytes) -> Iterator[tuple[str, int, int]]:
+    """The name of each file, and the place and the size of its bytes."""
+    for index, image in enumerate(oracle.File(data).slices):
+        yield f"{index}.slice", image.start, image.length
+        for number, section in enumerate(image.sections if image.is_64_bit else []):
+            if section.size > 0 and not oracle.is_zero_fill(section):
+                name = f"{index}.{number}.{plain(section.segment.segname)}.{plain(section.sectname)}"
+                yield name, image.start + section.offset, section.size
+
+
+def make_parts(path: Path, folder: Path) -> None:
+    data = path.read_bytes()
+    for name, place, size in parts(data):
+        (folder / name).write_bytes(data[place:place + size])
+        print(f"{name} {place:#x} {size:#x}")
+
+
+# Mutants
+
+
+def accepted_mutants(others: list[bytes]) -> Iterator[bytes]:
+    """Mutants that are accepted, and are none of the files."""
+    files = [data for _, data, _ in oracle_trials.read_real()] + others
+    vectors = [vector for _, some in oracle_trials.read_all_vectors(False) for vector in some]
+    corpus = files + [vector.data for vector in vectors]
+    # Real files have symbols and sections: a mutant of one shows most.
+    weights = [2000 / len(files)] * len(files) + [1 if vector.wanted == "accepted" else 0 for vector in vectors]
+    number = 0
+    while True:
+        data, _ = oracle_trials.mutant(SEED, number, corpus, weights, oracle_trials.WAYS)
+        number += 1
+        if data not in files and oracle.first_broken(oracle.File(data)) is None:
+            yield data
+
+
+def make_mutants(count: int, folder: Path, paths: list[Path]) -> None:
+    others = [path.read_bytes() for path in paths]
+    for number, data in zip(range(1, count + 1), accepted_mutants(others)):
+        (folder / str(number)).write_bytes(data)
+
+
+def main(words: list[str]) -> None:
+    if words[0] == "lines":
+        print_lines(Path(words[1]), *words[2:])
+    elif words[0] == "parts":
+        make_parts(Path(words[1]), Path(words[2]))
+    else:
+        make_mutants(int(words[1]), Path(words[2]), [Path(word) for word in words[3:]])
+
+
+if __name__ == "__main__":
+    main(sys.argv[1:])
