@@ -1,0 +1,60 @@
+//! Finds the library: in the folder `KESVUOT_LIB_DIR`, or else where pkg-config says.
+
+use std::path::Path;
+use std::process::{self, Command};
+use std::{env, fs};
+
+fn main() {
+    println!("cargo:rerun-if-changed=build.rs");
+    println!("cargo:rerun-if-env-changed=KESVUOT_LIB_DIR");
+    let linked = match env::var_os("KESVUOT_LIB_DIR") {
+        Some(folder) => link_from(Path::new(&folder)),
+        None => link_by_pkg_config(),
+    };
+    if let Err(why) = linked {
+        eprintln!(
+            "{why}\nInstall libkesvuot, or set KESVUOT_LIB_DIR to the folder of libkesvuot.a."
+        );
+        process::exit(1);
+    }
+}
+
+/// Links the archive of a folder, or the shared library where there is no archive.
+fn link_from(folder: &Path) -> Result<(), String> {
+    // Cargo runs the linker in another folder.
+    let folder =
+        fs::canonicalize(folder).map_err(|error| format!("{}: {error}", folder.display()))?;
+    let archive = folder.join("libkesvuot.a");
+    let kind = if archive.exists() { "static" } else { "dylib" };
+    println!("cargo:rerun-if-changed={}", archive.display());
+    println!("cargo:rustc-link-search=native={}", folder.display());
+    println!("cargo:rustc-link-lib={kind}=kesvuot");
+    Ok(())
+}
+
+fn link_by_pkg_config() -> Result<(), String> {
+    for name in ["PKG_CONFIG", "PKG_CONFIG_PATH", "PKG_CONFIG_LIBDIR"] {
+        println!("cargo:rerun-if-env-changed={name}");
+    }
+    for word in libs_of_pkg_config()?.split_whitespace() {
+        if let Some(folder) = word.strip_prefix("-L") {
+            println!("cargo:rustc-link-search=native={folder}");
+        } else if let Some(library) = word.strip_prefix("-l") {
+            println!("cargo:rustc-link-lib={library}");
+        }
+    }
+    Ok(())
+}
+
+/// What a linker needs for the library, such as `-L/usr/local/lib -lkesvuot`.
+fn libs_of_pkg_config() -> Result<String, String> {
+    let program = env::var("PKG_CONFIG").unwrap_or_else(|_| "pkg-config".to_owned());
+    let output = Command::new(&program)
+        .args(["--libs", "kesvuot"])
+        .output()
+        .map_err(|error| format!("{program}: {error}"))?;
+    if !output.status.success() {
+        return Err(String::from_utf8_lossy(&output.stderr).into_owned());
+    }
+    String::from_utf8(output.stdout).map_err(|error| format!("{program}: {error}"))
+}

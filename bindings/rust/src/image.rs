@@ -1,0 +1,341 @@
+//! An image of an accepted file, and what is said of it once.
+
+use std::fmt;
+
+use crate::ffi::{self, Raw};
+use crate::parts::{Build, Command, Indirect, Library, Section, Segment, Symbol};
+use crate::rows::{Row, Rows};
+
+/// An image of an accepted file.
+///
+/// Fields that `<mach-o/loader.h>` and `<mach-o/nlist.h>` have are named and numbered as there.
+/// Offsets count from the start of the image, but [`place`](Image::place) and
+/// [`place_of`](Image::place_of) count from the start of the file. Names end before their zero
+/// byte.
+///
+/// Symbols and indirect entries are found by their index. Each of the other tables is read as a
+/// whole, in one walk over the load commands: collect its rows to use them more than once.
+#[derive(Clone, Copy)]
+pub struct Image<'a> {
+    raw: ffi::Image<'a>,
+}
+
+/// What is at an address.
+#[derive(Clone, Copy, PartialEq, Eq)]
+pub enum Source<'a> {
+    /// The bytes from the address to the end of what its segment has in the file. There is at least
+    /// one.
+    Bytes(&'a [u8]),
+    /// A segment has the address, but the file has no byte for it: a loader puts a zero there.
+    Zero,
+}
+
+impl fmt::Debug for Source<'_> {
+    fn fmt(&self, f: &mut fmt::Formatter<'_>) -> fmt::Result {
+        match self {
+            Source::Bytes(bytes) => write!(f, "Bytes({} bytes)", bytes.len()),
+            Source::Zero => f.write_str("Zero"),
+        }
+    }
+}
+
+/// Where the symbols and their names are. (`symtab_command`)
+#[derive(Clone, Copy, Debug, PartialEq, Eq)]
+#[non_exhaustive]
+pub struct Symtab {
+    /// Where the symbols begin.
+    pub symoff: u64,
+    /// How many symbols there are.
+    pub nsyms: u64,
+    /// Where the string table begins.
+    pub stroff: u64,
+    /// How many bytes the string table has.
+    pub strsize: u64,
+}
+
+/// The groups of symbols, and where the indirect entries are. (`dysymtab_command`)
+#[derive(Clone, Copy, Debug, PartialEq, Eq)]
+#[non_exhaustive]
+pub struct Dysymtab {
+    /// The index of the first local symbol.
+    pub ilocalsym: u32,
+    /// How many local symbols there are.
+    pub nlocalsym: u32,
+    /// The index of the first defined external symbol.
+    pub iextdefsym: u32,
+    /// How many defined external symbols there are.
+    pub nextdefsym: u32,
+    /// The index of the first undefined symbol.
+    pub iundefsym: u32,
+    /// How many undefined symbols there are.
+    pub nundefsym: u32,
+    /// Where the indirect entries begin.
+    pub indirectsymoff: u64,
+    /// How many indirect entries there are.
+    pub nindirectsyms: u64,
+}
+
+impl<'a> Image<'a> {
+    pub(crate) fn new(raw: ffi::Image<'a>) -> Self {
+        Image { raw }
+    }
+
+    /// The bytes of the image.
+    #[must_use]
+    pub fn bytes(&self) -> &'a [u8] {
+        self.raw.bytes.get()
+    }
+
+    /// Where the image begins in the file.
+    #[must_use]
+    pub fn place(&self) -> u64 {
+        self.raw.place
+    }
+
+    /// `cputype` of the header.
+    #[must_use]
+    pub fn cputype(&self) -> u32 {
+        self.raw.cputype
+    }
+
+    /// `cpusubtype` of the header, without the capability byte (`CPU_SUBTYPE_MASK`).
+    #[must_use]
+    pub fn cpusubtype(&self) -> u32 {
+        self.raw.cpusubtype
+    }
+
+    /// `filetype` of the header, such as `MH_EXECUTE`.
+    #[must_use]
+    pub fn filetype(&self) -> u32 {
+        self.raw.filetype
+    }
+
+    /// `flags` of the header.
+    #[must_use]
+    pub fn flags(&self) -> u32 {
+        self.raw.flags
+    }
+
+    /// The UUID of `LC_UUID`.
+    #[must_use]
+    pub fn uuid(&self) -> Option<[u8; 16]> {
+        self.has(ffi::HAS_UUID).then_some(self.raw.uuid)
+    }
+
+    /// The address of the header, before any slide.
+    #[must_use]
+    pub fn base(&self) -> Option<u64> {
+        self.has(ffi::HAS_BASE).then_some(self.raw.base)
+    }
+
+    /// The address that `LC_MAIN` names, before any slide.
+    #[must_use]
+    pub fn entry(&self) -> Option<u64> {
+        self.has(ffi::HAS_ENTRY).then_some(self.raw.entry)
+    }
+
+    /// The fields of `LC_SYMTAB`.
+    #[must_use]
+    pub fn symtab(&self) -> Option<Symtab> {
+        self.has(ffi::HAS_SYMTAB).then_some(Symtab {
+            symoff: self.raw.symbols,
+            nsyms: self.raw.symbol_count,
+            stroff: self.raw.strings,
+            strsize: self.raw.strings_size,
+        })
+    }
+
+    /// The fields of `LC_DYSYMTAB`.
+    #[must_use]
+    pub fn dysymtab(&self) -> Option<Dysymtab> {
+        let [ilocalsym, nlocalsym, iextdefsym, nextdefsym, iundefsym, nundefsym] = self.raw.groups;
+        self.has(ffi::HAS_DYSYMTAB).then_some(Dysymtab {
+            ilocalsym,
+            nlocalsym,
+            iextdefsym,
+            nextdefsym,
+            iundefsym,
+            nundefsym,
+            indirectsymoff: self.raw.indirects,
+            nindirectsyms: self.raw.indirect_count,
+        })
+    }
+
+    fn has(&self, part: u32) -> bool {
+        self.raw.has & part != 0
+    }
+
+    /// The segments, in command order.
+    #[must_use]
+    pub fn segments(&self) -> Rows<'a, Segment<'a>> {
+        Rows::new(self.raw, 0..self.raw.segment_count)
+    }
+
+    /// The sections of all segments, in command order.
+    ///
+    /// To look up many sections, collect them first:
+    ///
+    /// ```
+    /// # let path = concat!(env!("CARGO_MANIFEST_DIR"), "/../../tests/real/program");
+    /// # let file = std::fs::read(path)?;
+    /// # let image = kesvuot::verify(&file)?.image(0).unwrap();
+    /// let sections: Vec<_> = image.sections().collect();
+    /// for segment in image.segments() {
+    ///     for section in &sections[segment.section_range()] {
+    ///         assert_eq!(section.segment, segment.name);
+    ///     }
+    /// }
+    /// for symbol in image.symbols() {
+    ///     if let Some(index) = symbol.section_index() {
+    ///         println!("{symbol:?} is in {:?}", sections[index]);
+    ///     }
+    /// }
+    /// # Ok::<(), Box<dyn std::error::Error>>(())
+    /// ```
+    #[must_use]
+    pub fn sections(&self) -> Rows<'a, Section<'a>> {
+        Rows::new(self.raw, 0..self.raw.section_count)
+    }
+
+    /// The libraries that the image loads, in command order, and the one that it is.
+    #[must_use]
+    pub fn libraries(&self) -> Rows<'a, Library<'a>> {
+        Rows::new(self.raw, 0..self.raw.library_count)
+    }
+
+    /// Which platforms the image was built for, in command order.
+    #[must_use]
+    pub fn builds(&self) -> Rows<'a, Build> {
+        Rows::new(self.raw, 0..self.raw.build_count)
+    }
+
+    /// All load commands.
+    #[must_use]
+    pub fn commands(&self) -> Rows<'a, Command<'a>> {
+        Rows::new(self.raw, 0..self.raw.command_count)
+    }
+
+    /// All symbols, in the order of the table.
+    #[must_use]
+    pub fn symbols(&self) -> Rows<'a, Symbol<'a>> {
+        Rows::new(self.raw, 0..self.raw.symbol_count)
+    }
+
+    /// The local symbols. There are none without `LC_DYSYMTAB`.
+    #[must_use]
+    pub fn local_symbols(&self) -> Rows<'a, Symbol<'a>> {
+        self.symbol_group(0)
+    }
+
+    /// The defined external symbols. There are none without `LC_DYSYMTAB`.
+    #[must_use]
+    pub fn defined_symbols(&self) -> Rows<'a, Symbol<'a>> {
+        self.symbol_group(2)
+    }
+
+    /// The undefined symbols. There are none without `LC_DYSYMTAB`.
+    #[must_use]
+    pub fn undefined_symbols(&self) -> Rows<'a, Symbol<'a>> {
+        self.symbol_group(4)
+    }
+
+    /// The group whose first index is at this place of `groups`, and its count after it.
+    fn symbol_group(&self, at: usize) -> Rows<'a, Symbol<'a>> {
+        let first = u64::from(self.raw.groups[at]);
+        let count = u64::from(self.raw.groups[at + 1]);
+        Rows::new(self.raw, first..first + count)
+    }
+
+    /// The symbol with this index in the table.
+    #[must_use]
+    pub fn symbol(&self, index: u64) -> Option<Symbol<'a>> {
+        self.row(index)
+    }
+
+    /// The indirect entries, in the order of the table.
+    #[must_use]
+    pub fn indirects(&self) -> Rows<'a, Indirect> {
+        Rows::new(self.raw, 0..self.raw.indirect_count)
+    }
+
+    /// The indirect entry with this index in the table, such as `reserved1` of a section of stubs.
+    #[must_use]
+    pub fn indirect(&self, index: u64) -> Option<Indirect> {
+        self.row(index)
+    }
+
+    /// One row of a table that need not be walked.
+    fn row<T: Row<'a>>(&self, index: u64) -> Option<T> {
+        let mut row = [T::Raw::default()];
+        match T::Raw::fill(&self.raw, index, &mut row) {
+            0 => None,
+            _ => Some(T::new(row[0])),
+        }
+    }
+
+    /// The data of the first `linkedit_data_command` with this `cmd`, such as `LC_CODE_SIGNATURE`:
+    /// all `datasize` bytes from `dataoff` on. There is none where the image has no such command,
+    /// or `cmd` is of another structure.
+    #[must_use]
+    pub fn linkedit(&self, cmd: u32) -> Option<&'a [u8]> {
+        let (status, data) = ffi::linkedit(&self.raw, cmd);
+        (status == ffi::OK).then(|| data.get())
+    }
+
+    /// What is at an address, before any slide. There is nothing where no segment has the address.
+    ///
+    /// ```
+    /// # let path = concat!(env!("CARGO_MANIFEST_DIR"), "/../../tests/real/program");
+    /// # let file = std::fs::read(path)?;
+    /// # let image = kesvuot::verify(&file)?.image(0).unwrap();
+    /// use kesvuot::Source;
+    ///
+    /// assert!(matches!(image.at(0x1_0000_0440), Some(Source::Bytes([0x55, ..]))));
+    /// assert_eq!(image.at(0), Some(Source::Zero));
+    /// assert_eq!(image.at(u64::MAX), None);
+    /// # Ok::<(), Box<dyn std::error::Error>>(())
+    /// ```
+    #[must_use]
+    pub fn at(&self, address: u64) -> Option<Source<'a>> {
+        match ffi::at(&self.raw, address) {
+            (ffi::OK, bytes) => Some(Source::Bytes(bytes.get())),
+            (ffi::ZERO, _) => Some(Source::Zero),
+            _ => None,
+        }
+    }
+
+    /// Where bytes of this image begin in the file. Bytes from elsewhere have no place, and nor
+    /// have no bytes.
+    ///
+    /// ```
+    /// # let path = concat!(env!("CARGO_MANIFEST_DIR"), "/../../tests/real/library");
+    /// # let file = std::fs::read(path)?;
+    /// # let verified = kesvuot::verify(&file)?;
+    /// let image = verified.image(1).unwrap();
+    /// let text = image.segments().next().unwrap();
+    /// assert_eq!(image.place_of(text.bytes), Some(image.place() + text.fileoff));
+    /// assert_eq!(image.place_of(b"__TEXT"), None);
+    /// # Ok::<(), Box<dyn std::error::Error>>(())
+    /// ```
+    #[must_use]
+    pub fn place_of(&self, bytes: &[u8]) -> Option<u64> {
+        let image = self.bytes().as_ptr_range();
+        let bytes = bytes.as_ptr_range();
+        if bytes.is_empty() || bytes.start < image.start || bytes.end > image.end {
+            return None;
+        }
+        Some(self.raw.place + (bytes.start as u64 - image.start as u64))
+    }
+}
+
+impl fmt::Debug for Image<'_> {
+    fn fmt(&self, f: &mut fmt::Formatter<'_>) -> fmt::Result {
+        f.debug_struct("Image")
+            .field("place", &self.place())
+            .field("size", &self.bytes().len())
+            .field("cputype", &self.cputype())
+            .field("cpusubtype", &self.cpusubtype())
+            .field("filetype", &self.filetype())
+            .finish_non_exhaustive()
+    }
+}

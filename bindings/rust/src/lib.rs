@@ -1,0 +1,92 @@
+//! Judges the layout of Mach-O files, and reads the parts of an accepted file.
+//!
+//! The verdict and all that is read come from `libkesvuot`, whose calls are proved. After [`verify`]
+//! has accepted a file, there is no offset, count or index of it left to test: every part of an
+//! [`Image`] is there, in the bytes that you passed. Nothing is copied.
+//!
+//! ```
+//! # let path = concat!(env!("CARGO_MANIFEST_DIR"), "/../../tests/real/program");
+//! let file = std::fs::read(path)?;
+//! let verified = kesvuot::verify(&file)?;
+//! for image in verified.images() {
+//!     for segment in image.segments() {
+//!         println!("{} has {} bytes", segment.name.escape_ascii(), segment.bytes.len());
+//!     }
+//! }
+//! # assert_eq!(verified.images().map(|image| image.segments().len()).sum::<usize>(), 5);
+//! # Ok::<(), Box<dyn std::error::Error>>(())
+//! ```
+//!
+//! A file that is refused breaks a rule, at an offset:
+//!
+//! ```
+//! use kesvuot::{Error, Rule};
+//!
+//! let error = kesvuot::verify(b"no image").unwrap_err();
+//! assert_eq!(error, Error::Refused { rule: Rule::Magic, place: 0 });
+//! assert_eq!(error.to_string(), "refused: magic at 0x0");
+//! ```
+//!
+//! **The bytes must not change.** A `&[u8]` promises this, but one over a file that is mapped keeps
+//! the promise only where nobody else can write to the file or cut it. Read any other file into
+//! memory.
+//!
+//! The crate links `libkesvuot` from the folder `KESVUOT_LIB_DIR`, or else from where pkg-config
+//! finds it.
+
+#![deny(unsafe_code)]
+#![warn(missing_docs)]
+
+mod error;
+#[allow(unsafe_code)]
+mod ffi;
+mod image;
+mod parts;
+mod rows;
+mod rule;
+mod verified;
+
+pub use error::Error;
+pub use image::{Dysymtab, Image, Source, Symtab};
+pub use parts::{Build, Command, Indirect, Library, Section, Segment, Symbol};
+pub use rows::Rows;
+pub use rule::Rule;
+pub use verified::{Slice, Slices, Verified};
+
+/// Judges a file by the rules of the layout.
+///
+/// # Errors
+///
+/// The first broken rule, or that memory ran out.
+pub fn verify(file: &[u8]) -> Result<Verified<'_>, Error> {
+    Verified::new(file, ffi::verify(file))
+}
+
+/// Judges a file by the rules of the strict profile too: no byte that is not zero is unaccounted
+/// for, and none is used twice. Whatever is accepted here is accepted by [`verify`].
+///
+/// # Errors
+///
+/// The first broken rule, or that memory ran out.
+pub fn verify_strictly(file: &[u8]) -> Result<Verified<'_>, Error> {
+    Verified::new(file, ffi::verify_strictly(file))
+}
+
+/// The version of the library that is linked: major, minor and patch.
+#[must_use]
+pub fn version() -> (u32, u32, u32) {
+    let version = ffi::version();
+    (version >> 16, version >> 8 & 0xff, version & 0xff)
+}
+
+#[cfg(test)]
+mod tests {
+    #[test]
+    fn the_library_has_the_version_of_the_crate() {
+        let (major, minor, patch) = super::version();
+        assert_eq!(
+            format!("{major}.{minor}.{patch}"),
+            env!("CARGO_PKG_VERSION")
+        );
+    }
+}

@@ -1,0 +1,343 @@
+//! What the tables of an image have in their rows.
+
+use std::fmt;
+use std::ops::Range;
+
+use crate::ffi;
+use crate::rows::Row;
+
+/// A name as `Debug` shows it.
+struct Text<'a>(&'a [u8]);
+
+impl fmt::Debug for Text<'_> {
+    fn fmt(&self, f: &mut fmt::Formatter<'_>) -> fmt::Result {
+        write!(f, "\"{}\"", self.0.escape_ascii())
+    }
+}
+
+/// A segment: addresses, and bytes of the file. (`segment_command_64`)
+#[derive(Clone, Copy, PartialEq, Eq)]
+#[non_exhaustive]
+pub struct Segment<'a> {
+    /// The name of the segment, such as `__TEXT`.
+    pub name: &'a [u8],
+    /// All `filesize` bytes from `fileoff` on.
+    pub bytes: &'a [u8],
+    /// The first address, before any slide.
+    pub vmaddr: u64,
+    /// How many addresses the segment has.
+    pub vmsize: u64,
+    /// Where its bytes begin in the image.
+    pub fileoff: u64,
+    /// How many bytes it has in the file.
+    pub filesize: u64,
+    /// The index of its first section in [`Image::sections`](crate::Image::sections).
+    pub first_section: u32,
+    /// `nsects`: how many sections it has.
+    pub section_count: u32,
+    /// The protection that it may get: 1 to read, 2 to write, 4 to execute.
+    pub maxprot: u32,
+    /// The protection that it has at first.
+    pub initprot: u32,
+}
+
+impl Segment<'_> {
+    /// The indices of its sections in [`Image::sections`](crate::Image::sections).
+    #[must_use]
+    pub fn section_range(&self) -> Range<usize> {
+        let first = self.first_section as usize;
+        first..first + self.section_count as usize
+    }
+}
+
+impl fmt::Debug for Segment<'_> {
+    fn fmt(&self, f: &mut fmt::Formatter<'_>) -> fmt::Result {
+        f.debug_struct("Segment")
+            .field("name", &Text(self.name))
+            .field("vmaddr", &self.vmaddr)
+            .field("vmsize", &self.vmsize)
+            .field("fileoff", &self.fileoff)
+            .field("filesize", &self.filesize)
+            .finish_non_exhaustive()
+    }
+}
+
+impl<'a> Row<'a> for Segment<'a> {
+    type Raw = ffi::Segment<'a>;
+
+    fn new(raw: ffi::Segment<'a>) -> Self {
+        Segment {
+            name: raw.name.get(),
+            bytes: raw.bytes.get(),
+            vmaddr: raw.vmaddr,
+            vmsize: raw.vmsize,
+            fileoff: raw.fileoff,
+            filesize: raw.filesize,
+            first_section: raw.first_section,
+            section_count: raw.section_count,
+            maxprot: raw.maxprot,
+            initprot: raw.initprot,
+        }
+    }
+}
+
+/// A section of a segment. (`section_64`)
+#[derive(Clone, Copy, PartialEq, Eq)]
+#[non_exhaustive]
+pub struct Section<'a> {
+    /// The name of the section, such as `__text`.
+    pub name: &'a [u8],
+    /// The name of the segment that the section is in.
+    pub segment: &'a [u8],
+    /// All `size` bytes from `offset` on. There are none where a loader fills the section with
+    /// zeros.
+    pub bytes: Option<&'a [u8]>,
+    /// The first address, before any slide.
+    pub addr: u64,
+    /// How many addresses the section has.
+    pub size: u64,
+    /// Where its bytes begin in the image.
+    pub offset: u32,
+    /// Its alignment, as an exponent of 2.
+    pub align: u32,
+    /// Where its relocations begin in the image.
+    pub reloff: u32,
+    /// How many relocations it has.
+    pub nreloc: u32,
+    /// Its type, and its attributes.
+    pub flags: u32,
+    /// Of stubs and pointers: the index of the first indirect entry.
+    pub reserved1: u32,
+    /// Of stubs: how many bytes each has.
+    pub reserved2: u32,
+}
+
+impl fmt::Debug for Section<'_> {
+    fn fmt(&self, f: &mut fmt::Formatter<'_>) -> fmt::Result {
+        f.debug_struct("Section")
+            .field("segment", &Text(self.segment))
+            .field("name", &Text(self.name))
+            .field("addr", &self.addr)
+            .field("size", &self.size)
+            .field("offset", &self.offset)
+            .field("flags", &self.flags)
+            .finish_non_exhaustive()
+    }
+}
+
+impl<'a> Row<'a> for Section<'a> {
+    type Raw = ffi::Section<'a>;
+
+    fn new(raw: ffi::Section<'a>) -> Self {
+        Section {
+            name: raw.name.get(),
+            segment: raw.segment.get(),
+            bytes: (raw.zero_fill == 0).then(|| raw.bytes.get()),
+            addr: raw.addr,
+            size: raw.size,
+            offset: raw.offset,
+            align: raw.align,
+            reloff: raw.reloff,
+            nreloc: raw.nreloc,
+            flags: raw.flags,
+            reserved1: raw.reserved1,
+            reserved2: raw.reserved2,
+        }
+    }
+}
+
+/// A library that an image loads, or that it is. (`dylib_command`)
+#[derive(Clone, Copy, PartialEq, Eq)]
+#[non_exhaustive]
+pub struct Library<'a> {
+    /// The path of the library.
+    pub name: &'a [u8],
+    /// `LC_LOAD_DYLIB` or one of its kin; or `LC_ID_DYLIB`, with the name of the image itself.
+    pub cmd: u32,
+    /// The current version X.Y.Z: X << 16 | Y << 8 | Z.
+    pub current: u32,
+    /// The compatibility version, in the same form.
+    pub compatible: u32,
+}
+
+impl fmt::Debug for Library<'_> {
+    fn fmt(&self, f: &mut fmt::Formatter<'_>) -> fmt::Result {
+        f.debug_struct("Library")
+            .field("name", &Text(self.name))
+            .field("cmd", &self.cmd)
+            .field("current", &self.current)
+            .field("compatible", &self.compatible)
+            .finish_non_exhaustive()
+    }
+}
+
+impl<'a> Row<'a> for Library<'a> {
+    type Raw = ffi::Library<'a>;
+
+    fn new(raw: ffi::Library<'a>) -> Self {
+        Library {
+            name: raw.name.get(),
+            cmd: raw.cmd,
+            current: raw.current,
+            compatible: raw.compatible,
+        }
+    }
+}
+
+/// A platform that an image was built for. (`build_version_command`)
+#[derive(Clone, Copy, Debug, PartialEq, Eq)]
+#[non_exhaustive]
+pub struct Build {
+    /// The platform, such as `PLATFORM_MACOS`.
+    pub platform: u32,
+    /// The least version X.Y.Z of the platform: X << 16 | Y << 8 | Z.
+    pub minos: u32,
+    /// The version of the SDK, in the same form.
+    pub sdk: u32,
+}
+
+impl Row<'_> for Build {
+    type Raw = ffi::Build;
+
+    fn new(raw: ffi::Build) -> Self {
+        Build {
+            platform: raw.platform,
+            minos: raw.minos,
+            sdk: raw.sdk,
+        }
+    }
+}
+
+/// A load command. (`load_command`)
+///
+/// Of a command that `docs/RULES.md` does not list, all fields past `cmdsize` are unchecked.
+#[derive(Clone, Copy, PartialEq, Eq)]
+#[non_exhaustive]
+pub struct Command<'a> {
+    /// All `cmdsize` bytes.
+    pub bytes: &'a [u8],
+    /// The name in a command of a library, in `LC_RPATH`, `LC_LOAD_DYLINKER` and their kin. In all
+    /// others it is empty.
+    pub name: &'a [u8],
+    /// Where the command begins in the image.
+    pub place: u64,
+    /// The type of the command, such as `LC_SEGMENT_64`.
+    pub cmd: u32,
+}
+
+impl fmt::Debug for Command<'_> {
+    fn fmt(&self, f: &mut fmt::Formatter<'_>) -> fmt::Result {
+        f.debug_struct("Command")
+            .field("place", &self.place)
+            .field("cmd", &self.cmd)
+            .field("size", &self.bytes.len())
+            .field("name", &Text(self.name))
+            .finish_non_exhaustive()
+    }
+}
+
+impl<'a> Row<'a> for Command<'a> {
+    type Raw = ffi::Command<'a>;
+
+    fn new(raw: ffi::Command<'a>) -> Self {
+        Command {
+            bytes: raw.bytes.get(),
+            name: raw.name.get(),
+            place: raw.place,
+            cmd: raw.cmd,
+        }
+    }
+}
+
+/// How many symbols or indirect entries to ask for at once. Batches of any size cost the same.
+const BATCH: u64 = 256;
+
+/// A symbol. (`nlist_64`)
+#[derive(Clone, Copy, PartialEq, Eq)]
+#[non_exhaustive]
+pub struct Symbol<'a> {
+    /// The name of the symbol. There is none where `strx` is 0.
+    pub name: Option<&'a [u8]>,
+    /// `n_value`: the address of a symbol that is defined in a section, before any slide.
+    pub value: u64,
+    /// `n_strx`: where the name begins in the string table.
+    pub strx: u32,
+    /// `n_desc`
+    pub desc: u16,
+    /// `n_type`
+    pub kind: u8,
+    /// `n_sect`: the number of the section that defines it, from 1 on.
+    pub sect: u8,
+}
+
+impl Symbol<'_> {
+    /// The index in [`Image::sections`](crate::Image::sections) of the section that defines the
+    /// symbol. There is none where the symbol is defined elsewhere or nowhere, or is a debugging
+    /// entry.
+    #[must_use]
+    pub fn section_index(&self) -> Option<usize> {
+        const N_STAB: u8 = 0xe0;
+        const N_TYPE: u8 = 0x0e;
+        const N_SECT: u8 = 0x0e;
+        let is_defined = self.kind & N_STAB == 0 && self.kind & N_TYPE == N_SECT;
+        is_defined.then(|| usize::from(self.sect) - 1)
+    }
+}
+
+impl fmt::Debug for Symbol<'_> {
+    fn fmt(&self, f: &mut fmt::Formatter<'_>) -> fmt::Result {
+        f.debug_struct("Symbol")
+            .field("name", &self.name.map(Text))
+            .field("value", &self.value)
+            .field("kind", &self.kind)
+            .field("sect", &self.sect)
+            .field("desc", &self.desc)
+            .finish_non_exhaustive()
+    }
+}
+
+impl<'a> Row<'a> for Symbol<'a> {
+    type Raw = ffi::Symbol<'a>;
+
+    const BATCH: u64 = BATCH;
+
+    fn new(raw: ffi::Symbol<'a>) -> Self {
+        Symbol {
+            name: (raw.strx != 0).then(|| raw.name.get()),
+            value: raw.value,
+            strx: raw.strx,
+            desc: raw.desc,
+            kind: raw.r#type,
+            sect: raw.sect,
+        }
+    }
+}
+
+/// An indirect entry: which symbol a stub or a pointer is for.
+#[derive(Clone, Copy, Debug, PartialEq, Eq)]
+#[non_exhaustive]
+pub struct Indirect {
+    /// The index of a symbol, or `INDIRECT_SYMBOL_LOCAL` or `INDIRECT_SYMBOL_ABS` or both.
+    pub value: u32,
+}
+
+impl Indirect {
+    /// The index of the symbol. There is none where the entry is marked local or absolute.
+    #[must_use]
+    pub fn symbol_index(self) -> Option<u64> {
+        const INDIRECT_SYMBOL_LOCAL: u32 = 0x8000_0000;
+        const INDIRECT_SYMBOL_ABS: u32 = 0x4000_0000;
+        let is_marked = self.value & (INDIRECT_SYMBOL_LOCAL | INDIRECT_SYMBOL_ABS) != 0;
+        (!is_marked).then(|| u64::from(self.value))
+    }
+}
+
+impl Row<'_> for Indirect {
+    type Raw = u32;
+
+    const BATCH: u64 = BATCH;
+
+    fn new(value: u32) -> Self {
+        Indirect { value }
+    }
+}

@@ -1,0 +1,90 @@
+//! The rows of a table, asked for in batches.
+
+use std::iter::FusedIterator;
+use std::ops::Range;
+use std::{cmp, fmt, vec};
+
+use crate::ffi::{self, Raw};
+
+/// A row, made of what the library writes.
+pub trait Row<'a> {
+    type Raw: Raw<'a>;
+
+    /// How many rows to ask for at once. A call that walks over the load commands is asked once,
+    /// for all rows.
+    const BATCH: u64 = u64::MAX;
+
+    fn new(raw: Self::Raw) -> Self;
+}
+
+/// Rows of a table of an image, in the order of the table.
+#[derive(Clone)]
+pub struct Rows<'a, T> {
+    image: ffi::Image<'a>,
+    /// Rows that were asked for, and not handed out.
+    held: vec::IntoIter<T>,
+    /// The indices of the rows after them. The start is at most the end.
+    left: Range<u64>,
+}
+
+impl<'a, T: Row<'a>> Rows<'a, T> {
+    pub(crate) fn new(image: ffi::Image<'a>, left: Range<u64>) -> Self {
+        Rows {
+            image,
+            held: Vec::new().into_iter(),
+            left,
+        }
+    }
+
+    /// Asks for the next rows. All rows that were held have been handed out.
+    fn ask(&mut self) {
+        let count = cmp::min(self.left.end - self.left.start, T::BATCH);
+        let mut rows = vec![T::Raw::default(); to_usize(count)];
+        let written = T::Raw::fill(&self.image, self.left.start, &mut rows);
+        rows.truncate(written);
+        self.held = rows.into_iter().map(T::new).collect::<Vec<_>>().into_iter();
+        self.left.start += count;
+    }
+}
+
+/// A count of rows, which are in memory. So it is as it was.
+fn to_usize(count: u64) -> usize {
+    usize::try_from(count).unwrap_or(usize::MAX)
+}
+
+impl<'a, T: Row<'a>> Iterator for Rows<'a, T> {
+    type Item = T;
+
+    fn next(&mut self) -> Option<T> {
+        if self.held.len() == 0 && !self.left.is_empty() {
+            self.ask();
+        }
+        self.held.next()
+    }
+
+    fn size_hint(&self) -> (usize, Option<usize>) {
+        let count = self.held.len() + to_usize(self.left.end - self.left.start);
+        (count, Some(count))
+    }
+
+    /// Passes over rows without asking for them.
+    fn nth(&mut self, n: usize) -> Option<T> {
+        if n < self.held.len() {
+            return self.held.nth(n);
+        }
+        let past = (n - self.held.len()) as u64;
+        self.held = Vec::new().into_iter();
+        self.left.start = cmp::min(self.left.start.saturating_add(past), self.left.end);
+        self.next()
+    }
+}
+
+impl<'a, T: Row<'a>> ExactSizeIterator for Rows<'a, T> {}
+
+impl<'a, T: Row<'a>> FusedIterator for Rows<'a, T> {}
+
+impl<'a, T: Row<'a>> fmt::Debug for Rows<'a, T> {
+    fn fmt(&self, f: &mut fmt::Formatter<'_>) -> fmt::Result {
+        f.debug_struct("Rows").field("len", &self.len()).finish()
+    }
+}

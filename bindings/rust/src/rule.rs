@@ -1,0 +1,170 @@
+//! The rules, by their numbers in `kesvuot.h`.
+
+use std::{fmt, str};
+
+use crate::ffi;
+
+macro_rules! rules {
+    ($($(#[$doc:meta])* $name:ident = $number:literal,)*) => {
+        /// A rule of the layout, or of the strict profile. They are in the order of judgment.
+        ///
+        /// `docs/RULES.md` says when each is broken, what usually breaks it, and what to do.
+        #[derive(Clone, Copy, Debug, PartialEq, Eq, PartialOrd, Ord, Hash)]
+        #[non_exhaustive]
+        pub enum Rule {
+            $($(#[$doc])* $name,)*
+            /// A rule of a newer library, by its number in `kesvuot.h`.
+            Unknown(u32),
+        }
+
+        impl Rule {
+            /// The rules that this crate knows.
+            pub const ALL: &'static [Rule] = &[$(Rule::$name),*];
+
+            /// The number of the rule in `kesvuot.h`.
+            #[must_use]
+            pub fn number(self) -> u32 {
+                match self {
+                    $(Rule::$name => $number,)*
+                    Rule::Unknown(number) => number,
+                }
+            }
+
+            pub(crate) fn from_number(number: u32) -> Rule {
+                match number {
+                    $($number => Rule::$name,)*
+                    _ => Rule::Unknown(number),
+                }
+            }
+        }
+    };
+}
+
+rules! {
+    /// The file does not begin as a universal file, or as a 64-bit little-endian image.
+    Magic = 1,
+    /// The universal table ends past the file.
+    FatTruncated = 2,
+    /// A slice ends past the file.
+    FatSliceOutside = 3,
+    /// A slice begins in the universal table.
+    FatSliceInTable = 4,
+    /// 2^`align` does not divide the offset of a slice.
+    FatAlign = 5,
+    /// A slice shares a byte with an earlier one.
+    FatOverlap = 6,
+    /// A slice has the architecture of an earlier one.
+    FatDuplicate = 7,
+    /// A slice is no image.
+    FatSliceMagic = 8,
+    /// No slice is a 64-bit little-endian image.
+    FatEmpty = 9,
+    /// The image has fewer than 32 bytes.
+    HeaderTruncated = 10,
+    /// The image has another architecture than its entry in the universal table.
+    ArchMismatch = 11,
+    /// `filetype` is none of those that are judged.
+    FileType = 12,
+    /// The load commands end past the image.
+    CommandsOutside = 13,
+    /// A load command has an impossible `cmdsize`, or is missing.
+    CommandWalk = 14,
+    /// The `cmdsize` of a load command is less than its structure needs.
+    CommandShort = 15,
+    /// A load command stands twice that may stand once.
+    CommandRepeated = 16,
+    /// A library has no `LC_ID_DYLIB`, or an image of another kind has one.
+    DylibId = 17,
+    /// A name of a load command begins in its fields, or does not end in the command.
+    Name = 18,
+    /// The addresses of a segment pass 2^64.
+    SegmentAddress = 19,
+    /// A segment has more bytes in the file than addresses.
+    SegmentSize = 20,
+    /// The bytes of a segment end past the image.
+    SegmentFile = 21,
+    /// A segment shares an address with an earlier one.
+    SegmentOverlap = 22,
+    /// A section has addresses outside its segment.
+    SectionAddress = 23,
+    /// The bytes of a section are not those that its addresses have in the segment, or end past the
+    /// image.
+    SectionFile = 24,
+    /// The relocations of a section end past the image.
+    SectionRelocs = 25,
+    /// A table of a load command ends past the image.
+    TableRange = 26,
+    /// A group of `LC_DYSYMTAB` ends past the symbols.
+    SymbolGroup = 27,
+    /// The name of a symbol does not end in the string table.
+    SymbolName = 28,
+    /// A symbol is in a section that the image does not have.
+    SymbolSection = 29,
+    /// An indirect entry is the index of no symbol.
+    IndirectIndex = 30,
+    /// The entry is not at a byte of the file in an executable segment.
+    Entry = 31,
+    /// Strictly: a byte that is not zero is in no slice of a universal file, nor in its table.
+    FatStrayByte = 32,
+    /// Strictly: the last load command does not end where the header says.
+    CommandsEnd = 33,
+    /// Strictly: no segment has the header and the load commands.
+    HeaderSegment = 34,
+    /// Strictly: a segment shares a byte of the file with an earlier one.
+    SegmentFileOverlap = 35,
+    /// Strictly: a section or a table shares a byte with an earlier one, or with the headers.
+    ElementOverlap = 36,
+    /// Strictly: a byte that is not zero is in no segment.
+    StrayByte = 37,
+}
+
+impl Rule {
+    /// The name of the rule, such as `section-file`. It is empty where the library has no rule of
+    /// this number.
+    #[must_use]
+    pub fn name(self) -> &'static str {
+        str::from_utf8(ffi::rule(self.number()).get()).unwrap_or_default()
+    }
+}
+
+/// The name of the rule.
+impl fmt::Display for Rule {
+    fn fmt(&self, f: &mut fmt::Formatter<'_>) -> fmt::Result {
+        f.pad(self.name())
+    }
+}
+
+#[cfg(test)]
+mod tests {
+    use super::*;
+
+    #[test]
+    fn names_are_the_headings_of_the_document() {
+        let path = concat!(env!("CARGO_MANIFEST_DIR"), "/../../docs/RULES.md");
+        let document = std::fs::read_to_string(path).unwrap();
+        let headings = document
+            .lines()
+            .filter_map(|line| line.strip_prefix("### `")?.strip_suffix('`'));
+        let names = Rule::ALL.iter().map(|rule| rule.name());
+        assert_eq!(names.collect::<Vec<_>>(), headings.collect::<Vec<_>>());
+    }
+
+    #[test]
+    fn numbers_are_counted_from_one() {
+        for (number, &rule) in (1..).zip(Rule::ALL) {
+            assert_eq!((rule.number(), Rule::from_number(number)), (number, rule));
+        }
+        assert_eq!(Rule::ALL.len(), 37);
+    }
+
+    #[test]
+    fn a_number_without_a_rule_has_no_name() {
+        for number in [0, 38, u32::MAX] {
+            let rule = Rule::from_number(number);
+            assert_eq!(
+                (rule, rule.number(), rule.name()),
+                (Rule::Unknown(number), number, "")
+            );
+        }
+    }
+}

@@ -1,0 +1,169 @@
+//! Files that were accepted, and their slices.
+
+use std::fmt;
+use std::iter::FusedIterator;
+use std::ops::Range;
+
+use crate::{ffi, Error, Image, Rule};
+
+/// A file that was accepted. Only [`verify`](crate::verify) and
+/// [`verify_strictly`](crate::verify_strictly) make one.
+#[derive(Clone, Copy)]
+pub struct Verified<'a> {
+    bytes: &'a [u8],
+    slice_count: u64,
+}
+
+impl<'a> Verified<'a> {
+    pub(crate) fn new(
+        bytes: &'a [u8],
+        (status, verdict): (u32, ffi::Verdict),
+    ) -> Result<Self, Error> {
+        match status {
+            ffi::OK => Ok(Verified {
+                bytes,
+                slice_count: verdict.slices,
+            }),
+            ffi::REFUSED => Err(Error::Refused {
+                rule: Rule::from_number(verdict.rule),
+                place: verdict.place,
+            }),
+            _ => Err(Error::NoMemory),
+        }
+    }
+
+    /// The bytes of the file.
+    #[must_use]
+    pub fn bytes(&self) -> &'a [u8] {
+        self.bytes
+    }
+
+    /// How many slices the file has: 1 where it is not universal.
+    #[must_use]
+    pub fn slice_count(&self) -> u64 {
+        self.slice_count
+    }
+
+    /// The slice with this index, from 0 on, in the order of the universal table. It is found at
+    /// once, however many slices there are.
+    #[must_use]
+    pub fn slice(&self, index: u64) -> Option<Slice<'a>> {
+        let (status, raw) = ffi::image(self.bytes, index);
+        match status {
+            ffi::OK => Some(Slice { raw, is_read: true }),
+            ffi::UNREAD => Some(Slice {
+                raw,
+                is_read: false,
+            }),
+            _ => None,
+        }
+    }
+
+    /// All slices.
+    #[must_use]
+    pub fn slices(&self) -> Slices<'a> {
+        Slices {
+            file: *self,
+            left: 0..self.slice_count,
+        }
+    }
+
+    /// The image of the slice with this index. There is none where the slice is not read.
+    #[must_use]
+    pub fn image(&self, index: u64) -> Option<Image<'a>> {
+        self.slice(index)?.image()
+    }
+
+    /// The images of all slices that are read. There is at least one.
+    pub fn images(&self) -> impl Iterator<Item = Image<'a>> {
+        self.slices().filter_map(|slice| slice.image())
+    }
+}
+
+impl fmt::Debug for Verified<'_> {
+    fn fmt(&self, f: &mut fmt::Formatter<'_>) -> fmt::Result {
+        f.debug_struct("Verified")
+            .field("size", &self.bytes.len())
+            .field("slice_count", &self.slice_count)
+            .finish()
+    }
+}
+
+/// A slice of an accepted file.
+#[derive(Clone, Copy)]
+pub struct Slice<'a> {
+    raw: ffi::Image<'a>,
+    is_read: bool,
+}
+
+impl<'a> Slice<'a> {
+    /// The bytes of the slice.
+    #[must_use]
+    pub fn bytes(&self) -> &'a [u8] {
+        self.raw.bytes.get()
+    }
+
+    /// Where the slice begins in the file.
+    #[must_use]
+    pub fn place(&self) -> u64 {
+        self.raw.place
+    }
+
+    /// `cputype` of the image, or of the universal table where the slice is not read.
+    #[must_use]
+    pub fn cputype(&self) -> u32 {
+        self.raw.cputype
+    }
+
+    /// `cpusubtype` of the same, without the capability byte (`CPU_SUBTYPE_MASK`).
+    #[must_use]
+    pub fn cpusubtype(&self) -> u32 {
+        self.raw.cpusubtype
+    }
+
+    /// The image of the slice. There is none where the slice is of 32 bits or big-endian: what is
+    /// in it was not judged.
+    #[must_use]
+    pub fn image(&self) -> Option<Image<'a>> {
+        self.is_read.then(|| Image::new(self.raw))
+    }
+}
+
+impl fmt::Debug for Slice<'_> {
+    fn fmt(&self, f: &mut fmt::Formatter<'_>) -> fmt::Result {
+        f.debug_struct("Slice")
+            .field("place", &self.place())
+            .field("size", &self.bytes().len())
+            .field("cputype", &self.cputype())
+            .field("cpusubtype", &self.cpusubtype())
+            .field("is_read", &self.is_read)
+            .finish()
+    }
+}
+
+/// The slices of an accepted file, in the order of the universal table.
+#[derive(Clone, Debug)]
+pub struct Slices<'a> {
+    file: Verified<'a>,
+    left: Range<u64>,
+}
+
+impl<'a> Iterator for Slices<'a> {
+    type Item = Slice<'a>;
+
+    fn next(&mut self) -> Option<Slice<'a>> {
+        self.file.slice(self.left.next()?)
+    }
+
+    fn size_hint(&self) -> (usize, Option<usize>) {
+        self.left.size_hint()
+    }
+
+    fn nth(&mut self, n: usize) -> Option<Slice<'a>> {
+        self.file.slice(self.left.nth(n)?)
+    }
+}
+
+impl ExactSizeIterator for Slices<'_> {}
+
+impl FusedIterator for Slices<'_> {}
