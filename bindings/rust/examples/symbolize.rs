@@ -1,0 +1,156 @@
+//! Prints which symbol and section is at each address of an image: the first one of FILE that is
+//! read.
+//!
+//!     symbolize FILE ADDRESS..
+//!
+//! An address has up to 16 hexadecimal digits, with or without 0x. Its line is
+//!
+//!     0xADDRESS SYMBOL + 0xOFFSET (SEGMENT,SECTION)
+//!
+//! with the symbol of that section which is nearest before the address or at it. Of several it is
+//! the last one in the table. `0xADDRESS ? (SEGMENT,SECTION)` says that there is none, `0xADDRESS
+//! ?` that no section has the address.
+//!
+//!     cd bindings/rust
+//!     KESVUOT_LIB_DIR=../../build/lib cargo run --example symbolize FILE ADDRESS..
+//!
+//! The file may be from a stranger. The library judges it once. After that nothing here tests an
+//! offset, a count or an index of the file: a comment says which rule of docs/RULES.md makes that
+//! right.
+
+use std::error::Error;
+use std::io::{self, Write};
+use std::process::ExitCode;
+use std::{env, fmt, fs};
+
+use kesvuot::{Image, Section, Segment, Symbol};
+
+/// The tables of an image. Of the symbols these are the ones that name an address of a section,
+/// each after the index of the section, by section and address.
+struct Tables<'a> {
+    segments: Vec<Segment<'a>>,
+    sections: Vec<Section<'a>>,
+    symbols: Vec<(usize, Symbol<'a>)>,
+}
+
+impl<'a> Tables<'a> {
+    fn of(image: &Image<'a>) -> Self {
+        let in_sections = |symbol: Symbol<'a>| Some((symbol.section_index()?, symbol));
+        let mut symbols: Vec<_> = image.symbols().filter_map(in_sections).collect();
+        // Symbols at the same address keep the order of the table.
+        symbols.sort_by_key(|(index, symbol)| (*index, symbol.value));
+        Tables {
+            segments: image.segments().collect(),
+            sections: image.sections().collect(),
+            symbols,
+        }
+    }
+
+    /// The index of the section of an address. segment-overlap: at most one segment has the
+    /// address. section-address: no section of another segment has it.
+    fn section_at(&self, address: u64) -> Option<usize> {
+        let has_address = |segment: &&Segment| is_in(address, segment.vmaddr, segment.vmsize);
+        let segment = self.segments.iter().find(has_address)?;
+        // command-short: a segment has all sections that it counts.
+        segment.section_range().find(|&index| {
+            let section = &self.sections[index];
+            is_in(address, section.addr, section.size)
+        })
+    }
+
+    /// The last symbol of a section that is not past an address. symbol-section: each symbol is in
+    /// a section that exists.
+    fn symbol_at(&self, section: usize, address: u64) -> Option<&Symbol<'a>> {
+        let end = self
+            .symbols
+            .partition_point(|(index, symbol)| (*index, symbol.value) <= (section, address));
+        match self.symbols[..end].last() {
+            Some((index, symbol)) if *index == section => Some(symbol),
+            _ => None,
+        }
+    }
+
+    fn write_line(&self, out: &mut impl Write, address: u64) -> io::Result<()> {
+        let section = self.section_at(address);
+        write!(out, "{address:#x} ")?;
+        match section.and_then(|index| self.symbol_at(index, address)) {
+            // symbol-name: the whole name is in the string table.
+            Some(symbol) => {
+                let name = Name(symbol.name.unwrap_or_default());
+                write!(out, "{name} + {:#x}", address - symbol.value)?;
+            }
+            None => write!(out, "?")?,
+        }
+        if let Some(index) = section {
+            let section = &self.sections[index];
+            write!(out, " ({},{})", Name(section.segment), Name(section.name))?;
+        }
+        writeln!(out)
+    }
+}
+
+/// Whether an address is one of a range. segment-address and section-address: no range passes 2^64.
+fn is_in(address: u64, start: u64, size: u64) -> bool {
+    start <= address && address - start < size
+}
+
+/// A name, of which any byte but printable ASCII is written as a number.
+struct Name<'a>(&'a [u8]);
+
+impl fmt::Display for Name<'_> {
+    fn fmt(&self, f: &mut fmt::Formatter<'_>) -> fmt::Result {
+        for &byte in self.0 {
+            match byte {
+                b'\\' => f.write_str("\\x5c")?,
+                b' '..=b'~' => write!(f, "{}", char::from(byte))?,
+                _ => write!(f, "\\x{byte:02x}")?,
+            }
+        }
+        Ok(())
+    }
+}
+
+/// Reads an address. `from_str_radix` alone would take a sign as well.
+fn read_address(word: &str) -> Result<u64, String> {
+    let digits = word.strip_prefix("0x").unwrap_or(word);
+    if digits.starts_with('+') {
+        return Err(format!("{word} is not an address"));
+    }
+    u64::from_str_radix(digits, 16).map_err(|_| format!("{word} is not an address"))
+}
+
+fn print_lines(path: &str, words: &[String]) -> Result<(), Box<dyn Error>> {
+    let addresses: Vec<u64> = words
+        .iter()
+        .map(|word| read_address(word))
+        .collect::<Result<_, _>>()?;
+    let file = fs::read(path)?;
+    let verified = kesvuot::verify(&file)?;
+    // fat-empty: some slice is read.
+    let image = verified.images().next().ok_or("no slice is read")?;
+    let tables = Tables::of(&image);
+    let mut out = io::BufWriter::new(io::stdout().lock());
+    for address in addresses {
+        tables.write_line(&mut out, address)?;
+    }
+    Ok(out.flush()?)
+}
+
+fn main() -> ExitCode {
+    let words: Vec<String> = env::args().skip(1).collect();
+    let (path, addresses) = match words.split_first() {
+        Some((path, addresses)) if !addresses.is_empty() => (path, addresses),
+        _ => {
+            eprintln!("usage: symbolize FILE ADDRESS..");
+            return ExitCode::from(2);
+        }
+    };
+    match print_lines(path, addresses) {
+        Ok(()) => ExitCode::SUCCESS,
+        Err(error) => {
+            eprintln!("{path}: {error}");
+            let is_refused = matches!(error.downcast_ref(), Some(kesvuot::Error::Refused { .. }));
+            ExitCode::from(if is_refused { 1 } else { 2 })
+        }
+    }
+}
