@@ -1,0 +1,149 @@
+//! Whole files: the verdict, the layout, and each part of each image.
+//!
+//! The files of `tests/real` are always read. `tests/rust` makes others, of the vectors and reports
+//! of the repository, and runs the tests that are ignored otherwise. `KESVUOT_TRIALS` is their
+//! folder. In it are lists of files, a line each: what is wanted, a tab, and the path.
+
+mod layout;
+mod plain;
+
+use std::path::Path;
+use std::{env, fs};
+
+use kesvuot::{Error, Verified};
+
+/// What is wanted of each file of a list, and the file.
+fn trials(list: &str) -> Vec<(String, String)> {
+    let folder = env::var("KESVUOT_TRIALS").expect("KESVUOT_TRIALS is a folder");
+    let list = fs::read_to_string(Path::new(&folder).join(list)).unwrap();
+    let lines = list.lines().map(|line| line.split_once('\t').unwrap());
+    lines
+        .map(|(wanted, path)| (wanted.to_owned(), path.to_owned()))
+        .collect()
+}
+
+/// Compares the verdicts on the files of a list, and all that is read of those that are accepted.
+fn judge_all(list: &str, verify: fn(&[u8]) -> Result<Verified<'_>, Error>) {
+    let trials = trials(list);
+    let mut accepted = 0;
+    for (wanted, path) in &trials {
+        let file = fs::read(path).unwrap();
+        match verify(&file) {
+            Ok(verified) => {
+                assert_eq!(wanted, "accepted", "{path}");
+                verified.images().for_each(|image| plain::compare(&image));
+                accepted += 1;
+            }
+            Err(error) => assert_eq!(wanted, &error.to_string(), "{path}"),
+        }
+    }
+    assert!(0 < accepted && accepted < trials.len());
+}
+
+/// Compares the layout of a file with the one in another file.
+fn compare_layout(path: &str, wanted: &str) {
+    let file = fs::read(path).unwrap();
+    let verified = kesvuot::verify(&file).unwrap();
+    assert_eq!(
+        layout::of(&verified),
+        fs::read_to_string(wanted).unwrap(),
+        "{path}"
+    );
+    verified.images().for_each(|image| plain::compare(&image));
+}
+
+fn path_of_real(name: &str) -> String {
+    format!("{}/../../tests/real/{name}", env!("CARGO_MANIFEST_DIR"))
+}
+
+#[test]
+fn real_files() {
+    for name in ["program", "library"] {
+        let path = path_of_real(name);
+        compare_layout(&path, &format!("{path}.layout"));
+    }
+}
+
+/// An image of `LC_SEGMENT_64` with a section, `LC_SYMTAB` and `LC_DYSYMTAB`. Fields of the same
+/// structure have different numbers, as far as a rule allows.
+#[rustfmt::skip]
+const WORDS: [u32; 72] = [
+    0xfeed_facf, 0x0100_000c, 0x8000_0002, 2, 3, 256, 0x85, 4,
+    0x19, 152, 0x61, 0, 0, 0, 0x1000, 1, 0x130, 0, 0, 0, 288, 0, 7, 5, 1, 6,
+    0x62, 0, 0, 0, 0x63, 0, 0, 0, 0x1020, 1, 0x21, 0, 0x20, 3, 0x30, 2, 0x8000_0400, 4, 5, 6,
+    0x2, 24, 1001, 0, 1002, 0,
+    0xb, 80, 11, 0, 12, 0, 13, 0, 14, 0, 15, 0, 16, 0, 17, 0, 18, 0, 19, 0,
+];
+
+#[test]
+fn different_fields() {
+    let file: Vec<u8> = WORDS.iter().flat_map(|word| word.to_le_bytes()).collect();
+    let verified = kesvuot::verify(&file).unwrap();
+    plain::compare(&verified.image(0).unwrap());
+}
+
+#[test]
+fn slices() {
+    let file = fs::read(path_of_real("library")).unwrap();
+    let verified = kesvuot::verify(&file).unwrap();
+    assert_eq!((verified.bytes(), verified.slices().len()), (&file[..], 2));
+    let mut slices = verified.slices();
+    let second = slices.nth(1).unwrap();
+    assert!(slices.next().is_none());
+    // As `llvm-objdump --macho --universal-headers` prints them.
+    assert_eq!((second.place(), second.bytes().len()), (4240, 16768));
+    assert_eq!(second.bytes(), &file[4240..4240 + 16768]);
+    assert!(verified.slice(2).is_none() && verified.image(2).is_none());
+    let [first, second] = [0, 1].map(|index| verified.image(index).unwrap());
+    assert_eq!(first.place_of(second.bytes()), None);
+    assert_eq!(first.place_of(&file), None);
+    assert_eq!(first.place_of(&first.bytes()[1..1]), None);
+    let (start, end) = (0x30, 0x30 + 4184);
+    assert_eq!(first.place_of(&file[start..end]), Some(0x30));
+    assert_eq!(first.place_of(&file[start..=end]), None);
+    assert_eq!(first.place_of(&file[start - 1..end]), None);
+    assert_eq!(second.place_of(&second.bytes()[1..2]), Some(4241));
+}
+
+#[test]
+fn what_debug_shows() {
+    let file = fs::read(path_of_real("program")).unwrap();
+    let verified = kesvuot::verify(&file).unwrap();
+    let image = verified.image(0).unwrap();
+    // A part shows how long its bytes are, and not what they are.
+    let shown = [
+        format!("{verified:?}"),
+        format!("{:?}", image.segments().nth(1).unwrap()),
+        format!("{:?}", image.at(0x1_0000_0440).unwrap()),
+        format!("{:?}", image.symbols()),
+    ];
+    let wanted = [
+        "Verified { size: 12528, slice_count: 1 }",
+        "Segment { name: \"__TEXT\", vmaddr: 4294967296, vmsize: 4096, fileoff: 0, filesize: 4096, .. }",
+        "Bytes(3008 bytes)",
+        "Rows { len: 5 }",
+    ];
+    assert_eq!(shown, wanted);
+}
+
+#[test]
+#[ignore = "it needs KESVUOT_TRIALS"]
+fn vectors() {
+    judge_all("vectors", kesvuot::verify);
+}
+
+#[test]
+#[ignore = "it needs KESVUOT_TRIALS"]
+fn strict_vectors() {
+    judge_all("strict-vectors", kesvuot::verify_strictly);
+}
+
+#[test]
+#[ignore = "it needs KESVUOT_TRIALS"]
+fn reports() {
+    let trials = trials("reports");
+    assert!(!trials.is_empty());
+    for (layout, path) in &trials {
+        compare_layout(path, layout);
+    }
+}

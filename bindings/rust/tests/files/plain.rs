@@ -1,0 +1,350 @@
+//! The parts of an image, read from its bytes by the structures of `<mach-o/loader.h>` and
+//! `<mach-o/nlist.h>` alone, and compared with what the crate gives.
+
+use kesvuot::{Image, Source};
+
+const LC_SYMTAB: u32 = 0x2;
+const LC_DYSYMTAB: u32 = 0xb;
+const LC_SEGMENT_64: u32 = 0x19;
+const LC_UUID: u32 = 0x1b;
+const LC_BUILD_VERSION: u32 = 0x32;
+const LC_MAIN: u32 = 0x8000_0028;
+/// `dylib_command`: `LC_LOAD_DYLIB`, `LC_ID_DYLIB` and their kin.
+const LIBRARIES: [u32; 6] = [0xc, 0xd, 0x20, 0x8000_0018, 0x8000_001f, 0x8000_0023];
+/// Other commands with a name: `LC_LOAD_DYLINKER`, `LC_ID_DYLINKER`, `LC_DYLD_ENVIRONMENT`,
+/// `LC_RPATH`.
+const NAMED: [u32; 4] = [0xe, 0xf, 0x27, 0x8000_001c];
+/// `linkedit_data_command`: `LC_CODE_SIGNATURE` and its kin.
+const LINKEDIT: [u32; 8] = [0x1d, 0x1e, 0x26, 0x29, 0x2b, 0x2e, 0x8000_0033, 0x8000_0034];
+
+fn half(bytes: &[u8], at: usize) -> u16 {
+    u16::from_le_bytes(bytes[at..at + 2].try_into().unwrap())
+}
+
+fn word(bytes: &[u8], at: usize) -> u32 {
+    u32::from_le_bytes(bytes[at..at + 4].try_into().unwrap())
+}
+
+fn long(bytes: &[u8], at: usize) -> u64 {
+    u64::from_le_bytes(bytes[at..at + 8].try_into().unwrap())
+}
+
+/// The bytes up to the first zero byte, or all.
+fn text(bytes: &[u8]) -> &[u8] {
+    bytes.split(|&byte| byte == 0).next().unwrap()
+}
+
+/// `len` bytes from `start` on, of which the start does not count where there are none.
+fn part(bytes: &[u8], start: u64, len: u64) -> &[u8] {
+    if len == 0 {
+        return &[];
+    }
+    let start = usize::try_from(start).unwrap();
+    &bytes[start..start + usize::try_from(len).unwrap()]
+}
+
+/// A load command.
+struct Plain<'a> {
+    place: usize,
+    cmd: u32,
+    bytes: &'a [u8],
+}
+
+fn commands_of(image: &[u8]) -> Vec<Plain<'_>> {
+    let mut place = 32;
+    let mut commands = Vec::new();
+    for _ in 0..word(image, 16) {
+        let size = word(image, place + 4) as usize;
+        let bytes = &image[place..place + size];
+        let cmd = word(bytes, 0);
+        commands.push(Plain { place, cmd, bytes });
+        place += size;
+    }
+    commands
+}
+
+fn all_of<'p, 'a>(commands: &'p [Plain<'a>], cmd: u32) -> impl Iterator<Item = &'a [u8]> + 'p {
+    let has_cmd = move |command: &&Plain| command.cmd == cmd;
+    commands.iter().filter(has_cmd).map(|command| command.bytes)
+}
+
+fn first_of<'a>(commands: &[Plain<'a>], cmd: u32) -> Option<&'a [u8]> {
+    all_of(commands, cmd).next()
+}
+
+/// Compares all that the crate gives of an image.
+pub fn compare(image: &Image) {
+    let commands = commands_of(image.bytes());
+    compare_header(image, &commands);
+    compare_commands(image, &commands);
+    compare_libraries(image, &commands);
+    compare_segments(image, &commands);
+    compare_sections(image, &commands);
+    compare_symbols(image, &commands);
+    compare_groups(image, &commands);
+    compare_indirects(image, &commands);
+    compare_linkedit(image, &commands);
+    compare_addresses(image, &commands);
+}
+
+fn compare_header(image: &Image, commands: &[Plain]) {
+    let bytes = image.bytes();
+    assert_eq!(image.cputype(), word(bytes, 4));
+    assert_eq!(image.cpusubtype(), word(bytes, 8) & 0x00ff_ffff);
+    assert_eq!(image.filetype(), word(bytes, 12));
+    assert_eq!(image.flags(), word(bytes, 24));
+    let uuid = first_of(commands, LC_UUID).map(|command| command[8..24].try_into().unwrap());
+    assert_eq!(image.uuid(), uuid);
+    let base = all_of(commands, LC_SEGMENT_64)
+        .find(|segment| long(segment, 40) == 0 && long(segment, 48) > 0 && long(segment, 32) > 0)
+        .map(|segment| long(segment, 24));
+    assert_eq!(image.base(), base);
+    let entry = first_of(commands, LC_MAIN).map(|command| base.unwrap() + long(command, 8));
+    assert_eq!(image.entry(), entry);
+}
+
+fn compare_commands(image: &Image, commands: &[Plain]) {
+    let wanted = commands.iter().map(|command| {
+        let has_name = LIBRARIES.contains(&command.cmd) || NAMED.contains(&command.cmd);
+        let name = if has_name {
+            text(&command.bytes[word(command.bytes, 8) as usize..])
+        } else {
+            b""
+        };
+        (command.place as u64, command.cmd, command.bytes, name)
+    });
+    let found = image
+        .commands()
+        .map(|found| (found.place, found.cmd, found.bytes, found.name));
+    assert_eq!(found.collect::<Vec<_>>(), wanted.collect::<Vec<_>>());
+}
+
+fn compare_libraries(image: &Image, commands: &[Plain]) {
+    let libraries = commands
+        .iter()
+        .filter(|command| LIBRARIES.contains(&command.cmd));
+    let wanted = libraries.map(|Plain { cmd, bytes, .. }| {
+        let name = text(&bytes[word(bytes, 8) as usize..]);
+        (name, *cmd, word(bytes, 16), word(bytes, 20))
+    });
+    let found = image
+        .libraries()
+        .map(|found| (found.name, found.cmd, found.current, found.compatible));
+    assert_eq!(found.collect::<Vec<_>>(), wanted.collect::<Vec<_>>());
+
+    let builds = all_of(commands, LC_BUILD_VERSION);
+    let wanted = builds.map(|bytes| (word(bytes, 8), word(bytes, 12), word(bytes, 16)));
+    let found = image
+        .builds()
+        .map(|found| (found.platform, found.minos, found.sdk));
+    assert_eq!(found.collect::<Vec<_>>(), wanted.collect::<Vec<_>>());
+}
+
+fn compare_segments(image: &Image, commands: &[Plain]) {
+    let segments: Vec<_> = all_of(commands, LC_SEGMENT_64).collect();
+    let mut first_section = 0;
+    assert_eq!(image.segments().len(), segments.len());
+    for (found, bytes) in image.segments().zip(segments) {
+        let (fileoff, filesize) = (long(bytes, 40), long(bytes, 48));
+        assert_eq!(found.name, text(&bytes[8..24]));
+        assert_eq!(found.bytes, part(image.bytes(), fileoff, filesize));
+        assert_eq!(
+            (found.vmaddr, found.vmsize),
+            (long(bytes, 24), long(bytes, 32))
+        );
+        assert_eq!((found.fileoff, found.filesize), (fileoff, filesize));
+        assert_eq!(
+            (found.maxprot, found.initprot),
+            (word(bytes, 56), word(bytes, 60))
+        );
+        assert_eq!(
+            (found.first_section, found.section_count),
+            (first_section, word(bytes, 64))
+        );
+        first_section += found.section_count;
+        let place = (filesize > 0).then(|| image.place() + fileoff);
+        assert_eq!(image.place_of(found.bytes), place);
+    }
+}
+
+fn compare_sections(image: &Image, commands: &[Plain]) {
+    let sections: Vec<_> = all_of(commands, LC_SEGMENT_64)
+        .flat_map(|segment| {
+            segment[72..]
+                .chunks_exact(80)
+                .take(word(segment, 64) as usize)
+        })
+        .zip(segment_names(commands))
+        .collect();
+    assert_eq!(image.sections().len(), sections.len());
+    for (found, (bytes, segment)) in image.sections().zip(sections) {
+        let (size, offset, flags) = (long(bytes, 40), word(bytes, 48), word(bytes, 64));
+        let is_zero_fill = matches!(flags & 0xff, 0x1 | 0xc | 0x12);
+        let content = (!is_zero_fill).then(|| part(image.bytes(), offset.into(), size));
+        assert_eq!((found.name, found.segment), (text(&bytes[..16]), segment));
+        assert_eq!(found.bytes, content);
+        assert_eq!((found.addr, found.size), (long(bytes, 32), size));
+        assert_eq!((found.offset, found.align), (offset, word(bytes, 52)));
+        assert_eq!(
+            (found.reloff, found.nreloc),
+            (word(bytes, 56), word(bytes, 60))
+        );
+        assert_eq!((found.flags, found.reserved1), (flags, word(bytes, 68)));
+        assert_eq!(found.reserved2, word(bytes, 72));
+    }
+}
+
+/// For each section the name of its segment: that of the command, not that of the `section_64`.
+fn segment_names<'a>(commands: &[Plain<'a>]) -> Vec<&'a [u8]> {
+    let names = all_of(commands, LC_SEGMENT_64).flat_map(|segment| {
+        let count = word(segment, 64) as usize;
+        std::iter::repeat(text(&segment[8..24])).take(count)
+    });
+    names.collect()
+}
+
+fn compare_symbols(image: &Image, commands: &[Plain]) {
+    let symtab = first_of(commands, LC_SYMTAB);
+    let field = |at| symtab.map_or(0, |symtab| u64::from(word(symtab, at)));
+    let [symoff, nsyms, stroff, strsize] = [8, 12, 16, 20].map(field);
+    let found = image.symtab();
+    let found = found.map(|found| [found.symoff, found.nsyms, found.stroff, found.strsize]);
+    assert_eq!(found, symtab.map(|_| [symoff, nsyms, stroff, strsize]));
+    let symbols = part(image.bytes(), symoff, 16 * nsyms).chunks_exact(16);
+    assert_eq!(image.symbols().len(), symbols.len());
+    for (found, bytes) in image.symbols().zip(symbols) {
+        let strx = word(bytes, 0);
+        let name =
+            (strx != 0).then(|| text(&part(image.bytes(), stroff, strsize)[strx as usize..]));
+        assert_eq!((found.name, found.strx), (name, strx));
+        assert_eq!(
+            (found.kind, found.sect, found.desc),
+            (bytes[4], bytes[5], half(bytes, 6))
+        );
+        assert_eq!(found.value, long(bytes, 8));
+        // N_STAB, and N_SECT in N_TYPE
+        let is_in_section = bytes[4] & 0xe0 == 0 && bytes[4] & 0x0e == 0x0e;
+        let section = is_in_section.then(|| usize::from(bytes[5]) - 1);
+        assert_eq!(found.section_index(), section);
+    }
+    let last = nsyms.checked_sub(1);
+    assert_eq!(
+        last.and_then(|last| image.symbol(last)),
+        image.symbols().last()
+    );
+    assert_eq!(image.symbol(nsyms), None);
+}
+
+fn compare_groups(image: &Image, commands: &[Plain]) {
+    let dysymtab = first_of(commands, LC_DYSYMTAB);
+    let wanted = dysymtab.map(|dysymtab| {
+        let groups = [8, 12, 16, 20, 24, 28].map(|at| word(dysymtab, at));
+        (
+            groups,
+            u64::from(word(dysymtab, 56)),
+            u64::from(word(dysymtab, 60)),
+        )
+    });
+    let found = image.dysymtab().map(|found| {
+        let groups = [
+            found.ilocalsym,
+            found.nlocalsym,
+            found.iextdefsym,
+            found.nextdefsym,
+            found.iundefsym,
+            found.nundefsym,
+        ];
+        (groups, found.indirectsymoff, found.nindirectsyms)
+    });
+    assert_eq!(found, wanted);
+    let all: Vec<_> = image.symbols().collect();
+    let groups = [
+        image.local_symbols(),
+        image.defined_symbols(),
+        image.undefined_symbols(),
+    ];
+    for (group, at) in groups.into_iter().zip([8, 16, 24]) {
+        let (first, count) =
+            dysymtab.map_or((0, 0), |bytes| (word(bytes, at), word(bytes, at + 4)));
+        let wanted = if count == 0 {
+            &[]
+        } else {
+            &all[first as usize..][..count as usize]
+        };
+        assert_eq!(group.collect::<Vec<_>>(), wanted);
+    }
+}
+
+fn compare_indirects(image: &Image, commands: &[Plain]) {
+    let dysymtab = first_of(commands, LC_DYSYMTAB);
+    let [start, count] = [56, 60].map(|at| dysymtab.map_or(0, |bytes| u64::from(word(bytes, at))));
+    let values = part(image.bytes(), start, 4 * count)
+        .chunks_exact(4)
+        .map(|bytes| word(bytes, 0));
+    let found: Vec<_> = image.indirects().map(|found| found.value).collect();
+    assert_eq!(found, values.collect::<Vec<_>>());
+    for found in image.indirects() {
+        // INDIRECT_SYMBOL_LOCAL, INDIRECT_SYMBOL_ABS
+        let is_index = found.value >> 30 == 0;
+        let symbol = found.symbol_index();
+        assert_eq!(symbol, is_index.then(|| found.value.into()));
+        assert!(symbol.map_or(true, |index| image.symbol(index).is_some()));
+    }
+    assert_eq!(
+        image.indirect(0).map(|found| found.value),
+        found.first().copied()
+    );
+    assert_eq!(image.indirect(count), None);
+}
+
+fn compare_linkedit(image: &Image, commands: &[Plain]) {
+    for cmd in LINKEDIT {
+        let data = first_of(commands, cmd)
+            .map(|bytes| part(image.bytes(), word(bytes, 8).into(), word(bytes, 12).into()));
+        assert_eq!(image.linkedit(cmd), data);
+    }
+    for cmd in [
+        0,
+        LC_SYMTAB,
+        LC_SEGMENT_64,
+        LC_UUID,
+        LC_BUILD_VERSION,
+        LC_MAIN,
+        u32::MAX,
+    ] {
+        assert_eq!(image.linkedit(cmd), None);
+    }
+}
+
+fn compare_addresses(image: &Image, commands: &[Plain]) {
+    let segments: Vec<_> = all_of(commands, LC_SEGMENT_64).collect();
+    // Of many segments a few will do.
+    for bytes in segments.iter().step_by(1 + segments.len() / 8) {
+        let (vmaddr, vmsize, filesize) = (long(bytes, 24), long(bytes, 32), long(bytes, 48));
+        for start in [
+            vmaddr,
+            vmaddr.wrapping_add(filesize),
+            vmaddr.wrapping_add(vmsize),
+        ] {
+            for address in [start.wrapping_sub(1), start] {
+                assert_eq!(image.at(address), source(image.bytes(), &segments, address));
+            }
+        }
+    }
+}
+
+fn source<'a>(image: &'a [u8], segments: &[&[u8]], address: u64) -> Option<Source<'a>> {
+    let distance = |bytes: &[u8]| {
+        address
+            .checked_sub(long(bytes, 24))
+            .filter(|&past| past < long(bytes, 32))
+    };
+    let (bytes, past) = segments
+        .iter()
+        .find_map(|bytes| Some((bytes, distance(bytes)?)))?;
+    let file_part = part(image, long(bytes, 40), long(bytes, 48));
+    match file_part.get(usize::try_from(past).unwrap()..) {
+        None | Some([]) => Some(Source::Zero),
+        Some(rest) => Some(Source::Bytes(rest)),
+    }
+}
