@@ -94,10 +94,9 @@ static void free_tables(struct tables *tables) {
     free(tables->sorted);
 }
 
-// segment-address and section-address: no range passes 2^64, so of an address below the start the difference is too
-// great, although it wraps.
+// segment-address and section-address: no range passes 2^64.
 static bool is_in(uint64_t address, uint64_t start, uint64_t size) {
-    return address - start < size;
+    return start <= address && address - start < size;
 }
 
 // The section of an address, or NULL. segment-overlap: at most one segment has the address. section-address: no section
