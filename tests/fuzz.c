@@ -29,8 +29,15 @@ size_t LLVMFuzzerMutate(uint8_t *data, size_t size, size_t max_size);
 #define PAGE_SIZE ((size_t)1 << 12)
 
 // mach-o/loader.h and mach-o/nlist.h
+#define LC_SEGMENT_64 0x19u
 #define LC_CODE_SIGNATURE 0x1du
+#define LC_SEGMENT_SPLIT_INFO 0x1eu
 #define LC_FUNCTION_STARTS 0x26u
+#define LC_DATA_IN_CODE 0x29u
+#define LC_DYLIB_CODE_SIGN_DRS 0x2bu
+#define LC_LINKER_OPTIMIZATION_HINT 0x2eu
+#define LC_DYLD_EXPORTS_TRIE 0x80000033u
+#define LC_DYLD_CHAINED_FIXUPS 0x80000034u
 #define N_STAB 0xe0u
 #define N_TYPE 0x0eu
 #define N_SECT 0x0eu
@@ -268,12 +275,39 @@ static void check_builds(const struct rows *all) {
     }
 }
 
-static void check_linkedit(const struct kesvuot_image *image, uint32_t cmd) {
-    struct kesvuot_bytes data = {NULL, 1};
-    uint32_t status = kesvuot_linkedit(image, cmd, &data);
-    CHECK(status == KESVUOT_OK || (status == KESVUOT_NONE && is_empty(data)));
-    check_inside(image, data);
+// The commands that are a linkedit_data_command.
+static const uint32_t linkedit[] = {
+    LC_CODE_SIGNATURE,      LC_SEGMENT_SPLIT_INFO,       LC_FUNCTION_STARTS,   LC_DATA_IN_CODE,
+    LC_DYLIB_CODE_SIGN_DRS, LC_LINKER_OPTIMIZATION_HINT, LC_DYLD_EXPORTS_TRIE, LC_DYLD_CHAINED_FIXUPS,
+};
+enum { LINKEDIT_COUNT = sizeof linkedit / sizeof linkedit[0] };
+
+static uint32_t check_linkedit(const struct kesvuot_image *image, uint32_t cmd, struct kesvuot_bytes *data) {
+    *data = (struct kesvuot_bytes){NULL, 1};
+    uint32_t status = kesvuot_linkedit(image, cmd, data);
+    CHECK(status == KESVUOT_OK || (status == KESVUOT_NONE && is_empty(*data)));
+    check_inside(image, *data);
     reach(LINKEDIT, status);
+    return status;
+}
+
+// The data of an image that is accepted is what its first command of each kind names.
+static void check_linkedits(const struct kesvuot_image *image, const struct rows *commands) {
+    struct kesvuot_bytes data;
+    for (size_t k = 0; k < LINKEDIT_COUNT; k++) {
+        const struct kesvuot_command *row = commands->rows, *end = row + commands->count;
+        while (row < end && row->cmd != linkedit[k]) {
+            row++;
+        }
+        uint32_t status = check_linkedit(image, linkedit[k], &data);
+        CHECK((status == KESVUOT_OK) == (row < end));
+        if (row < end) {
+            uint32_t dataoff, datasize;
+            memcpy(&dataoff, row->bytes.at + 8, sizeof dataoff);
+            memcpy(&datasize, row->bytes.at + 12, sizeof datasize);
+            check_part(image, data, dataoff, datasize);
+        }
+    }
 }
 
 // The commands lie one after the other.
@@ -288,10 +322,6 @@ static void check_commands(const struct kesvuot_image *image, const struct rows 
         CHECK(row->place == place && row->bytes.len >= 8 && row->bytes.len % 8 == 0);
         CHECK(row->reserved == 0);
         place += row->bytes.len;
-        // One call a row goes over all rows.
-        if (k < 99) {
-            check_linkedit(image, row->cmd);
-        }
     }
 }
 
@@ -335,6 +365,7 @@ static void check_tables(const struct kesvuot_image *image, bool is_accepted) {
     if (is_accepted) {
         check_addresses(image, &all[SEGMENTS]);
         check_section_addresses(image, &all[SEGMENTS], &all[SECTIONS]);
+        check_linkedits(image, &all[COMMANDS]);
     }
     for (unsigned k = 0; k < TABLE_COUNT; k++) {
         free(all[k].rows);
@@ -352,6 +383,7 @@ static void check_at(const struct kesvuot_image *image, uint64_t address) {
 }
 
 static void check_any(const struct kesvuot_image *image, uint64_t first, size_t max) {
+    struct kesvuot_bytes data;
     for (unsigned k = 0; k < TABLE_COUNT; k++) {
         struct rows some = read_rows(&tables[k], image, first, max);
         switch (k) {
@@ -374,8 +406,8 @@ static void check_any(const struct kesvuot_image *image, uint64_t first, size_t 
     }
     check_at(image, first);
     check_at(image, image->base);
-    check_linkedit(image, LC_CODE_SIGNATURE);
-    check_linkedit(image, (uint32_t)first);
+    check_linkedit(image, LC_CODE_SIGNATURE, &data);
+    check_linkedit(image, (uint32_t)first, &data);
 }
 
 // The numbers of an image are set to bytes of the file, all or some.
@@ -404,8 +436,8 @@ static void check_image(const struct kesvuot_image *image, const uint8_t *file, 
     }
     check_at(image, image->base);
     check_at(image, UINT64_MAX);
-    check_linkedit(image, LC_CODE_SIGNATURE);
-    check_linkedit(image, LC_FUNCTION_STARTS);
+    // It is of another structure.
+    CHECK(check_linkedit(image, LC_SEGMENT_64, &bytes) == KESVUOT_NONE);
     check_lies(image, file, size);
 }
 
