@@ -135,12 +135,7 @@ struct rows {
 #define UNWRITTEN 0xa5
 
 static bool is_unwritten(const uint8_t *bytes, size_t size) {
-    for (size_t k = 0; k < size; k++) {
-        if (bytes[k] != UNWRITTEN) {
-            return false;
-        }
-    }
-    return true;
+    return bytes[0] == UNWRITTEN && memcmp(bytes, bytes + 1, size - 1) == 0;
 }
 
 // Reads at most so many rows from one on, into a block of two more.
