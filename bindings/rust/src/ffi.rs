@@ -7,7 +7,7 @@ use std::ffi::c_void;
 use std::marker::PhantomData;
 use std::{ptr, slice};
 
-/// What a call answers. Of those that are not here, each caller has one alone.
+/// What a call answers. `NO_MEMORY` and `NONE` are what is left.
 pub const OK: u32 = 0;
 pub const REFUSED: u32 = 1;
 pub const UNREAD: u32 = 4;
@@ -55,7 +55,7 @@ unsafe impl Send for Bytes<'_> {}
 // SAFETY: as above.
 unsafe impl Sync for Bytes<'_> {}
 
-/// Declares structures, and for the tests what C has to say of them.
+/// Declares structures, and lists for the tests how C has to lay them out.
 macro_rules! structures {
     ($($tag:ident = $name:ident $(<$life:lifetime>)? { $($field:ident: $type:ty,)* })*) => {
         $(
@@ -327,7 +327,7 @@ mod tests {
     use super::*;
     use crate::Rule;
 
-    /// The numbers of the header that this crate has.
+    /// The numbers of the header that this crate has, as conditions in C.
     fn numbers() -> Vec<String> {
         let rules = Rule::ALL.iter().map(|rule| {
             let name = rule.name().replace('-', "_").to_uppercase();
@@ -350,7 +350,7 @@ mod tests {
         rules.chain(others).collect()
     }
 
-    /// Has a C compiler look whether the conditions hold. Of those that do not it says so.
+    /// Whether conditions in C hold. The error names those that do not.
     fn hold(conditions: &[String]) -> Result<(), String> {
         let mut compiler = Command::new("cc")
             .args(["-std=c11", "-fsyntax-only", "-x", "c", "-"])

@@ -1,4 +1,4 @@
-//! An image of an accepted file, and what is said of it once.
+//! An image of an accepted file.
 
 use std::fmt;
 
@@ -8,10 +8,9 @@ use crate::rows::{Row, Rows};
 
 /// An image of an accepted file.
 ///
-/// Fields that `<mach-o/loader.h>` and `<mach-o/nlist.h>` have are named and numbered as there.
-/// Offsets count from the start of the image, but [`place`](Image::place) and
-/// [`place_of`](Image::place_of) count from the start of the file. Names end before their zero
-/// byte.
+/// `<mach-o/loader.h>` and `<mach-o/nlist.h>` explain the fields. Offsets count from the start of
+/// the image, but [`place`](Image::place) and [`place_of`](Image::place_of) count from the start of
+/// the file. A name ends before its zero byte.
 ///
 /// Symbols and indirect entries are found by their index. Each of the other tables is read as a
 /// whole, in one walk over the load commands: collect its rows to use them more than once.
@@ -116,25 +115,25 @@ impl<'a> Image<'a> {
         self.raw.flags
     }
 
-    /// The UUID of `LC_UUID`.
+    /// The UUID of `LC_UUID`, if there is one.
     #[must_use]
     pub fn uuid(&self) -> Option<[u8; 16]> {
         self.has(ffi::HAS_UUID).then_some(self.raw.uuid)
     }
 
-    /// The address of the header, before any slide.
+    /// The address of the header, before any slide. `None` if no mapped segment has the header.
     #[must_use]
     pub fn base(&self) -> Option<u64> {
         self.has(ffi::HAS_BASE).then_some(self.raw.base)
     }
 
-    /// The address that `LC_MAIN` names, before any slide.
+    /// The address that `LC_MAIN` names, before any slide. `None` without `LC_MAIN`.
     #[must_use]
     pub fn entry(&self) -> Option<u64> {
         self.has(ffi::HAS_ENTRY).then_some(self.raw.entry)
     }
 
-    /// The fields of `LC_SYMTAB`.
+    /// The fields of `LC_SYMTAB`, if there is one.
     #[must_use]
     pub fn symtab(&self) -> Option<Symtab> {
         self.has(ffi::HAS_SYMTAB).then_some(Symtab {
@@ -145,7 +144,7 @@ impl<'a> Image<'a> {
         })
     }
 
-    /// The fields of `LC_DYSYMTAB`.
+    /// The fields of `LC_DYSYMTAB`, if there is one.
     #[must_use]
     pub fn dysymtab(&self) -> Option<Dysymtab> {
         let [ilocalsym, nlocalsym, iextdefsym, nextdefsym, iundefsym, nundefsym] = self.raw.groups;
@@ -197,13 +196,13 @@ impl<'a> Image<'a> {
         Rows::new(self.raw, 0..self.raw.section_count)
     }
 
-    /// The libraries that the image loads, in command order, and the one that it is.
+    /// The libraries that the image loads, in command order, and the library that it is.
     #[must_use]
     pub fn libraries(&self) -> Rows<'a, Library<'a>> {
         Rows::new(self.raw, 0..self.raw.library_count)
     }
 
-    /// Which platforms the image was built for, in command order.
+    /// The platforms that the image was built for, in command order.
     #[must_use]
     pub fn builds(&self) -> Rows<'a, Build> {
         Rows::new(self.raw, 0..self.raw.build_count)
@@ -239,14 +238,14 @@ impl<'a> Image<'a> {
         self.symbol_group(4)
     }
 
-    /// The group whose first index is at this place of `groups`, and its count after it.
+    /// The group whose first index is here in `groups`, and its count after it.
     fn symbol_group(&self, at: usize) -> Rows<'a, Symbol<'a>> {
         let first = u64::from(self.raw.groups[at]);
         let count = u64::from(self.raw.groups[at + 1]);
         Rows::new(self.raw, first..first + count)
     }
 
-    /// The symbol with this index in the table.
+    /// The symbol with this index in the table. `None` past the last one.
     #[must_use]
     pub fn symbol(&self, index: u64) -> Option<Symbol<'a>> {
         self.row(index)
@@ -259,12 +258,13 @@ impl<'a> Image<'a> {
     }
 
     /// The indirect entry with this index in the table, such as `reserved1` of a section of stubs.
+    /// `None` past the last one.
     #[must_use]
     pub fn indirect(&self, index: u64) -> Option<Indirect> {
         self.row(index)
     }
 
-    /// One row of a table that need not be walked.
+    /// One row of a table whose rows are found by their index.
     fn row<T: Row<'a>>(&self, index: u64) -> Option<T> {
         let mut row = [T::Raw::default()];
         match T::Raw::fill(&self.raw, index, &mut row) {
@@ -274,15 +274,15 @@ impl<'a> Image<'a> {
     }
 
     /// The data of the first `linkedit_data_command` with this `cmd`, such as `LC_CODE_SIGNATURE`:
-    /// all `datasize` bytes from `dataoff` on. There is none where the image has no such command,
-    /// or `cmd` is of another structure.
+    /// all `datasize` bytes from `dataoff` on. `None` if the image has no such command, or `cmd` is
+    /// of another structure.
     #[must_use]
     pub fn linkedit(&self, cmd: u32) -> Option<&'a [u8]> {
         let (status, data) = ffi::linkedit(&self.raw, cmd);
         (status == ffi::OK).then(|| data.get())
     }
 
-    /// What is at an address, before any slide. There is nothing where no segment has the address.
+    /// What is at an address, before any slide. `None` if no segment has the address.
     ///
     /// ```
     /// # let path = concat!(env!("CARGO_MANIFEST_DIR"), "/../../tests/real/program");
@@ -304,8 +304,7 @@ impl<'a> Image<'a> {
         }
     }
 
-    /// Where bytes of this image begin in the file. Bytes from elsewhere have no place, and nor
-    /// have no bytes.
+    /// Where bytes of this image begin in the file. `None` if they are from elsewhere, or empty.
     ///
     /// ```
     /// # let path = concat!(env!("CARGO_MANIFEST_DIR"), "/../../tests/real/library");

@@ -1,8 +1,8 @@
 //! Judges the layout of Mach-O files, and reads the parts of an accepted file.
 //!
-//! The verdict and all that is read come from `libkesvuot`, whose calls are proved. After [`verify`]
-//! has accepted a file, there is no offset, count or index of it left to test: every part of an
-//! [`Image`] is there, in the bytes that you passed. Nothing is copied.
+//! The verdict and all that is read come from `libkesvuot`, whose calls are proved. After
+//! [`verify`] has accepted a file, there is no offset, count or index of it left to test: every
+//! part of an [`Image`] is there, in the bytes that you passed. Nothing is copied.
 //!
 //! ```
 //! # let path = concat!(env!("CARGO_MANIFEST_DIR"), "/../../tests/real/program");

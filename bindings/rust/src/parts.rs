@@ -1,4 +1,4 @@
-//! What the tables of an image have in their rows.
+//! What an image has in its tables: segments, sections and so on.
 
 use std::fmt;
 use std::ops::Range;
@@ -89,8 +89,7 @@ pub struct Section<'a> {
     pub name: &'a [u8],
     /// The name of the segment that the section is in.
     pub segment: &'a [u8],
-    /// All `size` bytes from `offset` on. There are none where a loader fills the section with
-    /// zeros.
+    /// All `size` bytes from `offset` on. `None` if a loader fills the section with zeros.
     pub bytes: Option<&'a [u8]>,
     /// The first address, before any slide.
     pub addr: u64,
@@ -256,7 +255,7 @@ const BATCH: u64 = 256;
 #[derive(Clone, Copy, PartialEq, Eq)]
 #[non_exhaustive]
 pub struct Symbol<'a> {
-    /// The name of the symbol. There is none where `strx` is 0.
+    /// The name of the symbol. `None` if `strx` is 0.
     pub name: Option<&'a [u8]>,
     /// `n_value`: the address of a symbol that is defined in a section, before any slide.
     pub value: u64,
@@ -272,14 +271,14 @@ pub struct Symbol<'a> {
 
 impl Symbol<'_> {
     /// The index in [`Image::sections`](crate::Image::sections) of the section that defines the
-    /// symbol. There is none where the symbol is defined elsewhere or nowhere, or is a debugging
-    /// entry.
+    /// symbol. `None` if the symbol is defined elsewhere or nowhere, or is a debugging entry.
     #[must_use]
     pub fn section_index(&self) -> Option<usize> {
         const N_STAB: u8 = 0xe0;
         const N_TYPE: u8 = 0x0e;
         const N_SECT: u8 = 0x0e;
         let is_defined = self.kind & N_STAB == 0 && self.kind & N_TYPE == N_SECT;
+        // symbol-section: the number is not 0.
         is_defined.then(|| usize::from(self.sect) - 1)
     }
 }
@@ -322,7 +321,7 @@ pub struct Indirect {
 }
 
 impl Indirect {
-    /// The index of the symbol. There is none where the entry is marked local or absolute.
+    /// The index of the symbol. `None` if the entry is marked local or absolute.
     #[must_use]
     pub fn symbol_index(self) -> Option<u64> {
         const INDIRECT_SYMBOL_LOCAL: u32 = 0x8000_0000;

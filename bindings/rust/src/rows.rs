@@ -1,4 +1,4 @@
-//! The rows of a table, asked for in batches.
+//! The rows of a table, which the library is asked for in batches.
 
 use std::iter::FusedIterator;
 use std::ops::Range;
@@ -6,7 +6,7 @@ use std::{cmp, fmt, vec};
 
 use crate::ffi::{self, Raw};
 
-/// A row, made of what the library writes.
+/// A row, which is made of what the library writes.
 pub trait Row<'a> {
     type Raw: Raw<'a>;
 
@@ -47,7 +47,7 @@ impl<'a, T: Row<'a>> Rows<'a, T> {
     }
 }
 
-/// A count of rows, which are in memory. So it is as it was.
+/// The library is for 64-bit machines, so no count is cut.
 fn to_usize(count: u64) -> usize {
     usize::try_from(count).unwrap_or(usize::MAX)
 }
@@ -86,5 +86,77 @@ impl<'a, T: Row<'a>> FusedIterator for Rows<'a, T> {}
 impl<'a, T: Row<'a>> fmt::Debug for Rows<'a, T> {
     fn fmt(&self, f: &mut fmt::Formatter<'_>) -> fmt::Result {
         f.debug_struct("Rows").field("len", &self.len()).finish()
+    }
+}
+
+#[cfg(test)]
+mod tests {
+    use std::cell::RefCell;
+
+    use super::*;
+    use crate::{Build, Command, Indirect, Library, Section, Segment, Symbol};
+
+    thread_local! {
+        /// Each call of the library: the first row, and for how many rows it has room.
+        static CALLS: RefCell<Vec<(u64, usize)>> = const { RefCell::new(Vec::new()) };
+    }
+
+    #[derive(Clone, Copy, Default)]
+    struct Noted;
+
+    impl Raw<'_> for Noted {
+        fn fill(_: &ffi::Image<'_>, first: u64, rows: &mut [Self]) -> usize {
+            CALLS.with(|calls| calls.borrow_mut().push((first, rows.len())));
+            rows.len()
+        }
+    }
+
+    /// A row that is asked for as a symbol is.
+    struct Indexed;
+
+    impl Row<'_> for Indexed {
+        type Raw = Noted;
+
+        const BATCH: u64 = Symbol::BATCH;
+
+        fn new(_: Noted) -> Self {
+            Indexed
+        }
+    }
+
+    /// A row that is asked for as a segment is.
+    struct Walked;
+
+    impl Row<'_> for Walked {
+        type Raw = Noted;
+
+        const BATCH: u64 = Segment::BATCH;
+
+        fn new(_: Noted) -> Self {
+            Walked
+        }
+    }
+
+    /// The calls for all rows of a range.
+    fn calls<T: for<'a> Row<'a>>(left: Range<u64>) -> Vec<(u64, usize)> {
+        CALLS.with(|calls| calls.borrow_mut().clear());
+        Rows::<T>::new(ffi::Image::default(), left).for_each(drop);
+        CALLS.with(|calls| calls.borrow().clone())
+    }
+
+    #[test]
+    fn rows_that_are_found_by_their_index_come_in_batches() {
+        assert_eq!(calls::<Indexed>(0..0), []);
+        assert_eq!(calls::<Indexed>(0..600), [(0, 256), (256, 256), (512, 88)]);
+        assert_eq!(calls::<Indexed>(100..356), [(100, 256)]);
+        assert_eq!(Symbol::BATCH, Indirect::BATCH);
+    }
+
+    #[test]
+    fn rows_of_a_walk_come_at_once() {
+        assert_eq!(calls::<Walked>(0..0), []);
+        assert_eq!(calls::<Walked>(0..100_000), [(0, 100_000)]);
+        let others = [Section::BATCH, Library::BATCH, Build::BATCH, Command::BATCH];
+        assert_eq!(others, [Segment::BATCH; 4]);
     }
 }

@@ -38,14 +38,14 @@ impl<'a> Verified<'a> {
         self.bytes
     }
 
-    /// How many slices the file has: 1 where it is not universal.
+    /// How many slices the file has: 1 if it is not universal.
     #[must_use]
     pub fn slice_count(&self) -> u64 {
         self.slice_count
     }
 
-    /// The slice with this index, from 0 on, in the order of the universal table. It is found at
-    /// once, however many slices there are.
+    /// The slice with this index, from 0 on, in the order of the universal table. `None` past the
+    /// last one. It takes as long however many slices there are.
     #[must_use]
     pub fn slice(&self, index: u64) -> Option<Slice<'a>> {
         let (status, raw) = ffi::image(self.bytes, index);
@@ -68,7 +68,8 @@ impl<'a> Verified<'a> {
         }
     }
 
-    /// The image of the slice with this index. There is none where the slice is not read.
+    /// The image of the slice with this index. `None` past the last one, and if the slice is not
+    /// read.
     #[must_use]
     pub fn image(&self, index: u64) -> Option<Image<'a>> {
         self.slice(index)?.image()
@@ -109,7 +110,7 @@ impl<'a> Slice<'a> {
         self.raw.place
     }
 
-    /// `cputype` of the image, or of the universal table where the slice is not read.
+    /// `cputype` of the image, or of the universal table if the slice is not read.
     #[must_use]
     pub fn cputype(&self) -> u32 {
         self.raw.cputype
@@ -121,8 +122,8 @@ impl<'a> Slice<'a> {
         self.raw.cpusubtype
     }
 
-    /// The image of the slice. There is none where the slice is of 32 bits or big-endian: what is
-    /// in it was not judged.
+    /// The image of the slice. `None` if the slice is of 32 bits or big-endian: what is in it was
+    /// not judged.
     #[must_use]
     pub fn image(&self) -> Option<Image<'a>> {
         self.is_read.then(|| Image::new(self.raw))
