@@ -8,7 +8,7 @@ mod layout;
 mod plain;
 
 use std::path::Path;
-use std::{env, fs};
+use std::{env, fs, thread};
 
 use kesvuot::{Error, Verified};
 
@@ -22,19 +22,31 @@ fn trials(list: &str) -> Vec<(String, String)> {
         .collect()
 }
 
+/// Names the file that a test is at when it fails.
+struct At<'a>(&'a str);
+
+impl Drop for At<'_> {
+    fn drop(&mut self) {
+        if thread::panicking() {
+            eprintln!("this is {}", self.0);
+        }
+    }
+}
+
 /// Compares the verdicts on the files of a list, and all that is read of those that are accepted.
 fn judge_all(list: &str, verify: fn(&[u8]) -> Result<Verified<'_>, Error>) {
     let trials = trials(list);
     let mut accepted = 0;
     for (wanted, path) in &trials {
+        let _at = At(path);
         let file = fs::read(path).unwrap();
         match verify(&file) {
             Ok(verified) => {
-                assert_eq!(wanted, "accepted", "{path}");
+                assert_eq!(wanted, "accepted");
                 verified.images().for_each(|image| plain::compare(&image));
                 accepted += 1;
             }
-            Err(error) => assert_eq!(wanted, &error.to_string(), "{path}"),
+            Err(error) => assert_eq!(wanted, &error.to_string()),
         }
     }
     assert!(0 < accepted && accepted < trials.len());
@@ -42,13 +54,10 @@ fn judge_all(list: &str, verify: fn(&[u8]) -> Result<Verified<'_>, Error>) {
 
 /// Compares the layout of a file with the one in another file.
 fn compare_layout(path: &str, wanted: &str) {
+    let _at = At(path);
     let file = fs::read(path).unwrap();
     let verified = kesvuot::verify(&file).unwrap();
-    assert_eq!(
-        layout::of(&verified),
-        fs::read_to_string(wanted).unwrap(),
-        "{path}"
-    );
+    assert_eq!(layout::of(&verified), fs::read_to_string(wanted).unwrap());
     verified.images().for_each(|image| plain::compare(&image));
 }
 
