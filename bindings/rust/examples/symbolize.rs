@@ -113,44 +113,46 @@ impl fmt::Display for Name<'_> {
 /// Reads an address. `from_str_radix` alone would take a sign as well.
 fn read_address(word: &str) -> Result<u64, String> {
     let digits = word.strip_prefix("0x").unwrap_or(word);
-    if digits.starts_with('+') {
-        return Err(format!("{word} is not an address"));
+    match u64::from_str_radix(digits, 16) {
+        Ok(address) if !digits.starts_with('+') => Ok(address),
+        _ => Err(format!("{word}: not an address")),
     }
-    u64::from_str_radix(digits, 16).map_err(|_| format!("{word} is not an address"))
 }
 
-fn print_lines(path: &str, words: &[String]) -> Result<(), Box<dyn Error>> {
-    let addresses: Vec<u64> = words
-        .iter()
-        .map(|word| read_address(word))
-        .collect::<Result<_, _>>()?;
+fn print_lines(path: &str, addresses: &[u64]) -> Result<(), Box<dyn Error>> {
     let file = fs::read(path)?;
     let verified = kesvuot::verify(&file)?;
     // fat-empty: some slice is read.
     let image = verified.images().next().ok_or("no slice is read")?;
     let tables = Tables::of(&image);
     let mut out = io::BufWriter::new(io::stdout().lock());
-    for address in addresses {
+    for &address in addresses {
         tables.write_line(&mut out, address)?;
     }
     Ok(out.flush()?)
 }
 
+/// Says why nothing is printed.
+fn fail(status: u8, why: &str) -> ExitCode {
+    eprintln!("{why}");
+    ExitCode::from(status)
+}
+
 fn main() -> ExitCode {
     let words: Vec<String> = env::args().skip(1).collect();
-    let (path, addresses) = match words.split_first() {
-        Some((path, addresses)) if !addresses.is_empty() => (path, addresses),
-        _ => {
-            eprintln!("usage: symbolize FILE ADDRESS..");
-            return ExitCode::from(2);
-        }
+    let (path, words) = match words.split_first() {
+        Some((path, words)) if !words.is_empty() => (path, words),
+        _ => return fail(2, "usage: symbolize FILE ADDRESS.."),
     };
-    match print_lines(path, addresses) {
+    let addresses: Vec<u64> = match words.iter().map(|word| read_address(word)).collect() {
+        Ok(addresses) => addresses,
+        Err(why) => return fail(2, &why),
+    };
+    match print_lines(path, &addresses) {
         Ok(()) => ExitCode::SUCCESS,
         Err(error) => {
-            eprintln!("{path}: {error}");
             let is_refused = matches!(error.downcast_ref(), Some(kesvuot::Error::Refused { .. }));
-            ExitCode::from(if is_refused { 1 } else { 2 })
+            fail(if is_refused { 1 } else { 2 }, &format!("{path}: {error}"))
         }
     }
 }
