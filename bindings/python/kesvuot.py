@@ -1,0 +1,684 @@
+"""Judges the layout of Mach-O files, and reads the files that it accepts. A binding of libkesvuot.
+
+    import kesvuot
+
+    try:
+        file = kesvuot.verify(data)
+    except kesvuot.Refused as refused:
+        print(refused.rule, hex(refused.place))
+    else:
+        for image in file.images:
+            for segment in image.segments:
+                print(segment.name.tobytes(), len(segment.bytes))
+
+`data` is bytes, a bytearray, an mmap, or any other object whose bytes are in one piece. Names and contents are
+read-only memoryviews of it. Nothing is copied, and `data` lives for as long as a view of it does. A view compares with
+bytes, as in `segment.name == b"__TEXT"`.
+
+THE BYTES MUST NOT CHANGE WHILE A CALL RUNS, or the process may crash. A call holds the GIL, so other threads of Python
+cannot change them. Other programs can, in a file that is mapped: read the files of strangers into memory, or map only
+what nobody else can write to or cut. If the bytes change after the verdict, every call is still safe, but the verdict
+says nothing about the new bytes.
+
+    python3 -m kesvuot FILE..
+
+judges files; `--help` shows how. The library comes from the folder KESVUOT_LIB_DIR if that is set, otherwise from the
+folder of this file or from where the system finds it.
+"""
+
+from __future__ import annotations
+
+import argparse
+import ctypes
+import json
+import mmap
+import os
+import struct
+import sys
+from functools import cached_property, lru_cache
+from typing import (
+    Any, Callable, Dict, Iterator, List, NamedTuple, Optional, Sequence, Tuple, TypeVar, Union, overload)
+from uuid import UUID
+
+__all__ = ["verify", "library_version", "Refused", "File", "Slice", "Image", "Table", "Segment", "Section", "Library",
+           "Build", "Command", "Symbol", "Symtab", "Dysymtab"]
+
+Data = Union[bytes, bytearray, memoryview, mmap.mmap]
+Row = TypeVar("Row")
+
+# The names and numbers of kesvuot.h.
+SONAME, MAJOR = "libkesvuot.so.0", 1
+OK, REFUSED, NO_MEMORY, NONE, UNREAD, ZERO = range(6)
+HAS_UUID, HAS_BASE, HAS_ENTRY, HAS_SYMTAB, HAS_DYSYMTAB = 1, 2, 4, 8, 16
+
+# How many rows are read at once of a table that may have millions.
+BATCH = 4096
+
+
+class Refused(Exception):
+    """The file breaks a rule. `rule` is the name of the first broken one, and `place` the offset in the file where it
+    is broken. docs/RULES.md explains each rule under its name."""
+
+    def __init__(self, rule: str, place: int) -> None:
+        super().__init__(rule, place)
+        self.rule = rule
+        self.place = place
+
+    def __str__(self) -> str:
+        return f"{self.rule} at {self.place:#x}"
+
+
+# Rows. Fields of the headers <mach-o/loader.h> and <mach-o/nlist.h> are numbered as there.
+
+
+class Segment(NamedTuple):
+    """An LC_SEGMENT_64. `bytes` are all `filesize` bytes from `fileoff` on."""
+
+    name: memoryview
+    bytes: memoryview
+    vmaddr: int
+    vmsize: int
+    fileoff: int
+    filesize: int
+    first_section: int
+    section_count: int
+    maxprot: int
+    initprot: int
+
+
+class Section(NamedTuple):
+    """A section_64. `bytes` are all `size` bytes from `offset` on, and none if it is `zero_fill`. `segment` is the name
+    of its segment."""
+
+    name: memoryview
+    segment: memoryview
+    bytes: memoryview
+    addr: int
+    size: int
+    offset: int
+    align: int
+    reloff: int
+    nreloc: int
+    flags: int
+    reserved1: int
+    reserved2: int
+    zero_fill: bool
+
+
+class Library(NamedTuple):
+    """A dylib_command: LC_ID_DYLIB, the name of the image itself, or a library that it loads."""
+
+    name: memoryview
+    cmd: int
+    current: int
+    compatible: int
+
+
+class Build(NamedTuple):
+    """An LC_BUILD_VERSION."""
+
+    platform: int
+    minos: int
+    sdk: int
+
+
+class Command(NamedTuple):
+    """A load command, which begins at `place` in the image. `name` is that of a library, or a path, or empty."""
+
+    bytes: memoryview
+    name: memoryview
+    place: int
+    cmd: int
+
+
+class Symbol(NamedTuple):
+    """An nlist_64. `name` is empty where `strx` is 0."""
+
+    name: memoryview
+    value: int
+    strx: int
+    desc: int
+    type: int
+    sect: int
+
+
+class Symtab(NamedTuple):
+    """LC_SYMTAB."""
+
+    symoff: int
+    nsyms: int
+    stroff: int
+    strsize: int
+
+
+class Dysymtab(NamedTuple):
+    """LC_DYSYMTAB: the groups of symbols, and the table of indirect entries."""
+
+    ilocalsym: int
+    nlocalsym: int
+    iextdefsym: int
+    nextdefsym: int
+    iundefsym: int
+    nundefsym: int
+    indirectsymoff: int
+    nindirectsyms: int
+
+
+class _Kind(NamedTuple):
+    """A kind of rows: the call that writes them, the form of one, and what becomes of its fields. `part` gives the part
+    of the file of a pointer and a length."""
+
+    call: str
+    form: struct.Struct
+    row: Callable[[Callable[[int, int], memoryview], Tuple[Any, ...]], Any]
+
+
+# The structures of kesvuot.h. PN is a pointer and a length. What is reserved is passed over, as x. Of a number that is 0
+# or 1 the lowest byte is read, as ?.
+PART = struct.Struct("@PN")
+VERDICT = struct.Struct("@2QI4x")
+IMAGE = struct.Struct("@PN14Q11I16s20x")
+SEGMENTS = _Kind("kesvuot_segments", struct.Struct("@PNPN4Q4I"), lambda part, it: Segment(
+    part(it[0], it[1]), part(it[2], it[3]), *it[4:]))
+SECTIONS = _Kind("kesvuot_sections", struct.Struct("@PNPNPN2Q7I?3x"), lambda part, it: Section(
+    part(it[0], it[1]), part(it[2], it[3]), part(it[4], it[5]), *it[6:]))
+LIBRARIES = _Kind("kesvuot_libraries", struct.Struct("@PN3I4x"), lambda part, it: Library(part(it[0], it[1]), *it[2:]))
+BUILDS = _Kind("kesvuot_builds", struct.Struct("@3I4x"), lambda part, it: Build(*it))
+COMMANDS = _Kind("kesvuot_commands", struct.Struct("@PNPNQI4x"), lambda part, it: Command(
+    part(it[0], it[1]), part(it[2], it[3]), *it[4:]))
+SYMBOLS = _Kind("kesvuot_symbols", struct.Struct("@PNQIHBB"), lambda part, it: Symbol(part(it[0], it[1]), *it[2:]))
+INDIRECTS = _Kind("kesvuot_indirects", struct.Struct("@I"), lambda part, it: it[0])
+
+
+# The library
+
+
+def _find() -> str:
+    """What the loader is asked for."""
+    folder = os.environ.get("KESVUOT_LIB_DIR")
+    if folder:
+        return os.path.join(os.path.abspath(folder), SONAME)
+    beside = os.path.join(os.path.dirname(os.path.realpath(__file__)), SONAME)
+    return beside if os.path.exists(beside) else SONAME
+
+
+@lru_cache(maxsize=None)
+def _library() -> Any:
+    """The library, which the first call loads. Raises ImportError if that fails."""
+    try:
+        # By PyDLL a call holds the GIL.
+        library = ctypes.PyDLL(_find())
+        if library.kesvuot_version() >> 16 != MAJOR:
+            raise OSError(f"its version is not {MAJOR}")
+        _declare(library)
+    except (OSError, AttributeError) as error:
+        raise ImportError(f"{SONAME} cannot be loaded: {error}") from error
+    return library
+
+
+def _declare(library: Any) -> None:
+    """Gives each call its types, as in kesvuot.h."""
+    pointer, size, u32, u64 = ctypes.c_void_p, ctypes.c_size_t, ctypes.c_uint32, ctypes.c_uint64
+    tables = [(kind.call, size, pointer, u64, pointer, size) for kind in (
+        SEGMENTS, SECTIONS, LIBRARIES, BUILDS, COMMANDS, SYMBOLS, INDIRECTS)]
+    for name, result, *arguments in (
+            ("kesvuot_rule", u32, u32, pointer),
+            ("kesvuot_verify", u32, pointer, size, pointer),
+            ("kesvuot_verify_strictly", u32, pointer, size, pointer),
+            ("kesvuot_image", u32, pointer, size, u64, pointer),
+            ("kesvuot_linkedit", u32, pointer, u32, pointer),
+            ("kesvuot_at", u32, pointer, u64, pointer),
+            *tables):
+        call = getattr(library, name)
+        call.restype, call.argtypes = result, arguments
+
+
+class _Buffer(ctypes.Structure):
+    """A Py_buffer."""
+
+    _fields_ = [("buf", ctypes.c_void_p), ("obj", ctypes.c_void_p), ("len", ctypes.c_ssize_t),
+                ("itemsize", ctypes.c_ssize_t), ("readonly", ctypes.c_int), ("ndim", ctypes.c_int),
+                ("format", ctypes.c_void_p), ("shape", ctypes.c_void_p), ("strides", ctypes.c_void_p),
+                ("suboffsets", ctypes.c_void_p), ("internal", ctypes.c_void_p)]
+
+
+_get_buffer = ctypes.PYFUNCTYPE(ctypes.c_int, ctypes.py_object, ctypes.c_void_p, ctypes.c_int)(
+    ("PyObject_GetBuffer", ctypes.pythonapi))
+_release_buffer = ctypes.PYFUNCTYPE(None, ctypes.c_void_p)(("PyBuffer_Release", ctypes.pythonapi))
+
+
+def _address(view: memoryview) -> int:
+    """Where the bytes of a view are. ctypes itself gives that only of bytes that may be written."""
+    buffer = _Buffer()
+    _get_buffer(view, ctypes.byref(buffer), 0)
+    try:
+        return buffer.buf or 0
+    finally:
+        _release_buffer(ctypes.byref(buffer))
+
+
+class _Bytes:
+    """The bytes of a file, which stay where they are for as long as this or a part of them is there."""
+
+    def __init__(self, data: Data) -> None:
+        self.view = memoryview(data).toreadonly().cast("B")
+        self.address = _address(self.view)
+
+    def part(self, at: int, length: int) -> memoryview:
+        """The part to which the library points."""
+        first = at - self.address if length else 0
+        return self.view[first:first + length]
+
+
+# Files and images
+
+
+class Table(Sequence[Row]):
+    """The rows of a table that may be long. It reads them when they are asked for, many at once in a loop, and keeps
+    none. A slice of it is a table too."""
+
+    def __init__(self, read: Callable[[int, int], List[Row]], indices: range) -> None:
+        self._read = read
+        self._indices = indices
+
+    def __len__(self) -> int:
+        return len(self._indices)
+
+    @overload
+    def __getitem__(self, key: int) -> Row: ...
+
+    @overload
+    def __getitem__(self, key: slice) -> Table[Row]: ...
+
+    def __getitem__(self, key: Union[int, slice]) -> Union[Row, Table[Row]]:
+        if isinstance(key, slice):
+            return Table(self._read, self._indices[key])
+        return self._read(self._indices[key], 1)[0]
+
+    def __iter__(self) -> Iterator[Row]:
+        size = BATCH if self._indices.step == 1 else 1
+        for first in range(0, len(self), size):
+            some = self._indices[first:first + size]
+            yield from self._read(some.start, len(some))
+
+
+class Slice:
+    """A slice of a file, which begins at `place`. A 64-bit little-endian slice is an Image. What is in any other was
+    not judged, and it has no more than this. `cpusubtype` is without the capability byte."""
+
+    def __init__(self, data: _Bytes, index: int, fields: Tuple[Any, ...]) -> None:
+        self.index = index
+        self.bytes = data.part(*fields[:2])
+        self.place: int = fields[2]
+        self.cputype: int
+        self.cpusubtype: int
+        self.cputype, self.cpusubtype = fields[16:18]
+
+    @property
+    def arch(self) -> str:
+        """The name of the architecture, or its two numbers."""
+        other = f"{self.cputype:#x}/{self.cpusubtype:#x}"
+        return ARCHITECTURES.get((self.cputype, self.cpusubtype), other)
+
+
+class Image(Slice):
+    """A 64-bit image: the whole file, or a slice of it. Offsets count from its start, and addresses are those before
+    any slide. What the image does not have is None."""
+
+    def __init__(self, data: _Bytes, index: int, written: Any, fields: Tuple[Any, ...]) -> None:
+        super().__init__(data, index, fields)
+        self._data = data
+        self._image = written
+        self._counts = fields[11:16]
+        has = fields[20]
+        self.filetype: int
+        self.flags: int
+        self.filetype, self.flags = fields[18:20]
+        self.base: Optional[int] = fields[3] if has & HAS_BASE else None
+        self.entry: Optional[int] = fields[4] if has & HAS_ENTRY else None
+        self.uuid = UUID(bytes=fields[27]) if has & HAS_UUID else None
+        self.symtab = Symtab(*fields[5:9]) if has & HAS_SYMTAB else None
+        self.dysymtab = Dysymtab(*fields[21:27], *fields[9:11]) if has & HAS_DYSYMTAB else None
+
+    def _read(self, kind: _Kind, first: int, count: int) -> List[Any]:
+        """The rows of a kind from an index on."""
+        rows = ctypes.create_string_buffer(count * kind.form.size)
+        written = getattr(_library(), kind.call)(self._image, first, rows, count)
+        part, row = self._data.part, kind.row
+        return [row(part, fields) for fields in kind.form.iter_unpack(memoryview(rows)[:written * kind.form.size])]
+
+    @cached_property
+    def commands(self) -> Tuple[Command, ...]:
+        """All load commands, in their order."""
+        return tuple(self._read(COMMANDS, 0, self._counts[0]))
+
+    @cached_property
+    def segments(self) -> Tuple[Segment, ...]:
+        """The segments, in the order of their commands."""
+        return tuple(self._read(SEGMENTS, 0, self._counts[1]))
+
+    @cached_property
+    def sections(self) -> Tuple[Section, ...]:
+        """The sections of all segments. That with the number `sect` of a symbol is `sections[sect - 1]`."""
+        return tuple(self._read(SECTIONS, 0, self._counts[2]))
+
+    def sections_of(self, segment: Segment) -> Tuple[Section, ...]:
+        """The sections of one of the segments."""
+        return self.sections[segment.first_section:segment.first_section + segment.section_count]
+
+    @cached_property
+    def libraries(self) -> Tuple[Library, ...]:
+        """The libraries that it loads, and LC_ID_DYLIB, in the order of their commands."""
+        return tuple(self._read(LIBRARIES, 0, self._counts[3]))
+
+    @cached_property
+    def builds(self) -> Tuple[Build, ...]:
+        """Each LC_BUILD_VERSION."""
+        return tuple(self._read(BUILDS, 0, self._counts[4]))
+
+    @property
+    def symbols(self) -> Table[Symbol]:
+        """The symbols of LC_SYMTAB, none without it."""
+        count = self.symtab.nsyms if self.symtab else 0
+        return Table(lambda first, most: self._read(SYMBOLS, first, most), range(count))
+
+    @property
+    def local_symbols(self) -> Table[Symbol]:
+        """The group of local symbols of LC_DYSYMTAB, none without it."""
+        return self._group(0)
+
+    @property
+    def defined_symbols(self) -> Table[Symbol]:
+        """The group of symbols that the image defines for others."""
+        return self._group(2)
+
+    @property
+    def undefined_symbols(self) -> Table[Symbol]:
+        """The group of symbols that other images define."""
+        return self._group(4)
+
+    def _group(self, at: int) -> Table[Symbol]:
+        first, count = self.dysymtab[at:at + 2] if self.dysymtab else (0, 0)
+        return self.symbols[first:first + count]
+
+    @property
+    def indirects(self) -> Table[int]:
+        """The indirect entries of LC_DYSYMTAB: the index of a symbol, or INDIRECT_SYMBOL_LOCAL (0x80000000),
+        INDIRECT_SYMBOL_ABS (0x40000000) or both."""
+        count = self.dysymtab.nindirectsyms if self.dysymtab else 0
+        return Table(lambda first, most: self._read(INDIRECTS, first, most), range(count))
+
+    def linkedit(self, cmd: int) -> Optional[memoryview]:
+        """The data of the first linkedit_data_command with this `cmd`, such as LC_CODE_SIGNATURE (0x1d). None if there
+        is no such command."""
+        data = ctypes.create_string_buffer(PART.size)
+        if not 0 <= cmd < 1 << 32 or _library().kesvuot_linkedit(self._image, cmd, data) != OK:
+            return None
+        return self._data.part(*PART.unpack(data))
+
+    def at(self, address: int) -> Optional[memoryview]:
+        """The bytes from an address to the end of what its segment has in the file. Empty if a loader puts a zero at
+        the address, and None if no segment has it."""
+        found = ctypes.create_string_buffer(PART.size)
+        if not 0 <= address < 1 << 64 or _library().kesvuot_at(self._image, address, found) == NONE:
+            return None
+        return self._data.part(*PART.unpack(found))
+
+
+class File:
+    """A file that was accepted, as `verify` gives it. `data` is a read-only view of its bytes."""
+
+    def __init__(self, data: _Bytes, slice_count: int) -> None:
+        self.data = data.view
+        self.slice_count = slice_count
+        self._data = data
+
+    @cached_property
+    def slices(self) -> Tuple[Slice, ...]:
+        """The slices, in the order of the universal table. Any other file is one slice."""
+        return tuple(map(self._slice, range(self.slice_count)))
+
+    @cached_property
+    def images(self) -> Tuple[Image, ...]:
+        """The slices that are 64-bit images. There is at least one."""
+        return tuple(part for part in self.slices if isinstance(part, Image))
+
+    def place(self, part: memoryview) -> int:
+        """Where a part of this file, such as a name, begins in it."""
+        place = _address(part) - self._data.address
+        if not 0 <= place <= len(self.data) - part.nbytes:
+            raise ValueError("these bytes are not of this file")
+        return place
+
+    def layout(self) -> str:
+        """The text that `macho-check` prints of the file."""
+        return "\n".join(_lines(self)) + "\n"
+
+    def _slice(self, index: int) -> Slice:
+        image = ctypes.create_string_buffer(IMAGE.size)
+        status = _library().kesvuot_image(self._data.address, len(self.data), index, image)
+        fields = IMAGE.unpack(image)
+        if status == OK:
+            return Image(self._data, index, image, fields)
+        if status == UNREAD:
+            return Slice(self._data, index, fields)
+        raise RuntimeError("the bytes have changed after the verdict")
+
+
+def library_version() -> Tuple[int, int, int]:
+    """The version of the library. Raises ImportError if it cannot be loaded."""
+    version = _library().kesvuot_version()
+    return version >> 16, version >> 8 & 0xFF, version & 0xFF
+
+
+def verify(data: Data, strict: bool = False) -> File:
+    """Judges a file by the rules of docs/RULES.md, and if `strict` by those of the strict profile too. Raises Refused
+    if it breaks one. MemoryError means that there is no verdict."""
+    file = _Bytes(data)
+    verdict = ctypes.create_string_buffer(VERDICT.size)
+    call = _library().kesvuot_verify_strictly if strict else _library().kesvuot_verify
+    status = call(file.address, len(file.view), verdict)
+    place, slices, rule = VERDICT.unpack(verdict)
+    if status == REFUSED:
+        raise Refused(_rule_name(rule), place)
+    if status != OK:
+        raise MemoryError("no memory to judge the file")
+    return File(file, slices)
+
+
+def _rule_name(rule: int) -> str:
+    name = ctypes.create_string_buffer(PART.size)
+    _library().kesvuot_rule(rule, name)
+    return ctypes.string_at(*PART.unpack(name)).decode("ascii")
+
+
+# The layout, as text and for JSON. docs/COMMAND.md has its lines.
+
+ARCHITECTURES = {
+    (0x100_0007, 3): "x86_64", (0x100_0007, 8): "x86_64h", (0x100_000C, 0): "arm64", (0x100_000C, 2): "arm64e"}
+FILETYPES = {2: "execute", 6: "dylib", 8: "bundle"}
+LC_ID_DYLIB = 0xD
+LOADS = {0xC: "load", 0x8000_0018: "weak", 0x8000_001F: "reexport", 0x20: "lazy", 0x8000_0023: "upward"}
+
+
+def _plain(name: memoryview) -> str:
+    """A name, with numbers for a quote, a backslash and all that is not printable ASCII."""
+    return "".join(chr(byte) if 0x20 <= byte <= 0x7E and byte not in b'"\\' else f"\\x{byte:02x}" for byte in name)
+
+
+def _version(number: int) -> str:
+    return f"{number >> 16}.{number >> 8 & 0xFF}.{number & 0xFF}"
+
+
+def _lines(file: File) -> Iterator[str]:
+    yield f"accepted, slices {file.slice_count}"
+    for part in file.slices:
+        kind = FILETYPES[part.filetype] if isinstance(part, Image) else "not read"
+        yield f"slice {part.index} {part.arch} at {part.place:#x} size {len(part.bytes):#x} {kind}"
+        if isinstance(part, Image):
+            yield from _image_lines(part)
+
+
+def _image_lines(image: Image) -> Iterator[str]:
+    for library in image.libraries:
+        if library.cmd == LC_ID_DYLIB:
+            yield _library_line("id", library)
+    if image.uuid is not None:
+        yield f"  uuid {str(image.uuid).upper()}"
+    for build in image.builds:
+        yield f"  build platform {build.platform} min {_version(build.minos)} sdk {_version(build.sdk)}"
+    for segment in image.segments:
+        yield _segment_line(segment)
+        yield from map(_section_line, image.sections_of(segment))
+    for library in image.libraries:
+        if library.cmd in LOADS:
+            yield _library_line(LOADS[library.cmd], library)
+    if image.symtab is not None:
+        yield f"  symbols {image.symtab.nsyms}"
+    yield "  entry none" if image.entry is None else f"  entry {image.entry:#x}"
+
+
+def _library_line(word: str, library: Library) -> str:
+    current, compatible = _version(library.current), _version(library.compatible)
+    return f'  {word} "{_plain(library.name)}" current {current} compatible {compatible}'
+
+
+def _segment_line(segment: Segment) -> str:
+    letters = "".join(letter if segment.initprot >> bit & 1 else "-" for bit, letter in enumerate("rwx"))
+    return (f'  segment "{_plain(segment.name)}" addr {segment.vmaddr:#x} size {segment.vmsize:#x} '
+            f"file {segment.fileoff:#x} size {segment.filesize:#x} {letters}")
+
+
+def _section_line(section: Section) -> str:
+    source = "zero" if section.zero_fill else f"file {section.offset:#x}"
+    return f'    section "{_plain(section.name)}" addr {section.addr:#x} size {section.size:#x} {source}'
+
+
+def _row_object(row: Any) -> Dict[str, Any]:
+    """A row without its bytes, and with names as in the layout."""
+    fields = ((field, value) for field, value in row._asdict().items() if field != "bytes")
+    return {field: _plain(value) if isinstance(value, memoryview) else value for field, value in fields}
+
+
+def _slice_object(part: Slice) -> Dict[str, Any]:
+    whole = {"place": part.place, "size": len(part.bytes), "arch": part.arch, "is_read": isinstance(part, Image)}
+    return {**whole, **_image_object(part)} if isinstance(part, Image) else whole
+
+
+def _image_object(image: Image) -> Dict[str, Any]:
+    segments = [{**_row_object(segment), "sections": list(map(_row_object, image.sections_of(segment)))}
+                for segment in image.segments]
+    return {"filetype": image.filetype, "flags": image.flags, "uuid": image.uuid and str(image.uuid).upper(),
+            "base": image.base, "entry": image.entry, "symbols": image.symtab and image.symtab.nsyms,
+            "builds": list(map(_row_object, image.builds)), "segments": segments,
+            "libraries": list(map(_row_object, image.libraries))}
+
+
+# The command
+
+ACCEPTED_STATUS, REFUSED_STATUS, NO_VERDICT_STATUS = range(3)
+Outcome = Union[File, Refused, Exception]
+
+
+def _judge(path: str, strict: bool) -> Outcome:
+    try:
+        return verify(_contents(path), strict)
+    except (Refused, OSError, MemoryError) as error:
+        return error
+
+
+def _contents(path: str) -> bytes:
+    with open(0, "rb", closefd=False) if path == "-" else open(path, "rb") as stream:
+        return stream.read()
+
+
+def _status(outcome: Outcome) -> int:
+    if isinstance(outcome, File):
+        return ACCEPTED_STATUS
+    return REFUSED_STATUS if isinstance(outcome, Refused) else NO_VERDICT_STATUS
+
+
+def _reason(error: Exception) -> str:
+    """Why there is no verdict."""
+    return (isinstance(error, OSError) and error.strerror) or "out of memory"
+
+
+def _shown(path: str) -> str:
+    """A path on one line."""
+    return "".join(letter if letter.isprintable() else ascii(letter)[1:-1] for letter in path)
+
+
+def _line(path: str, outcome: Outcome) -> str:
+    verdict = "accepted" if isinstance(outcome, File) else f"refused: {outcome}"
+    return f"{_shown(path)}: {verdict}"
+
+
+def _text(path: str, outcome: Outcome) -> str:
+    return outcome.layout().rstrip("\n") if isinstance(outcome, File) else f"refused: {outcome}"
+
+
+def _json(path: str, outcome: Outcome) -> str:
+    answer: Dict[str, Any] = {"file": path}
+    if isinstance(outcome, File):
+        answer.update(verdict="accepted", slices=list(map(_slice_object, outcome.slices)))
+    elif isinstance(outcome, Refused):
+        answer.update(verdict="refused", rule=outcome.rule, place=outcome.place)
+    else:
+        answer.update(verdict=None, error=_reason(outcome))
+    return json.dumps(answer)
+
+
+def _words() -> argparse.ArgumentParser:
+    parser = argparse.ArgumentParser(
+        prog="python3 -m kesvuot", description="Judges the layout of Mach-O files, and prints a line for each.",
+        epilog="The status is 0 if all files are accepted, 1 if one is refused, and 2 if one has no verdict.")
+    parser.set_defaults(form=_line)
+    parser.add_argument("--strict", action="store_true", help="judge by the strict profile too")
+    form = parser.add_mutually_exclusive_group()
+    form.add_argument("--json", dest="form", action="store_const", const=_json, help="print an object for each file")
+    form.add_argument("--layout", dest="form", action="store_const", const=_text, help="print what macho-check does")
+    parser.add_argument("files", nargs="+", metavar="FILE", help="a file, or - for standard input")
+    return parser
+
+
+def _report(path: str, words: argparse.Namespace) -> int:
+    """Judges a file, and prints what is asked for."""
+    outcome = _judge(path, words.strict)
+    status = _status(outcome)
+    if status == NO_VERDICT_STATUS:
+        print(f"kesvuot: {_shown(path)}: {_reason(outcome)}", file=sys.stderr)
+    if words.form is _text and len(words.files) > 1:
+        print(f"{_shown(path)}:")
+    if status != NO_VERDICT_STATUS or words.form is _json:
+        print(words.form(path, outcome))
+    return status
+
+
+def _report_all(words: argparse.Namespace) -> int:
+    if sys.stdout is None:
+        raise OSError("standard output is closed")
+    # A path may have letters that the output cannot show.
+    sys.stdout.reconfigure(errors="backslashreplace")
+    status = max([_report(path, words) for path in words.files])
+    sys.stdout.flush()
+    return status
+
+
+def main(words: Optional[List[str]] = None) -> int:
+    arguments = _words().parse_args(words)
+    try:
+        library_version()
+        return _report_all(arguments)
+    except ImportError as error:
+        print(f"kesvuot: {error}", file=sys.stderr)
+    except MemoryError:
+        print("kesvuot: out of memory", file=sys.stderr)
+    except OSError:
+        print("kesvuot: write failed", file=sys.stderr)
+        # Whatever is not yet written goes nowhere when Python ends, instead of failing again.
+        os.dup2(os.open(os.devnull, os.O_WRONLY), 1)
+    return NO_VERDICT_STATUS
+
+
+if __name__ == "__main__":
+    sys.exit(main())
