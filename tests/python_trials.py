@@ -1,0 +1,711 @@
+#!/usr/bin/env python3
+"""Compares what bindings/python/kesvuot.py gives with what others say. tests/python calls it, and says what of.
+
+    tests/python_trials.py ALL_KINDS MIXED [FOLDER..]
+
+The first two are the files of tests/making, and the files of the folders are judged and read as well. For each case it
+prints a line of three texts with tabs between them: the case, what was found, and what is wanted. What differs is shown
+on standard error.
+"""
+
+import array
+import ctypes
+import gc
+import io
+import json
+import mmap
+import os
+import pickle
+import random
+import struct
+import subprocess
+import sys
+import tempfile
+import weakref
+from collections import Counter
+from pathlib import Path
+from types import SimpleNamespace
+
+TOP = Path(__file__).resolve().parent.parent
+sys.path[:0] = [str(TOP / "bindings" / "python"), str(TOP / "bench"), str(TOP / "tests")]
+import images  # pylint: disable=wrong-import-position
+import kesvuot  # pylint: disable=wrong-import-position
+import oracle  # pylint: disable=wrong-import-position
+import oracle_trials  # pylint: disable=wrong-import-position
+
+SHOWN = 20
+LC_LOAD_DYLINKER, LC_RPATH = 0xE, 0x8000_001C
+LC_SYMTAB, LC_DYSYMTAB = oracle.LC_SYMTAB, oracle.LC_DYSYMTAB
+# The commands whose data tests/*.reads and tests/real/*.reads show, in their order. The last one is of another kind.
+DATA_COMMANDS = (0x1D, 0x26, 0x29, 0x8000_0033, 0x8000_0034, LC_SYMTAB)
+
+
+class Report:
+    """Prints the cases, and the first few differences."""
+
+    def __init__(self):
+        self.shown = 0
+
+    def case(self, name, found, wanted):
+        print(f"{name}\t{found}\t{wanted}", flush=True)
+
+    def differs(self, name, found, wanted):
+        self.shown += 1
+        if self.shown <= SHOWN:
+            print(f"{name}:\n  kesvuot.py: {found!r:.300}\n  wanted: {wanted!r:.300}", file=sys.stderr)
+
+    def alike(self, name, of_what, pairs):
+        """A case: each of the triples has a name, and two values that are the same."""
+        count = right = 0
+        for which, found, wanted in pairs:
+            count += 1
+            if found == wanted:
+                right += 1
+            else:
+                self.differs(f"{name}, {which}", found, wanted)
+        self.case(name, f"{right} {of_what}", f"{count or 'some'} {of_what}")
+
+
+# Verdicts and layouts
+
+
+def answer(data, is_strict=False):
+    """What the program would print: the status and the text."""
+    try:
+        return 0, kesvuot.verify(data, is_strict).layout()
+    except kesvuot.Refused as refused:
+        return 1, f"refused: {refused.rule} at {refused.place:#x}\n"
+
+
+def verdict(data, is_strict):
+    status, text = answer(data, is_strict)
+    return text.rstrip("\n") if status else "accepted"
+
+
+def program_answers(files, is_strict):
+    name = "macho_strict_check" if is_strict else "macho_check"
+    program = TOP / "crates" / name / "out" / name
+    questions = [oracle_trials.Question(which, data, "check", ()) for which, data in files]
+    says = oracle_trials.program_answers(str(program), questions)
+    return [(status, text.decode("ascii")) for status, text in says]
+
+
+def judge_vectors(report):
+    """The verdicts are those that stand beside the vectors; the layouts, those of the program."""
+    for name, vectors in oracle_trials.read_all_vectors(False):
+        judge_by_hand(report, f"the verdicts of {name}, by hand", vectors, False)
+        compare_program(report, name, [(vector.name, vector.data) for vector in vectors], False)
+    for name, vectors in oracle_trials.read_all_vectors(True):
+        judge_by_hand(report, f"the strict verdicts of {name}, by hand", vectors, True)
+        if vectors[0].is_strict:
+            compare_program(report, name, [(vector.name, vector.data) for vector in vectors], True)
+
+
+def judge_by_hand(report, name, vectors, is_strict):
+    """Which of the acceptances of other vectors the strict profile has is not known by hand."""
+    report.alike(name, "verdicts", (
+        (vector.name, verdict(vector.data, is_strict), vector.wanted) for vector in vectors if vector.wanted))
+
+
+def compare_program(report, name, files, is_strict):
+    report.alike(f"what is said of {name}, and the {'strict ' if is_strict else ''}program", "texts", (
+        (which, answer(data, is_strict), says)
+        for (which, data), says in zip(files, program_answers(files, is_strict))))
+
+
+def judge_texts(report):
+    """The layouts that are written by hand."""
+    report.alike("the reports, by hand", "layouts", (
+        (name, answer(data), (0, layout)) for name, data, layout, *_ in oracle_trials.read_all_reports()))
+    report.alike("the real files, by hand", "layouts", (
+        (name, answer(data), (0, layout.decode())) for name, data, layout in oracle_trials.read_real()))
+
+
+# What the views give, as tests/reads shows what those of the proved crates give
+
+
+def shown(data):
+    """How many bytes there are, and the first and the last eight."""
+    text = "".join(f" {byte:02x}" for byte in data[:8])
+    if len(data) > 8:
+        text += " .." + "".join(f" {byte:02x}" for byte in data[-8:])
+    return f" size {len(data)}{text}"
+
+
+def text_of(name):
+    return str(name, "utf-8")
+
+
+def name_of(symbol):
+    return text_of(symbol.name) if symbol.strx else "(none)"
+
+
+def debugged(name, fields):
+    return f"{name} {{ " + ", ".join(f"{field}: {value}" for field, value in fields.items()) + " }"
+
+
+def reads(file, index, addresses):
+    """The lines of a .reads file."""
+    image = file.slices[index]
+    yield from reads_of_commands(image)
+    for segment in image.segments:
+        yield f"segment {text_of(segment.name)} maxprot {segment.maxprot}" + shown(segment.bytes)
+        for section in image.sections_of(segment):
+            yield read_of_section(file, image, section)
+    yield "numbers" + "".join(f" {n} {text_of(section.name)}" for n, section in enumerate(image.sections, 1))
+    yield from reads_of_paths(image)
+    for cmd in DATA_COMMANDS:
+        if image.linkedit(cmd) is not None:
+            yield f"data {cmd:#x}" + shown(image.linkedit(cmd))
+    yield from reads_of_symbols(image)
+    for address in addresses:
+        yield read_of_address(file, image, address)
+
+
+def reads_of_commands(image):
+    if image.base is not None:
+        yield f"base {image.base:#x}"
+    places = {}
+    for command in image.commands:
+        places.setdefault(command.cmd, command)
+        yield f"command {command.place:#x} {command.cmd:#x} size {len(command.bytes):#x}"
+    if image.symtab:
+        yield debugged("Symtab", {"place": places[LC_SYMTAB].place, **image.symtab._asdict()})
+    if image.dysymtab:
+        command = places[LC_DYSYMTAB]
+        names = [field for field, *_ in oracle.FIELDS["dysymtab_command"]][2:]
+        fields = dict(zip(names, struct.unpack_from("<18I", command.bytes, 8)))
+        yield debugged("Dysymtab", {"place": command.place, **fields, **image.dysymtab._asdict()})
+
+
+def read_of_section(file, image, section):
+    place = file.place(section.name) - image.place
+    text = f"section {text_of(section.name)} at {place:#x} relocs {section.reloff} {section.nreloc}"
+    text += f" flags {section.flags:#x} align {section.align} reserved {section.reserved1} {section.reserved2}"
+    return text + (" zero-fill" if section.zero_fill else shown(section.bytes))
+
+
+def reads_of_paths(image):
+    linkers = [command for command in image.commands if command.cmd == LC_LOAD_DYLINKER]
+    for command in linkers[:1]:
+        yield f'dylinker "{text_of(command.name)}"'
+    for command in image.commands:
+        if command.cmd == LC_RPATH:
+            yield f'rpath "{text_of(command.name)}"'
+
+
+def reads_of_symbols(image):
+    for index in range(len(image.symbols)):
+        symbol = image.symbols[index]
+        place = image.symtab.symoff + 16 * index
+        inside = ""
+        if 0 < symbol.sect <= len(image.sections):
+            inside = " in " + text_of(image.sections[symbol.sect - 1].name)
+        yield (f"symbol {index} {name_of(symbol)} {symbol.value:#x} at {place:#x} strx {symbol.strx} "
+               f"type {symbol.type:#x} sect {symbol.sect} desc {symbol.desc:#x}{inside}")
+    groups = {"all": image.symbols, "local": image.local_symbols, "defined": image.defined_symbols,
+              "undefined": image.undefined_symbols}
+    for word, symbols in groups.items():
+        yield word + "".join(" " + name_of(symbol) for symbol in symbols)
+    for index, value in enumerate(image.indirects):
+        is_index = value & (oracle.INDIRECT_SYMBOL_LOCAL | oracle.INDIRECT_SYMBOL_ABS) == 0
+        name = name_of(image.symbols[value]) if is_index else "none"
+        yield f"indirect {value:#x} at {image.dysymtab.indirectsymoff + 4 * index:#x} {name}"
+
+
+def read_of_address(file, image, address):
+    found = image.at(address)
+    if found is None:
+        return f"address {address:#x} None"
+    if len(found) == 0:
+        return f"address {address:#x} Some(Zero)"
+    text = f"address {address:#x} Some(File({file.place(found) - image.place}))"
+    return text + (shown(found[:4]) if len(found) >= 4 else "")
+
+
+def compare_reads(report, all_kinds):
+    """The texts are written by hand: tests/reads says from what."""
+    real = {name: data for name, data, _ in oracle_trials.read_real()}
+    for name, data, index, path in (
+            ("the file of all kinds", all_kinds, 0, "all-kinds.reads"),
+            ("the real program", real["program"], 0, "real/program.reads"),
+            ("the real library for x86_64", real["library"], 0, "real/library.0.reads"),
+            ("the real library for arm64", real["library"], 1, "real/library.1.reads")):
+        wanted = (TOP / "tests" / path).read_text(encoding="ascii").splitlines()
+        addresses = [int(line.split()[1], 16) for line in wanted if line.startswith("address ")]
+        found = list(reads(kesvuot.verify(data), index, addresses))
+        if len(found) != len(wanted):
+            report.differs(name, f"{len(found)} lines", f"{len(wanted)} lines")
+        report.alike(f"the views of {name}, by hand", "lines", (
+            (f"line {number}", *pair) for number, pair in enumerate(zip(found, wanted), 1)))
+
+
+def compare_mixed(report, mixed):
+    """Of a slice that is not read there is nothing but the slice, and of a bare header no line but these."""
+    unread, bare = kesvuot.verify(mixed).slices
+    report.case("a slice that is not read", (type(unread), unread.place, unread.bytes.tobytes(), unread.arch),
+                (kesvuot.Slice, 64, oracle.MH_MAGIC, "0x7/0x3"))
+    report.case("the slice beside it", (bare.place, list(reads(kesvuot.verify(mixed), 1, []))),
+                (96, ["numbers", "all", "local", "defined", "undefined"]))
+
+
+def compare_addresses(report):
+    """What is at addresses of the real files, by hand."""
+    files = {name: kesvuot.verify(data) for name, data, _ in oracle_trials.read_real()}
+    report.alike("what is at addresses of them, by hand", "places", (
+        (f"{name} {index} {address}", place_text(files[name], int(index), int(address, 16)), wanted)
+        for name, index, address, wanted in oracle_trials.ADDRESSES))
+
+
+def place_text(file, index, address):
+    if index >= file.slice_count:
+        return "macho-check: no such image"
+    found = file.slices[index].at(address)
+    if found is None:
+        return "unmapped"
+    return f"file {file.place(found) - file.slices[index].place:#x}" if found else "zero"
+
+
+# The views of all accepted files, and what tests/oracle.py reads there
+
+
+def as_bytes(row):
+    return tuple(value.tobytes() if isinstance(value, memoryview) else value for value in row)
+
+
+def string_at(data, place, end):
+    return data[place:data.find(b"\0", place, end)]
+
+
+def wanted_name(image, command):
+    """The name of a command that has one."""
+    if oracle.LISTED.get(command.cmd, (0, 0, None))[2] is None:
+        return b""
+    listed = oracle.read(image.data, command.place, oracle.LISTED[command.cmd][0])
+    return string_at(image.data, command.place + oracle.name_offset(listed), command.place + command.cmdsize)
+
+
+def wanted_commands(image):
+    for it in image.commands:
+        yield image.data[it.place:it.place + it.cmdsize], wanted_name(image, it), it.place, it.cmd
+
+
+def wanted_segments(image):
+    first = 0
+    for it in image.segments:
+        part = image.data[it.fileoff:it.fileoff + it.filesize]
+        yield (oracle.up_to_zero(it.segname), part, it.vmaddr, it.vmsize, it.fileoff, it.filesize, first, it.nsects,
+               it.maxprot, it.initprot)
+        first += it.nsects
+
+
+def wanted_sections(image):
+    for it in image.sections:
+        is_zero_fill = oracle.is_zero_fill(it)
+        part = b"" if is_zero_fill else image.data[it.offset:it.offset + it.size]
+        yield (oracle.up_to_zero(it.sectname), oracle.up_to_zero(it.segment.segname), part, it.addr, it.size, it.offset,
+               it.align, it.reloff, it.nreloc, it.flags, it.reserved1, it.reserved2, is_zero_fill)
+
+
+def wanted_libraries(image):
+    for it in image.listed:
+        if oracle.LISTED[it.cmd][0] == "dylib_command":
+            yield wanted_name(image, it), it.cmd, it.current_version, it.compatibility_version
+
+
+def wanted_builds(image):
+    return ((it.platform, it.minos, it.sdk) for it in image.listed if it.cmd == oracle.LC_BUILD_VERSION)
+
+
+def wanted_symbols(image):
+    symtab = image.only(LC_SYMTAB)
+    for it in image.symbols:
+        name = b""
+        if it.n_strx:
+            name = string_at(image.data, symtab.stroff + it.n_strx, symtab.stroff + symtab.strsize)
+        yield name, it.n_value, it.n_strx, it.n_desc, it.n_type, it.n_sect
+
+
+def wanted_indirects(image):
+    dysymtab = image.only(LC_DYSYMTAB)
+    if dysymtab is None:
+        return []
+    return list(struct.unpack_from(f"<{dysymtab.nindirectsyms}I", image.data, dysymtab.indirectsymoff)
+                if dysymtab.nindirectsyms else [])
+
+
+def only_fields(image, cmd, kind):
+    """The fields of a command that is there once, or None."""
+    command = image.only(cmd)
+    return command and tuple(getattr(command, field) for field in kind._fields)
+
+
+def wanted_data(image, cmd):
+    """The data of the first command of a kind."""
+    for it in image.listed:
+        if it.cmd == cmd and oracle.LISTED[cmd][0] == "linkedit_data_command":
+            return image.data[it.dataoff:it.dataoff + it.datasize]
+    return None
+
+
+def wanted_at(image, address):
+    """The bytes from an address on."""
+    for it in image.segments:
+        if it.vmaddr <= address < it.vmaddr + it.vmsize:
+            past = address - it.vmaddr
+            return image.data[it.fileoff + past:it.fileoff + it.filesize] if past < it.filesize else b""
+    return None
+
+
+def edges(image):
+    """The addresses beside those at which a segment, its bytes, or a section begins or ends."""
+    near = {0, 1, 2 ** 64 - 1, 2 ** 64, -1}
+    for it in image.segments[:20]:
+        near |= {it.vmaddr, it.vmaddr + it.filesize, it.vmaddr + it.vmsize}
+    near |= {section.addr for section in image.sections[:20]}
+    return sorted({address + beside for address in near for beside in (-1, 0, 1)})
+
+
+def compare_image(found, wanted):
+    """Of each view a triple: its name, what it gives, and what the oracle reads."""
+    main = wanted.only(oracle.LC_MAIN)
+    uuid = wanted.only(oracle.LC_UUID)
+    yield "filetype", found.filetype, wanted.header.filetype
+    yield "flags", found.flags, wanted.header.flags
+    yield "base", found.base, wanted.base
+    yield "entry", found.entry, main and wanted.base + main.entryoff
+    yield "uuid", found.uuid and found.uuid.bytes, uuid and uuid.uuid
+    yield "symtab", found.symtab, only_fields(wanted, LC_SYMTAB, kesvuot.Symtab)
+    yield "dysymtab", found.dysymtab, only_fields(wanted, LC_DYSYMTAB, kesvuot.Dysymtab)
+    for name, rows in (("commands", wanted_commands(wanted)), ("segments", wanted_segments(wanted)),
+                       ("sections", wanted_sections(wanted)), ("libraries", wanted_libraries(wanted)),
+                       ("builds", wanted_builds(wanted)), ("symbols", wanted_symbols(wanted))):
+        yield name, list(map(as_bytes, getattr(found, name))), list(rows)
+    yield "indirects", list(found.indirects), wanted_indirects(wanted)
+    yield from compare_groups(found, wanted)
+    # A number that is none of 32 bits is no cmd.
+    for cmd in sorted({command.cmd for command in wanted.commands} | set(oracle.LISTED) | {-1, 0x1_0000_0026}):
+        data = found.linkedit(cmd)
+        yield f"linkedit {cmd:#x}", None if data is None else data.tobytes(), wanted_data(wanted, cmd)
+    for address in edges(wanted):
+        part = found.at(address)
+        yield f"at {address:#x}", None if part is None else part.tobytes(), wanted_at(wanted, address)
+
+
+def compare_groups(found, wanted):
+    symbols = list(wanted_symbols(wanted))
+    dysymtab = wanted.only(LC_DYSYMTAB) or SimpleNamespace(
+        ilocalsym=0, nlocalsym=0, iextdefsym=0, nextdefsym=0, iundefsym=0, nundefsym=0)
+    for name, first, count in (("local_symbols", dysymtab.ilocalsym, dysymtab.nlocalsym),
+                               ("defined_symbols", dysymtab.iextdefsym, dysymtab.nextdefsym),
+                               ("undefined_symbols", dysymtab.iundefsym, dysymtab.nundefsym)):
+        yield name, list(map(as_bytes, getattr(found, name))), symbols[first:first + count]
+
+
+def compare_slice(found, wanted):
+    """The same of a slice, which need not be an image."""
+    source = wanted.header if wanted.is_64_bit else wanted.entry
+    yield "place", found.place, wanted.start
+    yield "bytes", found.bytes.tobytes(), wanted.data
+    yield "cputype", found.cputype, source.cputype
+    yield "cpusubtype", found.cpusubtype, oracle.masked(source.cpusubtype)
+    yield "is read", isinstance(found, kesvuot.Image), wanted.is_64_bit
+    if wanted.is_64_bit:
+        yield from compare_image(found, wanted)
+
+
+def compare_file(name, data):
+    found, wanted = kesvuot.verify(data), oracle.File(data)
+    yield f"{name}: slices", len(found.slices), len(wanted.slices)
+    yield f"{name}: images", len(found.images), sum(part.is_64_bit for part in wanted.slices)
+    for part, wanted_part in zip(found.slices, wanted.slices):
+        for view, it, wanted_it in compare_slice(part, wanted_part):
+            yield f"{name}: slice {part.index}: {view}", it, wanted_it
+
+
+def compare_views(report, name, files):
+    """The views of accepted files."""
+    report.alike(f"the views of {name}, and the oracle", "answers", (
+        triple for which, data in files for triple in compare_file(which, data)))
+
+
+def compare_all_views(report, all_kinds, mixed):
+    accepted = [(f"{name}: {vector.name}", vector.data) for name, vectors in oracle_trials.read_all_vectors(False)
+                for vector in vectors if vector.wanted == "accepted"]
+    accepted += [(f"{name}: {vector.name}", vector.data) for name, vectors in oracle_trials.read_all_vectors(True)
+                 for vector in vectors if vector.is_strict and verdict(vector.data, False) == "accepted"]
+    compare_views(report, f"{len(accepted)} accepted vectors", accepted)
+    compare_views(report, "two files of tests/making", [("all kinds", all_kinds), ("mixed", mixed)])
+    compare_views(report, "the reports", ((name, data) for name, data, *_ in oracle_trials.read_all_reports()))
+    compare_views(report, "the real files", ((name, data) for name, data, _ in oracle_trials.read_real()))
+
+
+# The layout from an object of --json
+
+
+def plain_lines(answer_object):
+    """The lines of the layout, in the order of docs/COMMAND.md."""
+    yield f"accepted, slices {len(answer_object['slices'])}"
+    for index, part in enumerate(answer_object["slices"]):
+        kind = oracle.FILETYPES[part["filetype"]][1] if part["is_read"] else "not read"
+        yield f"slice {index} {part['arch']} at {part['place']:#x} size {part['size']:#x} {kind}"
+        if part["is_read"]:
+            yield from plain_image_lines(part)
+
+
+def plain_image_lines(part):
+    yield from (library_line("id", it) for it in part["libraries"] if it["cmd"] == oracle.LC_ID_DYLIB)
+    if part["uuid"] is not None:
+        yield f"  uuid {part['uuid']}"
+    for build in part["builds"]:
+        yield (f"  build platform {build['platform']} min {oracle.version(build['minos'])} "
+               f"sdk {oracle.version(build['sdk'])}")
+    for it in part["segments"]:
+        yield (f'  segment "{it["name"]}" addr {it["vmaddr"]:#x} size {it["vmsize"]:#x} file {it["fileoff"]:#x} '
+               f'size {it["filesize"]:#x} {oracle.protection(it["initprot"])}')
+        for inner in it["sections"]:
+            source = "zero" if inner["zero_fill"] else f"file {inner['offset']:#x}"
+            yield f'    section "{inner["name"]}" addr {inner["addr"]:#x} size {inner["size"]:#x} {source}'
+    for it in part["libraries"]:
+        if it["cmd"] in oracle.LIBRARIES:
+            yield library_line(oracle.LIBRARIES[it["cmd"]], it)
+    if part["symbols"] is not None:
+        yield f"  symbols {part['symbols']}"
+    yield "  entry none" if part["entry"] is None else f"  entry {part['entry']:#x}"
+
+
+def library_line(word, it):
+    versions = f"current {oracle.version(it['current'])} compatible {oracle.version(it['compatible'])}"
+    return f'  {word} "{it["name"]}" {versions}'
+
+
+def plain_text(answer_object):
+    if answer_object["verdict"] == "refused":
+        return 1, f"refused: {answer_object['rule']} at {answer_object['place']:#x}\n"
+    return 0, "".join(line + "\n" for line in plain_lines(answer_object))
+
+
+def compare_json(report):
+    """The vectors and reports, each in a file of its own, judged by one call of the command."""
+    files = [(vector.name, vector.data) for _, vectors in oracle_trials.read_all_vectors(False) for vector in vectors]
+    files += [(name, data) for name, data, *_ in oracle_trials.read_all_reports()]
+    with tempfile.TemporaryDirectory() as room:
+        paths = [os.path.join(room, str(number)) for number in range(len(files))]
+        for path, (_, data) in zip(paths, files):
+            Path(path).write_bytes(data)
+        command = [sys.executable, "-W", "error", "-m", "kesvuot", "--json", *paths]
+        said = subprocess.run(command, stdout=subprocess.PIPE, check=False, text=True,
+                              env={**os.environ, "PYTHONPATH": str(TOP / "bindings" / "python")})
+        objects = [json.loads(line) for line in said.stdout.splitlines()]
+    report.case("the objects of the command, and its status", f"{[it['file'] for it in objects] == paths}, "
+                f"{said.returncode}", "True, 1")
+    report.alike("the layouts from these objects", "texts", (
+        (name, plain_text(it), answer(data)) for (name, data), it in zip(files, objects)))
+
+
+# The objects of Python
+
+
+def raised(kind, call):
+    """Whether the call raises this kind of exception."""
+    try:
+        call()
+    except kind:
+        return True
+    return False
+
+
+def judge_buffers(report, data, layout):
+    """The same bytes in objects of all kinds. No view of them may be written, and none is a copy."""
+    with tempfile.TemporaryFile() as file:
+        file.write(data)
+        file.flush()
+        kinds = {
+            "bytes": data, "a bytearray": bytearray(data), "an array of words": array.array("I", data),
+            "a view": memoryview(data), "a view of words": memoryview(data).cast("I"),
+            "a view into other bytes": memoryview(b"abc" + data + b"d")[3:-1],
+            "a view into other bytes that may be written": memoryview(bytearray(b"abc" + data + b"d"))[3:-1],
+            "numbers of ctypes": (ctypes.c_uint16 * (len(data) // 2)).from_buffer_copy(data),
+            "a mapped file": mmap.mmap(file.fileno(), 0, access=mmap.ACCESS_READ),
+            "a mapped file that may be written": mmap.mmap(file.fileno(), 0),
+            "a mapped file that is copied on a write": mmap.mmap(file.fileno(), 0, access=mmap.ACCESS_COPY),
+        }
+        for kind, given in kinds.items():
+            report.case(f"{kind}, judged", answer(given) == (0, layout), True)
+            owner = given.obj if isinstance(given, memoryview) else given
+            views = [part for part in all_parts(kesvuot.verify(given)) if part.nbytes > 0]
+            report.case(f"{kind}: views that are no copies, and are read-only",
+                        sum(part.obj is owner and part.readonly for part in views), len(views) or "some")
+    report.case("no bytes, in objects of some kinds", [answer(given) for given in (
+        b"", bytearray(), memoryview(b""), array.array("I"))], [(1, "refused: magic at 0x0\n")] * 4)
+
+
+def all_parts(file):
+    """All memoryviews that a file gives."""
+    yield file.data
+    for image in file.images:
+        yield image.bytes
+        for rows in (image.commands, image.segments, image.sections, image.libraries, image.symbols):
+            yield from (value for row in rows for value in row if isinstance(value, memoryview))
+        yield from filter(None, (image.linkedit(command.cmd) for command in image.commands))
+        yield from filter(None, (image.at(segment.vmaddr) for segment in image.segments))
+
+
+def judge_lives(report, data):
+    """What is read holds the bytes, and lets them go."""
+    given = bytearray(data)
+    file = kesvuot.verify(given)
+    report.case("a bytearray does not grow under a file", raised(BufferError, lambda: given.append(0)), True)
+    name = file.images[0].segments[1].name
+    gc.disable()
+    del file
+    report.case("nor under a name", raised(BufferError, lambda: given.append(0)), True)
+    report.case("the name", name.tobytes(), b"__TEXT")
+    del name
+    report.case("and then it grows", raised(BufferError, lambda: given.append(0)), False)
+    mapped = mmap.mmap(-1, len(data))
+    mapped.write(data)
+    text = kesvuot.verify(mapped).layout()
+    report.case("a map is closed after its layout", raised(BufferError, mapped.close), False)
+    report.case("the layout of a map", text == kesvuot.verify(data).layout(), True)
+    cut = bytearray(data[:12000])
+    answer(cut)
+    report.case("a bytearray grows after a refusal", raised(BufferError, lambda: cut.append(0)), False)
+    gc.enable()
+    whole = Whole(data)
+    alive = weakref.ref(whole)
+    part = kesvuot.verify(whole).images[0].segments[1].name
+    del whole
+    report.case("a part keeps the bytes", (alive() is None, part.tobytes()), (False, b"__TEXT"))
+    del part
+    report.case("and no longer than itself", alive() is None, True)
+
+
+class Whole(bytearray):
+    """Bytes that can be referred to weakly."""
+
+
+def judge_exceptions(report, data):
+    refused = None
+    try:
+        kesvuot.verify(data[:12000])
+    except kesvuot.Refused as error:
+        refused = error
+    again = pickle.loads(pickle.dumps(refused))
+    report.case("a refusal", (refused.rule, refused.place, str(refused)),
+                ("segment-file", 0x198, "segment-file at 0x198"))
+    report.case("a refusal from another process", (type(again), again.rule, again.place),
+                (kesvuot.Refused, "segment-file", 0x198))
+    strange = {"a text": "text", "None": None, "a number": 5, "every second byte": memoryview(data)[::2]}
+    for kind, given in strange.items():
+        report.case(f"{kind} is no file", raised(TypeError, lambda given=given: kesvuot.verify(given)), True)
+    file = kesvuot.verify(data)
+    report.case("the kinds of sections", [section.zero_fill is True for section in file.images[0].sections],
+                [False, False, False, True])
+    report.case("the place of other bytes", raised(ValueError, lambda: file.place(memoryview(bytes(data[:64])))), True)
+    report.case("the place of the last byte", file.place(file.data[-1:]), len(data) - 1)
+    report.case("the names of a view", (file.images[0].segments[1].name == b"__TEXT", file.images[0].arch,
+                                        {file.images[0].segments[1].name: 1}.get(b"__TEXT")), (True, "x86_64", 1))
+
+
+def judge_tables(report):
+    """A table longer than two batches, by its indexes and by its slices."""
+    count = 2 * kesvuot.BATCH + 5
+    out = io.BytesIO()
+    images.maker(f"symbols-{count}")(out)
+    data = out.getvalue()
+    table = kesvuot.verify(data).images[0].symbols
+    rows = list(wanted_symbols(oracle.File(data).slices[0]))
+
+    def read(some):
+        return list(map(as_bytes, some))
+
+    report.case("a long table: its length", (len(table), len(rows)), (count, count))
+    report.case("a long table: its rows differ", len(set(rows)) > count // 2, True)
+    report.case("a long table in a loop", read(table) == rows, True)
+    report.case("a long table by indexes", read(table[index] for index in range(count)) == rows, True)
+    batch = kesvuot.BATCH
+    for key in (slice(3, 5), slice(batch - 1, batch + 1), slice(1, 2 * batch + 2), slice(None, None, 1000),
+                slice(None, None, -999), slice(-3, None), slice(5, 5), slice(7, 3), slice(count, count + 9)):
+        report.case(f"a long table: {key}", read(table[key]) == rows[key], True)
+    report.case("a slice of a slice", read(table[10:90][20:30:3]) == rows[10:90][20:30:3], True)
+    report.case("the ends of a table", (read([table[0], table[-1], table[-count]])), [rows[0], rows[-1], rows[0]])
+    report.case("a long table backwards", read(reversed(table)) == rows[::-1], True)
+    for index in (count, -count - 1, 2 ** 64):
+        report.case(f"no row {index}", raised(IndexError, lambda index=index: table[index]), True)
+
+
+def judge_changes(report, data):
+    """Bytes that change after the verdict: each view still ends."""
+    rng = random.Random(45)
+    ended = 0
+    for number in range(300):
+        given = bytearray(data)
+        image = kesvuot.verify(given).images[0]
+        for _ in range(rng.choice((1, 1, 2, 5, 50))):
+            width = rng.choice((1, 4, 4, 8))
+            place = rng.randrange(0, len(data) - width if number % 2 else 0x420)
+            given[place:place + width] = rng.choice((b"\xff", b"\0", bytes((rng.randrange(256),)))) * width
+        read_all(image)
+        ended += 1
+    report.case("the views of bytes that have changed", ended, 300)
+    given = bytearray(data)
+    file = kesvuot.verify(given)
+    given[0:4] = b"none"
+    report.case("slices that are gone", raised(RuntimeError, lambda: file.slices), True)
+
+
+def read_all(image):
+    """Reads all views of an image."""
+    list(all_parts(SimpleNamespace(data=image.bytes, images=[image])))
+    for rows in (image.builds, image.indirects, image.local_symbols, image.defined_symbols, image.undefined_symbols):
+        list(rows)
+
+
+def judge_memory(report):
+    """Without memory there is no verdict. Of so many slices the library keeps a list."""
+    with tempfile.TemporaryDirectory() as room:
+        path = Path(room, "slices")
+        with path.open("wb") as out:
+            images.maker("slices-100000-report")(out)
+        lines = ("import resource, sys, kesvuot", "data = open(sys.argv[1], 'rb').read()", "kesvuot.library_version()",
+                 "size = int(open('/proc/self/statm').read().split()[0]) * resource.getpagesize() + int(sys.argv[2])",
+                 "resource.setrlimit(resource.RLIMIT_AS, (size, size))",
+                 "try: print(kesvuot.verify(data).slice_count)", "except MemoryError: print('no memory')")
+        environment = {**os.environ, "PYTHONPATH": str(TOP / "bindings" / "python")}
+        for spare, wanted in ((1 << 20, "no memory"), (1 << 26, "100000")):
+            said = subprocess.run([sys.executable, "-c", "\n".join(lines), path, str(spare)], stdout=subprocess.PIPE,
+                                  check=False, text=True, env=environment)
+            report.case(f"a file of 100,000 slices with {spare >> 20} MiB", said.stdout.strip(), wanted)
+
+
+def judge_folders(report, folders):
+    for folder in folders:
+        files = oracle_trials.read_folder(folder)
+        for is_strict in (False, True):
+            compare_program(report, folder, files, is_strict)
+        compare_views(report, folder, [(name, data) for name, data in files if verdict(data, False) == "accepted"])
+
+
+def main(words):
+    report = Report()
+    all_kinds, mixed = (Path(path).read_bytes() for path in words[:2])
+    (_, program, layout), _ = oracle_trials.read_real()
+    judge_vectors(report)
+    judge_texts(report)
+    compare_reads(report, all_kinds)
+    compare_mixed(report, mixed)
+    compare_addresses(report)
+    compare_all_views(report, all_kinds, mixed)
+    compare_json(report)
+    judge_buffers(report, program, layout.decode())
+    judge_lives(report, program)
+    judge_exceptions(report, program)
+    judge_tables(report)
+    judge_changes(report, program)
+    judge_memory(report)
+    judge_folders(report, words[2:])
+
+
+if __name__ == "__main__":
+    main(sys.argv[1:])
