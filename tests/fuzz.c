@@ -513,6 +513,7 @@ static struct kesvuot_verdict check_file(const uint8_t *file, size_t size) {
         check_slice(file, size, k, slices, is_accepted);
     }
     check_slice(file, size, slices, slices, is_accepted);
+    check_slice(file, size, (uint64_t)1 << 32, slices, is_accepted);
     check_slice(file, size, UINT64_MAX, slices, is_accepted);
     return verdict;
 }
