@@ -51,7 +51,7 @@ enum {
     KESVUOT_REFUSED = 1,   /* the bytes break a rule */
     KESVUOT_NO_MEMORY = 2, /* memory ran out: there is no verdict */
     KESVUOT_NONE = 3,      /* there is no such thing */
-    KESVUOT_UNREAD = 4,    /* the slice is of 32 bits or big-endian: what is in it was not judged */
+    KESVUOT_UNREAD = 4,    /* the slice is of 32 bits or big-endian: nothing in it is judged */
     KESVUOT_ZERO = 5       /* the address is mapped, but to no byte of the file: a loader puts a zero there */
 };
 
@@ -139,7 +139,7 @@ struct kesvuot_image {
     struct kesvuot_bytes bytes; /* the slice */
     uint64_t place;             /* where the slice begins in the file */
     uint64_t base;              /* HAS_BASE: the address of the header, before any slide */
-    uint64_t entry;             /* HAS_ENTRY: the address that LC_MAIN names, before any slide */
+    uint64_t entry;             /* HAS_ENTRY: base + entryoff of LC_MAIN */
     uint64_t symbols;           /* HAS_SYMTAB: symoff, nsyms, stroff, strsize of LC_SYMTAB */
     uint64_t symbol_count;
     uint64_t strings;
@@ -203,7 +203,7 @@ struct kesvuot_section { /* section_64. The section n_sect of a symbol has the i
     uint32_t zero_fill; /* 1: a loader fills it with zeros. 0: it has bytes in the file */
 };
 
-struct kesvuot_library { /* dylib_command: LC_ID_DYLIB, the name of the library itself, and each LC_LOAD_DYLIB or kin */
+struct kesvuot_library { /* dylib_command. That of LC_ID_DYLIB is the image itself. */
     struct kesvuot_bytes name;
     uint32_t cmd;
     uint32_t current; /* x << 16 | y << 8 | z */
@@ -220,7 +220,7 @@ struct kesvuot_build { /* build_version_command */
 
 struct kesvuot_command { /* load_command */
     struct kesvuot_bytes bytes; /* all cmdsize bytes */
-    struct kesvuot_bytes name;  /* of a library, LC_RPATH, LC_LOAD_DYLINKER and their kin, else none */
+    struct kesvuot_bytes name;  /* of a library, a run path or a dynamic linker, otherwise none */
     uint64_t place;             /* where it begins in the slice */
     uint32_t cmd;
     uint32_t reserved;
