@@ -50,6 +50,9 @@ static void stop(const char *condition, int line) {
     abort();
 }
 
+// Whether the file breaks a rule, none, or none of the strict profile either.
+enum accepted { REFUSED = 0, ACCEPTED, ACCEPTED_STRICTLY };
+
 // Counters
 
 __attribute__((section("__libfuzzer_extra_counters"))) static uint8_t counters[64 * 64];
@@ -166,7 +169,7 @@ static void check_batches(const struct table *table, const struct kesvuot_image 
 
 // Reads a table of an image as kesvuot_image has written it. There are no more rows than it says, and no fewer where
 // the file is accepted.
-static struct rows read_table(unsigned number, const struct kesvuot_image *image, bool is_accepted) {
+static struct rows read_table(unsigned number, const struct kesvuot_image *image, enum accepted accepted) {
     const struct table *table = &tables[number];
     uint64_t wanted;
     memcpy(&wanted, (const uint8_t *)image + table->count_at, sizeof wanted);
@@ -174,7 +177,7 @@ static struct rows read_table(unsigned number, const struct kesvuot_image *image
     size_t max = wanted <= image->bytes.len ? (size_t)wanted : image->bytes.len;
     struct rows all = read_rows(table, image, 0, max + 1);
     CHECK(all.count <= wanted);
-    CHECK(!is_accepted || all.count == wanted);
+    CHECK(!accepted || all.count == wanted);
     check_batches(table, image, &all);
     reach(TABLES + number, all.count);
     return all;
@@ -182,14 +185,14 @@ static struct rows read_table(unsigned number, const struct kesvuot_image *image
 
 // The rows of an image
 
-static void check_segments(const struct kesvuot_image *image, const struct rows *all, bool is_accepted) {
+static void check_segments(const struct kesvuot_image *image, const struct rows *all, enum accepted accepted) {
     const struct kesvuot_segment *row = all->rows;
     uint64_t sections = 0;
     for (size_t k = 0; k < all->count; k++, row++) {
         check_inside(image, row->name);
         check_inside(image, row->bytes);
         CHECK(row->name.len <= 16);
-        if (is_accepted) {
+        if (accepted) {
             check_part(image, row->bytes, row->fileoff, row->filesize);
             CHECK(is_empty(row->bytes) || kesvuot_place(image, row->bytes) == image->place + row->fileoff);
             CHECK(row->first_section == sections);
@@ -198,7 +201,7 @@ static void check_segments(const struct kesvuot_image *image, const struct rows 
             sections += row->section_count;
         }
     }
-    CHECK(!is_accepted || sections == image->section_count);
+    CHECK(!accepted || sections == image->section_count);
 }
 
 // An address of a segment that is mapped is at the byte which the segment has for it, or at none.
@@ -221,7 +224,24 @@ static void check_addresses(const struct kesvuot_image *image, const struct rows
     }
 }
 
-static void check_sections(const struct kesvuot_image *image, const struct rows *all, bool is_accepted) {
+// Each byte that is not zero is in just one segment, and no other byte is in two.
+static void check_covered(const struct kesvuot_image *image, const struct rows *all) {
+    const struct kesvuot_segment *row = all->rows;
+    uint8_t *covered = calloc(image->bytes.len, 1);
+    CHECK(covered != NULL);
+    for (size_t k = 0; k < all->count; k++, row++) {
+        if (!is_empty(row->bytes)) {
+            CHECK(memchr(covered + row->fileoff, 1, row->bytes.len) == NULL);
+            memset(covered + row->fileoff, 1, row->bytes.len);
+        }
+    }
+    for (size_t k = 0; k < image->bytes.len; k++) {
+        CHECK(covered[k] || image->bytes.at[k] == 0);
+    }
+    free(covered);
+}
+
+static void check_sections(const struct kesvuot_image *image, const struct rows *all, enum accepted accepted) {
     const struct kesvuot_section *row = all->rows;
     for (size_t k = 0; k < all->count; k++, row++) {
         check_inside(image, row->name);
@@ -230,7 +250,7 @@ static void check_sections(const struct kesvuot_image *image, const struct rows 
         CHECK(row->name.len <= 16 && row->segment.len <= 16);
         CHECK(row->zero_fill <= 1);
         CHECK(!row->zero_fill || is_empty(row->bytes));
-        if (is_accepted && !row->zero_fill) {
+        if (accepted && !row->zero_fill) {
             check_part(image, row->bytes, row->offset, row->size);
         }
     }
@@ -320,7 +340,7 @@ static void check_commands(const struct kesvuot_image *image, const struct rows 
     }
 }
 
-static void check_symbols(const struct kesvuot_image *image, const struct rows *all, bool is_accepted) {
+static void check_symbols(const struct kesvuot_image *image, const struct rows *all, enum accepted accepted) {
     const struct kesvuot_symbol *row = all->rows;
     for (size_t k = 0; k < all->count; k++, row++) {
         // Where many symbols share a long string, this would read it as often.
@@ -328,39 +348,42 @@ static void check_symbols(const struct kesvuot_image *image, const struct rows *
             check_inside(image, row->name);
             check_ended(image, row->name);
         }
-        if (is_accepted && row->strx != 0) {
+        if (accepted && row->strx != 0) {
             CHECK(row->strx < image->strings_size);
             CHECK(image->bytes.at[image->strings + row->strx + row->name.len] == 0);
         }
-        if (is_accepted && (row->type & N_STAB) == 0 && (row->type & N_TYPE) == N_SECT) {
+        if (accepted && (row->type & N_STAB) == 0 && (row->type & N_TYPE) == N_SECT) {
             CHECK(row->sect > 0 && row->sect <= image->section_count);
         }
     }
 }
 
-static void check_indirects(const struct kesvuot_image *image, const struct rows *all, bool is_accepted) {
+static void check_indirects(const struct kesvuot_image *image, const struct rows *all, enum accepted accepted) {
     const uint32_t *row = all->rows;
     for (size_t k = 0; k < all->count; k++, row++) {
-        CHECK(!is_accepted || (*row & INDIRECT_SYMBOL_LOCAL_OR_ABS) != 0 || *row < image->symbol_count);
+        CHECK(!accepted || (*row & INDIRECT_SYMBOL_LOCAL_OR_ABS) != 0 || *row < image->symbol_count);
     }
 }
 
-static void check_tables(const struct kesvuot_image *image, bool is_accepted) {
+static void check_tables(const struct kesvuot_image *image, enum accepted accepted) {
     struct rows all[TABLE_COUNT];
     for (unsigned k = 0; k < TABLE_COUNT; k++) {
-        all[k] = read_table(k, image, is_accepted);
+        all[k] = read_table(k, image, accepted);
     }
-    check_segments(image, &all[SEGMENTS], is_accepted);
-    check_sections(image, &all[SECTIONS], is_accepted);
+    check_segments(image, &all[SEGMENTS], accepted);
+    check_sections(image, &all[SECTIONS], accepted);
     check_libraries(image, &all[LIBRARIES]);
     check_builds(&all[BUILDS]);
     check_commands(image, &all[COMMANDS]);
-    check_symbols(image, &all[SYMBOLS], is_accepted);
-    check_indirects(image, &all[INDIRECTS], is_accepted);
-    if (is_accepted) {
+    check_symbols(image, &all[SYMBOLS], accepted);
+    check_indirects(image, &all[INDIRECTS], accepted);
+    if (accepted) {
         check_addresses(image, &all[SEGMENTS]);
         check_section_addresses(image, &all[SEGMENTS], &all[SECTIONS]);
         check_linkedits(image, &all[COMMANDS]);
+    }
+    if (accepted == ACCEPTED_STRICTLY) {
+        check_covered(image, &all[SEGMENTS]);
     }
     for (unsigned k = 0; k < TABLE_COUNT; k++) {
         free(all[k].rows);
@@ -383,16 +406,16 @@ static void check_any(const struct kesvuot_image *image, uint64_t first, size_t 
         struct rows some = read_rows(&tables[k], image, first, max);
         switch (k) {
         case SEGMENTS:
-            check_segments(image, &some, false);
+            check_segments(image, &some, REFUSED);
             break;
         case SECTIONS:
-            check_sections(image, &some, false);
+            check_sections(image, &some, REFUSED);
             break;
         case LIBRARIES:
             check_libraries(image, &some);
             break;
         case SYMBOLS:
-            check_symbols(image, &some, false);
+            check_symbols(image, &some, REFUSED);
             break;
         default:
             break;
@@ -423,10 +446,10 @@ static void check_lies(const struct kesvuot_image *image, const uint8_t *file, s
 
 // Files
 
-static void check_image(const struct kesvuot_image *image, const uint8_t *file, size_t size, bool is_accepted) {
+static void check_image(const struct kesvuot_image *image, const uint8_t *file, size_t size, enum accepted accepted) {
     struct kesvuot_bytes bytes;
-    check_tables(image, is_accepted);
-    if ((image->has & KESVUOT_HAS_ENTRY) != 0 && is_accepted) {
+    check_tables(image, accepted);
+    if ((image->has & KESVUOT_HAS_ENTRY) != 0 && accepted) {
         CHECK(kesvuot_at(image, image->entry, &bytes) == KESVUOT_OK && !is_empty(bytes));
     }
     check_at(image, image->base);
@@ -449,7 +472,7 @@ static void check_unread(const struct kesvuot_image *image, bool has_slice) {
 }
 
 // The image of a slice of a file that has so many. Of a refused file it may have any number.
-static void check_slice(const uint8_t *file, size_t size, uint64_t slice, uint64_t slices, bool is_accepted) {
+static void check_slice(const uint8_t *file, size_t size, uint64_t slice, uint64_t slices, enum accepted accepted) {
     struct kesvuot_image image;
     const struct kesvuot_image whole = {.bytes = {file, size}};
     memset(&image, UNWRITTEN, sizeof image);
@@ -457,13 +480,13 @@ static void check_slice(const uint8_t *file, size_t size, uint64_t slice, uint64
     bool is_found = status == KESVUOT_OK || status == KESVUOT_UNREAD;
     reach(IMAGE, status);
     CHECK(is_found || status == KESVUOT_NONE || status == KESVUOT_REFUSED);
-    CHECK(!is_accepted || (slice < slices ? is_found : status == KESVUOT_NONE));
+    CHECK(!accepted || (slice < slices ? is_found : status == KESVUOT_NONE));
     if (is_found) {
         check_inside(&whole, image.bytes);
         CHECK(image.bytes.at == file + image.place);
     }
     if (status == KESVUOT_OK) {
-        check_image(&image, file, size, is_accepted);
+        check_image(&image, file, size, accepted);
     } else {
         check_unread(&image, is_found);
     }
@@ -486,35 +509,35 @@ static void check_verdict(uint32_t status, const struct kesvuot_verdict *verdict
 }
 
 // The strict verdict of a file that breaks another rule is the same.
-static struct kesvuot_verdict check_verdicts(const uint8_t *file, size_t size) {
-    struct kesvuot_verdict verdict, strict;
-    memset(&verdict, UNWRITTEN, sizeof verdict);
+static enum accepted check_verdicts(const uint8_t *file, size_t size, struct kesvuot_verdict *verdict) {
+    struct kesvuot_verdict strict;
+    memset(verdict, UNWRITTEN, sizeof *verdict);
     memset(&strict, UNWRITTEN, sizeof strict);
-    uint32_t status = kesvuot_verify(file, size, &verdict);
-    check_verdict(status, &verdict, size, KESVUOT_ENTRY);
+    uint32_t status = kesvuot_verify(file, size, verdict);
+    check_verdict(status, verdict, size, KESVUOT_ENTRY);
     uint32_t strict_status = kesvuot_verify_strictly(file, size, &strict);
     check_verdict(strict_status, &strict, size, KESVUOT_STRAY_BYTE);
     if (status == KESVUOT_REFUSED || strict_status == KESVUOT_OK) {
-        CHECK(strict_status == status && is_same(&verdict, &strict));
+        CHECK(strict_status == status && is_same(verdict, &strict));
     } else {
         CHECK(strict.rule >= KESVUOT_FAT_STRAY_BYTE);
     }
-    reach(verdict.rule, verdict.place);
+    reach(verdict->rule, verdict->place);
     reach(strict.rule, strict.place);
-    return verdict;
+    return status == KESVUOT_REFUSED ? REFUSED : strict_status == KESVUOT_OK ? ACCEPTED_STRICTLY : ACCEPTED;
 }
 
 static struct kesvuot_verdict check_file(const uint8_t *file, size_t size) {
-    struct kesvuot_verdict verdict = check_verdicts(file, size);
-    bool is_accepted = verdict.rule == 0;
-    uint64_t slices = is_accepted ? verdict.slices : 3;
+    struct kesvuot_verdict verdict;
+    enum accepted accepted = check_verdicts(file, size, &verdict);
+    uint64_t slices = accepted ? verdict.slices : 3;
     reach(SLICES, verdict.slices);
     for (uint64_t k = 0; k < slices && k < 99; k++) {
-        check_slice(file, size, k, slices, is_accepted);
+        check_slice(file, size, k, slices, accepted);
     }
-    check_slice(file, size, slices, slices, is_accepted);
-    check_slice(file, size, (uint64_t)1 << 32, slices, is_accepted);
-    check_slice(file, size, UINT64_MAX, slices, is_accepted);
+    check_slice(file, size, slices, slices, accepted);
+    check_slice(file, size, (uint64_t)1 << 32, slices, accepted);
+    check_slice(file, size, UINT64_MAX, slices, accepted);
     return verdict;
 }
 
