@@ -123,8 +123,8 @@ uint32_t kesvuot_rule(uint32_t rule, struct kesvuot_bytes *name);
 
 /* An image
  *
- * <mach-o/loader.h> and <mach-o/nlist.h> explain the fields. Offsets count from the start of the slice, but `place` of an
- * image counts from the start of the file. A name ends before its zero byte. Reserved fields are 0. */
+ * <mach-o/loader.h> and <mach-o/nlist.h> explain the fields. Offsets count from the start of the slice, but `place` of
+ * an image counts from the start of the file. A name ends before its zero byte. Reserved fields are 0. */
 
 /* Which parts an image has: bits of `has`. */
 enum {
