@@ -21,6 +21,8 @@ import struct
 import subprocess
 import sys
 import tempfile
+import threading
+import time
 import weakref
 from collections import Counter
 from pathlib import Path
@@ -608,12 +610,17 @@ def judge_exceptions(report, data):
                                         {file.images[0].segments[1].name: 1}.get(b"__TEXT")), (True, "x86_64", 1))
 
 
+def made(name):
+    """The file of this name of bench/images.py."""
+    out = io.BytesIO()
+    images.maker(name)(out)
+    return out.getvalue()
+
+
 def judge_tables(report):
     """A table longer than two batches, by its indexes and by its slices."""
     count = 2 * kesvuot.BATCH + 5
-    out = io.BytesIO()
-    images.maker(f"symbols-{count}")(out)
-    data = out.getvalue()
+    data = made(f"symbols-{count}")
     table = kesvuot.verify(data).images[0].symbols
     rows = list(wanted_symbols(oracle.File(data).slices[0]))
 
@@ -633,6 +640,35 @@ def judge_tables(report):
     report.case("a long table backwards", read(reversed(table)) == rows[::-1], True)
     for index in (count, -count - 1, 2 ** 64):
         report.case(f"no row {index}", raised(IndexError, lambda index=index: table[index]), True)
+
+
+def judge_threads(report):
+    """While a call runs, no other thread of Python does. This one gives way only where it sleeps. The calls take long
+    enough for another one to begin."""
+    data = made("symbols-100000")
+    count, is_over = 0, False
+
+    def work():
+        nonlocal count
+        while not is_over:
+            count += 1
+            time.sleep(0)
+
+    before = sys.getswitchinterval()
+    sys.setswitchinterval(1000)
+    other = threading.Thread(target=work)
+    other.start()
+    while count == 0:
+        time.sleep(0.001)
+    started = count
+    for _ in range(20):
+        kesvuot.verify(data)
+    report.case("what another thread does during calls", count - started, 0)
+    time.sleep(0.01)
+    report.case("and after them", count > started, True)
+    is_over = True
+    other.join()
+    sys.setswitchinterval(before)
 
 
 def judge_changes(report, data):
@@ -666,8 +702,7 @@ def judge_memory(report):
     """Without memory there is no verdict. Of so many slices the library keeps a list."""
     with tempfile.TemporaryDirectory() as room:
         path = Path(room, "slices")
-        with path.open("wb") as out:
-            images.maker("slices-100000-report")(out)
+        path.write_bytes(made("slices-100000-report"))
         lines = ("import resource, sys, kesvuot", "data = open(sys.argv[1], 'rb').read()", "kesvuot.library_version()",
                  "size = int(open('/proc/self/statm').read().split()[0]) * resource.getpagesize() + int(sys.argv[2])",
                  "resource.setrlimit(resource.RLIMIT_AS, (size, size))",
@@ -702,6 +737,7 @@ def main(words):
     judge_lives(report, program)
     judge_exceptions(report, program)
     judge_tables(report)
+    judge_threads(report)
     judge_changes(report, program)
     judge_memory(report)
     judge_folders(report, words[2:])

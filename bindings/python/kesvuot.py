@@ -165,16 +165,15 @@ class Dysymtab(NamedTuple):
 
 
 class _Kind(NamedTuple):
-    """A kind of rows: the call that writes them, the form of one, and what becomes of its fields. `part` gives the part
-    of the file of a pointer and a length."""
+    """A kind of rows: the call that writes them, the form of one, and the function that makes a row of the fields. Its
+    first argument makes a memoryview of a pointer and a length."""
 
     call: str
     form: struct.Struct
     row: Callable[[Callable[[int, int], memoryview], Tuple[Any, ...]], Any]
 
 
-# The structures of kesvuot.h. PN is a pointer and a length. What is reserved is passed over, as x. Of a number that is 0
-# or 1 the lowest byte is read, as ?.
+# The structures of kesvuot.h. PN is a pointer and a length, x is reserved, and ?3x is a number that is 0 or 1.
 PART = struct.Struct("@PN")
 VERDICT = struct.Struct("@2QI4x")
 IMAGE = struct.Struct("@PN14Q11I16s20x")
@@ -206,7 +205,7 @@ def _find() -> str:
 def _library() -> Any:
     """The library, which the first call loads. Raises ImportError if that fails."""
     try:
-        # By PyDLL a call holds the GIL.
+        # A call of a PyDLL holds the GIL.
         library = ctypes.PyDLL(_find())
         if library.kesvuot_version() >> 16 != MAJOR:
             raise OSError(f"its version is not {MAJOR}")
@@ -248,7 +247,7 @@ _release_buffer = ctypes.PYFUNCTYPE(None, ctypes.c_void_p)(("PyBuffer_Release", 
 
 
 def _address(view: memoryview) -> int:
-    """Where the bytes of a view are. ctypes itself gives that only of bytes that may be written."""
+    """Where the bytes of a view are. ctypes itself tells that only of bytes that may be written."""
     buffer = _Buffer()
     _get_buffer(view, ctypes.byref(buffer), 0)
     try:
@@ -258,7 +257,7 @@ def _address(view: memoryview) -> int:
 
 
 class _Bytes:
-    """The bytes of a file, which stay where they are for as long as this or a part of them is there."""
+    """The bytes of a file. They stay where they are for as long as this object or a part of them lives."""
 
     def __init__(self, data: Data) -> None:
         self.view = memoryview(data).toreadonly().cast("B")
@@ -669,14 +668,12 @@ def main(words: Optional[List[str]] = None) -> int:
     try:
         library_version()
         return _report_all(arguments)
-    except ImportError as error:
-        print(f"kesvuot: {error}", file=sys.stderr)
-    except MemoryError:
-        print("kesvuot: out of memory", file=sys.stderr)
     except OSError:
         print("kesvuot: write failed", file=sys.stderr)
         # Whatever is not yet written goes nowhere when Python ends, instead of failing again.
         os.dup2(os.open(os.devnull, os.O_WRONLY), 1)
+    except Exception as error:  # pylint: disable=broad-except # Python would end with 1, which is a refusal
+        print(f"kesvuot: {str(error) or 'out of memory'}", file=sys.stderr)
     return NO_VERDICT_STATUS
 
 
