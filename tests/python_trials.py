@@ -385,8 +385,8 @@ def compare_image(found, wanted):
         yield name, list(map(as_bytes, getattr(found, name))), list(rows)
     yield "indirects", list(found.indirects), wanted_indirects(wanted)
     yield from compare_groups(found, wanted)
-    # A number that is none of 32 bits is no cmd.
-    for cmd in sorted({command.cmd for command in wanted.commands} | set(oracle.LISTED) | {-1, 0x1_0000_0026}):
+    # A number that is not of 32 bits is no cmd.
+    for cmd in {command.cmd for command in wanted.commands} | set(DATA_COMMANDS) | {-1, 0x1_0000_0026}:
         data = found.linkedit(cmd)
         yield f"linkedit {cmd:#x}", None if data is None else data.tobytes(), wanted_data(wanted, cmd)
     for address in edges(wanted):
