@@ -65,7 +65,7 @@ def judge_all(files: List[str], strict: bool, jobs: int) -> Iterator[Verdict]:
     done = 0
     with ProcessPoolExecutor(jobs) as pool:
         try:
-            for verdict in pool.map(partial(judge, strict=strict), files, chunksize=4):
+            for verdict in pool.map(partial(judge, strict=strict), files, chunksize=16):
                 done += 1
                 yield verdict
         except BrokenProcessPool:

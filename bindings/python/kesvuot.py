@@ -247,7 +247,7 @@ _release_buffer = ctypes.PYFUNCTYPE(None, ctypes.c_void_p)(("PyBuffer_Release", 
 
 
 def _address(view: memoryview) -> int:
-    """Where the bytes of a view are. ctypes itself tells that only of bytes that may be written."""
+    """Where the bytes of a view are. The calls of ctypes for this refuse bytes that are read-only."""
     buffer = _Buffer()
     _get_buffer(view, ctypes.byref(buffer), 0)
     try:
