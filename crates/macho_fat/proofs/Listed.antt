@@ -16,7 +16,7 @@ pub record AreFirst (file : List ℕ) (k : ℕ) (slices : List Slice) : Type 0 w
 pub none_listed : (file : List ℕ) (slices : List Slice) → slices ≡ [] → AreFirst file 0 slices
 none_listed file slices is = subst (AreFirst file 0) (sym is) (record { all = refl; read = All-nil (MarksRead file) })
 
-same_slice : (slice : Slice) (other : FileSlice) → slice.span.start ≡ other.start → slice.span.len ≡ other.size → slice.arch ≡ other.arch → slice_of slice ≡ other
+pub same_slice : (slice : Slice) (other : FileSlice) → slice.span.start ≡ other.start → slice.span.len ≡ other.size → slice.arch ≡ other.arch → slice_of slice ≡ other
 same_slice slice other start size arch = ap₂ (λ s n. of_parts s n slice.arch) start size ∙ ap (of_parts other.start other.size) arch
   where
     of_parts : ℕ → ℕ → Option (ℕ × ℕ) → FileSlice

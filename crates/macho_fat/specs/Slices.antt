@@ -1,5 +1,8 @@
 -- What the slices of a file are, and what is returned where a rule is broken or memory runs out.
-use Rattle.std.specs.Prelude.{◌≡◌, ◌↔◌, ℕ, List, map, All, IsTrue}
+use Rattle.std.specs.Prelude.{◌≡◌, ◌↔◌, ℕ, ◌≤◌, List, length, map, All, IsTrue}
+use Rattle.macho_fields.specs.Field.{part}
+use Rattle.macho_fields.specs.Span.{end_of}
+use Rattle.macho_fields.specs.declared.span.Span.{Span}
 use Rattle.macho_fields.specs.Universal.{FileSlice, slices_of, slice_bytes, IsImage}
 use Rattle.macho_fields.specs.Rules.{BreaksFile}
 use Rattle.macho_fields.specs.First.{rank}
@@ -16,6 +19,15 @@ slice_of slice = record { start = slice.span.start; size = slice.span.len; arch 
 -- the slice is marked as read exactly where its bytes are a 64-bit image
 abbrev pub MarksRead : List ℕ → Slice → Type 0
 MarksRead file slice = IsTrue slice.read ↔ IsImage (slice_bytes file (slice_of slice))
+
+-- the span lies inside the file, and its bytes are a 64-bit image
+abbrev pub HasImageInside : List ℕ → Span → Type 0
+HasImageInside file span =
+    (end_of span ≤ length file) × IsImage (part span.start span.len file)
+
+-- the slice is marked as read exactly where it lies inside the file and is a 64-bit image
+abbrev pub MarksReadInside : List ℕ → Slice → Type 0
+MarksReadInside file slice = IsTrue slice.read ↔ HasImageInside file slice.span
 
 -- these are the slices of a file, in order, each marked as read or not
 pub record AreSlices (file : List ℕ) (slices : List Slice) : Type 0 where

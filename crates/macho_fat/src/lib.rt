@@ -10,4 +10,5 @@ mod survey;
 mod table;
 
 pub use fault::FatFault;
-pub use slice::{Slice, slices};
+pub use rules::is_unread_image;
+pub use slice::{Slice, slice_at, slices};

@@ -134,9 +134,9 @@ pub(crate) fn is_image(bytes: Bytes) -> bool
     bytes.u32_at(Order::Little, 0) == Some(MH_MAGIC_64)
 }
 
-// Whether the bytes begin with the magic number of an image that is not read: one of 32 bits, or
-// a big-endian one.
-fn is_unread_image(bytes: Bytes) -> bool
+/// Whether the bytes begin with the magic number of an image that is not read: one of 32 bits, or
+/// a big-endian one.
+pub fn is_unread_image(bytes: Bytes) -> bool
     ensures { IsTrue result ↔ IsUnreadImage (bytes_of bytes.entry) }
 {
     bytes.u32_at(Order::Little, 0) == Some(MH_MAGIC)

@@ -1,18 +1,21 @@
 //! The slices of a file.
 
-ghost use Rattle.std.specs.Prelude.{◌≡◌, false, length, map, All, IfOk, OnOk, IfErr};
+ghost use Rattle.std.specs.Prelude.{◌≡◌, ◌<◌, false, length, map, slice_get, All, ◌↔◌, IsTrue, IfOk, OnOk, IfErr, IfSome};
+ghost use Rattle.std.specs.Option.{option_map};
 ghost use Rattle.std.specs.Vec.{vec_capacity};
 ghost use Rattle.macho_fields.specs.Bytes.{bytes_of};
-ghost use Rattle.macho_fields.specs.Layers.{NothingBreaks};
+ghost use Rattle.macho_fields.specs.Layers.{NothingBreaks, Continues};
 ghost use Rattle.macho_fields.specs.Rules.{BreaksFile};
 ghost use Rattle.macho_fields.specs.Universal.{is_universal, slices_of, IsImage};
+ghost use Rattle.macho_fields.specs.declared.rule.Rule.{Rule};
 ghost use Rattle.macho_fat.specs.Slices.{slice_of, MarksRead, AreSlices, IsFatFault};
+ghost use Rattle.macho_fat.specs.Slices.{HasImageInside, MarksReadInside};
 
 use crate::check::check_file;
 use crate::fault::FatFault;
-use crate::rules::is_image;
+use crate::rules::{Format, fat_truncated, is_image, magic};
 use crate::table::Table;
-use macho_fields::{Bytes, Span};
+use macho_fields::{Break, Bytes, Span};
 use std::alloc::{AllocError, Global};
 
 /// The part of a file that holds one image.
@@ -47,6 +50,70 @@ pub fn slices(alloc: Global, file: Bytes) -> Result<Vec<Slice>, FatFault>
     match check_file(alloc, file)? {
         None => Ok(whole(alloc, file)?),
         Some(table) => Ok(listed(alloc, &table)?),
+    }
+}
+
+/// The slice that [`slices`] lists at `index`, or `None` where it lists none there. It takes no memory,
+/// and the same time whatever the index is. Only the rules `magic` and `fat-truncated` are decided: the
+/// error is the first broken one, and a slice may be anywhere. One that does not lie inside the file is
+/// not marked as read.
+pub fn slice_at(file: Bytes, index: u64) -> Result<Option<Slice>, Break>
+    ensures decides { Continues (BreaksFile (bytes_of file.entry)) Rule.FatTruncated result }
+    ensures slice { IfOk result (λ slice.
+        option_map slice_of slice ≡ slice_get (slices_of (bytes_of file.entry)) index) }
+    ensures read { IfOk result (λ slice. IfSome slice (MarksReadInside (bytes_of file.entry))) }
+{
+    match magic(file)? {
+        Format::Image => Ok(whole_at(file, index)),
+        Format::Universal => Ok(listed_at(file, &fat_truncated(file)?, index)),
+    }
+}
+
+// The slice with this index in a file that is an image, which has one.
+fn whole_at(file: Bytes, index: u64) -> Option<Slice>
+    requires image { IsImage (bytes_of file) }
+    requires plain { is_universal (bytes_of file) ≡ false }
+    ensures slice { option_map slice_of result ≡ slice_get (slices_of (bytes_of file.entry)) index }
+    ensures read { IfSome result (MarksReadInside (bytes_of file.entry)) }
+{
+    if index > 0 {
+        return None;
+    }
+    let span = Span {
+        start: 0,
+        len: file.len(),
+    };
+    Some(Slice {
+        span,
+        arch: None,
+        read: has_image(file, span),
+    })
+}
+
+// The slice with this index in a table.
+fn listed_at(file: Bytes, table: &Table, index: u64) -> Option<Slice>
+    requires { table.now ≡ bytes_of file }
+    ensures slice { option_map slice_of result ≡ slice_get (slices_of (bytes_of file.entry)) index }
+    ensures read { IfSome result (MarksReadInside (bytes_of file.entry)) }
+{
+    if index >= u64::from(table.count()) {
+        return None;
+    }
+    let entry = table.entry(index as u32);
+    Some(Slice {
+        span: entry.span,
+        arch: Some(entry.arch),
+        read: has_image(file, entry.span),
+    })
+}
+
+// Whether a span lies inside the file, and begins with the magic number of a 64-bit little-endian image.
+fn has_image(file: Bytes, span: Span) -> bool
+    ensures { IsTrue result ↔ HasImageInside (bytes_of file.entry) span }
+{
+    match file.part(span) {
+        Some(bytes) => is_image(Bytes::new(bytes)),
+        None => false,
     }
 }
 

@@ -1,0 +1,21 @@
+#![tactic(auto)]
+//! `libkesvuot`: the verdict on a file and the views of its images, for C and all that can call C.
+//!
+//! No export has a `requires`: each is safe and returns on any bytes and on any numbers in the
+//! structures that it is passed. What an export hands out is borrowed from the bytes of the file.
+
+mod address;
+mod builds;
+mod commands;
+mod image;
+mod indirects;
+mod libraries;
+mod linkedit;
+mod narrow;
+mod rule;
+mod sections;
+mod segments;
+mod status;
+mod symbols;
+mod verdict;
+mod version;

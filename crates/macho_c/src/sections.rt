@@ -1,0 +1,86 @@
+//! The sections of all segments of an image.
+
+use crate::image::{KesvuotImage, part_or_none};
+use crate::narrow::narrow;
+use macho_fields::{Bytes, Span};
+use macho_image::{Image, Section};
+
+/// A section. (`section_64`)
+#[repr(C)]
+#[derive(Clone, Copy)]
+pub struct KesvuotSection<'a> {
+    pub name: &'a [u8],
+    /// The name of its segment.
+    pub segment: &'a [u8],
+    /// Its bytes in the image: none where it is zero-fill.
+    pub bytes: &'a [u8],
+    pub addr: u64,
+    pub size: u64,
+    pub offset: u32,
+    pub align: u32,
+    pub reloff: u32,
+    pub nreloc: u32,
+    pub flags: u32,
+    pub reserved1: u32,
+    pub reserved2: u32,
+    /// 1 where it is zero-fill, and otherwise 0.
+    pub zero_fill: u32,
+}
+
+/// Writes the sections from the index `first` on to the table, as many as it has rows and as there
+/// are, and returns how many it wrote. The rows after these are left as they were. The section with
+/// the number `n_sect` of a symbol has the index `n_sect - 1`.
+#[unsafe(no_mangle)]
+pub extern "C" fn kesvuot_sections<'a>(
+    image: &KesvuotImage<'a>,
+    first: u64,
+    rows: &mut [KesvuotSection<'a>],
+) -> usize {
+    match Image::open(Bytes::new(image.bytes), None) {
+        Ok(image) => fill(&image, first, rows),
+        Err(_) => 0,
+    }
+}
+
+fn fill<'a>(image: &Image<'a>, first: u64, rows: &mut [KesvuotSection<'a>]) -> usize {
+    let mut written = 0;
+    for section in image.sections().skip(first as usize) {
+        let Some(row) = rows.get_mut(written) else {
+            break;
+        };
+        *row = row_of(&section);
+        written += 1;
+    }
+    written
+}
+
+// The row of a section.
+fn row_of<'a>(section: &Section<'a>) -> KesvuotSection<'a> {
+    KesvuotSection {
+        name: section.name(),
+        segment: section.segment().name(),
+        bytes: bytes_of(section),
+        addr: section.addr(),
+        size: section.size(),
+        offset: narrow(section.offset()),
+        align: narrow(section.align()),
+        reloff: narrow(section.reloff()),
+        nreloc: narrow(section.nreloc()),
+        flags: narrow(section.flags()),
+        reserved1: narrow(section.reserved1()),
+        reserved2: narrow(section.reserved2()),
+        zero_fill: u32::from(section.is_zero_fill()),
+    }
+}
+
+// The bytes of a section in the image: none where it is zero-fill.
+fn bytes_of<'a>(section: &Section<'a>) -> &'a [u8] {
+    if section.is_zero_fill() {
+        return &[];
+    }
+    let span = Span {
+        start: section.offset(),
+        len: section.size(),
+    };
+    part_or_none(section.segment().image(), span)
+}

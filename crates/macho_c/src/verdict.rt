@@ -1,0 +1,84 @@
+//! The verdict on a file.
+
+use crate::rule::{number_of, strict_number_of};
+use crate::status::{NO_MEMORY, OK, REFUSED};
+use macho_rules::{Refusal, Verified, verify};
+use macho_strict::{StrictRefusal, verify_strictly};
+use std::alloc::Global;
+
+/// A verdict. (`struct kesvuot_verdict`)
+#[repr(C)]
+#[derive(Clone, Copy)]
+pub struct KesvuotVerdict {
+    /// Where the first broken rule is broken in the file, in bytes, and otherwise 0.
+    pub place: u64,
+    /// How many slices an accepted file has, and otherwise 0.
+    pub slices: u64,
+    /// The number of the first broken rule, and otherwise 0.
+    pub rule: u32,
+    /// 0.
+    pub reserved: u32,
+}
+
+/// Decides the rules of a file. The status is `OK` where it is accepted, `REFUSED` where it breaks a
+/// rule, and `NO_MEMORY` where there is no verdict.
+#[unsafe(no_mangle)]
+pub extern "C" fn kesvuot_verify(alloc: Global, file: &[u8], verdict: &mut KesvuotVerdict) -> u32 {
+    match verify(alloc, file) {
+        Ok(verified) => accept(&verified, verdict),
+        Err(Refusal::Broken(broken)) => refuse(number_of(broken.rule), broken.place, verdict),
+        Err(Refusal::Memory) => give_up(verdict),
+    }
+}
+
+/// Decides the rules of a file as `kesvuot_verify` does, and then the strict rules.
+#[unsafe(no_mangle)]
+pub extern "C" fn kesvuot_verify_strictly(
+    alloc: Global,
+    file: &[u8],
+    verdict: &mut KesvuotVerdict,
+) -> u32 {
+    match verify_strictly(alloc, file) {
+        Ok(verified) => accept(&verified, verdict),
+        Err(StrictRefusal::Broken(broken)) => {
+            refuse(number_of(broken.rule), broken.place, verdict)
+        }
+        Err(StrictRefusal::BrokenStrictly(broken)) => {
+            refuse(strict_number_of(broken.rule), broken.place, verdict)
+        }
+        Err(StrictRefusal::Memory) => give_up(verdict),
+    }
+}
+
+// The file is accepted.
+fn accept(verified: &Verified, verdict: &mut KesvuotVerdict) -> u32 {
+    *verdict = KesvuotVerdict {
+        place: 0,
+        slices: verified.slice_count(),
+        rule: 0,
+        reserved: 0,
+    };
+    OK
+}
+
+// The rule with this number is broken at `place`.
+fn refuse(rule: u32, place: u64, verdict: &mut KesvuotVerdict) -> u32 {
+    *verdict = KesvuotVerdict {
+        place,
+        slices: 0,
+        rule,
+        reserved: 0,
+    };
+    REFUSED
+}
+
+// There was no memory.
+fn give_up(verdict: &mut KesvuotVerdict) -> u32 {
+    *verdict = KesvuotVerdict {
+        place: 0,
+        slices: 0,
+        rule: 0,
+        reserved: 0,
+    };
+    NO_MEMORY
+}
