@@ -1,0 +1,101 @@
+// memory FILE..: refuses each allocation of both verdicts in turn. Then the status is NO_MEMORY, and whatever was taken
+// is given back. No other call takes memory. Linked with --wrap for malloc, realloc and free.
+#include "support.h"
+#include <stdio.h>
+#include <string.h>
+
+void *__real_malloc(size_t size);
+void *__real_realloc(void *block, size_t size);
+void __real_free(void *block);
+void *__wrap_malloc(size_t size);
+void *__wrap_realloc(void *block, size_t size);
+void __wrap_free(void *block);
+
+// How many allocations were asked for, which of them is refused, from 1 on, and how many blocks are held.
+static long asked, refused, held;
+
+void *__wrap_malloc(size_t size) {
+    void *block = ++asked == refused ? NULL : __real_malloc(size);
+    held += block != NULL;
+    return block;
+}
+
+void *__wrap_realloc(void *block, size_t size) {
+    void *moved = ++asked == refused ? NULL : __real_realloc(block, size);
+    held += moved && !block;
+    return moved;
+}
+
+void __wrap_free(void *block) {
+    held -= block != NULL;
+    __real_free(block);
+}
+
+typedef uint32_t judge(const void *file, size_t size, struct kesvuot_verdict *verdict);
+
+static unsigned long refusals;
+
+// Judges the file, and refuses the allocation with this number, if it is not 0.
+static uint32_t judge_refusing(judge *verify, struct file file, long number, struct kesvuot_verdict *verdict) {
+    const long held_before = held;
+    memset(verdict, 0xa5, sizeof *verdict);
+    asked = 0;
+    refused = number;
+    const uint32_t status = verify(file.bytes, file.size, verdict);
+    refused = 0;
+    CHECK(held == held_before);
+    return status;
+}
+
+static void try_verdict(judge *verify, struct file file) {
+    struct kesvuot_verdict verdict, wanted;
+    static const struct kesvuot_verdict none;
+    const uint32_t status = judge_refusing(verify, file, 0, &wanted);
+    const long needed = asked;
+    CHECK(status == KESVUOT_OK || status == KESVUOT_REFUSED);
+    for (long number = 1; number <= needed; number++) {
+        CHECK(judge_refusing(verify, file, number, &verdict) == KESVUOT_NO_MEMORY);
+        CHECK(memcmp(&verdict, &none, sizeof verdict) == 0);
+        refusals++;
+    }
+    CHECK(judge_refusing(verify, file, needed + 1, &verdict) == status);
+    CHECK(memcmp(&verdict, &wanted, sizeof verdict) == 0);
+}
+
+static void try_views(struct file file) {
+    struct kesvuot_image image;
+    struct kesvuot_bytes bytes;
+    struct kesvuot_segment segment;
+    struct kesvuot_section section;
+    struct kesvuot_library library;
+    struct kesvuot_build build;
+    struct kesvuot_command command;
+    struct kesvuot_symbol symbol;
+    uint32_t indirect;
+    asked = 0;
+    for (uint64_t slice = 0; kesvuot_image(file.bytes, file.size, slice, &image) == KESVUOT_OK; slice++) {
+        kesvuot_segments(&image, 0, &segment, 1);
+        kesvuot_sections(&image, 0, &section, 1);
+        kesvuot_libraries(&image, 0, &library, 1);
+        kesvuot_builds(&image, 0, &build, 1);
+        kesvuot_commands(&image, 0, &command, 1);
+        kesvuot_symbols(&image, 0, &symbol, 1);
+        kesvuot_indirects(&image, 0, &indirect, 1);
+        kesvuot_linkedit(&image, 0x26, &bytes);
+        kesvuot_at(&image, image.base, &bytes);
+    }
+    CHECK(asked == 0);
+}
+
+int main(int count, char **words) {
+    for (int index = 1; index < count; index++) {
+        const struct file file = read_file(words[index], AT_END);
+        try_verdict(kesvuot_verify, file);
+        try_verdict(kesvuot_verify_strictly, file);
+        try_views(file);
+        release(file);
+    }
+    printf("refused allocations %lu\n", refusals);
+    CHECK(refusals > 0);
+    return print_counts("memory");
+}

@@ -1,0 +1,93 @@
+#define _GNU_SOURCE // MAP_ANONYMOUS
+#include "support.h"
+#include <stdio.h>
+#include <stdlib.h>
+#include <string.h>
+#include <sys/mman.h>
+#include <unistd.h>
+
+static unsigned long checked, broken;
+
+void stop(const char *what, const char *why) {
+    fprintf(stderr, "%s: %s\n", what, why);
+    exit(2);
+}
+
+enum side side_or_block(enum side side) {
+    return getenv("IN_BLOCK") ? IN_BLOCK : side;
+}
+
+static struct file in_block(const void *data, size_t size) {
+    uint8_t *block = malloc(size);
+    if (!block && size) {
+        stop("malloc", "no memory");
+    }
+    if (size) {
+        memcpy(block, data, size);
+    }
+    return (struct file){block, size, block, 0};
+}
+
+struct file file_of(const void *data, size_t size, enum side side) {
+    if (side == IN_BLOCK) {
+        return in_block(data, size);
+    }
+    const size_t page = (size_t)sysconf(_SC_PAGESIZE), room = (size + page - 1) / page * page;
+    uint8_t *pages = mmap(NULL, room + 2 * page, PROT_READ | PROT_WRITE, MAP_PRIVATE | MAP_ANONYMOUS, -1, 0);
+    if (pages == MAP_FAILED) {
+        stop("mmap", "no memory");
+    }
+    uint8_t *bytes = pages + page + (side == AT_END ? room - size : 0);
+    if (size) {
+        memcpy(bytes, data, size);
+    }
+    if (mprotect(pages, page, PROT_NONE) || mprotect(pages + page + room, page, PROT_NONE)
+        || (room && mprotect(pages + page, room, PROT_READ))) {
+        stop("mprotect", "it failed");
+    }
+    return (struct file){bytes, size, pages, room + 2 * page};
+}
+
+struct file read_file(const char *path, enum side side) {
+    FILE *stream = fopen(path, "rb");
+    if (!stream || fseek(stream, 0, SEEK_END)) {
+        stop(path, "it cannot be opened");
+    }
+    const long size = ftell(stream);
+    rewind(stream);
+    uint8_t *data = malloc(size > 0 ? (size_t)size : 1);
+    if (!data || size < 0 || fread(data, 1, (size_t)size, stream) != (size_t)size) {
+        stop(path, "it cannot be read");
+    }
+    fclose(stream);
+    const struct file file = file_of(data, (size_t)size, side);
+    free(data);
+    return file;
+}
+
+void release(struct file file) {
+    if (file.pages_size) {
+        munmap(file.pages, file.pages_size);
+    } else {
+        free(file.pages);
+    }
+}
+
+void check(bool holds, const char *what, int line) {
+    checked++;
+    if (!holds) {
+        broken++;
+        printf("line %d: it does not hold that %s\n", line, what);
+    }
+}
+
+int print_counts(const char *name) {
+    printf("%s: %lu checks, %lu failed\n", name, checked, broken);
+    return broken || !checked;
+}
+
+void print_name(struct kesvuot_bytes name) {
+    if (name.len) {
+        fwrite(name.at, 1, name.len, stdout);
+    }
+}

@@ -1,0 +1,39 @@
+// What the tests of the library share: files between guard pages, and texts.
+#ifndef SUPPORT_H
+#define SUPPORT_H
+
+#include "kesvuot.h"
+#include <stdbool.h>
+
+// Where a file lies among the pages that may be read: with its last byte at the end of the last one, or with its first
+// at the start of the first one. A read outside ends the program. In a block of malloc, valgrind sees such a read.
+enum side { AT_END, AT_START, IN_BLOCK };
+
+struct file {
+    uint8_t *bytes;
+    size_t size;
+    void *pages; // or the block
+    size_t pages_size;
+};
+
+// The bytes of the file at the path, or of `size` bytes from `data` on. They cannot be written to between guard pages.
+struct file read_file(const char *path, enum side side);
+struct file file_of(const void *data, size_t size, enum side side);
+void release(struct file file);
+
+// The side that the environment asks for: IN_BLOCK where IN_BLOCK is set, and else the given one.
+enum side side_or_block(enum side side);
+
+// Ends the program with the status 2, after a line on standard error.
+void stop(const char *what, const char *why);
+
+// A case of a test: prints a line where it fails, and counts.
+void check(bool holds, const char *what, int line);
+#define CHECK(condition) check((condition), #condition, __LINE__)
+
+// How many cases were counted, and how many failed. `print_counts` ends with the status.
+int print_counts(const char *name);
+
+void print_name(struct kesvuot_bytes name);
+
+#endif
