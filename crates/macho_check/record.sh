@@ -2,14 +2,22 @@
 # The record of a built program: the kit, a hash of the sources, and a hash of the program, a line each. A program
 # that is not as recorded is not run. The record guards against mistakes, not against someone who may write to out/.
 
-# take_program NAME: takes the program of a command, and its record.
+# take_program NAME: takes the program of a command, or the library in both its forms, and its record.
 take_program() {
+    archive=
     case $1 in
         macho-check) crate=$top/crates/macho_check ;;
         macho-strict) crate=$top/crates/macho_strict_check ;;
+        libkesvuot) crate=$top/crates/macho_c ;;
     esac
     program=$crate/out/${crate##*/}
     kept=$crate/out/$1
+    [ "$1" != libkesvuot ] || { program=$top/build/lib/libkesvuot.so.0 archive=$top/build/lib/libkesvuot.a; }
+}
+
+# Prints a hash of the program.
+hash_of_program() {
+    cat -- "$program" ${archive:+"$archive"} 2>/dev/null | sha256sum
 }
 
 # Runs find over all that the program is made of. All crates count, and all of their files but the must-fail edits: a
@@ -38,7 +46,7 @@ is_current() {
     [ -x "$program" ] && [ -r "$kept/record" ] || return
     { read -r old_kit && read -r old_sources && read -r built && [ -n "$built" ]; } <"$kept/record" || return
     reason="it is not the program that was built"
-    [ "$(sha256sum <"$program")" = "$built" ] || return
+    [ "$(hash_of_program)" = "$built" ] || return
     reason="the sources have changed"
     [ "$(hash_of_sources)" = "$old_sources" ] || return
     reason="the kit has changed"
@@ -63,5 +71,5 @@ is_unchanged() {
 
 # Records the program, once it is built.
 write_record() {
-    built=$(sha256sum <"$program") && mkdir -p "$kept" && printf '%s\n' "$before" "$built" >"$kept/record"
+    built=$(hash_of_program) && mkdir -p "$kept" && printf '%s\n' "$before" "$built" >"$kept/record"
 }
