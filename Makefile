@@ -1,22 +1,32 @@
-# Any make of POSIX reads this. `make` builds both programs. Nothing else here builds them, or needs the kit, but
-# `make check`.
+# Any make of POSIX reads this. `make` builds both programs and the library. Nothing else here builds them, or needs the
+# kit, but `make lib` and `make check`.
 .POSIX:
 
 PREFIX = /usr/local
 BINDIR = $(PREFIX)/bin
+LIBDIR = $(PREFIX)/lib
+INCLUDEDIR = $(PREFIX)/include
 MANDIR = $(PREFIX)/share/man
+# Where python3 imports from.
+PYTHONDIR = $$(packaging/python-folder "$(PREFIX)")
 DESTDIR =
 # Where `make deb` and `make dist` put what they make.
 OUT = out
 
 TO_BIN = "$(DESTDIR)$(BINDIR)"
-TO_MAN = "$(DESTDIR)$(MANDIR)/man1"
+TO_LIB = "$(DESTDIR)$(LIBDIR)"
+TO_INCLUDE = "$(DESTDIR)$(INCLUDEDIR)"
+TO_MAN = "$(DESTDIR)$(MANDIR)"
+TO_PYTHON = "$(DESTDIR)$(PYTHONDIR)"
 
 # Given no bytes, each command builds its program, if it is not current, and the program refuses them.
-all:
+all: lib
 	@for command in macho-check macho-strict; do \
 	    test "$$(./$$command </dev/null)" = "refused: magic at 0x0" || exit; \
 	done
+
+lib:
+	@packaging/library
 
 check:
 	./test
@@ -25,13 +35,24 @@ bench:
 	bench/speed
 
 install: built
-	install -d $(TO_BIN) $(TO_MAN)
+	install -d $(TO_BIN) $(TO_LIB)/pkgconfig $(TO_INCLUDE) $(TO_MAN)/man1 $(TO_MAN)/man3 $(TO_PYTHON)
 	install -m 755 crates/macho_check/out/macho_check $(TO_BIN)/macho-check
 	install -m 755 crates/macho_strict_check/out/macho_strict_check $(TO_BIN)/macho-strict
-	install -m 644 man/macho-check.1 man/macho-strict.1 $(TO_MAN)
+	install -m 644 build/lib/libkesvuot.a build/lib/libkesvuot.so.0 $(TO_LIB)
+	ln -sf libkesvuot.so.0 $(TO_LIB)/libkesvuot.so
+	sed -e 's|@PREFIX@|$(PREFIX)|; s|@LIBDIR@|$(LIBDIR)|; s|@INCLUDEDIR@|$(INCLUDEDIR)|' \
+	    -e "s|@VERSION@|$$(cat VERSION)|" packaging/kesvuot.pc.in >$(TO_LIB)/pkgconfig/kesvuot.pc
+	chmod 644 $(TO_LIB)/pkgconfig/kesvuot.pc
+	install -m 644 bindings/c/kesvuot.h $(TO_INCLUDE)
+	install -m 644 bindings/python/kesvuot.py $(TO_PYTHON)
+	install -m 644 man/macho-check.1 man/macho-strict.1 $(TO_MAN)/man1
+	install -m 644 man/kesvuot.3 $(TO_MAN)/man3
 
 uninstall:
-	rm -f $(TO_BIN)/macho-check $(TO_BIN)/macho-strict $(TO_MAN)/macho-check.1 $(TO_MAN)/macho-strict.1
+	rm -f $(TO_BIN)/macho-check $(TO_BIN)/macho-strict
+	rm -f $(TO_LIB)/libkesvuot.a $(TO_LIB)/libkesvuot.so.0 $(TO_LIB)/libkesvuot.so $(TO_LIB)/pkgconfig/kesvuot.pc
+	rm -f $(TO_INCLUDE)/kesvuot.h $(TO_PYTHON)/kesvuot.py
+	rm -f $(TO_MAN)/man1/macho-check.1 $(TO_MAN)/man1/macho-strict.1 $(TO_MAN)/man3/kesvuot.3
 
 # A package of Debian, and an archive for any other system.
 deb: built
@@ -44,4 +65,4 @@ dist: built
 built:
 	@packaging/built
 
-.PHONY: all check bench install uninstall deb dist built
+.PHONY: all lib check bench install uninstall deb dist built
