@@ -45,7 +45,7 @@ is_current() {
     reason="no build of it is recorded"
     [ -x "$program" ] && [ -r "$kept/record" ] || return
     { read -r old_kit && read -r old_sources && read -r built && [ -n "$built" ]; } <"$kept/record" || return
-    reason="it is not the program that was built"
+    reason="it is not what was built"
     [ "$(hash_of_program)" = "$built" ] || return
     reason="the sources have changed"
     [ "$(hash_of_sources)" = "$old_sources" ] || return
