@@ -4,7 +4,7 @@
 
 # take_program NAME: takes the program of a command, or the library in both its forms, and its record.
 take_program() {
-    archive=
+    archive='' linking=''
     case $1 in
         macho-check) crate=$top/crates/macho_check ;;
         macho-strict) crate=$top/crates/macho_strict_check ;;
@@ -12,7 +12,10 @@ take_program() {
     esac
     program=$crate/out/${crate##*/}
     kept=$crate/out/$1
-    [ "$1" != libkesvuot ] || { program=$top/build/lib/libkesvuot.so.0 archive=$top/build/lib/libkesvuot.a; }
+    [ "$1" = libkesvuot ] || return 0
+    program=$top/build/lib/libkesvuot.so.0
+    archive=$top/build/lib/libkesvuot.a
+    linking="packaging/library packaging/kesvuot.map"
 }
 
 # Prints a hash of the program.
@@ -23,7 +26,8 @@ hash_of_program() {
 # Runs find over all that the program is made of. All crates count, and all of their files but the must-fail edits: a
 # build too many takes seconds, and a build too few would let an old program answer.
 find_in_sources() (
-    cd "$top" && find crates.txt crates/*/* -regex 'crates/[^/]*/\(out\|must-fail\)' -prune -o "$@"
+    # shellcheck disable=SC2086 # words
+    cd "$top" && find crates.txt $linking crates/*/* -regex 'crates/[^/]*/\(out\|must-fail\)' -prune -o "$@"
 )
 
 # Prints a hash of the names and contents of all sources. Of a link it takes the name alone, and rt refuses it.
