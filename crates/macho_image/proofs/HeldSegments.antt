@@ -110,12 +110,16 @@ count_in_chain image start (x ∷ xs) next (first, good, rest) within hold =
     let here : 80 * n ≤ size = in_command (nsects image x) size is_segment (λ h. hold 0 x (omega arith) (eqb-true (command_cmd image x) loader.LC_SEGMENT_64 h)) in
     let more : x + size + 80 * section_count image xs ≤ commands_end image = count_in_chain image (x + size) xs next rest end (All-tail (HoldsItsSections image) x xs hold) in omega arith
 
-pub count_fits : (image : List ℕ) → IsOpened image → 80 * section_count image (commands_of image) ≤ length image
-count_fits image is_opened =
+pub count_fits_commands : (image : List ℕ) → IsOpened image → 32 + 80 * section_count image (commands_of image) ≤ commands_end image
+count_fits_commands image is_opened =
     let opened = opened_keeps image is_opened in
     let commands = commands_of image in
     let are = opened_commands image is_opened in
     let (length_is, next, chain) = are in
-    let inside : commands_end image ≤ length image = opened.inside in
-    let fits : 32 + 80 * section_count image commands ≤ commands_end image = count_in_chain image 32 commands next chain (omega arith)
-    (λ k d less is_segment. let holds = sections_inside image commands opened are _ (All-contains_itself commands k d less) is_segment in omega arith) in omega arith
+    count_in_chain image 32 commands next chain (omega arith)
+    (λ k d less is_segment. let holds = sections_inside image commands opened are _ (All-contains_itself commands k d less) is_segment in omega arith)
+
+pub count_fits : (image : List ℕ) → IsOpened image → 80 * section_count image (commands_of image) ≤ length image
+count_fits image is_opened =
+    let opened = opened_keeps image is_opened in
+    let inside : commands_end image ≤ length image = opened.inside in omega (arith, count_fits_commands image is_opened)

@@ -70,7 +70,7 @@ none_held image each items none = subst (HoldItems image each) (sym none) (All-n
 -- The items of any list
 
 -- what f reads of a range of them
-range-map : {X Y : Type 0} (f : X → Y) (xs : List X) (first count : ℕ) → take count (drop first (map f xs)) ≡ map f (take count (drop first xs))
+pub range-map : {X Y : Type 0} (f : X → Y) (xs : List X) (first count : ℕ) → take count (drop first (map f xs)) ≡ map f (take count (drop first xs))
 range-map f xs first count = ap (take count) (drop-map f first xs) ∙ take-map f count (drop first xs)
 
 -- a range of what is read of the items is what is read of a range of all

@@ -70,6 +70,35 @@ impl<'a> Iterator for Indirects<'a> {
     }
 }
 
+impl<'a> Indirects<'a> {
+    ghost use Rattle.std.specs.Prelude.{◌≡◌, map, take, drop};
+    ghost use Rattle.macho_fields.specs.Bytes.{bytes_of};
+    ghost use Rattle.macho_image.specs.Symbol.{indirect_at, items_inside};
+
+    /// The `count` entries of the table that begins at `place`, in its order. None where the table does
+    /// not lie inside the image.
+    pub fn in_table(image: Bytes<'a>, place: u64, count: u64) -> Indirects<'a>
+        ensures { result ≡ map (indirect_at (bytes_of image.entry))
+            (items_inside (bytes_of image.entry) place INDIRECT_ENTRY_SIZE count) }
+    {
+        Indirects {
+            image,
+            items: Items::inside(image, place, count, INDIRECT_ENTRY_SIZE),
+        }
+    }
+
+    /// Those whose indices are from `first` on, `count` of them, those that there are. The entries
+    /// before them are not gone over.
+    pub fn range(&self, first: u64, count: u64) -> Indirects<'a>
+        ensures { result ≡ take count (drop first self.now) }
+    {
+        Indirects {
+            image: self.image,
+            items: self.items.range(first, count),
+        }
+    }
+}
+
 impl<'a> Image<'a> {
     ghost use Rattle.std.specs.Prelude.{◌≡◌, map, slice_get};
     ghost use Rattle.macho_fields.specs.Image.{commands_of};

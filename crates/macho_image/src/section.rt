@@ -79,21 +79,24 @@ impl<'a> Section<'a> {
 
     /// Where its bytes begin in the image.
     pub fn offset(&self) -> u64
-        ensures { result ≡ section_offset self.now.image self.now.place }
+        ensures number { result ≡ section_offset self.now.image self.now.place }
+        ensures near { result < 2 ^ 32 }
     {
         u64::from(word_in(self.image, self.place, OFFSET))
     }
 
     /// Its alignment: its address is to be a multiple of 2 to this power. No rule checks that it is.
     pub fn align(&self) -> u64
-        ensures { result ≡ section_align self.now.image self.now.place }
+        ensures number { result ≡ section_align self.now.image self.now.place }
+        ensures near { result < 2 ^ 32 }
     {
         u64::from(word_in(self.image, self.place, ALIGN))
     }
 
     /// Where its relocations begin in the image.
     pub fn reloff(&self) -> u64
-        ensures { result ≡ reloff self.now.image self.now.place }
+        ensures number { result ≡ reloff self.now.image self.now.place }
+        ensures near { result < 2 ^ 32 }
     {
         u64::from(word_in(self.image, self.place, RELOFF))
     }
@@ -108,7 +111,8 @@ impl<'a> Section<'a> {
 
     /// Its flags: the type in the low byte (`SECTION_TYPE`), and attributes.
     pub fn flags(&self) -> u64
-        ensures { result ≡ section_flags self.now.image self.now.place }
+        ensures number { result ≡ section_flags self.now.image self.now.place }
+        ensures near { result < 2 ^ 32 }
     {
         u64::from(word_in(self.image, self.place, FLAGS))
     }
@@ -116,14 +120,16 @@ impl<'a> Section<'a> {
     /// Its `reserved1`: of symbol pointers and of symbol stubs, the index of the first of their
     /// indirect entries. No rule checks that there are such entries.
     pub fn reserved1(&self) -> u64
-        ensures { result ≡ reserved1 self.now.image self.now.place }
+        ensures number { result ≡ reserved1 self.now.image self.now.place }
+        ensures near { result < 2 ^ 32 }
     {
         u64::from(word_in(self.image, self.place, RESERVED1))
     }
 
     /// Its `reserved2`: of symbol stubs, the size of one in bytes. No rule checks that it is not 0.
     pub fn reserved2(&self) -> u64
-        ensures { result ≡ reserved2 self.now.image self.now.place }
+        ensures number { result ≡ reserved2 self.now.image self.now.place }
+        ensures near { result < 2 ^ 32 }
     {
         u64::from(word_in(self.image, self.place, RESERVED2))
     }

@@ -33,7 +33,7 @@ impl<'a> Model for Segment<'a> {
 }
 
 impl<'a> Segment<'a> {
-    ghost use Rattle.std.specs.Prelude.{◌≡◌, map};
+    ghost use Rattle.std.specs.Prelude.{◌≡◌, ◌^◌, ◌<◌, map};
     ghost use Rattle.macho_fields.specs.Bytes.{bytes_of};
     ghost use Rattle.macho_fields.specs.Segment.{vmaddr, vmsize, fileoff, filesize, initprot, nsects};
     ghost use Rattle.macho_fields.specs.Segment.{shows_start};
@@ -90,21 +90,24 @@ impl<'a> Segment<'a> {
 
     /// Its maximum protection: the `VM_PROT_` bits 1 (read), 2 (write) and 4 (execute).
     pub fn maxprot(&self) -> u64
-        ensures { result ≡ maxprot self.now.image self.now.place }
+        ensures number { result ≡ maxprot self.now.image self.now.place }
+        ensures near { result < 2 ^ 32 }
     {
         u64::from(word_in(self.image, self.place, MAXPROT))
     }
 
     /// Its initial protection: the `VM_PROT_` bits 1 (read), 2 (write) and 4 (execute).
     pub fn initprot(&self) -> u64
-        ensures { result ≡ initprot self.now.image self.now.place }
+        ensures number { result ≡ initprot self.now.image self.now.place }
+        ensures near { result < 2 ^ 32 }
     {
         u64::from(word_in(self.image, self.place, INITPROT))
     }
 
     /// The number of its sections.
     pub fn nsects(&self) -> u64
-        ensures { result ≡ nsects self.now.image self.now.place }
+        ensures number { result ≡ nsects self.now.image self.now.place }
+        ensures near { result < 2 ^ 32 }
     {
         u64::from(word_in(self.image, self.place, NSECTS))
     }

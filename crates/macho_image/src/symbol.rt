@@ -78,6 +78,35 @@ impl<'a> Iterator for Symbols<'a> {
     }
 }
 
+impl<'a> Symbols<'a> {
+    ghost use Rattle.std.specs.Prelude.{◌≡◌, map, take, drop};
+    ghost use Rattle.macho_fields.specs.Bytes.{bytes_of};
+    ghost use Rattle.macho_image.specs.Symbol.{symbol_at, items_inside};
+
+    /// The `count` symbols of the table that begins at `place`, in its order. None where the table does
+    /// not lie inside the image.
+    pub fn in_table(image: Bytes<'a>, place: u64, count: u64) -> Symbols<'a>
+        ensures { result ≡ map (symbol_at (bytes_of image.entry))
+            (items_inside (bytes_of image.entry) place NLIST_64_SIZE count) }
+    {
+        Symbols {
+            image,
+            items: Items::inside(image, place, count, NLIST_64_SIZE),
+        }
+    }
+
+    /// Those whose indices are from `first` on, `count` of them, those that there are. The symbols
+    /// before them are not gone over.
+    pub fn range(&self, first: u64, count: u64) -> Symbols<'a>
+        ensures { result ≡ take count (drop first self.now) }
+    {
+        Symbols {
+            image: self.image,
+            items: self.items.range(first, count),
+        }
+    }
+}
+
 impl<'a> Image<'a> {
     ghost use Rattle.std.specs.Prelude.{◌≡◌, map, take, drop, slice_get};
     ghost use Rattle.macho_fields.specs.Image.{commands_of};
@@ -102,11 +131,7 @@ impl<'a> Image<'a> {
         ensures { result ≡ map (symbol_at self.now)
             (take count (drop first (symbols_of self.now (commands_of self.now)))) }
     {
-        let all = self.symbols();
-        Symbols {
-            image: all.image,
-            items: all.items.range(first, count),
-        }
+        self.symbols().range(first, count)
     }
 
     /// The symbol with this index in the table, or `None` where there is none. The symbols before it

@@ -13,4 +13,4 @@ returns-clause-bytes g c =
     line_written _ _ _ (codes "  segment " ∷ []) _ _ _ _ _ _ (from_start _ _ _ c.new-line.ensures (put_next _ _ _ _ _ c.text.ensures (put_last _))) (rw c.name.ensures at c.in_ok-name.ensures.bytes)
     (put_many _ _ _ _ _ (rw (c.vmaddr.ensures, c.vmsize.ensures) at c.extent.ensures.text)
     (put_many _ _ _ _ _ (rw (c.fileoff.ensures, c.filesize.ensures) at c.extent-2.ensures.text)
-    (put_next _ _ _ _ _ c.text-2.ensures (put_next _ _ _ _ _ (rw c.initprot.ensures at c.protection.ensures.text) (ended _))))) c.write.ensures.bytes
+    (put_next _ _ _ _ _ c.text-2.ensures (put_next _ _ _ _ _ (rw c.initprot.ensures.number at c.protection.ensures.text) (ended _))))) c.write.ensures.bytes

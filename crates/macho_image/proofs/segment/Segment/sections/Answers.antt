@@ -9,11 +9,11 @@ pub invariant_of-result : goal.invariant_of-result
 invariant_of-result c =
     let image = bytes_of c.self.inside.image in
     let segment = c.self.inside.place in
-    subst (All (HoldsSection image segment)) (sym (items_counted_by image segment _ _ _ c.self.view_is c.nsects.ensures c.new.ensures)) (sections_held image segment c.self.invariant)
+    subst (All (HoldsSection image segment)) (sym (items_counted_by image segment _ _ _ c.self.view_is c.nsects.ensures.number c.new.ensures)) (sections_held image segment c.self.invariant)
 
 pub returns : goal.returns
 returns c =
     let image = bytes_of c.self.inside.image in
     let segment = c.self.inside.place in
-    ap (map (λ place. section_at image (segment, place))) (items_counted_by image segment _ _ _ c.self.view_is c.nsects.ensures c.new.ensures)
+    ap (map (λ place. section_at image (segment, place))) (items_counted_by image segment _ _ _ c.self.view_is c.nsects.ensures.number c.new.ensures)
     ∙ (sections_seen image segment ∙ ap (λ (s : SegmentView). map (section_at s.image) (sections_with s.image s.place)) c.self.view_is)

@@ -17,7 +17,7 @@ loop-segment-preserved c =
       noted_more (λ (t : SegmentView). t.place) BreaksSegment segment_notes seen s c.loop-segment.segments c.note.new.self (segments_end_by image opened _ are seen s _ here) c.note.ensures segments,
       subst (λ xs. AreFirstSections xs c.note_all.new.self) (sym (sections_append seen s)) (c.note_all.ensures (sections_among seen) (all_end_by image opened _ are seen s _ here) sections),
       c.note-in-loop-segment.ensures seen mapped,
-      counted_more seen s c.loop-segment.section_count c.nsects.result c.saturating_add-section_count.result (omega (arith, c.saturating_add-section_count.ensures)) c.nsects.ensures count,
+      counted_more seen s c.loop-segment.section_count c.nsects.result c.saturating_add-section_count.result (omega (arith, c.saturating_add-section_count.ensures)) c.nsects.ensures.number count,
     )
 
 pub invariant_of-result : goal.invariant_of-result

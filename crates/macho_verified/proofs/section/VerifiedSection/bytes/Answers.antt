@@ -6,4 +6,4 @@ use Rattle.macho_verified.proofs.section.VerifiedSection.bytes.Goals as goal
 pub data_in-requires : goal.data_in-requires
 data_in-requires c some =
     let fits = section_fits c.self.inside.section c.self.invariant (sym c.is_zero_fill.ensures ∙ c.if-is_zero_fill.false) (λ none. some (c.size.ensures ∙ none)) in
-    omega (arith, fits, c.offset.ensures, c.size.ensures, ap length (c.image.ensures ∙ ap (λ (v : SegmentView). v.image) c.segment.ensures))
+    omega (arith, fits, c.offset.ensures.number, c.size.ensures, ap length (c.image.ensures ∙ ap (λ (v : SegmentView). v.image) c.segment.ensures))
