@@ -1,6 +1,7 @@
 //! What is at the addresses of an image.
 
-use crate::image::{KesvuotImage, part_or_none};
+use crate::image::KesvuotImage;
+use crate::parts::part_or_none;
 use crate::status::{NONE, OK, ZERO};
 use macho_fields::{Bytes, Span};
 use macho_image::{Image, Segment};

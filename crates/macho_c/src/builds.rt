@@ -1,6 +1,11 @@
 //! The platforms that an image is built for.
 
+ghost use Rattle.std.specs.Prelude.{◌≡◌};
+ghost use Rattle.macho_c.specs.Builds.{build_shown, build_row, build_rows};
+ghost use Rattle.macho_c.specs.Rows.{IsTable};
+
 use crate::image::KesvuotImage;
+use crate::table::fill;
 use macho_fields::Bytes;
 use macho_image::{Build, Image};
 
@@ -22,27 +27,20 @@ pub extern "C" fn kesvuot_builds(
     image: &KesvuotImage,
     first: u64,
     rows: &mut [KesvuotBuild],
-) -> usize {
+) -> usize
+    ensures { IsTable image.now.bytes.now build_shown (build_rows image.now.bytes.now) first result
+        rows.old rows.new }
+{
     match Image::open(Bytes::new(image.bytes), None) {
-        Ok(image) => fill(&image, first, rows),
+        Ok(image) => fill(image.builds().skip(first as usize).map(row_of), rows),
         Err(_) => 0,
     }
 }
 
-fn fill(image: &Image, first: u64, rows: &mut [KesvuotBuild]) -> usize {
-    let mut written = 0;
-    for build in image.builds().skip(first as usize) {
-        let Some(row) = rows.get_mut(written) else {
-            break;
-        };
-        *row = row_of(build);
-        written += 1;
-    }
-    written
-}
-
 // The row of a build.
-fn row_of(build: Build) -> KesvuotBuild {
+fn row_of(build: Build) -> KesvuotBuild
+    ensures { result ≡ build_row build }
+{
     KesvuotBuild {
         platform: build.platform,
         minos: build.minos,

@@ -1,8 +1,17 @@
 //! The load commands of an image.
 
+ghost use Rattle.std.specs.Prelude.{◌≡◌, false};
+ghost use Rattle.std.specs.Option.{option_map_or};
+ghost use Rattle.macho_fields.specs.LoadCommands.{has_name, structure_of};
+ghost use Rattle.macho_image.specs.Command.{command_of};
+ghost use Rattle.macho_c.specs.Rows.{IsTable};
+ghost use Rattle.macho_c.specs.Commands.{name_in, command_shown, command_row, command_rows};
+
 use crate::image::KesvuotImage;
+use crate::parts::{ended_string, rest};
+use crate::table::fill;
 use macho_fields::header::loader::LC_STR_OFFSET;
-use macho_fields::{Bytes, Order, Span, structure_of};
+use macho_fields::{Bytes, Order, structure_of};
 use macho_image::{Command, Image};
 
 /// A load command. (`load_command`)
@@ -27,43 +36,49 @@ pub extern "C" fn kesvuot_commands<'a>(
     image: &KesvuotImage<'a>,
     first: u64,
     rows: &mut [KesvuotCommand<'a>],
-) -> usize {
+) -> usize
+    ensures { IsTable image.now.bytes.now command_shown (command_rows image.now.bytes.now) first result
+        rows.old rows.new }
+{
     match Image::open(Bytes::new(image.bytes), None) {
-        Ok(image) => fill(&image, first, rows),
+        Ok(image) => fill(image.commands().skip(first as usize).map(row_of), rows),
         Err(_) => 0,
     }
 }
 
-fn fill<'a>(image: &Image<'a>, first: u64, rows: &mut [KesvuotCommand<'a>]) -> usize {
-    let mut written = 0;
-    for command in image.commands().skip(first as usize) {
-        let Some(row) = rows.get_mut(written) else {
-            break;
-        };
-        *row = row_of(command);
-        written += 1;
-    }
-    written
-}
-
 // The row of a load command.
-fn row_of(command: Command) -> KesvuotCommand {
+fn row_of(command: Command) -> KesvuotCommand
+    ensures { command_shown result ≡ command_row (command_of command.entry) }
+{
     KesvuotCommand {
         bytes: command.bytes,
-        name: name_of(command).unwrap_or(&[]),
+        name: if has_name(command.cmd) {
+            name_in(command.bytes)
+        } else {
+            &[]
+        },
         place: command.place,
         cmd: command.cmd,
         reserved: 0,
     }
 }
 
-// The name that ends the command.
-fn name_of(command: Command) -> Option<&[u8]> {
-    if !structure_of(command.cmd)?.has_name() {
-        return None;
+// Whether a command with this `cmd` is listed, and its structure has a name.
+fn has_name(cmd: u32) -> bool
+    ensures { result ≡ option_map_or has_name (structure_of cmd) false }
+{
+    match structure_of(cmd) {
+        Some(structure) => structure.has_name(),
+        None => false,
     }
-    let bytes = Bytes::new(command.bytes);
-    let start = u64::from(bytes.u32_at(Order::Little, LC_STR_OFFSET)?);
-    let len = bytes.len().checked_sub(start)?;
-    bytes.string_in(Span { start, len })
+}
+
+// The name in the bytes of a command.
+fn name_in(bytes: &[u8]) -> &[u8]
+    ensures { result.now ≡ name_in bytes.now }
+{
+    match Bytes::new(bytes).u32_at(Order::Little, LC_STR_OFFSET) {
+        Some(offset) => ended_string(rest(bytes, u64::from(offset))),
+        None => &[],
+    }
 }

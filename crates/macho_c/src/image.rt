@@ -221,8 +221,3 @@ fn groups_of(dysymtab: Dysymtab) -> [u32; 6] {
         narrow(dysymtab.nundefsym),
     ]
 }
-
-// The bytes at the places of a span, or none where it ends past the image.
-pub(crate) fn part_or_none(image: Bytes, span: Span) -> &[u8] {
-    image.part(span).unwrap_or(&[])
-}

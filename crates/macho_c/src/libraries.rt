@@ -1,6 +1,12 @@
 //! The libraries that an image names.
 
+ghost use Rattle.std.specs.Prelude.{◌≡◌};
+ghost use Rattle.macho_image.specs.Library.{dylib_of};
+ghost use Rattle.macho_c.specs.Rows.{IsTable};
+ghost use Rattle.macho_c.specs.Libraries.{library_shown, library_row, library_rows};
+
 use crate::image::KesvuotImage;
+use crate::table::fill;
 use macho_fields::Bytes;
 use macho_image::{Dylib, Image};
 
@@ -24,27 +30,20 @@ pub extern "C" fn kesvuot_libraries<'a>(
     image: &KesvuotImage<'a>,
     first: u64,
     rows: &mut [KesvuotLibrary<'a>],
-) -> usize {
+) -> usize
+    ensures { IsTable image.now.bytes.now library_shown (library_rows image.now.bytes.now) first result
+        rows.old rows.new }
+{
     match Image::open(Bytes::new(image.bytes), None) {
-        Ok(image) => fill(&image, first, rows),
+        Ok(image) => fill(image.dylibs().skip(first as usize).map(row_of), rows),
         Err(_) => 0,
     }
 }
 
-fn fill<'a>(image: &Image<'a>, first: u64, rows: &mut [KesvuotLibrary<'a>]) -> usize {
-    let mut written = 0;
-    for library in image.dylibs().skip(first as usize) {
-        let Some(row) = rows.get_mut(written) else {
-            break;
-        };
-        *row = row_of(library);
-        written += 1;
-    }
-    written
-}
-
 // The row of a library.
-fn row_of(library: Dylib) -> KesvuotLibrary {
+fn row_of(library: Dylib) -> KesvuotLibrary
+    ensures { library_shown result ≡ library_row (dylib_of library.entry) }
+{
     KesvuotLibrary {
         name: library.name,
         cmd: library.cmd,

@@ -1,7 +1,13 @@
 //! The sections of all segments of an image.
 
-use crate::image::{KesvuotImage, part_or_none};
+ghost use Rattle.std.specs.Prelude.{◌≡◌};
+ghost use Rattle.macho_c.specs.Rows.{IsTable};
+ghost use Rattle.macho_c.specs.Sections.{section_bytes, section_shown, section_row, section_rows};
+
+use crate::image::KesvuotImage;
 use crate::narrow::narrow;
+use crate::parts::part_or_none;
+use crate::table::fill;
 use macho_fields::{Bytes, Span};
 use macho_image::{Image, Section};
 
@@ -35,31 +41,24 @@ pub extern "C" fn kesvuot_sections<'a>(
     image: &KesvuotImage<'a>,
     first: u64,
     rows: &mut [KesvuotSection<'a>],
-) -> usize {
+) -> usize
+    ensures { IsTable image.now.bytes.now section_shown (section_rows image.now.bytes.now) first result
+        rows.old rows.new }
+{
     match Image::open(Bytes::new(image.bytes), None) {
-        Ok(image) => fill(&image, first, rows),
+        Ok(image) => fill(image.sections().skip(first as usize).map(row_of), rows),
         Err(_) => 0,
     }
 }
 
-fn fill<'a>(image: &Image<'a>, first: u64, rows: &mut [KesvuotSection<'a>]) -> usize {
-    let mut written = 0;
-    for section in image.sections().skip(first as usize) {
-        let Some(row) = rows.get_mut(written) else {
-            break;
-        };
-        *row = row_of(&section);
-        written += 1;
-    }
-    written
-}
-
 // The row of a section.
-fn row_of<'a>(section: &Section<'a>) -> KesvuotSection<'a> {
+fn row_of<'a>(section: Section<'a>) -> KesvuotSection<'a>
+    ensures { section_shown result ≡ section_row section.entry }
+{
     KesvuotSection {
         name: section.name(),
         segment: section.segment().name(),
-        bytes: bytes_of(section),
+        bytes: bytes_of(&section),
         addr: section.addr(),
         size: section.size(),
         offset: narrow(section.offset()),
@@ -74,7 +73,9 @@ fn row_of<'a>(section: &Section<'a>) -> KesvuotSection<'a> {
 }
 
 // The bytes of a section in the image: none where it is zero-fill.
-fn bytes_of<'a>(section: &Section<'a>) -> &'a [u8] {
+fn bytes_of<'a>(section: &Section<'a>) -> &'a [u8]
+    ensures { result.now ≡ section_bytes section.now.image section.now.place }
+{
     if section.is_zero_fill() {
         return &[];
     }

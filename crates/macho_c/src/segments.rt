@@ -1,7 +1,8 @@
 //! The segments of an image.
 
-use crate::image::{KesvuotImage, part_or_none};
+use crate::image::KesvuotImage;
 use crate::narrow::narrow;
+use crate::parts::part_or_none;
 use macho_fields::{Bytes, Span};
 use macho_image::{Image, Segment};
 

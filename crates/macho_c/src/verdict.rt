@@ -1,5 +1,9 @@
 //! The verdict on a file.
 
+ghost use Rattle.std.specs.Prelude.{◌≡◌, length};
+ghost use Rattle.macho_fields.specs.Universal.{slices_of};
+ghost use Rattle.macho_c.specs.Verdict.{Has, IsVerdict, IsStrictVerdict};
+
 use crate::rule::{number_of, strict_number_of};
 use crate::status::{NO_MEMORY, OK, REFUSED};
 use macho_rules::{Refusal, Verified, verify};
@@ -23,7 +27,9 @@ pub struct KesvuotVerdict {
 /// Decides the rules of a file. The status is `OK` where it is accepted, `REFUSED` where it breaks a
 /// rule, and `NO_MEMORY` where there is no verdict.
 #[unsafe(no_mangle)]
-pub extern "C" fn kesvuot_verify(alloc: Global, file: &[u8], verdict: &mut KesvuotVerdict) -> u32 {
+pub extern "C" fn kesvuot_verify(alloc: Global, file: &[u8], verdict: &mut KesvuotVerdict) -> u32
+    ensures { IsVerdict file.now result verdict.new }
+{
     match verify(alloc, file) {
         Ok(verified) => accept(&verified, verdict),
         Err(Refusal::Broken(broken)) => refuse(number_of(broken.rule), broken.place, verdict),
@@ -37,7 +43,9 @@ pub extern "C" fn kesvuot_verify_strictly(
     alloc: Global,
     file: &[u8],
     verdict: &mut KesvuotVerdict,
-) -> u32 {
+) -> u32
+    ensures { IsStrictVerdict file.now result verdict.new }
+{
     match verify_strictly(alloc, file) {
         Ok(verified) => accept(&verified, verdict),
         Err(StrictRefusal::Broken(broken)) => {
@@ -51,7 +59,10 @@ pub extern "C" fn kesvuot_verify_strictly(
 }
 
 // The file is accepted.
-fn accept(verified: &Verified, verdict: &mut KesvuotVerdict) -> u32 {
+fn accept(verified: &Verified, verdict: &mut KesvuotVerdict) -> u32
+    ensures status { result ≡ OK }
+    ensures verdict { Has verdict.new 0 0 (length (slices_of verified.now)) }
+{
     *verdict = KesvuotVerdict {
         place: 0,
         slices: verified.slice_count(),
@@ -62,7 +73,10 @@ fn accept(verified: &Verified, verdict: &mut KesvuotVerdict) -> u32 {
 }
 
 // The rule with this number is broken at `place`.
-fn refuse(rule: u32, place: u64, verdict: &mut KesvuotVerdict) -> u32 {
+fn refuse(rule: u32, place: u64, verdict: &mut KesvuotVerdict) -> u32
+    ensures status { result ≡ REFUSED }
+    ensures verdict { Has verdict.new rule place 0 }
+{
     *verdict = KesvuotVerdict {
         place,
         slices: 0,
@@ -73,7 +87,10 @@ fn refuse(rule: u32, place: u64, verdict: &mut KesvuotVerdict) -> u32 {
 }
 
 // There was no memory.
-fn give_up(verdict: &mut KesvuotVerdict) -> u32 {
+fn give_up(verdict: &mut KesvuotVerdict) -> u32
+    ensures status { result ≡ NO_MEMORY }
+    ensures verdict { Has verdict.new 0 0 0 }
+{
     *verdict = KesvuotVerdict {
         place: 0,
         slices: 0,

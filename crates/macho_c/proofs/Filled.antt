@@ -1,0 +1,58 @@
+-- The front of a table that an iterator has filled.
+use Rattle.std.proofs.Common.{◌≡◌, ◌≤◌, ◌∙◌, ℕ, List, length, map, take, drop, Option, None, Result, Err, MatchResult, refl, sym, ap, subst, inl, inr, arith}
+use Rattle.std.proofs.lemmas.Iterator.{YieldsList, YieldsList-from_map_by, maps}
+use Rattle.std.proofs.lemmas.Iterator.Adapters.{YieldsList-from_skip}
+use Rattle.std.proofs.lemmas.Iterator.Consumers.{YieldsList-so_far, YieldsList-end, YieldsList-at}
+use Rattle.std.proofs.lemmas.List.{drop-map, take_all, length-map, length-take}
+use Rattle.std.specs.declared.iter.Skip.{Skip}
+use Rattle.std.specs.declared.iter.Map.{Map}
+use Rattle.std.specs.Fn.{Called}
+use Rattle.std.specs.Iterator.Adapters.{skip_source, skip_count, skip_steps, map_source, map_callee}
+use denote.Param.Members.{Mut}
+use Rattle.macho_fields.specs.Layers.{KeptBelow, IsLeast}
+use Rattle.macho_fields.specs.Rules.{BreaksImage}
+use Rattle.macho_fields.specs.declared.rule.Break.{Break}
+use Rattle.macho_c.specs.Rows.{IsFilled, IsBrokenImage, Fills}
+
+module _ {S R V T : Type 0} {steps : S → Option R → S → Type 0} {s : S} {n : ℕ} {old new : List R} where
+  -- the rows of what is left of the views from the first on
+  pub filled : (shown : R → T) (row : V → T) (views : List V) (first : ℕ) → Fills steps s n old new → YieldsList steps shown s (map row (drop first views))
+      → IsFilled shown (map row views) first n old new
+  filled shown row views first fills gives = record { written = written ∙ at; count = count ∙ ap length at; rest = fills.rest }
+    where
+      left : List T
+      left = map row (drop first views)
+
+      at : take (length old) left ≡ take (length old) (drop first (map row views))
+      at = ap (take (length old)) (sym (drop-map row first views))
+
+      some : map shown fills.items ≡ take (length fills.items) left
+      some = YieldsList-so_far gives fills.items fills.left fills.yielded
+
+      whole : map shown fills.items ≡ take (length old) left
+      whole = elim fills.all [
+        | inl full ↦ some ∙ ap (λ k. take k left) (sym fills.count ∙ full)
+        | inr (u, end) ↦
+            let (all, many) = YieldsList-end gives fills.items fills.left fills.yielded None u refl end in
+            let room : length left ≤ length old = omega (arith, many, fills.count, fills.same, ap length fills.written, length-take n new) in
+            all ∙ sym (take_all (length old) left room)
+      ]
+
+      written : map shown (take n new) ≡ take (length old) left
+      written = ap (map shown) fills.written ∙ whole
+
+      count : n ≡ length (take (length old) left)
+      count = fills.count ∙ sym (length-map fills.items shown) ∙ ap length whole
+
+-- the same, where the rows are made of the items of an iterator, past those before the first
+module _ {S A V F R T : Type 0} {steps : S → Option A → S → Type 0} {g : Mut F (A × Unit {0}) R} {n : ℕ} {old new : List R} {t : S} {u : Skip S} {s : Map (Skip S) F} {f : F} {v : A → V} where
+  pub filled_past : (shown : R → T) (row : V → T) (views : List V) (first : ℕ) → Fills (maps (skip_steps steps) g) s n old new → YieldsList steps v t views
+      → skip_source u ≡ t → skip_count u ≡ first → map_source s ≡ u → map_callee s ≡ f → ((x : A) (r : R) (q : F) → Called g f (x, tt) r q → (q ≡ f) × (shown r ≡ row (v x)))
+      → IsFilled shown (map row views) first n old new
+  filled_past shown row views first fills gives past count source callee of =
+      let left : YieldsList (skip_steps steps) v u (drop first views) = YieldsList-from_skip first (YieldsList-at past gives) count in
+      filled shown row views first fills (YieldsList-from_map_by g shown row (YieldsList-at source left) callee of)
+
+-- Image::open refuses only what breaks a rule
+pub refused : {T : Type 0} (image file : List ℕ) (b : Break) (answer : Result T Break) → answer ≡ Err b → image ≡ file → MatchResult answer (λ _. KeptBelow (BreaksImage image None) 19) (IsLeast (BreaksImage image None)) → IsBrokenImage file
+refused image file b answer is same decides = let least = rw is at decides in subst IsBrokenImage same (b.rule, b.place, least.0)

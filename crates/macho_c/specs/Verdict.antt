@@ -1,0 +1,54 @@
+-- What a verdict says of a file.
+use Rattle.std.specs.Prelude.{◌≡◌, ℕ, ◌≤◌, ◌⊎◌, List, length}
+use Rattle.macho_fields.specs.First.{IsFirstBroken, IsUnbroken}
+use Rattle.macho_fields.specs.Loader.{IsSound}
+use Rattle.macho_fields.specs.Universal.{slices_of}
+use Rattle.macho_fields.specs.declared.rule.Break.{Break}
+use Rattle.macho_rules.specs.Verdict.{IsRefusal}
+use Rattle.macho_rules.specs.declared.refusal.Refusal.TheVariants as refusal
+use Rattle.macho_strict.specs.Accounted.{IsAccounted}
+use Rattle.macho_strict.specs.First.{IsStrictlyUnbroken, IsFirstStrictlyBroken}
+use Rattle.macho_strict.specs.declared.rule.StrictBreak.{StrictBreak}
+use Rattle.macho_c.specs.RuleNumbers.{number, strict_number}
+use Rattle.macho_c.specs.declared.status.TheConstants.{OK, REFUSED, NO_MEMORY}
+use Rattle.macho_c.specs.declared.verdict.KesvuotVerdict.{KesvuotVerdict}
+
+-- the numbers of a verdict
+abbrev pub Has : KesvuotVerdict → ℕ → ℕ → ℕ → Type 0
+Has v rule place slices =
+    (v.rule ≡ rule) × (v.place ≡ place) × (v.slices ≡ slices) × (v.reserved ≡ 0)
+
+-- The file breaks no rule, and the verdict has the number of its slices.
+abbrev pub IsAccepted : List ℕ → KesvuotVerdict → Type 0
+IsAccepted file v = IsUnbroken file × IsSound file × Has v 0 0 (length (slices_of file))
+
+-- The verdict has the first broken rule of the file.
+abbrev pub IsRefused : List ℕ → KesvuotVerdict → Type 0
+IsRefused file v = (b : Break) × IsFirstBroken file b × Has v (number b.rule) b.place 0
+
+-- There was no memory. That is answered only where the rules before fat-overlap are unbroken.
+abbrev pub IsUndecided : List ℕ → KesvuotVerdict → Type 0
+IsUndecided file v = IsRefusal file refusal.Memory × Has v 0 0 0
+
+-- the answer on a file
+abbrev pub IsVerdict : List ℕ → ℕ → KesvuotVerdict → Type 0
+IsVerdict file status v =
+    ((status ≡ OK) × IsAccepted file v) ⊎ ((status ≡ REFUSED) × IsRefused file v)
+    ⊎ ((status ≡ NO_MEMORY) × IsUndecided file v)
+
+-- The file breaks no strict rule either, and each of its bytes is accounted for.
+abbrev pub IsAcceptedStrictly : List ℕ → KesvuotVerdict → Type 0
+IsAcceptedStrictly file v = IsAccepted file v × IsStrictlyUnbroken file × IsAccounted file
+
+-- The verdict has the first broken rule of the file, or if no other is broken the first strict one.
+abbrev pub IsRefusedStrictly : List ℕ → KesvuotVerdict → Type 0
+IsRefusedStrictly file v =
+    IsRefused file v
+    ⊎ (IsUnbroken file
+    × (b : StrictBreak) × IsFirstStrictlyBroken file b × Has v (strict_number b.rule) b.place 0)
+
+-- the answer on a file, by the strict rules too
+abbrev pub IsStrictVerdict : List ℕ → ℕ → KesvuotVerdict → Type 0
+IsStrictVerdict file status v =
+    ((status ≡ OK) × IsAcceptedStrictly file v) ⊎ ((status ≡ REFUSED) × IsRefusedStrictly file v)
+    ⊎ ((status ≡ NO_MEMORY) × IsUndecided file v)
