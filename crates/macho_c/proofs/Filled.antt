@@ -3,7 +3,7 @@ use Rattle.std.proofs.Common.{◌≡◌, ◌≤◌, ◌∙◌, ℕ, List, length
 use Rattle.std.proofs.lemmas.Iterator.{YieldsList, YieldsList-from_map_by, maps}
 use Rattle.std.proofs.lemmas.Iterator.Adapters.{YieldsList-from_skip}
 use Rattle.std.proofs.lemmas.Iterator.Consumers.{YieldsList-so_far, YieldsList-end, YieldsList-at}
-use Rattle.std.proofs.lemmas.List.{drop-map, take_all, length-map, length-take}
+use Rattle.std.proofs.lemmas.List.{drop-map, take-map, take_all, length-map, length-take}
 use Rattle.std.specs.declared.iter.Skip.{Skip}
 use Rattle.std.specs.declared.iter.Map.{Map}
 use Rattle.std.specs.Fn.{Called}
@@ -52,6 +52,20 @@ module _ {S A V F R T : Type 0} {steps : S → Option A → S → Type 0} {g : M
   filled_past shown row views first fills gives past count source callee of =
       let left : YieldsList (skip_steps steps) v u (drop first views) = YieldsList-from_skip first (YieldsList-at past gives) count in
       filled shown row views first fills (YieldsList-from_map_by g shown row (YieldsList-at source left) callee of)
+
+-- the same, where the items are no more than the table has room for
+module _ {S A V F R T : Type 0} {steps : S → Option A → S → Type 0} {g : Mut F (A × Unit {0}) R} {n : ℕ} {old new : List R} {t : S} {s : Map S F} {f : F} {v : A → V} where
+  pub filled_range : (shown : R → T) (row : V → T) (views : List V) (first : ℕ) → Fills (maps steps g) s n old new → YieldsList steps v t (take (length old) (drop first views))
+      → map_source s ≡ t → map_callee s ≡ f → ((x : A) (r : R) (q : F) → Called g f (x, tt) r q → (q ≡ f) × (shown r ≡ row (v x)))
+      → IsFilled shown (map row views) first n old new
+  filled_range shown row views first fills gives source callee of =
+      let ranged : IsFilled shown (map row (take (length old) (drop first views))) 0 n old new =
+      filled shown row (take (length old) (drop first views)) 0 fills (YieldsList-from_map_by g shown row (YieldsList-at source gives) callee of) in
+      let once : take (length old) (take (length old) (drop first views)) ≡ take (length old) (drop first views) = take_all (length old) (take (length old) (drop first views)) (omega (arith, length-take (length old) (drop first views))) in
+      let at : take (length old) (map row (take (length old) (drop first views))) ≡ take (length old) (drop first (map row views)) =
+      take-map row (length old) (take (length old) (drop first views)) ∙ (ap (map row) once
+      ∙ (sym (take-map row (length old) (drop first views)) ∙ ap (take (length old)) (sym (drop-map row first views)))) in
+      record { written = ranged.written ∙ at; count = ranged.count ∙ ap length at; rest = ranged.rest }
 
 -- Image::open refuses only what breaks a rule
 pub refused : {T : Type 0} (image file : List ℕ) (b : Break) (answer : Result T Break) → answer ≡ Err b → image ≡ file → MatchResult answer (λ _. KeptBelow (BreaksImage image None) 19) (IsLeast (BreaksImage image None)) → IsBrokenImage file

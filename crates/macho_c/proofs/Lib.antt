@@ -1,2 +1,5 @@
+pub mod BadSlices
+pub mod Counts
+pub mod Data
 pub mod Ended
 pub mod Filled

@@ -1,7 +1,13 @@
+pub mod Address
 pub mod Builds
 pub mod Commands
+pub mod Image
 pub mod Libraries
+pub mod Linkedit
+pub mod Numbered
 pub mod Rows
 pub mod RuleNumbers
 pub mod Sections
+pub mod Segments
+pub mod Symbols
 pub mod Verdict

@@ -1,5 +1,5 @@
 -- A table of the caller, and what an export writes to it.
-use Rattle.std.specs.Prelude.{◌≡◌, ◌≢◌, ℕ, ◌+◌, ◌⊎◌, List, [], length, map, take, drop, Option, None, ◌==◌, nat_le, if◌then◌else◌}
+use Rattle.std.specs.Prelude.{◌≡◌, ℕ, ◌+◌, ◌⊎◌, List, [], length, map, take, drop, Option, None, ◌==◌, nat_le, if◌then◌else◌}
 use Rattle.std.specs.Iterator.{Yields}
 use Rattle.std.specs.List.{before_first, list_any}
 use Rattle.macho_fields.specs.Field.{part}

@@ -1,6 +1,6 @@
 -- The rules by number: those of the layout in the order of judgment from 1 on, and after them the
 -- strict ones in theirs.
-use Rattle.std.specs.Prelude.{◌≡◌, ◌⊎◌, ℕ, ◌+◌, ◌<◌, List}
+use Rattle.std.specs.Prelude.{◌≡◌, ◌⊎◌, ℕ, ◌+◌, List}
 use Rattle.macho_fields.specs.RuleList.{rank, name_of}
 use Rattle.macho_fields.specs.declared.rule.Rule.{Rule}
 use Rattle.macho_strict.specs.RuleList.{rank as strict_rank, name_of as strict_name_of}

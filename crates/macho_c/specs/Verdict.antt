@@ -1,5 +1,5 @@
 -- What a verdict says of a file.
-use Rattle.std.specs.Prelude.{◌≡◌, ℕ, ◌≤◌, ◌⊎◌, List, length}
+use Rattle.std.specs.Prelude.{◌≡◌, ℕ, ◌⊎◌, List, length}
 use Rattle.macho_fields.specs.First.{IsFirstBroken, IsUnbroken}
 use Rattle.macho_fields.specs.Loader.{IsSound}
 use Rattle.macho_fields.specs.Universal.{slices_of}

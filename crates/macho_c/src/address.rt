@@ -1,9 +1,15 @@
 //! What is at the addresses of an image.
 
+ghost use Rattle.std.specs.Prelude.{◌≡◌, ◌⊎◌, []};
+ghost use Rattle.macho_c.specs.Address.{supplier, IsAnswer};
+ghost use Rattle.macho_c.specs.Address.{supplies as supplies_of};
+ghost use Rattle.macho_c.specs.Rows.{IsBrokenImage};
+
 use crate::image::KesvuotImage;
-use crate::parts::part_or_none;
+use crate::parts::rest;
+use crate::segments::bytes_of;
 use crate::status::{NONE, OK, ZERO};
-use macho_fields::{Bytes, Span};
+use macho_fields::Bytes;
 use macho_image::{Image, Segment};
 
 /// Writes the bytes of the file from the address on, up to the last that the same segment has in the
@@ -14,30 +20,48 @@ pub extern "C" fn kesvuot_at<'a>(
     image: &KesvuotImage<'a>,
     address: u64,
     bytes: &mut &'a [u8],
-) -> u32 {
-    *bytes = &[];
-    let Ok(opened) = Image::open(Bytes::new(image.bytes), None) else {
-        return NONE;
-    };
-    for segment in opened.segments() {
-        let memory = Span {
-            start: segment.vmaddr(),
-            len: segment.vmsize(),
-        };
-        if memory.holds(address) {
-            *bytes = bytes_from(&segment, address - memory.start);
-            return if bytes.is_empty() { ZERO } else { OK };
+) -> u32
+    ensures { IsAnswer image.now.bytes.now address result bytes.new.now
+        ⊎ (IsBrokenImage image.now.bytes.now × (result ≡ NONE) × (bytes.new.now ≡ [])) }
+{
+    match Image::open(Bytes::new(image.bytes), None) {
+        Ok(image) => write_bytes_at(&image, address, bytes),
+        Err(_) => {
+            *bytes = &[];
+            NONE
         }
     }
-    NONE
 }
 
-// The bytes of a segment from so many past its first on.
-fn bytes_from<'a>(segment: &Segment<'a>, past: u64) -> &'a [u8] {
-    let span = Span {
-        start: segment.fileoff(),
-        len: segment.filesize(),
+// The same, of an opened image.
+fn write_bytes_at<'a>(image: &Image<'a>, address: u64, bytes: &mut &'a [u8]) -> u32
+    ensures { IsAnswer image.now address result bytes.new.now }
+{
+    let Some(segment) = segment_with(image, address) else {
+        *bytes = &[];
+        return NONE;
     };
-    let bytes = part_or_none(segment.image(), span);
-    bytes.get(past as usize..).unwrap_or(&[])
+    let past = address.saturating_sub(segment.vmaddr());
+    *bytes = rest(bytes_of(&segment), past);
+    if bytes.is_empty() { ZERO } else { OK }
+}
+
+// The first segment that has the address.
+fn segment_with<'a>(image: &Image<'a>, address: u64) -> Option<Segment<'a>>
+    ensures { result ≡ supplier image.now address }
+{
+    for segment in image.segments() {
+        if supplies(&segment, address) {
+            return Some(segment);
+        }
+    }
+    None
+}
+
+// Whether a segment has the address.
+fn supplies(segment: &Segment, address: u64) -> bool
+    ensures { result ≡ supplies_of address segment.now }
+{
+    let start = segment.vmaddr();
+    start <= address && address - start < segment.vmsize()
 }

@@ -1,10 +1,28 @@
 //! The image of a slice: what is there once, how many rows its tables have, and where they begin.
 
-use crate::narrow::narrow;
+ghost use Rattle.std.specs.Prelude.{◌≡◌, ◌+◌, ◌≤◌, ◌⊎◌, length, if◌then◌else◌};
+ghost use Rattle.std.specs.Option.{option_map, unwrap_or};
+ghost use Rattle.macho_fields.specs.Bytes.{bytes_of};
+ghost use Rattle.macho_fields.specs.Image.{word, commands_of};
+ghost use Rattle.macho_fields.specs.Segment.{base_of};
+ghost use Rattle.macho_fields.specs.declared.header.loader.TheConstants.{LC_DYSYMTAB};
+ghost use Rattle.macho_image.specs.Entry.{entry_of};
+ghost use Rattle.macho_fat.specs.Slices.{slice_of, MarksReadInside};
+ghost use Rattle.macho_c.specs.Builds.{builds_in};
+ghost use Rattle.macho_c.specs.Commands.{commands_in};
+ghost use Rattle.macho_c.specs.Libraries.{libraries_in};
+ghost use Rattle.macho_c.specs.Segments.{segments_seen};
+ghost use Rattle.macho_c.specs.Image.{IsAnswer, IsSliceAnswer, Breaks, Shows, ShowsNothing};
+ghost use Rattle.macho_c.specs.Image.{only, uuid_in, symtab_in, dysymtab_in, field_of};
+ghost use Rattle.macho_c.specs.Image.{bit as bit_of, groups_at as groups_in, no_groups};
+
 use crate::status::{NONE, OK, REFUSED, UNREAD};
 use macho_fat::{Slice, is_unread_image, slice_at};
-use macho_fields::{Bytes, Order, Span};
-use macho_image::{Dysymtab, Image};
+use macho_fields::header::loader::dysymtab_command::{
+    IEXTDEFSYM, ILOCALSYM, IUNDEFSYM, NEXTDEFSYM, NLOCALSYM, NUNDEFSYM,
+};
+use macho_fields::{Bytes, Order};
+use macho_image::{Image, Symtab};
 
 /// `LC_UUID` is there.
 const HAS_UUID: u32 = 1;
@@ -17,7 +35,9 @@ const HAS_SYMTAB: u32 = 8;
 /// `LC_DYSYMTAB` is there.
 const HAS_DYSYMTAB: u32 = 16;
 
-// The offset of `mach_header_64.flags`.
+// The offsets of `ncmds` and `flags` in `mach_header_64`.
+const NCMDS: u64 = 16;
+
 const FLAGS: u64 = 24;
 
 /// An image. (`struct kesvuot_image`) C may keep it for as long as the bytes stay, and may change it:
@@ -66,11 +86,9 @@ pub struct KesvuotImage<'a> {
 /// `UNREAD` where the image is of 32 bits or big-endian; `NONE` where there is no such slice; or
 /// `REFUSED` where no accepted file has these bytes.
 #[unsafe(no_mangle)]
-pub extern "C" fn kesvuot_image<'a>(
-    file: &'a [u8],
-    slice: u64,
-    image: &mut KesvuotImage<'a>,
-) -> u32 {
+pub extern "C" fn kesvuot_image<'a>(file: &'a [u8], slice: u64, image: &mut KesvuotImage<'a>) -> u32
+    ensures { IsAnswer file.now slice result image.new }
+{
     *image = no_image();
     let bytes = Bytes::new(file);
     match slice_at(bytes, slice) {
@@ -80,8 +98,12 @@ pub extern "C" fn kesvuot_image<'a>(
     }
 }
 
-// Reads the image of a slice.
-fn read_slice<'a>(file: Bytes<'a>, slice: &Slice, image: &mut KesvuotImage<'a>) -> u32 {
+// Reads the image of a slice into a struct that shows nothing.
+fn read_slice<'a>(file: Bytes<'a>, slice: &Slice, image: &mut KesvuotImage<'a>) -> u32
+    requires marked { MarksReadInside (bytes_of file) slice.now }
+    requires empty { ShowsNothing image.old }
+    ensures { IsSliceAnswer (bytes_of file.entry) (slice_of slice.now) result image.new }
+{
     let Some(bytes) = file.part(slice.span) else {
         return REFUSED;
     };
@@ -99,8 +121,12 @@ fn read_slice<'a>(file: Bytes<'a>, slice: &Slice, image: &mut KesvuotImage<'a>) 
     UNREAD
 }
 
-// Reads a 64-bit little-endian image.
-fn read_image<'a>(bytes: &'a [u8], slice: &Slice, image: &mut KesvuotImage<'a>) -> u32 {
+// Reads a 64-bit little-endian image, which the bytes of the slice are.
+fn read_image<'a>(bytes: &'a [u8], slice: &Slice, image: &mut KesvuotImage<'a>) -> u32
+    requires { ShowsNothing image.old }
+    ensures { ((result ≡ OK) × Shows bytes.now slice.now.span.start image.new)
+        ⊎ ((result ≡ REFUSED) × Breaks bytes.now slice.now.arch × ShowsNothing image.new) }
+{
     match Image::open(Bytes::new(bytes), slice.arch) {
         Ok(opened) => {
             *image = row_of(bytes, slice.span.start, &opened);
@@ -111,7 +137,9 @@ fn read_image<'a>(bytes: &'a [u8], slice: &Slice, image: &mut KesvuotImage<'a>) 
 }
 
 // No image: all fields are 0.
-fn no_image<'a>() -> KesvuotImage<'a> {
+fn no_image<'a>() -> KesvuotImage<'a>
+    ensures { ShowsNothing result }
+{
     KesvuotImage {
         bytes: &[],
         place: 0,
@@ -139,85 +167,151 @@ fn no_image<'a>() -> KesvuotImage<'a> {
     }
 }
 
-// The image in the bytes, which begin at `place` in the file.
-fn row_of<'a>(bytes: &'a [u8], place: u64, image: &Image<'a>) -> KesvuotImage<'a> {
-    let mut row = no_image();
-    row.bytes = bytes;
-    row.place = place;
-    add_header(image, &mut row);
-    add_counts(image, &mut row);
-    add_addresses(image, &mut row);
-    add_symbols(image, &mut row);
-    row
-}
-
-// Adds the fields of the header, and the UUID.
-fn add_header(image: &Image, row: &mut KesvuotImage) {
+// The struct of the image in the bytes, which begin at `place` in the file.
+fn row_of<'a>(bytes: &'a [u8], place: u64, image: &Image<'a>) -> KesvuotImage<'a>
+    requires { image.now ≡ bytes.now }
+    ensures { Shows bytes.now place result }
+{
     let (cputype, cpusubtype) = image.arch();
-    row.cputype = cputype;
-    row.cpusubtype = cpusubtype;
-    row.filetype = image.file_type().number;
-    row.flags = image.bytes().u32_at(Order::Little, FLAGS).unwrap_or(0);
-    if let Some(uuid) = image.uuid() {
-        row.uuid = uuid;
-        row.has |= HAS_UUID;
+    let symtab = symtab(image);
+    let (indirects, indirect_count) = indirects(image);
+    KesvuotImage {
+        bytes,
+        place,
+        base: image.base().unwrap_or(0),
+        entry: image.entry().unwrap_or(0),
+        symbols: symtab.symoff,
+        symbol_count: symtab.nsyms,
+        strings: symtab.stroff,
+        strings_size: symtab.strsize,
+        indirects,
+        indirect_count,
+        command_count: u64::from(command_count(image)),
+        segment_count: segment_count(image),
+        section_count: image.section_count(),
+        library_count: library_count(image),
+        build_count: build_count(image),
+        cputype,
+        cpusubtype,
+        filetype: image.file_type().number,
+        flags: flags(image),
+        has: has(image),
+        groups: groups(image),
+        uuid: image.uuid().unwrap_or([0; 16]),
+        reserved: [0; 5],
     }
 }
 
-// Adds how many rows the tables have that go over the commands.
-fn add_counts(image: &Image, row: &mut KesvuotImage) {
-    for command in image.commands() {
-        row.command_count = row.command_count.saturating_add(1);
-    }
-    for segment in image.segments() {
-        row.segment_count = row.segment_count.saturating_add(1);
-    }
-    row.section_count = image.section_count();
-    for library in image.dylibs() {
-        row.library_count = row.library_count.saturating_add(1);
-    }
-    for build in image.builds() {
-        row.build_count = row.build_count.saturating_add(1);
-    }
-}
-
-// Adds the base and the entry point.
-fn add_addresses(image: &Image, row: &mut KesvuotImage) {
-    if let Some(base) = image.base() {
-        row.base = base;
-        row.has |= HAS_BASE;
-    }
-    if let Some(entry) = image.entry() {
-        row.entry = entry;
-        row.has |= HAS_ENTRY;
+// The fields of `LC_SYMTAB`, which are 0 where it is not there.
+fn symtab(image: &Image) -> Symtab
+    ensures symoff { result.symoff ≡ field_of (λ t. t.symoff) (symtab_in image.now) }
+    ensures nsyms { result.nsyms ≡ field_of (λ t. t.nsyms) (symtab_in image.now) }
+    ensures stroff { result.stroff ≡ field_of (λ t. t.stroff) (symtab_in image.now) }
+    ensures strsize { result.strsize ≡ field_of (λ t. t.strsize) (symtab_in image.now) }
+{
+    match image.symtab() {
+        Some(symtab) => symtab,
+        None => Symtab {
+            place: 0,
+            symoff: 0,
+            nsyms: 0,
+            stroff: 0,
+            strsize: 0,
+        },
     }
 }
 
-// Adds where the symbols, their strings and the indirect entries are.
-fn add_symbols(image: &Image, row: &mut KesvuotImage) {
-    if let Some(symtab) = image.symtab() {
-        row.symbols = symtab.symoff;
-        row.symbol_count = symtab.nsyms;
-        row.strings = symtab.stroff;
-        row.strings_size = symtab.strsize;
-        row.has |= HAS_SYMTAB;
-    }
-    if let Some(dysymtab) = image.dysymtab() {
-        row.indirects = dysymtab.indirectsymoff;
-        row.indirect_count = dysymtab.nindirectsyms;
-        row.groups = groups_of(dysymtab);
-        row.has |= HAS_DYSYMTAB;
+// Where the indirect entries begin, and how many there are: 0 where there is no `LC_DYSYMTAB`.
+fn indirects(image: &Image) -> (u64, u64)
+    ensures place { result.0 ≡ field_of (λ t. t.indirectsymoff) (dysymtab_in image.now) }
+    ensures count { result.1 ≡ field_of (λ t. t.nindirectsyms) (dysymtab_in image.now) }
+{
+    match image.dysymtab() {
+        Some(dysymtab) => (dysymtab.indirectsymoff, dysymtab.nindirectsyms),
+        None => (0, 0),
     }
 }
 
-// The groups of symbols.
-fn groups_of(dysymtab: Dysymtab) -> [u32; 6] {
+// The flags. (`mach_header_64`)
+fn flags(image: &Image) -> u32
+    ensures { result ≡ word image.now 24 }
+{
+    image.bytes().read_u32(Order::Little, FLAGS)
+}
+
+// How many commands there are. (`mach_header_64.ncmds`)
+fn command_count(image: &Image) -> u32
+    ensures { result ≡ length (commands_in image.now) }
+{
+    image.bytes().read_u32(Order::Little, NCMDS)
+}
+
+// How many segments there are. No image has more of anything that a command names than commands.
+fn segment_count(image: &Image) -> u64
+    ensures { result ≡ length (segments_seen image.now) }
+{
+    prove!(command_count(image) <= u32::MAX);
+    image.segments().count() as u64
+}
+
+// How many libraries the image names.
+fn library_count(image: &Image) -> u64
+    ensures { result ≡ length (libraries_in image.now) }
+{
+    prove!(command_count(image) <= u32::MAX);
+    image.dylibs().count() as u64
+}
+
+// How many builds there are.
+fn build_count(image: &Image) -> u64
+    ensures { result ≡ length (builds_in image.now) }
+{
+    prove!(command_count(image) <= u32::MAX);
+    image.builds().count() as u64
+}
+
+// Which parts the image has.
+fn has(image: &Image) -> u32
+    ensures { result ≡ bit_of 1 (uuid_in image.now) + bit_of 2 (base_of image.now (commands_of image.now))
+        + bit_of 4 (entry_of image.now (commands_of image.now)) + bit_of 8 (symtab_in image.now)
+        + bit_of 16 (dysymtab_in image.now) }
+{
+    bit(image.uuid().is_some(), HAS_UUID)
+        + bit(image.base().is_some(), HAS_BASE)
+        + bit(image.entry().is_some(), HAS_ENTRY)
+        + bit(image.symtab().is_some(), HAS_SYMTAB)
+        + bit(image.dysymtab().is_some(), HAS_DYSYMTAB)
+}
+
+// The bit of a part that is there.
+fn bit(there: bool, bit: u32) -> u32
+    ensures { result ≡ (if there then bit else 0) }
+{
+    if there { bit } else { 0 }
+}
+
+// The groups of symbols of `LC_DYSYMTAB`.
+fn groups(image: &Image) -> [u32; 6]
+    ensures { result ≡ unwrap_or (option_map (groups_in image.now) (only image.now LC_DYSYMTAB))
+        no_groups }
+{
+    match image.dysymtab() {
+        Some(dysymtab) => groups_at(image.bytes(), dysymtab.place),
+        None => [0; 6],
+    }
+}
+
+// The groups of the `dysymtab_command` at `place`.
+fn groups_at(image: Bytes, place: u64) -> [u32; 6]
+    requires { place + 80 ≤ length (bytes_of image) }
+    ensures { result ≡ groups_in (bytes_of image.entry) place }
+{
     [
-        narrow(dysymtab.ilocalsym),
-        narrow(dysymtab.nlocalsym),
-        narrow(dysymtab.iextdefsym),
-        narrow(dysymtab.nextdefsym),
-        narrow(dysymtab.iundefsym),
-        narrow(dysymtab.nundefsym),
+        image.read_u32(Order::Little, place + ILOCALSYM),
+        image.read_u32(Order::Little, place + NLOCALSYM),
+        image.read_u32(Order::Little, place + IEXTDEFSYM),
+        image.read_u32(Order::Little, place + NEXTDEFSYM),
+        image.read_u32(Order::Little, place + IUNDEFSYM),
+        image.read_u32(Order::Little, place + NUNDEFSYM),
     ]
 }

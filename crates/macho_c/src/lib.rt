@@ -11,7 +11,6 @@ mod image;
 mod indirects;
 mod libraries;
 mod linkedit;
-mod narrow;
 mod parts;
 mod rule;
 mod sections;

@@ -1,5 +1,12 @@
 //! The data that load commands name.
 
+ghost use Rattle.std.specs.Prelude.{◌≡◌, ◌⊎◌, ◌↔◌, ◌+◌, ◌≤◌, Some, [], IsTrue, IsSome, IfSome, IfNone, length};
+ghost use Rattle.macho_fields.specs.Bytes.{bytes_of};
+ghost use Rattle.macho_fields.specs.LoadCommands.{structure_of, structure_size};
+ghost use Rattle.macho_fields.specs.declared.load_command.Structure.TheVariants.{LinkeditDataCommand};
+ghost use Rattle.macho_c.specs.Linkedit.{IsAnswer, IsData, PassesImage};
+ghost use Rattle.macho_c.specs.Rows.{IsBrokenImage};
+
 use crate::image::KesvuotImage;
 use crate::status::{NONE, OK};
 use macho_fields::header::loader::linkedit_data_command::{DATAOFF, DATASIZE};
@@ -13,26 +20,59 @@ pub extern "C" fn kesvuot_linkedit<'a>(
     image: &KesvuotImage<'a>,
     cmd: u32,
     bytes: &mut &'a [u8],
-) -> u32 {
+) -> u32
+    ensures { IsAnswer image.now.bytes.now cmd result bytes.new.now
+        ⊎ (IsBrokenImage image.now.bytes.now × (result ≡ NONE) × (bytes.new.now ≡ [])) }
+{
+    match Image::open(Bytes::new(image.bytes), None) {
+        Ok(image) => write_data(&image, cmd, bytes),
+        Err(_) => {
+            *bytes = &[];
+            NONE
+        }
+    }
+}
+
+// The same, of an opened image.
+fn write_data<'a>(image: &Image<'a>, cmd: u32, bytes: &mut &'a [u8]) -> u32
+    ensures { IsAnswer image.now cmd result bytes.new.now }
+{
     *bytes = &[];
-    match linkedit_data(Bytes::new(image.bytes), cmd) {
-        Some(found) => {
-            *bytes = found;
+    if !names_data(cmd) {
+        return NONE;
+    }
+    let Some(command) = image.first_command(cmd) else {
+        return NONE;
+    };
+    match data_at(image.bytes(), command.place) {
+        Some(data) => {
+            *bytes = data;
             OK
         }
         None => NONE,
     }
 }
 
-// The data that the first `linkedit_data_command` with this `cmd` names.
-fn linkedit_data(image: Bytes, cmd: u32) -> Option<&[u8]> {
-    if structure_of(cmd) != Some(Structure::LinkeditDataCommand) {
-        return None;
+// Whether a command with this `cmd` is a `linkedit_data_command`.
+fn names_data(cmd: u32) -> bool
+    ensures { IsTrue result ↔ (structure_of cmd ≡ Some LinkeditDataCommand) }
+{
+    structure_of(cmd) == Some(Structure::LinkeditDataCommand)
+}
+
+// The data of the `linkedit_data_command` at the place `command`, or `None` where it ends past the
+// image. With `datasize` 0 it is empty, wherever `dataoff` is.
+fn data_at(image: Bytes, command: u64) -> Option<&[u8]>
+    requires { command + structure_size LinkeditDataCommand ≤ length (bytes_of image) }
+    ensures some { IfSome result (λ bytes. IsData (bytes_of image.entry) command bytes.now) }
+    ensures none { IfNone result (PassesImage (bytes_of image.entry) command) }
+{
+    let data = Span {
+        start: u64::from(image.read_u32(Order::Little, command + DATAOFF)),
+        len: u64::from(image.read_u32(Order::Little, command + DATASIZE)),
+    };
+    if data.len == 0 {
+        return Some(&[]);
     }
-    let opened = Image::open(image, None).ok()?;
-    let command = opened.first_command(cmd)?;
-    let fields = Bytes::new(command.bytes);
-    let start = u64::from(fields.u32_at(Order::Little, DATAOFF)?);
-    let len = u64::from(fields.u32_at(Order::Little, DATASIZE)?);
-    image.part(Span { start, len })
+    image.part(data)
 }

@@ -5,7 +5,6 @@ ghost use Rattle.macho_c.specs.Rows.{IsTable};
 ghost use Rattle.macho_c.specs.Sections.{section_bytes, section_shown, section_row, section_rows};
 
 use crate::image::KesvuotImage;
-use crate::narrow::narrow;
 use crate::parts::part_or_none;
 use crate::table::fill;
 use macho_fields::{Bytes, Span};
@@ -61,13 +60,13 @@ fn row_of<'a>(section: Section<'a>) -> KesvuotSection<'a>
         bytes: bytes_of(&section),
         addr: section.addr(),
         size: section.size(),
-        offset: narrow(section.offset()),
-        align: narrow(section.align()),
-        reloff: narrow(section.reloff()),
-        nreloc: narrow(section.nreloc()),
-        flags: narrow(section.flags()),
-        reserved1: narrow(section.reserved1()),
-        reserved2: narrow(section.reserved2()),
+        offset: section.offset() as u32,
+        align: section.align() as u32,
+        reloff: section.reloff() as u32,
+        nreloc: section.nreloc() as u32,
+        flags: section.flags() as u32,
+        reserved1: section.reserved1() as u32,
+        reserved2: section.reserved2() as u32,
         zero_fill: u32::from(section.is_zero_fill()),
     }
 }

@@ -1,10 +1,15 @@
 //! The segments of an image.
 
+ghost use Rattle.std.specs.Prelude.{◌≡◌};
+ghost use Rattle.macho_c.specs.Rows.{IsTable};
+ghost use Rattle.macho_c.specs.Segments.{segment_bytes, segment_shown, segment_row, segment_rows};
+
 use crate::image::KesvuotImage;
-use crate::narrow::narrow;
 use crate::parts::part_or_none;
+use crate::table::fill;
 use macho_fields::{Bytes, Span};
-use macho_image::{Image, Segment};
+use macho_image::{Image, Segment, Segments};
+use std::marker::Model;
 
 /// A segment. (`segment_command_64`)
 #[repr(C)]
@@ -31,47 +36,107 @@ pub extern "C" fn kesvuot_segments<'a>(
     image: &KesvuotImage<'a>,
     first: u64,
     rows: &mut [KesvuotSegment<'a>],
-) -> usize {
+) -> usize
+    ensures { IsTable image.now.bytes.now segment_shown (segment_rows image.now.bytes.now) first result
+        rows.old rows.new }
+{
     match Image::open(Bytes::new(image.bytes), None) {
-        Ok(image) => fill(&image, first, rows),
+        Ok(image) => {
+            let segments = NumberedSegments::of(&image);
+            fill(segments.skip(first as usize).map(row_of), rows)
+        }
         Err(_) => 0,
     }
 }
 
-fn fill<'a>(image: &Image<'a>, first: u64, rows: &mut [KesvuotSegment<'a>]) -> usize {
-    let mut written = 0;
-    let mut index = 0u64;
-    let mut sections = 0u64;
-    for segment in image.segments() {
-        if index >= first {
-            let Some(row) = rows.get_mut(written) else {
-                break;
-            };
-            *row = row_of(&segment, sections);
-            written += 1;
-        }
-        index = index.saturating_add(1);
-        sections = sections.saturating_add(segment.nsects());
-    }
-    written
-}
-
-// The row of a segment, with so many sections before its own.
-fn row_of<'a>(segment: &Segment<'a>, sections: u64) -> KesvuotSegment<'a> {
-    let span = Span {
-        start: segment.fileoff(),
-        len: segment.filesize(),
-    };
+// The row of a segment.
+fn row_of<'a>(numbered: Numbered<'a>) -> KesvuotSegment<'a>
+    ensures { segment_shown result ≡ segment_row numbered.entry }
+{
+    let segment = numbered.segment;
     KesvuotSegment {
         name: segment.name(),
-        bytes: part_or_none(segment.image(), span),
+        bytes: bytes_of(&segment),
         vmaddr: segment.vmaddr(),
         vmsize: segment.vmsize(),
         fileoff: segment.fileoff(),
         filesize: segment.filesize(),
-        first_section: narrow(sections),
-        section_count: narrow(segment.nsects()),
-        maxprot: narrow(segment.maxprot()),
-        initprot: narrow(segment.initprot()),
+        first_section: numbered.sections,
+        section_count: segment.nsects() as u32,
+        maxprot: segment.maxprot() as u32,
+        initprot: segment.initprot() as u32,
+    }
+}
+
+// The bytes of a segment in the image.
+pub(crate) fn bytes_of<'a>(segment: &Segment<'a>) -> &'a [u8]
+    ensures { result.now ≡ segment_bytes segment.now.image segment.now.place }
+{
+    let span = Span {
+        start: segment.fileoff(),
+        len: segment.filesize(),
+    };
+    part_or_none(segment.image(), span)
+}
+
+// A segment, with the number of the sections before its own.
+#[derive(Drop)]
+struct Numbered<'a> {
+    segment: Segment<'a>,
+    sections: u32,
+}
+
+// The segments of an image that remain, each with the number of the sections before its own.
+#[derive(Drop)]
+struct NumberedSegments<'a> {
+    segments: Segments<'a>,
+    // The number of the sections before those of the segments that remain.
+    sections: u32,
+}
+
+impl<'a> Model for NumberedSegments<'a> {
+    ghost use Rattle.std.specs.Prelude.{List};
+    ghost use Rattle.macho_c.specs.Numbered.{AreFew};
+    ghost use Rattle.macho_c.specs.Segments.{numbered};
+    ghost use Rattle.macho_c.specs.declared.segments.Numbered.{Numbered};
+
+    ghost Value = { List Numbered };
+
+    ghost view = { λ n. numbered n.sections n.segments };
+
+    ghost invariant = { λ n. AreFew n.sections n.segments };
+}
+
+impl<'a> Iterator for NumberedSegments<'a> {
+    ghost use Rattle.std.specs.Iterator.{YieldsFirst, item_count};
+
+    type Item = Numbered<'a>;
+
+    ghost next_gives = { YieldsFirst (λ left. left) };
+
+    ghost remaining = { item_count (λ left. left) };
+
+    fn next(&mut self) -> Option<Numbered<'a>> {
+        let segment = self.segments.next()?;
+        let sections = self.sections;
+        self.sections += segment.nsects() as u32;
+        Some(Numbered { segment, sections })
+    }
+}
+
+impl<'a> NumberedSegments<'a> {
+    ghost use Rattle.std.specs.Prelude.{◌≡◌};
+    ghost use Rattle.macho_c.specs.Segments.{segments_in};
+
+    // All segments of an image, in the order of the commands.
+    fn of(image: &Image<'a>) -> NumberedSegments<'a>
+        ensures { result ≡ segments_in image.now }
+    {
+        // The sections lie among the commands, so their number is below 2^32.
+        prove!(image.commands_end() <= u64::MAX);
+        NumberedSegments {
+            segments: image.segments(),
+            sections: 0,
+        }
     }
 }

@@ -1,18 +1,25 @@
 //! The symbols of an image.
 
+ghost use Rattle.std.specs.Prelude.{◌≡◌};
+ghost use Rattle.macho_c.specs.Rows.{IsFilled};
+ghost use Rattle.macho_c.specs.Symbols.{symbol_shown, symbol_row, symbol_rows, name_at};
+
 use crate::image::KesvuotImage;
-use macho_fields::header::nlist::NLIST_64_SIZE;
-use macho_fields::{Bytes, Order, Span};
+use crate::parts::{ended_string, part_or_none, rest};
+use crate::table::fill;
+use macho_fields::{Bytes, Span};
+use macho_image::{Symbol, Symbols};
 
 /// A symbol. (`nlist_64`)
 #[repr(C)]
 #[derive(Clone, Copy)]
 pub struct KesvuotSymbol<'a> {
-    /// Its name without the zero byte that ends it.
+    /// Its name without the zero byte that ends it. None where `strx` is 0.
     pub name: &'a [u8],
     pub value: u64,
     pub strx: u32,
     pub desc: u16,
+    /// `n_type`
     pub kind: u8,
     pub sect: u8,
 }
@@ -25,52 +32,39 @@ pub extern "C" fn kesvuot_symbols<'a>(
     image: &KesvuotImage<'a>,
     first: u64,
     rows: &mut [KesvuotSymbol<'a>],
-) -> usize {
-    for written in 0..rows.len() {
-        let Some(symbol) = row_at(image, first.saturating_add(written as u64)) else {
-            return written;
-        };
-        rows[written] = symbol;
-    }
-    rows.len()
+) -> usize
+    ensures { IsFilled symbol_shown (symbol_rows image.now) first result rows.old rows.new }
+{
+    let symbols = Symbols::in_table(Bytes::new(image.bytes), image.symbols, image.symbol_count);
+    let wanted = symbols.range(first, rows.len() as u64);
+    fill(wanted.map(|symbol| row_of(image, symbol)), rows)
 }
 
-// The row of the symbol with this index.
-fn row_at<'a>(image: &KesvuotImage<'a>, index: u64) -> Option<KesvuotSymbol<'a>> {
-    if index >= image.symbol_count {
-        return None;
+// The row of a symbol.
+fn row_of<'a>(image: &KesvuotImage<'a>, symbol: Symbol) -> KesvuotSymbol<'a>
+    ensures { symbol_shown result ≡ symbol_row image.now symbol }
+{
+    KesvuotSymbol {
+        name: name_at(image, symbol.strx),
+        value: symbol.value,
+        strx: symbol.strx,
+        desc: symbol.desc,
+        kind: symbol.kind,
+        sect: symbol.sect,
     }
-    let bytes = Bytes::new(image.bytes);
-    if !bytes.contains_table(image.symbols, image.symbol_count, NLIST_64_SIZE) {
-        return None;
-    }
-    let place = index
-        .checked_mul(NLIST_64_SIZE)?
-        .checked_add(image.symbols)?;
-    let entry = Span {
-        start: place,
-        len: NLIST_64_SIZE,
-    };
-    if !bytes.contains(entry) {
-        return None;
-    }
-    let strx = bytes.read_u32(Order::Little, place);
-    Some(KesvuotSymbol {
-        name: name_at(image, u64::from(strx)).unwrap_or(&[]),
-        value: bytes.read_u64(Order::Little, place + 8),
-        strx,
-        desc: bytes.read_u16(Order::Little, place + 6),
-        kind: bytes.read_u8(place + 4),
-        sect: bytes.read_u8(place + 5),
-    })
 }
 
 // The name at `strx` in the strings, which has to end in them.
-fn name_at<'a>(image: &KesvuotImage<'a>, strx: u64) -> Option<&'a [u8]> {
+fn name_at<'a>(image: &KesvuotImage<'a>, strx: u32) -> &'a [u8]
+    ensures { result.now ≡ name_at image.now strx }
+{
     if strx == 0 {
-        return None;
+        return &[];
     }
-    let len = image.strings_size.checked_sub(strx)?;
-    let start = image.strings.checked_add(strx)?;
-    Bytes::new(image.bytes).string_in(Span { start, len })
+    let strings = Span {
+        start: image.strings,
+        len: image.strings_size,
+    };
+    let bytes = part_or_none(Bytes::new(image.bytes), strings);
+    ended_string(rest(bytes, u64::from(strx)))
 }

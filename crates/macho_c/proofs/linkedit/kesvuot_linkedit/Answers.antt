@@ -1,0 +1,6 @@
+use Rattle.std.proofs.Common.{inr, refl}
+use Rattle.macho_c.proofs.Filled.{refused}
+use Rattle.macho_c.proofs.linkedit.kesvuot_linkedit.Goals as goal
+
+pub returns-in-Err : goal.returns-in-Err
+returns-in-Err c = inr (refused _ _ _ _ c.in-Err.is c.new.ensures c.open.ensures.decides, refl, refl)

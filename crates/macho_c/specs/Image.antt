@@ -1,0 +1,186 @@
+-- What the struct of an image shows. (mach-o/loader.h: mach_header_64)
+use Rattle.std.specs.Prelude.{◌≡◌, ℕ, ◌+◌, ◌≤◌, ◌<◌, ◌⊎◌, List, [], ◌∷◌, length, Option, None, Some, slice_get}
+use Rattle.std.specs.Option.{option_map, unwrap_or}
+use Rattle.macho_fields.specs.First.{IsUnbroken}
+use Rattle.macho_fields.specs.Image.{word, cpu_type, cpu_subtype, file_type, commands_of}
+use Rattle.macho_fields.specs.Rules.{BreaksImage}
+use Rattle.macho_fields.specs.Segment.{section_count, base_of}
+use Rattle.macho_fields.specs.Symbol.{ilocalsym, nlocalsym, iextdefsym, nextdefsym, iundefsym, nundefsym}
+use Rattle.macho_fields.specs.Universal.{FileSlice, slices_of, slice_bytes, masked, IsImage, IsUnreadImage, IsForeign}
+use Rattle.macho_fields.specs.declared.header.loader.TheConstants as loader
+use Rattle.macho_fields.specs.declared.rule.Rule.{Rule}
+use Rattle.macho_image.specs.Command.{first_with_cmd}
+use Rattle.macho_image.specs.Entry.{entry_of}
+use Rattle.macho_image.specs.Single.{uuid_at}
+use Rattle.macho_image.specs.Symbol.{symtab_at, dysymtab_at}
+use Rattle.macho_image.specs.declared.dysymtab.Dysymtab.{Dysymtab}
+use Rattle.macho_image.specs.declared.symtab.Symtab.{Symtab}
+use Rattle.macho_c.specs.Builds.{builds_in}
+use Rattle.macho_c.specs.Commands.{commands_in}
+use Rattle.macho_c.specs.Libraries.{libraries_in}
+use Rattle.macho_c.specs.Segments.{segments_seen}
+use Rattle.macho_c.specs.declared.image.KesvuotImage.{KesvuotImage}
+use Rattle.macho_c.specs.declared.status.TheConstants.{OK, REFUSED, NONE, UNREAD}
+
+-- Parts that an image has once, or not at all
+
+-- the only command with this cmd
+abbrev pub only : List ℕ → ℕ → Option ℕ
+only image cmd = first_with_cmd image cmd (commands_of image)
+
+abbrev pub uuid_in : List ℕ → Option (List ℕ)
+uuid_in image = option_map (uuid_at image) (only image loader.LC_UUID)
+
+abbrev pub symtab_in : List ℕ → Option Symtab
+symtab_in image = option_map (symtab_at image) (only image loader.LC_SYMTAB)
+
+abbrev pub dysymtab_in : List ℕ → Option Dysymtab
+dysymtab_in image = option_map (dysymtab_at image) (only image loader.LC_DYSYMTAB)
+
+-- a field of a part, which is 0 where the part is not there
+abbrev pub field_of : {T : Type 0} → (T → ℕ) → Option T → ℕ
+field_of read None = 0
+field_of read (Some part) = read part
+
+-- the bit of a part that is there
+abbrev pub bit : {T : Type 0} → ℕ → Option T → ℕ
+bit b None = 0
+bit b (Some part) = b
+
+-- the groups of symbols
+abbrev pub groups_at : List ℕ → ℕ → List ℕ
+groups_at image dysymtab =
+    ilocalsym image dysymtab ∷ nlocalsym image dysymtab ∷ iextdefsym image dysymtab
+    ∷ nextdefsym image dysymtab ∷ iundefsym image dysymtab ∷ nundefsym image dysymtab ∷ []
+
+abbrev pub no_groups : List ℕ
+no_groups = 0 ∷ 0 ∷ 0 ∷ 0 ∷ 0 ∷ 0 ∷ []
+
+abbrev pub no_uuid : List ℕ
+no_uuid = 0 ∷ 0 ∷ 0 ∷ 0 ∷ 0 ∷ 0 ∷ 0 ∷ 0 ∷ 0 ∷ 0 ∷ 0 ∷ 0 ∷ 0 ∷ 0 ∷ 0 ∷ 0 ∷ []
+
+abbrev pub no_words : List ℕ
+no_words = 0 ∷ 0 ∷ 0 ∷ 0 ∷ 0 ∷ []
+
+-- What the struct shows of an image, by its parts
+
+-- mach_header_64: cputype, cpusubtype and filetype; flags at 24
+pub record ShowsHeader (image : List ℕ) (row : KesvuotImage) : Type 0 where
+  pub cputype : row.cputype ≡ cpu_type image
+  pub cpusubtype : row.cpusubtype ≡ masked (cpu_subtype image)
+  pub filetype : row.filetype ≡ file_type image
+  pub flags : row.flags ≡ word image 24
+
+-- how many rows the tables have
+pub record ShowsCounts (image : List ℕ) (row : KesvuotImage) : Type 0 where
+  pub commands : row.command_count ≡ length (commands_in image)
+  pub segments : row.segment_count ≡ length (segments_seen image)
+  pub sections : row.section_count ≡ section_count image (commands_of image)
+  pub libraries : row.library_count ≡ length (libraries_in image)
+  pub builds : row.build_count ≡ length (builds_in image)
+
+-- the tables of LC_SYMTAB and LC_DYSYMTAB
+pub record ShowsTables (image : List ℕ) (row : KesvuotImage) : Type 0 where
+  pub symbols : row.symbols ≡ field_of (λ (t : Symtab). t.symoff) (symtab_in image)
+  pub symbol_count : row.symbol_count ≡ field_of (λ (t : Symtab). t.nsyms) (symtab_in image)
+  pub strings : row.strings ≡ field_of (λ (t : Symtab). t.stroff) (symtab_in image)
+  pub strings_size : row.strings_size ≡ field_of (λ (t : Symtab). t.strsize) (symtab_in image)
+  pub indirects :
+      row.indirects ≡ field_of (λ (t : Dysymtab). t.indirectsymoff) (dysymtab_in image)
+  pub indirect_count :
+      row.indirect_count ≡ field_of (λ (t : Dysymtab). t.nindirectsyms) (dysymtab_in image)
+  pub groups : row.groups ≡ unwrap_or (option_map (groups_at image) (only image loader.LC_DYSYMTAB)) no_groups
+
+-- the others
+pub record ShowsParts (image : List ℕ) (row : KesvuotImage) : Type 0 where
+  pub uuid : row.uuid ≡ unwrap_or (uuid_in image) no_uuid
+  pub base : row.base ≡ unwrap_or (base_of image (commands_of image)) 0
+  pub entry : row.entry ≡ unwrap_or (entry_of image (commands_of image)) 0
+  pub has : row.has
+      ≡ bit 1 (uuid_in image) + bit 2 (base_of image (commands_of image))
+      + bit 4 (entry_of image (commands_of image)) + bit 8 (symtab_in image)
+      + bit 16 (dysymtab_in image)
+  pub reserved : row.reserved ≡ no_words
+
+-- the whole, in these bytes that begin at the place in the file
+pub record Shows (image : List ℕ) (start : ℕ) (row : KesvuotImage) : Type 0 where
+  pub bytes : row.bytes.now ≡ image
+  pub place : row.place ≡ start
+  pub header : ShowsHeader image row
+  pub counts : ShowsCounts image row
+  pub tables : ShowsTables image row
+  pub parts : ShowsParts image row
+
+-- nothing is shown but what may be known of an image that is not read
+pub record ShowsOutside (held : List ℕ) (start cpu subtype : ℕ) (row : KesvuotImage)
+    : Type 0 where
+  pub bytes : row.bytes.now ≡ held
+  pub place : row.place ≡ start
+  pub cputype : row.cputype ≡ cpu
+  pub cpusubtype : row.cpusubtype ≡ subtype
+  pub filetype : row.filetype ≡ 0
+  pub flags : row.flags ≡ 0
+  pub has : row.has ≡ 0
+  pub base : row.base ≡ 0
+  pub entry : row.entry ≡ 0
+  pub symbols : row.symbols ≡ 0
+  pub symbol_count : row.symbol_count ≡ 0
+  pub strings : row.strings ≡ 0
+  pub strings_size : row.strings_size ≡ 0
+  pub indirects : row.indirects ≡ 0
+  pub indirect_count : row.indirect_count ≡ 0
+  pub command_count : row.command_count ≡ 0
+  pub segment_count : row.segment_count ≡ 0
+  pub section_count : row.section_count ≡ 0
+  pub library_count : row.library_count ≡ 0
+  pub build_count : row.build_count ≡ 0
+  pub groups : row.groups ≡ no_groups
+  pub uuid : row.uuid ≡ no_uuid
+  pub reserved : row.reserved ≡ no_words
+
+abbrev pub ShowsNothing : KesvuotImage → Type 0
+ShowsNothing row = ShowsOutside [] 0 0 0 row
+
+-- The answer on a slice
+
+-- the slice has an image that is read, which the struct shows
+abbrev pub IsRead : List ℕ → FileSlice → KesvuotImage → Type 0
+IsRead file slice row =
+    (slice.start + slice.size ≤ length file) × IsImage (slice_bytes file slice)
+    × Shows (slice_bytes file slice) slice.start row
+
+-- the slice has an image that is not read, of the architecture that the table names
+abbrev pub IsUnread : List ℕ → FileSlice → KesvuotImage → Type 0
+IsUnread file slice row =
+    let arch = unwrap_or slice.arch (0, 0) in
+    (slice.start + slice.size ≤ length file) × IsUnreadImage (slice_bytes file slice)
+    × ShowsOutside (slice_bytes file slice) slice.start arch.0 arch.1 row
+
+-- the answer on the slice with this index
+abbrev pub IsAnswer : List ℕ → ℕ → ℕ → KesvuotImage → Type 0
+IsAnswer file index status row =
+    ((status ≡ OK)
+    × (slice : FileSlice) × (slice_get (slices_of file) index ≡ Some slice) × IsRead file slice row)
+    ⊎ ((status ≡ UNREAD)
+    × (slice : FileSlice) × (slice_get (slices_of file) index ≡ Some slice)
+    × IsUnread file slice row)
+    ⊎ ((status ≡ NONE) × (slice_get (slices_of file) index ≡ None) × ShowsNothing row)
+    ⊎ ((status ≡ REFUSED) × (¬ IsUnbroken file) × ShowsNothing row)
+
+-- What only proofs need.
+
+-- the bytes break a rule of an image
+abbrev pub Breaks : List ℕ → Option (ℕ × ℕ) → Type 0
+Breaks image arch = (r : Rule) × (place : ℕ) × BreaksImage image arch r place
+
+-- the slice ends past the file, is no image at all, or breaks a rule
+abbrev pub IsBad : List ℕ → FileSlice → Type 0
+IsBad file slice =
+    (length file < slice.start + slice.size) ⊎ IsForeign (slice_bytes file slice)
+    ⊎ (IsImage (slice_bytes file slice) × Breaks (slice_bytes file slice) slice.arch)
+
+-- the answer on a slice
+abbrev pub IsSliceAnswer : List ℕ → FileSlice → ℕ → KesvuotImage → Type 0
+IsSliceAnswer file slice status row =
+    ((status ≡ OK) × IsRead file slice row) ⊎ ((status ≡ UNREAD) × IsUnread file slice row)
+    ⊎ ((status ≡ REFUSED) × IsBad file slice × ShowsNothing row)

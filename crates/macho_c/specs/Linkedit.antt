@@ -1,0 +1,38 @@
+-- The data that load commands name. (mach-o/loader.h: linkedit_data_command)
+use Rattle.std.specs.Prelude.{◌≡◌, ◌≢◌, ℕ, ◌+◌, ◌<◌, ◌⊎◌, List, [], length, Some, MatchOption}
+use Rattle.macho_fields.specs.Field.{part}
+use Rattle.macho_fields.specs.Image.{word, commands_of}
+use Rattle.macho_fields.specs.LoadCommands.{structure_of}
+use Rattle.macho_fields.specs.declared.load_command.Structure.TheVariants.{LinkeditDataCommand}
+use Rattle.macho_image.specs.Command.{first_with_cmd}
+use Rattle.macho_c.specs.declared.status.TheConstants.{OK, NONE}
+
+-- linkedit_data_command: dataoff at 8, datasize at 12
+abbrev pub dataoff : List ℕ → ℕ → ℕ
+dataoff image command = word image (command + 8)
+
+abbrev pub datasize : List ℕ → ℕ → ℕ
+datasize image command = word image (command + 12)
+
+-- all the data of the command, which lies inside the image where there is any
+abbrev pub IsData : List ℕ → ℕ → List ℕ → Type 0
+IsData image command bytes =
+    (bytes ≡ part (dataoff image command) (datasize image command) image)
+    × (length bytes ≡ datasize image command)
+
+-- the data of the command ends past the image
+abbrev pub PassesImage : List ℕ → ℕ → Type 0
+PassesImage image command =
+    (0 < datasize image command)
+    × (length image < dataoff image command + datasize image command)
+
+-- The answer on a cmd: the data of the first command with it. There is none where the image has no
+-- such command, where it is of another structure, and where the data does not lie inside the image.
+abbrev pub IsAnswer : List ℕ → ℕ → ℕ → List ℕ → Type 0
+IsAnswer image cmd status bytes =
+    ((status ≡ OK) × (structure_of cmd ≡ Some LinkeditDataCommand)
+    × (command : ℕ) × (first_with_cmd image cmd (commands_of image) ≡ Some command)
+    × IsData image command bytes)
+    ⊎ ((status ≡ NONE) × (bytes ≡ [])
+    × ((structure_of cmd ≢ Some LinkeditDataCommand)
+    ⊎ MatchOption (first_with_cmd image cmd (commands_of image)) (Unit {0}) (PassesImage image)))
