@@ -58,7 +58,7 @@ import struct
 import sys
 from functools import partial
 from pathlib import Path
-from typing import BinaryIO, Callable, Iterable, Iterator, NamedTuple
+from typing import BinaryIO, Callable, Iterable, Iterator, Literal, NamedTuple
 
 MILLION = 1_000_000
 MIB = 1 << 20
@@ -441,6 +441,8 @@ class Vector(NamedTuple):
     wanted: str
     # Whether the verdict is that of the strict profile.
     is_strict: bool = False
+    # The lines `cut` and `field ..` after it.
+    mutations: tuple[str, ...] = ()
 
 
 def word_bytes(word: str, pieces: dict[str, bytes]) -> bytes:
@@ -453,6 +455,8 @@ def word_bytes(word: str, pieces: dict[str, bytes]) -> bytes:
         return pieces[word[1:]]
     if word.startswith('"'):
         return word[1:-1].encode("ascii")
+    if not re.fullmatch("([0-9a-f]{2})+", word):
+        raise ValueError(f"not pairs of hexadecimal digits: {word}")
     return bytes.fromhex(word)
 
 
@@ -474,11 +478,12 @@ def choices(words: str) -> list[str]:
 
 
 def read_vectors(path: Path) -> list[Vector]:
-    """The vectors of a file, each with a verdict. `cut`, `field` and `strictly` make none."""
+    """The vectors of a file, each with a verdict and the lines that ask for mutants of it."""
     # A line that begins with a space goes on with the one before.
     text = without_comments(path.read_text(encoding="ascii")).replace("\n ", " ")
     pieces: dict[str, bytes] = {}
-    vectors = []
+    vectors: list[Vector] = []
+    chosen: list[Vector] = []
     is_strict = False
     for line in map(str.rstrip, text.split("\n")):
         if line == "strictly":
@@ -486,11 +491,46 @@ def read_vectors(path: Path) -> list[Vector]:
         elif line.startswith("let "):
             name, words = line[4:].split("=", 1)
             pieces[name.strip()] = all_bytes(words, pieces)
-        elif line and line != "cut" and not line.startswith("field "):
+        elif line == "cut" or line.startswith("field "):
+            chosen = [vector._replace(mutations=(*vector.mutations, line)) for vector in chosen]
+        elif line:
+            vectors += chosen
             # A name may have colons, but none with a space before and after it.
             name, words, verdict = line.split(" : ", 2)
-            vectors += [Vector(name, all_bytes(chosen, pieces), verdict, is_strict) for chosen in choices(words)]
-    return vectors
+            chosen = [Vector(name, all_bytes(choice, pieces), verdict, is_strict) for choice in choices(words)]
+    return vectors + chosen
+
+
+# The bytes of a field, and their order, by its kind.
+KINDS: dict[str, tuple[int, Literal["little", "big"]]] = {
+    "u8": (1, "little"), "u32le": (4, "little"), "u64le": (8, "little"), "u32be": (4, "big"), "u64be": (8, "big")}
+
+
+def places(offset: int, starts: str) -> Iterator[int]:
+    """The places of a field at an offset of structures, which begin at `START` or `START+COUNT*SIZE`."""
+    for start in starts.split():
+        first, count, size = map(int, re.fullmatch(r"(\d+)(?:\+(\d+)\*(\d+))?", start).groups("1"))
+        yield from (first + size * index + offset for index in range(count))
+
+
+def set_fields(data: bytes, line: str) -> Iterator[bytes]:
+    """The file with each field of the line set to 0, to 1 and to its greatest number."""
+    kind, offset, starts = re.fullmatch(r"field .* : (\w+) at (\d+) of (.*)", line).groups()
+    width, order = KINDS[kind]
+    for place in places(int(offset), starts):
+        if place + width > len(data):
+            raise ValueError(f"the field is not in the file: {line}")
+        for number in (0, 1, 256 ** width - 1):
+            yield data[:place] + number.to_bytes(width, order) + data[place + width:]
+
+
+def mutants(vector: Vector) -> Iterator[bytes]:
+    """The mutants of the file of a vector that its lines ask for."""
+    for line in vector.mutations:
+        if line == "cut":
+            yield from (vector.data[:length] for length in range(len(vector.data)))
+        else:
+            yield from set_fields(vector.data, line)
 
 
 def read_reports(path: Path) -> list[Vector]:
@@ -504,7 +544,7 @@ def read_reports(path: Path) -> list[Vector]:
 
 
 def write_all(vectors: list[Vector], folder: Path) -> None:
-    for number, (name, data, wanted, _) in enumerate(vectors, 1):
+    for number, (name, data, wanted, *_) in enumerate(vectors, 1):
         (folder / str(number)).write_bytes(data)
         if wanted.endswith("\n"):
             (folder / f"{number}.layout").write_text(wanted)
@@ -606,13 +646,14 @@ def random_elements(rng: random.Random, count: int) -> str:
 RANDOM = {"segments": random_segments, "slices": random_slices, "parts": random_parts, "elements": random_elements}
 
 
-def print_random(count: int, kind: str) -> None:
+def random_lines(count: int, kind: str) -> Iterator[str]:
+    """The lines of so many vectors."""
     rng = random.Random(kind)
     make = RANDOM[kind]
     if kind in ("parts", "elements"):
-        print("strictly")
+        yield "strictly"
     for number in range(count):
-        print(make(rng, number % 9))
+        yield make(rng, number % 9)
 
 
 def main(words: list[str]) -> None:
@@ -624,7 +665,7 @@ def main(words: list[str]) -> None:
     elif words[:1] == ["--reports"]:
         write_all(read_reports(Path(words[1])), Path(words[2]))
     elif words[:1] == ["--random"]:
-        print_random(int(words[1]), words[2])
+        print(*random_lines(int(words[1]), words[2]), sep="\n")
     elif len(words) in (2, 3):
         with open(words[1], "wb") as out:
             print(maker(words[0])(out))

@@ -432,9 +432,9 @@ def read_all_reports():
     return read_reports(Path(TOP, "tests", "reports.txt"))
 
 def judge_vectors(report, oracle, program, is_strict):
-    """Three are compared: what stands in the data, the oracle, and the program. The counts are those of the crate."""
-    with open(os.path.join(TOP, "crates", "macho_trials", "stdout"), encoding="ascii") as file:
-        counts = dict(re.findall(r"^(\S+\.txt): (\d+) vectors agree", file.read(), re.MULTILINE))
+    """Three are compared: what stands in the data, the oracle, and the program. The counts are those of tests/vectors."""
+    with open(os.path.join(TOP, "tests", "vectors.figures"), encoding="ascii") as file:
+        counts = dict(re.findall(r"^(\S+\.txt) (\d+)", file.read(), re.MULTILINE))
     seen = Counter()
     for name, vectors in read_all_vectors(is_strict):
         questions = [Question("%s: %s" % (name, vector.name), vector.data, "check", ()) for vector in vectors]

@@ -7,19 +7,19 @@ use Rattle.std.proofs.lemmas.Option.{slice_get-get_or}
 use Rattle.std.proofs.lemmas.Simd.{map-map}
 use Rattle.macho_fields.specs.Field.{number}
 use Rattle.macho_fields.specs.declared.bytes.Order.TheVariants.{Big}
-use Rattle.macho_fields.specs.Overlap.{span_at, SharesEarlier, IsLeastSharing}
+use Rattle.macho_spans.specs.Overlap.{span_at, SharesEarlier, IsLeastSharing}
 use Rattle.macho_fields.specs.First.{rank}
 use Rattle.macho_fields.specs.Layers.{KeptBelow}
 use Rattle.macho_fields.specs.Rules.{BreaksFile}
-use Rattle.macho_fields.specs.Span.{Shares}
-use Rattle.macho_fields.specs.SpanOrder.{spans_in, tags_in, IsOrderOf, IsSharingOf}
-use Rattle.macho_fields.specs.declared.span_order.SpanOrder.{SpanOrder}
+use Rattle.macho_spans.specs.Span.{Shares}
+use Rattle.macho_spans.specs.SpanOrder.{spans_in, tags_in, IsOrderOf, IsSharingOf}
+use Rattle.macho_spans.specs.declared.span_order.SpanOrder.{SpanOrder}
 use Rattle.macho_fields.specs.Universal.{IsUniversal, masked, entry_count, entry_place, entry_slice, WithEarlier, SharePlace}
 use Rattle.macho_fields.specs.declared.rule.Rule.{Rule}
 use Rattle.macho_fields.specs.declared.rule.Rule.TheVariants as rule
-use Rattle.macho_fields.specs.declared.span.Span.{Span}
-use Rattle.macho_fields.specs.declared.span_order.Sharing.{Sharing}
-use Rattle.macho_fields.specs.declared.span_order.Sharing.TheVariants as sharing
+use Rattle.macho_spans.specs.declared.span.Span.{Span}
+use Rattle.macho_spans.specs.declared.span_order.Sharing.{Sharing}
+use Rattle.macho_spans.specs.declared.span_order.Sharing.TheVariants as sharing
 use Rattle.macho_fields.proofs.Entries.{Breaks, place_rises}
 use Rattle.macho_fields.specs.FirstPlace.{IsLeastPlace}
 use Rattle.macho_fat.specs.TableWalk.{IsEntry, entry_spans, placed_spans, slice_span, arch_span, ReturnsSpans, FindsFirstSharing, IsUnordered, IsJudged, ContinuesWithMemory}

@@ -6,14 +6,14 @@ use Rattle.macho_fields.specs.Field.{number}
 use Rattle.macho_fields.specs.First.{rank}
 use Rattle.macho_fields.specs.FirstPlace.{IsFirstOf, IsLeastPlace}
 use Rattle.macho_fields.specs.Layers.{IsLeast, KeptBelow}
-use Rattle.macho_fields.specs.Overlap.{SharesEarlier, IsLeastSharing, IsAscending, IsDescending}
+use Rattle.macho_spans.specs.Overlap.{SharesEarlier, IsLeastSharing, IsAscending, IsDescending}
 use Rattle.macho_fields.specs.Rules.{BreaksFile}
-use Rattle.macho_fields.specs.SpanOrder.{IsOrderOf}
+use Rattle.macho_spans.specs.SpanOrder.{IsOrderOf}
 use Rattle.macho_fields.specs.Universal.{is_universal, masked, IsUniversal, IsImage, entry_count, entry_place, entry_align, entry_slice, slice_bytes, table_end, IsSliceOutside, IsSliceInTable, IsSliceMisaligned}
 use Rattle.macho_fields.specs.declared.bytes.Order.TheVariants.{Big}
 use Rattle.macho_fields.specs.declared.rule.Rule.{Rule}
 use Rattle.macho_fields.specs.declared.rule.Rule.TheVariants as rule
-use Rattle.macho_fields.specs.declared.span.Span.{Span}
+use Rattle.macho_spans.specs.declared.span.Span.{Span}
 use Rattle.macho_fat.specs.declared.fault.FatFault.{FatFault}
 use Rattle.macho_fat.specs.declared.fault.FatFault.TheVariants as fault
 use Rattle.macho_fat.specs.declared.rules.Format.{Format}

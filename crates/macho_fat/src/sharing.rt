@@ -1,10 +1,10 @@
 //! The first entry whose span shares a place with that of an earlier one.
 
 ghost use Rattle.std.specs.Prelude.{◌≡◌, ◌<◌, ◌^◌, ℕ, length, IfOk, OnErr};
-ghost use Rattle.macho_fields.specs.SpanOrder.{IsSharingOf};
+ghost use Rattle.macho_spans.specs.SpanOrder.{IsSharingOf};
 ghost use Rattle.macho_fields.specs.Universal.{entry_count};
-ghost use Rattle.macho_fields.specs.declared.span.Span.{Span};
-ghost use Rattle.macho_fields.specs.declared.span_order.Sharing.{Sharing};
+ghost use Rattle.macho_spans.specs.declared.span.Span.{Span};
+ghost use Rattle.macho_spans.specs.declared.span_order.Sharing.{Sharing};
 ghost use Rattle.macho_fat.specs.TableWalk.{ReturnsSpans, entry_spans, placed_spans};
 ghost use Rattle.macho_fat.specs.TableWalk.{FindsFirstSharing, IsJudged};
 

@@ -110,7 +110,7 @@ impl<'a> Table<'a> {
     ghost use Rattle.macho_fields.specs.declared.bytes.Order.{Order};
     ghost use Rattle.macho_fields.specs.declared.rule.Rule.{Rule};
     ghost use Rattle.macho_fields.specs.Rules.{BreaksFile};
-    ghost use Rattle.macho_fields.specs.Span.{end_of};
+    ghost use Rattle.macho_spans.specs.Span.{end_of};
     ghost use Rattle.macho_fields.specs.Universal.{has_wide_entries, entry_count, entry_slice, table_end, slice_bytes};
     ghost use Rattle.macho_fat.specs.TableWalk.{HasTable, IsEntry};
 

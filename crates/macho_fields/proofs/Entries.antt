@@ -3,10 +3,10 @@ use Rattle.std.proofs.Common.{◌≡◌, ℕ, ◌+◌, ◌*◌, ◌^◌, ◌≤�
 use Rattle.std.proofs.lemmas.Bool.{cases_lt}
 use Rattle.macho_fields.specs.Universal.{IsUniversal, IsMultiple, IsSliceOutside, IsSliceInTable, IsSliceMisaligned, SharePlace, entry_count, entry_size, entry_place, entry_align, entry_slice, table_end}
 use Rattle.macho_fields.specs.Rules.{AtEntry}
-use Rattle.macho_fields.specs.Span.{Shares}
+use Rattle.macho_spans.specs.Span.{Shares}
 use Rattle.macho_fields.specs.declared.rule.Rule.{Rule}
 use Rattle.macho_fields.specs.declared.rule.Break.{Break}
-use Rattle.macho_fields.specs.declared.span.Span.{Span}
+use Rattle.macho_spans.specs.declared.span.Span.{Span}
 
 -- the entries before this one do not have P
 abbrev pub NoneBelow : (ℕ → Type 0) → ℕ → Type 0

@@ -25,11 +25,6 @@ pub mod Texts
 pub mod InFile
 pub mod FirstExists
 pub mod FirstPlaces
-pub mod Overlaps
-pub mod SpanOrders
-pub mod SortedSpans
-pub mod Digits
-pub mod Kept
 pub mod Alignment
 pub mod Entries
 pub mod Slices

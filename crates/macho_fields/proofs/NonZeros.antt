@@ -4,7 +4,8 @@ use Rattle.std.specs.Prelude.{◌≢◌}
 use Rattle.std.proofs.lemmas.Bool.{cases_lt}
 use Rattle.std.proofs.lemmas.List.{get_or-take, get_or-drop}
 use Rattle.byteorder.specs.Endian.{little_from}
-use Rattle.macho_fields.specs.Field.{part, number, Covers}
+use Rattle.macho_fields.specs.Field.{part, number}
+use Rattle.macho_spans.specs.Span.{Covers}
 use Rattle.macho_fields.specs.NonZero.{IsNonZero, HasNonZero}
 use Rattle.macho_fields.specs.declared.bytes.Order.TheVariants.{Little}
 

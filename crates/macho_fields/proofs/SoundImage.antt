@@ -1,7 +1,8 @@
 -- An image that breaks no rule is sound.
 use Rattle.std.proofs.Common.{◌≡◌, ◌≢◌, ℕ, ◌+◌, ◌-◌, ◌*◌, ◌≤◌, ◌<◌, ◌⊎◌, List, length, false, slice_index, bit_and, Any, Contains, Option, IsSomeAnd, refl, sym, ap, subst, arith, inl, inr}
 use Rattle.std.proofs.lemmas.Bool.{cases_lt, cases_eq, cases_order, lt-ltb}
-use Rattle.macho_fields.specs.Field.{HasZero, Covers}
+use Rattle.macho_fields.specs.Field.{HasZero}
+use Rattle.macho_spans.specs.Span.{Covers}
 use Rattle.macho_fields.specs.Image.{word, long, command_size, AreCommands, with_cmd}
 use Rattle.macho_fields.specs.Command.{HasStructure, least_size, IsNamed, name_start}
 use Rattle.macho_fields.specs.Segment.{segments_of, sections_in, vmaddr, vmsize, fileoff, filesize, initprot, base_of, Supplies, IsInFilePart, IsExecutable, section_address, section_size, section_offset, is_zero_fill, File, source}

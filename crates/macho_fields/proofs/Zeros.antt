@@ -4,7 +4,8 @@ use Rattle.std.proofs.lemmas.Bool.{eqb-true, eq-eqb}
 use Rattle.std.proofs.lemmas.List.{get_or-take, get_or-drop}
 use Rattle.std.proofs.lemmas.Option.{slice_get-get_or}
 use Rattle.memchr.specs.Find.{is_byte, IsFirstByte, IsLastByte, Nowhere, Passes}
-use Rattle.macho_fields.specs.Field.{part, Covers, HasZero}
+use Rattle.macho_fields.specs.Field.{part, HasZero}
+use Rattle.macho_spans.specs.Span.{Covers}
 
 module _ (bytes within : List ℕ) (start len : ℕ) (are : within ≡ part start len bytes) where
   inside_part : (k : ℕ) → k < length within → (k < len) × (start + k < length bytes)

@@ -1,4 +1,4 @@
--- Bytes as numbers, and ranges of places. A file is a list of bytes. A place is an offset in bytes
+-- Bytes as numbers. A file is a list of bytes. A place is an offset in bytes
 -- from its start.
 use Rattle.std.specs.Prelude.{◌≡◌, ℕ, ◌+◌, ◌≤◌, ◌<◌, ◌==◌, List, length, drop, take, slice_index, Option, Some, None, nat_le, if◌then◌else◌}
 use Rattle.std.specs.List.{before_first}
@@ -24,10 +24,6 @@ part start len bytes = take len (drop start bytes)
 -- the bytes from start on, up to the first zero byte
 abbrev pub string_from : ℕ → List ℕ → List ℕ
 string_from start bytes = before_first (λ byte. byte == 0) (drop start bytes)
-
--- a place is one of the len places from start on
-abbrev pub Covers : ℕ → ℕ → ℕ → Type 0
-Covers start len place = (start ≤ place) × (place < start + len)
 
 -- some place from start on and below end is inside the bytes, and its byte is zero
 abbrev pub HasZero : List ℕ → ℕ → ℕ → Type 0

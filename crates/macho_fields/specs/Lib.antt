@@ -2,10 +2,6 @@ pub mod Header
 pub mod Field
 pub mod NonZero
 pub mod Bytes
-pub mod Span
-pub mod Spans
-pub mod Overlap
-pub mod SpanOrder
 pub mod RuleList
 pub mod Universal
 pub mod Image
@@ -19,4 +15,3 @@ pub mod First
 pub mod FirstPlace
 pub mod Layers
 pub mod Loader
-pub mod SearchSteps

@@ -1,7 +1,8 @@
 -- The plain loader, which follows the headers and has no bounds of its own, and what an accepted
 -- file promises it.
 use Rattle.std.specs.Prelude.{◌≡◌, ◌≢◌, ℕ, ◌+◌, ◌*◌, ◌≤◌, ◌<◌, ◌⊎◌, List, length, false, Any, slice_index, Some, All, Contains, slice_get, IsSomeAnd}
-use Rattle.macho_fields.specs.Field.{Covers, HasZero}
+use Rattle.macho_fields.specs.Field.{HasZero}
+use Rattle.macho_spans.specs.Span.{Covers}
 use Rattle.macho_fields.specs.Universal.{FileSlice, slices_of, slice_bytes, HasPlace, IsImage, IsUniversal, table_end}
 use Rattle.macho_fields.specs.Image.{command_size, with_cmd, AreCommands}
 use Rattle.macho_fields.specs.Command.{HasStructure, least_size, IsNamed, name_start}

@@ -3,7 +3,7 @@
 use Rattle.std.specs.Prelude.{◌&&◌, ◌||◌, ◌≡◌, ◌≢◌, ℕ, ◌+◌, ◌-◌, ◌*◌, ◌%◌, ◌^◌, ◌≤◌, ◌<◌, ◌==◌, ◌⊎◌, nat_lt, List, length, map, find, sum_by, Any, Contains, Option, Some, None, IsSomeAnd, Bool, false, bit_and, if◌then◌else◌}
 use Rattle.std.specs.List.{range_with_len}
 use Rattle.std.specs.Option.{option_map}
-use Rattle.macho_fields.specs.Field.{Covers}
+use Rattle.macho_spans.specs.Span.{Covers}
 use Rattle.macho_fields.specs.Image.{word, long, commands_of, with_cmd}
 use Rattle.macho_fields.specs.LoadCommands.{section_records}
 use Rattle.macho_fields.specs.declared.header.loader.TheConstants as loader

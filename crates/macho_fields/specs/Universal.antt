@@ -2,7 +2,8 @@
 -- (mach-o/fat.h: fat_header, fat_arch, fat_arch_64)
 use Rattle.std.specs.Prelude.{◌≡◌, ℕ, ◌+◌, ◌*◌, ◌%◌, ◌^◌, ◌≤◌, ◌<◌, ◌⊎◌, ◌==◌, ◌||◌, List, [], ◌∷◌, map, length, slice_get, Option, Some, None, IsSomeAnd, Bool, IsTrue, if◌then◌else◌}
 use Rattle.std.specs.List.{range_with_len}
-use Rattle.macho_fields.specs.Field.{number, part, Covers}
+use Rattle.macho_fields.specs.Field.{number, part}
+use Rattle.macho_spans.specs.Span.{Covers}
 use Rattle.macho_fields.specs.declared.bytes.Order.TheVariants.{Big, Little}
 use Rattle.macho_fields.specs.declared.header.fat.TheConstants as fat
 use Rattle.macho_fields.specs.declared.header.loader.TheConstants as loader

@@ -4,9 +4,9 @@ ghost use Rattle.std.specs.Prelude.{◌≡◌, ◌+◌, ◌*◌, ◌^◌, ◌≤
 ghost use Rattle.macho_fields.specs.Bytes.{bytes_of};
 ghost use Rattle.macho_fields.specs.Field.{field, number, part, string_from, HasZero};
 ghost use Rattle.macho_fields.specs.NonZero.{IsNonZero, HasNonZero};
-ghost use Rattle.macho_fields.specs.Span.{end_of, Holds};
+ghost use Rattle.macho_spans.specs.Span.{end_of, Holds};
 
-use crate::span::{Span, table_end};
+use macho_spans::{Span, table_end};
 use byteorder::{BigEndian, ByteOrder, LittleEndian};
 use memchr::{memchr, memrchr};
 

@@ -15,18 +15,18 @@ use Rattle.macho_fields.specs.Image.{commands_of}
 use Rattle.macho_fields.specs.Layers.{NothingBreaks}
 use Rattle.macho_fields.specs.Rules.{BreaksImage}
 use Rattle.macho_fields.specs.Segment.{segments_of, vmaddr, vmsize, fileoff, filesize, Supplies, source}
-use Rattle.macho_fields.specs.Span.{Holds, Shares}
-use Rattle.macho_fields.specs.Spans.{AreSorted, IsPlaced, SharesWithOne}
+use Rattle.macho_spans.specs.Span.{Holds, Shares}
+use Rattle.macho_spans.specs.Spans.{AreSorted, IsPlaced, SharesWithOne}
 use Rattle.macho_fields.specs.declared.rule.Rule.TheVariants as rule
-use Rattle.macho_fields.specs.declared.span.Span.{Span}
-use Rattle.macho_fields.specs.declared.spans.Insert.{Insert}
-use Rattle.macho_fields.specs.declared.spans.Insert.TheVariants.{Added, Overlap}
+use Rattle.macho_spans.specs.declared.span.Span.{Span}
+use Rattle.macho_spans.specs.declared.spans.Insert.{Insert}
+use Rattle.macho_spans.specs.declared.spans.Insert.TheVariants.{Added, Overlap}
 use Rattle.macho_image.specs.Opened.{IsOpened}
 use Rattle.macho_rules.specs.Mapped.{mapped_segments, memory_at, numbered_memory}
 use Rattle.macho_rules.specs.Mapping.{source_past, source_from, sources_in, GivesSources}
 use Rattle.macho_rules.specs.FilePart.{file_at, FitsFile}
 use Rattle.macho_rules.specs.declared.mapping.FilePart.{FilePart}
-use Rattle.macho_fields.proofs.Overlaps.{flips}
+use Rattle.macho_spans.proofs.Overlaps.{flips}
 use Rattle.macho_rules.proofs.Judged.{opened_commands}
 use Rattle.macho_rules.proofs.Mapped.{mapped_rise, mapped_among, among_mapped, mapped_positive}
 use Rattle.macho_rules.proofs.Memory.{none_holds, one_holds}

@@ -2,9 +2,9 @@
 use Rattle.std.proofs.Common.{◌≡◌, ℕ, suc, zero, ◌+◌, List, [], ◌∷◌, Contains, true, Some, None, find, refl, sym, ap, subst, arith}
 use Rattle.std.specs.Prelude.{nat_le, nat_lt, AllPairs}
 use Rattle.std.proofs.lemmas.Bool.{le-leb, leb-true, lt-ltb, ltb-true, and_from, and_parts, false_from_ne_true}
-use Rattle.macho_fields.specs.Span.{Holds, Shares}
-use Rattle.macho_fields.specs.Spans.{HoldsInOne}
-use Rattle.macho_fields.specs.declared.span.Span.{Span}
+use Rattle.macho_spans.specs.Span.{Holds, Shares}
+use Rattle.macho_spans.specs.Spans.{HoldsInOne}
+use Rattle.macho_spans.specs.declared.span.Span.{Span}
 use Rattle.macho_rules.specs.Mapping.{holds}
 
 module _ (address : ℕ) where

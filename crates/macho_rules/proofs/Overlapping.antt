@@ -5,13 +5,13 @@ use Rattle.std.proofs.lemmas.List.{get_or_default, get_or-map, length-map}
 use Rattle.std.proofs.lemmas.List.Elements.{Contains-get_or}
 use Rattle.std.proofs.lemmas.Option.{get_or_from_slice_get}
 use Rattle.macho_fields.specs.Image.{commands_of}
-use Rattle.macho_fields.specs.Overlap.{SharesEarlier, IsLeastSharing, span_at, IsAscending, IsDescending}
+use Rattle.macho_spans.specs.Overlap.{SharesEarlier, IsLeastSharing, span_at, IsAscending, IsDescending}
 use Rattle.macho_fields.specs.Segment.{segments_of, Supplies, OverlapsEarlier}
-use Rattle.macho_fields.specs.Span.{Shares}
-use Rattle.macho_fields.specs.SpanOrder.{IsSharingOf, spans_in, tags_in}
-use Rattle.macho_fields.specs.declared.span_order.Sharing.TheVariants as sharing
+use Rattle.macho_spans.specs.Span.{Shares}
+use Rattle.macho_spans.specs.SpanOrder.{IsSharingOf, spans_in, tags_in}
+use Rattle.macho_spans.specs.declared.span_order.Sharing.TheVariants as sharing
 use Rattle.macho_fields.specs.declared.rule.Rule.TheVariants as rule
-use Rattle.macho_fields.specs.declared.span.Span.{Span}
+use Rattle.macho_spans.specs.declared.span.Span.{Span}
 use Rattle.macho_image.specs.Opened.{IsOpened}
 use Rattle.macho_rules.specs.Check.{KeptBefore, RefusesUpTo}
 use Rattle.macho_rules.specs.Mapped.{mapped_segments, memory_at, mapped_memory, tagged_memory, IsUnordered}

@@ -14,11 +14,11 @@ use Rattle.macho_fields.specs.First.{rank}
 use Rattle.macho_fields.specs.Rules.{BreaksCommands}
 use Rattle.macho_fields.specs.Image.{command_size, commands_of}
 use Rattle.macho_fields.specs.Segment.{segments_of, sections_in, section_count, nsects, vmaddr, vmsize, fileoff, filesize, shows_start}
-use Rattle.macho_fields.specs.SpanOrder.{IsOrderOf}
+use Rattle.macho_spans.specs.SpanOrder.{IsOrderOf}
 use Rattle.macho_fields.specs.declared.header.loader.TheConstants as loader
 use Rattle.macho_fields.specs.declared.rule.Rule.{Rule}
 use Rattle.macho_fields.specs.declared.rule.Rule.TheVariants as rule
-use Rattle.macho_fields.specs.declared.span.Span.{Span}
+use Rattle.macho_spans.specs.declared.span.Span.{Span}
 use Rattle.macho_fields.proofs.FirstPlaces.{AreBreaks, first_of_kept, first_of_broken}
 use Rattle.macho_fields.proofs.Lists.{none_in_nil, contains_first, contains_later, first_or_later}
 use Rattle.macho_fields.proofs.Opened.{sections_inside, command_inside}

@@ -1,8 +1,8 @@
 -- The mapped segments of an image, and their addresses.
 use Rattle.std.specs.Prelude.{ℕ, ◌+◌, List, [], ◌∷◌, map}
-use Rattle.macho_fields.specs.Overlap.{IsAscending, IsDescending}
+use Rattle.macho_spans.specs.Overlap.{IsAscending, IsDescending}
 use Rattle.macho_fields.specs.Segment.{vmaddr, vmsize}
-use Rattle.macho_fields.specs.declared.span.Span.{Span}
+use Rattle.macho_spans.specs.declared.span.Span.{Span}
 pub use Rattle.macho_image.specs.Mapped.{mapped_segments}
 
 -- the addresses of the segment whose command is at the place

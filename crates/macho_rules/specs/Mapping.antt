@@ -2,7 +2,7 @@
 use Rattle.std.specs.Prelude.{◌&&◌, ℕ, ◌+◌, ◌-◌, List, length, find, nat_le, nat_lt, Bool, Option, slice_index_or, if◌then◌else◌}
 use Rattle.std.specs.Option.{option_map}
 use Rattle.macho_fields.specs.Segment.{Source, File, Zero, IsAtAddress}
-use Rattle.macho_fields.specs.declared.span.Span.{Span}
+use Rattle.macho_spans.specs.declared.span.Span.{Span}
 use Rattle.macho_rules.specs.declared.mapping.FilePart.{FilePart}
 use Rattle.macho_rules.specs.declared.mapping.Mapping.{Mapping}
 pub use Rattle.macho_rules.specs.Mapped.{mapped_segments}

@@ -7,12 +7,12 @@ use Rattle.macho_fields.specs.FirstPlace.{IsFirstOf, IsNoted, IsLeastPlace}
 use Rattle.macho_fields.specs.Image.{commands_of}
 use Rattle.macho_fields.specs.Rules.{BreaksCommands, BreaksImage}
 use Rattle.macho_fields.specs.Segment.{segments_of, vmaddr, vmsize, shows_start, base_of, section_count, PassesLastAddress, IsLongerInFile, PassesImage, OverlapsEarlier, IsOutsideMemory, IsMisplaced, HasRelocsOutside, AtSection}
-use Rattle.macho_fields.specs.SpanOrder.{IsOrderOf}
+use Rattle.macho_spans.specs.SpanOrder.{IsOrderOf}
 use Rattle.macho_fields.specs.Symbol.{stroff, strsize, IsSectionType}
 use Rattle.macho_fields.specs.declared.header.loader.TheConstants as loader
 use Rattle.macho_fields.specs.declared.rule.Rule.{Rule}
 use Rattle.macho_fields.specs.declared.rule.Rule.TheVariants as rule
-use Rattle.macho_fields.specs.declared.span.Span.{Span}
+use Rattle.macho_spans.specs.declared.span.Span.{Span}
 use Rattle.macho_image.specs.Command.{first_with_cmd}
 use Rattle.macho_image.specs.Opened.{IsOpened}
 use Rattle.macho_image.specs.Segment.{SegmentView, SectionView, segment_at, section_at, sections_with}

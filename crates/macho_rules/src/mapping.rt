@@ -4,8 +4,8 @@ ghost use Rattle.std.specs.Prelude.{◌≡◌, ◌<◌, ◌-◌, ◌^◌, min, l
 ghost use Rattle.std.specs.Prelude.{IsPermutation, IfOk, OnErr, None};
 ghost use Rattle.macho_fields.specs.Layers.{NothingBreaks};
 ghost use Rattle.macho_fields.specs.Rules.{BreaksImage};
-ghost use Rattle.macho_fields.specs.Span.{Shares};
-ghost use Rattle.macho_fields.specs.Spans.{AreSorted, IsPlaced};
+ghost use Rattle.macho_spans.specs.Span.{Shares};
+ghost use Rattle.macho_spans.specs.Spans.{AreSorted, IsPlaced};
 ghost use Rattle.macho_rules.specs.FilePart.{file_at, FitsFile};
 ghost use Rattle.macho_rules.specs.Mapped.{mapped_segments, numbered_memory};
 ghost use Rattle.macho_rules.specs.Verdict.{HasMapped};
@@ -51,7 +51,7 @@ impl Mapping {
     ghost use Rattle.std.specs.Option.{option_map};
     ghost use Rattle.macho_fields.specs.Layers.{NothingBreaks};
     ghost use Rattle.macho_fields.specs.Rules.{BreaksImage};
-    ghost use Rattle.macho_fields.specs.Spans.{IsProbeCount, RoseBy};
+    ghost use Rattle.macho_spans.specs.Spans.{IsProbeCount, RoseBy};
     ghost use Rattle.macho_fields.specs.Universal.{slices_of, slice_bytes, IsImage, HasImage};
     ghost use Rattle.macho_rules.specs.Mapping.{sources, segment_count, probe_count, all_probe_count};
     ghost use Rattle.macho_rules.specs.Mapped.{mapped_segments};

@@ -38,7 +38,7 @@ impl<'a> Model for Survey<'a> {
 
 impl<'a> Survey<'a> {
     ghost use Rattle.std.specs.Prelude.{◌≡◌, ◌-◌, ◌^◌, min, length};
-    ghost use Rattle.macho_fields.specs.SpanOrder.{IsSharingOf};
+    ghost use Rattle.macho_spans.specs.SpanOrder.{IsSharingOf};
     ghost use Rattle.macho_fields.specs.Image.{commands_of};
     ghost use Rattle.macho_fields.specs.Segment.{base_of, section_count};
     ghost use Rattle.macho_fields.specs.declared.rule.Rule.{Rule};

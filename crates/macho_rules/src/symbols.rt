@@ -3,7 +3,8 @@
 
 ghost use Rattle.std.specs.Prelude.{◌≡◌, ◌+◌, ◌↔◌, Some, slice_get, IsTrue, IsSome, IfSome};
 ghost use Rattle.macho_fields.specs.Bytes.{bytes_of};
-ghost use Rattle.macho_fields.specs.Field.{Covers, HasZero};
+ghost use Rattle.macho_fields.specs.Field.{HasZero};
+ghost use Rattle.macho_spans.specs.Span.{Covers};
 ghost use Rattle.macho_fields.specs.Image.{commands_of};
 ghost use Rattle.macho_fields.specs.Symbol.{symbol_count, NamesNoSymbol};
 ghost use Rattle.macho_fields.specs.declared.rule.Rule.{Rule};

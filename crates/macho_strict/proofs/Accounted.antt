@@ -5,13 +5,13 @@ use Rattle.std.proofs.lemmas.Bool.{cases_lt, cases_order, cases_Bool}
 use Rattle.std.proofs.lemmas.List.{get_or_default}
 use Rattle.std.proofs.lemmas.List.Kept.{AllPairs-filter, AllPairs-from_increasing}
 use Rattle.std.proofs.lemmas.Option.{slice_get-get_or, slice_get_within, get_or_from_slice_get}
-use Rattle.macho_fields.specs.Field.{Covers}
+use Rattle.macho_spans.specs.Span.{Covers}
 use Rattle.macho_fields.specs.First.{IsUnbroken}
 use Rattle.macho_fields.specs.Image.{commands_of, AreCommands}
 use Rattle.macho_fields.specs.Loader.{IsSound}
 use Rattle.macho_fields.specs.NonZero.{IsNonZero}
 use Rattle.macho_fields.specs.Segment.{fileoff, filesize}
-use Rattle.macho_fields.specs.Span.{Holds}
+use Rattle.macho_spans.specs.Span.{Holds}
 use Rattle.macho_fields.specs.Universal.{FileSlice, is_universal, IsUniversal, table_end, slices_of, slice_bytes, HasPlace, IsImage}
 use Rattle.macho_fields.specs.declared.rule.Rule.TheVariants as base
 use Rattle.macho_fields.proofs.Chains.{command_places_rise}

@@ -10,9 +10,9 @@ use Rattle.std.proofs.lemmas.List.Sorted.{IsPermutation-sym, Contains-permutatio
 use Rattle.macho_fields.specs.Bytes.{bytes_of}
 use Rattle.macho_fields.specs.FirstPlace.{IsLeastPlace}
 use Rattle.macho_fields.specs.NonZero.{IsNonZero}
-use Rattle.macho_fields.specs.Overlap.{span_at, IsAscending}
-use Rattle.macho_fields.specs.Span.{end_of, Holds}
-use Rattle.macho_fields.specs.declared.span.Span.{Span}
+use Rattle.macho_spans.specs.Overlap.{span_at, IsAscending}
+use Rattle.macho_spans.specs.Span.{end_of, Holds}
+use Rattle.macho_spans.specs.declared.span.Span.{Span}
 use Rattle.macho_strict.specs.Gaps.{IsStray, ComeByStart, Walked, ArePassed, IsLeastNext}
 use Rattle.macho_strict.specs.declared.gaps.Gaps.{Gaps}
 

@@ -7,11 +7,11 @@ use Rattle.std.specs.Option.{option_map, IsSome}
 use Rattle.std.specs.Prelude.{slice_get}
 use Rattle.macho_fields.specs.First.{IsUnbroken}
 use Rattle.macho_fields.specs.FirstPlace.{IsLeastPlace}
-use Rattle.macho_fields.specs.Overlap.{span_at, IsAscending}
-use Rattle.macho_fields.specs.Span.{Holds}
+use Rattle.macho_spans.specs.Overlap.{span_at, IsAscending}
+use Rattle.macho_spans.specs.Span.{Holds}
 use Rattle.macho_fields.specs.Universal.{FileSlice, IsUniversal, HasPlace, entry_count, entry_size, slices_of, table_end}
 use Rattle.macho_fields.specs.declared.rule.Rule.TheVariants as field_rule
-use Rattle.macho_fields.specs.declared.span.Span.{Span}
+use Rattle.macho_spans.specs.declared.span.Span.{Span}
 use Rattle.macho_fields.proofs.Slices.{slice_count}
 use Rattle.macho_strict.specs.Gaps.{IsStray, ComeByStart}
 use Rattle.macho_strict.specs.Rules.{BreaksFile}

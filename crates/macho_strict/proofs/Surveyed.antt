@@ -7,11 +7,11 @@ use Rattle.std.proofs.lemmas.Option.{get_or_from_slice_get}
 use Rattle.std.proofs.lemmas.Simd.{map-map}
 use Rattle.macho_fields.specs.FirstPlace.{IsLeastPlace}
 use Rattle.macho_fields.specs.Image.{commands_of, command_size}
-use Rattle.macho_fields.specs.Overlap.{span_at, SharesEarlier, IsLeastSharing}
-use Rattle.macho_fields.specs.Span.{Holds}
-use Rattle.macho_fields.specs.SpanOrder.{IsOrderOf, spans_in, tags_in}
-use Rattle.macho_fields.specs.declared.span.Span.{Span}
-use Rattle.macho_fields.specs.declared.span_order.SpanOrder.{SpanOrder}
+use Rattle.macho_spans.specs.Overlap.{span_at, SharesEarlier, IsLeastSharing}
+use Rattle.macho_spans.specs.Span.{Holds}
+use Rattle.macho_spans.specs.SpanOrder.{IsOrderOf, spans_in, tags_in}
+use Rattle.macho_spans.specs.declared.span.Span.{Span}
+use Rattle.macho_spans.specs.declared.span_order.SpanOrder.{SpanOrder}
 use Rattle.macho_fields.proofs.Lists.{contains_first, any_of, only_one}
 use Rattle.macho_fields.proofs.Parts.{command_good, with_cmd_among}
 use Rattle.macho_fields.specs.declared.header.loader.TheConstants as loader

@@ -1,7 +1,7 @@
 -- From the answers on a file, on its slices and on its images to the strict verdict.
 use Rattle.std.proofs.Common.{◌≡◌, ℕ, ◌+◌, List, Result, IsErrAnd, IfErr, refl, arith}
 use Rattle.macho_fields.specs.First.{IsUnbroken}
-use Rattle.macho_fields.specs.Overlap.{IsAscending}
+use Rattle.macho_spans.specs.Overlap.{IsAscending}
 use Rattle.macho_rules.proofs.Verdicts.{passed_on}
 use Rattle.macho_rules.specs.Verdict.{IsRefusal}
 use Rattle.macho_rules.specs.declared.refusal.Refusal.{Refusal}

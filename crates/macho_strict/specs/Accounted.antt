@@ -1,7 +1,7 @@
 -- What the strict rules promise of a file: no byte is unaccounted for, and none is used twice.
 use Rattle.std.specs.Prelude.{◌≡◌, ℕ, ◌<◌, ◌⊎◌, List, slice_get, Some, All}
 use Rattle.macho_fields.specs.NonZero.{IsNonZero}
-use Rattle.macho_fields.specs.Span.{Holds}
+use Rattle.macho_spans.specs.Span.{Holds}
 use Rattle.macho_fields.specs.Universal.{IsUniversal, table_end, slices_of, slice_bytes, HasPlace, IsImage}
 use Rattle.macho_strict.specs.Elements.{elements_of}
 use Rattle.macho_strict.specs.Rules.{IsInFilePart, all_segments}

@@ -1,8 +1,8 @@
 -- What one walk over the segments of an image finds of their file parts.
 use Rattle.std.specs.Prelude.{◌≡◌, ◌↔◌, ℕ, ◌≤◌, List, map, Any, Bool, IsTrue}
 use Rattle.macho_fields.specs.Image.{commands_end}
-use Rattle.macho_fields.specs.SpanOrder.{IsOrderOf}
-use Rattle.macho_fields.specs.declared.span_order.SpanOrder.{SpanOrder}
+use Rattle.macho_spans.specs.SpanOrder.{IsOrderOf}
+use Rattle.macho_spans.specs.declared.span_order.SpanOrder.{SpanOrder}
 use Rattle.macho_image.specs.Opened.{IsOpened}
 use Rattle.macho_strict.specs.Gaps.{ArePassed}
 use Rattle.macho_strict.specs.Sharing.{all_parts, tagged}

@@ -3,9 +3,9 @@ use Rattle.std.specs.Prelude.{◌≡◌, ℕ, ◌≤◌, ◌<◌, ◌⊎◌, Lis
 use Rattle.macho_fields.specs.Bytes.{bytes_of}
 use Rattle.macho_fields.specs.FirstPlace.{IsLeastPlace}
 use Rattle.macho_fields.specs.NonZero.{IsNonZero}
-use Rattle.macho_fields.specs.Overlap.{span_at}
-use Rattle.macho_fields.specs.Span.{end_of, Holds}
-use Rattle.macho_fields.specs.declared.span.Span.{Span}
+use Rattle.macho_spans.specs.Overlap.{span_at}
+use Rattle.macho_spans.specs.Span.{end_of, Holds}
+use Rattle.macho_spans.specs.declared.span.Span.{Span}
 use Rattle.macho_strict.specs.declared.gaps.Gaps.{Gaps}
 
 -- the place has a byte that is not zero, and lies in none of the spans

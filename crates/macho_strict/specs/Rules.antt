@@ -1,11 +1,11 @@
 -- Where each strict rule is broken, by a file that breaks no other rule: the rule, and the place that
 -- is reported. docs/RULES.md says the same in words.
 use Rattle.std.specs.Prelude.{◌≡◌, ℕ, ◌≤◌, ◌<◌, List, slice_get, Some, All, Any, Contains}
-use Rattle.macho_fields.specs.Field.{Covers}
+use Rattle.macho_spans.specs.Span.{Covers}
 use Rattle.macho_fields.specs.Image.{commands_of, commands_end, IsChain}
 use Rattle.macho_fields.specs.NonZero.{IsNonZero}
 use Rattle.macho_fields.specs.Segment.{segments_of, fileoff, filesize}
-use Rattle.macho_fields.specs.Span.{Shares}
+use Rattle.macho_spans.specs.Span.{Shares}
 use Rattle.macho_fields.specs.Universal.{IsUniversal, table_end, slices_of, HasPlace}
 use Rattle.macho_strict.specs.Elements.{elements_of}
 use Rattle.macho_strict.specs.declared.elements.Element.{Element}

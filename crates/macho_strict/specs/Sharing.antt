@@ -1,10 +1,10 @@
 -- Spans of an image, each with a tag that names it in the answer, and which of them is the first that
 -- shares a place with an earlier one.
 use Rattle.std.specs.Prelude.{◌≡◌, ℕ, List, map, slice_get, Option, Some, None}
-use Rattle.macho_fields.specs.Overlap.{SharesEarlier, IsLeastSharing}
+use Rattle.macho_spans.specs.Overlap.{SharesEarlier, IsLeastSharing}
 use Rattle.macho_fields.specs.Segment.{fileoff, filesize}
-use Rattle.macho_fields.specs.SpanOrder.{spans_in, tags_in}
-use Rattle.macho_fields.specs.declared.span.Span.{Span}
+use Rattle.macho_spans.specs.SpanOrder.{spans_in, tags_in}
+use Rattle.macho_spans.specs.declared.span.Span.{Span}
 use Rattle.macho_strict.specs.Elements.{element, elements_of}
 use Rattle.macho_strict.specs.Rules.{all_segments}
 use Rattle.macho_strict.specs.declared.elements.Element.{Element}

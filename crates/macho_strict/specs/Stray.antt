@@ -1,7 +1,7 @@
 -- The part of a universal file before its slices. (mach-o/fat.h: fat_header)
 use Rattle.std.specs.Prelude.{List, ℕ}
 use Rattle.macho_fields.specs.Universal.{table_end}
-use Rattle.macho_fields.specs.declared.span.Span.{Span}
+use Rattle.macho_spans.specs.declared.span.Span.{Span}
 
 -- the header and the table
 abbrev pub table_span : List ℕ → Span

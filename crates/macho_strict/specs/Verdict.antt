@@ -1,10 +1,10 @@
 -- The strict verdict on a file, and where it takes memory.
 use Rattle.std.specs.Prelude.{◌≡◌, ℕ, suc, zero, ◌+◌, ◌⊎◌, List, map, slice_get, IsSomeAnd}
 use Rattle.macho_fields.specs.First.{IsUnbroken, IsFirstBroken, scope_start}
-use Rattle.macho_fields.specs.Overlap.{IsAscending, IsDescending}
+use Rattle.macho_spans.specs.Overlap.{IsAscending, IsDescending}
 use Rattle.macho_fields.specs.Segment.{fileoff, filesize}
 use Rattle.macho_fields.specs.Universal.{slices_of, slice_bytes}
-use Rattle.macho_fields.specs.declared.span.Span.{Span}
+use Rattle.macho_spans.specs.declared.span.Span.{Span}
 use Rattle.macho_rules.specs.Verdict.{IsRefusal}
 use Rattle.macho_rules.specs.declared.refusal.Refusal.{Refusal}
 use Rattle.macho_rules.specs.declared.refusal.Refusal.TheVariants as refusal

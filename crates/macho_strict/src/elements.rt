@@ -3,7 +3,7 @@
 ghost use Rattle.std.specs.Prelude.{◌≡◌, None, IfOk, OnErr};
 ghost use Rattle.macho_fields.specs.Layers.{NothingBreaks};
 ghost use Rattle.macho_fields.specs.Rules.{BreaksImage as Breaks};
-ghost use Rattle.macho_fields.specs.SpanOrder.{IsOrderOf};
+ghost use Rattle.macho_spans.specs.SpanOrder.{IsOrderOf};
 ghost use Rattle.macho_strict.specs.Elements.{contents as contents_of, relocations as relocations_of};
 ghost use Rattle.macho_strict.specs.Elements.{headers as headers_of};
 ghost use Rattle.macho_strict.specs.ElementWalk.{described_tables};

@@ -25,7 +25,7 @@ impl<'a> Gaps<'a> {
     ghost use Rattle.std.specs.Prelude.{◌≡◌, ◌++◌, [], ◌∷◌, List, ℕ, true};
     ghost use Rattle.macho_fields.specs.Bytes.{bytes_of};
     ghost use Rattle.macho_fields.specs.FirstPlace.{IsLeastPlace};
-    ghost use Rattle.macho_fields.specs.declared.span.Span.{Span};
+    ghost use Rattle.macho_spans.specs.declared.span.Span.{Span};
     ghost use Rattle.macho_strict.specs.Gaps.{ArePassed, IsLeastNext, IsStray};
 
     // No span was passed.

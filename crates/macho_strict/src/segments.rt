@@ -48,7 +48,7 @@ impl<'a> Model for Survey<'a> {
 
 impl<'a> Survey<'a> {
     ghost use Rattle.std.specs.Prelude.{◌≡◌};
-    ghost use Rattle.macho_fields.specs.Overlap.{IsAscending};
+    ghost use Rattle.macho_spans.specs.Overlap.{IsAscending};
     ghost use Rattle.macho_strict.specs.Order.{KeptBelow, Continues, ContinuesWithMemory};
     ghost use Rattle.macho_strict.specs.RuleList.{rank};
     ghost use Rattle.macho_strict.specs.Rules.{BreaksImage};

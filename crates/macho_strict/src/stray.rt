@@ -3,7 +3,7 @@
 ghost use Rattle.std.specs.Prelude.{◌≡◌, ◌<◌, ◌∷◌, ℕ, length, IfOk, OnErr, MatchOption};
 ghost use Rattle.macho_fields.specs.Bytes.{bytes_of};
 ghost use Rattle.macho_fields.specs.FirstPlace.{IsLeastPlace};
-ghost use Rattle.macho_fields.specs.Overlap.{IsAscending, span_at};
+ghost use Rattle.macho_spans.specs.Overlap.{IsAscending, span_at};
 ghost use Rattle.macho_fields.specs.Universal.{IsUniversal, entry_size, slices_of};
 ghost use Rattle.macho_strict.specs.Gaps.{IsStray, ComeByStart, ArePassed};
 ghost use Rattle.macho_strict.specs.Order.{ContinuesWithMemory};

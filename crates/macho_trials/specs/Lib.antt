@@ -1,4 +1,2 @@
-pub mod Digit
-pub mod Field
 pub mod Status
 pub mod Verdict

@@ -1,13 +1,13 @@
 #![tactic(auto)]
 //! The program that scripts of `tests/` run. Its first word says what is done with those after it:
 //!
-//! - `judge FILE..` judges vectors: `verdicts`;
+//! - `judge` judges files twice: `judge`;
 //! - `call NAME LIMIT` makes one call that may answer want of memory: `refusals`;
 //! - `read SLICE ADDRESS..` prints what the calls of `macho_verified` give: `reads`.
 
+mod judge;
 mod reads;
 mod refusals;
-mod verdicts;
 
 use std::alloc::Global;
 use std::env::{self, Args};
@@ -27,7 +27,7 @@ fn main(rt: HostRuntime) -> ExitCode {
 fn status_of(rt: &HostRuntime, mut words: Args<Global>) -> u8 {
     let word = words.nth(1);
     match word.as_deref() {
-        Some("judge") => verdicts::judge_vectors(rt, words),
+        Some("judge") => judge::judge(rt),
         Some("call") => refusals::call(rt, words),
         Some("read") => reads::read(rt, words),
         _ => NOTHING_DONE,

@@ -5,7 +5,8 @@ use Rattle.std.proofs.lemmas.List.{drop-take, drop-drop}
 use Rattle.std.proofs.lemmas.Option.{none-some, same_Some}
 use Rattle.std.specs.List.{range_with_len}
 use Rattle.std.specs.Option.{option_map, option_map_or}
-use Rattle.macho_fields.specs.Field.{Covers, HasZero, part, string_from}
+use Rattle.macho_fields.specs.Field.{HasZero, part, string_from}
+use Rattle.macho_spans.specs.Span.{Covers}
 use Rattle.macho_fields.specs.Image.{commands_of, with_cmd}
 use Rattle.macho_fields.specs.Layers.{NothingBreaks}
 use Rattle.macho_fields.specs.Loader.{IsSoundImage}
@@ -14,7 +15,7 @@ use Rattle.macho_fields.specs.Rules.{BreaksImage}
 use Rattle.macho_fields.specs.Segment.{segments_of, sections_in, fileoff, filesize, section_offset, section_size, is_zero_fill}
 use Rattle.macho_fields.specs.Symbol.{symoff, nsyms, stroff, strsize, n_strx}
 use Rattle.macho_fields.specs.declared.header.loader.TheConstants as loader
-use Rattle.macho_fields.specs.declared.span.Span.{Span}
+use Rattle.macho_spans.specs.declared.span.Span.{Span}
 use Rattle.macho_image.specs.Command.{first_with_cmd}
 use Rattle.macho_image.specs.Symbol.{symbols_of, symbol_at, items_inside, IsNameAt}
 use Rattle.macho_image.specs.declared.symbol.Symbol.{Symbol}

@@ -1,6 +1,6 @@
 -- The data that a linkedit_data_command of an accepted image names.
 use Rattle.std.proofs.Common.{◌≡◌, ℕ, ◌+◌, ◌*◌, ◌≤◌, ◌<◌, List, length, Any, Contains, Some, refl, ap, ◌∙◌, arith, lit<, inl}
-use Rattle.macho_fields.specs.Field.{Covers}
+use Rattle.macho_spans.specs.Span.{Covers}
 use Rattle.macho_fields.specs.Image.{command_cmd, commands_of}
 use Rattle.macho_fields.specs.Command.{HasStructure, least_size}
 use Rattle.macho_fields.specs.LoadCommands.{structure_of, linkedit_data_table}

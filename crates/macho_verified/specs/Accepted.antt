@@ -9,7 +9,7 @@ use Rattle.macho_fields.specs.Rules.{BreaksImage}
 use Rattle.macho_fields.specs.Segment.{segments_of, sections_in}
 use Rattle.macho_fields.specs.Symbol.{stroff, strsize, IsSymbolIndex}
 use Rattle.macho_fields.specs.declared.header.loader.TheConstants as loader
-use Rattle.macho_fields.specs.declared.span.Span.{Span}
+use Rattle.macho_spans.specs.declared.span.Span.{Span}
 use Rattle.macho_image.specs.Command.{first_with_cmd}
 use Rattle.macho_image.specs.Segment.{SegmentView, SectionView}
 use Rattle.macho_image.specs.Symbol.{symbol_at, symbols_of, indirect_at}

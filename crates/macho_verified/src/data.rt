@@ -3,7 +3,7 @@
 ghost use Rattle.std.specs.Prelude.{◌≡◌, ◌≢◌, ◌≤◌, length};
 ghost use Rattle.macho_fields.specs.Bytes.{bytes_of};
 ghost use Rattle.macho_fields.specs.Field.{part};
-ghost use Rattle.macho_fields.specs.Span.{end_of};
+ghost use Rattle.macho_spans.specs.Span.{end_of};
 
 use macho_fields::{Bytes, Span};
 

@@ -3,7 +3,7 @@
 ghost use Rattle.std.specs.Prelude.{◌≡◌, ◌+◌};
 ghost use Rattle.macho_fields.specs.Bytes.{bytes_of};
 ghost use Rattle.macho_fields.specs.Field.{string_from, HasZero};
-ghost use Rattle.macho_fields.specs.Span.{end_of};
+ghost use Rattle.macho_spans.specs.Span.{end_of};
 ghost use Rattle.macho_verified.specs.Accepted.{strings};
 
 use macho_fields::{Bytes, Span};

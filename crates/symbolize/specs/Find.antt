@@ -1,7 +1,7 @@
 -- What is nearest to an address, and what has it. (mach-o/nlist.h: nlist_64; mach-o/loader.h:
 -- section_64)
 use Rattle.std.specs.Prelude.{◌≡◌, ℕ, ◌≤◌, ◌<◌, List, ◌∷◌, ◌++◌, All, map}
-use Rattle.macho_fields.specs.Field.{Covers}
+use Rattle.macho_spans.specs.Span.{Covers}
 use Rattle.macho_fields.specs.Image.{commands_of}
 use Rattle.macho_fields.specs.Segment.{vmsize, section_address, section_size}
 use Rattle.macho_fields.specs.Symbol.{NamesSection, n_value}

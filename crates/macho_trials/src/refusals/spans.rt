@@ -2,7 +2,7 @@
 //! the answer to them all is that with ample memory. It is printed in each case.
 
 ghost use Rattle.std.specs.Prelude.{◌↔◌, IsTrue};
-ghost use Rattle.macho_fields.specs.Spans.{IsPlaced};
+ghost use Rattle.macho_spans.specs.Spans.{IsPlaced};
 
 use crate::refusals::announce;
 use crate::refusals::fault::Fault;

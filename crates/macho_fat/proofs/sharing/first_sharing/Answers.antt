@@ -1,5 +1,5 @@
 use Rattle.std.proofs.Common.{subst}
-use Rattle.macho_fields.specs.SpanOrder.{IsSharingOf}
+use Rattle.macho_spans.specs.SpanOrder.{IsSharingOf}
 use Rattle.macho_fields.specs.Universal.{entry_count}
 use Rattle.macho_fat.specs.TableWalk.{placed_spans}
 use Rattle.macho_fat.proofs.SharedSpans.{none_shown, first_shown}

@@ -2,8 +2,8 @@ use Rattle.std.proofs.Common.{length, ap, sym, subst, arith}
 use Rattle.std.specs.Prelude.{AllPairs, All, IsPermutation}
 use Rattle.std.proofs.lemmas.List.Sorted.{IsPermutation-trans}
 use Rattle.std.proofs.lemmas.Result.{IfOk-weaker}
-use Rattle.macho_fields.specs.Span.{Shares}
-use Rattle.macho_fields.specs.Spans.{SpansView, IsPlaced}
+use Rattle.macho_spans.specs.Span.{Shares}
+use Rattle.macho_spans.specs.Spans.{SpansView, IsPlaced}
 use Rattle.macho_rules.specs.Mapped.{mapped_segments, numbered_memory}
 use Rattle.macho_rules.proofs.Mapped.{mapped_some}
 use Rattle.macho_rules.proofs.MappingItems.{pairs_moved, moved_count, moved_placed, moved_apart, err_for}

@@ -1,7 +1,7 @@
 use Rattle.std.proofs.Common.{ℕ, take, get_or}
 use Rattle.std.proofs.lemmas.List.{take_more}
 use Rattle.std.proofs.lemmas.List.Sorted.{IsPermutation-push_more}
-use Rattle.macho_fields.specs.declared.span.Span.{Span}
+use Rattle.macho_spans.specs.declared.span.Span.{Span}
 use Rattle.macho_rules.proofs.MappingItems.{added_unless, next_apart, no_pair}
 use Rattle.macho_rules.proofs.mapping.spans_of.Goals as goal
 

@@ -1,6 +1,6 @@
 use Rattle.std.proofs.Common.{take}
 use Rattle.std.specs.Prelude.{IsPermutation}
-use Rattle.macho_fields.specs.Spans.{AreSorted}
+use Rattle.macho_spans.specs.Spans.{AreSorted}
 use Rattle.macho_rules.proofs.mapping.spans_of.Given as goal
 
 -- the spans are those of the pairs that were gone over

@@ -1,6 +1,6 @@
 use Rattle.std.proofs.Common.{◌≡◌, ℕ, ◌+◌, ◌*◌, ◌≤◌, ◌<◌, List, length, length-append, ◌++◌, [], ◌∷◌, map, max, ap, ◌∙◌, inl, inr, arith}
 use Rattle.std.proofs.lemmas.Bool.{cases_lt}
-use Rattle.macho_fields.specs.declared.span.Span.{Span}
+use Rattle.macho_spans.specs.declared.span.Span.{Span}
 use Rattle.macho_image.specs.Segment.{SegmentView}
 use Rattle.macho_rules.specs.Mapped.{mapped_segments, memory_at}
 use Rattle.macho_rules.proofs.Mapped.{span_is, pushed, at_places, yielded_all}

@@ -1,5 +1,5 @@
 use Rattle.std.proofs.Common.{List, ℕ, subst, lit≤}
-use Rattle.macho_fields.specs.SpanOrder.{IsSharingOf}
+use Rattle.macho_spans.specs.SpanOrder.{IsSharingOf}
 use Rattle.macho_fields.specs.declared.rule.Rule.TheVariants as rule
 use Rattle.macho_rules.specs.Mapped.{tagged_memory}
 use Rattle.macho_rules.proofs.Judged.{keeps_opened, judged_broken, judged_kept}

@@ -1,5 +1,5 @@
 use Rattle.std.proofs.Common.{inl}
-use Rattle.macho_fields.specs.Overlap.{IsAscending}
+use Rattle.macho_spans.specs.Overlap.{IsAscending}
 use Rattle.macho_strict.specs.Rules.{BreaksImage}
 use Rattle.macho_strict.specs.Verdict.{IsUnordered, file_parts}
 use Rattle.macho_strict.proofs.Verdicts.{passed_of, all_unbroken}

@@ -1,5 +1,5 @@
 use Rattle.std.proofs.Common.{List, subst, ◌∙◌}
-use Rattle.macho_fields.specs.SpanOrder.{IsOrderOf}
+use Rattle.macho_spans.specs.SpanOrder.{IsOrderOf}
 use Rattle.macho_strict.specs.Elements.{elements_of}
 use Rattle.macho_strict.specs.Sharing.{tagged}
 use Rattle.macho_strict.specs.declared.elements.Element.{Element}

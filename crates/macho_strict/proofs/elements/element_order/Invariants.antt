@@ -1,4 +1,4 @@
-use Rattle.macho_fields.specs.SpanOrder.{IsOrderOf}
+use Rattle.macho_spans.specs.SpanOrder.{IsOrderOf}
 use Rattle.macho_strict.specs.Sharing.{tagged}
 use Rattle.macho_strict.proofs.elements.element_order.Given as goal
 

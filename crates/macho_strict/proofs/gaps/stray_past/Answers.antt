@@ -2,7 +2,7 @@ use Rattle.std.proofs.Common.{◌≡◌, List, take, rules, sym, ◌∙◌, subs
 use Rattle.std.proofs.lemmas.List.{take_all, take_more}
 use Rattle.std.proofs.lemmas.List.Sorted.{IsNonDecreasingBy-from_sort_by_key}
 use Rattle.macho_fields.specs.Bytes.{bytes_of}
-use Rattle.macho_fields.specs.declared.span.Span.{Span}
+use Rattle.macho_spans.specs.declared.span.Span.{Span}
 use Rattle.macho_strict.specs.Gaps.{ArePassed}
 use Rattle.macho_strict.proofs.Passed.{by_start_where_sorted, sorted_by_start, least_sorted}
 use Rattle.macho_strict.proofs.gaps.stray_past.Goals as goal

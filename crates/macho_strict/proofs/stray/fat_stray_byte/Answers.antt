@@ -1,7 +1,7 @@
 use Rattle.std.proofs.Common.{◌∷◌, Ok, Err, subst}
 use Rattle.macho_fields.specs.FirstPlace.{IsLeastPlace}
-use Rattle.macho_fields.specs.Overlap.{IsAscending}
-use Rattle.macho_fields.specs.declared.span.Span.{Span}
+use Rattle.macho_spans.specs.Overlap.{IsAscending}
+use Rattle.macho_spans.specs.declared.span.Span.{Span}
 use Rattle.macho_strict.specs.Gaps.{IsStray, ComeByStart}
 use Rattle.macho_strict.specs.Order.{IsLeast}
 use Rattle.macho_strict.specs.Rules.{BreaksFile}

@@ -1,5 +1,5 @@
 use Rattle.std.proofs.Common.{◌∷◌, ◌++◌, [], List, take, sym, subst, arith}
-use Rattle.macho_fields.specs.declared.span.Span.{Span}
+use Rattle.macho_spans.specs.declared.span.Span.{Span}
 use Rattle.macho_strict.specs.Gaps.{ArePassed}
 use Rattle.macho_strict.specs.Verdict.{slice_spans}
 use Rattle.macho_strict.proofs.SliceSpans.{spans_more}

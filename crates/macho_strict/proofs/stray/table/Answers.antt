@@ -1,5 +1,5 @@
 use Rattle.std.proofs.Common.{ap, arith}
-use Rattle.macho_fields.specs.declared.span.Span.{Span}
+use Rattle.macho_spans.specs.declared.span.Span.{Span}
 use Rattle.macho_fields.specs.Bytes.{bytes_of}
 use Rattle.macho_strict.proofs.SliceSpans.{table_found}
 use Rattle.macho_strict.proofs.stray.table.Goals as goal

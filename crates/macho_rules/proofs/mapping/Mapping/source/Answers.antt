@@ -2,7 +2,7 @@ use Rattle.std.proofs.Common.{ℕ, ◌-◌, ◌<◌, length, Some, sym, ◌∙�
 use Rattle.std.specs.Option.{option_map}
 use Rattle.std.proofs.lemmas.List.{get_or_default}
 use Rattle.std.proofs.lemmas.List.Elements.{All-contains}
-use Rattle.macho_fields.specs.declared.span.Span.{Span}
+use Rattle.macho_spans.specs.declared.span.Span.{Span}
 use Rattle.macho_rules.specs.Mapping.{source_from, source_past}
 use Rattle.macho_rules.proofs.Memory.{none_holds, one_holds}
 use Rattle.macho_rules.proofs.mapping.Mapping.source.Goals as goal

@@ -1,7 +1,7 @@
 use Rattle.std.proofs.Common.{◌≤◌, ◌<◌, length, arith}
 use Rattle.std.proofs.lemmas.Bool.{both_ways}
 use Rattle.macho_fields.specs.Bytes.{bytes_of}
-use Rattle.macho_fields.specs.Span.{end_of}
+use Rattle.macho_spans.specs.Span.{end_of}
 use Rattle.macho_fields.specs.Universal.{entry_count, IsSliceOutside}
 use Rattle.macho_fields.specs.Rules.{BreaksFile}
 use Rattle.macho_fields.specs.declared.rule.Rule.TheVariants as rule

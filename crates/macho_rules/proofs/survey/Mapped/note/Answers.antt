@@ -1,6 +1,6 @@
 use Rattle.std.proofs.Common.{[], ◌∷◌, ◌++◌, arith, subst}
-use Rattle.macho_fields.specs.SpanOrder.{IsOrderOf}
-use Rattle.macho_fields.specs.declared.span.Span.{Span}
+use Rattle.macho_spans.specs.SpanOrder.{IsOrderOf}
+use Rattle.macho_spans.specs.declared.span.Span.{Span}
 use Rattle.macho_rules.specs.Mapped.{memory_at}
 use Rattle.macho_rules.proofs.Mapped.{span_is}
 use Rattle.macho_rules.proofs.Surveys.{unmapped_more, mapped_more}

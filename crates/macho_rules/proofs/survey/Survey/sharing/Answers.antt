@@ -1,5 +1,5 @@
 use Rattle.std.proofs.Common.{List, ℕ, subst}
-use Rattle.macho_fields.specs.SpanOrder.{IsSharingOf}
+use Rattle.macho_spans.specs.SpanOrder.{IsSharingOf}
 use Rattle.macho_rules.specs.Mapped.{tagged_memory}
 use Rattle.macho_rules.proofs.survey.Survey.sharing.Goals as goal
 

@@ -1,6 +1,6 @@
 use Rattle.std.proofs.Common.{◌≡◌, ℕ, List, Ok, Err, sym, ◌∙◌, subst}
 use Rattle.macho_fields.specs.Bytes.{bytes_of}
-use Rattle.macho_fields.specs.SpanOrder.{IsSharingOf}
+use Rattle.macho_spans.specs.SpanOrder.{IsSharingOf}
 use Rattle.macho_image.specs.Opened.{IsOpened}
 use Rattle.macho_strict.specs.Order.{IsLeast}
 use Rattle.macho_strict.specs.Rules.{BreaksImage}

@@ -1,6 +1,6 @@
 use Rattle.std.proofs.Common.{◌≡◌, ℕ, List, Ok, Err, ◌∙◌, subst}
 use Rattle.macho_fields.specs.Bytes.{bytes_of}
-use Rattle.macho_fields.specs.Overlap.{IsAscending}
+use Rattle.macho_spans.specs.Overlap.{IsAscending}
 use Rattle.macho_strict.specs.Gaps.{ArePassed}
 use Rattle.macho_strict.specs.Order.{IsLeast}
 use Rattle.macho_strict.specs.Rules.{BreaksImage}

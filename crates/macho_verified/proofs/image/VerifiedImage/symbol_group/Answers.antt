@@ -1,7 +1,7 @@
 use Rattle.std.proofs.Common.{◌≡◌, ◌∙◌, All, List, ℕ, map, take, drop, sym, ap, subst}
 use Rattle.macho_fields.specs.Bytes.{bytes_of}
 use Rattle.macho_fields.specs.Image.{commands_of}
-use Rattle.macho_fields.specs.declared.span.Span.{Span}
+use Rattle.macho_spans.specs.declared.span.Span.{Span}
 use Rattle.macho_image.specs.Symbol.{symbols_of}
 use Rattle.macho_image.specs.declared.symbol.Symbol.{Symbol}
 use Rattle.macho_verified.specs.Image.{symbol_view}

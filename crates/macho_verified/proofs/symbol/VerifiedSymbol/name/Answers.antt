@@ -3,7 +3,7 @@ use Rattle.std.proofs.lemmas.Bool.{false≢true}
 use Rattle.macho_fields.specs.Bytes.{bytes_of}
 use Rattle.macho_fields.specs.Field.{string_from, HasZero}
 use Rattle.macho_fields.specs.Image.{commands_of}
-use Rattle.macho_fields.specs.Span.{end_of}
+use Rattle.macho_spans.specs.Span.{end_of}
 use Rattle.macho_fields.specs.Symbol.{n_strx}
 use Rattle.macho_image.specs.Symbol.{IsNameAt}
 use Rattle.macho_verified.specs.Image.{SymbolView}

@@ -1,6 +1,0 @@
-use Rattle.macho_fields.specs.SearchSteps.{ArePassed}
-use Rattle.macho_fields.proofs.overlap.shares_below.Given as goal
-
--- the items before this one share nothing and end at end or before
-abbrev pub invariant-loop-item : goal.invariant-loop-item
-invariant-loop-item l = ArePassed l.items l.item-index l.count l.end

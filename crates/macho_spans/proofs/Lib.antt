@@ -1,0 +1,5 @@
+pub mod Overlaps
+pub mod SpanOrders
+pub mod SortedSpans
+pub mod Digits
+pub mod Kept

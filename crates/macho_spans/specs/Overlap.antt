@@ -1,0 +1,34 @@
+-- Which of many spans shares a place with an earlier one.
+use Rattle.std.specs.Prelude.{ℕ, ◌≤◌, ◌<◌, List, length, slice_index_or}
+use Rattle.macho_spans.specs.Span.{end_of, Shares}
+use Rattle.macho_spans.specs.declared.span.Span.{Span}
+
+-- the spans of a list in order, and for how many there is room
+pub record SpanListView : Type 0 where
+  pub spans : List Span
+  pub capacity : ℕ
+
+-- the span with the index
+abbrev pub span_at : List Span → ℕ → Span
+span_at spans k = slice_index_or spans k (record { start = 0; len = 0 })
+
+-- the span with the index j shares a place with an earlier one
+abbrev pub SharesEarlier : List Span → ℕ → Type 0
+SharesEarlier spans j =
+    (j < length spans) × ((i : ℕ) × (i < j) × Shares (span_at spans i) (span_at spans j))
+
+-- the span with the index j is the first that shares a place with an earlier one
+abbrev pub IsLeastSharing : List Span → ℕ → Type 0
+IsLeastSharing spans j = SharesEarlier spans j × ((k : ℕ) → k < j → ¬ SharesEarlier spans k)
+
+-- Of the spans that are not empty, each begins where an earlier one ends, or after that
+abbrev pub IsAscending : List Span → Type 0
+IsAscending spans =
+    (i j : ℕ) → i < j → 0 < (span_at spans i).len → 0 < (span_at spans j).len
+    → end_of (span_at spans i) ≤ (span_at spans j).start
+
+-- Of the spans that are not empty, each ends where an earlier one begins, or before that
+abbrev pub IsDescending : List Span → Type 0
+IsDescending spans =
+    (i j : ℕ) → i < j → 0 < (span_at spans i).len → 0 < (span_at spans j).len
+    → end_of (span_at spans j) ≤ (span_at spans i).start

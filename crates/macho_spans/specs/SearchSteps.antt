@@ -1,0 +1,44 @@
+-- What only the contracts of private functions and proofs need.
+use Rattle.std.specs.Prelude.{◌≡◌, ℕ, ◌≤◌, ◌<◌, List, length, slice_index_or}
+use Rattle.macho_spans.specs.Span.{end_of, Shares}
+use Rattle.macho_spans.specs.declared.span.Span.{Span}
+use Rattle.macho_spans.specs.declared.overlap.Numbered.{Numbered}
+
+-- so many of the sorted pairs start at the place or before it
+pub record StartBy (pairs : List (Span × ℕ)) (place count : ℕ) : Type 0 where
+  pub among : count ≤ length pairs
+  pub before : (k : ℕ) (d : Span × ℕ) → k < count → (slice_index_or pairs k d).0.start ≤ place
+  pub after : (k : ℕ) (d : Span × ℕ) → count ≤ k → k < length pairs
+      → place < (slice_index_or pairs k d).0.start
+
+-- the item at the place in a list
+abbrev pub item_at : List Numbered → ℕ → Numbered
+item_at items p =
+    slice_index_or items p (record { span = record { start = 0; len = 0 }; index = 0 })
+
+-- each item has its own place as its index
+abbrev pub AreNumbered : List Numbered → Type 0
+AreNumbered items = (p : ℕ) → p < length items → (item_at items p).index ≡ p
+
+-- two of the first high items share a place, and their indices are below count
+abbrev pub PairBelow : List Numbered → ℕ → ℕ → Type 0
+PairBelow items high count =
+    (q : ℕ) × (p : ℕ) × (p < q) × (q < high)
+    × ((item_at items p).index < count) × ((item_at items q).index < count)
+    × Shares (item_at items p).span (item_at items q).span
+
+-- Of the first high items, those that have a place and an index below count are passed. They share
+-- nothing, and the last place of any of them is below end, which is 0 where there are none.
+pub record ArePassed (items : List Numbered) (high count end : ℕ) : Type 0 where
+  pub ends : (p : ℕ) → p < high → (item_at items p).index < count → 0 < (item_at items p).span.len
+      → end_of (item_at items p).span ≤ end
+  pub last : 0 < end
+      → (p : ℕ) × (p < high) × ((item_at items p).index < count) × (end_of (item_at items p).span ≡ end)
+  pub apart : ¬ PairBelow items high count
+
+-- no two items with indices below low share a place, and some two with indices below high do
+pub record AreHalved (items : List Numbered) (low high : ℕ) : Type 0 where
+  pub order : low < high
+  pub among : high ≤ length items
+  pub apart : ¬ PairBelow items (length items) low
+  pub share : PairBelow items (length items) high

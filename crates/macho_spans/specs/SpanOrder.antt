@@ -1,0 +1,55 @@
+-- What the order of spans shows of which of them share a place. Each span has a tag, which names it in
+-- the answer. Empty spans share nothing.
+use Rattle.std.specs.Prelude.{◌≡◌, ℕ, ◌≤◌, ◌<◌, List, map, slice_get, Some}
+use Rattle.macho_spans.specs.Overlap.{span_at, SharesEarlier, IsLeastSharing, IsAscending, IsDescending}
+use Rattle.macho_spans.specs.Span.{end_of}
+use Rattle.macho_spans.specs.declared.span.Span.{Span}
+use Rattle.macho_spans.specs.declared.span_order.Sharing.{Sharing}
+use Rattle.macho_spans.specs.declared.span_order.Sharing.TheVariants as sharing
+use Rattle.macho_spans.specs.declared.span_order.Trend.{Trend}
+use Rattle.macho_spans.specs.declared.span_order.Trend.TheVariants as trend
+use Rattle.macho_spans.specs.declared.span_order.SpanOrder.{SpanOrder}
+
+abbrev pub spans_in : List (Span × ℕ) → List Span
+spans_in pairs = map (λ pair. pair.0) pairs
+
+abbrev pub tags_in : List (Span × ℕ) → List ℕ
+tags_in pairs = map (λ pair. pair.1) pairs
+
+-- What the order shows
+
+abbrev pub IsSharingOf : List (Span × ℕ) → Sharing → Type 0
+IsSharingOf pairs sharing.None = (j : ℕ) → ¬ SharesEarlier (spans_in pairs) j
+IsSharingOf pairs (sharing.First tag) =
+    (j : ℕ) × IsLeastSharing (spans_in pairs) j × (slice_get (tags_in pairs) j ≡ Some tag)
+IsSharingOf pairs sharing.Unknown =
+    (¬ IsAscending (spans_in pairs)) × (¬ IsDescending (spans_in pairs))
+
+-- What is kept while spans are noted
+
+-- the spans ascend to the last one
+pub record Ascends (spans : List Span) (last : Span) : Type 0 where
+  pub ascending : IsAscending spans
+  pub among : (j : ℕ) × (span_at spans j ≡ last)
+  pub filled : 0 < last.len
+  pub most : (i : ℕ) → 0 < (span_at spans i).len → end_of (span_at spans i) ≤ end_of last
+
+-- the spans descend to the last one
+pub record Descends (spans : List Span) (last : Span) : Type 0 where
+  pub descending : IsDescending spans
+  pub among : (j : ℕ) × (span_at spans j ≡ last)
+  pub filled : 0 < last.len
+  pub least : (i : ℕ) → 0 < (span_at spans i).len → last.start ≤ (span_at spans i).start
+
+abbrev pub IsTrend : List Span → List ℕ → Span → Trend → Type 0
+IsTrend spans tags last trend.Empty = (i : ℕ) → ¬ (0 < (span_at spans i).len)
+IsTrend spans tags last trend.Single = Ascends spans last × Descends spans last
+IsTrend spans tags last trend.Ascending = Ascends spans last × (¬ IsDescending spans)
+IsTrend spans tags last trend.Descending = Descends spans last × (¬ IsAscending spans)
+IsTrend spans tags last (trend.Sharing tag) =
+    (j : ℕ) × IsLeastSharing spans j × (slice_get tags j ≡ Some tag)
+IsTrend spans tags last trend.Unordered = (¬ IsAscending spans) × (¬ IsDescending spans)
+
+-- the order is that of the spans
+abbrev pub IsOrderOf : List (Span × ℕ) → SpanOrder → Type 0
+IsOrderOf pairs noted = IsTrend (spans_in pairs) (tags_in pairs) noted.last noted.trend

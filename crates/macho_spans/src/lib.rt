@@ -1,0 +1,13 @@
+#![tactic(auto)]
+//! Ranges of places: which places a span holds, which spans share one, and lists of spans that are
+//! sorted and searched. Nothing here knows of Mach-O.
+
+pub mod overlap;
+pub mod span;
+pub mod span_order;
+pub mod spans;
+
+pub use overlap::SpanList;
+pub use span::{Span, table_end};
+pub use span_order::{Sharing, SpanOrder};
+pub use spans::{Insert, Spans};

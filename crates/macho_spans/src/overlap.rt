@@ -1,0 +1,132 @@
+//! Which of many spans is the first that shares a place with an earlier one.
+
+ghost use Rattle.std.specs.Prelude.{◌+◌, ◌↔◌, length, IsTrue};
+ghost use Rattle.std.specs.List.Sorted.{IsNonDecreasingBy};
+ghost use Rattle.macho_spans.specs.SearchSteps.{PairBelow};
+
+use crate::span::Span;
+use std::alloc::{AllocError, Global};
+use std::marker::Model;
+
+/// Spans in the order in which they were added. Each takes 24 bytes.
+#[derive(Drop)]
+pub struct SpanList {
+    items: Vec<Numbered>,
+}
+
+// A span, and how many spans were added before it.
+#[derive(Clone, Copy)]
+struct Numbered {
+    span: Span,
+    index: u64,
+}
+
+impl Model for SpanList {
+    ghost use Rattle.std.specs.Prelude.{map};
+    ghost use Rattle.std.specs.Vec.{vec_capacity};
+    ghost use Rattle.macho_spans.specs.Overlap.{SpanListView};
+    ghost use Rattle.macho_spans.specs.SearchSteps.{AreNumbered};
+
+    ghost Value = { SpanListView };
+
+    ghost view = { λ list. record {
+      spans = map (λ item. item.span) list.items.items;
+      capacity = vec_capacity list.items;
+    } };
+
+    ghost invariant = { λ list. AreNumbered list.items.items };
+}
+
+impl SpanList {
+    ghost use Rattle.std.specs.Prelude.{◌≡◌, ◌+◌, ◌<◌, ◌≤◌, [], ◌∷◌, ◌++◌, ℕ, max, length};
+    ghost use Rattle.std.specs.Prelude.{IfOk, OnOk, OnErr, MatchOption};
+    ghost use Rattle.macho_spans.specs.Overlap.{SharesEarlier, IsLeastSharing};
+
+    /// No spans, with room for so many and no more.
+    pub fn with_capacity(alloc: Global, count: usize) -> Result<SpanList, AllocError>
+        ensures none { IfOk result (λ list. list.spans ≡ []) }
+        ensures capacity { IfOk result (λ list. list.capacity ≡ count) }
+        ensures memory { OnErr result (0 < count) }
+    {
+        let items = Vec::with_capacity(alloc, count)?;
+        Ok(SpanList { items })
+    }
+
+    /// Adds a span, which may be empty, as the last one. Memory is asked for only where there is no
+    /// room left, and then for as many more as there are, or for four more where there are fewer.
+    /// Where it runs out, nothing has changed.
+    pub fn push(&mut self, span: Span) -> Result<(), AllocError>
+        ensures ok { OnOk result (self.new.spans ≡ self.old.spans ++ span ∷ []) }
+        ensures err { OnErr result (self.new ≡ self.old) }
+        ensures room { length self.old.spans < self.old.capacity
+            → self.new.capacity ≡ self.old.capacity }
+        ensures more { self.old.capacity ≤ length self.old.spans
+            → self.new.capacity ≤ length self.old.spans + max (length self.old.spans) 4 }
+        ensures memory { OnErr result (self.old.capacity ≤ length self.old.spans) }
+    {
+        let index = self.items.len();
+        if index == self.items.capacity() {
+            self.items.reserve_exact(index.max(4))?;
+        }
+        let index = index as u64;
+        self.items.push_reserved(Numbered { span, index });
+        Ok(())
+    }
+
+    /// The index of the first span that shares a place with an earlier one, or `None` where no two
+    /// spans share a place.
+    ///
+    /// For n spans it takes time in the order of n log n, and no memory: it sorts the spans by
+    /// start, and compares neighbours.
+    pub fn least_overlap(self) -> Option<u64>
+        ensures { MatchOption result ((j : ℕ) → ¬ SharesEarlier self.spans j)
+            (IsLeastSharing self.spans) }
+    {
+        let mut items = self.items;
+        items.sort_unstable_by_key(|item| item.span.start);
+        if shares_below(&items, items.len() as u64) {
+            Some(least_sharing(&items))
+        } else {
+            None
+        }
+    }
+}
+
+// Whether two of the spans with an index below `count` share a place. The items are sorted by
+// start.
+fn shares_below(items: &[Numbered], count: u64) -> bool
+    requires { IsNonDecreasingBy (λ item. item.span.start) items.now }
+    ensures { IsTrue result ↔ PairBelow items.now (length items.now) count }
+{
+    let mut end = 0;
+    for item in items {
+        if item.index < count && item.span.len > 0 {
+            if u128::from(item.span.start) < end {
+                return true;
+            }
+            end = item.span.end();
+        }
+    }
+    false
+}
+
+// The least index of a span that shares a place with one of a lower index, by halves. The items are
+// sorted by start.
+fn least_sharing(items: &[Numbered]) -> u64
+    requires sorted { IsNonDecreasingBy (λ item. item.span.start) items.now }
+    requires some { PairBelow items.now (length items.now) (length items.now) }
+    ensures share { PairBelow items.now (length items.now) (result + 1) }
+    ensures apart { ¬ PairBelow items.now (length items.now) result }
+{
+    let mut low = 0;
+    let mut high = items.len() as u64;
+    while high - low > 1 {
+        let middle = low + (high - low) / 2;
+        if shares_below(items, middle) {
+            high = middle;
+        } else {
+            low = middle;
+        }
+    }
+    high - 1
+}

@@ -1,0 +1,164 @@
+//! Spans that share no place, each with a tag: a list sorted by start, which is searched by halves.
+
+mod count;
+mod pairs;
+#[cfg(test)]
+mod tests;
+
+ghost use Rattle.std.specs.Prelude.{◌≡◌, ◌≤◌, length, MatchOption};
+ghost use Rattle.macho_spans.specs.SearchSteps.{StartBy};
+ghost use Rattle.macho_spans.specs.Spans.{AreSorted, IsPlaced, IsProbeCount, RoseBy, SharesWithOne};
+
+use crate::span::Span;
+use pairs::CountedPairs;
+use std::alloc::{AllocError, Global};
+use std::marker::Model;
+
+/// What became of a span that was to be inserted.
+#[derive(Clone, Copy, Debug, PartialEq, Eq)]
+pub enum Insert {
+    /// It is held now, with its tag.
+    Added,
+    /// It shares a place with a span that is held, and nothing has changed.
+    Overlap,
+}
+
+/// Spans of which no two share a place, each with a tag. A place is an address or an offset in
+/// bytes.
+#[derive(Drop)]
+pub struct Spans {
+    held: CountedPairs,
+}
+
+impl Model for Spans {
+    ghost use Rattle.std.specs.Vec.{vec_capacity};
+    ghost use Rattle.macho_spans.specs.Spans.{SpansView, AreSorted};
+
+    ghost Value = { SpansView };
+
+    ghost view = { λ spans. record {
+      pairs = spans.held.pairs.items;
+      capacity = vec_capacity spans.held.pairs;
+      probes = spans.held.probes.call;
+      tests = spans.held.tests.call;
+      all_probes = spans.held.probes.all;
+      all_tests = spans.held.tests.all;
+    } };
+
+    ghost invariant = { λ spans. AreSorted spans.held.pairs.items };
+}
+
+impl Spans {
+    ghost use Rattle.std.specs.Prelude.{◌≡◌, ◌<◌, ◌≤◌, ◌↔◌, ℕ, [], ◌∷◌, ◌++◌, List, length};
+    ghost use Rattle.std.specs.Prelude.{Contains, IsPermutation, IfOk, OnOk, OnErr, MatchOption};
+    ghost use Rattle.macho_spans.specs.Span.{Holds};
+    ghost use Rattle.macho_spans.specs.Spans.{AreKept, AreSorted, HoldsInOne, IsPlaced};
+    ghost use Rattle.macho_spans.specs.Spans.{IsProbeCount, RoseBy, SharesWithOne};
+    ghost use Rattle.macho_spans.specs.declared.span.Span.{Span};
+    ghost use Rattle.macho_spans.specs.declared.spans.Insert.{Insert};
+
+    /// No spans. It takes no memory.
+    pub fn new(alloc: Global) -> Spans
+        ensures none { result.pairs ≡ [] }
+        ensures probes { result.probes ≡ 0 }
+        ensures all_probes { result.all_probes ≡ 0 }
+    {
+        Spans {
+            held: CountedPairs::new(alloc),
+        }
+    }
+
+    /// No spans, with room for so many and no more. It takes no memory for none.
+    pub fn with_capacity(alloc: Global, count: usize) -> Result<Spans, AllocError>
+        ensures none { IfOk result (λ spans. spans.pairs ≡ []) }
+        ensures capacity { IfOk result (λ spans. spans.capacity ≡ count) }
+        ensures probes { IfOk result (λ spans. spans.probes ≡ 0) }
+        ensures all_probes { IfOk result (λ spans. spans.all_probes ≡ 0) }
+        ensures memory { OnErr result (0 < count) }
+    {
+        let held = CountedPairs::with_capacity(alloc, count)?;
+        Ok(Spans { held })
+    }
+
+    /// How many spans are held.
+    pub fn len(&self) -> u64
+        ensures { result ≡ length self.now.pairs }
+    {
+        self.held.len() as u64
+    }
+
+    /// How many probes the last insertion or look-up made, 0 before any. A probe is one comparison
+    /// of a held span's start with the start or place that is searched for.
+    pub fn probes(&self) -> u64
+        ensures { result ≡ self.now.probes }
+    {
+        self.held.probes()
+    }
+
+    /// Adds the span with its tag, unless it shares a place with a span that is held. The span must
+    /// not be empty, and must end at 2^64 or before. An overlap takes no memory. Where memory runs
+    /// out, nothing has changed.
+    pub fn try_insert(&mut self, span: Span, tag: u64) -> Result<Insert, AllocError>
+        requires { IsPlaced span }
+
+        // What was inserted before and is kept stays, and the new pair is kept as well where it
+        // shares no place with any of it.
+        ensures kept { OnOk result ((calls : List (Span × ℕ)) → AreKept calls self.old.pairs
+            → AreKept (calls ++ (span, tag) ∷ []) self.new.pairs) }
+        ensures overlap { IfOk result (λ insert.
+            (insert ≡ Insert.Overlap) ↔ SharesWithOne self.old.pairs span) }
+        ensures added { IfOk result (λ insert. insert ≡ Insert.Added
+            → IsPermutation ((span, tag) ∷ self.old.pairs) self.new.pairs) }
+        ensures unchanged { IfOk result (λ insert. insert ≡ Insert.Overlap
+            → self.new.pairs ≡ self.old.pairs) }
+        ensures memory { OnErr result (self.new.pairs ≡ self.old.pairs) }
+        ensures memory_to_add { OnErr result (¬ SharesWithOne self.old.pairs span) }
+
+        ensures sorted { AreSorted self.new.pairs }
+        ensures probes { IsProbeCount (length self.old.pairs) self.new.probes }
+        ensures all_probes { RoseBy self.old.all_probes self.new.probes self.new.all_probes }
+        ensures tests { self.new.tests ≤ 2 }
+        ensures all_tests { RoseBy self.old.all_tests self.new.tests self.new.all_tests }
+    {
+        let Some(next) = gap_for(&mut self.held, span) else {
+            return Ok(Insert::Overlap);
+        };
+        self.held.insert(next, span, tag)?;
+        Ok(Insert::Added)
+    }
+
+    /// The held span that holds the place, with its tag, or `None` where there is none.
+    pub fn find(&mut self, place: u64) -> Option<(Span, u64)>
+        ensures found { MatchOption result (¬ HoldsInOne self.old.pairs place)
+            (λ pair. Contains self.old.pairs pair × Holds pair.0 place) }
+        ensures same { self.new.pairs ≡ self.old.pairs }
+        ensures sorted { AreSorted self.new.pairs }
+        ensures probes { IsProbeCount (length self.old.pairs) self.new.probes }
+        ensures all_probes { RoseBy self.old.all_probes self.new.probes self.new.all_probes }
+        ensures tests { self.new.tests ≤ 1 }
+        ensures all_tests { RoseBy self.old.all_tests self.new.tests self.new.all_tests }
+    {
+        let next = self.held.count_starts_by(place);
+        let before = next.checked_sub(1)?;
+        self.held.holding(before, place)
+    }
+}
+
+// The index at which a span goes, or `None` where it shares a place with one that is held.
+fn gap_for(held: &mut CountedPairs, span: Span) -> Option<usize>
+    requires sorted { AreSorted held.old.pairs.items }
+    requires placed { IsPlaced span }
+    ensures gap { MatchOption result (SharesWithOne held.old.pairs.items span)
+        (λ next. (¬ SharesWithOne held.old.pairs.items span)
+        × StartBy held.old.pairs.items span.start next) }
+    ensures same { held.new.pairs ≡ held.old.pairs }
+    ensures probes { IsProbeCount (length held.old.pairs.items) held.new.probes.call }
+    ensures all_probes { RoseBy held.old.probes.all held.new.probes.call held.new.probes.all }
+    ensures tests { held.new.tests.call ≤ 2 }
+    ensures all_tests { RoseBy held.old.tests.all held.new.tests.call held.new.tests.all }
+{
+    let next = held.count_starts_by(span.start);
+    let before = next > 0 && held.shares(next - 1, span);
+    let after = next < held.len() && held.shares(next, span);
+    if before || after { None } else { Some(next) }
+}
