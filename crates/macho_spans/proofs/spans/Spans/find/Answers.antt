@@ -12,3 +12,9 @@ returns-clause-found c =
     rw (← ap (λ (view : SpansView). view.pairs) c.self.view_is)
     (found_before held.pairs.items c.self.invariant c.args.place c.count_starts_by-next.result count c.holding.result c.in_ok-before.before (omega (arith, c.in_ok-before.ensures))
     (λ d. rw same at (c.holding.ensures.pair d)))
+
+pub returns-in_err-before-clause-all_probes : goal.returns-in_err-before-clause-all_probes
+returns-in_err-before-clause-all_probes c = search rules
+
+pub returns-clause-all_probes : goal.returns-clause-all_probes
+returns-clause-all_probes c = search rules

@@ -1,0 +1,5 @@
+use Rattle.std.proofs.Common.{rules}
+use Rattle.macho_fat.proofs.fault.FatFaultFromBreak.from.Goals as goal
+
+pub returns : goal.returns
+returns c = search rules
