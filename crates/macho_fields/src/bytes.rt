@@ -6,8 +6,8 @@ ghost use Rattle.macho_fields.specs.Field.{field, number, part, string_from, Has
 ghost use Rattle.macho_fields.specs.NonZero.{IsNonZero, HasNonZero};
 ghost use Rattle.macho_spans.specs.Span.{end_of, Holds};
 
-use macho_spans::{Span, table_end};
 use byteorder::{BigEndian, ByteOrder, LittleEndian};
+use macho_spans::{Span, table_end};
 use memchr::{memchr, memrchr};
 
 // The size in bytes of a word, by which bytes are searched.

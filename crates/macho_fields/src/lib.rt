@@ -17,5 +17,5 @@ pub use load_command::{
     LoadCommand, Records, Structure, TableFields, UNIQUE_COUNT, Width, names_library, structure_of,
     unique_index,
 };
-pub use rule::{Break, Rule};
 pub use macho_spans::{Insert, Sharing, Span, SpanList, SpanOrder, Spans, table_end};
+pub use rule::{Break, Rule};

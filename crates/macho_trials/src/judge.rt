@@ -22,11 +22,7 @@ pub(crate) fn judge(rt: &HostRuntime) -> u8 {
 
 /// Judges each file, and prints both verdicts on it.
 fn judge_files(rt: &HostRuntime) -> Option<()> {
-    let input = read_all(
-        rt.alloc(),
-        u64::MAX,
-        &mut FromRead::new(&mut rt.stdin()),
-    );
+    let input = read_all(rt.alloc(), u64::MAX, &mut FromRead::new(&mut rt.stdin()));
     let input = input.ok()?;
     let (count, mut rest) = take_number(&input)?;
     for _ in 0..count {
