@@ -1,8 +1,8 @@
 -- What the slices of a file are, and what is returned where a rule is broken or memory runs out.
 use Rattle.std.specs.Prelude.{◌≡◌, ◌↔◌, ℕ, ◌≤◌, List, length, map, All, IsTrue}
 use Rattle.macho_fields.specs.Field.{part}
-use Rattle.macho_fields.specs.Span.{end_of}
-use Rattle.macho_fields.specs.declared.span.Span.{Span}
+use Rattle.macho_spans.specs.Span.{end_of}
+use Rattle.macho_spans.specs.declared.span.Span.{Span}
 use Rattle.macho_fields.specs.Universal.{FileSlice, slices_of, slice_bytes, IsImage}
 use Rattle.macho_fields.specs.Rules.{BreaksFile}
 use Rattle.macho_fields.specs.First.{rank}
