@@ -3,3 +3,4 @@ pub mod Counts
 pub mod Data
 pub mod Ended
 pub mod Filled
+pub mod Supplied

@@ -1,6 +1,7 @@
 -- What is at an address of an image.
-use Rattle.std.specs.Prelude.{◌≡◌, ◌≢◌, ℕ, ◌+◌, ◌-◌, ◌⊎◌, ◌&&◌, nat_le, nat_lt, List, [], drop, find, Option, MatchOption, Bool}
-use Rattle.macho_fields.specs.Segment.{vmaddr, vmsize}
+use Rattle.std.specs.Prelude.{◌≡◌, ◌≢◌, ℕ, ◌+◌, ◌-◌, ◌⊎◌, ◌&&◌, nat_le, nat_lt, List, [], length, drop, find, Option, Some, None, MatchOption, Bool}
+use Rattle.macho_fields.specs.Field.{part}
+use Rattle.macho_fields.specs.Segment.{vmaddr, vmsize, File, Zero, IsAtAddress}
 use Rattle.macho_image.specs.Segment.{SegmentView}
 use Rattle.macho_c.specs.Segments.{segments_seen, segment_bytes}
 use Rattle.macho_c.specs.declared.status.TheConstants.{OK, NONE, ZERO}
@@ -26,3 +27,13 @@ IsAnswer image address status bytes =
     MatchOption (supplier image address) ((status ≡ NONE) × (bytes ≡ []))
     (λ s. (bytes ≡ bytes_from address s)
     × (((status ≡ OK) × (bytes ≢ [])) ⊎ ((status ≡ ZERO) × (bytes ≡ []))))
+
+-- What the answer says of an image that breaks no rule: the bytes begin with that at the address, or
+-- there is a zero, or nothing is there.
+abbrev pub IsSourceAt : List ℕ → ℕ → ℕ → List ℕ → Type 0
+IsSourceAt image address status bytes =
+    ((status ≡ OK)
+    × (place : ℕ) × IsAtAddress image address (Some (File place))
+    × (bytes ≡ part place (length bytes) image))
+    ⊎ ((status ≡ ZERO) × IsAtAddress image address (Some Zero))
+    ⊎ ((status ≡ NONE) × IsAtAddress image address None)

@@ -1,7 +1,9 @@
 //! What is at the addresses of an image.
 
-ghost use Rattle.std.specs.Prelude.{◌≡◌, ◌⊎◌, []};
-ghost use Rattle.macho_c.specs.Address.{supplier, IsAnswer};
+ghost use Rattle.std.specs.Prelude.{◌≡◌, ◌⊎◌, [], None};
+ghost use Rattle.macho_fields.specs.Layers.{NothingBreaks};
+ghost use Rattle.macho_fields.specs.Rules.{BreaksImage};
+ghost use Rattle.macho_c.specs.Address.{supplier, IsAnswer, IsSourceAt};
 ghost use Rattle.macho_c.specs.Address.{supplies as supplies_of};
 ghost use Rattle.macho_c.specs.Rows.{IsBrokenImage};
 
@@ -21,8 +23,10 @@ pub extern "C" fn kesvuot_at<'a>(
     address: u64,
     bytes: &mut &'a [u8],
 ) -> u32
-    ensures { IsAnswer image.now.bytes.now address result bytes.new.now
+    ensures answer { IsAnswer image.now.bytes.now address result bytes.new.now
         ⊎ (IsBrokenImage image.now.bytes.now × (result ≡ NONE) × (bytes.new.now ≡ [])) }
+    ensures source { NothingBreaks (BreaksImage image.now.bytes.now None)
+        → IsSourceAt image.now.bytes.now address result bytes.new.now }
 {
     match Image::open(Bytes::new(image.bytes), None) {
         Ok(image) => write_bytes_at(&image, address, bytes),
