@@ -161,7 +161,7 @@ struct kesvuot_image {
     uint32_t reserved[5]; /* 0 */
 };
 
-/* The image of a slice, from 0 on. It walks over the load commands of that slice once, however many slices there are.
+/* The image of a slice, from 0 on. It goes over the load commands of that slice alone, however many slices there are.
  * OK: all fields are written. Those of parts that the image does not have are 0. This is no verdict on the file.
  * UNREAD: the slice is of 32 bits or big-endian. bytes, place, and cputype and cpusubtype of the universal table are
  * written, and all else is 0.
