@@ -172,7 +172,7 @@ uint32_t kesvuot_image(const void *file, size_t size, uint64_t slice, struct kes
  *
  * Each call writes the rows from the index `first` on, at most `max`, and returns how many it wrote. It leaves the rows
  * after those as they were. kesvuot_symbols and kesvuot_indirects begin at the row itself, so batches of any size cost
- * the same. Every other call walks over the load commands once: ask for all rows, or for many, at a time. */
+ * the same. Every other call goes over the load commands anew: ask for all rows, or for many, at a time. */
 
 struct kesvuot_segment { /* LC_SEGMENT_64 */
     struct kesvuot_bytes name;
