@@ -463,12 +463,12 @@ def judge_reports(report, oracle, program):
     reports = read_all_reports()
     questions = [Question("the report %s" % name, data, "check", ()) for name, data, *_ in reports]
     right = 0
-    for question, (_, _, layout, _) in zip(questions, reports):
+    for question, vector in zip(questions, reports):
         says = oracle_answer(oracle, question)
-        if says == (0, layout.encode()):
+        if says == (0, vector.wanted.encode()):
             right += 1
         else:
-            report.show(Difference(question, says, (0, layout.encode())), "by hand")
+            report.show(Difference(question, says, (0, vector.wanted.encode())), "by hand")
     report.case("the reports, by hand", "%d texts" % right, "%d texts" % len(reports))
     report.agreeing("the reports", compare(oracle, program, questions).differences, len(questions), "answers")
 
