@@ -12,7 +12,7 @@ import sys
 import tempfile
 from collections import Counter
 from pathlib import Path
-from typing import NamedTuple
+from typing import Iterator, NamedTuple
 
 TOP = Path(__file__).resolve().parent.parent
 sys.path.insert(0, os.fspath(TOP / "bench"))
@@ -50,21 +50,25 @@ def answers(program: str, files: list[bytes]) -> list[tuple[str, str]]:
     return list(zip(lines[::2], lines[1::2]))
 
 
+def files_of(vectors: list[Vector]) -> Iterator[tuple[str, bytes, str | None]]:
+    """The file of each vector and its mutants: the name of the vector, the bytes, and the verdict that stands there, which
+    a mutant has none of."""
+    for vector in vectors:
+        yield vector.name, vector.data, vector.wanted
+        yield from ((vector.name, data, None) for data in mutants(vector))
+
+
 def judge(program: str, vectors: list[Vector]) -> Judged:
     """Judges each vector, and compares both verdicts on its file and on its mutants."""
-    named = [(vector.name, data) for vector in vectors for data in (vector.data, *mutants(vector))]
-    given = answers(program, [data for _, data in named])
-    first = iter(given)
-    wrong = []
-    for vector in vectors:
-        verify, _ = next(first)
-        if verify != vector.wanted:
-            wrong.append(f"{vector.name}: {verify}, not {vector.wanted}")
-        for _ in mutants(vector):
-            next(first)
-    different = [f"{name}: {verify}, {slow}" for (name, _), (verify, slow) in zip(named, given) if verify != slow]
-    kinds = Counter(verify.split(" at ")[0] for verify, _ in given)
-    return Judged(len(vectors), len(named), wrong, different, kinds)
+    files = list(files_of(vectors))
+    wrong, different, kinds = [], [], Counter()
+    for (name, _, wanted), (verify, slow) in zip(files, answers(program, [data for _, data, _ in files])):
+        if wanted is not None and verify != wanted:
+            wrong.append(f"{name}: {verify}, not {wanted}")
+        if verify != slow:
+            different.append(f"{name}: {verify}, {slow}")
+        kinds[verify.split(" at ")[0]] += 1
+    return Judged(len(vectors), len(files), wrong, different, kinds)
 
 
 def read_text(text: str) -> list[Vector]:
