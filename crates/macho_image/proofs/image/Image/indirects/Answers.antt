@@ -1,4 +1,4 @@
-use Rattle.std.proofs.Common.{◌∙◌, sym, subst}
+use Rattle.std.proofs.Common.{◌∙◌, sym, subst, rules}
 use Rattle.macho_fields.specs.Bytes.{bytes_of}
 use Rattle.macho_image.specs.Views.{HoldItems}
 use Rattle.macho_image.proofs.Ranges.{none_held}
@@ -11,3 +11,6 @@ invariant_of-result c =
       | in-Some w ↦ subst (HoldItems (bytes_of c.bytes-image.result) 4) (sym w.items-is) w.inside-items.ensures.held
       | in-None w ↦ none_held (bytes_of c.bytes-image.result) 4 _ (w.items-is ∙ w.none-items.ensures)
     ]
+
+pub returns : goal.returns
+returns c = search rules
