@@ -2,6 +2,8 @@
 
 pub(crate) mod slow;
 
+ghost use Rattle.std.specs.Prelude.{◌≡◌, IfOk};
+
 use std::io;
 use std::io::{ErrorKind, Read, Write};
 
@@ -47,6 +49,17 @@ pub(crate) enum Fault {
     NoBytes,
 }
 
+impl Fault {
+    fn answer(self) -> io::Result<usize>
+        ensures { IfOk result (λ count. count ≡ 0) }
+    {
+        match self {
+            Fault::Error => Err(io::Error::from(ErrorKind::Interrupted)),
+            Fault::NoBytes => Ok(0),
+        }
+    }
+}
+
 /// A writer of std into memory. It counts its calls, and one of them alone goes wrong.
 #[derive(Drop)]
 pub(crate) struct CountingWriter {
@@ -81,10 +94,7 @@ impl Write for CountingWriter {
     fn write(&mut self, piece: &[u8]) -> io::Result<usize> {
         self.writes = self.writes.saturating_add(1);
         if self.goes_wrong() {
-            return match self.fault {
-                Fault::Error => Err(io::Error::from(ErrorKind::Interrupted)),
-                Fault::NoBytes => Ok(0),
-            };
+            return self.fault.answer();
         }
         let count = piece.len().min(self.most);
         self.bytes.write(&piece[..count])
