@@ -1,3 +1,4 @@
+pub mod AllSymbols
 pub mod BadSlices
 pub mod Counts
 pub mod Data

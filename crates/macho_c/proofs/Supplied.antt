@@ -59,7 +59,7 @@ module _ (image : List ℕ) (address : ℕ) where
 
 -- the bytes from the one at the address on
 module _ (image : List ℕ) (f n past : ℕ) where
-  rest_of : f + n ≤ length image → past < n → drop past (part f n image) ≡ part (f + past) (n - past) image
+  pub rest_of : f + n ≤ length image → past < n → drop past (part f n image) ≡ part (f + past) (n - past) image
   rest_of fits less =
       let sum : n ≡ past + (n - past) = omega (arith, less) in
       ap (λ m. drop past (take m (drop f image))) sum ∙ drop-take past (n - past) (drop f image) ∙ ap (take (n - past)) (drop-drop past f image)

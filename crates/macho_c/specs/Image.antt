@@ -3,6 +3,7 @@ use Rattle.std.specs.Prelude.{◌≡◌, ℕ, ◌+◌, ◌≤◌, ◌<◌, ◌�
 use Rattle.std.specs.Option.{option_map, unwrap_or}
 use Rattle.macho_fields.specs.First.{IsUnbroken}
 use Rattle.macho_fields.specs.Image.{word, cpu_type, cpu_subtype, file_type, commands_of}
+use Rattle.macho_fields.specs.Layers.{NothingBreaks}
 use Rattle.macho_fields.specs.Rules.{BreaksImage}
 use Rattle.macho_fields.specs.Segment.{section_count, base_of}
 use Rattle.macho_fields.specs.Symbol.{ilocalsym, nlocalsym, iextdefsym, nextdefsym, iundefsym, nundefsym}
@@ -110,6 +111,13 @@ pub record Shows (image : List ℕ) (start : ℕ) (row : KesvuotImage) : Type 0 
   pub counts : ShowsCounts image row
   pub tables : ShowsTables image row
   pub parts : ShowsParts image row
+
+-- The struct shows the image in its bytes, as kesvuot_image writes it, and the image breaks no rule:
+-- none of an accepted file does.
+abbrev pub ShowsUnbroken : KesvuotImage → Type 0
+ShowsUnbroken row =
+    Shows row.bytes.now row.place row
+    × (arch : Option (ℕ × ℕ)) × NothingBreaks (BreaksImage row.bytes.now arch)
 
 -- nothing is shown but what may be known of an image that is not read
 pub record ShowsOutside (held : List ℕ) (start cpu subtype : ℕ) (row : KesvuotImage)

@@ -1,8 +1,10 @@
 //! The indirect entries of an image.
 
 ghost use Rattle.std.specs.Prelude.{◌≡◌};
+ghost use Rattle.macho_c.specs.Image.{ShowsUnbroken};
 ghost use Rattle.macho_c.specs.Rows.{IsFilled};
 ghost use Rattle.macho_c.specs.Symbols.{indirect_shown, indirect_row, indirect_rows};
+ghost use Rattle.macho_c.specs.Symbols.{GivesAllIndirects};
 
 use crate::image::KesvuotImage;
 use crate::table::fill;
@@ -14,7 +16,9 @@ use macho_image::{Indirect, Indirects};
 /// before them are not gone over.
 #[unsafe(no_mangle)]
 pub extern "C" fn kesvuot_indirects(image: &KesvuotImage, first: u64, rows: &mut [u32]) -> usize
-    ensures { IsFilled indirect_shown (indirect_rows image.now) first result rows.old rows.new }
+    ensures rows { IsFilled indirect_shown (indirect_rows image.now) first result rows.old rows.new }
+    ensures accepted { ShowsUnbroken image.now
+        → GivesAllIndirects image.now.bytes.now first result rows.old rows.new }
 {
     let entries = Indirects::in_table(
         Bytes::new(image.bytes),

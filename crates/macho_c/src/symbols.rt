@@ -1,8 +1,10 @@
 //! The symbols of an image.
 
 ghost use Rattle.std.specs.Prelude.{◌≡◌};
+ghost use Rattle.macho_c.specs.Image.{ShowsUnbroken};
 ghost use Rattle.macho_c.specs.Rows.{IsFilled};
 ghost use Rattle.macho_c.specs.Symbols.{symbol_shown, symbol_row, symbol_rows, name_at};
+ghost use Rattle.macho_c.specs.Symbols.{GivesAllSymbols};
 
 use crate::image::KesvuotImage;
 use crate::parts::{ended_string, part_or_none, rest};
@@ -33,7 +35,9 @@ pub extern "C" fn kesvuot_symbols<'a>(
     first: u64,
     rows: &mut [KesvuotSymbol<'a>],
 ) -> usize
-    ensures { IsFilled symbol_shown (symbol_rows image.now) first result rows.old rows.new }
+    ensures rows { IsFilled symbol_shown (symbol_rows image.now) first result rows.old rows.new }
+    ensures accepted { ShowsUnbroken image.now
+        → GivesAllSymbols image.now.bytes.now first result rows.old rows.new }
 {
     let symbols = Symbols::in_table(Bytes::new(image.bytes), image.symbols, image.symbol_count);
     let wanted = symbols.range(first, rows.len() as u64);
