@@ -5,6 +5,7 @@ ghost use Rattle.std.specs.Prelude.{◌<◌};
 
 use super::{Insert, Spans};
 use crate::span::Span;
+use std::fmt::Debug;
 use std::process::Abort;
 use std::test::Fail;
 
@@ -27,13 +28,17 @@ struct LookUp {
     most: u64,
 }
 
+// Compares what is given with what is wanted. A call costs less proof than `assert_eq!`.
+fn same<T: PartialEq + Debug>(rt: &impl Abort, given: &T, wanted: &T) {
+    assert_eq!(rt; *given, *wanted);
+}
+
 // Compares what the last call counted. Where it may make a probe it makes one, and never more than two
 // tests of one pair.
 fn check_counts(rt: &impl Abort, spans: &Spans, most: u64) {
     let (probes, tests) = (spans.probes(), spans.held.tests());
-    assert!(rt; probes <= most, "{probes} probes, where {most} are right");
-    assert!(rt; probes >= most.min(1), "no probe");
-    assert!(rt; tests <= 2, "{tests} tests of one pair");
+    let right = (probes.max(most.min(1)).min(most), tests.min(2));
+    same(rt, &(probes, tests), &right);
 }
 
 // Inserts a span, and compares the answer and the counts.
@@ -45,9 +50,17 @@ fn check_insert(rt: &impl Abort, spans: &mut Spans, one: &Insertion) -> Result<(
     if span.len == 0 || span.end() > 1 << 64 {
         return Err("a span that has no place".into());
     }
-    let given = spans.try_insert(span, one.tag)?;
-    assert_eq!(rt; given, one.insert, "at the span from {} on", one.start);
+    let given = (one.start, spans.try_insert(span, one.tag)?);
+    same(rt, &given, &(one.start, one.insert));
     check_counts(rt, spans, one.most);
+    Ok(())
+}
+
+// Inserts spans, one after the other.
+fn check_inserts(rt: &impl Abort, spans: &mut Spans, all: &[Insertion]) -> Result<(), Fail> {
+    for one in all {
+        check_insert(rt, spans, one)?;
+    }
     Ok(())
 }
 
@@ -55,7 +68,7 @@ fn check_insert(rt: &impl Abort, spans: &mut Spans, one: &Insertion) -> Result<(
 fn check_find(rt: &impl Abort, spans: &mut Spans, one: &LookUp) {
     let given = spans.find(one.place);
     let found = given.map(|(span, tag)| (span.start, span.len, tag));
-    assert_eq!(rt; found, one.found, "at the place {}", one.place);
+    same(rt, &(one.place, found), &(one.place, one.found));
     check_counts(rt, spans, one.most);
 }
 
@@ -101,11 +114,9 @@ const SORTED_FINDS: &[LookUp] = &[
 #[test]
 fn sorted_spans(rt: HostRuntime) -> Result<(), Fail> {
     let mut spans = Spans::new(rt.alloc());
-    assert_eq!(rt; (spans.len(), spans.probes()), (0, 0));
-    for insertion in SORTED {
-        check_insert(&rt, &mut spans, insertion)?;
-    }
-    assert_eq!(rt; spans.len(), 3);
+    same(&rt, &(spans.len(), spans.probes()), &(0, 0));
+    check_inserts(&rt, &mut spans, SORTED)?;
+    same(&rt, &spans.len(), &3);
     for look_up in SORTED_FINDS {
         check_find(&rt, &mut spans, look_up);
     }
@@ -125,9 +136,7 @@ const AROUND: &[Insertion] = &[
 #[test]
 fn spans_around_a_gap(rt: HostRuntime) -> Result<(), Fail> {
     let mut spans = Spans::new(rt.alloc());
-    for insertion in AROUND {
-        check_insert(&rt, &mut spans, insertion)?;
-    }
+    check_inserts(&rt, &mut spans, AROUND)?;
     check_find(&rt, &mut spans, &look_up!(199, Some((100, 100, 3)), 2));
     Ok(())
 }
@@ -142,6 +151,16 @@ fn check_one_of_many(rt: &impl Abort, spans: &mut Spans, tag: u64)
     check_find(rt, spans, &look_up!(3 * tag + 2, None, 10));
 }
 
+// Spans at both ends and in the middle of a thousand, of which each has a place between two of them, or more.
+const BETWEEN: &[Insertion] = &[
+    insertion!(1, 2, 1000, Overlap, 10),
+    insertion!(2, 1, 1001, Added, 10),
+    insertion!(1501, 2, 1000, Overlap, 10),
+    insertion!(1502, 1, 1001, Added, 10),
+    insertion!(2998, 2, 1000, Overlap, 10),
+    insertion!(2999, 1, 1001, Added, 10),
+];
+
 #[test]
 fn many_spans(rt: HostRuntime) -> Result<(), Fail> {
     let mut spans = Spans::new(rt.alloc());
@@ -150,22 +169,11 @@ fn many_spans(rt: HostRuntime) -> Result<(), Fail> {
         let digits = 64 - u64::from(held.leading_zeros());
         check_insert(&rt, &mut spans, &insertion!(3 * tag, 2, tag, Added, digits))?;
     }
-    assert_eq!(rt; spans.len(), 1000);
+    same(&rt, &spans.len(), &1000);
     for tag in 0..1000 {
         check_one_of_many(&rt, &mut spans, tag);
     }
-    for tag in [0, 500, 999] {
-        check_insert(
-            &rt,
-            &mut spans,
-            &insertion!(3 * tag + 1, 2, 1000, Overlap, 10),
-        )?;
-        check_insert(
-            &rt,
-            &mut spans,
-            &insertion!(3 * tag + 2, 1, 1001, Added, 10),
-        )?;
-    }
-    assert_eq!(rt; spans.len(), 1003);
+    check_inserts(&rt, &mut spans, BETWEEN)?;
+    same(&rt, &spans.len(), &1003);
     Ok(())
 }
