@@ -3,6 +3,7 @@
 ghost use Rattle.std.specs.Prelude.{◌≡◌, ◌+◌, ◌≤◌, ◌⊎◌, length, if◌then◌else◌};
 ghost use Rattle.std.specs.Option.{option_map, unwrap_or};
 ghost use Rattle.macho_fields.specs.Bytes.{bytes_of};
+ghost use Rattle.macho_fields.specs.First.{IsUnbroken};
 ghost use Rattle.macho_fields.specs.Image.{word, commands_of};
 ghost use Rattle.macho_fields.specs.Segment.{base_of};
 ghost use Rattle.macho_fields.specs.declared.header.loader.TheConstants.{LC_DYSYMTAB};
@@ -12,7 +13,7 @@ ghost use Rattle.macho_c.specs.Builds.{builds_in};
 ghost use Rattle.macho_c.specs.Commands.{commands_in};
 ghost use Rattle.macho_c.specs.Libraries.{libraries_in};
 ghost use Rattle.macho_c.specs.Segments.{segments_seen};
-ghost use Rattle.macho_c.specs.Image.{IsAnswer, IsSliceAnswer, Breaks, Shows, ShowsNothing};
+ghost use Rattle.macho_c.specs.Image.{IsAnswer, IsSliceAnswer, Breaks, Shows, ShowsNothing, ShowsUnbroken};
 ghost use Rattle.macho_c.specs.Image.{only, uuid_in, symtab_in, dysymtab_in, field_of};
 ghost use Rattle.macho_c.specs.Image.{bit as bit_of, groups_at as groups_in, no_groups};
 
@@ -87,7 +88,8 @@ pub struct KesvuotImage<'a> {
 /// `REFUSED` where no accepted file has these bytes.
 #[unsafe(no_mangle)]
 pub extern "C" fn kesvuot_image<'a>(file: &'a [u8], slice: u64, image: &mut KesvuotImage<'a>) -> u32
-    ensures { IsAnswer file.now slice result image.new }
+    ensures answer { IsAnswer file.now slice result image.new }
+    ensures unbroken { IsUnbroken file.now → (result ≡ OK) → ShowsUnbroken image.new }
 {
     *image = no_image();
     let bytes = Bytes::new(file);

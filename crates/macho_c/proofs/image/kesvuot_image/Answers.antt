@@ -1,10 +1,14 @@
-use Rattle.std.proofs.Common.{◌≡◌, ℕ, List, Some, slice_get, inl, inr, refl, sym, subst, ap, ◌∙◌}
+use Rattle.std.proofs.Common.{◌≡◌, ℕ, List, None, Some, slice_get, inl, inr, refl, sym, subst, ap, ◌∙◌, arith}
 use Rattle.macho_fields.specs.Bytes.{bytes_of}
 use Rattle.macho_fields.specs.First.{IsUnbroken}
+use Rattle.macho_fields.specs.Layers.{NothingBreaks}
+use Rattle.macho_fields.specs.Rules.{BreaksImage}
 use Rattle.macho_fields.specs.Universal.{FileSlice, slices_of}
 use Rattle.macho_fat.specs.Slices.{slice_of}
-use Rattle.macho_c.specs.Image.{IsAnswer, IsSliceAnswer}
+use Rattle.macho_rules.proofs.Verdicts.{file_keeps}
+use Rattle.macho_c.specs.Image.{IsAnswer, IsSliceAnswer, Shows, ShowsUnbroken}
 use Rattle.macho_c.specs.declared.image.KesvuotImage.{KesvuotImage}
+use Rattle.macho_c.specs.declared.status.TheConstants.{OK}
 use Rattle.macho_c.proofs.BadSlices.{broken_file, bad}
 use Rattle.macho_c.proofs.image.kesvuot_image.Goals as goal
 
@@ -15,8 +19,21 @@ answered file k slice status row at answer = elim answer [
   | inr (inr (refused, is_bad, nothing)) ↦ inr (inr (inr (refused, bad file k slice at is_bad, nothing)))
 ]
 
-pub returns-in-Ok-Some : goal.returns-in-Ok-Some
-returns-in-Ok-Some c =
+-- what is shown of an accepted file breaks no rule
+shown : (file : List ℕ) (index status : ℕ) (row : KesvuotImage) → IsAnswer file index status row → IsUnbroken file → status ≡ OK → ShowsUnbroken row
+shown file index status row answer unbroken ok = elim answer [
+  | inl (same, slice, at, read) ↦
+      let (inside, image, shows) = read in
+      let there : Shows row.bytes.now slice.start row = subst (λ bytes. Shows bytes slice.start row) (sym shows.bytes) shows in
+      let here : Shows row.bytes.now row.place row = subst (λ place. Shows row.bytes.now place row) (sym shows.place) there in
+      (here, None, subst (λ bytes. NothingBreaks (BreaksImage bytes None)) (sym shows.bytes) (file_keeps file unbroken index slice (sym at) image))
+  | inr (inl (unread, slice, at, outside)) ↦ absurd (omega (arith, unread, ok))
+  | inr (inr (inl (none, missing, nothing))) ↦ absurd (omega (arith, none, ok))
+  | inr (inr (inr (refused, broken, nothing))) ↦ absurd (omega (arith, refused, ok))
+]
+
+pub returns-in-Ok-Some-clause-answer : goal.returns-in-Ok-Some-clause-answer
+returns-in-Ok-Some-clause-answer c =
     let file = c.args.file.now in
     let slice = slice_of c.in-Ok-Some.slice in
     let given = rw c.in-Ok-Some.field-0-is at c.in-Ok-Some.ensures.slice in
@@ -24,8 +41,11 @@ returns-in-Ok-Some c =
     answered file c.args.slice slice c.read_slice.result c.read_slice.new.image at
     (subst (λ bytes. IsSliceAnswer bytes slice c.read_slice.result c.read_slice.new.image) c.new-bytes.ensures c.read_slice.ensures)
 
-pub returns-in-Err : goal.returns-in-Err
-returns-in-Err c =
+pub returns-in-Ok-Some-clause-unbroken : goal.returns-in-Ok-Some-clause-unbroken
+returns-in-Ok-Some-clause-unbroken c = shown c.args.file.now c.args.slice c.read_slice.result c.read_slice.new.image (returns-in-Ok-Some-clause-answer c)
+
+pub returns-in-Err-clause-answer : goal.returns-in-Err-clause-answer
+returns-in-Err-clause-answer c =
     let least = rw c.in-Err.is at c.slice_at.ensures.decides in
     let broken : ¬ IsUnbroken c.args.file.now = subst (λ bytes. ¬ IsUnbroken bytes) c.new-bytes.ensures (broken_file (bytes_of c.new-bytes.result) c.in-Err.field-0 least) in
     inr (inr (inr (refl, broken, c.no_image.ensures)))
