@@ -123,7 +123,7 @@ def judge_texts(report):
         (name, answer(data), (0, layout.decode())) for name, data, layout in oracle_trials.read_real()))
 
 
-# What the views give, as tests/reads shows what those of the proved crates give
+# What the views give
 
 
 def shown(data):
@@ -226,7 +226,7 @@ def read_of_address(file, image, address):
 
 
 def compare_reads(report, all_kinds):
-    """The texts are written by hand: tests/reads says from what."""
+    """The texts are written by hand: tests/library says from what."""
     real = {name: data for name, data, _ in oracle_trials.read_real()}
     for name, data, index, path in (
             ("the file of all kinds", all_kinds, 0, "all-kinds.reads"),

@@ -2,11 +2,9 @@
 //! The program that scripts of `tests/` run. Its first word says what is done with those after it:
 //!
 //! - `judge` judges files twice: `judge`;
-//! - `call NAME LIMIT` makes one call that may answer want of memory: `refusals`;
-//! - `read SLICE ADDRESS..` prints what the calls of `macho_verified` give: `reads`.
+//! - `call NAME LIMIT` makes one call that may answer want of memory: `refusals`.
 
 mod judge;
-mod reads;
 mod refusals;
 
 use std::alloc::Global;
@@ -29,7 +27,6 @@ fn status_of(rt: &HostRuntime, mut words: Args<Global>) -> u8 {
     match word.as_deref() {
         Some("judge") => judge::judge(rt),
         Some("call") => refusals::call(rt, words),
-        Some("read") => reads::read(rt, words),
         _ => NOTHING_DONE,
     }
 }

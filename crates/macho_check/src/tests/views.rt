@@ -1,4 +1,4 @@
-//! Views of an opened image. `tests/reads` and `tests/oracle` compare the other ones.
+//! Views of an opened image. `tests/library` and `tests/oracle` compare the other ones.
 
 use super::same;
 use crate::notation::{executable, written};
