@@ -1,4 +1,4 @@
--- What the strict rules promise of a file: no byte is unaccounted for, and none is used twice.
+-- What the strict rules promise of a file: every nonzero byte is accounted for, and no byte belongs to two parts.
 use Rattle.std.specs.Prelude.{◌≡◌, ℕ, ◌<◌, ◌⊎◌, List, slice_get, Some, All}
 use Rattle.macho_fields.specs.NonZero.{IsNonZero}
 use Rattle.macho_spans.specs.Span.{Holds}

@@ -1,6 +1,6 @@
 #![tactic(auto)]
-//! A strict verdict on a file that breaks no rule: no byte that is not zero is unaccounted for, and none
-//! is used twice.
+//! A strict verdict on a file that breaks no rule: every nonzero byte is accounted for, and no byte
+//! belongs to two parts.
 
 mod check;
 pub mod elements;
