@@ -91,7 +91,7 @@ class Progress:
 
     def __init__(self, total: int) -> None:
         self.total = total
-        self.is_shown = sys.stderr.isatty() and total > 0
+        self.is_shown = sys.stderr is not None and sys.stderr.isatty() and total > 0
 
     def show(self, done: int) -> None:
         if self.is_shown:
@@ -117,6 +117,20 @@ def print_table(verdicts: List[Verdict]) -> None:
     widths = [max(map(len, column)) for column in zip(*rows)]
     for row in rows:
         print("  ".join(cell.ljust(width) for cell, width in zip(row, widths)).rstrip())
+
+
+def say(text: str) -> None:
+    """Writes a line to standard error, if it takes one: the status says the same."""
+    try:
+        if sys.stderr is not None:
+            print(text, file=sys.stderr, flush=True)
+    except OSError:
+        discard(2)
+
+
+def discard(descriptor: int) -> None:
+    """Whatever is not yet written goes nowhere when Python ends, instead of failing again."""
+    os.dup2(os.open(os.devnull, os.O_WRONLY), descriptor)
 
 
 def positive(word: str) -> int:
@@ -158,9 +172,8 @@ def main(words: Optional[List[str]] = None) -> int:
         sys.stdout.reconfigure(errors="backslashreplace")
         return run(given)
     except Exception as error:  # pylint: disable=broad-except # Python would end with 1, which is a refusal
-        print(f"gate: {error}", file=sys.stderr)
-        # Whatever is not yet written goes nowhere when Python ends, instead of failing again.
-        os.dup2(os.open(os.devnull, os.O_WRONLY), 1)
+        say(f"gate: {error}")
+        discard(1)
         return 2
 
 

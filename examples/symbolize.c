@@ -6,10 +6,10 @@
 //
 //     0xADDRESS SYMBOL + 0xOFFSET (SEGMENT,SECTION)
 //
-// with the symbol of that section which is nearest before the address or at it. Of several it is the last one in the
+// with the section's symbol whose address is the greatest that is not above ADDRESS; among equals, the last in the
 // table. `0xADDRESS ? (SEGMENT,SECTION)` says that there is none, `0xADDRESS ?` that no section has the address.
 //
-//     cc -std=c99 -O2 -Ibindings/c -o symbolize examples/symbolize.c build/lib/libkesvuot.a
+//     cc -std=c99 -O2 -Ibindings/c -o build/symbolize examples/symbolize.c build/lib/libkesvuot.a
 //
 // The file may be from a stranger. The library judges it once. After that nothing here tests an offset, a count or an
 // index of the file: a comment says which rule of docs/RULES.md makes that right.

@@ -24,7 +24,6 @@ import tempfile
 import threading
 import time
 import weakref
-from collections import Counter
 from pathlib import Path
 from types import SimpleNamespace
 
@@ -602,10 +601,14 @@ def judge_exceptions(report, data):
     for kind, given in strange.items():
         report.case(f"{kind} is no file", raised(TypeError, lambda given=given: kesvuot.verify(given)), True)
     file = kesvuot.verify(data)
+    report.case("what is shown of parts", (repr(file), repr(file.images), repr(file.images[0].symbols[1:3])),
+                ("<kesvuot.File of 12528 bytes, 1 slices>", "(<kesvuot.Image 0, x86_64, 12528 bytes>,)",
+                 "<kesvuot.Table of 2 rows>"))
     report.case("the kinds of sections", [section.zero_fill is True for section in file.images[0].sections],
                 [False, False, False, True])
     report.case("the place of other bytes", raised(ValueError, lambda: file.place(memoryview(bytes(data[:64])))), True)
     report.case("the place of the last byte", file.place(file.data[-1:]), len(data) - 1)
+    report.case("the place of no bytes", raised(ValueError, lambda: file.place(file.data[:0])), True)
     report.case("the names of a view", (file.images[0].segments[1].name == b"__TEXT", file.images[0].arch,
                                         {file.images[0].segments[1].name: 1}.get(b"__TEXT")), (True, "x86_64", 1))
 
@@ -656,7 +659,7 @@ def judge_threads(report):
 
     before = sys.getswitchinterval()
     sys.setswitchinterval(1000)
-    other = threading.Thread(target=work)
+    other = threading.Thread(target=work, daemon=True)
     other.start()
     while count == 0:
         time.sleep(0.001)

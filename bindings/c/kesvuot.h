@@ -12,13 +12,16 @@
  *
  * Every call is safe on any bytes, and on any numbers in the structures below. It trusts no earlier call: neither that
  * kesvuot_verify accepted the file, nor that a structure is still as kesvuot_image wrote it. What would lie outside the
- * bytes is left empty. What the verdict adds is that nothing is left empty, and what RULES.md says of each part.
+ * bytes is left empty. In an accepted file nothing is left empty, and each part is as RULES.md says.
  *
  * What you have to ensure:
  * - Each pointer is valid, for as many bytes or rows as you say. It may be null only beside the size or count 0.
  * - What a call writes to overlaps nothing that it reads.
  * - The bytes of the file stay for as long as you use what was read from them: every `struct kesvuot_bytes` that a call
  *   writes points into the file, or to a constant of the library. Nothing is copied, and there is nothing to free.
+ *
+ * A program runs with each library of the soname that it was linked with. Rules are numbered in the order of judgment.
+ * A version with one more rule may number them anew, and then has another soname: store names of rules, not numbers.
  *
  * No call keeps state, prints, or ends the process, and any threads may call at once. Only kesvuot_verify and
  * kesvuot_verify_strictly take memory, by malloc and realloc, and they give it back before they return.
@@ -113,8 +116,8 @@ struct kesvuot_verdict {
  * is, at `place`. NO_MEMORY: there is no verdict. The fields that this does not name are 0. */
 uint32_t kesvuot_verify(const void *file, size_t size, struct kesvuot_verdict *verdict);
 
-/* The same, by the rules of the strict profile too: no byte that is not zero is unaccounted for, and none is used
- * twice. Whatever is OK here is OK for kesvuot_verify. */
+/* The same, by the rules of the strict profile too: every nonzero byte is accounted for, and no byte belongs to two
+ * parts. Whatever is OK here is OK for kesvuot_verify. */
 uint32_t kesvuot_verify_strictly(const void *file, size_t size, struct kesvuot_verdict *verdict);
 
 /* The name of a rule, such as "section-file". A zero byte follows it in memory, which len does not count.
@@ -245,13 +248,16 @@ size_t kesvuot_symbols(const struct kesvuot_image *image, uint64_t first, struct
 /* The indirect symbol table: the index of a symbol, or INDIRECT_SYMBOL_LOCAL or INDIRECT_SYMBOL_ABS or both. */
 size_t kesvuot_indirects(const struct kesvuot_image *image, uint64_t first, uint32_t *rows, size_t max);
 
-/* The data of the first linkedit_data_command with this cmd: LC_CODE_SIGNATURE, LC_FUNCTION_STARTS and so on.
+/* The data of the first linkedit_data_command with this cmd: LC_CODE_SIGNATURE (0x1d), LC_FUNCTION_STARTS (0x26) and so
+ * on.
  * OK: all datasize bytes from dataoff on. If datasize is 0, these are none, wherever dataoff is.
- * NONE: the image has no such command, or cmd is of another structure. */
+ * NONE: the image has no such command, or cmd is of another structure; in a file that was not accepted also where the
+ * data ends past the image, or its headers break a rule. */
 uint32_t kesvuot_linkedit(const struct kesvuot_image *image, uint32_t cmd, struct kesvuot_bytes *data);
 
 /* What is at an address, before any slide. OK: the bytes from there to the end of what its segment has in the file.
- * ZERO: the segment has the address, but the file no byte for it. NONE: no segment has the address. */
+ * ZERO: the segment has the address, but the file no byte for it. NONE: no segment has the address; in a
+ * file that was not accepted also where the headers break a rule. */
 uint32_t kesvuot_at(const struct kesvuot_image *image, uint64_t address, struct kesvuot_bytes *bytes);
 
 /* Where bytes of an image, of which len is not 0, begin in the file. */
@@ -259,8 +265,8 @@ static inline uint64_t kesvuot_place(const struct kesvuot_image *image, struct k
     return image->place + ((uint64_t)(uintptr_t)bytes.at - (uint64_t)(uintptr_t)image->bytes.at);
 }
 
-/* The library has the same layout, and is for 64-bit machines. C99 has no way to say so. */
-#if defined(__cplusplus) || (defined(__STDC_VERSION__) && __STDC_VERSION__ >= 201112L)
+/* The library has the same layout, and is for 64-bit machines. C99 and C++98 have no way to say so. */
+#if (defined(__cplusplus) && __cplusplus >= 201103L) || (defined(__STDC_VERSION__) && __STDC_VERSION__ >= 201112L)
 #ifdef __cplusplus
 #define KESVUOT_HOLDS(condition) static_assert(condition, #condition)
 #else

@@ -15,15 +15,20 @@
 read-only memoryviews of it. Nothing is copied, and `data` lives for as long as a view of it does. A view compares with
 bytes, as in `segment.name == b"__TEXT"`.
 
-THE BYTES MUST NOT CHANGE WHILE A CALL RUNS, or the process may crash. A call holds the GIL, so other threads of Python
-cannot change them. Other programs can, in a file that is mapped: read the files of strangers into memory, or map only
-what nobody else can write to or cut. If the bytes change after the verdict, every call is still safe, but the verdict
-says nothing about the new bytes.
+THE BYTES MUST NOT CHANGE WHILE A CALL RUNS, or the process may crash. Nobody can change `bytes`. A call holds the GIL,
+so Python code in other threads cannot change a bytearray meanwhile; but `readinto`, `recv_into` or numpy can, which
+release the GIL, and so can any thread of a Python without one. Other programs can change a file that is mapped: read
+the files of strangers into memory, or map only what nobody else can write to or cut. If the bytes change after the
+verdict, every call is still safe, but the verdict says nothing about the new bytes.
 
     python3 -m kesvuot FILE..
 
-judges files; `--help` shows how. The library comes from the folder KESVUOT_LIB_DIR if that is set, otherwise from the
-folder of this file or from where the system finds it.
+judges files; `--help` shows how. With `--json` each file gives an object with "file" and "verdict": "accepted", with
+"slices"; "refused", with "rule" and "place"; or null, with "error". A slice has "place", "size", "arch" and "is_read",
+and if it is read also what `Image` has, under the same names.
+
+The library comes from the folder KESVUOT_LIB_DIR if that is set, otherwise from the folder of this file or from where
+the system finds it. The module needs CPython 3.8 or later.
 """
 
 from __future__ import annotations
@@ -280,6 +285,9 @@ class Table(Sequence[Row]):
         self._read = read
         self._indices = indices
 
+    def __repr__(self) -> str:
+        return f"<kesvuot.Table of {len(self)} rows>"
+
     def __len__(self) -> int:
         return len(self._indices)
 
@@ -312,6 +320,9 @@ class Slice:
         self.cputype: int
         self.cpusubtype: int
         self.cputype, self.cpusubtype = fields[16:18]
+
+    def __repr__(self) -> str:
+        return f"<kesvuot.{type(self).__name__} {self.index}, {self.arch}, {len(self.bytes)} bytes>"
 
     @property
     def arch(self) -> str:
@@ -432,6 +443,9 @@ class File:
         self.slice_count = slice_count
         self._data = data
 
+    def __repr__(self) -> str:
+        return f"<kesvuot.File of {len(self.data)} bytes, {self.slice_count} slices>"
+
     @cached_property
     def slices(self) -> Tuple[Slice, ...]:
         """The slices, in the order of the universal table. Any other file is one slice."""
@@ -443,10 +457,10 @@ class File:
         return tuple(part for part in self.slices if isinstance(part, Image))
 
     def place(self, part: memoryview) -> int:
-        """Where a part of this file, such as a name, begins in it."""
+        """Where a part of this file, such as a name, begins in it. An empty part begins nowhere."""
         place = _address(part) - self._data.address
-        if not 0 <= place <= len(self.data) - part.nbytes:
-            raise ValueError("these bytes are not of this file")
+        if not part.nbytes or not 0 <= place <= len(self.data) - part.nbytes:
+            raise ValueError("these bytes are empty, or not of this file")
         return place
 
     def layout(self) -> str:
@@ -640,12 +654,26 @@ def _words() -> argparse.ArgumentParser:
     return parser
 
 
+def _say(text: str) -> None:
+    """Writes a line to standard error, if it takes one: the status says the same."""
+    try:
+        if sys.stderr is not None:
+            print(f"kesvuot: {text}", file=sys.stderr, flush=True)
+    except OSError:
+        _discard(2)
+
+
+def _discard(descriptor: int) -> None:
+    """Whatever is not yet written goes nowhere when Python ends, instead of failing again."""
+    os.dup2(os.open(os.devnull, os.O_WRONLY), descriptor)
+
+
 def _report(path: str, words: argparse.Namespace) -> int:
     """Judges a file, and prints what is asked for."""
     outcome = _judge(path, words.strict)
     status = _status(outcome)
     if status == NO_VERDICT_STATUS:
-        print(f"kesvuot: {_shown(path)}: {_reason(outcome)}", file=sys.stderr)
+        _say(f"{_shown(path)}: {_reason(outcome)}")
     if words.form is _text and len(words.files) > 1:
         print(f"{_shown(path)}:")
     if status != NO_VERDICT_STATUS or words.form is _json:
@@ -669,11 +697,10 @@ def main(words: Optional[List[str]] = None) -> int:
         library_version()
         return _report_all(arguments)
     except OSError:
-        print("kesvuot: write failed", file=sys.stderr)
-        # Whatever is not yet written goes nowhere when Python ends, instead of failing again.
-        os.dup2(os.open(os.devnull, os.O_WRONLY), 1)
+        _say("write failed")
+        _discard(1)
     except Exception as error:  # pylint: disable=broad-except # Python would end with 1, which is a refusal
-        print(f"kesvuot: {str(error) or 'out of memory'}", file=sys.stderr)
+        _say(str(error) or "out of memory")
     return NO_VERDICT_STATUS
 
 

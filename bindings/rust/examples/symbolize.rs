@@ -7,9 +7,9 @@
 //!
 //!     0xADDRESS SYMBOL + 0xOFFSET (SEGMENT,SECTION)
 //!
-//! with the symbol of that section which is nearest before the address or at it. Of several it is
-//! the last one in the table. `0xADDRESS ? (SEGMENT,SECTION)` says that there is none, `0xADDRESS
-//! ?` that no section has the address.
+//! with the section's symbol whose address is the greatest that is not above ADDRESS; among equals,
+//! the last in the table. `0xADDRESS ? (SEGMENT,SECTION)` says that there is none, `0xADDRESS ?`
+//! that no section has the address.
 //!
 //!     cd bindings/rust
 //!     KESVUOT_LIB_DIR=../../build/lib cargo run --example symbolize FILE ADDRESS..
@@ -19,7 +19,9 @@
 //! right.
 
 use std::error::Error;
+use std::ffi::OsString;
 use std::io::{self, Write};
+use std::path::Path;
 use std::process::ExitCode;
 use std::{env, fmt, fs};
 
@@ -111,15 +113,16 @@ impl fmt::Display for Name<'_> {
 }
 
 /// Reads an address. `from_str_radix` alone would take a sign as well.
-fn read_address(word: &str) -> Result<u64, String> {
-    let digits = word.strip_prefix("0x").unwrap_or(word);
+fn read_address(word: &OsString) -> Result<u64, String> {
+    let word = word.to_string_lossy();
+    let digits = word.strip_prefix("0x").unwrap_or(&word);
     match u64::from_str_radix(digits, 16) {
         Ok(address) if !digits.starts_with('+') => Ok(address),
         _ => Err(format!("{word}: not an address")),
     }
 }
 
-fn print_lines(path: &str, addresses: &[u64]) -> Result<(), Box<dyn Error>> {
+fn print_lines(path: &Path, addresses: &[u64]) -> Result<(), Box<dyn Error>> {
     let file = fs::read(path)?;
     let verified = kesvuot::verify(&file)?;
     // fat-empty: some slice is read.
@@ -139,12 +142,12 @@ fn fail(status: u8, why: &str) -> ExitCode {
 }
 
 fn main() -> ExitCode {
-    let words: Vec<String> = env::args().skip(1).collect();
+    let words: Vec<OsString> = env::args_os().skip(1).collect();
     let (path, words) = match words.split_first() {
-        Some((path, words)) if !words.is_empty() => (path, words),
+        Some((path, words)) if !words.is_empty() => (Path::new(path), words),
         _ => return fail(2, "usage: symbolize FILE ADDRESS.."),
     };
-    let addresses: Vec<u64> = match words.iter().map(|word| read_address(word)).collect() {
+    let addresses: Vec<u64> = match words.iter().map(read_address).collect() {
         Ok(addresses) => addresses,
         Err(why) => return fail(2, &why),
     };
@@ -152,7 +155,10 @@ fn main() -> ExitCode {
         Ok(()) => ExitCode::SUCCESS,
         Err(error) => {
             let is_refused = matches!(error.downcast_ref(), Some(kesvuot::Error::Refused { .. }));
-            fail(if is_refused { 1 } else { 2 }, &format!("{path}: {error}"))
+            fail(
+                if is_refused { 1 } else { 2 },
+                &format!("{}: {error}", path.display()),
+            )
         }
     }
 }

@@ -6,6 +6,7 @@ use crate::Rule;
 
 /// Why a file is not accepted.
 #[derive(Clone, Copy, Debug, PartialEq, Eq, Hash)]
+#[non_exhaustive]
 pub enum Error {
     /// The file breaks a rule.
     Refused {

@@ -62,8 +62,8 @@ pub fn verify(file: &[u8]) -> Result<Verified<'_>, Error> {
     Verified::new(file, ffi::verify(file))
 }
 
-/// Judges a file by the rules of the strict profile too: no byte that is not zero is unaccounted
-/// for, and none is used twice. Whatever is accepted here is accepted by [`verify`].
+/// Judges a file by the rules of the strict profile too: every nonzero byte is accounted for, and
+/// no byte belongs to two parts. Whatever is accepted here is accepted by [`verify`].
 ///
 /// # Errors
 ///
