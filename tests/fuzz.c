@@ -57,12 +57,12 @@ enum accepted { REFUSED = 0, ACCEPTED, ACCEPTED_STRICTLY };
 
 __attribute__((section("__libfuzzer_extra_counters"))) static uint8_t counters[64 * 64];
 
-enum { TABLES = 40, STRICT = 48, SLICES, IMAGE, AT, LINKEDIT };
+enum { TABLES = 40, SLICES = 49, IMAGE, AT, LINKEDIT };
 
 // Counts the kind with the number of digits.
 static void reach(unsigned kind, uint64_t number) {
-    unsigned digits = number == 0 ? 0 : 63 - (unsigned)__builtin_clzll(number);
-    counters[64 * kind + digits] = 1;
+    unsigned digits = number == 0 ? 0 : 64 - (unsigned)__builtin_clzll(number);
+    counters[64 * kind + (digits < 64 ? digits : 63)] = 1;
 }
 
 // Bytes that are handed out

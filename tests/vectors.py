@@ -80,12 +80,13 @@ def read_text(text: str) -> list[Vector]:
 
 def judge_data(program: str) -> None:
     """All vectors have the verdict that stands there, both verdicts agree, and each rule is the first broken one of as
-    many files as a second program has counted."""
+    many files as tests/vectors.figures says."""
     total: Counter[str] = Counter()
     wanted = {name: counts for name, *counts in FIGURES}
     for path in sorted(DATA.glob("*.txt")):
         vectors = read_vectors(path)
         if vectors[0].is_strict:
+            case(f"the vectors of {path.name}", [f"{len(vectors)}"], wanted.pop(path.name, "no line"))
             continue
         judged = judge(program, vectors)
         total += judged.verdicts
