@@ -25,7 +25,7 @@ verdict, every call is still safe, but the verdict says nothing about the new by
 
 judges files; `--help` shows how. With `--json` each file gives an object with "file" and "verdict": "accepted", with
 "slices"; "refused", with "rule" and "place"; or null, with "error". A slice has "place", "size", "arch" and "is_read",
-and if it is read also what `Image` has, under the same names.
+and if it is read also the fields of `Image`, "builds", "segments", "libraries", and in "symbols" how many there are.
 
 The library comes from the folder KESVUOT_LIB_DIR if that is set, otherwise from the folder of this file or from where
 the system finds it. The module needs CPython 3.8 or later.
