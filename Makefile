@@ -41,7 +41,8 @@ install: built
 	install -m 644 build/lib/libkesvuot.a build/lib/libkesvuot.so.0 $(TO_LIB)
 	ln -sf libkesvuot.so.0 $(TO_LIB)/libkesvuot.so
 	sed -e 's|@PREFIX@|$(PREFIX)|; s|@LIBDIR@|$(LIBDIR)|; s|@INCLUDEDIR@|$(INCLUDEDIR)|' \
-	    -e 's|^\([a-z]*dir\)=$(PREFIX)/|\1=$${prefix}/|' -e "s|@VERSION@|$$(cat VERSION)|" packaging/kesvuot.pc.in >$(TO_LIB)/pkgconfig/kesvuot.pc
+	    -e 's|^\([a-z]*dir\)=$(PREFIX)/|\1=$${prefix}/|' -e "s|@VERSION@|$$(cat VERSION)|" \
+	    packaging/kesvuot.pc.in >$(TO_LIB)/pkgconfig/kesvuot.pc
 	chmod 644 $(TO_LIB)/pkgconfig/kesvuot.pc
 	install -m 644 bindings/c/kesvuot.h $(TO_INCLUDE)
 	install -m 644 bindings/python/kesvuot.py $(TO_PYTHON)

@@ -25,10 +25,12 @@ fn link_from(folder: &Path) -> Result<(), String> {
     let folder =
         fs::canonicalize(folder).map_err(|error| format!("{}: {error}", folder.display()))?;
     let archive = folder.join("libkesvuot.a");
-    let kind = match folder.join("libkesvuot.so").exists() {
-        _ if archive.exists() => "static",
-        true => "dylib",
-        false => return Err(format!("{}: there is no libkesvuot", folder.display())),
+    let kind = if archive.exists() {
+        "static"
+    } else if folder.join("libkesvuot.so").exists() {
+        "dylib"
+    } else {
+        return Err(format!("{}: there is no libkesvuot", folder.display()));
     };
     println!("cargo:rerun-if-changed={}", archive.display());
     println!("cargo:rustc-link-search=native={}", folder.display());

@@ -274,8 +274,8 @@ impl<'a> Image<'a> {
     }
 
     /// The data of the first `linkedit_data_command` with this `cmd`, such as `LC_CODE_SIGNATURE`
-    /// (0x1d): all `datasize` bytes from `dataoff` on. `None` if the image has no such command, or `cmd` is
-    /// of another structure.
+    /// (0x1d): all `datasize` bytes from `dataoff` on. `None` if the image has no such command, or
+    /// `cmd` is of another structure.
     #[must_use]
     pub fn linkedit(&self, cmd: u32) -> Option<&'a [u8]> {
         let (status, data) = ffi::linkedit(&self.raw, cmd);
