@@ -4,10 +4,10 @@ ghost use Rattle.std.specs.Prelude.{◌≤◌};
 ghost use Rattle.std.specs.Process.{exit_status};
 
 use crate::files::SystemFiles;
-use crate::program::{run_tool, tool_without_memory};
+use crate::program::{Found, ProgramFault, run_tool, tool_without_memory};
 use crate::status::exit_code;
 use crate::tools::Tool;
-use macho_report::{FromRead, FromWrite, Judge};
+use macho_report::{Flush, FromRead, FromWrite, Judge, Output};
 use std::io::{BufWriter, ErrorKind, Read, Write};
 use std::process::ExitCode;
 use std::rt::{Env, Files};
@@ -31,24 +31,41 @@ pub fn run_process<J: Judge, S: Env + Files + AllocGlobal, R: Read, W: Write + D
     let Ok(mut stdout) = BufWriter::with_capacity(system.alloc(), OUTPUT_BUFFER, stdout) else {
         return exit_code(&tool_without_memory(tool.name, &mut errors));
     };
-    let words = match words_of(system) {
-        Err(error) if error.kind() == ErrorKind::OutOfMemory => {
-            return exit_code(&tool_without_memory(tool.name, &mut errors));
-        }
-        words => words.ok(),
-    };
-    let ended = run_tool(
-        system.alloc(),
+    let ended = run_on_words(
+        system,
         tool,
-        words.as_ref().map(|words| words.as_slice()),
-        &SystemFiles { system },
-        &mut FromRead::new(stdin),
+        stdin,
         &mut FromWrite::new(&mut stdout),
         &mut errors,
     );
     // What a failed write has left in the buffer is dropped here. The buffer's own drop would write it.
     let _ = stdout.into_parts();
     exit_code(&ended)
+}
+
+// The same over streams of the report's, where there is memory for the buffer.
+fn run_on_words<J: Judge, S: Env + Files + AllocGlobal, R: Read, W: Flush, E: Output>(
+    system: &S,
+    tool: &Tool<J>,
+    stdin: &mut R,
+    writer: &mut W,
+    errors: &mut E,
+) -> Result<Found, ProgramFault> {
+    let words = match words_of(system) {
+        Err(error) if error.kind() == ErrorKind::OutOfMemory => {
+            return tool_without_memory(tool.name, errors);
+        }
+        words => words.ok(),
+    };
+    run_tool(
+        system.alloc(),
+        tool,
+        words.as_ref().map(|words| words.as_slice()),
+        &SystemFiles { system },
+        &mut FromRead::new(stdin),
+        writer,
+        errors,
+    )
 }
 
 // The words of the command line, the program's name first.

@@ -1,4 +1,4 @@
-use Rattle.std.proofs.Common.{◌≡◌, ℕ, List, None, Some, slice_get, inl, inr, refl, sym, subst, ap, ◌∙◌, arith}
+use Rattle.std.proofs.Common.{◌≡◌, ℕ, List, None, Some, slice_get, inl, inr, refl, sym, subst, ap, ◌∙◌, arith, rules}
 use Rattle.macho_fields.specs.Bytes.{bytes_of}
 use Rattle.macho_fields.specs.First.{IsUnbroken}
 use Rattle.macho_fields.specs.Layers.{NothingBreaks}
@@ -49,3 +49,9 @@ returns-in-Err-clause-answer c =
     let least = rw c.in-Err.is at c.slice_at.ensures.decides in
     let broken : ¬ IsUnbroken c.args.file.now = subst (λ bytes. ¬ IsUnbroken bytes) c.new-bytes.ensures (broken_file (bytes_of c.new-bytes.result) c.in-Err.field-0 least) in
     inr (inr (inr (refl, broken, c.no_image.ensures)))
+
+pub returns-in-Ok-None-clause-answer : goal.returns-in-Ok-None-clause-answer
+returns-in-Ok-None-clause-answer c = search rules
+
+pub returns-in-Ok-None-clause-unbroken : goal.returns-in-Ok-None-clause-unbroken
+returns-in-Ok-None-clause-unbroken c = search rules

@@ -1,0 +1,5 @@
+use Rattle.std.proofs.Common.{rules}
+use Rattle.macho_program.proofs.process.run_process.Goals as goal
+
+pub returns : goal.returns
+returns c = search rules
