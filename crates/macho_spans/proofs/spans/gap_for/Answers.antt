@@ -1,4 +1,4 @@
-use Rattle.std.proofs.Common.{ℕ, ◌≡◌, ◌-◌, ◌⊎◌, true, false, sym, ◌∙◌, ap, inl, inr, arith}
+use Rattle.std.proofs.Common.{ℕ, ◌≡◌, ◌-◌, ◌⊎◌, true, false, sym, ◌∙◌, ap, inl, inr, arith, rules}
 use Rattle.std.proofs.lemmas.Bool.{false≢true, le-ltb}
 use Rattle.macho_spans.specs.declared.span.Span.{Span}
 use Rattle.macho_spans.specs.declared.spans.pairs.CountedPairs.{CountedPairs}
@@ -63,3 +63,9 @@ returns-else-after-clause-gap c =
       ],
       by,
     )
+
+pub returns-then-after-clause-tests : goal.returns-then-after-clause-tests
+returns-then-after-clause-tests c = search rules
+
+pub returns-else-after-clause-tests : goal.returns-else-after-clause-tests
+returns-else-after-clause-tests c = search rules
