@@ -7,6 +7,7 @@ BINDIR = $(PREFIX)/bin
 LIBDIR = $(PREFIX)/lib
 INCLUDEDIR = $(PREFIX)/include
 MANDIR = $(PREFIX)/share/man
+DOCDIR = $(PREFIX)/share/doc/kesvuot
 # Where python3 imports from.
 PYTHONDIR = $$(packaging/python-folder "$(PREFIX)")
 DESTDIR =
@@ -17,6 +18,7 @@ TO_BIN = "$(DESTDIR)$(BINDIR)"
 TO_LIB = "$(DESTDIR)$(LIBDIR)"
 TO_INCLUDE = "$(DESTDIR)$(INCLUDEDIR)"
 TO_MAN = "$(DESTDIR)$(MANDIR)"
+TO_DOC = "$(DESTDIR)$(DOCDIR)"
 TO_PYTHON = "$(DESTDIR)$(PYTHONDIR)"
 
 # Given no bytes, each command builds its program, if it is not current, and the program refuses them.
@@ -28,14 +30,14 @@ all: lib
 lib:
 	@packaging/library
 
-check:
+check test:
 	./test
 
 bench:
 	bench/speed
 
 install: built
-	install -d $(TO_BIN) $(TO_LIB)/pkgconfig $(TO_INCLUDE) $(TO_MAN)/man1 $(TO_MAN)/man3 $(TO_PYTHON)
+	install -d $(TO_BIN) $(TO_LIB)/pkgconfig $(TO_INCLUDE) $(TO_MAN)/man1 $(TO_MAN)/man3 $(TO_DOC) $(TO_PYTHON)
 	install -m 755 crates/macho_check/out/macho_check $(TO_BIN)/macho-check
 	install -m 755 crates/macho_strict_check/out/macho_strict_check $(TO_BIN)/macho-strict
 	install -m 644 build/lib/libkesvuot.a build/lib/libkesvuot.so.0 $(TO_LIB)
@@ -48,22 +50,23 @@ install: built
 	install -m 644 bindings/python/kesvuot.py $(TO_PYTHON)
 	install -m 644 man/macho-check.1 man/macho-strict.1 $(TO_MAN)/man1
 	install -m 644 man/kesvuot.3 $(TO_MAN)/man3
+	install -m 644 docs/RULES.md $(TO_DOC)
 
 uninstall:
 	rm -f $(TO_BIN)/macho-check $(TO_BIN)/macho-strict
 	rm -f $(TO_LIB)/libkesvuot.a $(TO_LIB)/libkesvuot.so.0 $(TO_LIB)/libkesvuot.so $(TO_LIB)/pkgconfig/kesvuot.pc
-	rm -f $(TO_INCLUDE)/kesvuot.h $(TO_PYTHON)/kesvuot.py
-	rm -f $(TO_MAN)/man1/macho-check.1 $(TO_MAN)/man1/macho-strict.1 $(TO_MAN)/man3/kesvuot.3
+	rm -f $(TO_INCLUDE)/kesvuot.h $(TO_PYTHON)/kesvuot.py $(TO_PYTHON)/__pycache__/kesvuot.*.pyc
+	rm -f $(TO_MAN)/man1/macho-check.1 $(TO_MAN)/man1/macho-strict.1 $(TO_MAN)/man3/kesvuot.3 $(TO_DOC)/RULES.md
 
 # A package of Debian, and an archive for any other system.
 deb: built
-	@package=$$(MAKE="$(MAKE)" packaging/pack deb "$(OUT)") && echo "$$package" && \
+	@package=$$(packaging/pack deb "$(OUT)") && echo "$$package" && \
 	    { ! command -v lintian >/dev/null || lintian --fail-on error "$$package"; }
 
 dist: built
-	@MAKE="$(MAKE)" packaging/pack dist "$(OUT)"
+	@packaging/pack dist "$(OUT)"
 
 built:
 	@packaging/built
 
-.PHONY: all lib check bench install uninstall deb dist built
+.PHONY: all lib check test bench install uninstall deb dist built

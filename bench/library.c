@@ -138,7 +138,9 @@ static void *room_for_rows(uint64_t count, size_t size) {
 static uint64_t all_rows(const struct file *file) {
     struct kesvuot_image image;
     uint64_t sum = 0;
-    for (uint64_t k = 0; kesvuot_image(file->bytes, file->size, k, &image) != KESVUOT_NONE; k++) {
+    uint32_t status = KESVUOT_OK;
+    for (uint64_t k = 0; status == KESVUOT_OK || status == KESVUOT_UNREAD; k++) {
+        status = kesvuot_image(file->bytes, file->size, k, &image);
         sum += READ(&image, segments, struct kesvuot_segment, segment_count);
         sum += READ(&image, sections, struct kesvuot_section, section_count);
         sum += READ(&image, libraries, struct kesvuot_library, library_count);

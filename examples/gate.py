@@ -21,7 +21,12 @@ from fnmatch import fnmatch
 from functools import partial
 from typing import Iterator, List, NamedTuple, Optional
 
-import kesvuot
+try:
+    import kesvuot
+except ImportError as missing:
+    # Python would end with 1, which is a refusal.
+    print(f"gate: {missing}", file=sys.stderr)
+    sys.exit(2)
 
 # fat.h and loader.h: universal files, and images of 64 and 32 bits in both byte orders.
 MAGICS = {bytes.fromhex(digits) for digits in ("cafebabe", "cafebabf", "cffaedfe", "feedfacf", "cefaedfe", "feedface")}
@@ -44,7 +49,8 @@ def judge(path: str, strict: bool) -> Verdict:
     try:
         if not stat.S_ISREG(os.lstat(path).st_mode):
             return Verdict(path, SKIPPED)
-        with open(path, "rb") as stream:
+        # It neither follows a link nor waits for a pipe that has come in its place.
+        with open(os.open(path, os.O_RDONLY | os.O_NOFOLLOW | os.O_NONBLOCK), "rb") as stream:
             if stream.read(4) not in MAGICS:
                 return Verdict(path, SKIPPED)
             stream.seek(0)

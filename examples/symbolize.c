@@ -82,7 +82,10 @@ static bool read_tables(struct tables *tables) {
     }
     kesvuot_segments(image, 0, tables->segments, (size_t)image->segment_count);
     kesvuot_sections(image, 0, tables->sections, (size_t)image->section_count);
-    kesvuot_symbols(image, 0, tables->symbols, (size_t)image->symbol_count);
+    // Without their names, whose ends would all be looked for: many symbols may share a long one.
+    struct kesvuot_image nameless = *image;
+    nameless.strings_size = 0;
+    kesvuot_symbols(&nameless, 0, tables->symbols, (size_t)image->symbol_count);
     sort_symbols(tables);
     return true;
 }
@@ -141,8 +144,10 @@ static void print_line(const struct tables *tables, uint64_t address) {
         symbol = symbol_at(tables, (uint64_t)(section - tables->sections) + 1, address);
     }
     if (symbol != NULL) {
+        struct kesvuot_symbol named;
+        kesvuot_symbols(&tables->image, (uint64_t)(symbol - tables->symbols), &named, 1);
         // symbol-name: the whole name is in the string table.
-        print_name(symbol->name);
+        print_name(named.name);
         printf(" + 0x%" PRIx64, address - symbol->value);
     } else {
         putchar('?');

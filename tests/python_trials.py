@@ -382,6 +382,8 @@ def compare_image(found, wanted):
                        ("sections", wanted_sections(wanted)), ("libraries", wanted_libraries(wanted)),
                        ("builds", wanted_builds(wanted)), ("symbols", wanted_symbols(wanted))):
         yield name, list(map(as_bytes, getattr(found, name))), list(rows)
+    yield "symbols without names", list(map(as_bytes, found.symbols_without_names)), [
+        (b"", *fields) for _, *fields in wanted_symbols(wanted)]
     yield "indirects", list(found.indirects), wanted_indirects(wanted)
     yield from compare_groups(found, wanted)
     # A number that is not of 32 bits is no cmd.
@@ -609,6 +611,12 @@ def judge_exceptions(report, data):
     report.case("the place of other bytes", raised(ValueError, lambda: file.place(memoryview(bytes(data[:64])))), True)
     report.case("the place of the last byte", file.place(file.data[-1:]), len(data) - 1)
     report.case("the place of no bytes", raised(ValueError, lambda: file.place(file.data[:0])), True)
+    file.data.release()
+    with file.images[0].bytes:
+        pass
+    report.case("an image after its views were released", file.images[0].at(0x100000440).tobytes(), data[0x440:0x1000])
+    report.case("a file whose view was released", repr(file), "<kesvuot.File of 12528 bytes, 1 slices>")
+    file = kesvuot.verify(data)
     report.case("the names of a view", (file.images[0].segments[1].name == b"__TEXT", file.images[0].arch,
                                         {file.images[0].segments[1].name: 1}.get(b"__TEXT")), (True, "x86_64", 1))
 

@@ -168,14 +168,19 @@ struct kesvuot_image {
  * OK: all fields are written. Those of parts that the image does not have are 0. This is no verdict on the file.
  * UNREAD: the slice is of 32 bits or big-endian. bytes, place, and cputype and cpusubtype of the universal table are
  * written, and all else is 0.
- * NONE: the file has no such slice. REFUSED: no accepted file has such bytes there. All fields are 0. */
+ * NONE: the file has no such slice. REFUSED: no accepted file has such bytes there. `bytes` is empty, and all
+ * else is 0. */
 uint32_t kesvuot_image(const void *file, size_t size, uint64_t slice, struct kesvuot_image *image);
 
 /* Tables of an image
  *
  * Each call writes the rows from the index `first` on, at most `max`, and returns how many it wrote. It leaves the rows
  * after those as they were. kesvuot_symbols and kesvuot_indirects begin at the row itself, so batches of any size cost
- * the same. Every other call goes over the load commands anew: ask for all rows, or for many, at a time. */
+ * the same. Every other call goes over the load commands anew: ask for all rows, or for many, at a time.
+ *
+ * kesvuot_symbols looks for the end of each name. In the file of a stranger many symbols may share a long name, and then
+ * all names take a time in the order of symbol_count * strings_size. In a copy of the image set strings_size to 0: its
+ * rows have no names, and take none of that time. Then ask for the few rows whose names you need. */
 
 struct kesvuot_segment { /* LC_SEGMENT_64 */
     struct kesvuot_bytes name;
@@ -223,7 +228,7 @@ struct kesvuot_build { /* build_version_command */
 
 struct kesvuot_command { /* load_command */
     struct kesvuot_bytes bytes; /* all cmdsize bytes */
-    struct kesvuot_bytes name;  /* of a library, a run path or a dynamic linker, otherwise none */
+    struct kesvuot_bytes name;  /* of a dylib_command, dylinker_command or rpath_command, otherwise none */
     uint64_t place;             /* where it begins in the slice */
     uint32_t cmd;
     uint32_t reserved;
@@ -257,13 +262,22 @@ uint32_t kesvuot_linkedit(const struct kesvuot_image *image, uint32_t cmd, struc
 
 /* What is at an address, before any slide. OK: the bytes from there to the end of what its segment has in the file.
  * ZERO: the segment has the address, but the file no byte for it. NONE: no segment has the address; in a
- * file that was not accepted also where the headers break a rule. */
+ * file that was not accepted also where the headers break a rule. Like kesvuot_linkedit, it goes over the load commands
+ * anew: for many addresses read the segments once. */
 uint32_t kesvuot_at(const struct kesvuot_image *image, uint64_t address, struct kesvuot_bytes *bytes);
+
+#ifdef __cplusplus
+#define KESVUOT_NUMBER(at) reinterpret_cast<uintptr_t>(at)
+#else
+#define KESVUOT_NUMBER(at) ((uintptr_t)(at))
+#endif
 
 /* Where bytes of an image, of which len is not 0, begin in the file. */
 static inline uint64_t kesvuot_place(const struct kesvuot_image *image, struct kesvuot_bytes bytes) {
-    return image->place + ((uint64_t)(uintptr_t)bytes.at - (uint64_t)(uintptr_t)image->bytes.at);
+    return image->place + (KESVUOT_NUMBER(bytes.at) - KESVUOT_NUMBER(image->bytes.at));
 }
+
+#undef KESVUOT_NUMBER
 
 /* The library has the same layout, and is for 64-bit machines. C99 and C++98 have no way to say so. */
 #if (defined(__cplusplus) && __cplusplus >= 201103L) || (defined(__STDC_VERSION__) && __STDC_VERSION__ >= 201112L)

@@ -25,7 +25,8 @@ verdict, every call is still safe, but the verdict says nothing about the new by
 
 judges files; `--help` shows how. With `--json` each file gives an object with "file" and "verdict": "accepted", with
 "slices"; "refused", with "rule" and "place"; or null, with "error". A slice has "place", "size", "arch" and "is_read",
-and if it is read also the fields of `Image`, "builds", "segments", "libraries", and in "symbols" how many there are.
+and if it is read also "filetype", "flags", "uuid", "base", "entry", "builds", "libraries", "segments", each with its
+"sections", and in "symbols" how many there are.
 
 The library comes from the folder KESVUOT_LIB_DIR if that is set, otherwise from the folder of this file or from where
 the system finds it. The module needs CPython 3.8 or later.
@@ -350,10 +351,10 @@ class Image(Slice):
         self.symtab = Symtab(*fields[5:9]) if has & HAS_SYMTAB else None
         self.dysymtab = Dysymtab(*fields[21:27], *fields[9:11]) if has & HAS_DYSYMTAB else None
 
-    def _read(self, kind: _Kind, first: int, count: int) -> List[Any]:
+    def _read(self, kind: _Kind, first: int, count: int, image: Any = None) -> List[Any]:
         """The rows of a kind from an index on."""
         rows = ctypes.create_string_buffer(count * kind.form.size)
-        written = getattr(_library(), kind.call)(self._image, first, rows, count)
+        written = getattr(_library(), kind.call)(self._image if image is None else image, first, rows, count)
         part, row = self._data.part, kind.row
         return [row(part, fields) for fields in kind.form.iter_unpack(memoryview(rows)[:written * kind.form.size])]
 
@@ -388,9 +389,21 @@ class Image(Slice):
 
     @property
     def symbols(self) -> Table[Symbol]:
-        """The symbols of LC_SYMTAB, none without it."""
-        count = self.symtab.nsyms if self.symtab else 0
-        return Table(lambda first, most: self._read(SYMBOLS, first, most), range(count))
+        """The symbols of LC_SYMTAB, none without it. To find where each name ends may take a time in the order of
+        nsyms * strsize in the file of a stranger, where many symbols share a long name."""
+        return Table(lambda first, most: self._read(SYMBOLS, first, most), range(self._symbol_count))
+
+    @property
+    def symbols_without_names(self) -> Table[Symbol]:
+        """The same symbols with empty names, in a time that no name adds to. `symbols[index]` has the name of one."""
+        fields = IMAGE.unpack(self._image)
+        # No strings, so no name.
+        nameless = ctypes.create_string_buffer(IMAGE.pack(*fields[:8], 0, *fields[9:]), IMAGE.size)
+        return Table(lambda first, most: self._read(SYMBOLS, first, most, nameless), range(self._symbol_count))
+
+    @property
+    def _symbol_count(self) -> int:
+        return self.symtab.nsyms if self.symtab else 0
 
     @property
     def local_symbols(self) -> Table[Symbol]:
@@ -420,7 +433,7 @@ class Image(Slice):
 
     def linkedit(self, cmd: int) -> Optional[memoryview]:
         """The data of the first linkedit_data_command with this `cmd`, such as LC_CODE_SIGNATURE (0x1d). None if there
-        is no such command."""
+        is no such command. Each call goes over the load commands."""
         data = ctypes.create_string_buffer(PART.size)
         if not 0 <= cmd < 1 << 32 or _library().kesvuot_linkedit(self._image, cmd, data) != OK:
             return None
@@ -428,7 +441,8 @@ class Image(Slice):
 
     def at(self, address: int) -> Optional[memoryview]:
         """The bytes from an address to the end of what its segment has in the file. Empty if a loader puts a zero at
-        the address, and None if no segment has it."""
+        the address, and None if no segment has it. Each call goes over the load commands: for many addresses, look them
+        up in `segments`."""
         found = ctypes.create_string_buffer(PART.size)
         if not 0 <= address < 1 << 64 or _library().kesvuot_at(self._image, address, found) == NONE:
             return None
@@ -439,12 +453,13 @@ class File:
     """A file that was accepted, as `verify` gives it. `data` is a read-only view of its bytes."""
 
     def __init__(self, data: _Bytes, slice_count: int) -> None:
-        self.data = data.view
+        # A view of its own: the images point into the bytes even where a caller has released it.
+        self.data = data.view[:]
         self.slice_count = slice_count
         self._data = data
 
     def __repr__(self) -> str:
-        return f"<kesvuot.File of {len(self.data)} bytes, {self.slice_count} slices>"
+        return f"<kesvuot.File of {len(self._data.view)} bytes, {self.slice_count} slices>"
 
     @cached_property
     def slices(self) -> Tuple[Slice, ...]:
@@ -459,7 +474,7 @@ class File:
     def place(self, part: memoryview) -> int:
         """Where a part of this file, such as a name, begins in it. An empty part begins nowhere."""
         place = _address(part) - self._data.address
-        if not part.nbytes or not 0 <= place <= len(self.data) - part.nbytes:
+        if not part.nbytes or not 0 <= place <= len(self._data.view) - part.nbytes:
             raise ValueError("these bytes are empty, or not of this file")
         return place
 
@@ -469,7 +484,7 @@ class File:
 
     def _slice(self, index: int) -> Slice:
         image = ctypes.create_string_buffer(IMAGE.size)
-        status = _library().kesvuot_image(self._data.address, len(self.data), index, image)
+        status = _library().kesvuot_image(self._data.address, len(self._data.view), index, image)
         fields = IMAGE.unpack(image)
         if status == OK:
             return Image(self._data, index, image, fields)

@@ -24,15 +24,15 @@ fn link_from(folder: &Path) -> Result<(), String> {
     // Cargo runs the linker in another folder.
     let folder =
         fs::canonicalize(folder).map_err(|error| format!("{}: {error}", folder.display()))?;
-    let archive = folder.join("libkesvuot.a");
-    let kind = if archive.exists() {
-        "static"
-    } else if folder.join("libkesvuot.so").exists() {
-        "dylib"
+    let (archive, shared) = (folder.join("libkesvuot.a"), folder.join("libkesvuot.so"));
+    let (kind, library) = if archive.exists() {
+        ("static", archive)
+    } else if shared.exists() {
+        ("dylib", shared)
     } else {
         return Err(format!("{}: there is no libkesvuot", folder.display()));
     };
-    println!("cargo:rerun-if-changed={}", archive.display());
+    println!("cargo:rerun-if-changed={}", library.display());
     println!("cargo:rustc-link-search=native={}", folder.display());
     println!("cargo:rustc-link-lib={kind}=kesvuot");
     Ok(())
@@ -56,7 +56,7 @@ fn link_by_pkg_config() -> Result<(), String> {
 fn libs_of_pkg_config() -> Result<String, String> {
     let program = env::var("PKG_CONFIG").unwrap_or_else(|_| "pkg-config".to_owned());
     let output = Command::new(&program)
-        .args(["--libs", "kesvuot"])
+        .args(["--libs", "kesvuot >= 1 kesvuot < 2"])
         .output()
         .map_err(|error| format!("{program}: {error}"))?;
     if !output.status.success() {

@@ -27,21 +27,25 @@ use std::{env, fmt, fs};
 
 use kesvuot::{Image, Section, Segment, Symbol};
 
-/// The tables of an image. Of the symbols these are the ones that name an address of a section,
-/// each after the index of the section, by section and address.
+/// The tables of an image. Of the symbols these are the ones that name an address of a section: the
+/// index of the section, the address, and the index of the symbol, in this order.
 struct Tables<'a> {
+    image: Image<'a>,
     segments: Vec<Segment<'a>>,
     sections: Vec<Section<'a>>,
-    symbols: Vec<(usize, Symbol<'a>)>,
+    symbols: Vec<(usize, u64, u64)>,
 }
 
 impl<'a> Tables<'a> {
-    fn of(image: &Image<'a>) -> Self {
-        let in_sections = |symbol: Symbol<'a>| Some((symbol.section_index()?, symbol));
-        let mut symbols: Vec<_> = image.symbols().filter_map(in_sections).collect();
-        // Symbols at the same address keep the order of the table.
-        symbols.sort_by_key(|(index, symbol)| (*index, symbol.value));
+    fn of(image: Image<'a>) -> Self {
+        // Without their names, whose ends would all be looked for: many symbols may share a long one.
+        let mut symbols: Vec<_> = (0..)
+            .zip(image.symbols_without_names())
+            .filter_map(|(index, symbol)| Some((symbol.section_index()?, symbol.value, index)))
+            .collect();
+        symbols.sort_unstable();
         Tables {
+            image,
             segments: image.segments().collect(),
             sections: image.sections().collect(),
             symbols,
@@ -62,12 +66,12 @@ impl<'a> Tables<'a> {
 
     /// The last symbol of a section that is not past an address. symbol-section: each symbol is in
     /// a section that exists.
-    fn symbol_at(&self, section: usize, address: u64) -> Option<&Symbol<'a>> {
+    fn symbol_at(&self, section: usize, address: u64) -> Option<Symbol<'a>> {
         let end = self
             .symbols
-            .partition_point(|(index, symbol)| (*index, symbol.value) <= (section, address));
+            .partition_point(|&(index, value, _)| (index, value) <= (section, address));
         match self.symbols[..end].last() {
-            Some((index, symbol)) if *index == section => Some(symbol),
+            Some(&(index, _, symbol)) if index == section => self.image.symbol(symbol),
             _ => None,
         }
     }
@@ -127,7 +131,7 @@ fn print_lines(path: &Path, addresses: &[u64]) -> Result<(), Box<dyn Error>> {
     let verified = kesvuot::verify(&file)?;
     // fat-empty: some slice is read.
     let image = verified.images().next().ok_or("no slice is read")?;
-    let tables = Tables::of(&image);
+    let tables = Tables::of(image);
     let mut out = io::BufWriter::new(io::stdout().lock());
     for &address in addresses {
         tables.write_line(&mut out, address)?;

@@ -233,6 +233,9 @@ extern "C" {
     fn kesvuot_at<'a>(image: *const Image<'a>, address: u64, bytes: *mut Bytes<'a>) -> u32;
 }
 
+/// The major version of the library whose structures these are.
+const MAJOR: u32 = 1;
+
 /// Major << 16 | minor << 8 | patch.
 pub fn version() -> u32 {
     // SAFETY: it takes nothing.
@@ -250,7 +253,13 @@ pub fn rule(number: u32) -> Bytes<'static> {
 type Judge = unsafe extern "C" fn(*const c_void, usize, *mut Verdict) -> u32;
 
 /// Calls one of the two that judge. Gives the status and the verdict.
+///
+/// # Panics
+///
+/// If the library is not of the major version whose structures these are.
 fn judge(call: Judge, file: &[u8]) -> (u32, Verdict) {
+    let version = version();
+    assert_eq!(version >> 16, MAJOR, "libkesvuot has version {version:#x}");
     let mut verdict = Verdict::default();
     // SAFETY: the file may be read, and nobody changes it meanwhile. The verdict may be written.
     let status = unsafe { call(file.as_ptr().cast(), file.len(), &mut verdict) };

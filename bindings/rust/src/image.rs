@@ -215,9 +215,24 @@ impl<'a> Image<'a> {
     }
 
     /// All symbols, in the order of the table.
+    ///
+    /// In the file of a stranger many symbols may share a long name. To find where all names end may
+    /// then take a time in the order of `nsyms * strsize`.
     #[must_use]
     pub fn symbols(&self) -> Rows<'a, Symbol<'a>> {
         Rows::new(self.raw, 0..self.raw.symbol_count)
+    }
+
+    /// The same symbols with empty names, in a time that no name adds to. [`symbol`](Image::symbol)
+    /// gives one of them with its name.
+    #[must_use]
+    pub fn symbols_without_names(&self) -> Rows<'a, Symbol<'a>> {
+        // No strings, so no name.
+        let nameless = ffi::Image {
+            strings_size: 0,
+            ..self.raw
+        };
+        Rows::new(nameless, 0..self.raw.symbol_count)
     }
 
     /// The local symbols. There are none without `LC_DYSYMTAB`.
@@ -275,7 +290,7 @@ impl<'a> Image<'a> {
 
     /// The data of the first `linkedit_data_command` with this `cmd`, such as `LC_CODE_SIGNATURE`
     /// (0x1d): all `datasize` bytes from `dataoff` on. `None` if the image has no such command, or
-    /// `cmd` is of another structure.
+    /// `cmd` is of another structure. Each call goes over the load commands.
     #[must_use]
     pub fn linkedit(&self, cmd: u32) -> Option<&'a [u8]> {
         let (status, data) = ffi::linkedit(&self.raw, cmd);
@@ -283,6 +298,8 @@ impl<'a> Image<'a> {
     }
 
     /// What is at an address, before any slide. `None` if no segment has the address.
+    ///
+    /// Each call goes over the load commands: for many addresses, look them up in the segments.
     ///
     /// ```
     /// # let path = concat!(env!("CARGO_MANIFEST_DIR"), "/../../tests/real/program");

@@ -278,8 +278,7 @@ impl Symbol<'_> {
         const N_TYPE: u8 = 0x0e;
         const N_SECT: u8 = 0x0e;
         let is_defined = self.kind & N_STAB == 0 && self.kind & N_TYPE == N_SECT;
-        // symbol-section: the number is not 0.
-        is_defined.then(|| usize::from(self.sect) - 1)
+        usize::from(self.sect).checked_sub(1).filter(|_| is_defined)
     }
 }
 

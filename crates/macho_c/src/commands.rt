@@ -20,7 +20,7 @@ use macho_image::{Command, Image};
 pub struct KesvuotCommand<'a> {
     /// Its bytes, `cmd` and `cmdsize` included.
     pub bytes: &'a [u8],
-    /// Its name, of a library, a dynamic linker or a run path, and otherwise none.
+    /// Its name, of a `dylib_command`, `dylinker_command` or `rpath_command`, and otherwise none.
     pub name: &'a [u8],
     /// Where it begins in the image.
     pub place: u64,

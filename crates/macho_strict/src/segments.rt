@@ -111,7 +111,7 @@ impl<'a> Survey<'a> {
 
     // Each byte of the image is zero or lies in a segment.
     //
-    // It takes memory only where the file parts do not ascend: 16 bytes for each, to sort them.
+    // It takes memory only where the file parts do not ascend: up to 32 bytes for each, to sort them.
     pub(crate) fn stray_byte(&self, alloc: Global, image: &Image) -> Result<(), Fault>
         requires image { self.now ≡ image.now }
         requires kept { KeptBelow (BreaksImage image.now) (rank StrictRule.StrayByte) }

@@ -20,7 +20,8 @@ use std::alloc::Global;
 ///
 /// The strict rule of the file comes first; then those of its 64-bit slices, in the order of the table.
 /// It takes memory as `verify` does, and past that only where slices, segments or elements do not come in
-/// the order of their bytes: at most 24 bytes for each of one kind at a time, to sort them.
+/// the order of their bytes: at most 32 bytes for each segment, or 24 for each slice or element, to
+/// sort them.
 pub fn verify_strictly<'a>(alloc: Global, file: &'a [u8]) -> Result<Verified<'a>, StrictRefusal>
     // It accepts only a file that breaks no rule and no strict rule, and refuses only one that breaks
     // one of them, unless there is no memory.

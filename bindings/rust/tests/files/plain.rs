@@ -212,11 +212,16 @@ fn compare_symbols(image: &Image, commands: &[Plain]) {
     assert_eq!(found, symtab.map(|_| [symoff, nsyms, stroff, strsize]));
     let symbols = part(image.bytes(), symoff, 16 * nsyms).chunks_exact(16);
     assert_eq!(image.symbols().len(), symbols.len());
-    for (found, bytes) in image.symbols().zip(symbols) {
+    let nameless = image.symbols_without_names();
+    assert_eq!(nameless.len(), symbols.len());
+    for ((found, mut nameless), bytes) in image.symbols().zip(nameless).zip(symbols) {
         let strx = word(bytes, 0);
         let name =
             (strx != 0).then(|| text(&part(image.bytes(), stroff, strsize)[strx as usize..]));
         assert_eq!((found.name, found.strx), (name, strx));
+        assert_eq!(nameless.name, name.map(|_| &b""[..]));
+        nameless.name = name;
+        assert_eq!(nameless, found);
         assert_eq!(
             (found.kind, found.sect, found.desc),
             (bytes[4], bytes[5], half(bytes, 6))
