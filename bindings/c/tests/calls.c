@@ -181,6 +181,20 @@ static void try_tables(const struct kesvuot_image *image) {
     try_table(indirects_table, image, sizeof(uint32_t), image->indirect_count);
 }
 
+// Without strings no symbol has a name, and all else of it is the same.
+static void try_symbols_without_names(const struct kesvuot_image *image) {
+    struct kesvuot_image nameless = *image;
+    struct kesvuot_symbol named[ROWS], rows[ROWS];
+    const size_t count = kesvuot_symbols(image, 0, named, ROWS);
+    nameless.strings_size = 0;
+    CHECK(count > 0 && kesvuot_symbols(&nameless, 0, rows, ROWS) == count);
+    for (size_t row = 0; row < count; row++) {
+        CHECK(named[row].name.len > 0 && rows[row].name.len == 0);
+        rows[row].name = named[row].name;
+        CHECK(memcmp(&rows[row], &named[row], sizeof *rows) == 0);
+    }
+}
+
 static void try_data(void) {
     struct kesvuot_image image;
     struct kesvuot_bytes data;
@@ -223,6 +237,7 @@ int main(int count, char **words) {
         struct kesvuot_image image;
         CHECK(kesvuot_image(library.bytes, library.size, slice, &image) == KESVUOT_OK);
         try_tables(&image);
+        try_symbols_without_names(&image);
     }
     try_data();
     try_no_image();
