@@ -135,12 +135,16 @@ static void *room_for_rows(uint64_t count, size_t size) {
     kesvuot_##table((image), 0, room_for_rows((image)->count, sizeof(row)), (size_t)(image)->count)
 
 // All rows of all images.
+// Whether the file has a slice with this index, and its image.
+static bool has_slice(const struct file *file, uint64_t index, struct kesvuot_image *image) {
+    uint32_t status = kesvuot_image(file->bytes, file->size, index, image);
+    return status == KESVUOT_OK || status == KESVUOT_UNREAD;
+}
+
 static uint64_t all_rows(const struct file *file) {
     struct kesvuot_image image;
     uint64_t sum = 0;
-    uint32_t status = KESVUOT_OK;
-    for (uint64_t k = 0; status == KESVUOT_OK || status == KESVUOT_UNREAD; k++) {
-        status = kesvuot_image(file->bytes, file->size, k, &image);
+    for (uint64_t k = 0; has_slice(file, k, &image); k++) {
         sum += READ(&image, segments, struct kesvuot_segment, segment_count);
         sum += READ(&image, sections, struct kesvuot_section, section_count);
         sum += READ(&image, libraries, struct kesvuot_library, library_count);
