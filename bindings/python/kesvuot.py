@@ -269,6 +269,9 @@ class _Bytes:
         self.view = memoryview(data).toreadonly().cast("B")
         self.address = _address(self.view)
 
+    def __len__(self) -> int:
+        return len(self.view)
+
     def part(self, at: int, length: int) -> memoryview:
         """The part to which the library points."""
         first = at - self.address if length else 0
@@ -391,7 +394,7 @@ class Image(Slice):
     def symbols(self) -> Table[Symbol]:
         """The symbols of LC_SYMTAB, none without it. To find where each name ends may take a time in the order of
         nsyms * strsize in the file of a stranger, where many symbols share a long name."""
-        return Table(lambda first, most: self._read(SYMBOLS, first, most), range(self._symbol_count))
+        return self._symbols_of(self._image)
 
     @property
     def symbols_without_names(self) -> Table[Symbol]:
@@ -399,11 +402,11 @@ class Image(Slice):
         fields = IMAGE.unpack(self._image)
         # No strings, so no name.
         nameless = ctypes.create_string_buffer(IMAGE.pack(*fields[:8], 0, *fields[9:]), IMAGE.size)
-        return Table(lambda first, most: self._read(SYMBOLS, first, most, nameless), range(self._symbol_count))
+        return self._symbols_of(nameless)
 
-    @property
-    def _symbol_count(self) -> int:
-        return self.symtab.nsyms if self.symtab else 0
+    def _symbols_of(self, image: Any) -> Table[Symbol]:
+        count = self.symtab.nsyms if self.symtab else 0
+        return Table(lambda first, most: self._read(SYMBOLS, first, most, image), range(count))
 
     @property
     def local_symbols(self) -> Table[Symbol]:
@@ -459,7 +462,7 @@ class File:
         self._data = data
 
     def __repr__(self) -> str:
-        return f"<kesvuot.File of {len(self._data.view)} bytes, {self.slice_count} slices>"
+        return f"<kesvuot.File of {len(self._data)} bytes, {self.slice_count} slices>"
 
     @cached_property
     def slices(self) -> Tuple[Slice, ...]:
@@ -474,7 +477,7 @@ class File:
     def place(self, part: memoryview) -> int:
         """Where a part of this file, such as a name, begins in it. An empty part begins nowhere."""
         place = _address(part) - self._data.address
-        if not part.nbytes or not 0 <= place <= len(self._data.view) - part.nbytes:
+        if not part.nbytes or not 0 <= place <= len(self._data) - part.nbytes:
             raise ValueError("these bytes are empty, or not of this file")
         return place
 
@@ -484,7 +487,7 @@ class File:
 
     def _slice(self, index: int) -> Slice:
         image = ctypes.create_string_buffer(IMAGE.size)
-        status = _library().kesvuot_image(self._data.address, len(self._data.view), index, image)
+        status = _library().kesvuot_image(self._data.address, len(self._data), index, image)
         fields = IMAGE.unpack(image)
         if status == OK:
             return Image(self._data, index, image, fields)
