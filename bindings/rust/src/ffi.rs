@@ -252,11 +252,8 @@ pub fn rule(number: u32) -> Bytes<'static> {
 
 type Judge = unsafe extern "C" fn(*const c_void, usize, *mut Verdict) -> u32;
 
-/// Calls one of the two that judge. Gives the status and the verdict.
-///
-/// # Panics
-///
-/// If the library is not of the major version whose structures these are.
+/// Calls one of the two that judge, if the structures here are those of the library. Gives the status
+/// and the verdict.
 fn judge(call: Judge, file: &[u8]) -> (u32, Verdict) {
     let version = version();
     assert_eq!(version >> 16, MAJOR, "libkesvuot has version {version:#x}");

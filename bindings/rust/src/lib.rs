@@ -58,6 +58,10 @@ pub use verified::{Slice, Slices, Verified};
 /// # Errors
 ///
 /// The first broken rule, or that memory ran out.
+///
+/// # Panics
+///
+/// If the library that is linked is of another major version.
 pub fn verify(file: &[u8]) -> Result<Verified<'_>, Error> {
     Verified::new(file, ffi::verify(file))
 }
@@ -68,6 +72,10 @@ pub fn verify(file: &[u8]) -> Result<Verified<'_>, Error> {
 /// # Errors
 ///
 /// The first broken rule, or that memory ran out.
+///
+/// # Panics
+///
+/// If the library that is linked is of another major version.
 pub fn verify_strictly(file: &[u8]) -> Result<Verified<'_>, Error> {
     Verified::new(file, ffi::verify_strictly(file))
 }
