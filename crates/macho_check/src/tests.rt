@@ -6,6 +6,7 @@ mod faults;
 mod fields;
 mod layers;
 mod mapping;
+mod spans;
 mod streams;
 mod views;
 mod words;

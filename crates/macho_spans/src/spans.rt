@@ -2,8 +2,6 @@
 
 mod count;
 mod pairs;
-#[cfg(test)]
-mod tests;
 
 ghost use Rattle.std.specs.Prelude.{◌≡◌, ◌≤◌, length, MatchOption};
 ghost use Rattle.macho_spans.specs.SearchSteps.{StartBy};
@@ -60,6 +58,7 @@ impl Spans {
     /// No spans. It takes no memory.
     pub fn new(alloc: Global) -> Spans
         ensures none { result.pairs ≡ [] }
+        ensures capacity { result.capacity ≡ 0 }
         ensures probes { result.probes ≡ 0 }
         ensures all_probes { result.all_probes ≡ 0 }
     {
@@ -110,8 +109,9 @@ impl Spans {
         ensures added { IfOk result (λ insert. insert ≡ Insert.Added
             → IsPermutation ((span, tag) ∷ self.old.pairs) self.new.pairs) }
         ensures unchanged { IfOk result (λ insert. insert ≡ Insert.Overlap
-            → self.new.pairs ≡ self.old.pairs) }
+            → (self.new.pairs ≡ self.old.pairs) × (self.new.capacity ≡ self.old.capacity)) }
         ensures memory { OnErr result (self.new.pairs ≡ self.old.pairs) }
+        ensures memory_when_full { OnErr result (self.old.capacity ≤ length self.old.pairs) }
         ensures memory_to_add { OnErr result (¬ SharesWithOne self.old.pairs span) }
 
         ensures sorted { AreSorted self.new.pairs }

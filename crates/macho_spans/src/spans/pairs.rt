@@ -28,6 +28,7 @@ impl CountedPairs {
 
     pub(super) fn new(alloc: Global) -> CountedPairs
         ensures none { result.pairs.items ≡ [] }
+        ensures capacity { vec_capacity result.pairs ≡ 0 }
         ensures probes { (result.probes.call ≡ 0) × (result.probes.all ≡ 0) }
         ensures tests { (result.tests.call ≡ 0) × (result.tests.all ≡ 0) }
     {
@@ -67,14 +68,6 @@ impl CountedPairs {
         ensures { result ≡ self.now.probes.call }
     {
         self.probes.call()
-    }
-
-    // How many tests of one pair the last call made.
-    #[cfg(test)]
-    pub(super) fn tests(&self) -> u64
-        ensures { result ≡ self.now.tests.call }
-    {
-        self.tests.call()
     }
 
     // A call begins, which has made no probe and no test.
@@ -169,6 +162,8 @@ impl CountedPairs {
         ensures ok { OnOk result
             (self.new.pairs.items ≡ insert self.old.pairs.items index (span, tag)) }
         ensures err { OnErr result (self.new.pairs.items ≡ self.old.pairs.items) }
+        ensures full { OnErr result
+            (vec_capacity self.old.pairs ≤ length self.old.pairs.items) }
         ensures probes { self.new.probes ≡ self.old.probes }
         ensures tests { self.new.tests ≡ self.old.tests }
     {

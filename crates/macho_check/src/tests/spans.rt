@@ -1,15 +1,13 @@
-//! Sorted spans through the public calls: the answers, the probes, and the tests of one pair that each
-//! call made. The answers are written out.
+//! Sorted spans: the answers, and the probes that each call made. The answers are written out.
 
 ghost use Rattle.std.specs.Prelude.{◌<◌};
 
-use super::{Insert, Spans};
-use crate::span::Span;
-use std::fmt::Debug;
+use super::same;
+use macho_fields::{Insert, Span, Spans};
 use std::process::Abort;
 use std::test::Fail;
 
-// A span that is inserted, with its tag, what becomes of it, and how many probes that takes at most.
+/// A span that is inserted, with its tag, what becomes of it, and how many probes that takes at most.
 #[derive(Clone, Copy)]
 struct Insertion {
     start: u64,
@@ -19,8 +17,8 @@ struct Insertion {
     most: u64,
 }
 
-// A place that is looked for, the span that is found there, with its start, its length and its tag, and
-// how many probes that takes at most.
+/// A place that is looked for, the span that is found there, with its start, its length and its tag, and
+/// how many probes that takes at most.
 #[derive(Clone, Copy)]
 struct LookUp {
     place: u64,
@@ -28,20 +26,13 @@ struct LookUp {
     most: u64,
 }
 
-// Compares what is given with what is wanted. A call costs less proof than `assert_eq!`.
-fn same<T: PartialEq + Debug>(rt: &impl Abort, given: &T, wanted: &T) {
-    assert_eq!(rt; *given, *wanted);
+/// Compares how many probes the last call made. Where it may make one, it does.
+fn check_probes(rt: &impl Abort, spans: &Spans, most: u64) {
+    let probes = spans.probes();
+    same(rt, &probes, &probes.max(most.min(1)).min(most));
 }
 
-// Compares what the last call counted. Where it may make a probe it makes one, and never more than two
-// tests of one pair.
-fn check_counts(rt: &impl Abort, spans: &Spans, most: u64) {
-    let (probes, tests) = (spans.probes(), spans.held.tests());
-    let right = (probes.max(most.min(1)).min(most), tests.min(2));
-    same(rt, &(probes, tests), &right);
-}
-
-// Inserts a span, and compares the answer and the counts.
+/// Inserts a span, and compares the answer and the probes.
 fn check_insert(rt: &impl Abort, spans: &mut Spans, one: &Insertion) -> Result<(), Fail> {
     let span = Span {
         start: one.start,
@@ -52,11 +43,11 @@ fn check_insert(rt: &impl Abort, spans: &mut Spans, one: &Insertion) -> Result<(
     }
     let given = (one.start, spans.try_insert(span, one.tag)?);
     same(rt, &given, &(one.start, one.insert));
-    check_counts(rt, spans, one.most);
+    check_probes(rt, spans, one.most);
     Ok(())
 }
 
-// Inserts spans, one after the other.
+/// Inserts spans, one after the other.
 fn check_inserts(rt: &impl Abort, spans: &mut Spans, all: &[Insertion]) -> Result<(), Fail> {
     for one in all {
         check_insert(rt, spans, one)?;
@@ -64,15 +55,15 @@ fn check_inserts(rt: &impl Abort, spans: &mut Spans, all: &[Insertion]) -> Resul
     Ok(())
 }
 
-// Looks for a place, and compares the answer and the counts.
+/// Looks for a place, and compares the answer and the probes.
 fn check_find(rt: &impl Abort, spans: &mut Spans, one: &LookUp) {
     let given = spans.find(one.place);
     let found = given.map(|(span, tag)| (span.start, span.len, tag));
     same(rt, &(one.place, found), &(one.place, one.found));
-    check_counts(rt, spans, one.most);
+    check_probes(rt, spans, one.most);
 }
 
-// An insertion, by the span, its tag, what becomes of it and the most probes.
+/// An insertion, by the span, its tag, what becomes of it and the most probes.
 macro_rules! insertion {
     ($start:expr, $len:expr, $tag:expr, $insert:ident, $most:expr) => {
         Insertion {
@@ -85,7 +76,7 @@ macro_rules! insertion {
     };
 }
 
-// A look-up, by the place, what is found and the most probes.
+/// A look-up, by the place, what is found and the most probes.
 macro_rules! look_up {
     ($place:expr, $found:expr, $most:expr) => {
         LookUp {
@@ -96,7 +87,7 @@ macro_rules! look_up {
     };
 }
 
-// Spans up to the last place. The third shares places with the first two.
+/// Spans up to the last place. The third shares places with the first two.
 const SORTED: &[Insertion] = &[
     insertion!(0, 10, 7, Added, 0),
     insertion!(10, 5, 8, Added, 1),
@@ -104,7 +95,7 @@ const SORTED: &[Insertion] = &[
     insertion!(u64::MAX, 1, 9, Added, 2),
 ];
 
-// Places, and what is found there of these spans.
+/// Places, and what is found there of these spans.
 const SORTED_FINDS: &[LookUp] = &[
     look_up!(14, Some((10, 5, 8)), 2),
     look_up!(15, None, 2),
@@ -123,7 +114,7 @@ fn sorted_spans(rt: HostRuntime) -> Result<(), Fail> {
     Ok(())
 }
 
-// Spans on both sides of a gap, of which three overlap one or both.
+/// Spans on both sides of a gap, of which three overlap one or both.
 const AROUND: &[Insertion] = &[
     insertion!(0, 100, 1, Added, 0),
     insertion!(200, 1, 2, Added, 1),
@@ -141,8 +132,8 @@ fn spans_around_a_gap(rt: HostRuntime) -> Result<(), Fail> {
     Ok(())
 }
 
-// Looks for the first place of one of a thousand spans, and for the place after it, which none has. A
-// thousand has ten binary digits.
+/// Looks for the first place of one of a thousand spans, and for the place after it, which none has. A
+/// thousand has ten binary digits.
 fn check_one_of_many(rt: &impl Abort, spans: &mut Spans, tag: u64)
     requires { tag < 1000 }
 {
@@ -151,7 +142,7 @@ fn check_one_of_many(rt: &impl Abort, spans: &mut Spans, tag: u64)
     check_find(rt, spans, &look_up!(3 * tag + 2, None, 10));
 }
 
-// Spans at both ends and in the middle of a thousand, of which each has a place between two of them, or more.
+/// Spans at both ends and in the middle of a thousand, of which each has a place between two of them, or more.
 const BETWEEN: &[Insertion] = &[
     insertion!(1, 2, 1000, Overlap, 10),
     insertion!(2, 1, 1001, Added, 10),
