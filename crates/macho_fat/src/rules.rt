@@ -4,7 +4,7 @@
 ghost use Rattle.std.specs.Prelude.{◌≡◌, ◌↔◌, IsTrue, IfOk};
 ghost use Rattle.macho_fields.specs.Bytes.{bytes_of};
 ghost use Rattle.macho_fields.specs.First.{rank};
-ghost use Rattle.macho_fields.specs.Layers.{KeptBelow, Continues};
+ghost use Rattle.macho_fields.specs.Layers.{KeptBelow, Continues, StopsAt};
 ghost use Rattle.macho_fields.specs.Rules.{BreaksFile};
 ghost use Rattle.macho_fields.specs.Universal.{IsUniversal, IsImage, IsUnreadImage};
 ghost use Rattle.macho_fields.specs.declared.rule.Rule.{Rule};
@@ -28,6 +28,7 @@ pub(crate) enum Format {
 // The file begins with the magic number of a format that is read.
 pub(crate) fn magic(file: Bytes) -> Result<Format, Break>
     ensures continues { Continues (BreaksFile (bytes_of file.entry)) Rule.Magic result }
+    ensures stops { StopsAt Rule.Magic result }
     ensures format { IfOk result (IsFormat (bytes_of file.entry)) }
 {
     if is_image(file) {
@@ -44,6 +45,7 @@ pub(crate) fn fat_truncated(file: Bytes) -> Result<Table, Break>
     requires universal { IsUniversal (bytes_of file) }
     requires kept { KeptBelow (BreaksFile (bytes_of file)) (rank Rule.FatTruncated) }
     ensures continues { Continues (BreaksFile (bytes_of file.entry)) Rule.FatTruncated result }
+    ensures stops { StopsAt Rule.FatTruncated result }
     ensures table { IfOk result (λ table. table ≡ bytes_of file.entry) }
 {
     let truncated = Break::at(Rule::FatTruncated, NFAT_ARCH);

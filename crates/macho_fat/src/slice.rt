@@ -4,7 +4,7 @@ ghost use Rattle.std.specs.Prelude.{◌≡◌, ◌<◌, false, length, map, slic
 ghost use Rattle.std.specs.Option.{option_map};
 ghost use Rattle.std.specs.Vec.{vec_capacity};
 ghost use Rattle.macho_fields.specs.Bytes.{bytes_of};
-ghost use Rattle.macho_fields.specs.Layers.{NothingBreaks, Continues};
+ghost use Rattle.macho_fields.specs.Layers.{NothingBreaks, Continues, StopsAt};
 ghost use Rattle.macho_fields.specs.Rules.{BreaksFile};
 ghost use Rattle.macho_fields.specs.Universal.{is_universal, slices_of, IsImage};
 ghost use Rattle.macho_fields.specs.declared.rule.Rule.{Rule};
@@ -59,6 +59,7 @@ pub fn slices(alloc: Global, file: Bytes) -> Result<Vec<Slice>, FatFault>
 /// not marked as read.
 pub fn slice_at(file: Bytes, index: u64) -> Result<Option<Slice>, Break>
     ensures decides { Continues (BreaksFile (bytes_of file.entry)) Rule.FatTruncated result }
+    ensures stops { StopsAt Rule.FatTruncated result }
     ensures slice { IfOk result (λ slice.
         option_map slice_of slice ≡ slice_get (slices_of (bytes_of file.entry)) index) }
     ensures read { IfOk result (λ slice. IfSome slice (MarksReadInside (bytes_of file.entry))) }

@@ -1,5 +1,5 @@
 -- What one layer decides: which of its rules are broken, and which of them first.
-use Rattle.std.specs.Prelude.{◌≡◌, ℕ, ◌+◌, ◌<◌, ◌⊎◌, Result, MatchResult}
+use Rattle.std.specs.Prelude.{◌≡◌, ℕ, ◌+◌, ◌≤◌, ◌<◌, ◌⊎◌, Result, MatchResult, IfErr}
 use Rattle.macho_fields.specs.First.{rank}
 use Rattle.macho_fields.specs.declared.rule.Rule.{Rule}
 use Rattle.macho_fields.specs.declared.rule.Break.{Break}
@@ -25,3 +25,7 @@ KeptBelow breaks n = (r : Rule) (place : ℕ) → rank r < n → ¬ breaks r pla
 -- an answer reports that the rules up to r are unbroken, and otherwise what is broken first of all
 abbrev pub Continues : {T : Type 0} → (Rule → ℕ → Type 0) → Rule → Result T Break → Type 0
 Continues breaks r answer = MatchResult answer (λ _. KeptBelow breaks (rank r + 1)) (IsLeast breaks)
+
+-- an answer reports no rule after r
+abbrev pub StopsAt : {T : Type 0} → Rule → Result T Break → Type 0
+StopsAt r answer = IfErr answer (λ b. rank b.rule ≤ rank r)

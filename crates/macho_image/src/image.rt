@@ -38,7 +38,7 @@ impl<'a> Image<'a> {
     ghost use Rattle.macho_fields.specs.FileTypes.{file_type_of, file_type_view};
     ghost use Rattle.macho_fields.specs.LoadCommands.{structure_of, structure_size, IsUnique};
     ghost use Rattle.macho_fields.specs.Rules.{BreaksImage};
-    ghost use Rattle.macho_fields.specs.Layers.{Continues};
+    ghost use Rattle.macho_fields.specs.Layers.{Continues, StopsAt};
     ghost use Rattle.macho_fields.specs.Image.{cpu_type, cpu_subtype, file_type};
     ghost use Rattle.macho_fields.specs.Image.{commands_end, commands_of};
     ghost use Rattle.macho_fields.specs.Universal.{masked};
@@ -57,6 +57,7 @@ impl<'a> Image<'a> {
     /// which it is broken.
     pub fn open(bytes: Bytes<'a>, arch: Option<(u32, u32)>) -> Result<Image<'a>, Break>
         ensures decides { Continues (BreaksImage (bytes_of bytes.entry) arch) Rule.Name result }
+        ensures stops { StopsAt Rule.Name result }
         ensures image { IfOk result (λ image. image ≡ bytes_of bytes.entry) }
     {
         let candidate = Candidate { bytes, arch };

@@ -8,7 +8,7 @@ ghost use Rattle.macho_fields.specs.Field.{HasZero};
 ghost use Rattle.macho_fields.specs.First.{rank};
 ghost use Rattle.macho_fields.specs.Image.{commands_of};
 ghost use Rattle.macho_fields.specs.LoadCommands.{has_name, structure_of, structure_size};
-ghost use Rattle.macho_fields.specs.Layers.{KeptBelow, Continues};
+ghost use Rattle.macho_fields.specs.Layers.{KeptBelow, Continues, StopsAt};
 ghost use Rattle.macho_fields.specs.declared.rule.Rule.{Rule};
 ghost use Rattle.macho_image.specs.Command.{command_of};
 ghost use Rattle.macho_image.specs.Walk.{breaks_of, AreFirst, IsAlone};
@@ -54,7 +54,8 @@ pub(crate) fn dylib_id(candidate: Candidate, unique: UniquePlaces) -> Result<(),
     requires before { KeptBelow (breaks_of candidate) (rank Rule.DylibId) }
     requires first { AreFirst (bytes_of candidate.bytes) (commands_of (bytes_of candidate.bytes))
         unique }
-    ensures { Continues (breaks_of candidate.entry) Rule.DylibId result }
+    ensures decides { Continues (breaks_of candidate.entry) Rule.DylibId result }
+    ensures stops { StopsAt Rule.DylibId result }
 {
     let listed = listed_file_type(candidate.bytes);
     if listed.names_itself != unique.of(LC_ID_DYLIB).is_some() {

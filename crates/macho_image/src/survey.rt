@@ -22,7 +22,7 @@ pub(crate) struct Survey<'a> {
 impl<'a> Survey<'a> {
     ghost use Rattle.std.specs.Prelude.{◌≡◌, ◌+◌, ◌^◌, ◌<◌, OnOk};
     ghost use Rattle.macho_fields.specs.First.{rank};
-    ghost use Rattle.macho_fields.specs.Layers.{KeptBelow, Continues};
+    ghost use Rattle.macho_fields.specs.Layers.{KeptBelow, Continues, StopsAt};
     ghost use Rattle.macho_fields.specs.declared.rule.Rule.{Rule};
     ghost use Rattle.macho_image.specs.Walk.{breaks_of, CanPass, HasPassed, HasPassedAll};
 
@@ -46,6 +46,7 @@ impl<'a> Survey<'a> {
         requires passed { HasPassed self.old 0 }
         requires kept { KeptBelow (breaks_of self.old.candidate) (rank Rule.CommandWalk) }
         ensures decides { Continues (breaks_of self.old.candidate) Rule.CommandWalk result }
+        ensures stops { StopsAt Rule.CommandWalk result }
         ensures candidate { self.new.candidate ≡ self.old.candidate }
         ensures passed { OnOk result (HasPassedAll self.new) }
     {
@@ -89,7 +90,8 @@ impl<'a> Survey<'a> {
     pub(crate) fn command_short(&self) -> Result<(), Break>
         requires passed { HasPassedAll self.now }
         requires kept { KeptBelow (breaks_of self.now.candidate) (rank Rule.CommandShort) }
-        ensures { Continues (breaks_of self.now.candidate) Rule.CommandShort result }
+        ensures decides { Continues (breaks_of self.now.candidate) Rule.CommandShort result }
+        ensures stops { StopsAt Rule.CommandShort result }
     {
         self.command_short.judge(Rule::CommandShort)
     }
@@ -98,7 +100,8 @@ impl<'a> Survey<'a> {
     pub(crate) fn command_repeated(&self) -> Result<(), Break>
         requires passed { HasPassedAll self.now }
         requires kept { KeptBelow (breaks_of self.now.candidate) (rank Rule.CommandRepeated) }
-        ensures { Continues (breaks_of self.now.candidate) Rule.CommandRepeated result }
+        ensures decides { Continues (breaks_of self.now.candidate) Rule.CommandRepeated result }
+        ensures stops { StopsAt Rule.CommandRepeated result }
     {
         self.command_repeated.judge(Rule::CommandRepeated)
     }
@@ -107,7 +110,8 @@ impl<'a> Survey<'a> {
     pub(crate) fn name(&self) -> Result<(), Break>
         requires passed { HasPassedAll self.now }
         requires kept { KeptBelow (breaks_of self.now.candidate) (rank Rule.Name) }
-        ensures { Continues (breaks_of self.now.candidate) Rule.Name result }
+        ensures decides { Continues (breaks_of self.now.candidate) Rule.Name result }
+        ensures stops { StopsAt Rule.Name result }
     {
         self.name.judge(Rule::Name)
     }

@@ -6,7 +6,7 @@ ghost use Rattle.macho_fields.specs.Bytes.{bytes_of};
 ghost use Rattle.macho_fields.specs.FileTypes.{file_type_of, file_type_view};
 ghost use Rattle.macho_fields.specs.First.{rank};
 ghost use Rattle.macho_fields.specs.Image.{file_type as header_file_type, cpu_type, cpu_subtype, commands_end, command_size, IsGood};
-ghost use Rattle.macho_fields.specs.Layers.{KeptBelow, Continues};
+ghost use Rattle.macho_fields.specs.Layers.{KeptBelow, Continues, StopsAt};
 ghost use Rattle.macho_fields.specs.Universal.{masked};
 ghost use Rattle.macho_fields.specs.declared.rule.Rule.{Rule};
 ghost use Rattle.macho_image.specs.Walk.{breaks_of};
@@ -61,7 +61,8 @@ impl<'a> Candidate<'a> {
 
 // The rule `header-truncated`: the bytes hold a `mach_header_64`.
 pub(crate) fn header_truncated(candidate: Candidate) -> Result<(), Break>
-    ensures { Continues (breaks_of candidate.entry) Rule.HeaderTruncated result }
+    ensures decides { Continues (breaks_of candidate.entry) Rule.HeaderTruncated result }
+    ensures stops { StopsAt Rule.HeaderTruncated result }
 {
     if candidate.bytes.len() < MACH_HEADER_64_SIZE {
         return Err(Break::at(Rule::HeaderTruncated, 0));
@@ -73,7 +74,8 @@ pub(crate) fn header_truncated(candidate: Candidate) -> Result<(), Break>
 // universal file, where there is one.
 pub(crate) fn arch_mismatch(candidate: Candidate) -> Result<(), Break>
     requires { KeptBelow (breaks_of candidate) (rank Rule.ArchMismatch) }
-    ensures { Continues (breaks_of candidate.entry) Rule.ArchMismatch result }
+    ensures decides { Continues (breaks_of candidate.entry) Rule.ArchMismatch result }
+    ensures stops { StopsAt Rule.ArchMismatch result }
 {
     let Some((cputype, cpusubtype)) = candidate.arch else {
         return Ok(());
@@ -108,7 +110,8 @@ pub(crate) fn arch_of(image: Bytes) -> (u32, u32)
 // The rule `file-type`: the image is of a type that is judged.
 pub(crate) fn file_type(candidate: Candidate) -> Result<(), Break>
     requires { KeptBelow (breaks_of candidate) (rank Rule.FileType) }
-    ensures { Continues (breaks_of candidate.entry) Rule.FileType result }
+    ensures decides { Continues (breaks_of candidate.entry) Rule.FileType result }
+    ensures stops { StopsAt Rule.FileType result }
 {
     match file_type_of(word_at(candidate.bytes, FILETYPE)) {
         Some(_) => Ok(()),
@@ -128,7 +131,8 @@ pub(crate) fn listed_file_type(image: Bytes) -> FileType
 // The rule `commands-outside`: the commands end inside the image.
 pub(crate) fn commands_outside(candidate: Candidate) -> Result<(), Break>
     requires { KeptBelow (breaks_of candidate) (rank Rule.CommandsOutside) }
-    ensures { Continues (breaks_of candidate.entry) Rule.CommandsOutside result }
+    ensures decides { Continues (breaks_of candidate.entry) Rule.CommandsOutside result }
+    ensures stops { StopsAt Rule.CommandsOutside result }
 {
     if end_of_commands(candidate.bytes) > candidate.bytes.len() {
         return Err(Break::at(Rule::CommandsOutside, SIZEOFCMDS));

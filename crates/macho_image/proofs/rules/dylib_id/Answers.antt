@@ -16,8 +16,8 @@ listed_file_type-listed-requires c = record {
   listed = some_or_not_none (file_type_of (file_type (bytes_of c.args.candidate.bytes))) (λ none. c.requires.before rule.FileType 12 (omega arith) (inl (refl, none)));
 }
 
-pub returns-then-listed-is_some : goal.returns-then-listed-is_some
-returns-then-listed-is_some c =
+pub returns-then-listed-is_some-clause-decides : goal.returns-then-listed-is_some-clause-decides
+returns-then-listed-is_some-clause-decides c =
     let image = bytes_of c.args.candidate.bytes in
     let H = HasDylibId image (commands_of image) in
     let has = has_id image c.of.result c.is_some.result c.is_some.ensures (c.of.ensures.unique image (commands_of image) c.requires.first refl) in
@@ -26,8 +26,8 @@ returns-then-listed-is_some c =
     commands_broken image c.args.candidate.arch rule.DylibId (λ _ h. h) (omega arith) c.requires.before _ c.at.ensures.rule (c.at.ensures.place, wrong)
     (λ place broken. omega (arith, broken.0, c.at.ensures.place))
 
-pub returns : goal.returns
-returns c =
+pub returns-clause-decides : goal.returns-clause-decides
+returns-clause-decides c =
     let image = bytes_of c.args.candidate.bytes in
     let H = HasDylibId image (commands_of image) in
     let has = has_id image c.of.result c.is_some.result c.is_some.ensures (c.of.ensures.unique image (commands_of image) c.requires.first refl) in

@@ -18,20 +18,20 @@ differs image pair other = elim (cases_eq pair.0 (cpu_type image)) [ inl same 鈫
 pub has_arch-requires : goal.has_arch-requires
 has_arch-requires c = has_header _ c.args.candidate.arch (rank rule.ArchMismatch) (omega arith) c.requires
 
-pub returns-in_default : goal.returns-in_default
-returns-in_default c =
+pub returns-in_default-clause-decides : goal.returns-in_default-clause-decides
+returns-in_default-clause-decides c =
     let image = bytes_of c.args.candidate.bytes in
     header_kept image c.args.candidate.arch rule.ArchMismatch (位 _ _ h. h) c.requires (search rules)
 
-pub returns-then-not-has_arch : goal.returns-then-not-has_arch
-returns-then-not-has_arch c =
+pub returns-then-not-has_arch-clause-decides : goal.returns-then-not-has_arch-clause-decides
+returns-then-not-has_arch-clause-decides c =
     let image = bytes_of c.args.candidate.bytes in
     let other = differs image _ (位 same. both_ways c.has_arch.result c.if-not-has_arch.true (c.has_arch.ensures.1 same)) in
     header_broken image c.args.candidate.arch rule.ArchMismatch (位 _ _ h. h) c.requires _ c.at.ensures.rule
     (c.at.ensures.place, subst (位 arch. IsSomeAnd arch (IsOther image)) (sym c.in-Some.is) other) (search rules)
 
-pub returns : goal.returns
-returns c =
+pub returns-clause-decides : goal.returns-clause-decides
+returns-clause-decides c =
     let image = bytes_of c.args.candidate.bytes in
     let same = c.has_arch.ensures.0 c.if-not-has_arch.false in
     header_kept image c.args.candidate.arch rule.ArchMismatch (位 _ _ h. h) c.requires (位 place broken. agrees image _ same (subst (位 arch. IsSomeAnd arch (IsOther image)) c.in-Some.is broken.1))

@@ -21,25 +21,25 @@ handed_on breaks r (Err given) b same least = subst (IsLeast breaks) (sym same) 
 pub returns-in_err-arch_mismatch-clause-decides : goal.returns-in_err-arch_mismatch-clause-decides
 returns-in_err-arch_mismatch-clause-decides c =
     handed_on (BreaksImage (bytes_of c.args.bytes) c.args.arch) rule.Name c.from_residual-in_err-arch_mismatch.result c.in_err-arch_mismatch.field-0.0
-    c.from_residual-in_err-arch_mismatch.ensures.1 c.in_err-arch_mismatch.ensures
+    c.from_residual-in_err-arch_mismatch.ensures.1 c.in_err-arch_mismatch.ensures.decides
 
 pub file_type-requires : goal.file_type-requires
-file_type-requires c = c.in_ok-arch_mismatch.ensures
+file_type-requires c = c.in_ok-arch_mismatch.ensures.decides
 
 pub dylib_id-requires-clause-before : goal.dylib_id-requires-clause-before
 dylib_id-requires-clause-before c =
-    subst (λ o. KeptBelow (breaks_of o) (rank rule.DylibId)) (c.command_walk.ensures.candidate ∙ c.new-survey.ensures.candidate) c.in_ok-command_repeated.ensures
+    subst (λ o. KeptBelow (breaks_of o) (rank rule.DylibId)) (c.command_walk.ensures.candidate ∙ c.new-survey.ensures.candidate) c.in_ok-command_repeated.ensures.decides
 
 pub name-requires-clause-kept : goal.name-requires-clause-kept
 name-requires-clause-kept c =
-    subst (λ o. KeptBelow (breaks_of o) (rank rule.Name)) (sym (c.command_walk.ensures.candidate ∙ c.new-survey.ensures.candidate)) c.in_ok-dylib_id.ensures
+    subst (λ o. KeptBelow (breaks_of o) (rank rule.Name)) (sym (c.command_walk.ensures.candidate ∙ c.new-survey.ensures.candidate)) c.in_ok-dylib_id.ensures.decides
 
 pub invariant_of-result : goal.invariant_of-result
 invariant_of-result c =
     let same = c.command_walk.ensures.candidate ∙ c.new-survey.ensures.candidate in record {
-      opened = may_open _ (kept_alone _ c.args.arch (rank rule.SegmentAddress) (subst (λ o. KeptBelow (breaks_of o) (rank rule.SegmentAddress)) same c.in_ok-name.ensures));
+      opened = may_open _ (kept_alone _ c.args.arch (rank rule.SegmentAddress) (subst (λ o. KeptBelow (breaks_of o) (rank rule.SegmentAddress)) same c.in_ok-name.ensures.decides));
       all = subst (λ (o : Candidate). AreLandmarks (bytes_of o.bytes) (command_count (bytes_of o.bytes)) c.command_walk.new.self.landmarks) same c.in_ok-command_walk.ensures.passed.landmarks;
     }
 
 pub returns-clause-decides : goal.returns-clause-decides
-returns-clause-decides c = subst (λ o. KeptBelow (breaks_of o) (rank rule.SegmentAddress)) (c.command_walk.ensures.candidate ∙ c.new-survey.ensures.candidate) c.in_ok-name.ensures
+returns-clause-decides c = subst (λ o. KeptBelow (breaks_of o) (rank rule.SegmentAddress)) (c.command_walk.ensures.candidate ∙ c.new-survey.ensures.candidate) c.in_ok-name.ensures.decides

@@ -10,8 +10,8 @@ use Rattle.macho_image.proofs.Surveyed.{first_of_same, judged}
 use Rattle.macho_image.proofs.survey.Survey.name.Goals as goal
 
 -- no command is short, so each bad name is that of a whole command
-pub returns : goal.returns
-returns c =
+pub returns-clause-decides : goal.returns-clause-decides
+returns-clause-decides c =
     let image = bytes_of c.args.self.now.candidate.bytes in
     let arch = c.args.self.now.candidate.arch in
     judged image arch rule.Name (HasBadName image) (λ _ h. h) (omega arith) (λ _ h. h) (λ _ h. h) c.requires.kept _ c.judge.result
