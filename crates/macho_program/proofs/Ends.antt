@@ -47,6 +47,8 @@ module _ (V V' : Verdict) (means : (file : List ℕ) (outcome : Outcome) (text :
     faults = h.faults;
     read = h.read;
     memory = h.memory;
+    one_too_many = h.one_too_many;
+    few_reads = h.few_reads;
     too_long = h.too_long;
     write = h.write;
     prefix = λ e. all_prefix_as asked bytes (o.contents writer) (o.contents writer') (h.prefix e);

@@ -1,5 +1,5 @@
 -- What the program finds, and what it writes of it.
-use Rattle.std.specs.Prelude.{ℕ, List, drop, length, map, ⊤, Option, Some, None, Result, Ok, Err, IsOk, IsOkAnd, IsErrOf, IsTrue, IfOk, IfErr, IfSome, OnOk, ◌^◌, ◌<◌, ◌≡◌, ◌≢◌, ◌⊎◌, ◌↔◌, codes, if◌then◌else◌}
+use Rattle.std.specs.Prelude.{ℕ, List, drop, length, map, ⊤, Option, Some, None, Result, Ok, Err, IsOk, IsOkAnd, IsErrOf, IsTrue, IfOk, IfErr, IfSome, OnOk, ◌^◌, ◌+◌, ◌≤◌, ◌<◌, ◌≡◌, ◌≢◌, ◌⊎◌, ◌↔◌, codes, if◌then◌else◌}
 use Rattle.std.specs.Borrow.{Bor}
 use Rattle.std.specs.Io.KnownBytes.{IsAtEnd}
 use Rattle.std.specs.Str.{bytes_eq}
@@ -95,6 +95,9 @@ pub record EndsRight {R W : Type 0} (IsRight : Verdict) (i : input.Ghosts R) (o 
       → (IsErrOf end (program.Run run.Read) ↔ IsTrue (i.has_failed reader')))
   pub memory : IfOk asked (λ request. Reads request → IsErrOf end (program.Run run.Memory)
       → TookAtMost (2 ^ 32) (i.remaining reader) (i.remaining reader'))
+  pub one_too_many : IfOk asked (λ request. Reads request → IsErrOf end (program.Run run.TooLong)
+      → TookAtMost (2 ^ 32 + 1) (i.remaining reader) (i.remaining reader'))
+  pub few_reads : IfOk asked (λ request. Reads request → i.reads reader' ≤ i.reads reader + 2 ^ 32 + 1)
   pub too_long : IsErrOf end (program.Run run.TooLong)
       → IsOkAnd asked (λ request. IfSome (bytes request) (λ all. 2 ^ 32 < length all))
   pub write : IsErrOf end (program.Run run.Write) → IsTrue (o.has_failed writer')

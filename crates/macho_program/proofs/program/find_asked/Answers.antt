@@ -45,6 +45,8 @@ in_file IsRight asked words bytes standard file file' writer writer' end is othe
   faults = h.faults;
   read = λ is. absurd (other is);
   memory = λ is. absurd (other is);
+  one_too_many = λ is. absurd (other is);
+  few_reads = λ is. absurd (other is);
   too_long = λ e. long_in (bytes asked) _ known (h.too_long e);
   write = h.write;
   prefix = λ e. prefix_in IsRight asked (bytes asked) _ _ _ known (h.prefix e);
