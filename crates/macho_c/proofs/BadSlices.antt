@@ -9,7 +9,8 @@ use Rattle.macho_fields.specs.Universal.{FileSlice, slices_of, slice_bytes, IsIm
 use Rattle.macho_fields.specs.declared.rule.Break.{Break}
 use Rattle.macho_fields.specs.declared.rule.Rule.TheVariants as rule
 use Rattle.macho_fields.proofs.Sound.{unbroken_is_sound}
-use Rattle.macho_c.specs.Image.{Breaks, IsBad}
+use Rattle.macho_c.specs.Image.{IsBad}
+use Rattle.macho_c.specs.Rows.{IsBrokenImage}
 
 pub broken_file : (file : List ℕ) (b : Break) → IsLeast (BreaksFile file) b → ¬ IsUnbroken file
 broken_file file b least unbroken = unbroken (record { scope = 0; rule = b.rule; place = b.place }) least.0
@@ -17,8 +18,8 @@ broken_file file b least unbroken = unbroken (record { scope = 0; rule = b.rule;
 some-injective : {T : Type 0} {a b : T} → Some a ≡ Some b → a ≡ b
 some-injective is = cc
 
-pub broken_image : (file : List ℕ) (k : ℕ) (slice : FileSlice) → slice_get (slices_of file) k ≡ Some slice → IsImage (slice_bytes file slice) → Breaks (slice_bytes file slice) slice.arch → ¬ IsUnbroken file
-broken_image file k slice at image (r, place, breaks) unbroken =
+pub broken_image : (file : List ℕ) (k : ℕ) (slice : FileSlice) → slice_get (slices_of file) k ≡ Some slice → IsImage (slice_bytes file slice) → IsBrokenImage (slice_bytes file slice) slice.arch → ¬ IsUnbroken file
+broken_image file k slice at image (r, place, late, breaks) unbroken =
     unbroken (record { scope = suc k; rule = r; place = place })
     (subst (λ o. IsSomeAnd o (λ s. IsImage (slice_bytes file s) × BreaksImage (slice_bytes file s) s.arch r place)) (sym at) (image, breaks))
 

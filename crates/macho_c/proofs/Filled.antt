@@ -1,5 +1,5 @@
 -- The front of a table that an iterator has filled.
-use Rattle.std.proofs.Common.{◌≡◌, ◌≤◌, ◌∙◌, ℕ, List, length, map, take, drop, Option, None, Result, Err, MatchResult, refl, sym, ap, subst, inl, inr, arith}
+use Rattle.std.proofs.Common.{◌≡◌, ◌≤◌, ◌∙◌, ℕ, List, length, map, take, drop, Option, None, Result, Err, refl, sym, ap, subst, inl, inr, arith}
 use Rattle.std.proofs.lemmas.Iterator.{YieldsList, YieldsList-from_map_by, maps}
 use Rattle.std.proofs.lemmas.Iterator.Adapters.{YieldsList-from_skip}
 use Rattle.std.proofs.lemmas.Iterator.Consumers.{YieldsList-so_far, YieldsList-end, YieldsList-at}
@@ -9,10 +9,11 @@ use Rattle.std.specs.declared.iter.Map.{Map}
 use Rattle.std.specs.Fn.{Called}
 use Rattle.std.specs.Iterator.Adapters.{skip_source, skip_count, skip_steps, map_source, map_callee}
 use denote.Param.Members.{Mut}
-use Rattle.macho_fields.specs.Layers.{KeptBelow, IsLeast}
+use Rattle.macho_fields.specs.Layers.{Continues, StopsAt}
 use Rattle.macho_fields.specs.Rules.{BreaksImage}
 use Rattle.macho_fields.specs.declared.rule.Break.{Break}
-use Rattle.macho_c.specs.Rows.{IsFilled, IsBrokenImage, Fills}
+use Rattle.macho_fields.specs.declared.rule.Rule.TheVariants as rule
+use Rattle.macho_c.specs.Rows.{IsFilled, IsBrokenImage, HasHeaders, Fills}
 
 module _ {S R V T : Type 0} {steps : S → Option R → S → Type 0} {s : S} {n : ℕ} {old new : List R} where
   -- the rows of what is left of the views from the first on
@@ -67,6 +68,14 @@ module _ {S A V F R T : Type 0} {steps : S → Option A → S → Type 0} {g : M
       ∙ (sym (take-map row (length old) (drop first views)) ∙ ap (take (length old)) (sym (drop-map row first views)))) in
       record { written = ranged.written ∙ at; count = ranged.count ∙ ap length at; rest = ranged.rest }
 
--- Image::open refuses only what breaks a rule
-pub refused : {T : Type 0} (image file : List ℕ) (b : Break) (answer : Result T Break) → answer ≡ Err b → image ≡ file → MatchResult answer (λ _. KeptBelow (BreaksImage image None) 19) (IsLeast (BreaksImage image None)) → IsBrokenImage file
-refused image file b answer is same decides = let least = rw is at decides in subst IsBrokenImage same (b.rule, b.place, least.0)
+-- Image::open refuses only what breaks a rule of the headers
+pub refused : {T : Type 0} (image file : List ℕ) (b : Break) (answer : Result T Break) → answer ≡ Err b → image ≡ file → Continues (BreaksImage image None) rule.Name answer → StopsAt rule.Name answer
+    → IsBrokenImage file None
+refused image file b answer is same decides stops =
+    let least = rw is at decides in
+    let most = rw is at stops in
+    subst (λ bytes. IsBrokenImage bytes None) same (b.rule, b.place, most, least.0)
+
+-- and opens only what breaks none
+pub opened : (image file : List ℕ) → image ≡ file → HasHeaders image None → HasHeaders file None
+opened image file same kept = subst (λ bytes. HasHeaders bytes None) same kept

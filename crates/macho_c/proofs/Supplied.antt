@@ -17,7 +17,7 @@ use Rattle.macho_image.specs.Segment.{SegmentView, segment_at}
 use Rattle.macho_rules.proofs.Searches.{any_of}
 use Rattle.macho_c.specs.Address.{supplies, supplier, bytes_from, IsAnswer, IsSourceAt}
 use Rattle.macho_c.specs.Rows.{part_or_none}
-use Rattle.macho_c.specs.declared.status.TheConstants.{OK, NONE, ZERO}
+use Rattle.macho_c.specs.Status.{KESVUOT_OK, KESVUOT_NONE, KESVUOT_ZERO}
 
 -- the first that passes, or none
 module _ (image : List ℕ) (address : ℕ) where
@@ -98,7 +98,7 @@ told image address status bytes unbroken answer = by (supplier image address) re
     sound = unbroken_image_sound image unbroken
 
     by : (o : Option SegmentView) → supplier image address ≡ o
-        → MatchOption o ((status ≡ NONE) × (bytes ≡ [])) (λ s. (bytes ≡ bytes_from address s) × (((status ≡ OK) × (bytes ≢ [])) ⊎ ((status ≡ ZERO) × (bytes ≡ []))))
+        → MatchOption o ((status ≡ KESVUOT_NONE) × (bytes ≡ [])) (λ s. (bytes ≡ bytes_from address s) × (((status ≡ KESVUOT_OK) × (bytes ≢ [])) ⊎ ((status ≡ KESVUOT_ZERO) × (bytes ≡ []))))
         → IsSourceAt image address status bytes
     by None is (none, empty) = inr (inr (none, source_none image address is))
     by (Some s) is (are, answers) =

@@ -4,7 +4,7 @@ use Rattle.macho_fields.specs.Field.{part}
 use Rattle.macho_fields.specs.Segment.{vmaddr, vmsize, File, Zero, IsAtAddress}
 use Rattle.macho_image.specs.Segment.{SegmentView}
 use Rattle.macho_c.specs.Segments.{segments_seen, segment_bytes}
-use Rattle.macho_c.specs.declared.status.TheConstants.{OK, NONE, ZERO}
+use Rattle.macho_c.specs.Status.{KESVUOT_OK, KESVUOT_NONE, KESVUOT_ZERO}
 
 -- whether the address is one of the vmsize addresses of the segment from vmaddr on
 abbrev pub supplies : ℕ → SegmentView → Bool
@@ -24,16 +24,16 @@ bytes_from address s = drop (address - vmaddr s.image s.place) (segment_bytes s.
 -- and where no segment has it nothing.
 abbrev pub IsAnswer : List ℕ → ℕ → ℕ → List ℕ → Type 0
 IsAnswer image address status bytes =
-    MatchOption (supplier image address) ((status ≡ NONE) × (bytes ≡ []))
+    MatchOption (supplier image address) ((status ≡ KESVUOT_NONE) × (bytes ≡ []))
     (λ s. (bytes ≡ bytes_from address s)
-    × (((status ≡ OK) × (bytes ≢ [])) ⊎ ((status ≡ ZERO) × (bytes ≡ []))))
+    × (((status ≡ KESVUOT_OK) × (bytes ≢ [])) ⊎ ((status ≡ KESVUOT_ZERO) × (bytes ≡ []))))
 
 -- What the answer says of an image that breaks no rule: the bytes begin with that at the address, or
 -- there is a zero, or nothing is there.
 abbrev pub IsSourceAt : List ℕ → ℕ → ℕ → List ℕ → Type 0
 IsSourceAt image address status bytes =
-    ((status ≡ OK)
+    ((status ≡ KESVUOT_OK)
     × (place : ℕ) × IsAtAddress image address (Some (File place))
     × (bytes ≡ part place (length bytes) image))
-    ⊎ ((status ≡ ZERO) × IsAtAddress image address (Some Zero))
-    ⊎ ((status ≡ NONE) × IsAtAddress image address None)
+    ⊎ ((status ≡ KESVUOT_ZERO) × IsAtAddress image address (Some Zero))
+    ⊎ ((status ≡ KESVUOT_NONE) × IsAtAddress image address None)

@@ -1,15 +1,16 @@
 -- What the struct of an image shows. (mach-o/loader.h: mach_header_64)
 use Rattle.std.specs.Prelude.{◌≡◌, ℕ, ◌+◌, ◌≤◌, ◌<◌, ◌⊎◌, List, [], ◌∷◌, length, Option, None, Some, slice_get}
 use Rattle.std.specs.Option.{option_map, unwrap_or}
-use Rattle.macho_fields.specs.First.{IsUnbroken}
+use Rattle.macho_fields.specs.First.{rank, IsUnbroken}
 use Rattle.macho_fields.specs.Image.{word, cpu_type, cpu_subtype, file_type, commands_of}
-use Rattle.macho_fields.specs.Layers.{NothingBreaks}
-use Rattle.macho_fields.specs.Rules.{BreaksImage}
+use Rattle.macho_fields.specs.Layers.{KeptBelow, NothingBreaks}
+use Rattle.macho_fields.specs.Rules.{BreaksFile, BreaksImage}
 use Rattle.macho_fields.specs.Segment.{section_count, base_of}
 use Rattle.macho_fields.specs.Symbol.{ilocalsym, nlocalsym, iextdefsym, nextdefsym, iundefsym, nundefsym}
 use Rattle.macho_fields.specs.Universal.{FileSlice, slices_of, slice_bytes, masked, IsImage, IsUnreadImage, IsForeign}
 use Rattle.macho_fields.specs.declared.header.loader.TheConstants as loader
 use Rattle.macho_fields.specs.declared.rule.Rule.{Rule}
+use Rattle.macho_fields.specs.declared.rule.Rule.TheVariants as rule
 use Rattle.macho_image.specs.Command.{first_with_cmd}
 use Rattle.macho_image.specs.Entry.{entry_of}
 use Rattle.macho_image.specs.Single.{uuid_at}
@@ -19,9 +20,10 @@ use Rattle.macho_image.specs.declared.symtab.Symtab.{Symtab}
 use Rattle.macho_c.specs.Builds.{builds_in}
 use Rattle.macho_c.specs.Commands.{commands_in}
 use Rattle.macho_c.specs.Libraries.{libraries_in}
+use Rattle.macho_c.specs.Rows.{IsBrokenImage, HasHeaders}
 use Rattle.macho_c.specs.Segments.{segments_seen}
 use Rattle.macho_c.specs.declared.image.KesvuotImage.{KesvuotImage}
-use Rattle.macho_c.specs.declared.status.TheConstants.{OK, REFUSED, NONE, UNREAD}
+use Rattle.macho_c.specs.Status.{KESVUOT_OK, KESVUOT_REFUSED, KESVUOT_NONE, KESVUOT_UNREAD}
 
 -- Parts that an image has once, or not at all
 
@@ -151,11 +153,20 @@ ShowsNothing row = ShowsOutside [] 0 0 0 row
 
 -- The answer on a slice
 
--- the slice has an image that is read, which the struct shows
+-- the file breaks a rule without which it has no slices to look for, of which the last is fat-truncated
+abbrev pub HasNoTable : List ℕ → Type 0
+HasNoTable file =
+    (r : Rule) × (place : ℕ) × (rank r ≤ rank rule.FatTruncated) × BreaksFile file r place
+
+-- it breaks none of these rules
+abbrev pub HasTable : List ℕ → Type 0
+HasTable file = KeptBelow (BreaksFile file) (rank rule.FatTruncated + 1)
+
+-- the slice has an image that is read, whose headers break no rule, and which the struct shows
 abbrev pub IsRead : List ℕ → FileSlice → KesvuotImage → Type 0
 IsRead file slice row =
     (slice.start + slice.size ≤ length file) × IsImage (slice_bytes file slice)
-    × Shows (slice_bytes file slice) slice.start row
+    × HasHeaders (slice_bytes file slice) slice.arch × Shows (slice_bytes file slice) slice.start row
 
 -- the slice has an image that is not read, of the architecture that the table names
 abbrev pub IsUnread : List ℕ → FileSlice → KesvuotImage → Type 0
@@ -164,31 +175,35 @@ IsUnread file slice row =
     (slice.start + slice.size ≤ length file) × IsUnreadImage (slice_bytes file slice)
     × ShowsOutside (slice_bytes file slice) slice.start arch.0 arch.1 row
 
--- the answer on the slice with this index
-abbrev pub IsAnswer : List ℕ → ℕ → ℕ → KesvuotImage → Type 0
-IsAnswer file index status row =
-    ((status ≡ OK)
-    × (slice : FileSlice) × (slice_get (slices_of file) index ≡ Some slice) × IsRead file slice row)
-    ⊎ ((status ≡ UNREAD)
-    × (slice : FileSlice) × (slice_get (slices_of file) index ≡ Some slice)
-    × IsUnread file slice row)
-    ⊎ ((status ≡ NONE) × (slice_get (slices_of file) index ≡ None) × ShowsNothing row)
-    ⊎ ((status ≡ REFUSED) × (¬ IsUnbroken file) × ShowsNothing row)
-
--- What only proofs need.
-
--- the bytes break a rule of an image
-abbrev pub Breaks : List ℕ → Option (ℕ × ℕ) → Type 0
-Breaks image arch = (r : Rule) × (place : ℕ) × BreaksImage image arch r place
-
--- the slice ends past the file, is no image at all, or breaks a rule
+-- the slice ends past the file, is no image at all, or its headers break a rule
 abbrev pub IsBad : List ℕ → FileSlice → Type 0
 IsBad file slice =
     (length file < slice.start + slice.size) ⊎ IsForeign (slice_bytes file slice)
-    ⊎ (IsImage (slice_bytes file slice) × Breaks (slice_bytes file slice) slice.arch)
+    ⊎ (IsImage (slice_bytes file slice) × IsBrokenImage (slice_bytes file slice) slice.arch)
+
+-- no accepted file has these bytes: those of its table, or those of the slice with this index
+abbrev pub IsRefusedAt : List ℕ → ℕ → Type 0
+IsRefusedAt file index =
+    (¬ IsUnbroken file)
+    × (HasNoTable file
+    ⊎ ((slice : FileSlice) × (slice_get (slices_of file) index ≡ Some slice) × IsBad file slice))
+
+-- the answer on the slice with this index
+abbrev pub IsAnswer : List ℕ → ℕ → ℕ → KesvuotImage → Type 0
+IsAnswer file index status row =
+    ((status ≡ KESVUOT_OK) × HasTable file
+    × (slice : FileSlice) × (slice_get (slices_of file) index ≡ Some slice) × IsRead file slice row)
+    ⊎ ((status ≡ KESVUOT_UNREAD) × HasTable file
+    × (slice : FileSlice) × (slice_get (slices_of file) index ≡ Some slice)
+    × IsUnread file slice row)
+    ⊎ ((status ≡ KESVUOT_NONE) × HasTable file
+    × (slice_get (slices_of file) index ≡ None) × ShowsNothing row)
+    ⊎ ((status ≡ KESVUOT_REFUSED) × IsRefusedAt file index × ShowsNothing row)
+
+-- What only proofs need.
 
 -- the answer on a slice
 abbrev pub IsSliceAnswer : List ℕ → FileSlice → ℕ → KesvuotImage → Type 0
 IsSliceAnswer file slice status row =
-    ((status ≡ OK) × IsRead file slice row) ⊎ ((status ≡ UNREAD) × IsUnread file slice row)
-    ⊎ ((status ≡ REFUSED) × IsBad file slice × ShowsNothing row)
+    ((status ≡ KESVUOT_OK) × IsRead file slice row) ⊎ ((status ≡ KESVUOT_UNREAD) × IsUnread file slice row)
+    ⊎ ((status ≡ KESVUOT_REFUSED) × IsBad file slice × ShowsNothing row)

@@ -9,5 +9,6 @@ pub mod Rows
 pub mod RuleNumbers
 pub mod Sections
 pub mod Segments
+pub mod Status
 pub mod Symbols
 pub mod Verdict

@@ -5,7 +5,7 @@ use Rattle.macho_fields.specs.Image.{word, commands_of}
 use Rattle.macho_fields.specs.LoadCommands.{structure_of}
 use Rattle.macho_fields.specs.declared.load_command.Structure.TheVariants.{LinkeditDataCommand}
 use Rattle.macho_image.specs.Command.{first_with_cmd}
-use Rattle.macho_c.specs.declared.status.TheConstants.{OK, NONE}
+use Rattle.macho_c.specs.Status.{KESVUOT_OK, KESVUOT_NONE}
 
 -- linkedit_data_command: dataoff at 8, datasize at 12
 abbrev pub dataoff : List ℕ → ℕ → ℕ
@@ -30,9 +30,9 @@ PassesImage image command =
 -- such command, where it is of another structure, and where the data does not lie inside the image.
 abbrev pub IsAnswer : List ℕ → ℕ → ℕ → List ℕ → Type 0
 IsAnswer image cmd status bytes =
-    ((status ≡ OK) × (structure_of cmd ≡ Some LinkeditDataCommand)
+    ((status ≡ KESVUOT_OK) × (structure_of cmd ≡ Some LinkeditDataCommand)
     × (command : ℕ) × (first_with_cmd image cmd (commands_of image) ≡ Some command)
     × IsData image command bytes)
-    ⊎ ((status ≡ NONE) × (bytes ≡ [])
+    ⊎ ((status ≡ KESVUOT_NONE) × (bytes ≡ [])
     × ((structure_of cmd ≢ Some LinkeditDataCommand)
     ⊎ MatchOption (first_with_cmd image cmd (commands_of image)) (Unit {0}) (PassesImage image)))

@@ -1,10 +1,13 @@
 -- A table of the caller, and what an export writes to it.
-use Rattle.std.specs.Prelude.{◌≡◌, ℕ, ◌+◌, ◌⊎◌, List, [], length, map, take, drop, Option, None, ◌==◌, nat_le, if◌then◌else◌}
+use Rattle.std.specs.Prelude.{◌≡◌, ℕ, ◌+◌, ◌≤◌, ◌⊎◌, List, [], length, map, take, drop, Option, None, ◌==◌, nat_le, if◌then◌else◌}
 use Rattle.std.specs.Iterator.{Yields}
 use Rattle.std.specs.List.{before_first, list_any}
 use Rattle.macho_fields.specs.Field.{part}
+use Rattle.macho_fields.specs.First.{rank}
+use Rattle.macho_fields.specs.Layers.{KeptBelow}
 use Rattle.macho_fields.specs.Rules.{BreaksImage}
 use Rattle.macho_fields.specs.declared.rule.Rule.{Rule}
+use Rattle.macho_fields.specs.declared.rule.Rule.TheVariants as rule
 
 -- The table had `old`, and has `new`: its first n rows are now those from the index first on, as
 -- many as there are and as it has room for, and the others are as they were. `shown` is what a row
@@ -15,15 +18,21 @@ pub record IsFilled {R T : Type 0} (shown : R → T) (rows : List T) (first n : 
   pub count : n ≡ length (take (length old) (drop first rows))
   pub rest : drop n new ≡ drop n old
 
--- the bytes break a rule of an image
-abbrev pub IsBrokenImage : List ℕ → Type 0
-IsBrokenImage image = (r : Rule) × (place : ℕ) × BreaksImage image None r place
+-- the bytes break a rule of the headers of an image, of which the last is name
+abbrev pub IsBrokenImage : List ℕ → Option (ℕ × ℕ) → Type 0
+IsBrokenImage image arch =
+    (r : Rule) × (place : ℕ) × (rank r ≤ rank rule.Name) × BreaksImage image arch r place
 
--- The table is filled with the rows of an image, or nothing is written, where the bytes are no image of an
--- accepted file.
+-- they break none of these rules
+abbrev pub HasHeaders : List ℕ → Option (ℕ × ℕ) → Type 0
+HasHeaders image arch = KeptBelow (BreaksImage image arch) (rank rule.Name + 1)
+
+-- The table is filled with the rows of an image, or nothing is written, where the bytes break a rule of
+-- the headers.
 abbrev pub IsTable : {R T : Type 0} → List ℕ → (R → T) → List T → ℕ → ℕ → List R → List R → Type 0
 IsTable image shown rows first n old new =
-    IsFilled shown rows first n old new ⊎ (IsBrokenImage image × (n ≡ 0) × (new ≡ old))
+    (HasHeaders image None × IsFilled shown rows first n old new)
+    ⊎ (IsBrokenImage image None × (n ≡ 0) × (new ≡ old))
 
 -- the bytes at these places, and none where they do not all lie inside
 abbrev pub part_or_none : ℕ → ℕ → List ℕ → List ℕ

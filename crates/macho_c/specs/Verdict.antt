@@ -10,7 +10,7 @@ use Rattle.macho_strict.specs.Accounted.{IsAccounted}
 use Rattle.macho_strict.specs.First.{IsStrictlyUnbroken, IsFirstStrictlyBroken}
 use Rattle.macho_strict.specs.declared.rule.StrictBreak.{StrictBreak}
 use Rattle.macho_c.specs.RuleNumbers.{number, strict_number}
-use Rattle.macho_c.specs.declared.status.TheConstants.{OK, REFUSED, NO_MEMORY}
+use Rattle.macho_c.specs.Status.{KESVUOT_OK, KESVUOT_REFUSED, KESVUOT_NO_MEMORY}
 use Rattle.macho_c.specs.declared.verdict.KesvuotVerdict.{KesvuotVerdict}
 
 -- the numbers of a verdict
@@ -33,8 +33,8 @@ IsUndecided file v = IsRefusal file refusal.Memory × Has v 0 0 0
 -- the answer on a file
 abbrev pub IsVerdict : List ℕ → ℕ → KesvuotVerdict → Type 0
 IsVerdict file status v =
-    ((status ≡ OK) × IsAccepted file v) ⊎ ((status ≡ REFUSED) × IsRefused file v)
-    ⊎ ((status ≡ NO_MEMORY) × IsUndecided file v)
+    ((status ≡ KESVUOT_OK) × IsAccepted file v) ⊎ ((status ≡ KESVUOT_REFUSED) × IsRefused file v)
+    ⊎ ((status ≡ KESVUOT_NO_MEMORY) × IsUndecided file v)
 
 -- The file breaks no strict rule either, and each of its bytes is accounted for.
 abbrev pub IsAcceptedStrictly : List ℕ → KesvuotVerdict → Type 0
@@ -50,5 +50,5 @@ IsRefusedStrictly file v =
 -- the answer on a file, by the strict rules too
 abbrev pub IsStrictVerdict : List ℕ → ℕ → KesvuotVerdict → Type 0
 IsStrictVerdict file status v =
-    ((status ≡ OK) × IsAcceptedStrictly file v) ⊎ ((status ≡ REFUSED) × IsRefusedStrictly file v)
-    ⊎ ((status ≡ NO_MEMORY) × IsUndecided file v)
+    ((status ≡ KESVUOT_OK) × IsAcceptedStrictly file v) ⊎ ((status ≡ KESVUOT_REFUSED) × IsRefusedStrictly file v)
+    ⊎ ((status ≡ KESVUOT_NO_MEMORY) × IsUndecided file v)

@@ -5,7 +5,8 @@ ghost use Rattle.macho_fields.specs.Layers.{NothingBreaks};
 ghost use Rattle.macho_fields.specs.Rules.{BreaksImage};
 ghost use Rattle.macho_c.specs.Address.{supplier, IsAnswer, IsSourceAt};
 ghost use Rattle.macho_c.specs.Address.{supplies as supplies_of};
-ghost use Rattle.macho_c.specs.Rows.{IsBrokenImage};
+ghost use Rattle.macho_c.specs.Rows.{IsBrokenImage, HasHeaders};
+ghost use Rattle.macho_c.specs.Status.{KESVUOT_NONE};
 
 use crate::image::KesvuotImage;
 use crate::parts::rest;
@@ -23,8 +24,9 @@ pub extern "C" fn kesvuot_at<'a>(
     address: u64,
     bytes: &mut &'a [u8],
 ) -> u32
-    ensures answer { IsAnswer image.now.bytes.now address result bytes.new.now
-        ⊎ (IsBrokenImage image.now.bytes.now × (result ≡ NONE) × (bytes.new.now ≡ [])) }
+    ensures answer { (HasHeaders image.now.bytes.now None
+        × IsAnswer image.now.bytes.now address result bytes.new.now)
+        ⊎ (IsBrokenImage image.now.bytes.now None × (result ≡ KESVUOT_NONE) × (bytes.new.now ≡ [])) }
     ensures source { NothingBreaks (BreaksImage image.now.bytes.now None)
         → IsSourceAt image.now.bytes.now address result bytes.new.now }
 {

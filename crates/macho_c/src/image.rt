@@ -13,9 +13,11 @@ ghost use Rattle.macho_c.specs.Builds.{builds_in};
 ghost use Rattle.macho_c.specs.Commands.{commands_in};
 ghost use Rattle.macho_c.specs.Libraries.{libraries_in};
 ghost use Rattle.macho_c.specs.Segments.{segments_seen};
-ghost use Rattle.macho_c.specs.Image.{IsAnswer, IsSliceAnswer, Breaks, Shows, ShowsNothing, ShowsUnbroken};
+ghost use Rattle.macho_c.specs.Image.{IsAnswer, IsSliceAnswer, Shows, ShowsNothing, ShowsUnbroken};
 ghost use Rattle.macho_c.specs.Image.{only, uuid_in, symtab_in, dysymtab_in, field_of};
 ghost use Rattle.macho_c.specs.Image.{bit as bit_of, groups_at as groups_in, no_groups};
+ghost use Rattle.macho_c.specs.Rows.{IsBrokenImage, HasHeaders};
+ghost use Rattle.macho_c.specs.Status.{KESVUOT_OK, KESVUOT_REFUSED};
 
 use crate::status::{NONE, OK, REFUSED, UNREAD};
 use macho_fat::{Slice, is_unread_image, slice_at};
@@ -89,7 +91,7 @@ pub struct KesvuotImage<'a> {
 #[unsafe(no_mangle)]
 pub extern "C" fn kesvuot_image<'a>(file: &'a [u8], slice: u64, image: &mut KesvuotImage<'a>) -> u32
     ensures answer { IsAnswer file.now slice result image.new }
-    ensures unbroken { IsUnbroken file.now → (result ≡ OK) → ShowsUnbroken image.new }
+    ensures unbroken { IsUnbroken file.now → (result ≡ KESVUOT_OK) → ShowsUnbroken image.new }
 {
     *image = no_image();
     let bytes = Bytes::new(file);
@@ -126,8 +128,10 @@ fn read_slice<'a>(file: Bytes<'a>, slice: &Slice, image: &mut KesvuotImage<'a>) 
 // Reads a 64-bit little-endian image, which the bytes of the slice are.
 fn read_image<'a>(bytes: &'a [u8], slice: &Slice, image: &mut KesvuotImage<'a>) -> u32
     requires { ShowsNothing image.old }
-    ensures { ((result ≡ OK) × Shows bytes.now slice.now.span.start image.new)
-        ⊎ ((result ≡ REFUSED) × Breaks bytes.now slice.now.arch × ShowsNothing image.new) }
+    ensures { ((result ≡ KESVUOT_OK) × HasHeaders bytes.now slice.now.arch
+        × Shows bytes.now slice.now.span.start image.new)
+        ⊎ ((result ≡ KESVUOT_REFUSED) × IsBrokenImage bytes.now slice.now.arch
+        × ShowsNothing image.new) }
 {
     match Image::open(Bytes::new(bytes), slice.arch) {
         Ok(opened) => {

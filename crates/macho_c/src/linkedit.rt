@@ -1,11 +1,12 @@
 //! The data that load commands name.
 
-ghost use Rattle.std.specs.Prelude.{◌≡◌, ◌⊎◌, ◌↔◌, ◌+◌, ◌≤◌, Some, [], IsTrue, IsSome, IfSome, IfNone, length};
+ghost use Rattle.std.specs.Prelude.{◌≡◌, ◌⊎◌, ◌↔◌, ◌+◌, ◌≤◌, None, Some, [], IsTrue, IsSome, IfSome, IfNone, length};
 ghost use Rattle.macho_fields.specs.Bytes.{bytes_of};
 ghost use Rattle.macho_fields.specs.LoadCommands.{structure_of, structure_size};
 ghost use Rattle.macho_fields.specs.declared.load_command.Structure.TheVariants.{LinkeditDataCommand};
 ghost use Rattle.macho_c.specs.Linkedit.{IsAnswer, IsData, PassesImage};
-ghost use Rattle.macho_c.specs.Rows.{IsBrokenImage};
+ghost use Rattle.macho_c.specs.Rows.{IsBrokenImage, HasHeaders};
+ghost use Rattle.macho_c.specs.Status.{KESVUOT_NONE};
 
 use crate::image::KesvuotImage;
 use crate::status::{NONE, OK};
@@ -21,8 +22,9 @@ pub extern "C" fn kesvuot_linkedit<'a>(
     cmd: u32,
     bytes: &mut &'a [u8],
 ) -> u32
-    ensures { IsAnswer image.now.bytes.now cmd result bytes.new.now
-        ⊎ (IsBrokenImage image.now.bytes.now × (result ≡ NONE) × (bytes.new.now ≡ [])) }
+    ensures { (HasHeaders image.now.bytes.now None
+        × IsAnswer image.now.bytes.now cmd result bytes.new.now)
+        ⊎ (IsBrokenImage image.now.bytes.now None × (result ≡ KESVUOT_NONE) × (bytes.new.now ≡ [])) }
 {
     match Image::open(Bytes::new(image.bytes), None) {
         Ok(image) => write_data(&image, cmd, bytes),

@@ -5,6 +5,7 @@ ghost use Rattle.std.specs.Prelude.{◌≡◌, ◌<◌, ◌-◌, ◌⊎◌, [], 
 ghost use Rattle.macho_fields.specs.RuleList.{name_of as name_in_reports};
 ghost use Rattle.macho_strict.specs.RuleList.{name_of as strict_name_in_reports};
 ghost use Rattle.macho_c.specs.RuleNumbers.{number, strict_number, IsNumbered, IsNoNumber};
+ghost use Rattle.macho_c.specs.Status.{KESVUOT_OK, KESVUOT_NONE};
 
 use crate::status::{NONE, OK};
 use macho_fields::Rule;
@@ -31,8 +32,8 @@ pub(crate) fn strict_number_of(rule: StrictRule) -> u32
 /// counted, follows it in memory. The status is `OK`, or `NONE` where no rule has the number.
 #[unsafe(no_mangle)]
 pub extern "C" fn kesvuot_rule(rule: u32, name: &mut &'static [u8]) -> u32
-    ensures { ((result ≡ OK) × IsNumbered rule name.new.now)
-        ⊎ ((result ≡ NONE) × IsNoNumber rule × (name.new.now ≡ [])) }
+    ensures { ((result ≡ KESVUOT_OK) × IsNumbered rule name.new.now)
+        ⊎ ((result ≡ KESVUOT_NONE) × IsNoNumber rule × (name.new.now ≡ [])) }
 {
     if let Some(rule) = rule_with(rule) {
         *name = name_of(rule);

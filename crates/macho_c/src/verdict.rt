@@ -2,6 +2,7 @@
 
 ghost use Rattle.std.specs.Prelude.{◌≡◌, length};
 ghost use Rattle.macho_fields.specs.Universal.{slices_of};
+ghost use Rattle.macho_c.specs.Status.{KESVUOT_OK, KESVUOT_REFUSED, KESVUOT_NO_MEMORY};
 ghost use Rattle.macho_c.specs.Verdict.{Has, IsVerdict, IsStrictVerdict};
 
 use crate::rule::{number_of, strict_number_of};
@@ -60,7 +61,7 @@ pub extern "C" fn kesvuot_verify_strictly(
 
 // The file is accepted.
 fn accept(verified: &Verified, verdict: &mut KesvuotVerdict) -> u32
-    ensures status { result ≡ OK }
+    ensures status { result ≡ KESVUOT_OK }
     ensures verdict { Has verdict.new 0 0 (length (slices_of verified.now)) }
 {
     *verdict = KesvuotVerdict {
@@ -74,7 +75,7 @@ fn accept(verified: &Verified, verdict: &mut KesvuotVerdict) -> u32
 
 // The rule with this number is broken at `place`.
 fn refuse(rule: u32, place: u64, verdict: &mut KesvuotVerdict) -> u32
-    ensures status { result ≡ REFUSED }
+    ensures status { result ≡ KESVUOT_REFUSED }
     ensures verdict { Has verdict.new rule place 0 }
 {
     *verdict = KesvuotVerdict {
@@ -88,7 +89,7 @@ fn refuse(rule: u32, place: u64, verdict: &mut KesvuotVerdict) -> u32
 
 // There was no memory.
 fn give_up(verdict: &mut KesvuotVerdict) -> u32
-    ensures status { result ≡ NO_MEMORY }
+    ensures status { result ≡ KESVUOT_NO_MEMORY }
     ensures verdict { Has verdict.new 0 0 0 }
 {
     *verdict = KesvuotVerdict {

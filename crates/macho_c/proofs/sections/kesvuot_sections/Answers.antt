@@ -2,7 +2,7 @@ use Rattle.std.proofs.Common.{◌∙◌, List, ap, inl, inr, refl, rules}
 use Rattle.std.proofs.lemmas.Iterator.Consumers.{YieldsList-from_first}
 use Rattle.macho_image.specs.Segment.{SectionView}
 use Rattle.macho_c.specs.Sections.{section_shown, section_row, sections_in}
-use Rattle.macho_c.proofs.Filled.{filled_past, refused}
+use Rattle.macho_c.proofs.Filled.{filled_past, opened, refused}
 use Rattle.macho_c.proofs.sections.kesvuot_sections.Goals as goal
 
 pub returns-in-Ok : goal.returns-in-Ok
@@ -10,8 +10,11 @@ returns-in-Ok c =
     let all = sections_in c.args.image.now.bytes.now in
     let given = c.sections.ensures.sections ∙ ap sections_in (c.in-Ok.ensures.image ∙ c.new.ensures) in
     let source = YieldsList-from_first (λ (section : SectionView). section) (λ (left : List SectionView). left) all given in
-    inl (filled_past section_shown section_row all c.args.first c.fill.ensures source
-    c.skip.ensures.source c.skip.ensures.count c.map.ensures.source c.map.ensures.closure (λ x r q k. search rules))
+    inl (
+      opened _ _ c.new.ensures c.in-Ok.ensures.decides,
+      filled_past section_shown section_row all c.args.first c.fill.ensures source
+          c.skip.ensures.source c.skip.ensures.count c.map.ensures.source c.map.ensures.closure (λ x r q k. search rules),
+    )
 
 pub returns-in-Err : goal.returns-in-Err
-returns-in-Err c = inr (refused _ _ _ _ c.in-Err.is c.new.ensures c.open.ensures.decides, refl, refl)
+returns-in-Err c = inr (refused _ _ _ _ c.in-Err.is c.new.ensures c.open.ensures.decides c.open.ensures.stops, refl, refl)
