@@ -134,13 +134,13 @@ static void *room_for_rows(uint64_t count, size_t size) {
 #define READ(image, table, row, count) \
     kesvuot_##table((image), 0, room_for_rows((image)->count, sizeof(row)), (size_t)(image)->count)
 
-// All rows of all images.
 // Whether the file has a slice with this index, and its image.
 static bool has_slice(const struct file *file, uint64_t index, struct kesvuot_image *image) {
     uint32_t status = kesvuot_image(file->bytes, file->size, index, image);
     return status == KESVUOT_OK || status == KESVUOT_UNREAD;
 }
 
+// All rows of all images.
 static uint64_t all_rows(const struct file *file) {
     struct kesvuot_image image;
     uint64_t sum = 0;

@@ -51,8 +51,8 @@ def answers(program: str, files: list[bytes]) -> list[tuple[str, str]]:
 
 
 def files_of(vectors: list[Vector]) -> Iterator[tuple[str, bytes, str | None]]:
-    """The file of each vector and its mutants: the name of the vector, the bytes, and the verdict that stands there, which
-    a mutant has none of."""
+    """The file of each vector and its mutants: the name of the vector, the bytes, and the verdict that stands there. A
+    mutant has none."""
     for vector in vectors:
         yield vector.name, vector.data, vector.wanted
         yield from ((vector.name, data, None) for data in mutants(vector))
