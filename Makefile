@@ -57,6 +57,7 @@ uninstall:
 	rm -f $(TO_LIB)/libkesvuot.a $(TO_LIB)/libkesvuot.so.0 $(TO_LIB)/libkesvuot.so $(TO_LIB)/pkgconfig/kesvuot.pc
 	rm -f $(TO_INCLUDE)/kesvuot.h $(TO_PYTHON)/kesvuot.py $(TO_PYTHON)/__pycache__/kesvuot.*.pyc
 	rm -f $(TO_MAN)/man1/macho-check.1 $(TO_MAN)/man1/macho-strict.1 $(TO_MAN)/man3/kesvuot.3 $(TO_DOC)/RULES.md
+	rmdir $(TO_DOC) 2>/dev/null || :
 
 # A package of Debian, and an archive for any other system.
 deb: built

@@ -24,8 +24,11 @@ from typing import Iterator, List, NamedTuple, Optional
 try:
     import kesvuot
 except ImportError as missing:
-    # Python would end with 1, which is a refusal.
-    print(f"gate: {missing}", file=sys.stderr)
+    # Python would end with 1, which is a refusal. Standard error may be closed or full.
+    try:
+        os.write(2, f"gate: {missing}\n".encode("ascii", "backslashreplace"))
+    except OSError:
+        pass
     sys.exit(2)
 
 # fat.h and loader.h: universal files, and images of 64 and 32 bits in both byte orders.
@@ -175,6 +178,8 @@ def run(words: argparse.Namespace) -> int:
 def main(words: Optional[List[str]] = None) -> int:
     given = read_words(words)
     try:
+        if sys.stdout is None:
+            raise OSError("standard output is closed")
         sys.stdout.reconfigure(errors="backslashreplace")
         return run(given)
     except Exception as error:  # pylint: disable=broad-except # Python would end with 1, which is a refusal

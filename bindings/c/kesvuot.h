@@ -12,7 +12,7 @@
  *
  * Every call is safe on any bytes, and on any numbers in the structures below. It trusts no earlier call: neither that
  * kesvuot_verify accepted the file, nor that a structure is still as kesvuot_image wrote it. What would lie outside the
- * bytes is left empty. In an accepted file nothing is left empty, and each part is as RULES.md says.
+ * bytes is left empty. In an accepted file nothing is empty for that reason, and each part is as RULES.md says.
  *
  * What you have to ensure:
  * - Each pointer is valid, for as many bytes or rows as you say. It may be null only beside the size or count 0.
@@ -20,8 +20,9 @@
  * - The bytes of the file stay for as long as you use what was read from them: every `struct kesvuot_bytes` that a call
  *   writes points into the file, or to a constant of the library. Nothing is copied, and there is nothing to free.
  *
- * A program runs with each library of the soname that it was linked with. Rules are numbered in the order of judgment.
- * A version with one more rule may number them anew, and then has another soname: store names of rules, not numbers.
+ * A program works with every library that has the soname it was linked against. Rules are numbered in the order of
+ * judgment. A version that adds a rule may renumber them, and then has another soname and another major version: store
+ * names of rules, not numbers.
  *
  * No call keeps state, prints, or ends the process, and any threads may call at once. Only kesvuot_verify and
  * kesvuot_verify_strictly take memory, by malloc and realloc, and they give it back before they return.
@@ -127,7 +128,10 @@ uint32_t kesvuot_rule(uint32_t rule, struct kesvuot_bytes *name);
 /* An image
  *
  * <mach-o/loader.h> and <mach-o/nlist.h> explain the fields. Offsets count from the start of the slice, but `place` of
- * an image counts from the start of the file. A name ends before its zero byte. Reserved fields are 0. */
+ * an image counts from the start of the file. Reserved fields are 0.
+ *
+ * A name has no zero byte in it. One follows the name of a command, library or symbol, but not always that of a segment
+ * or section, which may fill all its 16 bytes: use len. */
 
 /* Which parts an image has: bits of `has`. */
 enum {
@@ -164,7 +168,8 @@ struct kesvuot_image {
     uint32_t reserved[5]; /* 0 */
 };
 
-/* The image of a slice, from 0 on. It goes over the load commands of that slice alone, however many slices there are.
+/* The image of a slice, counted from 0. Only the load commands of that slice are walked over, so the number of slices
+ * does not matter.
  * OK: all fields are written. Those of parts that the image does not have are 0. This is no verdict on the file.
  * UNREAD: the slice is of 32 bits or big-endian. bytes, place, and cputype and cpusubtype of the universal table are
  * written, and all else is 0.
@@ -178,9 +183,9 @@ uint32_t kesvuot_image(const void *file, size_t size, uint64_t slice, struct kes
  * after those as they were. kesvuot_symbols and kesvuot_indirects begin at the row itself, so batches of any size cost
  * the same. Every other call goes over the load commands anew: ask for all rows, or for many, at a time.
  *
- * kesvuot_symbols looks for the end of each name. In the file of a stranger many symbols may share a long name, and then
- * all names take a time in the order of symbol_count * strings_size. In a copy of the image set strings_size to 0: its
- * rows have no names, and take none of that time. Then ask for the few rows whose names you need. */
+ * kesvuot_symbols looks for the end of each name. In a hostile file many symbols can share a long name. To read all
+ * names then takes time in proportion to symbol_count * strings_size. To avoid that, set strings_size to 0 in a copy of
+ * the image: its rows have no names. Then read the few rows whose names you need from the image itself. */
 
 struct kesvuot_segment { /* LC_SEGMENT_64 */
     struct kesvuot_bytes name;
@@ -256,12 +261,12 @@ size_t kesvuot_indirects(const struct kesvuot_image *image, uint64_t first, uint
 /* The data of the first linkedit_data_command with this cmd: LC_CODE_SIGNATURE (0x1d), LC_FUNCTION_STARTS (0x26) and so
  * on.
  * OK: all datasize bytes from dataoff on. If datasize is 0, these are none, wherever dataoff is.
- * NONE: the image has no such command, or cmd is of another structure; in a file that was not accepted also where the
- * data ends past the image, or its headers break a rule. */
+ * NONE: the image has no such command, or RULES.md does not list cmd as a linkedit_data_command, as LC_ATOM_INFO
+ * (0x36); in a file that was not accepted also where the data ends past the image, or its headers break a rule. */
 uint32_t kesvuot_linkedit(const struct kesvuot_image *image, uint32_t cmd, struct kesvuot_bytes *data);
 
 /* What is at an address, before any slide. OK: the bytes from there to the end of what its segment has in the file.
- * ZERO: the segment has the address, but the file no byte for it. NONE: no segment has the address; in a
+ * ZERO: the segment has the address, but no byte of the file for it. NONE: no segment has the address; in a
  * file that was not accepted also where the headers break a rule. Like kesvuot_linkedit, it goes over the load commands
  * anew: for many addresses read the segments once. */
 uint32_t kesvuot_at(const struct kesvuot_image *image, uint64_t address, struct kesvuot_bytes *bytes);

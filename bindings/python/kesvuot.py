@@ -16,10 +16,12 @@ read-only memoryviews of it. Nothing is copied, and `data` lives for as long as 
 bytes, as in `segment.name == b"__TEXT"`.
 
 THE BYTES MUST NOT CHANGE WHILE A CALL RUNS, or the process may crash. Nobody can change `bytes`. A call holds the GIL,
-so Python code in other threads cannot change a bytearray meanwhile; but `readinto`, `recv_into` or numpy can, which
-release the GIL, and so can any thread of a Python without one. Other programs can change a file that is mapped: read
-the files of strangers into memory, or map only what nobody else can write to or cut. If the bytes change after the
-verdict, every call is still safe, but the verdict says nothing about the new bytes.
+so other Python threads cannot change a bytearray during it. Code that releases the GIL can, such as `readinto`,
+`recv_into` or numpy, and so can any thread of a Python without a GIL. Other programs can change a file that is mapped:
+read the files of strangers into memory, or map only what nobody else can write to or cut. If the bytes change after
+the verdict, every call is still safe, but the verdict says nothing about the new bytes.
+
+As a call holds the GIL, threads do not judge side by side: use processes for that.
 
     python3 -m kesvuot FILE..
 
@@ -29,7 +31,8 @@ and if it is read also "filetype", "flags", "uuid", "base", "entry", "builds", "
 "sections", and in "symbols" how many there are.
 
 The library comes from the folder KESVUOT_LIB_DIR if that is set, otherwise from the folder of this file or from where
-the system finds it. The module needs CPython 3.8 or later.
+the system finds it. It is loaded by the first call, which raises ImportError where it is not found. The module needs
+CPython 3.8 or later.
 """
 
 from __future__ import annotations
@@ -392,13 +395,14 @@ class Image(Slice):
 
     @property
     def symbols(self) -> Table[Symbol]:
-        """The symbols of LC_SYMTAB, none without it. To find where each name ends may take a time in the order of
-        nsyms * strsize in the file of a stranger, where many symbols share a long name."""
+        """The symbols of LC_SYMTAB, none without it. In a hostile file many symbols can share a long name. To read all
+        names then takes time in proportion to nsyms * strsize."""
         return self._symbols_of(self._image)
 
     @property
     def symbols_without_names(self) -> Table[Symbol]:
-        """The same symbols with empty names, in a time that no name adds to. `symbols[index]` has the name of one."""
+        """The same symbols with empty names, without a search for the end of each. `symbols[index]` has the name of
+        one."""
         fields = IMAGE.unpack(self._image)
         # No strings, so no name.
         nameless = ctypes.create_string_buffer(IMAGE.pack(*fields[:8], 0, *fields[9:]), IMAGE.size)
@@ -436,7 +440,8 @@ class Image(Slice):
 
     def linkedit(self, cmd: int) -> Optional[memoryview]:
         """The data of the first linkedit_data_command with this `cmd`, such as LC_CODE_SIGNATURE (0x1d). None if there
-        is no such command. Each call goes over the load commands."""
+        is no such command, or RULES.md does not list `cmd` as a linkedit_data_command, as LC_ATOM_INFO (0x36). Each
+        call goes over the load commands."""
         data = ctypes.create_string_buffer(PART.size)
         if not 0 <= cmd < 1 << 32 or _library().kesvuot_linkedit(self._image, cmd, data) != OK:
             return None

@@ -2,7 +2,7 @@
 
 use std::path::Path;
 use std::process::{self, Command};
-use std::{env, fs};
+use std::{env, fs, mem};
 
 fn main() {
     println!("cargo:rerun-if-changed=build.rs");
@@ -42,7 +42,7 @@ fn link_by_pkg_config() -> Result<(), String> {
     for name in ["PKG_CONFIG", "PKG_CONFIG_PATH", "PKG_CONFIG_LIBDIR"] {
         println!("cargo:rerun-if-env-changed={name}");
     }
-    for word in libs_of_pkg_config()?.split_whitespace() {
+    for word in words_of(&libs_of_pkg_config()?) {
         if let Some(folder) = word.strip_prefix("-L") {
             println!("cargo:rustc-link-search=native={folder}");
         } else if let Some(library) = word.strip_prefix("-l") {
@@ -50,6 +50,22 @@ fn link_by_pkg_config() -> Result<(), String> {
         }
     }
     Ok(())
+}
+
+/// The words of a line, in which a backslash keeps the next character, such as a blank, in its word.
+fn words_of(line: &str) -> Vec<String> {
+    let mut words = Vec::new();
+    let mut word = String::new();
+    let mut letters = line.chars();
+    while let Some(letter) = letters.next() {
+        match letter {
+            '\\' => word.extend(letters.next()),
+            _ if letter.is_whitespace() => words.push(mem::take(&mut word)),
+            _ => word.push(letter),
+        }
+    }
+    words.push(word);
+    words
 }
 
 /// What a linker needs for the library, such as `-L/usr/local/lib -lkesvuot`.

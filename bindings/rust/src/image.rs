@@ -10,7 +10,7 @@ use crate::rows::{Row, Rows};
 ///
 /// `<mach-o/loader.h>` and `<mach-o/nlist.h>` explain the fields. Offsets count from the start of
 /// the image, but [`place`](Image::place) and [`place_of`](Image::place_of) count from the start of
-/// the file. A name ends before its zero byte.
+/// the file. A name has no zero byte in it.
 ///
 /// Symbols and indirect entries are found by their index. Each of the other tables is read as a
 /// whole, in one walk over the load commands: collect its rows to use them more than once.
@@ -216,15 +216,15 @@ impl<'a> Image<'a> {
 
     /// All symbols, in the order of the table.
     ///
-    /// In the file of a stranger many symbols may share a long name. To find where all names end may
-    /// then take a time in the order of `nsyms * strsize`.
+    /// In a hostile file many symbols can share a long name. To read all names then takes time in
+    /// proportion to `nsyms * strsize`.
     #[must_use]
     pub fn symbols(&self) -> Rows<'a, Symbol<'a>> {
         Rows::new(self.raw, 0..self.raw.symbol_count)
     }
 
-    /// The same symbols with empty names, in a time that no name adds to. [`symbol`](Image::symbol)
-    /// gives one of them with its name.
+    /// The same symbols with empty names, without a search for the end of each.
+    /// [`symbol`](Image::symbol) gives one of them with its name.
     #[must_use]
     pub fn symbols_without_names(&self) -> Rows<'a, Symbol<'a>> {
         // No strings, so no name.
@@ -290,7 +290,8 @@ impl<'a> Image<'a> {
 
     /// The data of the first `linkedit_data_command` with this `cmd`, such as `LC_CODE_SIGNATURE`
     /// (0x1d): all `datasize` bytes from `dataoff` on. `None` if the image has no such command, or
-    /// `cmd` is of another structure. Each call goes over the load commands.
+    /// RULES.md does not list `cmd` as a `linkedit_data_command`, as `LC_ATOM_INFO` (0x36). Each call
+    /// goes over the load commands.
     #[must_use]
     pub fn linkedit(&self, cmd: u32) -> Option<&'a [u8]> {
         let (status, data) = ffi::linkedit(&self.raw, cmd);

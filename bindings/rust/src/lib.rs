@@ -1,8 +1,9 @@
 //! Judges the layout of Mach-O files, and reads the parts of an accepted file.
 //!
 //! The verdict and all that is read come from `libkesvuot`, whose calls are proved. After
-//! [`verify`] has accepted a file, there is no offset, count or index of it left to test: every
-//! part of an [`Image`] is there, in the bytes that you passed. Nothing is copied.
+//! [`verify`] has accepted a file, every part that an [`Image`] gives is there, in the bytes that you
+//! passed, with no offset, count or index to test. Nothing is copied. Numbers that RULES.md lists
+//! as not judged, and the fields of commands that it does not list, are whatever the file says.
 //!
 //! ```
 //! # let path = concat!(env!("CARGO_MANIFEST_DIR"), "/../../tests/real/program");
@@ -31,8 +32,8 @@
 //! the promise only where nobody else can write to the file or cut it. Read any other file into
 //! memory.
 //!
-//! The crate links `libkesvuot` from the folder `KESVUOT_LIB_DIR`, or else from where pkg-config
-//! finds it.
+//! The crate is not published: depend on its folder, `kesvuot = { path = ".../bindings/rust" }`. It
+//! links `libkesvuot` from the folder `KESVUOT_LIB_DIR`, or else from where pkg-config finds it.
 
 #![deny(unsafe_code)]
 #![warn(missing_docs)]

@@ -55,7 +55,7 @@ rules! {
     FatOverlap = 6,
     /// A slice has the architecture of an earlier one.
     FatDuplicate = 7,
-    /// A slice is no image.
+    /// A slice does not begin as an image does.
     FatSliceMagic = 8,
     /// No slice is a 64-bit little-endian image.
     FatEmpty = 9,
@@ -71,7 +71,7 @@ rules! {
     CommandWalk = 14,
     /// The `cmdsize` of a load command is less than its structure needs.
     CommandShort = 15,
-    /// A load command stands twice that may stand once.
+    /// A load command that may appear once appears twice.
     CommandRepeated = 16,
     /// A library has no `LC_ID_DYLIB`, or an image of another kind has one.
     DylibId = 17,

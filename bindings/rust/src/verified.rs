@@ -45,7 +45,7 @@ impl<'a> Verified<'a> {
     }
 
     /// The slice with this index, from 0 on, in the order of the universal table. `None` past the
-    /// last one. It takes as long however many slices there are.
+    /// last one. The time does not depend on the number of slices.
     #[must_use]
     pub fn slice(&self, index: u64) -> Option<Slice<'a>> {
         let (status, raw) = ffi::image(self.bytes, index);
