@@ -1,4 +1,4 @@
-use Rattle.std.proofs.Common.{◌≡◌, ◌∙◌, ◌-◌, ℕ, List, map, slice_get, sym, ap, subst}
+use Rattle.std.proofs.Common.{◌≡◌, ◌∙◌, ◌-◌, ℕ, List, map, slice_get, sym, ap, subst, rules}
 use Rattle.std.proofs.lemmas.Iterator.Consumers.{nth_from_yields_List, YieldsList-from_first}
 use Rattle.macho_fields.specs.Image.{commands_of}
 use Rattle.macho_image.specs.Segment.{SectionView, section_at, sections_of}
@@ -29,3 +29,6 @@ invariant_of-result c =
 
 pub returns-clause-section : goal.returns-clause-section
 returns-clause-section c some = sym c.in_ok-section.was ∙ numbered c.before.before
+
+pub returns-clause-none : goal.returns-clause-none
+returns-clause-none c = search rules

@@ -1,4 +1,4 @@
-use Rattle.std.proofs.Common.{◌≡◌, ◌∙◌, ◌+◌, ◌-◌, ◌≤◌, length, ap, subst}
+use Rattle.std.proofs.Common.{◌≡◌, ◌∙◌, ◌+◌, ◌-◌, ◌≤◌, length, ap, subst, rules}
 use Rattle.macho_fields.specs.Bytes.{bytes_of}
 use Rattle.macho_fields.specs.Field.{part}
 use Rattle.macho_fields.specs.Segment.{vmaddr, vmsize, fileoff, filesize}
@@ -37,3 +37,12 @@ returns-clause-whole c =
     some_given (λ bytes. bytes.now ≡ part c.in_ok-start.start c.args.len (bytes_of c.new.result)) (λ bytes. length bytes.now ≡ c.args.len)
     (c.in_ok-start.start + c.args.len ≤ length (bytes_of c.new.result)) c.part.result c.part.ensures.inside.0
     (λ fits bytes found. ap length found ∙ length-part c.in_ok-start.start c.args.len (bytes_of c.new.result) fits) c.part.ensures.bytes
+
+pub returns-then-vmsize-eq0-clause-held : goal.returns-then-vmsize-eq0-clause-held
+returns-then-vmsize-eq0-clause-held c = search rules
+
+pub returns-then-vmsize-eq0-clause-bytes : goal.returns-then-vmsize-eq0-clause-bytes
+returns-then-vmsize-eq0-clause-bytes c = search rules
+
+pub returns-then-vmsize-eq0-clause-whole : goal.returns-then-vmsize-eq0-clause-whole
+returns-then-vmsize-eq0-clause-whole c = search rules
