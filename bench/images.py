@@ -13,8 +13,8 @@
 Vectors and words are explained in crates/macho_trials/data/README.md, reports in tests/reports.txt. bench/speed and the
 scripts of tests/ have their files from here.
 
-A number of a name may be any that leaves room for the parts. Where it is not said otherwise, a file is an executable whose LC_MAIN names an address of
-no segment. That breaks the last rule, so all rules are judged and one line is written.
+A number of a name may be any that leaves room for the parts. Where it is not said otherwise, a file is an executable
+whose LC_MAIN names an address of no segment. That breaks the last rule, so all rules are judged and one line is written.
 
     reading-Nm                      N MiB that begin with no magic number, so nothing but the reading is left
     text-Nm                         N MiB of one section
