@@ -3,13 +3,12 @@ use Rattle.std.specs.Prelude.{◌≡◌, ℕ, ◌+◌, ◌≤◌, ◌<◌, ◌�
 use Rattle.std.specs.Option.{option_map, unwrap_or}
 use Rattle.macho_fields.specs.First.{rank, IsUnbroken}
 use Rattle.macho_fields.specs.Image.{word, cpu_type, cpu_subtype, file_type, commands_of}
-use Rattle.macho_fields.specs.Layers.{KeptBelow, NothingBreaks}
+use Rattle.macho_fields.specs.Layers.{BreaksUpTo, KeptBelow, NothingBreaks}
 use Rattle.macho_fields.specs.Rules.{BreaksFile, BreaksImage}
 use Rattle.macho_fields.specs.Segment.{section_count, base_of}
 use Rattle.macho_fields.specs.Symbol.{ilocalsym, nlocalsym, iextdefsym, nextdefsym, iundefsym, nundefsym}
 use Rattle.macho_fields.specs.Universal.{FileSlice, slices_of, slice_bytes, masked, IsImage, IsUnreadImage, IsForeign}
 use Rattle.macho_fields.specs.declared.header.loader.TheConstants as loader
-use Rattle.macho_fields.specs.declared.rule.Rule.{Rule}
 use Rattle.macho_fields.specs.declared.rule.Rule.TheVariants as rule
 use Rattle.macho_image.specs.Command.{first_with_cmd}
 use Rattle.macho_image.specs.Entry.{entry_of}
@@ -155,8 +154,7 @@ ShowsNothing row = ShowsOutside [] 0 0 0 row
 
 -- the file breaks a rule without which it has no slices to look for, of which the last is fat-truncated
 abbrev pub HasNoTable : List ℕ → Type 0
-HasNoTable file =
-    (r : Rule) × (place : ℕ) × (rank r ≤ rank rule.FatTruncated) × BreaksFile file r place
+HasNoTable file = BreaksUpTo (BreaksFile file) rule.FatTruncated
 
 -- it breaks none of these rules
 abbrev pub HasTable : List ℕ → Type 0

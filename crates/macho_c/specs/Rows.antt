@@ -1,12 +1,11 @@
 -- A table of the caller, and what an export writes to it.
-use Rattle.std.specs.Prelude.{◌≡◌, ℕ, ◌+◌, ◌≤◌, ◌⊎◌, List, [], length, map, take, drop, Option, None, ◌==◌, nat_le, if◌then◌else◌}
+use Rattle.std.specs.Prelude.{◌≡◌, ℕ, ◌+◌, ◌⊎◌, List, [], length, map, take, drop, Option, None, ◌==◌, nat_le, if◌then◌else◌}
 use Rattle.std.specs.Iterator.{Yields}
 use Rattle.std.specs.List.{before_first, list_any}
 use Rattle.macho_fields.specs.Field.{part}
 use Rattle.macho_fields.specs.First.{rank}
-use Rattle.macho_fields.specs.Layers.{KeptBelow}
+use Rattle.macho_fields.specs.Layers.{BreaksUpTo, KeptBelow}
 use Rattle.macho_fields.specs.Rules.{BreaksImage}
-use Rattle.macho_fields.specs.declared.rule.Rule.{Rule}
 use Rattle.macho_fields.specs.declared.rule.Rule.TheVariants as rule
 
 -- The table had `old`, and has `new`: its first n rows are now those from the index first on, as
@@ -20,8 +19,7 @@ pub record IsFilled {R T : Type 0} (shown : R → T) (rows : List T) (first n : 
 
 -- the bytes break a rule of the headers of an image, of which the last is name
 abbrev pub IsBrokenImage : List ℕ → Option (ℕ × ℕ) → Type 0
-IsBrokenImage image arch =
-    (r : Rule) × (place : ℕ) × (rank r ≤ rank rule.Name) × BreaksImage image arch r place
+IsBrokenImage image arch = BreaksUpTo (BreaksImage image arch) rule.Name
 
 -- they break none of these rules
 abbrev pub HasHeaders : List ℕ → Option (ℕ × ℕ) → Type 0

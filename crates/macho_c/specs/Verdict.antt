@@ -2,14 +2,13 @@
 use Rattle.std.specs.Prelude.{◌≡◌, ℕ, ◌⊎◌, List, length}
 use Rattle.macho_fields.specs.First.{IsFirstBroken, IsUnbroken}
 use Rattle.macho_fields.specs.Loader.{IsSound}
+use Rattle.macho_fields.specs.RuleList.{rule_number}
 use Rattle.macho_fields.specs.Universal.{slices_of}
 use Rattle.macho_fields.specs.declared.rule.Break.{Break}
 use Rattle.macho_rules.specs.Verdict.{IsRefusal}
 use Rattle.macho_rules.specs.declared.refusal.Refusal.TheVariants as refusal
 use Rattle.macho_strict.specs.Accounted.{IsAccounted}
 use Rattle.macho_strict.specs.First.{IsStrictlyUnbroken, IsFirstStrictlyBroken}
-use Rattle.macho_strict.specs.declared.rule.StrictBreak.{StrictBreak}
-use Rattle.macho_c.specs.RuleNumbers.{number, strict_number}
 use Rattle.macho_c.specs.Status.{KESVUOT_OK, KESVUOT_REFUSED, KESVUOT_NO_MEMORY}
 use Rattle.macho_c.specs.declared.verdict.KesvuotVerdict.{KesvuotVerdict}
 
@@ -24,7 +23,7 @@ IsAccepted file v = IsUnbroken file × IsSound file × Has v 0 0 (length (slices
 
 -- The verdict has the first broken rule of the file.
 abbrev pub IsRefused : List ℕ → KesvuotVerdict → Type 0
-IsRefused file v = (b : Break) × IsFirstBroken file b × Has v (number b.rule) b.place 0
+IsRefused file v = (b : Break) × IsFirstBroken file b × Has v (rule_number b.rule) b.place 0
 
 -- There was no memory. That is answered only where the rules before fat-overlap are unbroken.
 abbrev pub IsUndecided : List ℕ → KesvuotVerdict → Type 0
@@ -45,7 +44,7 @@ abbrev pub IsRefusedStrictly : List ℕ → KesvuotVerdict → Type 0
 IsRefusedStrictly file v =
     IsRefused file v
     ⊎ (IsUnbroken file
-    × (b : StrictBreak) × IsFirstStrictlyBroken file b × Has v (strict_number b.rule) b.place 0)
+    × (b : Break) × IsFirstStrictlyBroken file b × Has v (rule_number b.rule) b.place 0)
 
 -- the answer on a file, by the strict rules too
 abbrev pub IsStrictVerdict : List ℕ → ℕ → KesvuotVerdict → Type 0

@@ -1,14 +1,15 @@
 //! The verdict on a file.
 
 ghost use Rattle.std.specs.Prelude.{◌≡◌, length};
+ghost use Rattle.macho_fields.specs.RuleList.{rule_number};
 ghost use Rattle.macho_fields.specs.Universal.{slices_of};
 ghost use Rattle.macho_c.specs.Status.{KESVUOT_OK, KESVUOT_REFUSED, KESVUOT_NO_MEMORY};
 ghost use Rattle.macho_c.specs.Verdict.{Has, IsVerdict, IsStrictVerdict};
 
-use crate::rule::{number_of, strict_number_of};
 use crate::status::{NO_MEMORY, OK, REFUSED};
+use macho_fields::Break;
 use macho_rules::{Refusal, Verified, verify};
-use macho_strict::{StrictRefusal, verify_strictly};
+use macho_strict::verify_strictly;
 use std::alloc::Global;
 
 /// A verdict. (`struct kesvuot_verdict`)
@@ -33,7 +34,7 @@ pub extern "C" fn kesvuot_verify(alloc: Global, file: &[u8], verdict: &mut Kesvu
 {
     match verify(alloc, file) {
         Ok(verified) => accept(&verified, verdict),
-        Err(Refusal::Broken(broken)) => refuse(number_of(broken.rule), broken.place, verdict),
+        Err(Refusal::Broken(broken)) => refuse(broken, verdict),
         Err(Refusal::Memory) => give_up(verdict),
     }
 }
@@ -49,13 +50,8 @@ pub extern "C" fn kesvuot_verify_strictly(
 {
     match verify_strictly(alloc, file) {
         Ok(verified) => accept(&verified, verdict),
-        Err(StrictRefusal::Broken(broken)) => {
-            refuse(number_of(broken.rule), broken.place, verdict)
-        }
-        Err(StrictRefusal::BrokenStrictly(broken)) => {
-            refuse(strict_number_of(broken.rule), broken.place, verdict)
-        }
-        Err(StrictRefusal::Memory) => give_up(verdict),
+        Err(Refusal::Broken(broken)) => refuse(broken, verdict),
+        Err(Refusal::Memory) => give_up(verdict),
     }
 }
 
@@ -73,15 +69,15 @@ fn accept(verified: &Verified, verdict: &mut KesvuotVerdict) -> u32
     OK
 }
 
-// The rule with this number is broken at `place`.
-fn refuse(rule: u32, place: u64, verdict: &mut KesvuotVerdict) -> u32
+// The file breaks a rule.
+fn refuse(broken: Break, verdict: &mut KesvuotVerdict) -> u32
     ensures status { result ≡ KESVUOT_REFUSED }
-    ensures verdict { Has verdict.new rule place 0 }
+    ensures verdict { Has verdict.new (rule_number broken.rule) broken.place 0 }
 {
     *verdict = KesvuotVerdict {
-        place,
+        place: broken.place,
         slices: 0,
-        rule,
+        rule: broken.rule.number(),
         reserved: 0,
     };
     REFUSED

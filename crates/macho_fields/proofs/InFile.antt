@@ -65,7 +65,7 @@ module _ (file : List ℕ) where
       let bytes = slice_bytes file slice in
       let ends = slice_inside file (λ other p h. first (record { scope = 0; rule = other; place = p }) h (inl (omega arith))) k slice is in
       let most = place_inside bytes slice.arch r place
-      (λ other p less h. first (record { scope = suc k; rule = other; place = p }) (of_slice file k slice other p is image h) (inr (refl, inl less)))
+      (λ other p less h. first (record { scope = suc k; rule = other; place = p }) (of_slice BreaksFile BreaksImage file k slice is image other p h) (inr (refl, inl less)))
       broken in
       let start : scope_start file (suc k) ≡ slice.start = ap (λ o. option_map_or (λ (s : FileSlice). s.start) o 0) is in
       omega (arith, start, length-take slice.size (drop slice.start file))

@@ -5,6 +5,7 @@ pub mod Decided
 pub mod SoundImage
 pub mod Sound
 pub mod Ranks
+pub mod Numbers
 pub mod Unique
 pub mod Lists
 pub mod Options

@@ -1,85 +1,80 @@
--- The first broken rule of a file, from the file's own rules and then slice by slice.
-use Rattle.std.proofs.Common.{◌≡◌, ℕ, suc, zero, ◌+◌, ◌≤◌, List, Some, length, slice_get, IsSomeAnd, refl, sym, ap, ◌∙◌, subst, arith, inl, inr}
+-- The first broken rule of a file, scope by scope: the file itself, and then its slices.
+use Rattle.std.proofs.Common.{◌≡◌, ℕ, suc, zero, ◌+◌, ◌<◌, List, Option, Some, length, slice_get, ap, subst, arith, inl, inr}
 use Rattle.std.specs.Option.{option_map_or}
 use Rattle.std.proofs.lemmas.Bool.{cases_lt}
 use Rattle.std.proofs.lemmas.Option.{slice_get_past}
-use Rattle.macho_fields.specs.Universal.{FileSlice, slices_of, slice_bytes, IsImage}
-use Rattle.macho_fields.specs.Rules.{BreaksFile, BreaksImage}
-use Rattle.macho_fields.specs.First.{Fault, IsBroken, IsBrokenIn, IsBefore, IsFirstBroken, IsUnbroken, scope_start}
+use Rattle.macho_fields.specs.First.{Fault, BreaksIn, IsBefore, IsFirstOfAll, NoneIsBroken, scope_start}
 use Rattle.macho_fields.specs.Layers.{IsLeast, NothingBreaks}
+use Rattle.macho_fields.specs.Universal.{FileSlice, slices_of, slice_bytes, IsImage, HasImage}
 use Rattle.macho_fields.specs.declared.rule.Rule.{Rule}
 use Rattle.macho_fields.specs.declared.rule.Break.{Break}
+use Rattle.macho_fields.proofs.Options.{some_of, some_has, of_some, of_none}
 
--- nothing is broken in these scopes: the file itself, and its first n slices
-abbrev pub KeptScopes : List ℕ → ℕ → Type 0
-KeptScopes file n = (scope : ℕ) (r : Rule) (place : ℕ) → scope ≤ n → ¬ IsBrokenIn file scope r place
+-- the place from which the places of a slice are counted
+pub slice_start : (file : List ℕ) (k : ℕ) (slice : FileSlice) → slice_get (slices_of file) k ≡ Some slice → scope_start file (suc k) ≡ slice.start
+slice_start file k slice is = ap (λ (o : Option FileSlice). option_map_or (λ s. s.start) o 0) is
 
-pub file_kept : (file : List ℕ) → NothingBreaks (BreaksFile file) → KeptScopes file 0
-file_kept file keeps zero r place most broken = keeps r place broken
-file_kept file keeps (suc k) r place most broken = absurd (omega arith)
+-- What is broken in a scope, by the rules of a profile
+module _ (Breaks : List ℕ → Rule → ℕ → Type 0) (ImageBreaks : List ℕ → Option (ℕ × ℕ) → Rule → ℕ → Type 0) (file : List ℕ) where
+  -- the slice is an image that breaks the rule at the place
+  abbrev pub SliceBreaks : Rule → ℕ → FileSlice → Type 0
+  SliceBreaks r place slice = IsImage (slice_bytes file slice) × ImageBreaks (slice_bytes file slice) slice.arch r place
 
--- what is broken in a scope is broken in its slice
-in_slice : (file : List ℕ) (k : ℕ) (slice : FileSlice) (r : Rule) (place : ℕ) → slice_get (slices_of file) k ≡ Some slice
-    → IsBrokenIn file (suc k) r place → IsImage (slice_bytes file slice) × BreaksImage (slice_bytes file slice) slice.arch r place
-in_slice file k slice r place is broken = subst (λ o. IsSomeAnd o (λ s. IsImage (slice_bytes file s) × BreaksImage (slice_bytes file s) s.arch r place)) is broken
+  abbrev BrokenIn : ℕ → Rule → ℕ → Type 0
+  BrokenIn = BreaksIn Breaks ImageBreaks file
 
-pub of_slice : (file : List ℕ) (k : ℕ) (slice : FileSlice) (r : Rule) (place : ℕ) → slice_get (slices_of file) k ≡ Some slice
-    → IsImage (slice_bytes file slice) → BreaksImage (slice_bytes file slice) slice.arch r place → IsBrokenIn file (suc k) r place
-of_slice file k slice r place is image broken = subst (λ o. IsSomeAnd o (λ s. IsImage (slice_bytes file s) × BreaksImage (slice_bytes file s) s.arch r place)) (sym is) (image, broken)
+  -- What is broken in the scope of a slice is what its image breaks
+  module _ (k : ℕ) (slice : FileSlice) (is : slice_get (slices_of file) k ≡ Some slice) where
+    in_slice : (r : Rule) (place : ℕ) → BrokenIn (suc k) r place → ImageBreaks (slice_bytes file slice) slice.arch r place
+    in_slice r place broken = (some_has (SliceBreaks r place) (slice_get (slices_of file) k) slice is broken).1
 
--- one slice more: an image that breaks nothing, or none
-pub image_kept : (file : List ℕ) (k : ℕ) (slice : FileSlice) → slice_get (slices_of file) k ≡ Some slice → KeptScopes file k
-    → NothingBreaks (BreaksImage (slice_bytes file slice) slice.arch) → KeptScopes file (suc k)
-image_kept file k slice is kept keeps scope r place most broken = elim (cases_lt k scope) [
-  | inr lower ↦ kept scope r place lower broken
-  | inl upper ↦
-      let same : scope ≡ suc k = omega arith in
-      keeps r place (in_slice file k slice r place is (subst (λ s. IsBrokenIn file s r place) same broken)).1
-]
+    pub of_slice : IsImage (slice_bytes file slice) → (r : Rule) (place : ℕ) → ImageBreaks (slice_bytes file slice) slice.arch r place → BrokenIn (suc k) r place
+    of_slice image r place broken = of_some (SliceBreaks r place) (slice_get (slices_of file) k) slice is (image, broken)
 
-pub other_kept : (file : List ℕ) (k : ℕ) (slice : FileSlice) → slice_get (slices_of file) k ≡ Some slice → KeptScopes file k → ¬ IsImage (slice_bytes file slice) → KeptScopes file (suc k)
-other_kept file k slice is kept other scope r place most broken = elim (cases_lt k scope) [
-  | inr lower ↦ kept scope r place lower broken
-  | inl upper ↦
-      let same : scope ≡ suc k = omega arith in
-      other (in_slice file k slice r place is (subst (λ s. IsBrokenIn file s r place) same broken)).0
-]
+    pub slice_unbroken : NothingBreaks (ImageBreaks (slice_bytes file slice) slice.arch) → NothingBreaks (BrokenIn (suc k))
+    slice_unbroken none r place broken = none r place (in_slice r place broken)
 
--- no scope is left after the last slice
-pub all_kept : (file : List ℕ) → KeptScopes file (length (slices_of file)) → IsUnbroken file
-all_kept file kept fault broken = within fault.scope fault.rule fault.place broken
-  where
-    within : (scope : ℕ) (r : Rule) (place : ℕ) → ¬ IsBrokenIn file scope r place
-    within zero r place h = kept 0 r place (omega arith) h
-    within (suc k) r place h = elim (cases_lt k (length (slices_of file))) [
-      | inl less ↦ kept (suc k) r place (omega arith) h
-      | inr past ↦ subst (λ o. IsSomeAnd o (λ s. IsImage (slice_bytes file s) × BreaksImage (slice_bytes file s) s.arch r place)) (slice_get_past (slices_of file) k past) h
-    ]
+    pub slice_least : IsImage (slice_bytes file slice) → (b : Break) → IsLeast (ImageBreaks (slice_bytes file slice) slice.arch) b → IsLeast (BrokenIn (suc k)) b
+    slice_least image b (here, least) = (of_slice image b.rule b.place here, λ r place broken. least r place (in_slice r place broken))
 
--- the first break of the file's own rules is the first of all
-pub file_first : (file : List ℕ) (b : Break) → IsLeast (BreaksFile file) b → IsFirstBroken file b
-file_first file b (here, least) = (record { scope = 0; rule = b.rule; place = b.place }, here, none_before, refl, let start : b.place ≡ 0 + b.place = omega arith in start)
-  where
-    none_before : (other : Fault) → IsBroken file other → ¬ IsBefore other (record { scope = 0; rule = b.rule; place = b.place })
-    none_before other broken (inl less) = absurd (omega arith)
-    none_before other broken (inr (same, later)) = least other.rule other.place (subst (λ s. IsBrokenIn file s other.rule other.place) same broken) later
+  -- a slice that is no image breaks nothing
+  pub other_unbroken : (k : ℕ) → ¬ HasImage file k → NothingBreaks (BrokenIn (suc k))
+  other_unbroken k none r place broken =
+      let (slice, is, (image, here)) = some_of (SliceBreaks r place) (slice_get (slices_of file) k) broken in
+      none (of_some (λ s. IsImage (slice_bytes file s)) (slice_get (slices_of file) k) slice is image)
 
--- the first break of a slice, where nothing is broken in the scopes before it
-pub slice_first : (file : List ℕ) (k : ℕ) (slice : FileSlice) (found b : Break) → slice_get (slices_of file) k ≡ Some slice → KeptScopes file k
-    → IsImage (slice_bytes file slice) → IsLeast (BreaksImage (slice_bytes file slice) slice.arch) found
-    → b.rule ≡ found.rule → b.place ≡ slice.start + found.place → IsFirstBroken file b
-slice_first file k slice found b is kept image (here, least) same_rule same_place = (
-  record { scope = suc k; rule = found.rule; place = found.place },
-  of_slice file k slice found.rule found.place is image here,
-  none_before,
-  same_rule,
-  start,
-)
-  where
-    none_before : (other : Fault) → IsBroken file other → ¬ IsBefore other (record { scope = suc k; rule = found.rule; place = found.place })
-    none_before other broken (inl less) = kept other.scope other.rule other.place (omega arith) broken
-    none_before other broken (inr (same, later)) =
-        least other.rule other.place (in_slice file k slice other.rule other.place is (subst (λ s. IsBrokenIn file s other.rule other.place) same broken)).1 later
+  -- nothing is broken in the first n scopes
+  abbrev pub KeptScopes : ℕ → Type 0
+  KeptScopes n = (scope : ℕ) (r : Rule) (place : ℕ) → scope < n → ¬ BrokenIn scope r place
 
-    start : b.place ≡ scope_start file (suc k) + found.place
-    start = same_place ∙ ap (λ o. option_map_or (λ (s : FileSlice). s.start) o 0 + found.place) (sym is)
+  pub none_kept : KeptScopes 0
+  none_kept scope r place less broken = absurd (omega arith)
+
+  pub one_more : (n : ℕ) → KeptScopes n → NothingBreaks (BrokenIn n) → KeptScopes (n + 1)
+  one_more n kept none scope r place less broken = elim (cases_lt scope n) [
+    | inl lower ↦ kept scope r place lower broken
+    | inr most ↦ none r place (subst (λ s. BrokenIn s r place) (let same : scope ≡ n = omega arith in same) broken)
+  ]
+
+  -- no scope is left after the last slice
+  pub all_kept : KeptScopes (length (slices_of file) + 1) → NoneIsBroken BrokenIn
+  all_kept kept fault broken = within fault.scope fault.rule fault.place broken
+    where
+      within : (scope : ℕ) (r : Rule) (place : ℕ) → ¬ BrokenIn scope r place
+      within zero r place h = kept 0 r place (omega arith) h
+      within (suc k) r place h = elim (cases_lt k (length (slices_of file))) [
+        | inl less ↦ kept (suc k) r place (omega arith) h
+        | inr past ↦ of_none (SliceBreaks r place) (slice_get (slices_of file) k) (slice_get_past (slices_of file) k past) h
+      ]
+
+  -- the first break of a scope is the first of all, where nothing is broken in the scopes before it
+  pub scope_first : (n : ℕ) (found b : Break) → KeptScopes n → IsLeast (BrokenIn n) found → b.rule ≡ found.rule
+      → b.place ≡ scope_start file n + found.place → IsFirstOfAll BrokenIn file b
+  scope_first n found b kept (here, least) same_rule same_place = (fault, here, none_before, same_rule, same_place)
+    where
+      fault : Fault
+      fault = record { scope = n; rule = found.rule; place = found.place }
+
+      none_before : (other : Fault) → BrokenIn other.scope other.rule other.place → ¬ IsBefore other fault
+      none_before other broken (inl less) = kept other.scope other.rule other.place less broken
+      none_before other broken (inr (same, later)) = least other.rule other.place (subst (λ s. BrokenIn s other.rule other.place) same broken) later

@@ -26,6 +26,10 @@ KeptBelow breaks n = (r : Rule) (place : ℕ) → rank r < n → ¬ breaks r pla
 abbrev pub Continues : {T : Type 0} → (Rule → ℕ → Type 0) → Rule → Result T Break → Type 0
 Continues breaks r answer = MatchResult answer (λ _. KeptBelow breaks (rank r + 1)) (IsLeast breaks)
 
+-- a rule up to r is broken
+abbrev pub BreaksUpTo : (Rule → ℕ → Type 0) → Rule → Type 0
+BreaksUpTo breaks r = (other : Rule) × (place : ℕ) × (rank other ≤ rank r) × breaks other place
+
 -- an answer reports no rule after r
 abbrev pub StopsAt : {T : Type 0} → Rule → Result T Break → Type 0
 StopsAt r answer = IfErr answer (λ b. rank b.rule ≤ rank r)

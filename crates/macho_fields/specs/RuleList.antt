@@ -1,6 +1,9 @@
--- The rules: their order, their names, and the text of a break, as reports have them.
+-- The one list of the rules of all profiles: their order, their numbers, their profiles, their names,
+-- and the text of a break, as reports have them.
 use Rattle.std.specs.Prelude.{ℕ, List, ◌++◌, codes, false}
 use Rattle.std.specs.Fmt.{digits}
+use Rattle.macho_fields.specs.declared.rule.Profile.{Profile}
+use Rattle.macho_fields.specs.declared.rule.Profile.TheVariants.{Layout, Strict}
 use Rattle.macho_fields.specs.declared.rule.Rule.{Rule}
 use Rattle.macho_fields.specs.declared.rule.Rule.TheVariants as rule
 use Rattle.macho_fields.specs.declared.rule.Break.{Break}
@@ -38,6 +41,63 @@ rank rule.SymbolName = 28
 rank rule.SymbolSection = 29
 rank rule.IndirectIndex = 30
 rank rule.Entry = 31
+rank rule.FatStrayByte = 32
+rank rule.CommandsEnd = 33
+rank rule.HeaderSegment = 34
+rank rule.SegmentFileOverlap = 35
+rank rule.ElementOverlap = 36
+rank rule.StrayByte = 37
+
+-- the number by which programs know a rule. It never changes: a rule that is added takes the next free
+-- one, wherever it stands
+abbrev pub rule_number : Rule → ℕ
+rule_number rule.Magic = 1
+rule_number rule.FatTruncated = 2
+rule_number rule.FatSliceOutside = 3
+rule_number rule.FatSliceInTable = 4
+rule_number rule.FatAlign = 5
+rule_number rule.FatOverlap = 6
+rule_number rule.FatDuplicate = 7
+rule_number rule.FatSliceMagic = 8
+rule_number rule.FatEmpty = 9
+rule_number rule.HeaderTruncated = 10
+rule_number rule.ArchMismatch = 11
+rule_number rule.FileType = 12
+rule_number rule.CommandsOutside = 13
+rule_number rule.CommandWalk = 14
+rule_number rule.CommandShort = 15
+rule_number rule.CommandRepeated = 16
+rule_number rule.DylibId = 17
+rule_number rule.Name = 18
+rule_number rule.SegmentAddress = 19
+rule_number rule.SegmentSize = 20
+rule_number rule.SegmentFile = 21
+rule_number rule.SegmentOverlap = 22
+rule_number rule.SectionAddress = 23
+rule_number rule.SectionFile = 24
+rule_number rule.SectionRelocs = 25
+rule_number rule.TableRange = 26
+rule_number rule.SymbolGroup = 27
+rule_number rule.SymbolName = 28
+rule_number rule.SymbolSection = 29
+rule_number rule.IndirectIndex = 30
+rule_number rule.Entry = 31
+rule_number rule.FatStrayByte = 32
+rule_number rule.CommandsEnd = 33
+rule_number rule.HeaderSegment = 34
+rule_number rule.SegmentFileOverlap = 35
+rule_number rule.ElementOverlap = 36
+rule_number rule.StrayByte = 37
+
+-- the profile that a rule belongs to
+abbrev pub profile_of : Rule → Profile
+profile_of rule.FatStrayByte = Strict
+profile_of rule.CommandsEnd = Strict
+profile_of rule.HeaderSegment = Strict
+profile_of rule.SegmentFileOverlap = Strict
+profile_of rule.ElementOverlap = Strict
+profile_of rule.StrayByte = Strict
+profile_of other = Layout
 
 -- the name of a rule, as ASCII text
 abbrev pub name_of : Rule → List ℕ
@@ -72,6 +132,12 @@ name_of rule.SymbolName = codes "symbol-name"
 name_of rule.SymbolSection = codes "symbol-section"
 name_of rule.IndirectIndex = codes "indirect-index"
 name_of rule.Entry = codes "entry"
+name_of rule.FatStrayByte = codes "fat-stray-byte"
+name_of rule.CommandsEnd = codes "commands-end"
+name_of rule.HeaderSegment = codes "header-segment"
+name_of rule.SegmentFileOverlap = codes "segment-file-overlap"
+name_of rule.ElementOverlap = codes "element-overlap"
+name_of rule.StrayByte = codes "stray-byte"
 
 -- the text of a break: the name of its rule, and its place in lower-case hexadecimal
 abbrev pub text_of : Break → List ℕ

@@ -61,9 +61,6 @@ impl FirstPlace {
         ensures { MatchOption self (IsOk result)
             (λ place. IsErrAnd result (λ b. (b.rule ≡ rule) × (b.place ≡ place))) }
     {
-        match self.place {
-            Some(place) => Err(Break::at(rule, place)),
-            None => Ok(()),
-        }
+        rule.judge(self.place)
     }
 }

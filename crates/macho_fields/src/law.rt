@@ -9,10 +9,11 @@ ghost use Rattle.macho_fields.specs.Header.{AreRelocConstants, AreVmProtConstant
 ghost use Rattle.macho_fields.specs.Image.{AreCommands, commands_of};
 ghost use Rattle.macho_fields.specs.First.{IsFirstBroken, IsUnbroken};
 ghost use Rattle.macho_fields.specs.Loader.{IsSound};
+ghost use Rattle.macho_fields.specs.RuleList.{rule_number, profile_of};
 ghost use Rattle.macho_fields.specs.Rules.{BreaksImage};
-ghost use Rattle.macho_fields.specs.declared.rule.Rule.{Rule};
+ghost use Rattle.macho_fields.specs.declared.rule.Profile.TheVariants.{Layout};
 
-use crate::rule::Break;
+use crate::rule::{Break, Rule};
 
 /// Each constant of `header` that is no offset of a field is the number that its public header
 /// defines, as `specs/Header.antt` lists them.
@@ -55,6 +56,18 @@ pub fn first_is_one(file: &[u8], first: Break, other: Break)
     requires first { IsFirstBroken file.now first }
     requires other { IsFirstBroken file.now other }
     ensures { first ≡ other }
+{}
+
+/// The first broken rule of a file is one of the layout.
+pub fn first_is_of_the_layout(file: &[u8], first: Break)
+    requires { IsFirstBroken file.now first }
+    ensures { profile_of first.rule ≡ Layout }
+{}
+
+/// Each rule has a number of its own.
+pub fn rule_numbers_are_distinct(one: Rule, other: Rule)
+    requires { rule_number one ≡ rule_number other }
+    ensures { one ≡ other }
 {}
 
 /// The place of the first broken rule is at most the length of the file.

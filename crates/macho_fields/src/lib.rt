@@ -18,4 +18,4 @@ pub use load_command::{
     unique_index,
 };
 pub use macho_spans::{Insert, Sharing, Span, SpanList, SpanOrder, Spans, table_end};
-pub use rule::{Break, Rule};
+pub use rule::{Break, Profile, Rule};

@@ -1,118 +1,255 @@
-//! The rules of the layout by name, and where one is broken. A place is an offset in bytes.
+//! The rules of all profiles, in one list, and where one is broken. A place is an offset in bytes.
 
-ghost use Rattle.std.specs.Prelude.{◌≡◌, IfOk, Some};
+ghost use Rattle.std.specs.Prelude.{◌≡◌, ◌≢◌, ◌++◌, ◌∷◌, [], IfNone, IfOk, IfSome, find, ◌==◌, IsErrAnd, IsOk, MatchOption, Some};
 ghost use Rattle.std.specs.Fmt.{styled_text};
 ghost use Rattle.std.specs.Fmt.InlineText.{inline_text};
-ghost use Rattle.macho_fields.specs.RuleList.{name_of, text_of};
+ghost use Rattle.macho_fields.specs.RuleList.{name_of, rule_number, profile_of, text_of};
 
 use std::fmt;
 use std::fmt::{InlineText, Write};
 
-/// A rule of the layout, in the order in which the rules are judged. A rule is broken at a place,
-/// which is an offset in bytes.
+/// A set of rules that one verdict judges. Each profile is judged where a file breaks no rule of the
+/// profiles before it.
+#[derive(Clone, Copy, Debug, PartialEq, Eq)]
+pub enum Profile {
+    /// What `macho_rules::verify` judges: a loader stays inside the file.
+    Layout,
+    /// What `macho_strict::verify_strictly` judges besides: every byte is accounted for.
+    Strict,
+}
+
+/// A rule, in the order of judgment: profile after profile, and in each the rules of the file before
+/// those of an image. A rule is broken at a place, which is an offset in bytes.
+///
+/// Each has a number that never changes. A rule that is added takes the next free number, wherever it
+/// stands.
 #[derive(Clone, Copy, Debug, PartialEq, Eq)]
 pub enum Rule {
     /// The file begins with the magic number of no format that is read.
-    Magic,
+    Magic = 1,
     /// The header or the table of a universal file ends past the end of the file.
-    FatTruncated,
+    FatTruncated = 2,
     /// A slice ends past the end of the file.
-    FatSliceOutside,
+    FatSliceOutside = 3,
     /// A slice begins before the end of the table that names it.
-    FatSliceInTable,
+    FatSliceInTable = 4,
     /// The offset of a slice is no multiple of its alignment.
-    FatAlign,
+    FatAlign = 5,
     /// A slice has a byte in common with an earlier one.
-    FatOverlap,
+    FatOverlap = 6,
     /// A slice has the architecture of an earlier one.
-    FatDuplicate,
+    FatDuplicate = 7,
     /// A slice begins with the magic number of no image.
-    FatSliceMagic,
+    FatSliceMagic = 8,
     /// A universal file has no 64-bit little-endian slice.
-    FatEmpty,
+    FatEmpty = 9,
     /// The bytes of an image end within its header.
-    HeaderTruncated,
+    HeaderTruncated = 10,
     /// The header of a slice names another architecture than the table.
-    ArchMismatch,
+    ArchMismatch = 11,
     /// The image is of a kind that is not read.
-    FileType,
+    FileType = 12,
     /// The load commands end past the end of the image.
-    CommandsOutside,
+    CommandsOutside = 13,
     /// There is no whole load command where one is due, or its size is impossible.
-    CommandWalk,
+    CommandWalk = 14,
     /// A load command is too small for its own fields.
-    CommandShort,
+    CommandShort = 15,
     /// A kind of load command that an image may have only once is repeated.
-    CommandRepeated,
+    CommandRepeated = 16,
     /// A library has no name of its own, or an executable or a bundle has one.
-    DylibId,
+    DylibId = 17,
     /// A name begins within the fields of its command, or does not end in the command.
-    Name,
+    Name = 18,
     /// The addresses of a segment end past 2^64.
-    SegmentAddress,
+    SegmentAddress = 19,
     /// A segment has more bytes in the file than in memory.
-    SegmentSize,
+    SegmentSize = 20,
     /// The bytes of a segment end past the end of the image.
-    SegmentFile,
+    SegmentFile = 21,
     /// A segment has an address in common with an earlier one.
-    SegmentOverlap,
+    SegmentOverlap = 22,
     /// A section has an address outside its segment.
-    SectionAddress,
+    SectionAddress = 23,
     /// The bytes of a section are not where its segment puts them.
-    SectionFile,
+    SectionFile = 24,
     /// The relocations of a section end past the end of the image.
-    SectionRelocs,
+    SectionRelocs = 25,
     /// A table that a load command names ends past the end of the image.
-    TableRange,
+    TableRange = 26,
     /// A group of symbols ends past the end of the symbol table.
-    SymbolGroup,
+    SymbolGroup = 27,
     /// The name of a symbol does not end within the string table.
-    SymbolName,
+    SymbolName = 28,
     /// A symbol is defined in a section that the image does not have.
-    SymbolSection,
+    SymbolSection = 29,
     /// An indirect entry names no symbol of the table.
-    IndirectIndex,
+    IndirectIndex = 30,
     /// The entry point that `LC_MAIN` names is at no executable byte of the file.
-    Entry,
+    Entry = 31,
+    /// A byte of a universal file that is not zero lies in no slice, after the table.
+    FatStrayByte = 32,
+    /// The last load command does not end where the header says that the commands end.
+    CommandsEnd = 33,
+    /// No segment has the header and all load commands.
+    HeaderSegment = 34,
+    /// A segment has a byte of the file in common with an earlier one.
+    SegmentFileOverlap = 35,
+    /// A part of the image that a structure describes has a byte in common with an earlier one.
+    ElementOverlap = 36,
+    /// A byte of an image that is not zero lies in no segment.
+    StrayByte = 37,
+}
+
+// The name of a rule with what comes after it, so that one list serves every reader of names.
+macro_rules! name_before {
+    ($rule:expr, $end:literal) => {
+        match $rule {
+            Rule::Magic => concat!("magic", $end),
+            Rule::FatTruncated => concat!("fat-truncated", $end),
+            Rule::FatSliceOutside => concat!("fat-slice-outside", $end),
+            Rule::FatSliceInTable => concat!("fat-slice-in-table", $end),
+            Rule::FatAlign => concat!("fat-align", $end),
+            Rule::FatOverlap => concat!("fat-overlap", $end),
+            Rule::FatDuplicate => concat!("fat-duplicate", $end),
+            Rule::FatSliceMagic => concat!("fat-slice-magic", $end),
+            Rule::FatEmpty => concat!("fat-empty", $end),
+            Rule::HeaderTruncated => concat!("header-truncated", $end),
+            Rule::ArchMismatch => concat!("arch-mismatch", $end),
+            Rule::FileType => concat!("file-type", $end),
+            Rule::CommandsOutside => concat!("commands-outside", $end),
+            Rule::CommandWalk => concat!("command-walk", $end),
+            Rule::CommandShort => concat!("command-short", $end),
+            Rule::CommandRepeated => concat!("command-repeated", $end),
+            Rule::DylibId => concat!("dylib-id", $end),
+            Rule::Name => concat!("name", $end),
+            Rule::SegmentAddress => concat!("segment-address", $end),
+            Rule::SegmentSize => concat!("segment-size", $end),
+            Rule::SegmentFile => concat!("segment-file", $end),
+            Rule::SegmentOverlap => concat!("segment-overlap", $end),
+            Rule::SectionAddress => concat!("section-address", $end),
+            Rule::SectionFile => concat!("section-file", $end),
+            Rule::SectionRelocs => concat!("section-relocs", $end),
+            Rule::TableRange => concat!("table-range", $end),
+            Rule::SymbolGroup => concat!("symbol-group", $end),
+            Rule::SymbolName => concat!("symbol-name", $end),
+            Rule::SymbolSection => concat!("symbol-section", $end),
+            Rule::IndirectIndex => concat!("indirect-index", $end),
+            Rule::Entry => concat!("entry", $end),
+            Rule::FatStrayByte => concat!("fat-stray-byte", $end),
+            Rule::CommandsEnd => concat!("commands-end", $end),
+            Rule::HeaderSegment => concat!("header-segment", $end),
+            Rule::SegmentFileOverlap => concat!("segment-file-overlap", $end),
+            Rule::ElementOverlap => concat!("element-overlap", $end),
+            Rule::StrayByte => concat!("stray-byte", $end),
+        }
+    };
 }
 
 impl Rule {
+    /// All rules, in the order of judgment.
+    pub const ALL: &'static [Rule] = &[
+        Rule::Magic,
+        Rule::FatTruncated,
+        Rule::FatSliceOutside,
+        Rule::FatSliceInTable,
+        Rule::FatAlign,
+        Rule::FatOverlap,
+        Rule::FatDuplicate,
+        Rule::FatSliceMagic,
+        Rule::FatEmpty,
+        Rule::HeaderTruncated,
+        Rule::ArchMismatch,
+        Rule::FileType,
+        Rule::CommandsOutside,
+        Rule::CommandWalk,
+        Rule::CommandShort,
+        Rule::CommandRepeated,
+        Rule::DylibId,
+        Rule::Name,
+        Rule::SegmentAddress,
+        Rule::SegmentSize,
+        Rule::SegmentFile,
+        Rule::SegmentOverlap,
+        Rule::SectionAddress,
+        Rule::SectionFile,
+        Rule::SectionRelocs,
+        Rule::TableRange,
+        Rule::SymbolGroup,
+        Rule::SymbolName,
+        Rule::SymbolSection,
+        Rule::IndirectIndex,
+        Rule::Entry,
+        Rule::FatStrayByte,
+        Rule::CommandsEnd,
+        Rule::HeaderSegment,
+        Rule::SegmentFileOverlap,
+        Rule::ElementOverlap,
+        Rule::StrayByte,
+    ];
+
     /// The name of the rule in reports, in lower case.
     pub const fn name(self) -> &'static str
         ensures { result.now ≡ name_of self }
     {
+        name_before!(self, "")
+    }
+
+    /// The name of the rule and a zero byte, as C reads it.
+    pub const fn name_with_zero(self) -> &'static str
+        ensures { result.now ≡ name_of self ++ 0 ∷ [] }
+    {
+        name_before!(self, "\0")
+    }
+
+    /// The number of the rule, which never changes.
+    pub const fn number(self) -> u32
+        ensures { result ≡ rule_number self }
+    {
+        self as u32
+    }
+
+    /// The rule with this number, or `None` where no rule has it.
+    pub fn with_number(number: u32) -> Option<Rule>
+        ensures some { IfSome result (λ rule. rule_number rule ≡ number) }
+        ensures none { IfNone result ((rule : Rule) → rule_number rule ≢ number) }
+    {
+        Rule::first_numbered(number)
+    }
+
+    // The first rule of the list that has this number.
+    fn first_numbered(number: u32) -> Option<Rule>
+        ensures { result ≡ find (λ rule. rule_number rule == number) Self.ALL.now }
+    {
+        Rule::ALL
+            .iter()
+            .copied()
+            .find(|rule| rule.number() == number)
+    }
+
+    /// The profile that the rule belongs to.
+    pub const fn profile(self) -> Profile
+        ensures { result ≡ profile_of self }
+    {
         match self {
-            Rule::Magic => "magic",
-            Rule::FatTruncated => "fat-truncated",
-            Rule::FatSliceOutside => "fat-slice-outside",
-            Rule::FatSliceInTable => "fat-slice-in-table",
-            Rule::FatAlign => "fat-align",
-            Rule::FatOverlap => "fat-overlap",
-            Rule::FatDuplicate => "fat-duplicate",
-            Rule::FatSliceMagic => "fat-slice-magic",
-            Rule::FatEmpty => "fat-empty",
-            Rule::HeaderTruncated => "header-truncated",
-            Rule::ArchMismatch => "arch-mismatch",
-            Rule::FileType => "file-type",
-            Rule::CommandsOutside => "commands-outside",
-            Rule::CommandWalk => "command-walk",
-            Rule::CommandShort => "command-short",
-            Rule::CommandRepeated => "command-repeated",
-            Rule::DylibId => "dylib-id",
-            Rule::Name => "name",
-            Rule::SegmentAddress => "segment-address",
-            Rule::SegmentSize => "segment-size",
-            Rule::SegmentFile => "segment-file",
-            Rule::SegmentOverlap => "segment-overlap",
-            Rule::SectionAddress => "section-address",
-            Rule::SectionFile => "section-file",
-            Rule::SectionRelocs => "section-relocs",
-            Rule::TableRange => "table-range",
-            Rule::SymbolGroup => "symbol-group",
-            Rule::SymbolName => "symbol-name",
-            Rule::SymbolSection => "symbol-section",
-            Rule::IndirectIndex => "indirect-index",
-            Rule::Entry => "entry",
+            Rule::FatStrayByte
+            | Rule::CommandsEnd
+            | Rule::HeaderSegment
+            | Rule::SegmentFileOverlap
+            | Rule::ElementOverlap
+            | Rule::StrayByte => Profile::Strict,
+            _ => Profile::Layout,
+        }
+    }
+
+    /// The answer of the rule: its break at the least place, if there is one.
+    pub const fn judge(self, least: Option<u64>) -> Result<(), Break>
+        ensures { MatchOption least (IsOk result)
+            (λ place. IsErrAnd result (λ b. (b.rule ≡ self) × (b.place ≡ place))) }
+    {
+        match least {
+            Some(place) => Err(Break::at(self, place)),
+            None => Ok(()),
         }
     }
 }
@@ -137,9 +274,9 @@ pub struct Break {
     pub place: u64,
 }
 
-// The length in bytes of the longest text of a break: 18 of `fat-slice-in-table`, 6 of ` at 0x`,
+// The length in bytes of the longest text of a break: 20 of `segment-file-overlap`, 6 of ` at 0x`,
 // and 16 digits.
-const LONGEST_TEXT: usize = 40;
+const LONGEST_TEXT: usize = 42;
 
 impl Break {
     /// The break of `rule` at `place`.

@@ -12,6 +12,7 @@ pub mod Groups
 pub mod TableItems
 pub mod SymbolItems
 pub mod TableRange
+pub mod KeptSlices
 pub mod Verdicts
 pub mod Second
 pub mod Surveys

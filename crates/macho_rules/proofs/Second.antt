@@ -6,19 +6,18 @@ use Rattle.macho_fields.specs.Universal.{is_universal, IsImage, IsUniversal, ent
 use Rattle.macho_fields.specs.First.{rank, IsFirstBroken, IsUnbroken}
 use Rattle.macho_fields.specs.Rules.{BreaksFile, BreaksImage}
 use Rattle.macho_fields.specs.Layers.{KeptBelow, Continues, Decides}
-use Rattle.macho_fields.specs.declared.rule.Rule.{Rule}
 use Rattle.macho_fields.specs.declared.rule.Rule.TheVariants as rule
 use Rattle.macho_fields.specs.declared.rule.Break.{Break}
 use Rattle.macho_fields.proofs.Magics.{IsForeignEntry, DecidesForeign, first_foreign, more_foreign}
 use Rattle.macho_fields.proofs.Plain.{first_in_image, unbroken_image}
-use Rattle.macho_fields.proofs.Ranks.{rank_most, file_rule_rank}
+use Rattle.macho_fields.proofs.Ranks.{layout_rule_rank, file_rule_rank}
 use Rattle.macho_rules.proofs.Verdicts.{opened_unbroken, opened_refused}
 use Rattle.macho_rules.specs.declared.refusal.Refusal.TheVariants as refusal
 
--- the last rule is decided where all rules are
-pub decided_last : {T : Type 0} (breaks : Rule → ℕ → Type 0) (answer : Result T Break) → Continues breaks rule.Entry answer → Decides breaks answer
-decided_last breaks (Ok x) kept = λ r place broken. kept r place (omega (arith, rank_most r)) broken
-decided_last breaks (Err b) least = least
+-- the last rule of an image is decided where all are
+pub decided_last : {T : Type 0} (image : List ℕ) (answer : Result T Break) → Continues (BreaksImage image None) rule.Entry answer → Decides (BreaksImage image None) answer
+decided_last image (Ok x) kept = λ r place broken. let most = layout_rule_rank image None r place broken in kept r place (omega (arith, most)) broken
+decided_last image (Err b) least = least
 
 -- of the rules of a file the same
 pub decided_file : {T : Type 0} (file : List ℕ) (answer : Result T Break) → Continues (BreaksFile file) rule.FatEmpty answer → Decides (BreaksFile file) answer

@@ -8,7 +8,7 @@ use Rattle.std.proofs.lemmas.Bool.{false≢true, cases_lt, lt-ltb, ltb-true}
 use Rattle.std.specs.Option.{is_some}
 use Rattle.macho_fields.specs.Universal.{FileSlice, slices_of, slice_bytes, IsImage}
 use Rattle.macho_fields.specs.First.{rank, IsUnbroken}
-use Rattle.macho_fields.specs.Rules.{BreaksImage}
+use Rattle.macho_fields.specs.Rules.{BreaksFile, BreaksImage}
 use Rattle.macho_fields.specs.Layers.{KeptBelow, NothingBreaks}
 use Rattle.macho_fields.specs.declared.rule.Rule.{Rule}
 use Rattle.macho_fields.specs.declared.rule.Rule.TheVariants as rule
@@ -17,7 +17,7 @@ use Rattle.macho_fields.specs.Loader.{IsSoundImage}
 use Rattle.macho_fields.proofs.Parts.{commands_of_walk}
 use Rattle.macho_fields.proofs.SoundImage.{sound_image}
 use Rattle.macho_fields.proofs.Ranks.{image_alone, commands_alone}
-use Rattle.macho_fields.proofs.Scopes.{KeptScopes, of_slice, file_first, slice_first}
+use Rattle.macho_fields.proofs.Scopes.{of_slice}
 use Rattle.macho_fields.proofs.Sound.{slice_inside}
 use Rattle.macho_fat.specs.Slices.{slice_of, AreSlices, IsFatFault}
 use Rattle.macho_fat.specs.declared.fault.FatFault.{FatFault}
@@ -25,6 +25,7 @@ use Rattle.macho_fat.specs.declared.fault.FatFault.TheVariants as fault
 use Rattle.macho_fat.specs.declared.slice.Slice.{Slice}
 use Rattle.macho_image.specs.Opened.{IsOpened}
 use Rattle.macho_rules.specs.Verdict.{IsVerified, IsRefusal, IsImageRefusal, IsSliceRefusal, refusal_of}
+use Rattle.macho_rules.proofs.KeptSlices.{KeptSlices, file_first, slice_first}
 use Rattle.macho_rules.specs.declared.refusal.Refusal.{Refusal}
 use Rattle.macho_rules.specs.declared.refusal.Refusal.TheVariants as refusal
 
@@ -66,7 +67,7 @@ slice_at file slices are k d less =
     ap (λ ss. slice_get ss k) (sym are.all) ∙ (slice_get-map slice_of slices k ∙ ap (option_map slice_of) (slice_get-get_or slices k d less))
 
 -- a refusal of a slice is one of the file, where nothing is broken before the slice
-pub slice_refused : (file : List ℕ) (k : ℕ) (slice : FileSlice) → slice_get (slices_of file) k ≡ Some slice → KeptScopes file k → IsImage (slice_bytes file slice) → (refused : Refusal)
+pub slice_refused : (file : List ℕ) (k : ℕ) (slice : FileSlice) → slice_get (slices_of file) k ≡ Some slice → KeptSlices file k → IsImage (slice_bytes file slice) → (refused : Refusal)
     → IsSliceRefusal file slice refused → IsRefusal file refused
 slice_refused file k slice is kept image (refusal.Broken b) (found, least, rule, place) = slice_first file k slice found b is kept image least rule place
 slice_refused file k slice is kept image refusal.Memory none = λ r place early broken. kept 0 r place (omega arith) broken
@@ -103,7 +104,7 @@ file_inside file unbroken k slice is = slice_inside file (λ r place broken. unb
 pub file_keeps : (file : List ℕ) → IsUnbroken file → (k : ℕ) (slice : FileSlice) → Some slice ≡ slice_get (slices_of file) k → IsImage (slice_bytes file slice)
     → NothingBreaks (BreaksImage (slice_bytes file slice) None)
 file_keeps file unbroken k slice is image r place broken =
-    unbroken (record { scope = suc k; rule = r; place = place }) (of_slice file k slice r place (sym is) image (image_alone (slice_bytes file slice) slice.arch r place broken))
+    unbroken (record { scope = suc k; rule = r; place = place }) (of_slice BreaksFile BreaksImage file k slice (sym is) image r place (image_alone (slice_bytes file slice) slice.arch r place broken))
 
 -- what a list gives at an index is the slice of the file
 pub slice_given : (file : List ℕ) (slices : List Slice) → AreSlices file slices → (k : ℕ) (got : Option (Bor Slice)) → is_some got ≡ nat_lt k (length slices)

@@ -6,6 +6,7 @@ use Rattle.macho_fields.specs.First.{rank, IsFirstBroken, IsUnbroken}
 use Rattle.macho_fields.specs.Image.{commands_of}
 use Rattle.macho_fields.specs.Layers.{IsLeast, KeptBelow}
 use Rattle.macho_fields.specs.Segment.{segments_of, vmsize}
+use Rattle.macho_fields.specs.declared.rule.Rule.{Rule}
 use Rattle.macho_fields.specs.declared.rule.Rule.TheVariants as rule
 use Rattle.macho_fields.specs.declared.rule.Break.{Break}
 use Rattle.macho_fat.specs.Slices.{AreSlices}
@@ -21,14 +22,20 @@ abbrev pub HasMapped : List ℕ → Type 0
 HasMapped image =
     Any (λ segment. 0 < vmsize image segment) (segments_of image (commands_of image))
 
--- A refusal of an image is its first broken rule, or that there was no memory. That is answered only
+-- a refusal is the first of what is broken, or that there was no memory, which is returned only where
+-- CanRunOut holds
+abbrev pub IsRefusalOf : (Rule → ℕ → Type 0) → Type 0 → Refusal → Type 0
+IsRefusalOf breaks CanRunOut (refusal.Broken b) = IsLeast breaks b
+IsRefusalOf breaks CanRunOut refusal.Memory = CanRunOut
+
+-- A refusal of an image is its first broken rule, or that there was no memory. That is returned only
 -- where the rules before segment-overlap are unbroken, and the addresses of the mapped segments, of
 -- which there are some, neither ascend nor descend.
 abbrev pub IsImageRefusal : List ℕ → Option (ℕ × ℕ) → Refusal → Type 0
-IsImageRefusal image arch (refusal.Broken b) = IsLeast (BreaksImage image arch) b
-IsImageRefusal image arch refusal.Memory =
-    KeptBelow (BreaksImage image arch) (rank rule.SegmentOverlap) × HasMapped image
-    × IsUnordered image
+IsImageRefusal image arch =
+    IsRefusalOf (BreaksImage image arch)
+    (KeptBelow (BreaksImage image arch) (rank rule.SegmentOverlap) × HasMapped image
+    × IsUnordered image)
 
 -- A refusal of a slice is one of its image, with the place of the break in the file.
 abbrev pub IsSliceRefusal : List ℕ → FileSlice → Refusal → Type 0

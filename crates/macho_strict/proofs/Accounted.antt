@@ -12,8 +12,8 @@ use Rattle.macho_fields.specs.Loader.{IsSound}
 use Rattle.macho_fields.specs.NonZero.{IsNonZero}
 use Rattle.macho_fields.specs.Segment.{fileoff, filesize}
 use Rattle.macho_spans.specs.Span.{Holds}
+use Rattle.macho_fields.specs.Rules as layout
 use Rattle.macho_fields.specs.Universal.{FileSlice, is_universal, IsUniversal, table_end, slices_of, slice_bytes, HasPlace, IsImage}
-use Rattle.macho_fields.specs.declared.rule.Rule.TheVariants as base
 use Rattle.macho_fields.proofs.Chains.{command_places_rise}
 use Rattle.macho_fields.proofs.Decided.{any_or_not, both_or_not, le_or_not}
 use Rattle.macho_fields.proofs.Lists.{any_of}
@@ -23,12 +23,11 @@ use Rattle.macho_fields.proofs.Scopes.{of_slice}
 use Rattle.macho_fields.proofs.Sound.{begins, unbroken_is_sound}
 use Rattle.macho_strict.specs.Accounted.{ExactlyOne, IsAccountedImage, IsAccounted}
 use Rattle.macho_strict.specs.Elements.{elements_of}
-use Rattle.macho_strict.specs.First.{IsStrictlyUnbroken}
-use Rattle.macho_strict.specs.Order.{NothingBreaks}
-use Rattle.macho_strict.specs.Rules.{IsInFilePart, all_segments, BreaksImage}
+use Rattle.macho_strict.specs.First.{IsStrictlyUnbroken, BreaksSlice}
+use Rattle.macho_fields.specs.Layers.{NothingBreaks}
+use Rattle.macho_strict.specs.Rules.{IsInFilePart, all_segments, BreaksFile, BreaksImage}
 use Rattle.macho_strict.specs.declared.elements.Element.{Element}
-use Rattle.macho_strict.specs.declared.rule.StrictRule.TheVariants as rule
-use Rattle.macho_strict.proofs.Scopes as strict
+use Rattle.macho_fields.specs.declared.rule.Rule.TheVariants as rule
 
 covers_or_not : (start len place : ℕ) → Covers start len place ⊎ ¬ Covers start len place
 covers_or_not start len place = both_or_not (le_or_not start place) (elim (cases_lt place (start + len)) [ inl less ↦ inl less | inr past ↦ inr (λ less. absurd (omega arith)) ])
@@ -116,6 +115,6 @@ module _ (file : List ℕ) (unbroken : IsUnbroken file) (strictly : IsStrictlyUn
       accounted : (k : ℕ) (slice : FileSlice) → slice_get (slices_of file) k ≡ Some slice → IsImage (slice_bytes file slice) → IsAccountedImage (slice_bytes file slice)
       accounted k slice at image =
           image_accounted (slice_bytes file slice)
-          (commands_of_walk (slice_bytes file slice) slice.arch (λ place broken. unbroken (record { scope = suc k; rule = base.CommandWalk; place = place })
-          (of_slice file k slice base.CommandWalk place at image (inl broken))))
-          (λ r place broken. strictly (record { scope = suc k; rule = r; place = place }) (strict.of_slice file k slice at image r place broken))
+          (commands_of_walk (slice_bytes file slice) slice.arch (λ place broken. unbroken (record { scope = suc k; rule = rule.CommandWalk; place = place })
+          (of_slice layout.BreaksFile layout.BreaksImage file k slice at image rule.CommandWalk place (inl broken))))
+          (λ r place broken. strictly (record { scope = suc k; rule = r; place = place }) (of_slice BreaksFile BreaksSlice file k slice at image r place broken))

@@ -3,7 +3,7 @@ use Rattle.std.proofs.Common.{◌≡◌, ◌≢◌, ℕ, ◌+◌, ◌≤◌, Lis
 use Rattle.macho_fields.specs.Image.{command_size, commands_of, commands_end, Follow, IsChain, AreCommands}
 use Rattle.macho_image.specs.Command.{CommandView, command_at}
 use Rattle.macho_strict.specs.Rules.{BreaksImage}
-use Rattle.macho_strict.specs.declared.rule.StrictRule.TheVariants as rule
+use Rattle.macho_fields.specs.declared.rule.Rule.TheVariants as rule
 
 -- the commands that are left follow one another from a place on, and end where all commands end
 pub record AreLeft (image : List ℕ) (end : ℕ) (left : List CommandView) : Type 0 where

@@ -17,8 +17,8 @@ use Rattle.macho_rules.proofs.Verdicts.{unbroken_opened}
 use Rattle.macho_strict.specs.Elements.{headers, command_elements, elements_of}
 use Rattle.macho_strict.specs.Rules.{BreaksImage}
 use Rattle.macho_strict.specs.declared.elements.Element.{Element}
-use Rattle.macho_strict.specs.declared.rule.StrictRule.{StrictRule}
-use Rattle.macho_strict.specs.declared.rule.StrictRule.TheVariants as rule
+use Rattle.macho_fields.specs.declared.rule.Rule.{Rule}
+use Rattle.macho_fields.specs.declared.rule.Rule.TheVariants as rule
 use Rattle.macho_strict.proofs.ElementPlaces.{command_between}
 
 module _ (image : List ℕ) (none : NothingBreaks (Breaks image None)) where
@@ -49,8 +49,7 @@ module _ (image : List ℕ) (none : NothingBreaks (Breaks image None)) where
     | inr later ↦ described_inside (commands_of image) (λ command has. has) e later
   ]
 
-  pub place_inside : (r : StrictRule) (place : ℕ) → BreaksImage image r place → place ≤ length image
-  place_inside rule.FatStrayByte place broken = absurd broken
+  pub place_inside : (r : Rule) (place : ℕ) → BreaksImage image r place → place ≤ length image
   place_inside rule.CommandsEnd place (at, wrong) = let header = facts.header in omega arith
   place_inside rule.HeaderSegment place (at, wrong) = let header = facts.header in omega arith
   place_inside rule.SegmentFileOverlap place (has, shares) =
@@ -58,3 +57,4 @@ module _ (image : List ℕ) (none : NothingBreaks (Breaks image None)) where
   place_inside rule.ElementOverlap place (j, later, (at, shares), same) =
       let inside = element_inside later (j, slice_get_within (elements_of image) j later at, get_or_from_slice_get (elements_of image) j later later at) in omega (arith, same)
   place_inside rule.StrayByte place (nonzero, outside) = let within = nonzero.0 in omega arith
+  place_inside other place broken = absurd broken

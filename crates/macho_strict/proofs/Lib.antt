@@ -1,8 +1,5 @@
 pub mod Ranks
-pub mod Order
-pub mod Scopes
 pub mod Accounted
-pub mod Unique
 pub mod ElementWalks
 pub mod ElementPlaces
 pub mod Sharings

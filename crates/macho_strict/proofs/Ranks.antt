@@ -1,34 +1,44 @@
--- The order of the strict rules, and which of them a file breaks and which an image.
-use Rattle.std.proofs.Common.{◌≡◌, ℕ, suc, ◌≤◌, List, refl, arith, lit≤}
-use denote.Enum.Bare.{tag_one}
-use denote.Enum.Declared.{tag_of}
-use Rattle.macho_strict.specs.Order.{KeptBelow}
-use Rattle.macho_strict.specs.RuleList.{rank}
+-- Which strict rules a file breaks, and which an image.
+use Rattle.std.proofs.Common.{◌≡◌, ℕ, suc, zero, ◌≤◌, List, slice_get, refl, ap, ◌∙◌, arith, rules}
+use Rattle.macho_fields.specs.Layers.{KeptBelow}
+use Rattle.macho_fields.specs.RuleList.{rank, profile_of}
+use Rattle.macho_fields.specs.Universal.{slices_of, slice_bytes}
+use Rattle.macho_fields.specs.declared.rule.Break.{Break}
+use Rattle.macho_fields.specs.declared.rule.Profile.TheVariants.{Strict}
+use Rattle.macho_fields.specs.declared.rule.Rule.{Rule}
+use Rattle.macho_fields.specs.declared.rule.Rule.TheVariants as rule
+use Rattle.macho_fields.proofs.Options.{some_of}
+use Rattle.macho_strict.specs.First.{IsBrokenIn, IsFirstStrictlyBroken}
 use Rattle.macho_strict.specs.Rules.{BreaksFile, BreaksImage}
-use Rattle.macho_strict.specs.contracts.rule.StrictRule.{the_type}
-use Rattle.macho_strict.specs.declared.rule.StrictRule.{StrictRule}
-use Rattle.macho_strict.specs.declared.rule.StrictRule.TheVariants as rule
 
--- a rank is the place of the rule among the variants, from 1
-rank_is_tag : (r : StrictRule) → rank r ≡ suc (tag_of the_type r)
-rank_is_tag rule.FatStrayByte = refl
-rank_is_tag other = refl
+-- a file breaks one rule alone
+pub file_rule : (file : List ℕ) (r : Rule) (place : ℕ) → BreaksFile file r place → r ≡ rule.FatStrayByte
+file_rule file rule.FatStrayByte place broken = refl
+file_rule file other place broken = absurd broken
 
-pub rank_determines_rule : (a b : StrictRule) → rank a ≡ rank b → a ≡ b
-rank_determines_rule a b e =
-    let tags : tag_of the_type a ≡ tag_of the_type b = omega (arith, rank_is_tag a, rank_is_tag b) in
-    tag_one the_type tt a b tags
+pub none_before_file : (file : List ℕ) → KeptBelow (BreaksFile file) (rank rule.FatStrayByte)
+none_before_file file r place less broken = let same = ap rank (file_rule file r place broken) in absurd (omega (arith, same))
 
-pub rank_most : (r : StrictRule) → rank r ≤ rank rule.StrayByte
-rank_most rule.FatStrayByte = lit≤ tt
-rank_most other = lit≤ tt
+-- an image breaks none before the second, and none past the last
+first_of_image : (image : List ℕ) (r : Rule) (place : ℕ) → BreaksImage image r place → rank rule.CommandsEnd ≤ rank r
+first_of_image image rule.Magic place broken = absurd broken
+first_of_image image other place broken = search rules
 
--- a file breaks the first rule alone
-pub file_rule_rank : (file : List ℕ) (r : StrictRule) (place : ℕ) → BreaksFile file r place → rank r ≤ rank rule.FatStrayByte
-file_rule_rank file rule.FatStrayByte place broken = lit≤ tt
-file_rule_rank file other place broken = absurd broken
+pub last_of_image : (image : List ℕ) (r : Rule) (place : ℕ) → BreaksImage image r place → rank r ≤ rank rule.StrayByte
+last_of_image image rule.Magic place broken = absurd broken
+last_of_image image other place broken = search rules
 
--- and an image none before the second
 pub none_before : (image : List ℕ) → KeptBelow (BreaksImage image) (rank rule.CommandsEnd)
-none_before image rule.FatStrayByte place early broken = broken
-none_before image other place early broken = absurd (omega arith)
+none_before image r place early broken = let late = first_of_image image r place broken in absurd (omega arith)
+
+-- what is broken is strict
+image_strict : (image : List ℕ) (r : Rule) (place : ℕ) → BreaksImage image r place → profile_of r ≡ Strict
+image_strict image rule.Magic place broken = absurd broken
+image_strict image other place broken = search rules
+
+scope_strict : (file : List ℕ) (scope : ℕ) (r : Rule) (place : ℕ) → IsBrokenIn file scope r place → profile_of r ≡ Strict
+scope_strict file zero r place broken = ap profile_of (file_rule file r place broken)
+scope_strict file (suc k) r place broken = let (slice, is, (image, here)) = some_of _ (slice_get (slices_of file) k) broken in image_strict (slice_bytes file slice) r place here
+
+pub first_strict : (file : List ℕ) (b : Break) → IsFirstStrictlyBroken file b → profile_of b.rule ≡ Strict
+first_strict file b (fault, broken, first, same, at) = ap profile_of same ∙ scope_strict file fault.scope fault.rule fault.place broken

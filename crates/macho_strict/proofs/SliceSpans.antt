@@ -10,14 +10,13 @@ use Rattle.macho_fields.specs.FirstPlace.{IsLeastPlace}
 use Rattle.macho_spans.specs.Overlap.{span_at, IsAscending}
 use Rattle.macho_spans.specs.Span.{Holds}
 use Rattle.macho_fields.specs.Universal.{FileSlice, IsUniversal, HasPlace, entry_count, entry_size, slices_of, table_end}
-use Rattle.macho_fields.specs.declared.rule.Rule.TheVariants as field_rule
 use Rattle.macho_spans.specs.declared.span.Span.{Span}
 use Rattle.macho_fields.proofs.Slices.{slice_count}
 use Rattle.macho_strict.specs.Gaps.{IsStray, ComeByStart}
 use Rattle.macho_strict.specs.Rules.{BreaksFile}
 use Rattle.macho_strict.specs.Stray.{table_span}
 use Rattle.macho_strict.specs.Verdict.{slice_spans}
-use Rattle.macho_strict.specs.declared.rule.StrictRule.TheVariants as rule
+use Rattle.macho_fields.specs.declared.rule.Rule.TheVariants as rule
 use Rattle.macho_strict.proofs.Passed.{least_same, ascending_by_start, all_of_free, free_of_all}
 
 abbrev no_span : Span
@@ -38,7 +37,7 @@ span_found file i slice is =
 
 table_inside : (file : List ℕ) → IsUnbroken file → IsUniversal file → table_end file ≤ length file
 table_inside file unbroken universal = elim (cases_lt (length file) (table_end file)) [
-  | inl short ↦ absurd (unbroken (record { scope = 0; rule = field_rule.FatTruncated; place = 4 }) (refl, universal, inr short))
+  | inl short ↦ absurd (unbroken (record { scope = 0; rule = rule.FatTruncated; place = 4 }) (refl, universal, inr short))
   | inr most ↦ most
 ]
 

@@ -26,7 +26,7 @@ use Rattle.macho_strict.specs.Sharing.{file_part, all_parts, tagged, tagged_part
 use Rattle.macho_strict.specs.Verdict.{file_parts, IsUnordered}
 use Rattle.macho_strict.specs.declared.elements.Element.{Element}
 use Rattle.macho_strict.specs.declared.gaps.Gaps.{Gaps}
-use Rattle.macho_strict.specs.declared.rule.StrictRule.TheVariants as rule
+use Rattle.macho_fields.specs.declared.rule.Rule.TheVariants as rule
 use Rattle.macho_strict.proofs.Passed.{least_same, all_of_free, free_of_all}
 use Rattle.macho_strict.proofs.Sharings.{spans_tagged, tags_tagged}
 

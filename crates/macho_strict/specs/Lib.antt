@@ -1,10 +1,8 @@
-pub mod RuleList
 pub mod Elements
 pub mod ElementWalk
 pub mod Rules
 pub mod Sharing
 pub mod First
-pub mod Order
 pub mod Accounted
 pub mod Verdict
 pub mod Gaps

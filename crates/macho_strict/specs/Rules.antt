@@ -9,11 +9,11 @@ use Rattle.macho_spans.specs.Span.{Shares}
 use Rattle.macho_fields.specs.Universal.{IsUniversal, table_end, slices_of, HasPlace}
 use Rattle.macho_strict.specs.Elements.{elements_of}
 use Rattle.macho_strict.specs.declared.elements.Element.{Element}
-use Rattle.macho_strict.specs.declared.rule.StrictRule.{StrictRule}
-use Rattle.macho_strict.specs.declared.rule.StrictRule.TheVariants as rule
+use Rattle.macho_fields.specs.declared.rule.Rule.{Rule}
+use Rattle.macho_fields.specs.declared.rule.Rule.TheVariants as rule
 
 -- a universal file has such a byte after its table, in no slice
-abbrev pub BreaksFile : List ℕ → StrictRule → ℕ → Type 0
+abbrev pub BreaksFile : List ℕ → Rule → ℕ → Type 0
 BreaksFile file rule.FatStrayByte place =
     IsUniversal file × IsNonZero file place × (table_end file ≤ place)
     × All (λ slice. ¬ HasPlace slice place) (slices_of file)
@@ -47,7 +47,7 @@ SharesEarlierElement elements j later =
     × Shares earlier.span later.span)
 
 -- the image breaks the rule at the place. Its commands are a chain, since it breaks no other rule
-abbrev pub BreaksImage : List ℕ → StrictRule → ℕ → Type 0
+abbrev pub BreaksImage : List ℕ → Rule → ℕ → Type 0
 BreaksImage image rule.CommandsEnd place =
     (place ≡ 20) × ¬ IsChain image (commands_of image) (commands_end image)
 BreaksImage image rule.HeaderSegment place =

@@ -10,13 +10,9 @@ use Rattle.macho_rules.specs.declared.refusal.Refusal.{Refusal}
 use Rattle.macho_rules.specs.declared.refusal.Refusal.TheVariants as refusal
 use Rattle.macho_strict.specs.Elements.{elements_of}
 use Rattle.macho_strict.specs.First.{IsBrokenIn, IsFirstStrictlyBroken}
-use Rattle.macho_strict.specs.Order.{IsLeast}
+use Rattle.macho_fields.specs.Layers.{IsLeast}
 use Rattle.macho_strict.specs.Rules.{all_segments}
-use Rattle.macho_strict.specs.declared.refusal.Fault.{Fault}
-use Rattle.macho_strict.specs.declared.refusal.Fault.TheVariants as fault
-use Rattle.macho_strict.specs.declared.refusal.StrictRefusal.{StrictRefusal}
-use Rattle.macho_strict.specs.declared.refusal.StrictRefusal.TheVariants as strict
-use Rattle.macho_strict.specs.declared.rule.StrictBreak.{StrictBreak}
+use Rattle.macho_fields.specs.declared.rule.Break.{Break}
 
 -- the places of the slices of a file, in table order
 abbrev pub slice_spans : List ℕ → List Span
@@ -40,17 +36,12 @@ IsUnordered spans = (¬ IsAscending spans) × (¬ IsDescending spans)
 abbrev pub TakesMemory : List ℕ → Type 0
 TakesMemory image = (¬ IsAscending (file_parts image)) ⊎ IsUnordered (element_spans image)
 
--- A refusal is the first broken rule of `verify`, or where none of these is broken the first broken
+-- A refusal is the first broken rule of the layout, or where none of these is broken the first broken
 -- strict rule, or that there was no memory, which says no more than it does of `verify`.
-abbrev pub IsStrictRefusal : List ℕ → StrictRefusal → Type 0
-IsStrictRefusal file (strict.Broken b) = IsFirstBroken file b
-IsStrictRefusal file (strict.BrokenStrictly b) = IsUnbroken file × IsFirstStrictlyBroken file b
-IsStrictRefusal file strict.Memory = IsRefusal file refusal.Memory
-
--- a refusal of `verify`, as one of the strict verdict
-abbrev pub refusal_of : Refusal → StrictRefusal
-refusal_of (refusal.Broken b) = strict.Broken b
-refusal_of refusal.Memory = strict.Memory
+abbrev pub IsStrictRefusal : List ℕ → Refusal → Type 0
+IsStrictRefusal file (refusal.Broken b) =
+    IsFirstBroken file b ⊎ (IsUnbroken file × IsFirstStrictlyBroken file b)
+IsStrictRefusal file refusal.Memory = IsRefusal file refusal.Memory
 
 -- the slices of a file do not ascend, or the image in a slice takes memory
 abbrev pub TakesMemoryIn : List ℕ → ℕ → Type 0
@@ -58,16 +49,16 @@ TakesMemoryIn file zero = ¬ IsAscending (slice_spans file)
 TakesMemoryIn file (suc k) =
     IsSomeAnd (slice_get (slices_of file) k) (λ slice. TakesMemory (slice_bytes file slice))
 
--- a fault of a file is its first broken strict rule, or that there was no memory, where a scope takes
--- some
-abbrev pub IsStrictBreak : List ℕ → Fault → Type 0
-IsStrictBreak file (fault.Broken b) = IsFirstStrictlyBroken file b
-IsStrictBreak file fault.Memory = (scope : ℕ) × TakesMemoryIn file scope
+-- a strict refusal of a file is its first broken strict rule, or that there was no memory, where a
+-- scope takes some
+abbrev pub IsStrictBreak : List ℕ → Refusal → Type 0
+IsStrictBreak file (refusal.Broken b) = IsFirstStrictlyBroken file b
+IsStrictBreak file refusal.Memory = (scope : ℕ) × TakesMemoryIn file scope
 
--- a fault of a scope is its first broken strict rule, with its place in the file, or that there was no
--- memory, where it takes some
-abbrev pub IsScopeBreak : List ℕ → ℕ → Fault → Type 0
-IsScopeBreak file scope (fault.Broken b) =
-    (found : StrictBreak) × IsLeast (IsBrokenIn file scope) found
+-- a strict refusal of a scope is its first broken strict rule, with its place in the file, or that there
+-- was no memory, where it takes some
+abbrev pub IsScopeBreak : List ℕ → ℕ → Refusal → Type 0
+IsScopeBreak file scope (refusal.Broken b) =
+    (found : Break) × IsLeast (IsBrokenIn file scope) found
     × (b.rule ≡ found.rule) × (b.place ≡ scope_start file scope + found.place)
-IsScopeBreak file scope fault.Memory = TakesMemoryIn file scope
+IsScopeBreak file scope refusal.Memory = TakesMemoryIn file scope

@@ -1,27 +1,27 @@
 //! The strict rules of an image, in their order.
 
 ghost use Rattle.std.specs.Prelude.{OnOk, IfErr, None};
-ghost use Rattle.macho_fields.specs.Layers.{NothingBreaks};
 ghost use Rattle.macho_fields.specs.Rules.{BreaksImage as Breaks};
-ghost use Rattle.macho_strict.specs.Order.{NothingBreaks as NothingBreaksStrictly, Continues, IsFault};
+ghost use Rattle.macho_fields.specs.Layers.{NothingBreaks, Continues};
+ghost use Rattle.macho_rules.specs.Verdict.{IsRefusalOf};
 ghost use Rattle.macho_strict.specs.Rules.{BreaksImage};
 ghost use Rattle.macho_strict.specs.Verdict.{TakesMemory};
-ghost use Rattle.macho_strict.specs.declared.rule.StrictRule.{StrictRule};
+ghost use Rattle.macho_fields.specs.declared.rule.Rule.{Rule};
 
 use crate::elements::element_overlap;
-use crate::refusal::Fault;
-use crate::rule::{StrictBreak, StrictRule};
 use crate::segments::{SIZEOFCMDS, Survey};
 use macho_fields::header::loader::MACH_HEADER_64_SIZE;
+use macho_fields::{Break, Rule};
 use macho_image::Image;
+use macho_rules::Refusal;
 use std::alloc::Global;
 
 // Decides the strict rules of an image that breaks no other rule, in their order. It returns the first
 // broken one, with its place in the image.
-pub(crate) fn check_image(alloc: Global, image: &Image) -> Result<(), Fault>
+pub(crate) fn check_image(alloc: Global, image: &Image) -> Result<(), Refusal>
     requires { NothingBreaks (Breaks image.now None) }
-    ensures unbroken { OnOk result (NothingBreaksStrictly (BreaksImage image.now)) }
-    ensures refused { IfErr result (IsFault (BreaksImage image.now) (TakesMemory image.now)) }
+    ensures unbroken { OnOk result (NothingBreaks (BreaksImage image.now)) }
+    ensures refused { IfErr result (IsRefusalOf (BreaksImage image.now) (TakesMemory image.now)) }
 {
     commands_end(image)?;
     let survey = Survey::of(image);
@@ -33,8 +33,8 @@ pub(crate) fn check_image(alloc: Global, image: &Image) -> Result<(), Fault>
 }
 
 // The rule `commands-end`: the last command ends where the header says that the commands end.
-fn commands_end(image: &Image) -> Result<(), StrictBreak>
-    ensures { Continues (BreaksImage image.now) StrictRule.CommandsEnd result }
+fn commands_end(image: &Image) -> Result<(), Break>
+    ensures { Continues (BreaksImage image.now) Rule.CommandsEnd result }
 {
     let commands_end = image.commands_end();
     let mut end = MACH_HEADER_64_SIZE;
@@ -42,7 +42,7 @@ fn commands_end(image: &Image) -> Result<(), StrictBreak>
         end = command.place + u64::from(command.size);
     }
     if end != commands_end {
-        return Err(StrictBreak::at(StrictRule::CommandsEnd, SIZEOFCMDS));
+        return Err(Break::at(Rule::CommandsEnd, SIZEOFCMDS));
     }
     Ok(())
 }

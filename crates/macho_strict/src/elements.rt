@@ -7,20 +7,20 @@ ghost use Rattle.macho_spans.specs.SpanOrder.{IsOrderOf};
 ghost use Rattle.macho_strict.specs.Elements.{contents as contents_of, relocations as relocations_of};
 ghost use Rattle.macho_strict.specs.Elements.{headers as headers_of};
 ghost use Rattle.macho_strict.specs.ElementWalk.{described_tables};
-ghost use Rattle.macho_strict.specs.Order.{KeptBelow, ContinuesWithMemory};
-ghost use Rattle.macho_strict.specs.RuleList.{rank};
+ghost use Rattle.macho_fields.specs.Layers.{KeptBelow};
+ghost use Rattle.macho_rules.specs.Check.{ContinuesWithMemory};
+ghost use Rattle.macho_fields.specs.RuleList.{rank};
 ghost use Rattle.macho_strict.specs.Rules.{BreaksImage};
 ghost use Rattle.macho_strict.specs.Sharing.{IsFirstSharing, tagged_elements};
 ghost use Rattle.macho_strict.specs.Verdict.{element_spans, IsUnordered};
-ghost use Rattle.macho_strict.specs.declared.rule.StrictRule.{StrictRule};
+ghost use Rattle.macho_fields.specs.declared.rule.Rule.{Rule};
 
 use crate::overlap::sorted_element_overlap;
-use crate::refusal::Fault;
-use crate::rule::StrictRule;
 use macho_fields::header::loader::{LC_ENCRYPTION_INFO_64, LC_SEGMENT_64};
 use macho_fields::header::reloc::RELOCATION_INFO_SIZE;
-use macho_fields::{Bytes, Sharing, Span, SpanOrder, TableFields, structure_of};
+use macho_fields::{Bytes, Rule, Sharing, Span, SpanOrder, TableFields, structure_of};
 use macho_image::{Commands, Image, Section, Sections, Segments};
+use macho_rules::Refusal;
 use std::alloc::{AllocError, Global};
 use std::marker::Model;
 
@@ -302,14 +302,14 @@ impl<'a> Elements<'a> {
 //
 // For n elements that ascend or descend it takes one walk, and no memory. For others it may take time
 // in the order of n log n, and 24 bytes of memory for each.
-pub(crate) fn element_overlap(alloc: Global, image: &Image) -> Result<(), Fault>
+pub(crate) fn element_overlap(alloc: Global, image: &Image) -> Result<(), Refusal>
     requires unbroken { NothingBreaks (Breaks image.now None) }
-    requires kept { KeptBelow (BreaksImage image.now) (rank StrictRule.ElementOverlap) }
-    ensures { ContinuesWithMemory (BreaksImage image.now) StrictRule.ElementOverlap
+    requires kept { KeptBelow (BreaksImage image.now) (rank Rule.ElementOverlap) }
+    ensures { ContinuesWithMemory (BreaksImage image.now) Rule.ElementOverlap
         (IsUnordered (element_spans image.now)) result }
 {
     let first = first_overlap(alloc, image)?;
-    StrictRule::ElementOverlap.judge(first)?;
+    Rule::ElementOverlap.judge(first)?;
     Ok(())
 }
 

@@ -3,21 +3,29 @@
 
 ghost use Rattle.std.specs.Prelude.{◌≡◌, ◌≤◌, length};
 ghost use Rattle.macho_fields.specs.First.{IsUnbroken};
+ghost use Rattle.macho_fields.specs.RuleList.{profile_of};
+ghost use Rattle.macho_fields.specs.declared.rule.Profile.TheVariants.{Strict};
 ghost use Rattle.macho_strict.specs.Accounted.{IsAccounted};
 ghost use Rattle.macho_strict.specs.First.{IsFirstStrictlyBroken, IsStrictlyUnbroken};
 
-use crate::rule::StrictBreak;
+use macho_fields::Break;
 
 /// A file has one first broken strict rule at most.
-pub fn first_strictly_broken_is_one(file: &[u8], first: StrictBreak, other: StrictBreak)
+pub fn first_strictly_broken_is_one(file: &[u8], first: Break, other: Break)
     requires first { IsFirstStrictlyBroken file.now first }
     requires other { IsFirstStrictlyBroken file.now other }
     ensures { first ≡ other }
 {}
 
+/// The first broken strict rule of a file is one of the strict profile.
+pub fn first_strictly_broken_is_strict(file: &[u8], first: Break)
+    requires { IsFirstStrictlyBroken file.now first }
+    ensures { profile_of first.rule ≡ Strict }
+{}
+
 /// The place of the first broken strict rule is at most the length of the file, which breaks no other
 /// rule.
-pub fn first_strict_place_is_inside(file: &[u8], first: StrictBreak)
+pub fn first_strict_place_is_inside(file: &[u8], first: Break)
     requires unbroken { IsUnbroken file.now }
     requires first { IsFirstStrictlyBroken file.now first }
     ensures { first.place ≤ length file.now }

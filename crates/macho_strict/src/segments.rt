@@ -10,10 +10,9 @@ ghost use Rattle.macho_strict.specs.Verdict.{file_parts};
 use crate::elements::Element;
 use crate::gaps::{Gaps, stray_past};
 use crate::overlap::{FileParts, sorted_file_overlap};
-use crate::refusal::Fault;
-use crate::rule::{StrictBreak, StrictRule};
-use macho_fields::{Bytes, Sharing, Span, SpanOrder};
+use macho_fields::{Break, Bytes, Rule, Sharing, Span, SpanOrder};
 use macho_image::Image;
+use macho_rules::Refusal;
 use std::alloc::{AllocError, Global};
 use std::marker::Model;
 
@@ -49,11 +48,12 @@ impl<'a> Model for Survey<'a> {
 impl<'a> Survey<'a> {
     ghost use Rattle.std.specs.Prelude.{◌≡◌};
     ghost use Rattle.macho_spans.specs.Overlap.{IsAscending};
-    ghost use Rattle.macho_strict.specs.Order.{KeptBelow, Continues, ContinuesWithMemory};
-    ghost use Rattle.macho_strict.specs.RuleList.{rank};
+    ghost use Rattle.macho_fields.specs.Layers.{KeptBelow, Continues};
+    ghost use Rattle.macho_rules.specs.Check.{ContinuesWithMemory};
+    ghost use Rattle.macho_fields.specs.RuleList.{rank};
     ghost use Rattle.macho_strict.specs.Rules.{BreaksImage};
     ghost use Rattle.macho_strict.specs.Verdict.{file_parts, IsUnordered};
-    ghost use Rattle.macho_strict.specs.declared.rule.StrictRule.{StrictRule};
+    ghost use Rattle.macho_fields.specs.declared.rule.Rule.{Rule};
 
     // Goes over the segments of the image.
     pub(crate) fn of(image: &Image<'a>) -> Survey<'a>
@@ -78,26 +78,26 @@ impl<'a> Survey<'a> {
     }
 
     // A segment has the header and all commands.
-    pub(crate) fn header_segment(&self) -> Result<(), StrictBreak>
-        requires { KeptBelow (BreaksImage self.now) (rank StrictRule.HeaderSegment) }
-        ensures { Continues (BreaksImage self.now) StrictRule.HeaderSegment result }
+    pub(crate) fn header_segment(&self) -> Result<(), Break>
+        requires { KeptBelow (BreaksImage self.now) (rank Rule.HeaderSegment) }
+        ensures { Continues (BreaksImage self.now) Rule.HeaderSegment result }
     {
         let broken = if self.has_headers {
             None
         } else {
             Some(SIZEOFCMDS)
         };
-        StrictRule::HeaderSegment.judge(broken)
+        Rule::HeaderSegment.judge(broken)
     }
 
     // No segment has a byte of the file in common with an earlier one.
     //
     // It takes memory only where the file parts neither ascend nor descend: 24 bytes for each, to sort
     // them.
-    pub(crate) fn segment_file_overlap(&self, alloc: Global, image: &Image) -> Result<(), Fault>
+    pub(crate) fn segment_file_overlap(&self, alloc: Global, image: &Image) -> Result<(), Refusal>
         requires image { self.now ≡ image.now }
-        requires kept { KeptBelow (BreaksImage image.now) (rank StrictRule.SegmentFileOverlap) }
-        ensures { ContinuesWithMemory (BreaksImage image.now) StrictRule.SegmentFileOverlap
+        requires kept { KeptBelow (BreaksImage image.now) (rank Rule.SegmentFileOverlap) }
+        ensures { ContinuesWithMemory (BreaksImage image.now) Rule.SegmentFileOverlap
             (IsUnordered (file_parts image.now)) result }
     {
         let overlap = match self.order.sharing() {
@@ -105,21 +105,21 @@ impl<'a> Survey<'a> {
             Sharing::First(place) => Some(place),
             Sharing::Unknown => sorted_file_overlap(alloc, image)?,
         };
-        StrictRule::SegmentFileOverlap.judge(overlap)?;
+        Rule::SegmentFileOverlap.judge(overlap)?;
         Ok(())
     }
 
     // Each byte of the image is zero or lies in a segment.
     //
     // It takes memory only where the file parts do not ascend: up to 32 bytes for each, to sort them.
-    pub(crate) fn stray_byte(&self, alloc: Global, image: &Image) -> Result<(), Fault>
+    pub(crate) fn stray_byte(&self, alloc: Global, image: &Image) -> Result<(), Refusal>
         requires image { self.now ≡ image.now }
-        requires kept { KeptBelow (BreaksImage image.now) (rank StrictRule.StrayByte) }
-        ensures { ContinuesWithMemory (BreaksImage image.now) StrictRule.StrayByte
+        requires kept { KeptBelow (BreaksImage image.now) (rank Rule.StrayByte) }
+        ensures { ContinuesWithMemory (BreaksImage image.now) Rule.StrayByte
             (¬ IsAscending (file_parts image.now)) result }
     {
         let stray = least_stray(alloc, image, &self.gaps)?;
-        StrictRule::StrayByte.judge(stray)?;
+        Rule::StrayByte.judge(stray)?;
         Ok(())
     }
 }

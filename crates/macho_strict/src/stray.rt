@@ -6,34 +6,32 @@ ghost use Rattle.macho_fields.specs.FirstPlace.{IsLeastPlace};
 ghost use Rattle.macho_spans.specs.Overlap.{IsAscending, span_at};
 ghost use Rattle.macho_fields.specs.Universal.{IsUniversal, entry_size, slices_of};
 ghost use Rattle.macho_strict.specs.Gaps.{IsStray, ComeByStart, ArePassed};
-ghost use Rattle.macho_strict.specs.Order.{ContinuesWithMemory};
+ghost use Rattle.macho_rules.specs.Check.{ContinuesWithMemory};
 ghost use Rattle.macho_strict.specs.Rules.{BreaksFile};
 ghost use Rattle.macho_strict.specs.Verdict.{slice_spans};
 ghost use Rattle.macho_strict.specs.Stray.{table_span};
-ghost use Rattle.macho_strict.specs.declared.rule.StrictRule.{StrictRule};
+ghost use Rattle.macho_fields.specs.declared.rule.Rule.{Rule};
 
 use crate::gaps::{Gaps, stray_past};
-use crate::refusal::Fault;
-use crate::rule::StrictRule;
 use macho_fields::header::fat::{
     FAT_ARCH_64_SIZE, FAT_ARCH_SIZE, FAT_HEADER_SIZE, FAT_MAGIC, FAT_MAGIC_64,
 };
-use macho_fields::{Bytes, Order, Span};
-use macho_rules::Verified;
+use macho_fields::{Bytes, Order, Rule, Span};
+use macho_rules::{Refusal, Verified};
 use std::alloc::{AllocError, Global};
 
 // Each byte of a universal file after its table is zero or lies in a slice.
 //
 // It takes memory only where the slices do not ascend: 16 bytes for each, to sort them.
-pub(crate) fn fat_stray_byte(alloc: Global, verified: &Verified) -> Result<(), Fault>
-    ensures { ContinuesWithMemory (BreaksFile verified.now) StrictRule.FatStrayByte
+pub(crate) fn fat_stray_byte(alloc: Global, verified: &Verified) -> Result<(), Refusal>
+    ensures { ContinuesWithMemory (BreaksFile verified.now) Rule.FatStrayByte
         (¬ IsAscending (slice_spans verified.now)) result }
 {
     let Some(table) = table(verified) else {
         return Ok(());
     };
     let stray = least_stray(alloc, verified, table)?;
-    StrictRule::FatStrayByte.judge(stray)?;
+    Rule::FatStrayByte.judge(stray)?;
     Ok(())
 }
 

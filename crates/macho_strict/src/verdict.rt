@@ -5,14 +5,13 @@ ghost use Rattle.macho_fields.specs.First.{IsUnbroken};
 ghost use Rattle.macho_fields.specs.Loader.{IsSound};
 ghost use Rattle.macho_strict.specs.Accounted.{IsAccounted};
 ghost use Rattle.macho_strict.specs.First.{IsBrokenIn, IsStrictlyUnbroken};
-ghost use Rattle.macho_strict.specs.Order.{NothingBreaks};
+ghost use Rattle.macho_fields.specs.Layers.{NothingBreaks};
 ghost use Rattle.macho_strict.specs.Verdict.{IsStrictRefusal, IsStrictBreak, IsScopeBreak};
 
 use crate::check::check_image;
-use crate::refusal::{Fault, StrictRefusal};
-use crate::rule::StrictBreak;
 use crate::stray::fat_stray_byte;
-use macho_rules::{Verified, verify};
+use macho_fields::Break;
+use macho_rules::{Refusal, Verified, verify};
 use std::alloc::Global;
 
 /// Decides the rules of a file as `macho_rules::verify` does, and then the strict rules, in their order:
@@ -22,7 +21,7 @@ use std::alloc::Global;
 /// It takes memory as `verify` does, and past that only where slices, segments or elements do not come in
 /// the order of their bytes: at most 32 bytes for each segment, or 24 for each slice or element, to
 /// sort them.
-pub fn verify_strictly<'a>(alloc: Global, file: &'a [u8]) -> Result<Verified<'a>, StrictRefusal>
+pub fn verify_strictly<'a>(alloc: Global, file: &'a [u8]) -> Result<Verified<'a>, Refusal>
     // It accepts only a file that breaks no rule and no strict rule, and refuses only one that breaks
     // one of them, unless there is no memory.
     ensures accepted { OnOk result (IsUnbroken file.now) }
@@ -35,16 +34,13 @@ pub fn verify_strictly<'a>(alloc: Global, file: &'a [u8]) -> Result<Verified<'a>
     ensures file { IfOk result (λ verified. verified ≡ file.now) }
 {
     let verified = verify(alloc, file)?;
-    match check_strictly(alloc, &verified) {
-        Ok(()) => Ok(verified),
-        Err(Fault::Broken(broken)) => Err(StrictRefusal::BrokenStrictly(broken)),
-        Err(Fault::Memory) => Err(StrictRefusal::Memory),
-    }
+    check_strictly(alloc, &verified)?;
+    Ok(verified)
 }
 
 // Decides the strict rules of a file, and of each of its 64-bit slices, one slice after the other. The
 // place of a break is its offset in the file.
-fn check_strictly(alloc: Global, verified: &Verified) -> Result<(), Fault>
+fn check_strictly(alloc: Global, verified: &Verified) -> Result<(), Refusal>
     ensures unbroken { OnOk result (IsStrictlyUnbroken verified.now) }
     ensures refused { IfErr result (IsStrictBreak verified.now) }
 {
@@ -57,7 +53,7 @@ fn check_strictly(alloc: Global, verified: &Verified) -> Result<(), Fault>
 
 // Decides the strict rules of the slice with this index, if it has an image. The place of a break is
 // its offset in the file.
-fn check_slice(alloc: Global, verified: &Verified, index: u64) -> Result<(), Fault>
+fn check_slice(alloc: Global, verified: &Verified, index: u64) -> Result<(), Refusal>
     ensures unbroken { OnOk result (NothingBreaks (IsBrokenIn verified.now (suc index))) }
     ensures refused { IfErr result (IsScopeBreak verified.now (suc index)) }
 {
@@ -69,12 +65,12 @@ fn check_slice(alloc: Global, verified: &Verified, index: u64) -> Result<(), Fau
     };
     match check_image(alloc, &image) {
         Ok(()) => Ok(()),
-        Err(Fault::Broken(broken)) => {
+        Err(Refusal::Broken(broken)) => {
             // The image lies in the file, so its places do too.
             prove!(verified.bytes().len() <= u64::MAX);
             let place = slice.span.start + broken.place;
-            Err(Fault::Broken(StrictBreak::at(broken.rule, place)))
+            Err(Refusal::Broken(Break::at(broken.rule, place)))
         }
-        Err(Fault::Memory) => Err(Fault::Memory),
+        Err(Refusal::Memory) => Err(Refusal::Memory),
     }
 }

@@ -3,8 +3,8 @@
 ghost use Rattle.macho_strict_check.specs.Judge.{IsStrictlyAccepted, IsNamedFirst};
 
 use macho_report::{Judge, Rejection};
-use macho_rules::Verified;
-use macho_strict::{StrictRefusal, verify_strictly};
+use macho_rules::{Refusal, Verified};
+use macho_strict::verify_strictly;
 use std::alloc::Global;
 
 /// Accepts the files that break no rule of the layout and no strict rule, as [`verify_strictly`] decides.
@@ -19,15 +19,11 @@ impl Judge for StrictRules {
     fn judge<'a>(&self, alloc: Global, file: &'a [u8]) -> Result<Verified<'a>, Rejection> {
         match verify_strictly(alloc, file) {
             Ok(verified) => Ok(verified),
-            Err(StrictRefusal::Broken(broken)) => Err(Rejection::Broken {
+            Err(Refusal::Broken(broken)) => Err(Rejection::Broken {
                 rule: broken.rule.name(),
                 place: broken.place,
             }),
-            Err(StrictRefusal::BrokenStrictly(broken)) => Err(Rejection::Broken {
-                rule: broken.rule.name(),
-                place: broken.place,
-            }),
-            Err(StrictRefusal::Memory) => Err(Rejection::Memory),
+            Err(Refusal::Memory) => Err(Rejection::Memory),
         }
     }
 }

@@ -1,4 +1,4 @@
-use Rattle.std.proofs.Common.{◌≡◌, ◌<◌, ◌≤◌, ◌∙◌, Some, length, sym, ap, subst, slice_get, arith}
+use Rattle.std.proofs.Common.{◌<◌, ◌≤◌, ◌∙◌, Some, length, sym, ap, slice_get, arith}
 use Rattle.std.proofs.lemmas.Option.{slice_get_past}
 use Rattle.macho_fields.specs.Universal.{entry_count, slices_of}
 use Rattle.macho_fields.proofs.Slices.{slice_count, slice_of_entry}

@@ -5,7 +5,7 @@ use Rattle.macho_fields.specs.Rules.{BreaksImage}
 use Rattle.macho_fields.specs.Segment.{base_of, section_count}
 use Rattle.macho_fields.specs.declared.rule.Rule.TheVariants as rule
 use Rattle.macho_fields.specs.declared.rule.Break.{Break}
-use Rattle.macho_fields.proofs.Ranks.{rank_most}
+use Rattle.macho_fields.proofs.Ranks.{layout_rule_rank}
 use Rattle.macho_rules.specs.Check.{KeptBefore}
 use Rattle.macho_rules.specs.Verdict.{IsImageRefusal}
 use Rattle.macho_rules.specs.declared.refusal.Refusal.{Refusal}
@@ -55,4 +55,4 @@ pub entry-requires-clause-base : goal.entry-requires-clause-base
 entry-requires-clause-base c = c.base.ensures ∙ ap (λ (image : List ℕ). base_of image (commands_of image)) c.of-survey.ensures
 
 pub returns-clause-unbroken : goal.returns-clause-unbroken
-returns-clause-unbroken c r place broken = c.in_ok-entry.ensures r place (omega (arith, rank_most r)) broken
+returns-clause-unbroken c r place broken = let most = layout_rule_rank c.args.image.now None r place broken in c.in_ok-entry.ensures r place (omega (arith, most)) broken

@@ -1,7 +1,7 @@
 use Rattle.std.proofs.lemmas.Bool.{both_ways}
 use Rattle.macho_fields.specs.Bytes.{bytes_of}
 use Rattle.macho_fields.specs.First.{IsFirstBroken}
-use Rattle.macho_fields.proofs.Scopes.{file_first}
+use Rattle.macho_rules.proofs.KeptSlices.{file_first}
 use Rattle.macho_rules.proofs.Verdicts.{passed_on}
 use Rattle.macho_rules.proofs.Second.{plain_unbroken, plain_first}
 use Rattle.macho_rules.proofs.slow.judge_file.Goals as goal

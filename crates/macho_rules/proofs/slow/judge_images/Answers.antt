@@ -1,12 +1,12 @@
-use Rattle.std.proofs.Common.{◌≡◌, suc, length, sym, subst, arith}
+use Rattle.std.proofs.Common.{◌≡◌, length, sym, subst, arith}
 use Rattle.std.proofs.lemmas.Bool.{both_ways}
 use Rattle.macho_fields.specs.Bytes.{bytes_of}
 use Rattle.macho_fields.specs.First.{IsFirstBroken}
 use Rattle.macho_fields.specs.Universal.{entry_count, entry_slice, slices_of, IsImage}
 use Rattle.macho_fields.specs.declared.rule.Rule.TheVariants as rule
-use Rattle.macho_fields.proofs.Scopes.{KeptScopes, file_kept, image_kept, other_kept, all_kept}
 use Rattle.macho_fields.proofs.Slices.{slice_count, slice_of_entry}
 use Rattle.macho_rules.specs.declared.refusal.Refusal.TheVariants as refusal
+use Rattle.macho_rules.proofs.KeptSlices.{file_kept, image_kept, other_kept, all_kept}
 use Rattle.macho_rules.proofs.Verdicts.{passed_on, slice_refused}
 use Rattle.macho_rules.proofs.slow.judge_images.Goals as goal
 use Rattle.macho_rules.proofs.slow.judge_images.Goals.{then-is_image+in_ok-judge_slice, else-is_image}
@@ -33,15 +33,14 @@ loop-k-preserved c =
     let file = bytes_of c.args.entries.file in
     let slice = entry_slice file c.loop-k.k in
     let here = slice_of_entry file c.loop-k.k c.args.entries.universal (omega (arith, c.args.entries.number)) in
-    let kept : KeptScopes file (suc c.loop-k.k) = elim c.if-is_image.branch [
+    elim c.if-is_image.branch [
       | then-is_image+in_ok-judge_slice w ↦ image_kept file c.loop-k.k slice here c.loop-k.invariant w.in_ok-judge_slice.ensures.unbroken
       | else-is_image w ↦ other_kept file c.loop-k.k slice here c.loop-k.invariant
           (λ image. both_ways c.is_image.result w.if-is_image.false (c.is_image.ensures.1 (subst IsImage (sym c.bytes.ensures) image)))
-    ] in
-    λ scope r place most. kept scope r place (omega arith)
+    ]
 
 pub returns-clause-unbroken : goal.returns-clause-unbroken
 returns-clause-unbroken c =
     let file = bytes_of c.args.entries.file in
     let counted : length (slices_of file) ≡ entry_count file = slice_count file c.args.entries.universal in
-    all_kept file (λ scope r place most. c.loop-k.invariant scope r place (omega (arith, counted, c.args.entries.number)))
+    all_kept file c.loop-k.k (omega (arith, counted, c.args.entries.number)) c.loop-k.invariant

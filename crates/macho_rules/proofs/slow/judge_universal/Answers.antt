@@ -5,7 +5,7 @@ use Rattle.macho_fields.specs.Layers.{KeptBelow}
 use Rattle.macho_fields.specs.Rules.{BreaksFile}
 use Rattle.macho_fields.specs.declared.bytes.Bytes.{Bytes}
 use Rattle.macho_fields.specs.declared.rule.Rule.TheVariants as rule
-use Rattle.macho_fields.proofs.Scopes.{file_first}
+use Rattle.macho_rules.proofs.KeptSlices.{file_first}
 use Rattle.macho_rules.proofs.Verdicts.{passed_on}
 use Rattle.macho_rules.proofs.slow.judge_universal.Goals as goal
 

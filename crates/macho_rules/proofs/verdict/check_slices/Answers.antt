@@ -1,11 +1,11 @@
-use Rattle.std.proofs.Common.{◌≡◌, suc, length, arith}
+use Rattle.std.proofs.Common.{◌≡◌, length, arith}
 use Rattle.std.proofs.lemmas.Bool.{both_ways}
 use Rattle.std.proofs.lemmas.Result.{err_from_is_err_and}
 use Rattle.macho_fields.specs.Bytes.{bytes_of}
 use Rattle.macho_fields.specs.Universal.{slices_of}
-use Rattle.macho_fields.proofs.Scopes.{KeptScopes, file_kept, image_kept, other_kept, all_kept}
 use Rattle.macho_fields.proofs.Sound.{slice_inside}
 use Rattle.macho_rules.specs.Verdict.{IsRefusal}
+use Rattle.macho_rules.proofs.KeptSlices.{file_kept, image_kept, other_kept, all_kept}
 use Rattle.macho_rules.proofs.Verdicts.{no_slice, slice_at, slice_refused, answered, slices_counted}
 use Rattle.macho_rules.proofs.verdict.check_slices.Goals as goal
 use Rattle.macho_rules.proofs.verdict.check_slices.Goals.{then-slice+in_ok-check_slice, else-slice}
@@ -33,14 +33,13 @@ loop-slice-preserved c =
     let file = bytes_of c.args.file in
     let here = slice_at file c.args.slices.now c.requires.slices c.loop-slice.slice-index no_slice c.loop-slice-test.true in
     let read = c.requires.slices.read c.loop-slice.slice-index no_slice c.loop-slice-test.true in
-    let kept : KeptScopes file (suc c.loop-slice.slice-index) = elim c.if-slice.branch [
+    elim c.if-slice.branch [
       | then-slice+in_ok-check_slice w ↦ image_kept file c.loop-slice.slice-index _ here c.loop-slice.invariant w.in_ok-check_slice.ensures.unbroken
       | else-slice w ↦ other_kept file c.loop-slice.slice-index _ here c.loop-slice.invariant (λ image. both_ways _ w.if-slice.false (read.1 image))
-    ] in
-    λ scope r place most. kept scope r place (omega arith)
+    ]
 
 pub returns-clause-unbroken : goal.returns-clause-unbroken
 returns-clause-unbroken c =
     let file = bytes_of c.args.file in
     let counted : length c.args.slices.now ≡ length (slices_of file) = slices_counted file c.args.slices.now c.requires.slices in
-    all_kept file (λ scope r place most. c.loop-slice.invariant scope r place (omega (arith, counted)))
+    all_kept file c.loop-slice.slice-index (omega (arith, counted)) c.loop-slice.invariant

@@ -1,7 +1,7 @@
 use Rattle.macho_fields.specs.Bytes.{bytes_of}
-use Rattle.macho_fields.proofs.Scopes.{KeptScopes}
+use Rattle.macho_rules.proofs.KeptSlices.{KeptSlices}
 use Rattle.macho_rules.proofs.verdict.check_slices.Given as goal
 
 -- nothing is broken in the file itself, nor in the slices that are passed
 abbrev pub invariant-loop-slice : goal.invariant-loop-slice
-invariant-loop-slice l = KeptScopes (bytes_of l.file) l.slice-index
+invariant-loop-slice l = KeptSlices (bytes_of l.file) l.slice-index

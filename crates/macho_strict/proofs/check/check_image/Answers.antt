@@ -1,6 +1,5 @@
 use Rattle.std.proofs.Common.{inl}
 use Rattle.macho_spans.specs.Overlap.{IsAscending}
-use Rattle.macho_strict.specs.Rules.{BreaksImage}
 use Rattle.macho_strict.specs.Verdict.{IsUnordered, file_parts}
 use Rattle.macho_strict.proofs.Verdicts.{passed_of, all_unbroken}
 use Rattle.macho_strict.proofs.check.check_image.Goals as goal
@@ -16,4 +15,4 @@ returns-in_err-stray_byte-clause-refused c =
     c.from_residual-in_err-stray_byte.result c.from_residual-in_err-stray_byte.ensures.1
 
 pub returns-clause-unbroken : goal.returns-clause-unbroken
-returns-clause-unbroken c = all_unbroken (BreaksImage c.args.image.now) c.in_ok-stray_byte.ensures
+returns-clause-unbroken c = all_unbroken c.args.image.now c.in_ok-stray_byte.ensures

@@ -2,9 +2,9 @@ use Rattle.std.proofs.Common.{◌≡◌, ℕ, ◌+◌, ◌∙◌, sym, subst, ar
 use Rattle.macho_image.specs.Command.{command_of}
 use Rattle.macho_image.proofs.OpenedWalk.{opened_commands}
 use Rattle.macho_strict.specs.Rules.{BreaksImage}
-use Rattle.macho_strict.specs.declared.rule.StrictRule.TheVariants as rule
+use Rattle.macho_fields.specs.declared.rule.Rule.TheVariants as rule
 use Rattle.macho_strict.proofs.CommandsEnd.{AreLeft, left_after, left_inside, ends_right, ends_wrong}
-use Rattle.macho_strict.proofs.Order.{kept_more, least_at}
+use Rattle.macho_fields.proofs.Layers.{kept_more, least_at}
 use Rattle.macho_strict.proofs.Ranks.{none_before}
 use Rattle.macho_strict.proofs.check.commands_end.Goals as goal
 

@@ -1,12 +1,13 @@
 use Rattle.std.proofs.Common.{Ok, Err}
 use Rattle.macho_rules.proofs.Verdicts.{unbroken_opened}
 use Rattle.macho_strict.specs.Elements.{elements_of}
-use Rattle.macho_strict.specs.Order.{IsLeast}
+use Rattle.macho_fields.specs.Layers.{IsLeast}
 use Rattle.macho_strict.specs.Rules.{BreaksImage}
 use Rattle.macho_strict.specs.Verdict.{element_spans, IsUnordered}
-use Rattle.macho_strict.specs.declared.rule.StrictRule.TheVariants as rule
+use Rattle.macho_fields.specs.declared.rule.Rule.TheVariants as rule
 use Rattle.macho_strict.proofs.ElementPlaces.{elements_rise}
-use Rattle.macho_strict.proofs.Judged.{first_judged, without_memory, refused}
+use Rattle.macho_fields.proofs.FirstPlaces.{first_judged}
+use Rattle.macho_strict.proofs.Judged.{without_memory, refused}
 use Rattle.macho_strict.proofs.Sharings.{least_sharing}
 use Rattle.macho_strict.proofs.elements.element_overlap.Goals as goal
 

@@ -3,11 +3,13 @@ use Rattle.macho_fields.specs.FirstPlace.{IsLeastPlace}
 use Rattle.macho_spans.specs.Overlap.{IsAscending}
 use Rattle.macho_spans.specs.declared.span.Span.{Span}
 use Rattle.macho_strict.specs.Gaps.{IsStray, ComeByStart}
-use Rattle.macho_strict.specs.Order.{IsLeast}
+use Rattle.macho_fields.specs.Layers.{IsLeast}
 use Rattle.macho_strict.specs.Rules.{BreaksFile}
 use Rattle.macho_strict.specs.Verdict.{slice_spans}
-use Rattle.macho_strict.specs.declared.rule.StrictRule.TheVariants as rule
-use Rattle.macho_strict.proofs.Judged.{first_judged, none_before, without_memory, refused}
+use Rattle.macho_fields.specs.declared.rule.Rule.TheVariants as rule
+use Rattle.macho_fields.proofs.FirstPlaces.{first_judged}
+use Rattle.macho_strict.proofs.Judged.{without_memory, refused}
+use Rattle.macho_strict.proofs.Ranks.{none_before_file}
 use Rattle.macho_strict.proofs.SliceSpans.{least_of_file, ascend_after_table}
 use Rattle.macho_strict.proofs.stray.fat_stray_byte.Goals as goal
 
@@ -24,7 +26,7 @@ returns-in_err-judge c =
     let stray = c.in_ok-stray.stray in
     let b = c.in_err-judge.field-0.0 in
     let found = least_of_file file c.in-Some.ensures.0 stray (subst (λ (table : Span). IsLeastPlace (IsStray file (table ∷ slice_spans file)) stray) c.in-Some.ensures.1 c.in_ok-stray.ensures.found) in
-    let least : IsLeast (BreaksFile file) b = first_judged {T = Unit {0}} (BreaksFile file) rule.FatStrayByte stray (Err b) (none_before (BreaksFile file)) found c.in_err-judge.ensures in
+    let least : IsLeast (BreaksFile file) b = first_judged {T = Unit {0}} (BreaksFile file) rule.FatStrayByte stray (Err b) (none_before_file file) found c.in_err-judge.ensures in
     refused (BreaksFile file) rule.FatStrayByte (¬ IsAscending (slice_spans file)) b least c.from_residual-in_err-judge.result c.from_residual-in_err-judge.ensures.1
 
 pub returns : goal.returns
@@ -32,4 +34,4 @@ returns c =
     let file = c.args.verified.now in
     let stray = c.in_ok-stray.stray in
     let found = least_of_file file c.in-Some.ensures.0 stray (subst (λ (table : Span). IsLeastPlace (IsStray file (table ∷ slice_spans file)) stray) c.in-Some.ensures.1 c.in_ok-stray.ensures.found) in
-    first_judged {T = Unit {0}} (BreaksFile file) rule.FatStrayByte stray (Ok c.in_ok-judge.field-0) (none_before (BreaksFile file)) found c.in_ok-judge.ensures
+    first_judged {T = Unit {0}} (BreaksFile file) rule.FatStrayByte stray (Ok c.in_ok-judge.field-0) (none_before_file file) found c.in_ok-judge.ensures

@@ -1,8 +1,10 @@
 use Rattle.std.proofs.Common.{suc, arith}
 use Rattle.macho_rules.proofs.Verdicts.{passed_on}
+use Rattle.macho_strict.specs.First.{BreaksSlice}
 use Rattle.macho_strict.specs.Verdict.{IsStrictBreak}
-use Rattle.macho_strict.proofs.Scopes.{one_more, all_kept}
-use Rattle.macho_strict.proofs.Verdicts.{file_unbroken, file_refused, scope_refused}
+use Rattle.macho_fields.proofs.Scopes.{all_kept}
+use Rattle.macho_strict.specs.Rules.{BreaksFile}
+use Rattle.macho_strict.proofs.Verdicts.{file_unbroken, file_refused, one_kept, scope_refused}
 use Rattle.macho_strict.proofs.verdict.check_strictly.Goals as goal
 
 pub returns-in_err-fat_stray_byte-clause-refused : goal.returns-in_err-fat_stray_byte-clause-refused
@@ -23,9 +25,9 @@ returns-in_err-check_slice-clause-refused c =
 pub loop-index-preserved : goal.loop-index-preserved
 loop-index-preserved c =
     let file = c.args.verified.now in
-    let kept = one_more file (suc c.loop-index.index) (λ scope r place less. c.loop-index.invariant scope r place (omega arith)) c.in_ok-check_slice.ensures.unbroken in
+    let kept = one_kept file (suc c.loop-index.index) (λ scope r place less. c.loop-index.invariant scope r place (omega arith)) c.in_ok-check_slice.ensures.unbroken in
     λ scope r place less. kept scope r place (omega arith)
 
 pub returns-clause-unbroken : goal.returns-clause-unbroken
 returns-clause-unbroken c =
-    all_kept c.args.verified.now (λ scope r place less. c.loop-index.invariant scope r place (omega (arith, c.slice_count-index-end.ensures)))
+    all_kept BreaksFile BreaksSlice c.args.verified.now (λ scope r place less. c.loop-index.invariant scope r place (omega (arith, c.slice_count-index-end.ensures)))

@@ -1,4 +1,4 @@
-use Rattle.std.proofs.Common.{take, drop, map, ap, ◌∙◌}
+use Rattle.std.proofs.Common.{take, drop, ap, ◌∙◌}
 use Rattle.macho_fields.specs.Image.{commands_of}
 use Rattle.macho_image.specs.Symbol.{symbol_at, symbols_of}
 use Rattle.macho_image.proofs.Ranges.{range-map}

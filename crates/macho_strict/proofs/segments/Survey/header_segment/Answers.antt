@@ -2,8 +2,8 @@ use Rattle.std.proofs.Common.{ℕ, List, sym, subst}
 use Rattle.macho_fields.specs.Bytes.{bytes_of}
 use Rattle.macho_fields.specs.FirstPlace.{IsLeastPlace}
 use Rattle.macho_strict.specs.Rules.{BreaksImage}
-use Rattle.macho_strict.specs.declared.rule.StrictRule.TheVariants as rule
-use Rattle.macho_strict.proofs.Judged.{first_judged}
+use Rattle.macho_fields.specs.declared.rule.Rule.TheVariants as rule
+use Rattle.macho_fields.proofs.FirstPlaces.{first_judged}
 use Rattle.macho_strict.proofs.Surveyed.{with_headers, without_headers}
 use Rattle.macho_strict.proofs.segments.Survey.header_segment.Goals as goal
 use Rattle.macho_strict.proofs.segments.Survey.header_segment.Goals.{then-self, else-self}

@@ -2,12 +2,13 @@ use Rattle.std.proofs.Common.{◌≡◌, ℕ, List, Ok, Err, sym, ◌∙◌, sub
 use Rattle.macho_fields.specs.Bytes.{bytes_of}
 use Rattle.macho_spans.specs.SpanOrder.{IsSharingOf}
 use Rattle.macho_image.specs.Opened.{IsOpened}
-use Rattle.macho_strict.specs.Order.{IsLeast}
+use Rattle.macho_fields.specs.Layers.{IsLeast}
 use Rattle.macho_strict.specs.Rules.{BreaksImage}
 use Rattle.macho_strict.specs.Sharing.{tagged_parts, IsFirstSharing}
 use Rattle.macho_strict.specs.Verdict.{file_parts, IsUnordered}
-use Rattle.macho_strict.specs.declared.rule.StrictRule.TheVariants as rule
-use Rattle.macho_strict.proofs.Judged.{first_judged, without_memory, refused}
+use Rattle.macho_fields.specs.declared.rule.Rule.TheVariants as rule
+use Rattle.macho_fields.proofs.FirstPlaces.{first_judged}
+use Rattle.macho_strict.proofs.Judged.{without_memory, refused}
 use Rattle.macho_strict.proofs.Surveyed.{unordered_parts, least_overlap}
 use Rattle.macho_strict.proofs.segments.Survey.segment_file_overlap.Goals as goal
 use Rattle.macho_strict.proofs.segments.Survey.segment_file_overlap.Goals.{in-None, in-First, in-Unknown+in_ok-overlap-in-Unknown}

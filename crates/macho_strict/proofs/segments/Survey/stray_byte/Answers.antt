@@ -2,11 +2,12 @@ use Rattle.std.proofs.Common.{◌≡◌, ℕ, List, Ok, Err, ◌∙◌, subst}
 use Rattle.macho_fields.specs.Bytes.{bytes_of}
 use Rattle.macho_spans.specs.Overlap.{IsAscending}
 use Rattle.macho_strict.specs.Gaps.{ArePassed}
-use Rattle.macho_strict.specs.Order.{IsLeast}
+use Rattle.macho_fields.specs.Layers.{IsLeast}
 use Rattle.macho_strict.specs.Rules.{BreaksImage}
 use Rattle.macho_strict.specs.Verdict.{file_parts}
-use Rattle.macho_strict.specs.declared.rule.StrictRule.TheVariants as rule
-use Rattle.macho_strict.proofs.Judged.{first_judged, without_memory, refused}
+use Rattle.macho_fields.specs.declared.rule.Rule.TheVariants as rule
+use Rattle.macho_fields.proofs.FirstPlaces.{first_judged}
+use Rattle.macho_strict.proofs.Judged.{without_memory, refused}
 use Rattle.macho_strict.proofs.Passed.{ascending_by_start}
 use Rattle.macho_strict.proofs.Surveyed.{passed_parts, least_stray}
 use Rattle.macho_strict.proofs.segments.Survey.stray_byte.Goals as goal
