@@ -7,7 +7,7 @@ ghost use Rattle.macho_c.specs.Sections.{section_bytes, section_shown, section_r
 use crate::image::KesvuotImage;
 use crate::parts::part_or_none;
 use crate::table::fill;
-use macho_fields::{Bytes, Span};
+use macho_fields::Bytes;
 use macho_image::{Image, Section};
 
 /// A section. (`section_64`)
@@ -78,9 +78,5 @@ fn bytes_of<'a>(section: &Section<'a>) -> &'a [u8]
     if section.is_zero_fill() {
         return &[];
     }
-    let span = Span {
-        start: section.offset(),
-        len: section.size(),
-    };
-    part_or_none(section.segment().image(), span)
+    part_or_none(section.segment().image(), section.file_part())
 }

@@ -7,7 +7,7 @@ ghost use Rattle.macho_c.specs.Segments.{segment_bytes, segment_shown, segment_r
 use crate::image::KesvuotImage;
 use crate::parts::part_or_none;
 use crate::table::fill;
-use macho_fields::{Bytes, Span};
+use macho_fields::Bytes;
 use macho_image::{Image, Segment, Segments};
 use std::marker::Model;
 
@@ -72,11 +72,7 @@ fn row_of<'a>(numbered: Numbered<'a>) -> KesvuotSegment<'a>
 pub(crate) fn bytes_of<'a>(segment: &Segment<'a>) -> &'a [u8]
     ensures { result.now ≡ segment_bytes segment.now.image segment.now.place }
 {
-    let span = Span {
-        start: segment.fileoff(),
-        len: segment.filesize(),
-    };
-    part_or_none(segment.image(), span)
+    part_or_none(segment.image(), segment.file_part())
 }
 
 // A segment, with the number of the sections before its own.

@@ -1,9 +1,10 @@
 -- The load commands that are judged: the structure of each, and what the structure has.
 -- (mach-o/loader.h; mach-o/nlist.h: nlist_64; mach-o/reloc.h: relocation_info)
-use Rattle.std.specs.Prelude.{ℕ, ◌+◌, ◌≤◌, ◌==◌, List, [], ◌∷◌, find, map, Option, Some, None}
+use Rattle.std.specs.Prelude.{◌≡◌, ℕ, ◌+◌, ◌≤◌, ◌==◌, List, [], ◌∷◌, find, map, Option, Some, None}
 use Rattle.std.specs.Prelude.{Bool, IsTrue, true, false}
 use Rattle.std.specs.List.{list_any, position}
 use Rattle.std.specs.Option.{option_map, option_map_or, option_or}
+use Rattle.macho_fields.specs.declared.load_command.Layout.{Layout}
 use Rattle.macho_fields.specs.declared.load_command.LoadCommand.{LoadCommand}
 use Rattle.macho_fields.specs.declared.load_command.Records.{Records}
 use Rattle.macho_fields.specs.declared.load_command.Structure.{Structure}
@@ -81,30 +82,6 @@ unique_index cmd = position (λ command. command.cmd == cmd) unique_commands
 abbrev pub IsUnique : ℕ → Type 0
 IsUnique cmd = IsTrue (list_any (λ command. command.cmd == cmd) unique_commands)
 
--- the size of a structure in bytes
-abbrev pub structure_size : Structure → ℕ
-structure_size structure.SymtabCommand = 24
-structure_size structure.DysymtabCommand = 80
-structure_size structure.DylibCommand = 24
-structure_size structure.DylinkerCommand = 12
-structure_size structure.RpathCommand = 12
-structure_size structure.SegmentCommand64 = loader.SEGMENT_COMMAND_64_SIZE
-structure_size structure.UuidCommand = 24
-structure_size structure.LinkeditDataCommand = 16
-structure_size structure.DyldInfoCommand = 48
-structure_size structure.EncryptionInfoCommand64 = 24
-structure_size structure.NoteCommand = 40
-structure_size structure.BuildVersionCommand = 24
-structure_size structure.EntryPointCommand = 24
-
--- A name, whose offset is the lc_str at 8 of the structure, follows the structure in the command:
--- dylib_command.dylib.name, dylinker_command.name, rpath_command.path.
-abbrev pub has_name : Structure → Bool
-has_name structure.DylibCommand = true
-has_name structure.DylinkerCommand = true
-has_name structure.RpathCommand = true
-has_name other = false
-
 -- a command with this cmd names a library: its structure is dylib_command
 abbrev pub is_dylib_command : Structure → Bool
 is_dylib_command structure.DylibCommand = true
@@ -113,8 +90,7 @@ is_dylib_command other = false
 abbrev pub names_library : ℕ → Bool
 names_library cmd = option_map_or is_dylib_command (structure_of cmd) false
 
--- The records that follow a structure: the offset of the 32-bit field with their number, and the size
--- of one.
+-- Records that follow a structure: the offset of the 32-bit field with their number, and the size of one
 
 -- segment_command_64: nsects, of section_64
 abbrev pub section_records : Records
@@ -123,11 +99,6 @@ section_records = record { count = 64; size = loader.SECTION_64_SIZE }
 -- build_version_command: ntools, of build_tool_version
 abbrev pub tool_records : Records
 tool_records = record { count = 20; size = loader.BUILD_TOOL_VERSION_SIZE }
-
-abbrev pub records_of : Structure → Option Records
-records_of structure.SegmentCommand64 = Some section_records
-records_of structure.BuildVersionCommand = Some tool_records
-records_of other = None
 
 -- the width of a field in bytes
 abbrev pub width_size : Width → ℕ
@@ -140,9 +111,9 @@ AreFieldsInside size fields =
     (fields.place + width_size fields.width ≤ size)
     × (fields.count + width_size fields.width ≤ size)
 
--- The tables of the image that the fields of a structure bound: the offset of the field with the
--- place of the table, that of the field with the number of its items, and the size of an item. Both
--- fields have one width.
+-- Tables of the image that the fields of a structure bound: the offset of the field with the place of
+-- the table, that of the field with the number of its items, and the size of an item. Both fields have
+-- one width.
 
 -- a table whose two fields are words of 32 bits
 abbrev pub word_table : ℕ → ℕ → ℕ → TableFields
@@ -199,18 +170,78 @@ abbrev pub linkedit_data_table : TableFields
 linkedit_data_table = word_table 8 12 1
 
 -- dyld_info_command: rebase_off and rebase_size, bind_off and bind_size, weak_bind_off and
--- weak_bind_size, lazy_bind_off and lazy_bind_size, export_off and export_size.
--- encryption_info_command_64: cryptoff and cryptsize. note_command: offset and size. All are of
--- bytes.
-abbrev pub table_fields : Structure → List TableFields
-table_fields structure.SymtabCommand = symbol_table ∷ string_table ∷ []
-table_fields structure.DysymtabCommand =
-    contents_table ∷ module_table ∷ reference_table ∷ indirect_table ∷ external_relocations
-    ∷ local_relocations ∷ []
-table_fields structure.LinkeditDataCommand = linkedit_data_table ∷ []
-table_fields structure.DyldInfoCommand =
+-- weak_bind_size, lazy_bind_off and lazy_bind_size, export_off and export_size, in bytes
+abbrev pub dyld_info_tables : List TableFields
+dyld_info_tables =
     word_table 8 12 1 ∷ word_table 16 20 1 ∷ word_table 24 28 1 ∷ word_table 32 36 1
     ∷ word_table 40 44 1 ∷ []
-table_fields structure.EncryptionInfoCommand64 = word_table 8 12 1 ∷ []
-table_fields structure.NoteCommand = long_table 24 32 1 ∷ []
-table_fields other = []
+
+-- encryption_info_command_64: cryptoff and cryptsize, in bytes
+abbrev pub encrypted_table : TableFields
+encrypted_table = word_table 8 12 1
+
+-- note_command: offset and size, in bytes
+abbrev pub note_table : TableFields
+note_table = long_table 24 32 1
+
+-- What a structure has. A name, whose offset is the lc_str at 8 of the structure, follows it in the
+-- command: dylib_command.dylib.name, dylinker_command.name, rpath_command.path. So do records.
+pub record StructureLayout : Type 0 where
+  pub size : ℕ
+  pub is_named : Bool
+  pub records : Option Records
+  pub tables : List TableFields
+
+abbrev pub plain : ℕ → StructureLayout
+plain size = record { size = size; is_named = false; records = None; tables = [] }
+
+abbrev pub named : ℕ → StructureLayout
+named size = record { size = size; is_named = true; records = None; tables = [] }
+
+abbrev pub with_records : ℕ → Records → StructureLayout
+with_records size records = record { size = size; is_named = false; records = Some records; tables = [] }
+
+abbrev pub with_tables : ℕ → List TableFields → StructureLayout
+with_tables size tables = record { size = size; is_named = false; records = None; tables = tables }
+
+-- the structures, each by its size in bytes and by what it has besides
+abbrev pub layout_of : Structure → StructureLayout
+layout_of structure.SymtabCommand = with_tables 24 (symbol_table ∷ string_table ∷ [])
+layout_of structure.DysymtabCommand =
+    with_tables 80
+    (contents_table ∷ module_table ∷ reference_table ∷ indirect_table ∷ external_relocations
+    ∷ local_relocations ∷ [])
+layout_of structure.DylibCommand = named 24
+layout_of structure.DylinkerCommand = named 12
+layout_of structure.RpathCommand = named 12
+layout_of structure.SegmentCommand64 = with_records loader.SEGMENT_COMMAND_64_SIZE section_records
+layout_of structure.UuidCommand = plain 24
+layout_of structure.LinkeditDataCommand = with_tables 16 (linkedit_data_table ∷ [])
+layout_of structure.DyldInfoCommand = with_tables 48 dyld_info_tables
+layout_of structure.EncryptionInfoCommand64 = with_tables 24 (encrypted_table ∷ [])
+layout_of structure.NoteCommand = with_tables 40 (note_table ∷ [])
+layout_of structure.BuildVersionCommand = with_records 24 tool_records
+layout_of structure.EntryPointCommand = plain 24
+
+-- the size of a structure in bytes
+abbrev pub structure_size : Structure → ℕ
+structure_size s = (layout_of s).size
+
+-- a name follows it
+abbrev pub has_name : Structure → Bool
+has_name s = (layout_of s).is_named
+
+-- the records that follow it
+abbrev pub records_of : Structure → Option Records
+records_of s = (layout_of s).records
+
+-- the tables that its fields bound
+abbrev pub table_fields : Structure → List TableFields
+table_fields s = (layout_of s).tables
+
+-- a layout of the code is that of the structure
+pub record IsLayoutOf (s : Structure) (layout : Layout) : Type 0 where
+  pub size : layout.size ≡ structure_size s
+  pub named : layout.has_name ≡ has_name s
+  pub records : layout.records ≡ records_of s
+  pub tables : layout.tables.now ≡ table_fields s

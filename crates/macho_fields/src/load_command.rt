@@ -191,31 +191,88 @@ const ENCRYPTION_INFO_TABLES: &[TableFields] = &[table!(CRYPTOFF, CRYPTSIZE, Uin
 // The data, as bytes.
 const NOTE_TABLES: &[TableFields] = &[table!(OFFSET, SIZE_OFFSET, Uint64, 1)];
 
+// What a structure has.
+#[derive(Clone, Copy)]
+struct Layout {
+    // Its size in bytes.
+    size: u64,
+    // Whether a name follows it.
+    has_name: bool,
+    // The records that follow it.
+    records: Option<Records>,
+    // The tables that its fields bound.
+    tables: &'static [TableFields],
+}
+
+// A layout by its size, and by what it has besides: a name, records (the offset of their number, and
+// the size of one), or tables.
+macro_rules! layout {
+    ($size:expr) => {
+        layout!($size, tables &[])
+    };
+    ($size:expr, name) => {
+        Layout {
+            size: $size,
+            has_name: true,
+            records: None,
+            tables: &[],
+        }
+    };
+    ($size:expr, records $count:expr, $record_size:expr) => {
+        Layout {
+            size: $size,
+            has_name: false,
+            records: Some(Records {
+                count: $count,
+                size: $record_size,
+            }),
+            tables: &[],
+        }
+    };
+    ($size:expr, tables $tables:expr) => {
+        Layout {
+            size: $size,
+            has_name: false,
+            records: None,
+            tables: $tables,
+        }
+    };
+}
+
 impl Structure {
     ghost use Rattle.std.specs.Prelude.{◌≡◌, ◌+◌, ◌≤◌, All, IsTrue, IfSome};
     ghost use Rattle.macho_fields.specs.LoadCommands.{structure_size, has_name, records_of};
-    ghost use Rattle.macho_fields.specs.LoadCommands.{table_fields, AreFieldsInside};
+    ghost use Rattle.macho_fields.specs.LoadCommands.{table_fields, AreFieldsInside, IsLayoutOf};
+
+    // What the structure has, a line for each.
+    const fn layout(self) -> Layout
+        ensures { IsLayoutOf self result }
+    {
+        match self {
+            Structure::SymtabCommand => layout!(24, tables SYMTAB_TABLES),
+            Structure::DysymtabCommand => layout!(80, tables DYSYMTAB_TABLES),
+            Structure::DylibCommand => layout!(24, name),
+            Structure::DylinkerCommand => layout!(12, name),
+            Structure::RpathCommand => layout!(12, name),
+            Structure::SegmentCommand64 => {
+                layout!(SEGMENT_COMMAND_64_SIZE, records NSECTS, SECTION_64_SIZE)
+            }
+            Structure::UuidCommand => layout!(24),
+            Structure::LinkeditDataCommand => layout!(16, tables LINKEDIT_DATA_TABLES),
+            Structure::DyldInfoCommand => layout!(48, tables DYLD_INFO_TABLES),
+            Structure::EncryptionInfoCommand64 => layout!(24, tables ENCRYPTION_INFO_TABLES),
+            Structure::NoteCommand => layout!(40, tables NOTE_TABLES),
+            Structure::BuildVersionCommand => layout!(24, records NTOOLS, BUILD_TOOL_VERSION_SIZE),
+            Structure::EntryPointCommand => layout!(24),
+        }
+    }
 
     /// The size in bytes of the structure, which is the least offset of a name that follows it.
     pub const fn size(self) -> u64
         ensures size { result ≡ structure_size self }
         ensures near { result ≤ 80 }
     {
-        match self {
-            Structure::SymtabCommand => 24,
-            Structure::DysymtabCommand => 80,
-            Structure::DylibCommand => 24,
-            Structure::DylinkerCommand => 12,
-            Structure::RpathCommand => 12,
-            Structure::SegmentCommand64 => SEGMENT_COMMAND_64_SIZE,
-            Structure::UuidCommand => 24,
-            Structure::LinkeditDataCommand => 16,
-            Structure::DyldInfoCommand => 48,
-            Structure::EncryptionInfoCommand64 => 24,
-            Structure::NoteCommand => 40,
-            Structure::BuildVersionCommand => 24,
-            Structure::EntryPointCommand => 24,
-        }
+        self.layout().size
     }
 
     /// Whether a name ends the command. The `lc_str` at `LC_STR_OFFSET` is the offset of the name.
@@ -223,10 +280,7 @@ impl Structure {
         ensures name { result ≡ has_name self }
         ensures inside { IsTrue result → LC_STR_OFFSET + 4 ≤ structure_size self }
     {
-        match self {
-            Structure::DylibCommand | Structure::DylinkerCommand | Structure::RpathCommand => true,
-            _ => false,
-        }
+        self.layout().has_name
     }
 
     /// The records that follow the structure, or `None` where it has none.
@@ -235,17 +289,7 @@ impl Structure {
         ensures inside { IfSome result (λ records. records.count + 4 ≤ structure_size self) }
         ensures near { IfSome result (λ records. records.size ≤ 80) }
     {
-        match self {
-            Structure::SegmentCommand64 => Some(Records {
-                count: NSECTS,
-                size: SECTION_64_SIZE,
-            }),
-            Structure::BuildVersionCommand => Some(Records {
-                count: NTOOLS,
-                size: BUILD_TOOL_VERSION_SIZE,
-            }),
-            _ => None,
-        }
+        self.layout().records
     }
 
     /// The tables that the fields of the structure bound.
@@ -253,15 +297,7 @@ impl Structure {
         ensures tables { result.now ≡ table_fields self }
         ensures inside { All (AreFieldsInside (structure_size self)) result.now }
     {
-        match self {
-            Structure::SymtabCommand => SYMTAB_TABLES,
-            Structure::DysymtabCommand => DYSYMTAB_TABLES,
-            Structure::LinkeditDataCommand => LINKEDIT_DATA_TABLES,
-            Structure::DyldInfoCommand => DYLD_INFO_TABLES,
-            Structure::EncryptionInfoCommand64 => ENCRYPTION_INFO_TABLES,
-            Structure::NoteCommand => NOTE_TABLES,
-            _ => &[],
-        }
+        self.layout().tables
     }
 }
 

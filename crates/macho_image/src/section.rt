@@ -4,10 +4,10 @@ use crate::command::{long_in, word_in};
 use crate::image::Image;
 use crate::items::Items;
 use crate::segment::{Segment, Segments, short_name};
-use macho_fields::Bytes;
 use macho_fields::header::loader::{
     S_GB_ZEROFILL, S_THREAD_LOCAL_ZEROFILL, S_ZEROFILL, SECTION_TYPE,
 };
+use macho_fields::{Bytes, Span};
 use std::marker::Model;
 
 /// A section of a segment. (`section_64`)
@@ -83,6 +83,28 @@ impl<'a> Section<'a> {
         ensures near { result < 2 ^ 32 }
     {
         u64::from(word_in(self.image, self.place, OFFSET))
+    }
+
+    /// Its memory: `size` bytes from `addr` on.
+    pub fn memory(&self) -> Span
+        ensures start { result.start ≡ section_address self.now.image self.now.place }
+        ensures len { result.len ≡ section_size self.now.image self.now.place }
+    {
+        Span {
+            start: self.addr(),
+            len: self.size(),
+        }
+    }
+
+    /// Its bytes in the image, unless it is zero-fill: `size` bytes from `offset` on.
+    pub fn file_part(&self) -> Span
+        ensures start { result.start ≡ section_offset self.now.image self.now.place }
+        ensures len { result.len ≡ section_size self.now.image self.now.place }
+    {
+        Span {
+            start: self.offset(),
+            len: self.size(),
+        }
     }
 
     /// Its alignment: its address is to be a multiple of 2 to this power. No rule checks that it is.

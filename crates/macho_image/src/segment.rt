@@ -88,6 +88,28 @@ impl<'a> Segment<'a> {
         long_in(self.image, self.place, FILESIZE)
     }
 
+    /// Its memory: `vmsize` bytes from `vmaddr` on. There is none where it is not mapped.
+    pub fn memory(&self) -> Span
+        ensures start { result.start ≡ vmaddr self.now.image self.now.place }
+        ensures len { result.len ≡ vmsize self.now.image self.now.place }
+    {
+        Span {
+            start: self.vmaddr(),
+            len: self.vmsize(),
+        }
+    }
+
+    /// Its bytes in the image: `filesize` bytes from `fileoff` on.
+    pub fn file_part(&self) -> Span
+        ensures start { result.start ≡ fileoff self.now.image self.now.place }
+        ensures len { result.len ≡ filesize self.now.image self.now.place }
+    {
+        Span {
+            start: self.fileoff(),
+            len: self.filesize(),
+        }
+    }
+
     /// Its maximum protection: the `VM_PROT_` bits 1 (read), 2 (write) and 4 (execute).
     pub fn maxprot(&self) -> u64
         ensures number { result ≡ maxprot self.now.image self.now.place }

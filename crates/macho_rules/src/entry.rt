@@ -7,7 +7,6 @@ ghost use Rattle.macho_fields.specs.declared.rule.Rule.{Rule};
 ghost use Rattle.macho_image.specs.Single.{main_command_at};
 ghost use Rattle.macho_rules.specs.Check.{KeptBefore, JudgesUpTo};
 
-use crate::segments::memory;
 use macho_fields::header::vm_prot::VM_PROT_EXECUTE;
 use macho_fields::{Break, Rule, Span};
 use macho_image::{Image, MainCommand, Segment};
@@ -67,5 +66,5 @@ fn runs_at(segment: &Segment, address: u64) -> bool
         len: segment.filesize(),
     };
     let may_run = segment.initprot() & u64::from(VM_PROT_EXECUTE) != 0;
-    memory(segment).holds(address) && from_file.holds(address) && may_run
+    segment.memory().holds(address) && from_file.holds(address) && may_run
 }

@@ -10,7 +10,7 @@ ghost use Rattle.macho_rules.specs.FilePart.{file_at, FitsFile};
 ghost use Rattle.macho_rules.specs.Mapped.{mapped_segments, numbered_memory};
 ghost use Rattle.macho_rules.specs.Verdict.{HasMapped};
 
-use crate::segments::{mapped_count, memory};
+use crate::segments::mapped_count;
 use crate::verdict::Verified;
 use macho_fields::{Span, Spans};
 use macho_image::{Image, Segment};
@@ -161,7 +161,7 @@ fn numbered_spans(
     let mut pairs = Vec::with_capacity(alloc, count)?;
     for segment in image.mapped_segments() {
         let index = pairs.len() as u64;
-        pairs.push((memory(&segment), index))?;
+        pairs.push((segment.memory(), index))?;
     }
     Ok(pairs)
 }

@@ -1,10 +1,9 @@
 //! The rules of the sections of an image. (`mach-o/loader.h`: `section_64`)
 
-ghost use Rattle.std.specs.Prelude.{◌≡◌, ◌↔◌, IsTrue};
-ghost use Rattle.macho_fields.specs.Segment.{IsInFilePart, section_offset, section_size};
+ghost use Rattle.std.specs.Prelude.{◌↔◌, IsTrue};
+ghost use Rattle.macho_fields.specs.Segment.{IsInFilePart};
 ghost use Rattle.macho_fields.specs.Segment.{IsOutsideMemory, IsMisplaced, HasRelocsOutside};
 
-use crate::segments::memory;
 use macho_fields::Span;
 use macho_fields::header::reloc::RELOCATION_INFO_SIZE;
 use macho_image::{Image, Section};
@@ -15,11 +14,7 @@ pub(crate) fn is_outside_memory(section: &Section) -> bool
         ↔ IsOutsideMemory section.now.image section.now.segment section.now.place }
 {
     let segment = section.segment();
-    let addresses = Span {
-        start: section.addr(),
-        len: section.size(),
-    };
-    segment.vmsize() > 0 && section.size() > 0 && !addresses.inside(&memory(&segment))
+    segment.vmsize() > 0 && section.size() > 0 && !section.memory().inside(&segment.memory())
 }
 
 // Whether the section has bytes, and they are not where its segment puts them.
@@ -33,7 +28,7 @@ pub(crate) fn is_misplaced(section: &Section) -> bool
     if segment.vmsize() > 0 {
         !is_in_file_part(section)
     } else {
-        !segment.image().contains(file_part(section))
+        !segment.image().contains(section.file_part())
     }
 }
 
@@ -51,17 +46,6 @@ fn is_in_file_part(section: &Section) -> bool
     };
     u128::from(section.offset()) == u128::from(segment.fileoff()) + u128::from(part.start)
         && part.end() <= u128::from(segment.filesize())
-}
-
-// Where the bytes of the section lie in the image.
-fn file_part(section: &Section) -> Span
-    ensures start { result.start ≡ section_offset section.now.image section.now.place }
-    ensures len { result.len ≡ section_size section.now.image section.now.place }
-{
-    Span {
-        start: section.offset(),
-        len: section.size(),
-    }
 }
 
 // Whether the section has relocations, and they end past the image.

@@ -10,7 +10,7 @@ ghost use Rattle.macho_rules.specs.Mapped.{mapped_segments, memory_at, IsUnorder
 
 use crate::refusal::Refusal;
 use crate::survey::Survey;
-use macho_fields::{Break, Rule, Sharing, Span, SpanList};
+use macho_fields::{Break, Rule, Sharing, SpanList};
 use macho_image::{Image, Segment};
 use std::alloc::{AllocError, Global};
 
@@ -21,7 +21,7 @@ const ADDRESS_END: u128 = 1 << 64;
 pub(crate) fn passes_last_address(segment: &Segment) -> bool
     ensures { IsTrue result ↔ PassesLastAddress segment.now.image segment.now.place }
 {
-    memory(segment).end() > ADDRESS_END
+    segment.memory().end() > ADDRESS_END
 }
 
 // Whether the segment is mapped, and has more bytes in the file than in memory.
@@ -35,7 +35,7 @@ pub(crate) fn is_longer_in_file(segment: &Segment) -> bool
 pub(crate) fn passes_image(segment: &Segment) -> bool
     ensures { IsTrue result ↔ PassesImage segment.now.image segment.now.place }
 {
-    segment.filesize() > 0 && !segment.image().contains(file_part(segment))
+    segment.filesize() > 0 && !segment.image().contains(segment.file_part())
 }
 
 // No mapped segment has an address in common with an earlier one.
@@ -90,7 +90,7 @@ fn mapped_memory(alloc: Global, image: &Image, count: usize) -> Result<SpanList,
 {
     let mut list = SpanList::with_capacity(alloc, count)?;
     for segment in image.mapped_segments() {
-        list.push(memory(&segment))?;
+        list.push(segment.memory())?;
     }
     Ok(list)
 }
@@ -101,26 +101,4 @@ fn mapped_place(image: &Image, index: u64) -> u64
     ensures { Some result ≡ slice_get (mapped_segments image.now) index }
 {
     image.mapped_segments().nth(index as usize).unwrap().place()
-}
-
-// The addresses of the segment, which are none where it is not mapped.
-pub(crate) fn memory(segment: &Segment) -> Span
-    ensures start { result.start ≡ vmaddr segment.now.image segment.now.place }
-    ensures len { result.len ≡ vmsize segment.now.image segment.now.place }
-{
-    Span {
-        start: segment.vmaddr(),
-        len: segment.vmsize(),
-    }
-}
-
-// Where the bytes of the segment lie in the image.
-fn file_part(segment: &Segment) -> Span
-    ensures start { result.start ≡ fileoff segment.now.image segment.now.place }
-    ensures len { result.len ≡ filesize segment.now.image segment.now.place }
-{
-    Span {
-        start: segment.fileoff(),
-        len: segment.filesize(),
-    }
 }

@@ -6,7 +6,7 @@ ghost use Rattle.std.specs.Option.{option_or};
 ghost use Rattle.macho_rules.specs.Survey.{base_among};
 
 use crate::sections::{has_relocs_outside, is_misplaced, is_outside_memory};
-use crate::segments::{is_longer_in_file, memory, passes_image, passes_last_address};
+use crate::segments::{is_longer_in_file, passes_image, passes_last_address};
 use macho_fields::{Break, Bytes, FirstPlace, Rule, Sharing, SpanOrder};
 use macho_image::{Image, Section, Segment};
 use std::marker::Model;
@@ -306,7 +306,7 @@ impl Mapped {
         if segment.vmsize() == 0 {
             return;
         }
-        self.order.note(memory(segment), segment.place());
+        self.order.note(segment.memory(), segment.place());
         self.count = self.count.saturating_add(1);
         self.base = base_with(self.base, segment);
     }

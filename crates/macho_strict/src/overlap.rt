@@ -7,7 +7,7 @@ ghost use Rattle.macho_strict.specs.Sharing.{file_part as file_part_of};
 ghost use Rattle.macho_strict.specs.declared.elements.Element.{Element};
 
 use crate::elements::{Element, Elements};
-use macho_fields::{Span, SpanList};
+use macho_fields::SpanList;
 use macho_image::{Image, Segment, Segments};
 use std::alloc::{AllocError, Global};
 use std::marker::Model;
@@ -49,10 +49,7 @@ fn file_part(segment: &Segment) -> Element
 {
     Element {
         described: segment.place(),
-        span: Span {
-            start: segment.fileoff(),
-            len: segment.filesize(),
-        },
+        span: segment.file_part(),
     }
 }
 

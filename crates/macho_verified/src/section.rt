@@ -1,7 +1,6 @@
 //! The sections of an accepted image, with their bytes. (`mach-o/loader.h`: `section_64`)
 
 use crate::data::data_in;
-use macho_fields::Span;
 use macho_image::{Section, Sections};
 use std::marker::Model;
 
@@ -47,11 +46,7 @@ impl<'a> VerifiedSection<'a> {
         if self.section.is_zero_fill() {
             return None;
         }
-        let span = Span {
-            start: self.section.offset(),
-            len: self.section.size(),
-        };
-        Some(data_in(self.section.segment().image(), span))
+        Some(data_in(self.section.segment().image(), self.section.file_part()))
     }
 }
 

@@ -43,11 +43,7 @@ impl<'a> VerifiedSegment<'a> {
             (filesize self.now.image self.now.place) self.now.image }
         ensures whole { length result.now ≡ filesize self.now.image self.now.place }
     {
-        let span = Span {
-            start: self.segment.fileoff(),
-            len: self.segment.filesize(),
-        };
-        data_in(self.segment.image(), span)
+        data_in(self.segment.image(), self.segment.file_part())
     }
 
     /// Its bytes at `len` addresses from `address` on, borrowed from the image. `None` where the

@@ -4,7 +4,6 @@ ghost use Rattle.std.specs.Prelude.{◌↔◌, All, IsTrue, MatchOption};
 ghost use Rattle.symbolize.specs.Find.{symbols, IsAtOrBefore, IsNearest};
 ghost use Rattle.symbolize.specs.Find.{sections, HasAddress, IsFirstAt};
 
-use macho_fields::Span;
 use macho_image::Section;
 use macho_verified::{VerifiedImage, VerifiedSymbol};
 
@@ -55,9 +54,5 @@ pub(crate) fn section_at<'a>(image: &VerifiedImage<'a>, address: u64) -> Option<
 fn has_address(section: &Section, address: u64) -> bool
     ensures { IsTrue result ↔ HasAddress address section.now }
 {
-    let memory = Span {
-        start: section.addr(),
-        len: section.size(),
-    };
-    section.segment().vmsize() != 0 && memory.holds(address)
+    section.segment().vmsize() != 0 && section.memory().holds(address)
 }

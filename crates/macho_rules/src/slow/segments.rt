@@ -10,7 +10,7 @@ ghost use Rattle.macho_image.specs.Segment.{SegmentView};
 ghost use Rattle.macho_rules.specs.Check.{KeptBefore, JudgesUpTo};
 ghost use Rattle.macho_rules.specs.Survey.{BreaksSegment, IsSegmentRule};
 
-use crate::segments::{is_longer_in_file, memory, passes_image, passes_last_address};
+use crate::segments::{is_longer_in_file, passes_image, passes_last_address};
 use macho_fields::{Break, Rule};
 use macho_image::{Image, Segment};
 
@@ -56,7 +56,7 @@ fn overlaps_earlier(image: &Image, segment: &Segment) -> bool
         if earlier.place() >= segment.place() {
             return false;
         }
-        if memory(&earlier).shares(&memory(segment)) {
+        if earlier.memory().shares(&segment.memory()) {
             return true;
         }
     }
