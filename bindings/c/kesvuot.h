@@ -1,4 +1,4 @@
-/* kesvuot.h: judges the layout of a Mach-O file, and reads the parts of an accepted one. C99 and C++; see kesvuot(3).
+/* kesvuot.h: judge the layout of a Mach-O file, and read the parts of an accepted one. C99 and C++; see kesvuot(3).
  *
  *     struct kesvuot_verdict verdict;
  *     struct kesvuot_image image;
@@ -8,24 +8,25 @@
  *             ; // rows[0].bytes to rows[n - 1].bytes are all that the segments have in the file: test no offset.
  *
  * THE BYTES MUST NOT CHANGE WHILE A CALL RUNS. A call that reads a byte twice and finds two values may crash. Map a
- * file only if nobody else can write to it or cut it. Read any other file into memory first.
+ * file only if nobody else can write to it or truncate it. Read any other file into memory first.
  *
- * Every call is safe on any bytes, and on any numbers in the structures below. It trusts no earlier call: neither that
- * kesvuot_verify accepted the file, nor that a structure is still as kesvuot_image wrote it. What would lie outside the
- * bytes is left empty. In an accepted file nothing is empty for that reason, and each part is as RULES.md says.
+ * Every call is safe on any bytes, and on any numbers in the structures below. It does not rely on earlier calls:
+ * neither that kesvuot_verify accepted the file, nor that a structure is still as kesvuot_image wrote it. A part that
+ * would lie outside the bytes is left empty. In an accepted file no part is empty for that reason, and each part is as
+ * RULES.md says.
  *
- * What you have to ensure:
- * - Each pointer is valid, for as many bytes or rows as you say. It may be null only beside the size or count 0.
- * - What a call writes to overlaps nothing that it reads.
- * - The bytes of the file stay for as long as you use what was read from them: every `struct kesvuot_bytes` that a call
+ * You must ensure:
+ * - Each pointer is valid for as many bytes or rows as you pass. It may be null only if the size or count is 0.
+ * - The memory that a call writes does not overlap the memory that it reads.
+ * - The bytes of the file stay valid while you use what was read from them: every `struct kesvuot_bytes` that a call
  *   writes points into the file, or to a constant of the library. Nothing is copied, and there is nothing to free.
  *
  * A program works with every library that has the soname it was linked against. Rules are numbered in the order of
  * judgment. A version that adds a rule may renumber them, and then has another soname and another major version: store
  * names of rules, not numbers.
  *
- * No call keeps state, prints, or ends the process, and any threads may call at once. Only kesvuot_verify and
- * kesvuot_verify_strictly take memory, by malloc and realloc, and they give it back before they return.
+ * No call keeps state, prints, or ends the process, and any number of threads may call at once. Only kesvuot_verify and
+ * kesvuot_verify_strictly allocate memory, with malloc and realloc, and they free it before they return.
  */
 #ifndef KESVUOT_H
 #define KESVUOT_H
@@ -40,22 +41,22 @@ extern "C" {
 /* The version of this header: major << 16 | minor << 8 | patch. */
 #define KESVUOT_VERSION 0x010000
 
-/* The version of the library that is linked, in the same form. */
+/* The version of the linked library: major << 16 | minor << 8 | patch. */
 uint32_t kesvuot_version(void);
 
-/* Some bytes of the file. Where len is 0, `at` is any pointer: never read it. */
+/* Some bytes of the file. If len is 0, `at` can be any pointer: do not read through it. */
 struct kesvuot_bytes {
     const uint8_t *at;
     size_t len;
 };
 
-/* What a call answers. Each call says which of these it gives. */
+/* What a call returns. Each call says which of these it can return. */
 enum {
     KESVUOT_OK = 0,
     KESVUOT_REFUSED = 1,   /* the bytes break a rule */
     KESVUOT_NO_MEMORY = 2, /* memory ran out: there is no verdict */
-    KESVUOT_NONE = 3,      /* there is no such thing */
-    KESVUOT_UNREAD = 4,    /* the slice is of 32 bits or big-endian: nothing in it is judged */
+    KESVUOT_NONE = 3,      /* there is no such rule, slice, command or address */
+    KESVUOT_UNREAD = 4,    /* the slice is 32-bit or big-endian: nothing in it is judged */
     KESVUOT_ZERO = 5       /* the address is mapped, but to no byte of the file: a loader puts a zero there */
 };
 
@@ -108,30 +109,31 @@ enum {
 
 struct kesvuot_verdict {
     uint64_t place;    /* REFUSED: the least offset in the file at which `rule` is broken */
-    uint64_t slices;   /* OK: how many slices the file has, 1 where it is not universal */
+    uint64_t slices;   /* OK: how many slices the file has, 1 if it is not universal */
     uint32_t rule;     /* REFUSED: the first broken rule */
     uint32_t reserved; /* 0 */
 };
 
-/* Judges a file by the rules of the file and of an image. OK: no rule is broken. REFUSED: `rule` is the first one that
- * is, at `place`. NO_MEMORY: there is no verdict. The fields that this does not name are 0. */
+/* Judges a file by the rules of the file and of an image.
+ * OK: no rule is broken, and `slices` is set. REFUSED: `rule` is the first broken rule, and the file breaks it at
+ * `place`. NO_MEMORY: there is no verdict. All other fields are 0. */
 uint32_t kesvuot_verify(const void *file, size_t size, struct kesvuot_verdict *verdict);
 
-/* The same, by the rules of the strict profile too: every nonzero byte is accounted for, and no byte belongs to two
- * parts. Whatever is OK here is OK for kesvuot_verify. */
+/* Judges a file as kesvuot_verify does, and then by the rules of the strict profile: every nonzero byte is accounted
+ * for, and no byte belongs to two parts. Every file that is OK here is also OK for kesvuot_verify. */
 uint32_t kesvuot_verify_strictly(const void *file, size_t size, struct kesvuot_verdict *verdict);
 
-/* The name of a rule, such as "section-file". A zero byte follows it in memory, which len does not count.
- * OK. NONE: no rule has this number, and the name is empty. */
+/* The name of a rule, such as "section-file". A zero byte, which len does not count, follows it in memory.
+ * OK: the name is written. NONE: no rule has this number, and the name is empty. */
 uint32_t kesvuot_rule(uint32_t rule, struct kesvuot_bytes *name);
 
 /* An image
  *
- * <mach-o/loader.h> and <mach-o/nlist.h> explain the fields. Offsets count from the start of the slice, but `place` of
- * an image counts from the start of the file. Reserved fields are 0.
+ * <mach-o/loader.h> and <mach-o/nlist.h> explain the fields. Offsets count from the start of the slice, except that
+ * `place` of an image counts from the start of the file. Reserved fields are 0.
  *
- * A name has no zero byte in it. One follows the name of a command, library or symbol, but not always that of a segment
- * or section, which may fill all its 16 bytes: use len. */
+ * A name contains no zero byte. One follows the name of a command, library or symbol, but not always that of a segment
+ * or section, which can fill all its 16 bytes: use len. */
 
 /* Which parts an image has: bits of `has`. */
 enum {
@@ -168,24 +170,24 @@ struct kesvuot_image {
     uint32_t reserved[5]; /* 0 */
 };
 
-/* The image of a slice, counted from 0. Only the load commands of that slice are walked over, so the number of slices
- * does not matter.
+/* The image of a slice, counted from 0. Only the load commands of that slice are read, so the number of slices does not
+ * matter.
  * OK: all fields are written. Those of parts that the image does not have are 0. This is no verdict on the file.
- * UNREAD: the slice is of 32 bits or big-endian. bytes, place, and cputype and cpusubtype of the universal table are
- * written, and all else is 0.
- * NONE: the file has no such slice. REFUSED: no accepted file has such bytes there. `bytes` is empty, and all
- * else is 0. */
+ * UNREAD: the slice is 32-bit or big-endian. bytes, place, and cputype and cpusubtype of the universal table are
+ * written; all other fields are 0.
+ * NONE: the file has no such slice. REFUSED: no accepted file has such bytes there. In both cases `bytes` is empty, and
+ * all other fields are 0. */
 uint32_t kesvuot_image(const void *file, size_t size, uint64_t slice, struct kesvuot_image *image);
 
 /* Tables of an image
  *
- * Each call writes the rows from the index `first` on, at most `max`, and returns how many it wrote. It leaves the rows
- * after those as they were. kesvuot_symbols and kesvuot_indirects begin at the row itself, so batches of any size cost
- * the same. Every other call goes over the load commands anew: ask for all rows, or for many, at a time.
+ * Each call writes up to `max` rows, starting at index `first`, and returns how many it wrote. It does not change the
+ * rows after those. kesvuot_symbols and kesvuot_indirects go straight to the first row, so batches of any size cost the
+ * same. Every other call rescans the load commands: ask for all rows, or for many, at a time.
  *
- * kesvuot_symbols looks for the end of each name. In a hostile file many symbols can share a long name. To read all
+ * kesvuot_symbols searches for the end of each name. In a hostile file many symbols can share a long name. To read all
  * names then takes time in proportion to symbol_count * strings_size. To avoid that, set strings_size to 0 in a copy of
- * the image: its rows have no names. Then read the few rows whose names you need from the image itself. */
+ * the image: its rows have no names. Then read the few rows whose names you need with the image itself. */
 
 struct kesvuot_segment { /* LC_SEGMENT_64 */
     struct kesvuot_bytes name;
@@ -202,8 +204,8 @@ struct kesvuot_segment { /* LC_SEGMENT_64 */
 
 struct kesvuot_section { /* section_64. The section n_sect of a symbol has the index n_sect - 1. */
     struct kesvuot_bytes name;
-    struct kesvuot_bytes segment; /* the name of the segment that it is in */
-    struct kesvuot_bytes bytes;   /* all size bytes from offset on, none where it is zero-fill */
+    struct kesvuot_bytes segment; /* the name of its segment, from LC_SEGMENT_64 */
+    struct kesvuot_bytes bytes;   /* all size bytes from offset on, none if it is zero-fill */
     uint64_t addr;
     uint64_t size;
     uint32_t offset;
@@ -216,7 +218,7 @@ struct kesvuot_section { /* section_64. The section n_sect of a symbol has the i
     uint32_t zero_fill; /* 1: a loader fills it with zeros. 0: it has bytes in the file */
 };
 
-struct kesvuot_library { /* dylib_command. That of LC_ID_DYLIB is the image itself. */
+struct kesvuot_library { /* dylib_command. LC_ID_DYLIB is the image itself. */
     struct kesvuot_bytes name;
     uint32_t cmd;
     uint32_t current; /* x << 16 | y << 8 | z */
@@ -240,7 +242,7 @@ struct kesvuot_command { /* load_command */
 };
 
 struct kesvuot_symbol { /* nlist_64 */
-    struct kesvuot_bytes name; /* none where strx is 0 */
+    struct kesvuot_bytes name; /* none if strx is 0 */
     uint64_t value;
     uint32_t strx;
     uint16_t desc;
@@ -255,20 +257,23 @@ size_t kesvuot_builds(const struct kesvuot_image *image, uint64_t first, struct 
 size_t kesvuot_commands(const struct kesvuot_image *image, uint64_t first, struct kesvuot_command *rows, size_t max);
 size_t kesvuot_symbols(const struct kesvuot_image *image, uint64_t first, struct kesvuot_symbol *rows, size_t max);
 
-/* The indirect symbol table: the index of a symbol, or INDIRECT_SYMBOL_LOCAL or INDIRECT_SYMBOL_ABS or both. */
+/* The indirect symbol table. Each row is the index of a symbol, or INDIRECT_SYMBOL_LOCAL or INDIRECT_SYMBOL_ABS or
+ * both. */
 size_t kesvuot_indirects(const struct kesvuot_image *image, uint64_t first, uint32_t *rows, size_t max);
 
-/* The data of the first linkedit_data_command with this cmd: LC_CODE_SIGNATURE (0x1d), LC_FUNCTION_STARTS (0x26) and so
- * on.
- * OK: all datasize bytes from dataoff on. If datasize is 0, these are none, wherever dataoff is.
- * NONE: the image has no such command, or RULES.md does not list cmd as a linkedit_data_command, as LC_ATOM_INFO
- * (0x36); in a file that was not accepted also where the data ends past the image, or its headers break a rule. */
+/* The data of the first linkedit_data_command with this cmd, such as LC_CODE_SIGNATURE (0x1d) or LC_FUNCTION_STARTS
+ * (0x26).
+ * OK: all datasize bytes from dataoff on. If datasize is 0, there are none, whatever dataoff is.
+ * NONE: the image has no such command, or RULES.md does not list cmd as a linkedit_data_command (for example
+ * LC_ATOM_INFO, 0x36). In a file that was not accepted, also if the data ends past the image, or the headers break a
+ * rule. */
 uint32_t kesvuot_linkedit(const struct kesvuot_image *image, uint32_t cmd, struct kesvuot_bytes *data);
 
-/* What is at an address, before any slide. OK: the bytes from there to the end of what its segment has in the file.
- * ZERO: the segment has the address, but no byte of the file for it. NONE: no segment has the address; in a
- * file that was not accepted also where the headers break a rule. Like kesvuot_linkedit, it goes over the load commands
- * anew: for many addresses read the segments once. */
+/* What is at an address, before any slide.
+ * OK: the bytes from there to the end of what its segment has in the file.
+ * ZERO: a segment has the address, but no byte of the file for it.
+ * NONE: no segment has the address. In a file that was not accepted, also if the headers break a rule.
+ * Like kesvuot_linkedit, this call rescans the load commands: for many addresses, read the segments once. */
 uint32_t kesvuot_at(const struct kesvuot_image *image, uint64_t address, struct kesvuot_bytes *bytes);
 
 #ifdef __cplusplus
@@ -277,14 +282,14 @@ uint32_t kesvuot_at(const struct kesvuot_image *image, uint64_t address, struct 
 #define KESVUOT_NUMBER(at) ((uintptr_t)(at))
 #endif
 
-/* Where bytes of an image, of which len is not 0, begin in the file. */
+/* The offset in the file at which bytes of an image begin. Their len must not be 0. */
 static inline uint64_t kesvuot_place(const struct kesvuot_image *image, struct kesvuot_bytes bytes) {
     return image->place + (KESVUOT_NUMBER(bytes.at) - KESVUOT_NUMBER(image->bytes.at));
 }
 
 #undef KESVUOT_NUMBER
 
-/* The library has the same layout, and is for 64-bit machines. C99 and C++98 have no way to say so. */
+/* The layout of the structures in the library, which is for 64-bit machines. C99 and C++98 cannot check it. */
 #if (defined(__cplusplus) && __cplusplus >= 201103L) || (defined(__STDC_VERSION__) && __STDC_VERSION__ >= 201112L)
 #ifdef __cplusplus
 #define KESVUOT_HOLDS(condition) static_assert(condition, #condition)
