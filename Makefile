@@ -1,5 +1,5 @@
-# Any make of POSIX reads this. `make` builds both programs and the library. Nothing else here builds them, or needs the
-# kit, but `make lib` and `make check`.
+# For any POSIX make. `make` builds both programs and the library. No other target builds them or needs the kit, except
+# `make lib` and `make check`.
 .POSIX:
 
 PREFIX = /usr/local
@@ -8,10 +8,10 @@ LIBDIR = $(PREFIX)/lib
 INCLUDEDIR = $(PREFIX)/include
 MANDIR = $(PREFIX)/share/man
 DOCDIR = $(PREFIX)/share/doc/kesvuot
-# Where python3 imports from.
+# A folder from which python3 imports.
 PYTHONDIR = $$(packaging/python-folder "$(PREFIX)")
 DESTDIR =
-# Where `make deb` and `make dist` put what they make.
+# The folder for the results of `make deb` and `make dist`.
 OUT = out
 
 TO_BIN = "$(DESTDIR)$(BINDIR)"
@@ -21,7 +21,7 @@ TO_MAN = "$(DESTDIR)$(MANDIR)"
 TO_DOC = "$(DESTDIR)$(DOCDIR)"
 TO_PYTHON = "$(DESTDIR)$(PYTHONDIR)"
 
-# Given no bytes, each command builds its program, if it is not current, and the program refuses them.
+# On an empty input, each command builds its program, if it is not current, and the program refuses the input.
 all: lib
 	@for command in macho-check macho-strict; do \
 	    test "$$(./$$command </dev/null)" = "refused: magic at 0x0" || exit; \
@@ -59,7 +59,7 @@ uninstall:
 	rm -f $(TO_MAN)/man1/macho-check.1 $(TO_MAN)/man1/macho-strict.1 $(TO_MAN)/man3/kesvuot.3 $(TO_DOC)/RULES.md
 	rmdir $(TO_DOC) 2>/dev/null || :
 
-# A package of Debian, and an archive for any other system.
+# A Debian package, and an archive for any other system.
 deb: built
 	@package=$$(packaging/pack deb "$(OUT)") && echo "$$package" && \
 	    { ! command -v lintian >/dev/null || lintian --fail-on error "$$package"; }

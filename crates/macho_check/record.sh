@@ -1,8 +1,8 @@
 # shellcheck shell=sh disable=SC2034,SC2154 # ./macho-check and ./test read this, and set `top` first
-# The record of a built program: the kit, a hash of the sources, and a hash of the program, a line each. A program
-# that is not as recorded is not run. The record guards against mistakes, not against someone who may write to out/.
+# The record of a built program: the kit, a hash of the sources, and a hash of the program, one per line. A program
+# that is not as recorded is not run. The record guards against mistakes, not against someone who can write to out/.
 
-# take_program NAME: takes the program of a command, or the library in both its forms, and its record.
+# take_program NAME: sets the paths of the program of a command, or of the library in both its forms, and of its record.
 take_program() {
     archive='' linking=''
     case $1 in
@@ -23,14 +23,14 @@ hash_of_program() {
     cat -- "$program" ${archive:+"$archive"} 2>/dev/null | sha256sum
 }
 
-# Runs find over all that the program is made of. All crates count, and all of their files but the must-fail edits: a
-# build too many takes seconds, and a build too few would let an old program answer.
+# Runs find over the sources of the program: all files of all crates, except the must-fail edits. A superfluous build
+# takes seconds, while a missing one would run an old program.
 find_in_sources() (
     # shellcheck disable=SC2086 # words
     cd "$top" && find crates.txt $linking crates/*/* -regex 'crates/[^/]*/\(out\|must-fail\)' -prune -o "$@"
 )
 
-# Prints a hash of the names and contents of all sources. Of a link it takes the name alone, and rt refuses it.
+# Prints a hash of the names and contents of all sources. Only the name of a link counts; rt refuses links.
 hash_of_sources() {
     list=$(find_in_sources -type f -exec sha256sum -- {} + -o ! -type d -print) || return
     printf '%s\n' "$list" | LC_ALL=C sort | sha256sum
@@ -43,8 +43,8 @@ find_kit() {
     [ -n "$kit" ]
 }
 
-# Decides whether the program may run, and sets the reason if it may not. Without a kit on the PATH the recorded one
-# counts: what it has proved still holds.
+# Decides whether the program may run, and sets the reason if it may not. Without a kit on the PATH the recorded kit
+# counts: its proofs still hold.
 is_current() {
     reason="no build of it is recorded"
     [ -x "$program" ] && [ -r "$kept/record" ] || return
@@ -57,23 +57,23 @@ is_current() {
     ! find_kit || [ "$kit" = "$old_kit" ]
 }
 
-# Prints the kit and the hash of the sources as they stand.
+# Prints the kit and the hash of the current sources.
 made_of() {
     find_kit && sources=$(hash_of_sources) && printf '%s\n' "$kit" "$sources"
 }
 
-# begin_record FILE: notes before a build what the program will be made of. The time of the file is that of its start.
+# begin_record FILE: notes the sources before a build. The time of the file is when the build started.
 begin_record() {
     started=$1
     touch "$started" && before=$(made_of)
 }
 
-# Whether that still stands. An edit that was undone during the build shows in the time of its change.
+# Whether the sources are still as noted. An edit that was undone during the build shows in the time of its change.
 is_unchanged() {
     [ "$(made_of)" = "$before" ] && [ -z "$(find_in_sources -cnewer "$started" -print)" ]
 }
 
-# Records the program, once it is built.
+# Records the program after it is built.
 write_record() {
     built=$(hash_of_program) && mkdir -p "$kept" && printf '%s\n' "$before" "$built" >"$kept/record"
 }
