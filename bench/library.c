@@ -1,15 +1,15 @@
-// Times the library on files that are mapped, beside the same verdict written by hand in C, and a plain walk.
+// Times the library on mapped files, and compares it with the same verdict written by hand in C and with a plain walk.
 //
 //     cc -std=c99 -O2 -I bindings/c -o library bench/library.c build/lib/libkesvuot.a
 //     ./library ROUNDS FILE
 //
-// It prints seven numbers of microseconds, and the first line that macho-check would print of FILE. A number is the
-// median of the rounds. Each judge has two: over a new mapping, whose pages the system puts in place as they are
-// touched, and over the same mapping once more. The judges are kesvuot_verify; bench/floor.c; and a walk that follows
-// the headers, the load commands, the sections and the symbols, and tests nothing. The last number is the time to get
-// all rows of all images from the library, each table by one call.
+// It prints seven times in microseconds, and the first line that macho-check would print for FILE. Each time is the
+// median of the rounds. Each judge has two times: over a new mapping, whose pages the system loads as they are touched,
+// and over the same mapping again. The judges are kesvuot_verify; bench/floor.c; and a walk that follows the headers,
+// the load commands, the sections and the symbols, and tests nothing. The last time is for reading all rows of all
+// images from the library, each table with one call.
 //
-// bench/library makes the files, and prints the table.
+// bench/library makes the files and prints the table.
 
 #define main floor_main
 #include "floor.c"
@@ -30,7 +30,7 @@ static uint64_t now(void) {
     return (uint64_t)time.tv_sec * 1000000000u + (uint64_t)time.tv_nsec;
 }
 
-// Judges. Each returns a number, so that no compiler leaves out what it does.
+// Judges. Each returns a number, so that the compiler does not optimize its work away.
 
 static struct kesvuot_verdict verdict;
 
@@ -115,7 +115,7 @@ static uint64_t by_walk(const struct file *file) {
 
 // Rows
 
-// Room for so many rows of any table.
+// Room for `count` rows of any table.
 static void *rows;
 static size_t rows_size;
 

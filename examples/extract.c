@@ -1,18 +1,18 @@
-// Takes a file apart: writes each slice, and the bytes of each section of each image, to files of their own in FOLDER.
+// Takes a file apart: writes each slice, and the bytes of each section of each image, to a separate file in FOLDER.
 //
 //     extract FILE FOLDER
 //
-// It prints a line for each file that it writes: the name, the place of the bytes in FILE, and how many there are.
+// It prints a line for each file that it writes: the name, the place of the bytes in FILE, and their number.
 //
-//     1.slice             the slice with index 1, of which the first has 0. A file that is not universal is one slice
-//     1.0.__TEXT.__text   the first section of that image, with the name of its segment and its own. Of these, any byte
-//                         but a letter, a digit, _ and - is written as % and two digits. A section that is empty or
-//                         zero-fill has no bytes, and none is written
+//     1.slice             the slice with index 1, counted from 0. A file that is not universal is one slice
+//     1.0.__TEXT.__text   the first section of that image, with the names of its segment and of the section. In these,
+//                         any byte except letters, digits, _ and - is written as % and two digits. Empty and zero-fill
+//                         sections have no bytes, and no file is written for them
 //
 //     cc -std=c99 -O2 -Ibindings/c -o extract examples/extract.c build/lib/libkesvuot.a
 //
-// The file may be from a stranger. The library judges it once. After that nothing here tests an offset of the file: a
-// comment at each read says which rule of docs/RULES.md promises that the bytes are there.
+// The file may be from a stranger. The library judges it once. After that no offset of the file is tested: a comment at
+// each read says which rule of docs/RULES.md promises that the bytes exist.
 
 #include <inttypes.h>
 #include <stdbool.h>
@@ -24,10 +24,10 @@
 #include "judged.h"
 #include "kesvuot.h"
 
-// Two numbers, and two names of 16 bytes, each byte of which may become three.
+// Two numbers, and two names of 16 bytes, each byte of which can become three.
 #define NAME_SIZE 160
 
-// The folder to write to, and the image that is taken apart.
+// The folder to write to, and the current image.
 struct work {
     const char *folder;
     char *path;
@@ -54,7 +54,7 @@ static int write_file(const struct work *work, const char *name, struct kesvuot_
     return ACCEPTED;
 }
 
-// Appends a name to a text, which has room for it. What is left of a name is no path: it has neither a slash nor a dot.
+// Appends a name to a text, which has room for it. The written name is not a path: it has neither a slash nor a dot.
 static void append_name(char *text, struct kesvuot_bytes name) {
     text += strlen(text);
     *text++ = '.';
@@ -104,7 +104,7 @@ static int write_slice(struct work *work, const struct judged *file, uint64_t in
     sprintf(name, "%" PRIu64 ".slice", index);
     // fat-slice-outside: all bytes of the slice are in the file. fat-overlap: no other slice has one of them.
     int status = write_file(work, name, work->image.bytes);
-    // Nothing is promised of what is inside a slice of 32 bits or of the other byte order.
+    // Nothing is promised about the contents of a 32-bit or big-endian slice.
     return status == ACCEPTED && kind == KESVUOT_OK ? write_sections(work, index) : status;
 }
 

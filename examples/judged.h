@@ -1,4 +1,4 @@
-// What each example begins with: it reads a file into memory, where nobody else can change it, and has it judged.
+// The start of each example: reads a file into memory, where nobody else can change it, and judges it.
 #ifndef JUDGED_H
 #define JUDGED_H
 
@@ -9,7 +9,7 @@
 
 #include "kesvuot.h"
 
-// How the examples end.
+// The statuses of the examples.
 enum { ACCEPTED = 0, REFUSED = 1, FAILED = 2 };
 
 // A file in memory, and how many slices it has.
@@ -24,7 +24,7 @@ static inline int fail(const char *what, const char *why) {
     return FAILED;
 }
 
-// Gives the block another size, of 1 byte at least.
+// Resizes the block, to at least 1 byte.
 static inline bool resize(struct judged *file, size_t room) {
     uint8_t *bytes = realloc(file->bytes, room > 0 ? room : 1);
     if (bytes != NULL) {
@@ -52,7 +52,7 @@ static inline int print_refusal(const char *path, const struct kesvuot_verdict *
     return REFUSED;
 }
 
-// Reads and judges a file. Where it is not accepted, this prints why. Call `finish` after it, whatever the answer.
+// Reads and judges a file. If it is not accepted, this prints why. Always call `finish` afterwards.
 static inline int judge(const char *path, struct judged *file) {
     struct kesvuot_verdict verdict;
     *file = (struct judged){.bytes = NULL};
@@ -82,7 +82,7 @@ static inline int finish(struct judged *file, int status) {
     return fflush(stdout) == 0 && !ferror(stdout) ? status : fail("standard output", "it cannot be written");
 }
 
-// Prints a name, of which any byte but printable ASCII is written as a number.
+// Prints a name. Any byte that is not printable ASCII is written as a number.
 static inline void print_name(struct kesvuot_bytes name) {
     for (size_t k = 0; k < name.len; k++) {
         bool is_plain = name.at[k] >= 0x20 && name.at[k] <= 0x7e && name.at[k] != '\\';

@@ -1,4 +1,4 @@
-// Prints which symbol and section is at each address of an image: the first one of FILE that is read.
+// Prints the symbol and the section at each address. The image is the first one in FILE that is read.
 //
 //     symbolize FILE ADDRESS..
 //
@@ -6,13 +6,13 @@
 //
 //     0xADDRESS SYMBOL + 0xOFFSET (SEGMENT,SECTION)
 //
-// with the section's symbol whose address is the greatest that is not above ADDRESS; among equals, the last in the
-// table. `0xADDRESS ? (SEGMENT,SECTION)` says that there is none, `0xADDRESS ?` that no section has the address.
+// with the section's symbol at the greatest address up to ADDRESS; if several have this address, the last in the table.
+// It is `0xADDRESS ? (SEGMENT,SECTION)` if there is no such symbol, and `0xADDRESS ?` if no section has the address.
 //
 //     cc -std=c99 -O2 -Ibindings/c -o build/symbolize examples/symbolize.c build/lib/libkesvuot.a
 //
-// The file may be from a stranger. The library judges it once. After that nothing here tests an offset, a count or an
-// index of the file: a comment says which rule of docs/RULES.md makes that right.
+// The file may be from a stranger. The library judges it once. After that no offset, count or index of the file is
+// tested: a comment says which rule of docs/RULES.md makes this safe.
 
 #include <ctype.h>
 #include <errno.h>
@@ -39,12 +39,12 @@ struct tables {
     size_t sorted_count;
 };
 
-// Room for so many rows. table-range and command-short: each row is in the file, so it has no more rows than bytes.
+// Room for `count` rows. table-range and command-short: each row is in the file, so it has no more rows than bytes.
 static void *new_rows(uint64_t count, size_t size) {
     return calloc((size_t)count + 1, size);
 }
 
-// Symbols at the same address keep the order of the table, in which both are.
+// Symbols at the same address keep the order of the table.
 static int compare(const void *left, const void *right) {
     const struct kesvuot_symbol *one = *(const struct kesvuot_symbol *const *)left;
     const struct kesvuot_symbol *other = *(const struct kesvuot_symbol *const *)right;
@@ -82,7 +82,7 @@ static bool read_tables(struct tables *tables) {
     }
     kesvuot_segments(image, 0, tables->segments, (size_t)image->segment_count);
     kesvuot_sections(image, 0, tables->sections, (size_t)image->section_count);
-    // Without their names, whose ends would all be looked for: many symbols may share a long one.
+    // Without names, since the call would search for the end of each: many symbols can share a long name.
     struct kesvuot_image nameless = *image;
     nameless.strings_size = 0;
     kesvuot_symbols(&nameless, 0, tables->symbols, (size_t)image->symbol_count);
@@ -110,7 +110,7 @@ static const struct kesvuot_section *section_at(const struct tables *tables, uin
         if (!is_in(address, segment->vmaddr, segment->vmsize)) {
             continue;
         }
-        // command-short: a segment has all sections that it counts.
+        // command-short: a segment has all its nsects sections.
         const struct kesvuot_section *section = tables->sections + segment->first_section;
         for (uint32_t n = 0; n < segment->section_count; n++, section++) {
             if (is_in(address, section->addr, section->size)) {
@@ -121,7 +121,7 @@ static const struct kesvuot_section *section_at(const struct tables *tables, uin
     return NULL;
 }
 
-// The last symbol of a section that is not past the address, or NULL. symbol-section: each n_sect is that of a section.
+// The last symbol of a section at or before the address, or NULL. symbol-section: each n_sect is that of a section.
 static const struct kesvuot_symbol *symbol_at(const struct tables *tables, uint64_t sect, uint64_t address) {
     size_t low = 0;
     for (size_t high = tables->sorted_count; low < high;) {
@@ -162,7 +162,7 @@ static void print_line(const struct tables *tables, uint64_t address) {
     putchar('\n');
 }
 
-// Reads an address. strtoull alone would take signs and blanks as well.
+// Reads an address. strtoull alone would also accept signs and blanks.
 static bool read_address(const char *word, uint64_t *address) {
     char *end;
     errno = 0;

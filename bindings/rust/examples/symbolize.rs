@@ -1,4 +1,4 @@
-//! Prints which symbol and section is at each address of an image: the first one of FILE that is
+//! Prints the symbol and the section at each address. The image is the first one in FILE that is
 //! read.
 //!
 //!     symbolize FILE ADDRESS..
@@ -7,16 +7,15 @@
 //!
 //!     0xADDRESS SYMBOL + 0xOFFSET (SEGMENT,SECTION)
 //!
-//! with the section's symbol whose address is the greatest that is not above ADDRESS; among equals,
-//! the last in the table. `0xADDRESS ? (SEGMENT,SECTION)` says that there is none, `0xADDRESS ?`
-//! that no section has the address.
+//! with the section's symbol at the greatest address up to ADDRESS; if several have this address,
+//! the last in the table. It is `0xADDRESS ? (SEGMENT,SECTION)` if there is no such symbol, and
+//! `0xADDRESS ?` if no section has the address.
 //!
 //!     cd bindings/rust
 //!     KESVUOT_LIB_DIR=../../build/lib cargo run --example symbolize FILE ADDRESS..
 //!
-//! The file may be from a stranger. The library judges it once. After that nothing here tests an
-//! offset, a count or an index of the file: a comment says which rule of docs/RULES.md makes that
-//! right.
+//! The file may be from a stranger. The library judges it once. After that no offset, count or
+//! index of the file is tested: a comment says which rule of docs/RULES.md makes this safe.
 
 use std::error::Error;
 use std::ffi::OsString;
@@ -38,7 +37,8 @@ struct Tables<'a> {
 
 impl<'a> Tables<'a> {
     fn of(image: Image<'a>) -> Self {
-        // Without their names, whose ends would all be looked for: many symbols may share a long one.
+        // Without names, since the call would search for the end of each: many can share a long
+        // name.
         let mut symbols: Vec<_> = (0..)
             .zip(image.symbols_without_names())
             .filter_map(|(index, symbol)| Some((symbol.section_index()?, symbol.value, index)))
@@ -57,15 +57,15 @@ impl<'a> Tables<'a> {
     fn section_at(&self, address: u64) -> Option<usize> {
         let has_address = |segment: &&Segment| is_in(address, segment.vmaddr, segment.vmsize);
         let segment = self.segments.iter().find(has_address)?;
-        // command-short: a segment has all sections that it counts.
+        // command-short: a segment has all its nsects sections.
         segment.section_range().find(|&index| {
             let section = &self.sections[index];
             is_in(address, section.addr, section.size)
         })
     }
 
-    /// The last symbol of a section that is not past an address. symbol-section: each symbol is in
-    /// a section that exists.
+    /// The last symbol of a section at or before an address. symbol-section: each symbol is in a
+    /// section that exists.
     fn symbol_at(&self, section: usize, address: u64) -> Option<Symbol<'a>> {
         let end = self
             .symbols
@@ -100,7 +100,7 @@ fn is_in(address: u64, start: u64, size: u64) -> bool {
     start <= address && address - start < size
 }
 
-/// A name, of which any byte but printable ASCII is written as a number.
+/// A name. Any byte that is not printable ASCII is written as a number.
 struct Name<'a>(&'a [u8]);
 
 impl fmt::Display for Name<'_> {
@@ -116,7 +116,7 @@ impl fmt::Display for Name<'_> {
     }
 }
 
-/// Reads an address. `from_str_radix` alone would take a sign as well.
+/// Reads an address. `from_str_radix` alone would also accept a sign.
 fn read_address(word: &OsString) -> Result<u64, String> {
     let word = word.to_string_lossy();
     let digits = word.strip_prefix("0x").unwrap_or(&word);

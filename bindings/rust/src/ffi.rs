@@ -1,4 +1,4 @@
-//! The structures and calls of `kesvuot.h`. All that is unsafe in this crate is in this file.
+//! The structures and calls of `kesvuot.h`. All unsafe code of this crate is in this file.
 //!
 //! The library trusts no number in these structures, so any of them may be changed. Only pointers
 //! matter, and no other file can make one: each [`Bytes`] is empty, or was written by the library.
@@ -7,7 +7,7 @@ use std::ffi::c_void;
 use std::marker::PhantomData;
 use std::{ptr, slice};
 
-/// What a call answers. `NO_MEMORY` and `NONE` are what is left.
+/// What a call returns. `NO_MEMORY` and `NONE` are the remaining statuses.
 pub const OK: u32 = 0;
 pub const REFUSED: u32 = 1;
 pub const UNREAD: u32 = 4;
@@ -20,7 +20,7 @@ pub const HAS_ENTRY: u32 = 4;
 pub const HAS_SYMTAB: u32 = 8;
 pub const HAS_DYSYMTAB: u32 = 16;
 
-/// `struct kesvuot_bytes`. Where `len` is not 0, these bytes can be read for as long as `'a`.
+/// `struct kesvuot_bytes`. If `len` is not 0, these bytes can be read for as long as `'a`.
 #[repr(C)]
 #[derive(Clone, Copy)]
 pub struct Bytes<'a> {
@@ -55,7 +55,7 @@ unsafe impl Send for Bytes<'_> {}
 // SAFETY: as above.
 unsafe impl Sync for Bytes<'_> {}
 
-/// Declares structures, and lists for the tests how C has to lay them out.
+/// Declares structures, and lists for the tests how C must lay them out.
 macro_rules! structures {
     ($($tag:ident = $name:ident $(<$life:lifetime>)? { $($field:ident: $type:ty,)* })*) => {
         $(
@@ -242,7 +242,7 @@ pub fn version() -> u32 {
     unsafe { kesvuot_version() }
 }
 
-/// The name of the rule with this number, or nothing where there is none.
+/// The name of the rule with this number, or no bytes if there is no such rule.
 pub fn rule(number: u32) -> Bytes<'static> {
     let mut name = Bytes::default();
     // SAFETY: the name may be written. It gets a constant of the library.
@@ -252,8 +252,8 @@ pub fn rule(number: u32) -> Bytes<'static> {
 
 type Judge = unsafe extern "C" fn(*const c_void, usize, *mut Verdict) -> u32;
 
-/// Calls one of the two that judge, if the structures here are those of the library. Gives the status
-/// and the verdict.
+/// Calls one of the two calls that judge, if the structures here are those of the library. Returns
+/// the status and the verdict.
 fn judge(call: Judge, file: &[u8]) -> (u32, Verdict) {
     let version = version();
     assert_eq!(version >> 16, MAJOR, "libkesvuot has version {version:#x}");
@@ -282,7 +282,7 @@ pub fn image(file: &[u8], slice: u64) -> (u32, Image<'_>) {
 
 /// A row of one of the tables of an image.
 pub trait Raw<'a>: Copy + Default {
-    /// Writes the rows from the index `first` on, and returns how many it wrote.
+    /// Writes rows, starting at index `first`, and returns how many it wrote.
     fn fill(image: &Image<'a>, first: u64, rows: &mut [Self]) -> usize;
 }
 

@@ -10,7 +10,7 @@ use crate::rows::{Row, Rows};
 ///
 /// `<mach-o/loader.h>` and `<mach-o/nlist.h>` explain the fields. Offsets count from the start of
 /// the image, but [`place`](Image::place) and [`place_of`](Image::place_of) count from the start of
-/// the file. A name has no zero byte in it.
+/// the file. A name contains no zero byte.
 ///
 /// Symbols and indirect entries are found by their index. Each of the other tables is read as a
 /// whole, in one walk over the load commands: collect its rows to use them more than once.
@@ -196,7 +196,8 @@ impl<'a> Image<'a> {
         Rows::new(self.raw, 0..self.raw.section_count)
     }
 
-    /// The libraries that the image loads, in command order, and the library that it is.
+    /// The libraries that the image loads, and the image itself if it is a library, in command
+    /// order.
     #[must_use]
     pub fn libraries(&self) -> Rows<'a, Library<'a>> {
         Rows::new(self.raw, 0..self.raw.library_count)
@@ -223,8 +224,8 @@ impl<'a> Image<'a> {
         Rows::new(self.raw, 0..self.raw.symbol_count)
     }
 
-    /// The same symbols with empty names, without a search for the end of each.
-    /// [`symbol`](Image::symbol) gives one of them with its name.
+    /// All symbols with empty names, without a search for the end of each name.
+    /// [`symbol`](Image::symbol) returns a symbol with its name.
     #[must_use]
     pub fn symbols_without_names(&self) -> Rows<'a, Symbol<'a>> {
         // No strings, so no name.
@@ -290,8 +291,8 @@ impl<'a> Image<'a> {
 
     /// The data of the first `linkedit_data_command` with this `cmd`, such as `LC_CODE_SIGNATURE`
     /// (0x1d): all `datasize` bytes from `dataoff` on. `None` if the image has no such command, or
-    /// RULES.md does not list `cmd` as a `linkedit_data_command`, as `LC_ATOM_INFO` (0x36). Each call
-    /// goes over the load commands.
+    /// RULES.md does not list `cmd` as a `linkedit_data_command` (for example `LC_ATOM_INFO`,
+    /// 0x36). Each call rescans the load commands.
     #[must_use]
     pub fn linkedit(&self, cmd: u32) -> Option<&'a [u8]> {
         let (status, data) = ffi::linkedit(&self.raw, cmd);
@@ -300,7 +301,7 @@ impl<'a> Image<'a> {
 
     /// What is at an address, before any slide. `None` if no segment has the address.
     ///
-    /// Each call goes over the load commands: for many addresses, look them up in the segments.
+    /// Each call rescans the load commands: for many addresses, look them up in the segments.
     ///
     /// ```
     /// # let path = concat!(env!("CARGO_MANIFEST_DIR"), "/../../tests/real/program");
@@ -322,7 +323,8 @@ impl<'a> Image<'a> {
         }
     }
 
-    /// Where bytes of this image begin in the file. `None` if they are from elsewhere, or empty.
+    /// The offset in the file at which bytes of this image begin. `None` if they are from
+    /// elsewhere, or empty.
     ///
     /// ```
     /// # let path = concat!(env!("CARGO_MANIFEST_DIR"), "/../../tests/real/library");

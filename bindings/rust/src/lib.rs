@@ -1,9 +1,9 @@
 //! Judges the layout of Mach-O files, and reads the parts of an accepted file.
 //!
-//! The verdict and all that is read come from `libkesvuot`, whose calls are proved. After
-//! [`verify`] has accepted a file, every part that an [`Image`] gives is there, in the bytes that you
-//! passed, with no offset, count or index to test. Nothing is copied. Numbers that RULES.md lists
-//! as not judged, and the fields of commands that it does not list, are whatever the file says.
+//! The verdict and all parts come from `libkesvuot`, whose calls are proved. After [`verify`] has
+//! accepted a file, every part that an [`Image`] returns lies in the bytes that you passed: there
+//! is no offset, count or index to test. Nothing is copied. Numbers that RULES.md lists as not
+//! judged, and the fields of commands that it does not list, are whatever the file says.
 //!
 //! ```
 //! # let path = concat!(env!("CARGO_MANIFEST_DIR"), "/../../tests/real/program");
@@ -28,8 +28,8 @@
 //! assert_eq!(error.to_string(), "refused: magic at 0x0");
 //! ```
 //!
-//! **The bytes must not change.** A `&[u8]` promises this, but one over a file that is mapped keeps
-//! the promise only where nobody else can write to the file or cut it. Read any other file into
+//! **The bytes must not change.** A `&[u8]` promises this, but one over a mapped file keeps the
+//! promise only if nobody else can write to the file or truncate it. Read any other file into
 //! memory.
 //!
 //! The crate is not published: depend on its folder, `kesvuot = { path = ".../bindings/rust" }`. It

@@ -1,4 +1,4 @@
-//! The rows of a table, which the library is asked for in batches.
+//! The rows of a table, read from the library in batches.
 
 use std::iter::FusedIterator;
 use std::ops::Range;
@@ -10,8 +10,8 @@ use crate::ffi::{self, Raw};
 pub trait Row<'a> {
     type Raw: Raw<'a>;
 
-    /// How many rows to ask for at once. A call that walks over the load commands is asked once,
-    /// for all rows.
+    /// How many rows to ask for at once. A call that scans the load commands is made once, for all
+    /// rows.
     const BATCH: u64 = u64::MAX;
 
     fn new(raw: Self::Raw) -> Self;
@@ -21,7 +21,7 @@ pub trait Row<'a> {
 #[derive(Clone)]
 pub struct Rows<'a, T> {
     image: ffi::Image<'a>,
-    /// Rows that were asked for, and not handed out.
+    /// Rows that were read and not yet returned.
     held: vec::IntoIter<T>,
     /// The indices of the rows after them. The start is at most the end.
     left: Range<u64>,
@@ -36,7 +36,7 @@ impl<'a, T: Row<'a>> Rows<'a, T> {
         }
     }
 
-    /// Asks for the next rows. All rows that were held have been handed out.
+    /// Reads the next rows. All rows that were held have been returned.
     fn ask(&mut self) {
         let count = cmp::min(self.left.end - self.left.start, T::BATCH);
         let mut rows = vec![T::Raw::default(); to_usize(count)];
@@ -47,7 +47,7 @@ impl<'a, T: Row<'a>> Rows<'a, T> {
     }
 }
 
-/// The library is for 64-bit machines, so no count is cut.
+/// The library is for 64-bit machines, so no count is truncated.
 fn to_usize(count: u64) -> usize {
     usize::try_from(count).unwrap_or(usize::MAX)
 }
@@ -67,7 +67,7 @@ impl<'a, T: Row<'a>> Iterator for Rows<'a, T> {
         (count, Some(count))
     }
 
-    /// Passes over rows without asking for them.
+    /// Skips rows without reading them.
     fn nth(&mut self, n: usize) -> Option<T> {
         if n < self.held.len() {
             return self.held.nth(n);

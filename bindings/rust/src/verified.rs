@@ -116,7 +116,7 @@ impl<'a> Slice<'a> {
         self.raw.cputype
     }
 
-    /// `cpusubtype` of the same, without the capability byte (`CPU_SUBTYPE_MASK`).
+    /// `cpusubtype` of the image or the table, without the capability byte (`CPU_SUBTYPE_MASK`).
     #[must_use]
     pub fn cpusubtype(&self) -> u32 {
         self.raw.cpusubtype

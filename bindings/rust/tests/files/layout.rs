@@ -1,4 +1,4 @@
-//! The layout of an accepted file, as docs/COMMAND.md says it and macho-check prints it.
+//! The layout of an accepted file, as docs/COMMAND.md describes it and macho-check prints it.
 
 use kesvuot::{Image, Library, Section, Segment, Verified};
 
