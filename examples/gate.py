@@ -39,7 +39,7 @@ BAR_WIDTH = 40
 
 
 class Verdict(NamedTuple):
-    """What is said of a file: a word, and why: the rule that it breaks and where, or what kept it from being judged."""
+    """The verdict on a file: a word, and the reason: the rule that it breaks and where, or why it was not judged."""
 
     path: str
     word: str

@@ -17,11 +17,11 @@ bytes, as in `segment.name == b"__TEXT"`.
 
 THE BYTES MUST NOT CHANGE WHILE A CALL RUNS, or the process may crash. Nobody can change `bytes`. A call holds the GIL,
 so other Python threads cannot change a bytearray during it. Code that releases the GIL can, such as `readinto`,
-`recv_into` or numpy, and so can any thread of a Python without a GIL. Other programs can change a file that is mapped:
-read the files of strangers into memory, or map only what nobody else can write to or cut. If the bytes change after
-the verdict, every call is still safe, but the verdict says nothing about the new bytes.
+`recv_into` or numpy, and so can any thread of a Python without a GIL. Other programs can change a mapped file: read the
+files of strangers into memory, or map only what nobody else can write to or truncate. If the bytes change after the
+verdict, every call is still safe, but the verdict says nothing about the new bytes.
 
-As a call holds the GIL, threads do not judge side by side: use processes for that.
+As a call holds the GIL, threads do not judge in parallel: use processes for that.
 
     python3 -m kesvuot FILE..
 
@@ -202,7 +202,7 @@ INDIRECTS = _Kind("kesvuot_indirects", struct.Struct("@I"), lambda part, it: it[
 
 
 def _find() -> str:
-    """What the loader is asked for."""
+    """What to ask the loader for."""
     folder = os.environ.get("KESVUOT_LIB_DIR")
     if folder:
         return os.path.join(os.path.abspath(folder), SONAME)
@@ -256,7 +256,7 @@ _release_buffer = ctypes.PYFUNCTYPE(None, ctypes.c_void_p)(("PyBuffer_Release", 
 
 
 def _address(view: memoryview) -> int:
-    """Where the bytes of a view are. The calls of ctypes for this refuse bytes that are read-only."""
+    """The address of the bytes of a view. The calls of ctypes for this refuse read-only bytes."""
     buffer = _Buffer()
     _get_buffer(view, ctypes.byref(buffer), 0)
     try:
@@ -401,8 +401,8 @@ class Image(Slice):
 
     @property
     def symbols_without_names(self) -> Table[Symbol]:
-        """The same symbols with empty names, without a search for the end of each. `symbols[index]` has the name of
-        one."""
+        """All symbols with empty names, without a search for the end of each name. `symbols[index]` is a symbol with
+        its name."""
         fields = IMAGE.unpack(self._image)
         # No strings, so no name.
         nameless = ctypes.create_string_buffer(IMAGE.pack(*fields[:8], 0, *fields[9:]), IMAGE.size)
@@ -440,8 +440,8 @@ class Image(Slice):
 
     def linkedit(self, cmd: int) -> Optional[memoryview]:
         """The data of the first linkedit_data_command with this `cmd`, such as LC_CODE_SIGNATURE (0x1d). None if there
-        is no such command, or RULES.md does not list `cmd` as a linkedit_data_command, as LC_ATOM_INFO (0x36). Each
-        call goes over the load commands."""
+        is no such command, or RULES.md does not list `cmd` as a linkedit_data_command (for example LC_ATOM_INFO, 0x36).
+        Each call rescans the load commands."""
         data = ctypes.create_string_buffer(PART.size)
         if not 0 <= cmd < 1 << 32 or _library().kesvuot_linkedit(self._image, cmd, data) != OK:
             return None

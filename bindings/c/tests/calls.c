@@ -110,7 +110,7 @@ static void try_slices_of_two_kinds(void) {
     wanted.filetype = 2;
     image = unwritten_image();
     CHECK(kesvuot_image(mixed.bytes, mixed.size, 1, &image) == KESVUOT_OK && has_only(image, wanted));
-    // The second slice is a file of its own, too.
+    // The second slice alone is a file, too.
     wanted.place = 0;
     image = unwritten_image();
     CHECK(kesvuot_image(mixed.bytes + 96, 32, 0, &image) == KESVUOT_OK && has_only(image, wanted));
@@ -181,7 +181,7 @@ static void try_tables(const struct kesvuot_image *image) {
     try_table(indirects_table, image, sizeof(uint32_t), image->indirect_count);
 }
 
-// Without strings no symbol has a name, and all else of it is the same.
+// Without strings no symbol has a name, and all its other fields are the same.
 static void try_symbols_without_names(const struct kesvuot_image *image) {
     struct kesvuot_image nameless = *image;
     struct kesvuot_symbol named[ROWS], rows[ROWS];
@@ -213,7 +213,7 @@ static void try_data(void) {
     CHECK(kesvuot_at(&image, UINT64_MAX, &data) == KESVUOT_NONE && data.len == 0);
 }
 
-// A structure of zeros is no image, and every call answers so.
+// A structure of zeros is not an image, and every call returns so.
 static void try_no_image(void) {
     struct kesvuot_image none;
     struct kesvuot_bytes data;

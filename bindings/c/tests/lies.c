@@ -1,6 +1,6 @@
 // lies SEED ROUNDS FILE..: calls everything on files that need not be accepted, with images that kesvuot_image wrote,
 // and with images of random numbers over some part of the file. The file lies between guard pages, so a read outside
-// ends the program, and whatever is handed out has to lie in the file.
+// ends the program, and all returned bytes must lie in the file.
 #include "support.h"
 #include <stdio.h>
 #include <stdlib.h>
@@ -113,7 +113,7 @@ static struct kesvuot_bytes some_bytes(void) {
     return bytes;
 }
 
-// Random numbers in all fields, but that the bytes are of the file: a caller has to ensure that.
+// Random numbers in all fields, except that the bytes are of the file, which a caller must ensure.
 static void lie_all(struct kesvuot_image *image) {
     const struct kesvuot_image right = *image;
     for (size_t index = 0; index < sizeof *image; index++) {

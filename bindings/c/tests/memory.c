@@ -1,5 +1,5 @@
-// memory FILE..: refuses each allocation of both verdicts in turn. Then the status is NO_MEMORY, and whatever was taken
-// is given back. No other call takes memory. Linked with --wrap for malloc, realloc and free.
+// memory FILE..: refuses each allocation of both verdicts in turn. Then the status is NO_MEMORY, and all allocated
+// memory is freed. No other call allocates memory. Linked with --wrap for malloc, realloc and free.
 #include "support.h"
 #include <stdio.h>
 #include <string.h>

@@ -1,6 +1,6 @@
-// parts FILE SLICE [ADDRESS..]: prints what the calls give of an image of an accepted file, and what is at the
-// addresses, which are hexadecimal. The lines are those of the texts beside the files of tests/real (tests/library says
-// how they were made), but for the fields of LC_DYSYMTAB that the library does not give.
+// parts FILE SLICE [ADDRESS..]: prints what the calls return of an image of an accepted file, and what is at the
+// addresses, which are hexadecimal. The lines are those of the texts in tests/real (tests/library says how they were
+// made), except for the fields of LC_DYSYMTAB that the library does not return.
 #include "support.h"
 #include <inttypes.h>
 #include <stdio.h>

@@ -21,7 +21,7 @@ struct file read_file(const char *path, enum side side);
 struct file file_of(const void *data, size_t size, enum side side);
 void release(struct file file);
 
-// The side that the environment asks for: IN_BLOCK where IN_BLOCK is set, and else the given one.
+// The side that the environment asks for: IN_BLOCK if IN_BLOCK is set, otherwise the given one.
 enum side side_or_block(enum side side);
 
 // Ends the program with the status 2, after a line on standard error.

@@ -1,5 +1,5 @@
-// threads ROUNDS FILE: four threads call at once, on the same bytes and the same image, and each has to get what one
-// thread alone gets.
+// threads ROUNDS FILE: four threads call at once, on the same bytes and the same image, and each must get the results
+// that one thread alone gets.
 #include "support.h"
 #include <pthread.h>
 #include <stdlib.h>
