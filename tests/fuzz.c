@@ -1,12 +1,11 @@
-// A harness for libFuzzer: it calls everything of kesvuot.h on the bytes that it is given, and stops where an answer is
-// not what the header promises. tests/fuzz builds and runs it, and says how to run it for long.
+// A harness for libFuzzer: it calls everything in kesvuot.h on the given bytes, and stops if a result is not what the
+// header promises. tests/fuzz builds and runs it, and says how to run it for longer.
 //
-// The checks of the compiler do not see into the library. So each input is judged at two places: where the page before
-// its first byte cannot be read, and where the page after its last one cannot.
+// The checks of the compiler do not see into the library. So each input is judged at two places: next to an unreadable
+// page before its first byte, and next to one after its last byte.
 //
-// What the compiler counts, so that libFuzzer keeps an input which leads to something new, is only what is in this
-// file. The harness adds counters of its own: for the broken rule with the size of the place, and for the sizes of
-// tables.
+// The compiler's counters, by which libFuzzer keeps inputs that reach something new, cover only this file. The harness
+// adds its own counters: for the broken rule with the size of the place, and for the sizes of tables.
 
 #define _DEFAULT_SOURCE // MAP_ANONYMOUS
 #include <stdbool.h>
@@ -19,7 +18,7 @@
 
 #include "kesvuot.h"
 
-// What libFuzzer calls, and what it has.
+// What libFuzzer calls, and what it provides.
 int LLVMFuzzerTestOneInput(const uint8_t *data, size_t size);
 size_t LLVMFuzzerCustomMutator(uint8_t *data, size_t size, size_t max_size, unsigned seed);
 size_t LLVMFuzzerMutate(uint8_t *data, size_t size, size_t max_size);
@@ -50,7 +49,7 @@ static void stop(const char *condition, int line) {
     abort();
 }
 
-// Whether the file breaks a rule, none, or none of the strict profile either.
+// Whether the file breaks a rule, no rule, or no strict rule either.
 enum accepted { REFUSED = 0, ACCEPTED, ACCEPTED_STRICTLY };
 
 // Counters
@@ -65,7 +64,7 @@ static void reach(unsigned kind, uint64_t number) {
     counters[64 * kind + (digits < 64 ? digits : 63)] = 1;
 }
 
-// Bytes that are handed out
+// Returned bytes
 
 static bool is_empty(struct kesvuot_bytes bytes) {
     return bytes.len == 0;
@@ -89,7 +88,7 @@ static void check_ended(const struct kesvuot_image *image, struct kesvuot_bytes 
     }
 }
 
-// The bytes are those of the image from an offset on, as many as there have to be.
+// The bytes are those of the image from an offset on, as many as there must be.
 static void check_part(const struct kesvuot_image *image, struct kesvuot_bytes bytes, uint64_t offset, uint64_t len) {
     CHECK(bytes.len == len);
     CHECK(len == 0 || bytes.at == image->bytes.at + offset);
@@ -113,7 +112,7 @@ CALL(indirects)
 struct table {
     size_t (*read)(const struct kesvuot_image *image, uint64_t first, void *rows, size_t max);
     size_t row_size;
-    // Where the number of rows is in the image.
+    // The offset of the number of rows in the image.
     size_t count_at;
 };
 
@@ -141,7 +140,7 @@ static bool is_unwritten(const uint8_t *bytes, size_t size) {
     return bytes[0] == UNWRITTEN && memcmp(bytes, bytes + 1, size - 1) == 0;
 }
 
-// Reads at most so many rows from one on, into a block of two more.
+// Reads up to `max` rows, starting at index `first`, into a block of two more rows.
 static struct rows read_rows(const struct table *table, const struct kesvuot_image *image, uint64_t first, size_t max) {
     size_t size = (max + 2) * table->row_size;
     uint8_t *rows = malloc(size);
@@ -223,7 +222,7 @@ static void check_addresses(const struct kesvuot_image *image, const struct rows
     }
 }
 
-// Each byte that is not zero is in just one segment, and no other byte is in two.
+// Each nonzero byte is in exactly one segment, and no other byte is in two.
 static void check_covered(const struct kesvuot_image *image, const struct rows *all) {
     const struct kesvuot_segment *row = all->rows;
     uint8_t *covered = calloc(image->bytes.len, 1);
@@ -342,7 +341,7 @@ static void check_commands(const struct kesvuot_image *image, const struct rows 
 static void check_symbols(const struct kesvuot_image *image, const struct rows *all, enum accepted accepted) {
     const struct kesvuot_symbol *row = all->rows;
     for (size_t k = 0; k < all->count; k++, row++) {
-        // Where many symbols share a long string, this would read it as often.
+        // If many symbols share a long string, this would read it once for each.
         if (k < 99) {
             check_inside(image, row->name);
             check_ended(image, row->name);
@@ -389,7 +388,7 @@ static void check_tables(const struct kesvuot_image *image, enum accepted accept
     }
 }
 
-// An image whose numbers are any: the calls hand out bytes of the slice alone.
+// An image with any numbers: the calls return only bytes of the slice.
 
 static void check_at(const struct kesvuot_image *image, uint64_t address) {
     struct kesvuot_bytes bytes = {NULL, 1};
