@@ -45,7 +45,7 @@ module _ {S R V T : Type 0} {steps : S → Option R → S → Type 0} {s : S} {n
       count : n ≡ length (take (length old) left)
       count = fills.count ∙ sym (length-map fills.items shown) ∙ ap length whole
 
--- the same, where the rows are made of the items of an iterator, past those before the first
+-- filled, if the rows are made of the items of an iterator after the first `first` items
 module _ {S A V F R T : Type 0} {steps : S → Option A → S → Type 0} {g : Mut F (A × Unit {0}) R} {n : ℕ} {old new : List R} {t : S} {u : Skip S} {s : Map (Skip S) F} {f : F} {v : A → V} where
   pub filled_past : (shown : R → T) (row : V → T) (views : List V) (first : ℕ) → Fills (maps (skip_steps steps) g) s n old new → YieldsList steps v t views
       → skip_source u ≡ t → skip_count u ≡ first → map_source s ≡ u → map_callee s ≡ f → ((x : A) (r : R) (q : F) → Called g f (x, tt) r q → (q ≡ f) × (shown r ≡ row (v x)))
@@ -54,7 +54,7 @@ module _ {S A V F R T : Type 0} {steps : S → Option A → S → Type 0} {g : M
       let left : YieldsList (skip_steps steps) v u (drop first views) = YieldsList-from_skip first (YieldsList-at past gives) count in
       filled shown row views first fills (YieldsList-from_map_by g shown row (YieldsList-at source left) callee of)
 
--- the same, where the items are no more than the table has room for
+-- filled, if the table has room for all items
 module _ {S A V F R T : Type 0} {steps : S → Option A → S → Type 0} {g : Mut F (A × Unit {0}) R} {n : ℕ} {old new : List R} {t : S} {s : Map S F} {f : F} {v : A → V} where
   pub filled_range : (shown : R → T) (row : V → T) (views : List V) (first : ℕ) → Fills (maps steps g) s n old new → YieldsList steps v t (take (length old) (drop first views))
       → map_source s ≡ t → map_callee s ≡ f → ((x : A) (r : R) (q : F) → Called g f (x, tt) r q → (q ≡ f) × (shown r ≡ row (v x)))

@@ -26,8 +26,8 @@ PassesImage image command =
     (0 < datasize image command)
     × (length image < dataoff image command + datasize image command)
 
--- The answer on a cmd: the data of the first command with it. There is none where the image has no
--- such command, where it is of another structure, and where the data does not lie inside the image.
+-- The answer on a cmd: the data of the first command with it. There is none if the image has no
+-- such command, if it is of another structure, or if the data does not lie inside the image.
 abbrev pub IsAnswer : List ℕ → ℕ → ℕ → List ℕ → Type 0
 IsAnswer image cmd status bytes =
     ((status ≡ KESVUOT_OK) × (structure_of cmd ≡ Some LinkeditDataCommand)

@@ -39,7 +39,7 @@ section_shown row = record {
   zero_fill = row.zero_fill;
 }
 
--- the bytes that a section has in the image, none where it is zero-fill
+-- the bytes that a section has in the image, none if it is zero-fill
 abbrev pub section_bytes : List ℕ → ℕ → List ℕ
 section_bytes image section =
     if is_zero_fill image section then []

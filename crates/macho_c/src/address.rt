@@ -15,9 +15,9 @@ use crate::status::{NONE, OK, ZERO};
 use macho_fields::Bytes;
 use macho_image::{Image, Segment};
 
-/// Writes the bytes of the file from the address on, up to the last that the same segment has in the
-/// file. The status is `OK`; `ZERO` where there is a zero that is no byte of the file; or `NONE` where
-/// no segment has the address.
+/// Writes the bytes of the file from the address on, up to the last that the same segment has in
+/// the file. The status is `OK`; `ZERO` if there is a zero that is not a byte of the file; or
+/// `NONE` if no segment has the address.
 #[unsafe(no_mangle)]
 pub extern "C" fn kesvuot_at<'a>(
     image: &KesvuotImage<'a>,
@@ -39,7 +39,7 @@ pub extern "C" fn kesvuot_at<'a>(
     }
 }
 
-// The same, of an opened image.
+// Writes the bytes at the address in an opened image, as `kesvuot_at` does.
 fn write_bytes_at<'a>(image: &Image<'a>, address: u64, bytes: &mut &'a [u8]) -> u32
     ensures { IsAnswer image.now address result bytes.new.now }
 {

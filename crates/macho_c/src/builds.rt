@@ -16,12 +16,12 @@ pub struct KesvuotBuild {
     pub platform: u32,
     pub minos: u32,
     pub sdk: u32,
-    /// 0.
+    /// Reserved: 0.
     pub reserved: u32,
 }
 
-/// Writes the builds from the index `first` on to the table, as many as it has rows and as there are,
-/// and returns how many it wrote. The rows after these are left as they were.
+/// Writes the builds from index `first` on to the rows of the table, until either runs out, and
+/// returns how many it wrote. Later rows are unchanged.
 #[unsafe(no_mangle)]
 pub extern "C" fn kesvuot_builds(
     image: &KesvuotImage,

@@ -20,17 +20,17 @@ use macho_image::{Command, Image};
 pub struct KesvuotCommand<'a> {
     /// Its bytes, `cmd` and `cmdsize` included.
     pub bytes: &'a [u8],
-    /// Its name, of a `dylib_command`, `dylinker_command` or `rpath_command`, and otherwise none.
+    /// Its name, of a `dylib_command`, `dylinker_command` or `rpath_command`, otherwise none.
     pub name: &'a [u8],
     /// Where it begins in the image.
     pub place: u64,
     pub cmd: u32,
-    /// 0.
+    /// Reserved: 0.
     pub reserved: u32,
 }
 
-/// Writes the load commands from the index `first` on to the table, as many as it has rows and as
-/// there are, and returns how many it wrote. The rows after these are left as they were.
+/// Writes the load commands from index `first` on to the rows of the table, until either runs out,
+/// and returns how many it wrote. Later rows are unchanged.
 #[unsafe(no_mangle)]
 pub extern "C" fn kesvuot_commands<'a>(
     image: &KesvuotImage<'a>,

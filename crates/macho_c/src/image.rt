@@ -52,9 +52,9 @@ pub struct KesvuotImage<'a> {
     pub bytes: &'a [u8],
     /// Where the slice begins in the file.
     pub place: u64,
-    /// The address of the first segment that shows the start of the image, and otherwise 0.
+    /// The address of the first segment that shows the start of the image, otherwise 0.
     pub base: u64,
-    /// The address of the entry point, and otherwise 0.
+    /// The address of the entry point, otherwise 0.
     pub entry: u64,
     /// Where the symbols begin, and how many there are.
     pub symbols: u64,
@@ -81,13 +81,13 @@ pub struct KesvuotImage<'a> {
     /// The first index and the number of symbols of each of the three groups of `LC_DYSYMTAB`.
     pub groups: [u32; 6],
     pub uuid: [u8; 16],
-    /// 0.
+    /// Reserved: 0.
     pub reserved: [u32; 5],
 }
 
 /// Reads the image of the slice with this index, in a file that is accepted. The status is `OK`;
-/// `UNREAD` where the image is of 32 bits or big-endian; `NONE` where there is no such slice; or
-/// `REFUSED` where no accepted file has these bytes.
+/// `UNREAD` if the image is of 32 bits or big-endian; `NONE` if there is no such slice; or
+/// `REFUSED` if no accepted file has these bytes.
 #[unsafe(no_mangle)]
 pub extern "C" fn kesvuot_image<'a>(file: &'a [u8], slice: u64, image: &mut KesvuotImage<'a>) -> u32
     ensures answer { IsAnswer file.now slice result image.new }
@@ -208,7 +208,7 @@ fn row_of<'a>(bytes: &'a [u8], place: u64, image: &Image<'a>) -> KesvuotImage<'a
     }
 }
 
-// The fields of `LC_SYMTAB`, which are 0 where it is not there.
+// The fields of `LC_SYMTAB`, which are 0 if it is missing.
 fn symtab(image: &Image) -> Symtab
     ensures symoff { result.symoff ≡ field_of (λ t. t.symoff) (symtab_in image.now) }
     ensures nsyms { result.nsyms ≡ field_of (λ t. t.nsyms) (symtab_in image.now) }

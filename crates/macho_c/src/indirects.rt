@@ -11,9 +11,9 @@ use crate::table::fill;
 use macho_fields::Bytes;
 use macho_image::{Indirect, Indirects};
 
-/// Writes the indirect entries from the index `first` on to the table, as many as it has rows and as
-/// there are, and returns how many it wrote. The rows after these are left as they were. The entries
-/// before them are not gone over.
+/// Writes the indirect entries from index `first` on to the rows of the table, until either runs
+/// out, and returns how many it wrote. Later rows are unchanged. It does not scan the entries
+/// before them.
 #[unsafe(no_mangle)]
 pub extern "C" fn kesvuot_indirects(image: &KesvuotImage, first: u64, rows: &mut [u32]) -> usize
     ensures rows { IsFilled indirect_shown (indirect_rows image.now) first result rows.old rows.new }

@@ -1,8 +1,9 @@
 #![tactic(auto)]
-//! `libkesvuot`: the verdict on a file and the views of its images, for C and all that can call C.
+//! `libkesvuot`: the verdict on a file and the views of its images, for C and all languages that
+//! can call C.
 //!
 //! No export has a `requires`: each is safe and returns on any bytes and on any numbers in the
-//! structures that it is passed. What an export hands out is borrowed from the bytes of the file.
+//! structures that it is passed. What an export returns is borrowed from the bytes of the file.
 
 mod address;
 mod builds;

@@ -19,12 +19,12 @@ pub struct KesvuotLibrary<'a> {
     pub cmd: u32,
     pub current: u32,
     pub compatible: u32,
-    /// 0.
+    /// Reserved: 0.
     pub reserved: u32,
 }
 
-/// Writes the libraries from the index `first` on to the table, as many as it has rows and as there
-/// are, and returns how many it wrote. The rows after these are left as they were.
+/// Writes the libraries from index `first` on to the rows of the table, until either runs out, and
+/// returns how many it wrote. Later rows are unchanged.
 #[unsafe(no_mangle)]
 pub extern "C" fn kesvuot_libraries<'a>(
     image: &KesvuotImage<'a>,

@@ -14,8 +14,8 @@ use macho_fields::header::loader::linkedit_data_command::{DATAOFF, DATASIZE};
 use macho_fields::{Bytes, Order, Span, Structure, structure_of};
 use macho_image::Image;
 
-/// Writes the data that the first `linkedit_data_command` with this `cmd` names. The status is `OK`,
-/// or `NONE` where the image has none.
+/// Writes the data that the first `linkedit_data_command` with this `cmd` names. The status is
+/// `OK`, or `NONE` if the image has none.
 #[unsafe(no_mangle)]
 pub extern "C" fn kesvuot_linkedit<'a>(
     image: &KesvuotImage<'a>,
@@ -35,7 +35,7 @@ pub extern "C" fn kesvuot_linkedit<'a>(
     }
 }
 
-// The same, of an opened image.
+// Writes the data of the command in an opened image, as `kesvuot_linkedit` does.
 fn write_data<'a>(image: &Image<'a>, cmd: u32, bytes: &mut &'a [u8]) -> u32
     ensures { IsAnswer image.now cmd result bytes.new.now }
 {
@@ -62,7 +62,7 @@ fn names_data(cmd: u32) -> bool
     structure_of(cmd) == Some(Structure::LinkeditDataCommand)
 }
 
-// The data of the `linkedit_data_command` at the place `command`, or `None` where it ends past the
+// The data of the `linkedit_data_command` at the place `command`, or `None` if it ends past the
 // image. With `datasize` 0 it is empty, wherever `dataoff` is.
 fn data_at(image: Bytes, command: u64) -> Option<&[u8]>
     requires { command + structure_size LinkeditDataCommand ≤ length (bytes_of image) }

@@ -17,7 +17,7 @@ pub struct KesvuotSection<'a> {
     pub name: &'a [u8],
     /// The name of its segment.
     pub segment: &'a [u8],
-    /// Its bytes in the image: none where it is zero-fill.
+    /// Its bytes in the image: none if it is zero-fill.
     pub bytes: &'a [u8],
     pub addr: u64,
     pub size: u64,
@@ -28,13 +28,13 @@ pub struct KesvuotSection<'a> {
     pub flags: u32,
     pub reserved1: u32,
     pub reserved2: u32,
-    /// 1 where it is zero-fill, and otherwise 0.
+    /// 1 if it is zero-fill, otherwise 0.
     pub zero_fill: u32,
 }
 
-/// Writes the sections from the index `first` on to the table, as many as it has rows and as there
-/// are, and returns how many it wrote. The rows after these are left as they were. The section with
-/// the number `n_sect` of a symbol has the index `n_sect - 1`.
+/// Writes the sections from index `first` on to the rows of the table, until either runs out, and
+/// returns how many it wrote. Later rows are unchanged. The section with the number `n_sect` of a
+/// symbol has the index `n_sect - 1`.
 #[unsafe(no_mangle)]
 pub extern "C" fn kesvuot_sections<'a>(
     image: &KesvuotImage<'a>,
@@ -71,7 +71,7 @@ fn row_of<'a>(section: Section<'a>) -> KesvuotSection<'a>
     }
 }
 
-// The bytes of a section in the image: none where it is zero-fill.
+// The bytes of a section in the image: none if it is zero-fill.
 fn bytes_of<'a>(section: &Section<'a>) -> &'a [u8]
     ensures { result.now ≡ section_bytes section.now.image section.now.place }
 {

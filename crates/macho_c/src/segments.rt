@@ -29,8 +29,8 @@ pub struct KesvuotSegment<'a> {
     pub initprot: u32,
 }
 
-/// Writes the segments from the index `first` on to the table, as many as it has rows and as there
-/// are, and returns how many it wrote. The rows after these are left as they were.
+/// Writes the segments from index `first` on to the rows of the table, until either runs out, and
+/// returns how many it wrote. Later rows are unchanged.
 #[unsafe(no_mangle)]
 pub extern "C" fn kesvuot_segments<'a>(
     image: &KesvuotImage<'a>,

@@ -1,6 +1,6 @@
 //! What an export reports.
 
-// A file that is accepted, or an answer that is there.
+// A file that is accepted, or a result that exists.
 pub(crate) const OK: u32 = 0;
 // A file that breaks a rule, or bytes that no accepted file has.
 pub(crate) const REFUSED: u32 = 1;
@@ -10,5 +10,5 @@ pub(crate) const NO_MEMORY: u32 = 2;
 pub(crate) const NONE: u32 = 3;
 // A slice with an image that is not read: of 32 bits, or a big-endian one.
 pub(crate) const UNREAD: u32 = 4;
-// An address at which there is a zero that is no byte of the file.
+// An address at which there is a zero that is not a byte of the file.
 pub(crate) const ZERO: u32 = 5;

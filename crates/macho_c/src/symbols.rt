@@ -26,9 +26,8 @@ pub struct KesvuotSymbol<'a> {
     pub sect: u8,
 }
 
-/// Writes the symbols from the index `first` on to the table, as many as it has rows and as there
-/// are, and returns how many it wrote. The rows after these are left as they were. The symbols before
-/// them are not gone over.
+/// Writes the symbols from index `first` on to the rows of the table, until either runs out, and
+/// returns how many it wrote. Later rows are unchanged. It does not scan the symbols before them.
 #[unsafe(no_mangle)]
 pub extern "C" fn kesvuot_symbols<'a>(
     image: &KesvuotImage<'a>,
@@ -58,7 +57,7 @@ fn row_of<'a>(image: &KesvuotImage<'a>, symbol: Symbol) -> KesvuotSymbol<'a>
     }
 }
 
-// The name at `strx` in the strings, which has to end in them.
+// The name at `strx` in the strings, which must end in them.
 fn name_at<'a>(image: &KesvuotImage<'a>, strx: u32) -> &'a [u8]
     ensures { result.now ≡ name_at image.now strx }
 {

@@ -3,7 +3,7 @@
 ghost use Rattle.std.specs.Iterator.{IsFinite};
 ghost use Rattle.macho_c.specs.Rows.{Fills};
 
-// Writes the items to the rows, as many as there are rows and items, and returns how many it wrote.
+// Writes the items to the rows until either runs out, and returns how many it wrote.
 pub(crate) fn fill<R: Copy, I: Iterator<Item = R>>(items: I, rows: &mut [R]) -> usize
     requires can { I.can_next items }
     requires finite { IsFinite (I.remaining items) }

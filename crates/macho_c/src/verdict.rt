@@ -16,18 +16,18 @@ use std::alloc::Global;
 #[repr(C)]
 #[derive(Clone, Copy)]
 pub struct KesvuotVerdict {
-    /// Where the first broken rule is broken in the file, in bytes, and otherwise 0.
+    /// Where the first broken rule is broken in the file, in bytes, otherwise 0.
     pub place: u64,
-    /// How many slices an accepted file has, and otherwise 0.
+    /// How many slices an accepted file has, otherwise 0.
     pub slices: u64,
-    /// The number of the first broken rule, and otherwise 0.
+    /// The number of the first broken rule, otherwise 0.
     pub rule: u32,
-    /// 0.
+    /// Reserved: 0.
     pub reserved: u32,
 }
 
-/// Decides the rules of a file. The status is `OK` where it is accepted, `REFUSED` where it breaks a
-/// rule, and `NO_MEMORY` where there is no verdict.
+/// Decides the rules of a file. The status is `OK` if it is accepted, `REFUSED` if it breaks a
+/// rule, and `NO_MEMORY` if there is no verdict.
 #[unsafe(no_mangle)]
 pub extern "C" fn kesvuot_verify(alloc: Global, file: &[u8], verdict: &mut KesvuotVerdict) -> u32
     ensures { IsVerdict file.now result verdict.new }

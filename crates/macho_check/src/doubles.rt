@@ -14,7 +14,7 @@ pub(crate) struct CountingReader<'a> {
     pub(crate) reads: u64,
     /// Which call fails, from 1 on, and 0 for none.
     pub(crate) fails_at: u64,
-    /// How many bytes a call gives at most.
+    /// How many bytes a call returns at most.
     pub(crate) most: usize,
 }
 

@@ -67,7 +67,7 @@ module _ (file : List ℕ) (span : ℕ → Span) where
   pub unordered : (shown : Sharing) → shown ≡ sharing.Unknown → IsSharingOf (placed_spans file span (entry_count file)) shown → IsUnordered (entry_spans file span)
   unordered shown unknown is = subst IsUnordered spans_of_placed (subst (IsSharingOf (placed_spans file span (entry_count file))) unknown is)
 
--- where the spans of two entries share a place exactly where the entries have R
+-- where the spans of two entries share a place exactly if the entries have R
 module _ (file : List ℕ) (span : ℕ → Span) (R : ℕ → ℕ → Type 0) (exactly : (i j : ℕ) → Shares (span i) (span j) ↔ R i j) where
   shares_earlier : (j : ℕ) → j < entry_count file → WithEarlier R j → SharesEarlier (entry_spans file span) j
   shares_earlier j less (i, lower, both) =
@@ -121,7 +121,7 @@ sharing_judged {E = E} table file span r shown found answer same kept order leas
     known (Ok first) is asked = least first is
     known (Err e) is asked = unordered table (span table) shown asked order
 
--- fat-overlap: the spans of two slices share a place exactly where the slices do
+-- fat-overlap: the spans of two slices share a place exactly if the slices do
 pub least_overlap : (file : List ℕ) → IsUniversal file → (found : Option ℕ) → FindsFirstSharing file (slice_span file) found → IsLeastPlace (BreaksFile file rule.FatOverlap) found
 least_overlap file universal found =
     sharing_breaks file (slice_span file) (λ i j. SharePlace (entry_slice file i) (entry_slice file j)) (λ i j. (λ shares. shares, λ shares. shares)) found universal
@@ -141,7 +141,7 @@ number_span type subtype = record { start = type * 2 ^ 24 + masked subtype; len 
 abbrev arch_of : ℕ → ℕ → Option (ℕ × ℕ)
 arch_of type subtype = Some (type, masked subtype)
 
--- two of them are the same exactly where the architectures are
+-- two of them are the same exactly if the architectures are
 number_spans_share : (t m u n : ℕ) → Shares (number_span t m) (number_span u n) ↔ (arch_of t m ≡ arch_of u n)
 unfolding first_of second_of
 number_spans_share t m u n = (to, from)

@@ -16,7 +16,7 @@ use Rattle.macho_fat.specs.declared.fault.FatFault.TheVariants as fault
 abbrev pub slice_of : Slice → FileSlice
 slice_of slice = record { start = slice.span.start; size = slice.span.len; arch = slice.arch }
 
--- the slice is marked as read exactly where its bytes are a 64-bit image
+-- the slice is marked as read exactly if its bytes are a 64-bit image
 abbrev pub MarksRead : List ℕ → Slice → Type 0
 MarksRead file slice = IsTrue slice.read ↔ IsImage (slice_bytes file (slice_of slice))
 
@@ -25,7 +25,7 @@ abbrev pub HasImageInside : List ℕ → Span → Type 0
 HasImageInside file span =
     (end_of span ≤ length file) × IsImage (part span.start span.len file)
 
--- the slice is marked as read exactly where it lies inside the file and is a 64-bit image
+-- the slice is marked as read exactly if it lies inside the file and is a 64-bit image
 abbrev pub MarksReadInside : List ℕ → Slice → Type 0
 MarksReadInside file slice = IsTrue slice.read ↔ HasImageInside file slice.span
 
@@ -34,8 +34,8 @@ pub record AreSlices (file : List ℕ) (slices : List Slice) : Type 0 where
   pub all : map slice_of slices ≡ slices_of file
   pub read : All (MarksRead file) slices
 
--- A fault is the first broken rule of the file, or that there was no memory, which is answered only
--- where the rules before fat-overlap are unbroken.
+-- A fault is the first broken rule of the file, or that there was no memory, which is reported only
+-- if the rules before fat-overlap are unbroken.
 abbrev pub IsFatFault : List ℕ → FatFault → Type 0
 IsFatFault file (fault.Broken b) = IsLeast (BreaksFile file) b
 IsFatFault file fault.Memory = KeptBelow (BreaksFile file) (rank rule.FatOverlap)

@@ -66,7 +66,7 @@ ReturnsSpans returns file span =
     (k : ℕ) (entry : Entry) (given : Span) → IsEntry file k entry → returns entry given → given ≡ span k
 
 -- the answer is the place of the first entry whose span shares a place with that of an earlier one,
--- and None where there is none
+-- and None if there is none
 abbrev pub FindsFirstSharing : List ℕ → (ℕ → Span) → Option ℕ → Type 0
 FindsFirstSharing file span found =
     MatchOption found ((j : ℕ) → ¬ SharesEarlier (entry_spans file span) j)

@@ -1,5 +1,5 @@
-//! The rules of the header of a file, and of the magic numbers of its slices, one a function: each
-//! takes over where the rules before it are unbroken. (`mach-o/fat.h`)
+//! The rules of the header of a file, and of the magic numbers of its slices, one function each.
+//! Each requires that the earlier rules are unbroken. (`mach-o/fat.h`)
 
 ghost use Rattle.std.specs.Prelude.{◌≡◌, ◌↔◌, IsTrue, IfOk};
 ghost use Rattle.macho_fields.specs.Bytes.{bytes_of};
@@ -85,7 +85,7 @@ impl<'t, 'a> Magics<'t, 'a> {
     ghost use Rattle.macho_fields.specs.Rules.{BreaksFile};
     ghost use Rattle.macho_fields.specs.declared.rule.Rule.{Rule};
 
-    // Goes over the slices of a table once, all of which lie inside the file.
+    // Scans the slices of a table once, all of which lie inside the file.
     pub(crate) fn of(table: &'t Table<'a>) -> Magics<'t, 'a>
         requires { (place : ℕ) → ¬ BreaksFile table.now Rule.FatSliceOutside place }
         ensures { result ≡ table.now }

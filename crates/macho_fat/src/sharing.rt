@@ -14,7 +14,7 @@ use macho_fields::{FirstPlace, Rule, Sharing, Span, SpanList};
 use std::alloc::{AllocError, Global};
 
 // The place of the first entry whose span, as `span_of` returns it, shares a place with that of an
-// earlier entry. `sharing` is what the order of the spans shows of it. Where it shows nothing, the
+// earlier entry. `sharing` is what the order of the spans shows of it. If it shows nothing, the
 // spans are sorted.
 pub(crate) fn first_sharing<F: Fn(Entry) -> Span>(
     alloc: Global,
@@ -35,15 +35,15 @@ pub(crate) fn first_sharing<F: Fn(Entry) -> Span>(
     }
 }
 
-// The answer of the rule, where the search for its first place found this one, or had no memory.
+// The result of the rule, if the search for its first place found this one, or ran out of memory.
 pub(crate) fn judge(rule: Rule, found: Result<Option<u64>, AllocError>) -> Result<(), FatFault>
     ensures { IsJudged rule found result }
 {
     Ok(FirstPlace::of(found?).judge(rule)?)
 }
 
-// The same, whatever the order of the spans. This takes time in the order of n log n for n entries,
-// and 24 bytes an entry.
+// Finds the first such entry, whatever the order of the spans. This takes time in the order of n
+// log n for n entries, and 24 bytes per entry.
 fn first_sorted<F: Fn(Entry) -> Span>(
     alloc: Global,
     table: &Table,
@@ -60,7 +60,7 @@ fn first_sorted<F: Fn(Entry) -> Span>(
     Ok(Some(table.entry(k as u32).place))
 }
 
-// The spans of the entries in their order, with room for no more.
+// The spans of the entries in their order, with no spare capacity.
 fn listed_spans<F: Fn(Entry) -> Span>(
     alloc: Global,
     table: &Table,

@@ -32,12 +32,12 @@ pub struct Slice {
 }
 
 /// The slices of a file: the whole of a file that is one image, and otherwise one slice for each
-/// entry of the table, in order. Where one of the rules of the file, from `magic` to `fat-empty`,
-/// is broken, it returns the first broken one. The list has room for its slices and no more.
+/// entry of the table, in order. If one of the rules of the file, from `magic` to `fat-empty`, is
+/// broken, it returns the first broken rule. The list has no spare capacity.
 ///
-/// Memory is asked for only where the rules from `magic` to `fat-align` are unbroken. `fat-overlap` and
-/// `fat-duplicate` take it only where the slices, or the numbers of the architectures, neither ascend
-/// nor descend: 24 bytes an entry, to sort them, which they free. The list is made last.
+/// Memory is allocated only if the rules from `magic` to `fat-align` are unbroken. `fat-overlap`
+/// and `fat-duplicate` take it only if the slices, or the numbers of the architectures, neither
+/// ascend nor descend: 24 bytes per entry, to sort them, which they free. The list is made last.
 pub fn slices(alloc: Global, file: Bytes) -> Result<Vec<Slice>, FatFault>
     ensures slices { IfOk result (λ slices.
         map slice_of slices.items ≡ slices_of (bytes_of file.entry)) }
@@ -53,10 +53,10 @@ pub fn slices(alloc: Global, file: Bytes) -> Result<Vec<Slice>, FatFault>
     }
 }
 
-/// The slice that [`slices`] lists at `index`, or `None` where it lists none there. It takes no memory,
-/// and the same time whatever the index is. Only the rules `magic` and `fat-truncated` are decided: the
-/// error is the first broken one, and a slice may be anywhere. One that does not lie inside the file is
-/// not marked as read.
+/// The slice that [`slices`] lists at `index`, or `None` if it lists none there. It takes no
+/// memory, and the same time whatever the index is. Only the rules `magic` and `fat-truncated` are
+/// decided: the error is the first broken one, and a slice may be anywhere. One that does not lie
+/// inside the file is not marked as read.
 pub fn slice_at(file: Bytes, index: u64) -> Result<Option<Slice>, Break>
     ensures decides { Continues (BreaksFile (bytes_of file.entry)) Rule.FatTruncated result }
     ensures stops { StopsAt Rule.FatTruncated result }

@@ -1,5 +1,5 @@
-//! What one walk over the entries of a table finds, and the rules that are decided by it, one a
-//! function. (`mach-o/fat.h`)
+//! What one walk over the entries of a table finds, and the rules that it decides, one function
+//! each. (`mach-o/fat.h`)
 
 ghost use Rattle.std.specs.Prelude.{◌≡◌, ◌↔◌, ℕ, List, Some, IsTrue, unwrap_or, if◌then◌else◌};
 ghost use Rattle.macho_fields.specs.Universal.{IsMultiple, IsSliceOutside, IsSliceInTable, IsSliceMisaligned};
@@ -39,7 +39,7 @@ impl<'t, 'a> Survey<'t, 'a> {
     ghost use Rattle.macho_fat.specs.TableWalk.{ContinuesWithMemory, IsUnordered};
     ghost use Rattle.macho_fat.specs.TableWalk.{entry_spans, slice_span, arch_span};
 
-    // Goes over the entries of a table once.
+    // Scans the entries of a table once.
     pub(crate) fn of(table: &'t Table<'a>) -> Survey<'t, 'a>
         ensures { result ≡ table.now }
     {
@@ -74,8 +74,8 @@ impl<'t, 'a> Survey<'t, 'a> {
         self.notes.misaligned.judge(Rule::FatAlign)
     }
 
-    // No slice has a byte in common with an earlier one. Memory is taken only where the slices
-    // neither ascend nor descend.
+    // No slice has a byte in common with an earlier one. Memory is taken only if the slices neither
+    // ascend nor descend.
     pub(crate) fn fat_overlap(&self, alloc: Global) -> Result<(), FatFault>
         requires { KeptBelow (BreaksFile self.now) (rank Rule.FatOverlap) }
         ensures { ContinuesWithMemory (BreaksFile self.now) Rule.FatOverlap
@@ -86,7 +86,7 @@ impl<'t, 'a> Survey<'t, 'a> {
         judge(Rule::FatOverlap, found)
     }
 
-    // No slice has the architecture of an earlier one. Memory is taken only where the numbers of the
+    // No slice has the architecture of an earlier one. Memory is taken only if the numbers of the
     // architectures neither ascend nor descend.
     pub(crate) fn fat_duplicate(&self, alloc: Global) -> Result<(), FatFault>
         requires { KeptBelow (BreaksFile self.now) (rank Rule.FatDuplicate) }
@@ -106,7 +106,7 @@ struct Notes {
     outside: FirstPlace,
     // The first slice that begins before the table ends.
     in_table: FirstPlace,
-    // The first slice whose offset is no multiple of its alignment.
+    // The first slice whose offset is not a multiple of its alignment.
     misaligned: FirstPlace,
     // The order of the slices.
     spans: SpanOrder,
@@ -182,7 +182,7 @@ fn is_in_table(table: &Table, entry: Entry) -> bool
     entry.span.start < table.end()
 }
 
-// Whether the offset of an entry is no multiple of its alignment.
+// Whether the offset of an entry is not a multiple of its alignment.
 fn is_misaligned(entry: Entry) -> bool
     ensures { (file : List ℕ) (k : ℕ) → IsEntry file k entry
         → IsTrue result ↔ IsSliceMisaligned file k }

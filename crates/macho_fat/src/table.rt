@@ -90,7 +90,7 @@ impl Entry {
     ghost use Rattle.std.specs.Prelude.{◌≡◌, ◌+◌, ◌*◌, ◌^◌};
 
     // A span of one place, whose start is the number of the architecture: the spans of two entries
-    // share a place exactly where their architectures are the same.
+    // share a place exactly if their architectures are the same.
     pub(crate) fn arch_span(self) -> Span
         ensures start { result.start ≡ self.arch.0 * 2 ^ 24 + self.arch.1 }
         ensures len { result.len ≡ 1 }

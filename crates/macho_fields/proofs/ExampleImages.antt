@@ -21,7 +21,7 @@ use Rattle.macho_fields.proofs.ExampleHeaders.{header, four}
 abbrev BadId : List ℕ → List ℕ → FileTypeView → Type 0
 BadId image commands listed = ((listed.names_itself ≡ true) × ¬ HasDylibId image commands) ⊎ ((listed.names_itself ≡ false) × HasDylibId image commands)
 
--- an executable breaks the rule only where it names itself
+-- an executable breaks the rule only if it names itself
 executable_names : (image commands : List ℕ) → file_type image ≡ 2 → IsSomeAnd (file_type_of (file_type image)) (BadId image commands) → HasDylibId image commands
 executable_names image commands kind bad =
     let wrong : IsSomeAnd (file_type_of 2) (BadId image commands) = subst (λ n. IsSomeAnd (file_type_of n) (BadId image commands)) kind bad in

@@ -74,7 +74,7 @@ module _ (image commands : List ℕ) (opened : OpenedFacts image) (are : AreComm
       let count : record_count image segment 64 ≡ nsects image segment = records_counted image segment 64 (omega arith) in
       omega (arith, count)
 
-  -- the same, of a structure that has P
+  -- a command whose structure has P is as long as the structure and its records
   pub with_structure : (command : ℕ) (P : Structure → Type 0) → Contains commands command → HasStructure image command P
       → (structure : Structure) × (structure_of (command_cmd image command) ≡ Some structure) × P structure × (least_size image command structure ≤ command_size image command)
   with_structure command P has holds =

@@ -1,4 +1,4 @@
--- What a listed load command has to be. (mach-o/loader.h)
+-- What a listed load command must be. (mach-o/loader.h)
 use Rattle.std.specs.Prelude.{◌≡◌, ℕ, ◌+◌, ◌*◌, ◌<◌, ◌⊎◌, List, Any, true, false, IsSomeAnd, nat_le}
 use Rattle.std.specs.Prelude.{if◌then◌else◌}
 use Rattle.std.specs.Option.{option_map_or}

@@ -1,6 +1,6 @@
--- The constants of the public headers, as one number each. This list is to be compared with the
--- headers by eye: the other definitions use the constants by name. The sizes are those of the
--- structures that the headers declare, in bytes.
+-- The constants of the public headers, as one number each. Compare this list with the headers by
+-- eye: the other definitions use the constants by name. The sizes are those of the structures that
+-- the headers declare, in bytes.
 use Rattle.std.specs.Prelude.{◌≡◌}
 use Rattle.macho_fields.specs.declared.header.fat.TheConstants as fat
 use Rattle.macho_fields.specs.declared.header.loader.TheConstants as loader

@@ -26,7 +26,8 @@ file_type image = word image 12
 abbrev pub command_count : List ℕ → ℕ
 command_count image = word image 16
 
--- mach_header_64.sizeofcmds: the first place after the bytes that the header gives to the commands
+-- mach_header_64.sizeofcmds: the first place past the bytes that the header reserves for the
+-- commands
 abbrev pub commands_end : List ℕ → ℕ
 commands_end image = loader.MACH_HEADER_64_SIZE + word image 20
 
@@ -46,7 +47,7 @@ pub record IsGood (image : List ℕ) (place : ℕ) : Type 0 where
   pub inside : place + command_size image place ≤ commands_end image
 
 -- Good commands are at these places: the first at start, each other one where the one before it
--- ends. The last one ends at next, which is start where there is none.
+-- ends. The last one ends at next, which is start if there is none.
 abbrev pub Follow : List ℕ → ℕ → List ℕ → ℕ → Type 0
 Follow image start [] next = start ≡ next
 Follow image start (place ∷ places) next =

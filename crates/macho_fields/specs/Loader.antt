@@ -12,7 +12,7 @@ use Rattle.macho_fields.specs.declared.header.loader.TheConstants as loader
 use Rattle.macho_fields.specs.declared.header.nlist.TheConstants as nlist
 use Rattle.macho_fields.specs.declared.header.reloc.TheConstants as reloc
 
--- A name, by its start and by the end of what has to contain it: the name of a command, and the
+-- A name, by its start and by the end of what must contain it: the name of a command, and the
 -- command; or the name of a symbol with an n_strx, and the string table.
 abbrev pub IsName : List ℕ → List ℕ → ℕ → ℕ → Type 0
 IsName image commands start end =

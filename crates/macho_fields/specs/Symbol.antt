@@ -38,7 +38,7 @@ stroff image symtab = table_place image symtab string_table
 abbrev pub strsize : List ℕ → ℕ → ℕ
 strsize image symtab = item_count image symtab string_table
 
--- how many symbols an image has: nsyms of its LC_SYMTAB, 0 where there is none
+-- how many symbols an image has: nsyms of its LC_SYMTAB, 0 if there is none
 abbrev pub symbol_count : List ℕ → List ℕ → ℕ
 symbol_count image commands =
     option_map_or (nsyms image)
@@ -153,7 +153,7 @@ HasEndlessName image symtab symbol =
     × ¬ HasZero image (stroff image symtab + n_strx image symbol)
     (stroff image symtab + strsize image symtab)
 
--- nlist_64.n_type: the symbol is no debugging entry (N_STAB), and n_sect is to be the number of a
+-- nlist_64.n_type: the symbol is not a debugging entry (N_STAB), and n_sect must be the number of a
 -- section (N_TYPE, N_SECT)
 abbrev pub IsSectionType : ℕ → Type 0
 IsSectionType bits =

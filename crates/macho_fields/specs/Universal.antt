@@ -32,12 +32,12 @@ entry_size file = if has_wide_entries file then fat.FAT_ARCH_64_SIZE else fat.FA
 abbrev pub entry_place : List ℕ → ℕ → ℕ
 entry_place file k = fat.FAT_HEADER_SIZE + k * entry_size file
 
--- the first place after the table
+-- the first place past the table
 abbrev pub table_end : List ℕ → ℕ
 table_end file = entry_place file (entry_count file)
 
--- fat_arch.align at 16, fat_arch_64.align at 24: the exponent of the power of two that has to
--- divide the offset
+-- fat_arch.align at 16, fat_arch_64.align at 24: the exponent of the power of two that must divide
+-- the offset
 abbrev pub entry_align : List ℕ → ℕ → ℕ
 entry_align file k =
     number Big 4 file (entry_place file k + (if has_wide_entries file then 24 else 16))

@@ -59,21 +59,21 @@ impl<'a> Bytes<'a> {
         self.bytes.get(place as usize).copied()
     }
 
-    /// The number in the 2 bytes from `place` on, or `None` where they are not all inside.
+    /// The number in the 2 bytes from `place` on, or `None` if they are not all inside.
     pub fn u16_at(self, order: Order, place: u64) -> Option<u16>
         ensures { result ≡ field order 2 (bytes_of self.entry) place }
     {
         Some(u16_from(order, self.bytes_at(place, 2)?))
     }
 
-    /// The number in the 4 bytes from `place` on, or `None` where they are not all inside.
+    /// The number in the 4 bytes from `place` on, or `None` if they are not all inside.
     pub fn u32_at(self, order: Order, place: u64) -> Option<u32>
         ensures { result ≡ field order 4 (bytes_of self.entry) place }
     {
         Some(u32_from(order, self.bytes_at(place, 4)?))
     }
 
-    /// The number in the 8 bytes from `place` on, or `None` where they are not all inside.
+    /// The number in the 8 bytes from `place` on, or `None` if they are not all inside.
     pub fn u64_at(self, order: Order, place: u64) -> Option<u64>
         ensures { result ≡ field order 8 (bytes_of self.entry) place }
     {
@@ -122,8 +122,8 @@ impl<'a> Bytes<'a> {
         &rest[..span.len as usize]
     }
 
-    /// The bytes at the places of `span`, which are all inside, as a file of their own: they are read
-    /// by their places from `span.start` on. They are not copied.
+    /// The bytes at the places of `span`, which are all inside, as separate `Bytes`, whose places
+    /// count from `span.start`. They are not copied.
     pub fn slice(self, span: Span) -> Bytes<'a>
         requires { end_of span ≤ length (bytes_of self) }
         ensures { bytes_of result ≡ part span.start span.len (bytes_of self.entry) }
@@ -131,7 +131,7 @@ impl<'a> Bytes<'a> {
         Bytes::new(self.read_part(span))
     }
 
-    /// The bytes of `span` before the first zero byte in it, which there is. They are not copied.
+    /// The bytes of `span` before its first zero byte, which must exist. They are not copied.
     pub fn read_string(self, span: Span) -> &'a [u8]
         requires { HasZero (bytes_of self) span.start (end_of span) }
         ensures { result.now ≡ string_from span.start (bytes_of self.entry) }
@@ -155,8 +155,8 @@ impl<'a> Bytes<'a> {
         table_end(place, count, item_size) <= u128::from(self.len())
     }
 
-    /// The bytes at the places of `span`, which are not copied, or `None` where `span` ends past
-    /// them. An empty span has no bytes, and is inside up to the very end.
+    /// The bytes at the places of `span`, which are not copied, or `None` if `span` ends past them.
+    /// An empty span has no bytes, and is inside up to the very end.
     pub fn part(self, span: Span) -> Option<&'a [u8]>
         ensures inside { IsSome result ↔ (end_of span ≤ length (bytes_of self.entry)) }
         ensures bytes { IfSome result (λ bytes.
@@ -204,7 +204,7 @@ impl<'a> Bytes<'a> {
         Some(span.start + index as u64)
     }
 
-    /// The bytes of `span` before the first zero byte in it, which are not copied, or `None` where
+    /// The bytes of `span` before the first zero byte in it, which are not copied, or `None` if
     /// none of its bytes is zero.
     pub fn string_in(self, span: Span) -> Option<&'a [u8]>
         ensures ended { IsSome result ↔ HasZero (bytes_of self.entry) span.start (end_of span) }
@@ -215,7 +215,7 @@ impl<'a> Bytes<'a> {
         self.bytes_at(span.start, end - span.start)
     }
 
-    // The bytes at those places of `span` that are inside, or `None` where it begins past the end.
+    // The bytes at those places of `span` that are inside, or `None` if it begins past the end.
     fn clipped(self, span: Span) -> Option<&'a [u8]>
         ensures inside { IsSome result ↔ (span.start ≤ length (bytes_of self.entry)) }
         ensures bytes { IfSome result (λ bytes.

@@ -49,7 +49,7 @@ const FILE_TYPES: &[FileType] = &[
     file_type!(MH_BUNDLE, Bundle, "bundle", false),
 ];
 
-/// The filetype with this number, or `None` where images of it are not judged.
+/// The filetype with this number, or `None` if images of it are not judged.
 pub fn file_type_of(number: u32) -> Option<FileType>
     ensures { option_map file_type_view result ≡ file_type_of number }
 {

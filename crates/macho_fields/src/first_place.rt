@@ -56,7 +56,7 @@ impl FirstPlace {
         }
     }
 
-    /// The answer of the rule: its break at the first place, if one is noted.
+    /// The result of the rule: its break at the first place, if one is noted.
     pub fn judge(self, rule: Rule) -> Result<(), Break>
         ensures { MatchOption self (IsOk result)
             (λ place. IsErrAnd result (λ b. (b.rule ≡ rule) × (b.place ≡ place))) }

@@ -1,4 +1,4 @@
-//! The numbers of the public headers, by their public names. Each is stated once more, as one
+//! The numbers of the public headers, by their public names. Each is stated a second time, as one
 //! number, in `law::constants_are_those_of_the_headers`; the offset of a field is stated where the
 //! definitions read the field.
 

@@ -15,7 +15,7 @@ ghost use Rattle.macho_fields.specs.declared.rule.Profile.TheVariants.{Layout};
 
 use crate::rule::{Break, Rule};
 
-/// Each constant of `header` that is no offset of a field is the number that its public header
+/// Each constant of `header` that is not an offset of a field is the number that its public header
 /// defines, as `specs/Header.antt` lists them.
 pub fn constants_are_those_of_the_headers()
     ensures fat { AreFatConstants }
@@ -26,7 +26,7 @@ pub fn constants_are_those_of_the_headers()
     ensures vm_prot { AreVmProtConstants }
 {}
 
-/// An image has one list of commands at most.
+/// An image has at most one list of commands.
 pub fn commands_are_one(image: &[u8], commands: &[u64], others: &[u64])
     requires commands { AreCommands image.now commands.now }
     requires others { AreCommands image.now others.now }
@@ -51,7 +51,7 @@ pub fn command_places_rise(image: &[u8], commands: &[u64])
     ensures { IsStrictlyIncreasing commands.now }
 {}
 
-/// A file has one first broken rule at most.
+/// A file has at most one first broken rule.
 pub fn first_is_one(file: &[u8], first: Break, other: Break)
     requires first { IsFirstBroken file.now first }
     requires other { IsFirstBroken file.now other }
@@ -76,7 +76,7 @@ pub fn first_place_is_inside(file: &[u8], first: Break)
     ensures { first.place ≤ length file.now }
 {}
 
-/// No rule is broken exactly where there is no first broken rule.
+/// No rule is broken exactly if there is no first broken rule.
 pub fn unbroken_is_without_first(file: &[u8])
     ensures { IsUnbroken file.now ↔ ¬ ((first : Break) × IsFirstBroken file.now first) }
 {}

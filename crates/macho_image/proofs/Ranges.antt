@@ -63,7 +63,7 @@ pub range_held : (image : List ℕ) (each : ℕ) (items ranged : List ℕ) (firs
 range_held image each items ranged first count is held =
     let Held = λ (place : ℕ). place + each ≤ length image in subst (HoldItems image each) (sym is) (All-take Held count (drop first items) (All-drop Held first items held))
 
--- where there are none, all do
+-- if there are none, all do
 pub none_held : (image : List ℕ) (each : ℕ) (items : List ℕ) → items ≡ [] → HoldItems image each items
 none_held image each items none = subst (HoldItems image each) (sym none) (All-nil (λ place. place + each ≤ length image))
 

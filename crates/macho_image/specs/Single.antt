@@ -1,5 +1,4 @@
--- Commands of which an image has at most one. (mach-o/loader.h: uuid_command,
--- entry_point_command)
+-- Commands that an image has at most once. (mach-o/loader.h: uuid_command, entry_point_command)
 use Rattle.std.specs.Prelude.{ℕ, ◌+◌, List}
 use Rattle.macho_fields.specs.Field.{part}
 use Rattle.macho_fields.specs.Image.{long}

@@ -33,13 +33,14 @@ pub record AreFirst (image commands : List ℕ) (unique : UniquePlaces) : Type 0
 abbrev pub IsWholeAndMisnamed : List ℕ → ℕ → Type 0
 IsWholeAndMisnamed image command = (¬ IsShort image command) × HasBadName image command
 
--- so many good commands stand before the place, one after another from the end of the header on
+-- there are that many good commands before the place, one after another from the end of the header
+-- on
 pub record IsAt (image : List ℕ) (walked place : ℕ) : Type 0 where
   pub places : List ℕ
   pub count : length places ≡ walked
   pub chain : IsChain image places place
 
--- the first commands of an image, so many of them
+-- the first commands of an image, up to a number
 abbrev pub first_commands : List ℕ → ℕ → List ℕ
 first_commands image walked = places_from image loader.MACH_HEADER_64_SIZE walked
 
@@ -92,7 +93,7 @@ pub record CanPass (survey : Survey) (walked place : ℕ) : Type 0 where
   pub good : IsGood (bytes_of survey.candidate.bytes) place
   pub inside : commands_end (bytes_of survey.candidate.bytes) ≤ length (bytes_of survey.candidate.bytes)
 
--- of the first commands, so many of them, the first that breaks each rule is noted
+-- of that many first commands, the first that breaks each rule is noted
 pub record HasPassed (survey : Survey) (walked : ℕ) : Type 0 where
   pub landmarks : AreLandmarks (bytes_of survey.candidate.bytes) walked survey.landmarks
   pub short : IsFirstOf (λ command. command) (IsShort (bytes_of survey.candidate.bytes))

@@ -11,7 +11,7 @@ impl<'a> Image<'a> {
     ghost use Rattle.macho_image.specs.Command.{command_name, first_with_cmd};
 
     /// The path of the dynamic linker: the name of the first `LC_LOAD_DYLINKER`, borrowed from the
-    /// image, without the zero byte that ends it. `None` where the image has no such command. It may
+    /// image, without the zero byte that ends it. `None` if the image has no such command. It may
     /// have several: no rule forbids that.
     pub fn dylinker(&self) -> Option<&'a [u8]>
         ensures { option_map (λ path. path.now) result ≡ option_map (command_name self.now)

@@ -70,7 +70,7 @@ impl<'a> Image<'a> {
     ghost use Rattle.macho_image.specs.Command.{first_with_cmd};
     ghost use Rattle.macho_image.specs.Symbol.{dysymtab_at};
 
-    /// The `LC_DYSYMTAB` command, or `None` where the image has none.
+    /// The `LC_DYSYMTAB` command, or `None` if the image has none.
     pub fn dysymtab(&self) -> Option<Dysymtab>
         ensures { result ≡ option_map (dysymtab_at self.now)
             (first_with_cmd self.now LC_DYSYMTAB (commands_of self.now)) }

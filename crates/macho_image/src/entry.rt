@@ -10,7 +10,7 @@ impl<'a> Image<'a> {
     ghost use Rattle.macho_image.specs.Entry.{entry_of};
 
     /// The base address of the image: the `vmaddr` of the first segment with a `fileoff` of 0 whose
-    /// `filesize` and `vmsize` are not 0. `None` where there is no such segment.
+    /// `filesize` and `vmsize` are not 0. `None` if there is no such segment.
     pub fn base(&self) -> Option<u64>
         ensures { result ≡ base_of self.now (commands_of self.now) }
     {
@@ -22,8 +22,8 @@ impl<'a> Image<'a> {
         None
     }
 
-    /// The address of the entry point: the base address and the `entryoff` of `LC_MAIN`. `None`
-    /// where the image has no `LC_MAIN` or no base, and where the sum is 2^64 or more.
+    /// The address of the entry point: the base address and the `entryoff` of `LC_MAIN`. `None` if
+    /// the image has no `LC_MAIN` or no base, or if the sum is 2^64 or more.
     pub fn entry(&self) -> Option<u64>
         ensures { result ≡ entry_of self.now (commands_of self.now) }
     {

@@ -50,8 +50,8 @@ impl<'a> Image<'a> {
     ghost use Rattle.macho_image.specs.Table.{HaveTables};
 
     /// Opens `bytes` as a 64-bit image. `arch` is the `cputype` and the `cpusubtype` that a
-    /// universal file gives for it, or `None` where the image is a file of its own. The magic
-    /// number is not checked: any bytes are judged as a 64-bit image.
+    /// universal file gives for it, or `None` if the image is a separate file. The magic number is
+    /// not checked: any bytes are judged as a 64-bit image.
     ///
     /// The error is the first broken rule, of `header-truncated` to `name`, and the least offset at
     /// which it is broken.
@@ -120,7 +120,7 @@ impl<'a> Image<'a> {
         arch_of(self.bytes)
     }
 
-    /// The offset just past the bytes that the header gives to the load commands.
+    /// The offset just past the bytes that the header reserves for the load commands.
     /// (`mach_header_64.sizeofcmds`)
     pub fn commands_end(&self) -> u64
         ensures end { result ≡ commands_end self.now }
@@ -141,8 +141,8 @@ impl<'a> Image<'a> {
         candidate.commands()
     }
 
-    /// The first command with this `cmd`, or `None` where the image has none. It may have several:
-    /// the rules forbid that of some only.
+    /// The first command with this `cmd`, or `None` if the image has none. It may have several: the
+    /// rules forbid that of some only.
     pub fn first_command(&self, cmd: u32) -> Option<Command<'a>>
         ensures { option_map command_of result ≡ option_map (command_at self.now)
             (first_with_cmd self.now cmd (commands_of self.now)) }
@@ -150,8 +150,8 @@ impl<'a> Image<'a> {
         self.commands().next_with_cmd(cmd)
     }
 
-    /// The commands from the first that names a table to the last. None before them and none after
-    /// them names one.
+    /// The commands from the first that names a table to the last. No command before or after these
+    /// names a table.
     pub fn commands_with_tables(&self) -> Commands<'a>
         ensures tables { HaveTables self.now result }
         ensures opened { IsOpened self.now }
@@ -164,7 +164,7 @@ impl<'a> Image<'a> {
         }
     }
 
-    // The commands from the first segment to the last. No search for segments goes past them.
+    // The commands from the first segment to the last. Searches for segments are limited to these.
     pub(crate) fn commands_with_segments(&self) -> Commands<'a>
         ensures segments { HaveSegments self.now result }
         ensures opened { IsOpened self.now }

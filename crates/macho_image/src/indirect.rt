@@ -75,8 +75,8 @@ impl<'a> Indirects<'a> {
     ghost use Rattle.macho_fields.specs.Bytes.{bytes_of};
     ghost use Rattle.macho_image.specs.Symbol.{indirect_at, items_inside};
 
-    /// The `count` entries of the table that begins at `place`, in its order. None where the table does
-    /// not lie inside the image.
+    /// The `count` entries of the table that begins at `place`, in its order. Empty if the table
+    /// does not lie inside the image.
     pub fn in_table(image: Bytes<'a>, place: u64, count: u64) -> Indirects<'a>
         ensures { result ≡ map (indirect_at (bytes_of image.entry))
             (items_inside (bytes_of image.entry) place INDIRECT_ENTRY_SIZE count) }
@@ -87,8 +87,7 @@ impl<'a> Indirects<'a> {
         }
     }
 
-    /// Those whose indices are from `first` on, `count` of them, those that there are. The entries
-    /// before them are not gone over.
+    /// Up to `count` entries, starting at index `first`. It does not scan the entries before them.
     pub fn range(&self, first: u64, count: u64) -> Indirects<'a>
         ensures { result ≡ take count (drop first self.now) }
     {
@@ -104,8 +103,8 @@ impl<'a> Image<'a> {
     ghost use Rattle.macho_fields.specs.Image.{commands_of};
     ghost use Rattle.macho_image.specs.Symbol.{indirects_of, indirect_at};
 
-    /// The `nindirectsyms` entries of the indirect symbol table, in its order. None where the table
-    /// does not lie inside the image, and where the image has no `LC_DYSYMTAB`.
+    /// The `nindirectsyms` entries of the indirect symbol table, in its order. Empty if the table
+    /// does not lie inside the image, or the image has no `LC_DYSYMTAB`.
     pub fn indirects(&self) -> Indirects<'a>
         ensures { result ≡ map (indirect_at self.now)
             (indirects_of self.now (commands_of self.now)) }
@@ -121,8 +120,8 @@ impl<'a> Image<'a> {
         Indirects { image, items }
     }
 
-    /// The indirect entry with this index in the table, or `None` where there is none. The entries
-    /// before it are not gone over.
+    /// The indirect entry with this index in the table, or `None` if there is none. It does not
+    /// scan the entries before it.
     pub fn indirect(&self, index: u64) -> Option<Indirect>
         ensures { result ≡ slice_get (map (indirect_at self.now)
             (indirects_of self.now (commands_of self.now))) index }

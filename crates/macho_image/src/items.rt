@@ -84,7 +84,7 @@ impl Items {
         }
     }
 
-    // Those whose indices are from `first` on, `count` of them, those that there are.
+    // Up to `count` items, starting at index `first`.
     pub(crate) fn range(&self, first: u64, count: u64) -> Items
         ensures { result ≡ take count (drop first self.now) }
     {

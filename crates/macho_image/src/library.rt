@@ -84,7 +84,7 @@ impl<'a> Image<'a> {
         }
     }
 
-    /// What the image is as a library, by its `LC_ID_DYLIB`, or `None` where it has none.
+    /// What the image is as a library, by its `LC_ID_DYLIB`, or `None` if it has none.
     pub fn id(&self) -> Option<Dylib<'a>>
         ensures { option_map dylib_of result ≡ option_map (dylib_at self.now)
             (first_with_cmd self.now LC_ID_DYLIB (commands_of self.now)) }

@@ -29,7 +29,7 @@ impl<'a> Image<'a> {
     ghost use Rattle.macho_image.specs.Command.{first_with_cmd};
     ghost use Rattle.macho_image.specs.Single.{main_command_at};
 
-    /// The `LC_MAIN` command, or `None` where the image has none.
+    /// The `LC_MAIN` command, or `None` if the image has none.
     pub fn main_command(&self) -> Option<MainCommand>
         ensures { result ≡ option_map (main_command_at self.now)
             (first_with_cmd self.now LC_MAIN (commands_of self.now)) }

@@ -40,7 +40,7 @@ fn least_size(command: Command, structure: Structure) -> u64
     structure.size() + records.size * u64::from(record_count(command, records.count))
 }
 
-// The number of records, read at `offset` in the command, or 0 where that is past its end.
+// The number of records, read at `offset` in the command, or 0 if that is past its end.
 fn record_count(command: Command, offset: u64) -> u32
     requires { IsAlone (command_of command) }
     ensures { result ≡ record_count command.entry.bytes.now 0 offset }

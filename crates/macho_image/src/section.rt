@@ -107,7 +107,7 @@ impl<'a> Section<'a> {
         }
     }
 
-    /// Its alignment: its address is to be a multiple of 2 to this power. No rule checks that it is.
+    /// Its alignment: its address must be a multiple of 2 to this power. No rule checks that it is.
     pub fn align(&self) -> u64
         ensures number { result ≡ section_align self.now.image self.now.place }
         ensures near { result < 2 ^ 32 }

@@ -16,11 +16,11 @@ use std::marker::Model;
 pub struct Symbol {
     /// Where it begins in the image.
     pub place: u64,
-    /// `n_strx`: the offset of its name in the strings, in bytes, or 0 where it has none.
+    /// `n_strx`: the offset of its name in the strings, in bytes, or 0 if it has none.
     pub strx: u32,
     /// `n_type`: the bits of `N_STAB`, `N_PEXT`, `N_TYPE` and `N_EXT`.
     pub kind: u8,
-    /// `n_sect`: the number of its section, from 1 over all segments, or 0 where it has none.
+    /// `n_sect`: the number of its section, from 1 over all segments, or 0 if it has none.
     pub sect: u8,
     /// `n_desc`: flags, or data of a debugging entry.
     pub desc: u16,
@@ -32,7 +32,7 @@ impl Symbol {
     ghost use Rattle.std.specs.Prelude.{◌↔◌, IsTrue};
     ghost use Rattle.macho_fields.specs.Symbol.{IsSectionType};
 
-    /// Whether `sect` is to be the number of a section: the symbol is defined in one, and is no
+    /// Whether `sect` must be the number of a section: the symbol is defined in one, and is not a
     /// debugging entry.
     pub fn names_section(&self) -> bool
         ensures { IsTrue result ↔ IsSectionType self.now.kind }
@@ -83,8 +83,8 @@ impl<'a> Symbols<'a> {
     ghost use Rattle.macho_fields.specs.Bytes.{bytes_of};
     ghost use Rattle.macho_image.specs.Symbol.{symbol_at, items_inside};
 
-    /// The `count` symbols of the table that begins at `place`, in its order. None where the table does
-    /// not lie inside the image.
+    /// The `count` symbols of the table that begins at `place`, in its order. Empty if the table
+    /// does not lie inside the image.
     pub fn in_table(image: Bytes<'a>, place: u64, count: u64) -> Symbols<'a>
         ensures { result ≡ map (symbol_at (bytes_of image.entry))
             (items_inside (bytes_of image.entry) place NLIST_64_SIZE count) }
@@ -95,8 +95,7 @@ impl<'a> Symbols<'a> {
         }
     }
 
-    /// Those whose indices are from `first` on, `count` of them, those that there are. The symbols
-    /// before them are not gone over.
+    /// Up to `count` symbols, starting at index `first`. It does not scan the symbols before them.
     pub fn range(&self, first: u64, count: u64) -> Symbols<'a>
         ensures { result ≡ take count (drop first self.now) }
     {
@@ -112,8 +111,8 @@ impl<'a> Image<'a> {
     ghost use Rattle.macho_fields.specs.Image.{commands_of};
     ghost use Rattle.macho_image.specs.Symbol.{symbols_of, symbol_at};
 
-    /// The `nsyms` symbols of `LC_SYMTAB`, in the order of the table. None where the table does not
-    /// lie inside the image, and where the image has no `LC_SYMTAB`.
+    /// The `nsyms` symbols of `LC_SYMTAB`, in the order of the table. Empty if the table does not
+    /// lie inside the image, or the image has no `LC_SYMTAB`.
     pub fn symbols(&self) -> Symbols<'a>
         ensures { result ≡ map (symbol_at self.now) (symbols_of self.now (commands_of self.now)) }
     {
@@ -125,8 +124,8 @@ impl<'a> Image<'a> {
         Symbols { image, items }
     }
 
-    /// The symbols whose indices in the table are from `first` on, `count` of them, those that there
-    /// are. The symbols before them are not gone over.
+    /// Up to `count` symbols, starting at index `first` of the table. It does not scan the symbols
+    /// before them.
     pub fn symbol_range(&self, first: u64, count: u64) -> Symbols<'a>
         ensures { result ≡ map (symbol_at self.now)
             (take count (drop first (symbols_of self.now (commands_of self.now)))) }
@@ -134,8 +133,8 @@ impl<'a> Image<'a> {
         self.symbols().range(first, count)
     }
 
-    /// The symbol with this index in the table, or `None` where there is none. The symbols before it
-    /// are not gone over.
+    /// The symbol with this index in the table, or `None` if there is none. It does not scan the
+    /// symbols before it.
     pub fn symbol(&self, index: u64) -> Option<Symbol>
         ensures { result ≡ slice_get (map (symbol_at self.now)
             (symbols_of self.now (commands_of self.now))) index }

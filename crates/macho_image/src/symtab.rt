@@ -35,7 +35,7 @@ impl<'a> Image<'a> {
     ghost use Rattle.macho_image.specs.Command.{first_with_cmd};
     ghost use Rattle.macho_image.specs.Symbol.{symtab_at, HasName, IsNameAt};
 
-    /// The `LC_SYMTAB` command, or `None` where the image has none.
+    /// The `LC_SYMTAB` command, or `None` if the image has none.
     pub fn symtab(&self) -> Option<Symtab>
         ensures { result ≡ option_map (symtab_at self.now)
             (first_with_cmd self.now LC_SYMTAB (commands_of self.now)) }
@@ -45,8 +45,8 @@ impl<'a> Image<'a> {
     }
 
     /// The name at `strx`, an offset in bytes in the strings, without the zero byte that ends it.
-    /// It is borrowed from the image. `None` where `strx` is 0, where the image has no `LC_SYMTAB`,
-    /// where the strings do not lie inside the image, and where none of their bytes ends the name.
+    /// It is borrowed from the image. `None` if `strx` is 0, the image has no `LC_SYMTAB`, the
+    /// strings do not lie inside the image, or none of their bytes ends the name.
     pub fn symbol_name(&self, strx: u32) -> Option<&'a [u8]>
         ensures named { IsSome result ↔ HasName self.now (commands_of self.now) strx }
         ensures name { IfSome result (λ name. IsNameAt self.now (commands_of self.now) strx name.now) }

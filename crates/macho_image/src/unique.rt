@@ -4,7 +4,7 @@ use crate::command::Command;
 use macho_fields::{UNIQUE_COUNT, unique_index};
 
 // For each of these commands, at its `macho_fields::unique_index`, the place of the first one, or
-// `None` where there is none.
+// `None` if there is none.
 #[derive(Clone, Copy)]
 pub(crate) struct UniquePlaces {
     places: [Option<u64>; UNIQUE_COUNT],

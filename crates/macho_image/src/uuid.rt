@@ -17,7 +17,7 @@ impl<'a> Image<'a> {
     ghost use Rattle.macho_image.specs.Command.{first_with_cmd};
     ghost use Rattle.macho_image.specs.Single.{uuid_at};
 
-    /// The 16 bytes of the UUID of the build, or `None` where the image has no `LC_UUID`.
+    /// The 16 bytes of the UUID of the build, or `None` if the image has no `LC_UUID`.
     /// (`uuid_command`)
     pub fn uuid(&self) -> Option<[u8; 16]>
         ensures { result ≡ option_map (uuid_at self.now)

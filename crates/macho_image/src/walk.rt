@@ -149,7 +149,7 @@ pub(crate) fn end_of_commands(image: Bytes) -> u64
     MACH_HEADER_64_SIZE + u64::from(word_at(image, SIZEOFCMDS))
 }
 
-// The offset just past the command at `place`, or `None` where no command can be there.
+// The offset just past the command at `place`, or `None` if no command can be there.
 pub(crate) fn next_command(image: Bytes, place: u64, end: u64) -> Option<u64>
     requires end { end ≡ commands_end (bytes_of image) }
     requires inside { end ≤ length (bytes_of image) }

@@ -21,7 +21,7 @@ numeral_is base most ds few h fits = grind (arith, few, h.0, fits, all_are_digit
 numeral_from : (base most : ℕ) (ds : List ℕ) → is_numeral base most ds ≡ true → IsNumeral base ds × (digits_value base ds < 2 ^ 64)
 numeral_from base most ds h = ((grind (arith, h), each_is_digit base ds (grind (arith, h))), grind (arith, h))
 
--- the same of `from_str_radix`, where no plus stands first
+-- what `from_str_radix` reads of a text without a plus
 numeral_read : {E : Type 0} (base most : ℕ) (ds : List ℕ) (r : Result ℕ E) → length ds ≤ most
     → OkIff r (IsNumeral base ds × (digits_value base ds < 2 ^ 64)) (digits_value base ds)
     → result_ok r ≡ number_in base most ds

@@ -14,7 +14,7 @@ use Rattle.macho_program.specs.declared.words.Request.TheVariants.{Check, Where}
 use Rattle.macho_program.specs.declared.words.WordFault.{WordFault}
 use Rattle.macho_program.specs.declared.words.WordFault.TheVariants.{Usage, BadNumber, Memory}
 
--- a positional argument that has to be there
+-- a positional argument that must be there
 abbrev pub required : Text → Rule
 required id = record (new_rule id) { required = true }
 
@@ -27,7 +27,7 @@ abbrev pub where_command : App
 where_command = with_rule (with_rule (with_rule (new_app (codes "where")) (required (codes "FILE")))
     (required (codes "SLICE"))) (required (codes "ADDRESS"))
 
--- no program's name comes first, a subcommand has to be there, and there is no help
+-- no program's name comes first, a subcommand must be there, and there is no help
 abbrev pub bare_command : Text → App
 bare_command name = on_top (λ s. record s {
   no_binary_name = true;

@@ -25,7 +25,7 @@ fn digits_in(base: u32, most: usize, digits: &str) -> Option<u64>
     requires greatest { base ≤ 36 }
     ensures { result ≡ number_in base most digits.now }
 {
-    // A plus, which Rust takes before a number, is no digit.
+    // A plus, which Rust takes before a number, is not a digit.
     if digits.len() > most || digits.starts_with('+') {
         return None;
     }

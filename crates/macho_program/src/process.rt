@@ -16,8 +16,9 @@ use std::{env, io};
 /// How many bytes of the report are gathered before they are written.
 const OUTPUT_BUFFER: usize = 65_536;
 
-/// Hands the words, the files and the streams of a process to [`run_tool`], and returns the status with
-/// which the process ends. It decides want of memory alone, for the buffer and for the words.
+/// Passes the words, the files and the streams of a process to [`run_tool`], and returns the status
+/// with which the process ends. It decides only whether there is memory for the buffer and for the
+/// words.
 pub fn run_process<J: Judge, S: Env + Files + AllocGlobal, R: Read, W: Write + Drop, E: Write>(
     system: &S,
     tool: &Tool<J>,
@@ -43,7 +44,7 @@ pub fn run_process<J: Judge, S: Env + Files + AllocGlobal, R: Read, W: Write + D
     exit_code(&ended)
 }
 
-// The same over streams of the report's, where there is memory for the buffer.
+// Runs the program over streams of the report, with a buffer for which there was memory.
 fn run_on_words<J: Judge, S: Env + Files + AllocGlobal, R: Read, W: Flush, E: Output>(
     system: &S,
     tool: &Tool<J>,

@@ -163,7 +163,7 @@ decimal_pair v h =
     same_number _ _ (agree_below_at (λ k. get_or decimal_pairs (2 * k + 1) 0 == digit_glyph false (k % 10)) (λ _. true) 100 v refl h) in
     pair_is _ _ _ _ high low
 
--- two digits are left of a number that is no digit
+-- two digits are left of a number that is not a digit
 pub two_left : (base start n : ℕ) → 10 ≤ base → base ≤ n → n < base ^ start → (2 ≤ start) × (0 < n / base) × (n / (base * base) < base ^ (start - 2))
 two_left base start n low more fits =
     let base_is : 0 < base = omega arith in

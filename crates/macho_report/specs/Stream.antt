@@ -1,5 +1,6 @@
--- What reads and writes do to the bytes that a stream reports: an `Option`, which is `None` where it reports none.
--- Of such a stream nothing is said here. One that reports its bytes still reports them afterwards.
+-- What reads and writes do to the bytes that a stream reports: an `Option`, which is `None` if it
+-- reports none. Of such a stream nothing is said here. One that reports its bytes still reports
+-- them afterwards.
 use Rattle.std.specs.Prelude.{◌≡◌, ℕ, ◌+◌, ◌<◌, ◌≤◌, IfSome, Bool, true, false, List, [], ◌∷◌, ◌++◌, take, length, Option, Result, MatchResult}
 use Rattle.std.specs.Io.KnownBytes.{Consumes, IsAtEnd, Appends}
 

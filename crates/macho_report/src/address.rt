@@ -44,7 +44,7 @@ pub fn run_where<R: Input, W: Output>(
     ensures input { ReadsRight R.Input limit reader.old reader.new result }
     ensures no_image { result ≡ Ok WhereOutcome.NoImage → writer.new ≡ writer.old }
 
-    // Nothing was written but where a write failed.
+    // Nothing was written, unless a write failed.
     ensures write { IsErrOf result RunFault.Write → IsTrue (W.has_failed writer.new) }
     ensures prefix { IsErrOf result RunFault.Write
         → WroteWherePrefix (R.remaining reader.old) limit slice addr

@@ -12,7 +12,7 @@ use macho_fields::header::machine::{
 
 impl Line {
     // Puts the name of the architecture of a slice, a `cputype` and a `cpusubtype` without its
-    // capability bits. Where it has no name, both numbers are put, as `0x7/0x3`. In an accepted file
+    // capability bits. If it has no name, both numbers are put, as `0x7/0x3`. In an accepted file
     // each slice has an architecture.
     pub(crate) fn arch(&mut self, arch: Option<(u32, u32)>)
         requires room { length self.old + 45 ≤ PLACES }

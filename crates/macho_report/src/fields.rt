@@ -81,7 +81,7 @@ fn protection_letters(bits: u64) -> [u8; 3]
     ]
 }
 
-// The letter of a bit where it is set, and otherwise a hyphen.
+// The letter of a bit if it is set, otherwise a hyphen.
 fn letter(bits: u64, bit: u32, set: u8) -> u8
     ensures { result ∷ [] ≡ letter bits bit (set ∷ []) }
 {

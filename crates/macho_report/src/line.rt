@@ -52,7 +52,7 @@ impl Line {
         self.front(text, text.len());
     }
 
-    // Puts the first `count` of these bytes. All of them are copied: where their number is a constant,
+    // Puts the first `count` of these bytes. All of them are copied; if their number is a constant,
     // this takes a few instructions.
     #[inline(always)]
     pub(crate) fn front(&mut self, bytes: &[u8], count: usize)
@@ -65,8 +65,8 @@ impl Line {
         self.len += count;
     }
 
-    // Puts a word of any length. Where there is no room for it, the bytes that are held are written
-    // before it, and so is the word where it is very long.
+    // Puts a word of any length. If there is no room for it, the bytes that are held are written
+    // first, and a very long word is written too.
     #[inline(always)]
     pub(crate) fn word<W: Output>(&mut self, word: &[u8], writer: &mut W) -> Result<(), WriteFault>
         ensures room { OnOk result (length self.new + ROOM ≤ PLACES) }
@@ -81,7 +81,8 @@ impl Line {
         self.word_anew(word, writer)
     }
 
-    // Writes the bytes that are held, and holds a word in their place, or writes it where it is too long.
+    // Writes the bytes that are held, and holds a word in their place, or writes the word if it is
+    // too long.
     #[inline(never)]
     fn word_anew<W: Output>(&mut self, word: &[u8], writer: &mut W) -> Result<(), WriteFault>
         ensures room { OnOk result (length self.new + ROOM ≤ PLACES) }
@@ -97,7 +98,7 @@ impl Line {
         write_all(word, writer)
     }
 
-    // Whether there is room for so many bytes, and for `ROOM` bytes after them.
+    // Whether there is room for `count` bytes, and for `ROOM` bytes after them.
     #[inline(always)]
     pub(crate) fn has_room(&self, count: usize) -> bool
         ensures { IsTrue result ↔ (length self.now + count + ROOM ≤ PLACES) }
@@ -105,7 +106,7 @@ impl Line {
         self.len <= PLACES - ROOM && count <= PLACES - ROOM - self.len
     }
 
-    // Writes the bytes that are held. Where this succeeds, none is held then.
+    // Writes the bytes that are held. If this succeeds, none is held afterwards.
     fn hand_on<W: Output>(&mut self, writer: &mut W) -> Result<(), WriteFault>
         ensures none { OnOk result (self.new ≡ []) }
         ensures bytes { Writes (W.contents writer.old) (W.contents writer.new) result self.old }

@@ -27,7 +27,7 @@ pub(crate) fn answer_of<T: Drop>(given: io::Result<T>) -> Result<T, Failed>
 pub trait Input {
     /// Whether a read has failed.
     ghost has_failed: { Self → Bool };
-    /// The bytes that reads will give from here on, or `None` where the stream does not report them.
+    /// The bytes that reads will give from here on, or `None` if the stream does not report them.
     ghost remaining: { Self → Option (List ℕ) };
     /// How many reads there were, where the stream counts them.
     ghost reads: { Self → ℕ } = { λ _. 0 };
@@ -49,7 +49,7 @@ pub trait Input {
 pub trait Output {
     /// Whether a write has failed.
     ghost has_failed: { Self → Bool };
-    /// The bytes that were written, or `None` where the stream does not report them.
+    /// The bytes that were written, or `None` if the stream does not report them.
     ghost contents: { Self → Option (List ℕ) };
 
     /// Writes the first bytes of the piece, and returns how many: none only of an empty piece.
@@ -71,7 +71,7 @@ pub trait Flush: Output {
     /// Whether a flush succeeded after the last write.
     ghost is_flushed: { Self → Bool };
 
-    /// Hands on the bytes that are held back.
+    /// Passes on the bytes that are held back.
     fn flush(&mut self) -> Result<(), Failed>
         ensures failed { IsErr result ↔ IsTrue (Self.has_failed self.new) }
         ensures stays_failed { IsTrue (Self.has_failed self.old) → IsErr result }

@@ -1,4 +1,4 @@
--- Where the strings of an image end for the last time: that one place tells of each name whether it
+-- Where the strings of an image end for the last time: that one place shows of each name whether it
 -- ends in them.
 use Rattle.std.proofs.Common.{◌≡◌, ℕ, ◌+◌, ◌≤◌, ◌<◌, ◌↔◌, List, slice_get, Option, None, Some, IsSome, IfSome, ap, sym, ◌∙◌, arith, subst, inl, inr}
 use Rattle.std.specs.Option.{option_map}

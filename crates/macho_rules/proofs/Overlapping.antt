@@ -153,7 +153,7 @@ unordered_some image (not_ascending, _) = elim (cases_lt 0 (length (mapped_segme
     ascend_none [] none = λ i j less filled also. absurd (omega arith)
     ascend_none (span ∷ all) none = absurd (omega arith)
 
--- an answer that there is no memory, where the mapped segments are in no order
+-- an answer that there is no memory, if the mapped segments are unordered
 pub without_memory : {T : Type 0} (image : List ℕ) → KeptBefore image rule.SegmentOverlap → IsUnordered image → (answer : Result T Refusal) → IsErrAnd answer (λ given. given ≡ refusal.Memory)
     → RefusesUpTo image rule.SegmentOverlap answer
 without_memory image kept unordered (Ok x) is = absurd is

@@ -16,8 +16,8 @@ KeptBefore image r = KeptBelow (BreaksImage image None) (rank r)
 abbrev pub JudgesUpTo : {T : Type 0} → List ℕ → Rule → Result T Break → Type 0
 JudgesUpTo image r answer = Continues (BreaksImage image None) r answer
 
--- an answer reports that the rules up to r are unbroken, and otherwise what is broken first of all, or
--- that there was no memory, which it reports only where CanRunOut holds
+-- an answer reports that the rules up to r are unbroken, and otherwise what is broken first of all,
+-- or that there was no memory, which it reports only if CanRunOut holds
 abbrev pub ContinuesWithMemory : {T : Type 0} → (Rule → ℕ → Type 0) → Rule → Type 0 → Result T Refusal → Type 0
 ContinuesWithMemory breaks r CanRunOut answer =
     MatchResult answer (λ _. KeptBelow breaks (rank r + 1)) (IsRefusalOf breaks CanRunOut)

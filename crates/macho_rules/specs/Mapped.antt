@@ -13,7 +13,7 @@ memory_at image segment = record { start = vmaddr image segment; len = vmsize im
 abbrev pub mapped_memory : List ℕ → List Span
 mapped_memory image = map (memory_at image) (mapped_segments image)
 
--- the same, each with the place of its command
+-- the addresses of the mapped segments, each with the place of its command
 abbrev pub tagged_memory : List ℕ → List (Span × ℕ)
 tagged_memory image = map (λ segment. (memory_at image segment, segment)) (mapped_segments image)
 

@@ -37,7 +37,7 @@ mapped_among segments =
     map (λ s. (memory_at s.image s.place, s.place))
     (filter (λ s. nat_lt 0 (vmsize s.image s.place)) segments)
 
--- what breaks each rule of segments, of a segment: no other rule is one of them
+-- the segment breaks the rule, which is one of segments
 abbrev pub BreaksSegment : Rule → SegmentView → Type 0
 BreaksSegment rule.SegmentAddress s = PassesLastAddress s.image s.place
 BreaksSegment rule.SegmentSize s = IsLongerInFile s.image s.place
@@ -45,7 +45,7 @@ BreaksSegment rule.SegmentFile s = PassesImage s.image s.place
 BreaksSegment rule.SegmentOverlap s = OverlapsEarlier s.image (commands_of s.image) s.place
 BreaksSegment _ s = ⊥
 
--- the same of sections
+-- the section breaks the rule, which is one of sections
 abbrev pub BreaksSection : Rule → SectionView → Type 0
 BreaksSection rule.SectionAddress s = IsOutsideMemory s.image s.segment s.place
 BreaksSection rule.SectionFile s = IsMisplaced s.image s.segment s.place

@@ -22,15 +22,15 @@ abbrev pub HasMapped : List ℕ → Type 0
 HasMapped image =
     Any (λ segment. 0 < vmsize image segment) (segments_of image (commands_of image))
 
--- a refusal is the first of what is broken, or that there was no memory, which is returned only where
+-- a refusal is the first of what is broken, or that there was no memory, which is returned only if
 -- CanRunOut holds
 abbrev pub IsRefusalOf : (Rule → ℕ → Type 0) → Type 0 → Refusal → Type 0
 IsRefusalOf breaks CanRunOut (refusal.Broken b) = IsLeast breaks b
 IsRefusalOf breaks CanRunOut refusal.Memory = CanRunOut
 
--- A refusal of an image is its first broken rule, or that there was no memory. That is returned only
--- where the rules before segment-overlap are unbroken, and the addresses of the mapped segments, of
--- which there are some, neither ascend nor descend.
+-- A refusal of an image is its first broken rule, or that there was no memory. That is returned
+-- only if the rules before segment-overlap are unbroken, and the addresses of the mapped segments,
+-- of which there are some, neither ascend nor descend.
 abbrev pub IsImageRefusal : List ℕ → Option (ℕ × ℕ) → Refusal → Type 0
 IsImageRefusal image arch =
     IsRefusalOf (BreaksImage image arch)
@@ -49,9 +49,9 @@ IsSliceRefusal file slice refusal.Memory =
 abbrev pub IsSliceBreak : List ℕ → FileSlice → Break → Type 0
 IsSliceBreak file slice b = IsSliceRefusal file slice (refusal.Broken b)
 
--- A refusal of a file is its first broken rule, or that there was no memory. That is answered only
--- where the rules before fat-overlap are unbroken: the header and the table of the file are whole,
--- and the slice of each entry begins after the table, lies in the file and is aligned.
+-- A refusal of a file is its first broken rule, or that there was no memory. That is reported only
+-- if the rules before fat-overlap are unbroken: the header and the table of the file are whole, and
+-- the slice of each entry begins after the table, lies in the file and is aligned.
 abbrev pub IsRefusal : List ℕ → Refusal → Type 0
 IsRefusal file (refusal.Broken b) = IsFirstBroken file b
 IsRefusal file refusal.Memory = KeptBelow (BreaksFile file) (rank rule.FatOverlap)

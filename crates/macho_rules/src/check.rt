@@ -20,7 +20,7 @@ use std::alloc::Global;
 /// One walk over the segments and their sections, and one over the symbols, note where each of their
 /// rules is first broken. The lines below read what they noted.
 ///
-/// `Memory` is returned only where the rules up to `segment-file` are kept, and the addresses of the
+/// `Memory` is returned only if the rules up to `segment-file` are kept, and the addresses of the
 /// mapped segments neither ascend nor descend in the order of the commands. It takes memory for
 /// `segment-overlap` alone, and only there: 24 bytes for each mapped segment.
 pub fn check_image(alloc: Global, image: &Image) -> Result<(), Refusal>

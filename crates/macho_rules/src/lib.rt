@@ -1,5 +1,5 @@
 #![tactic(auto)]
-//! The verdict on a file: the rules of its images, one function a rule, and all rules in their
+//! The verdict on a file: the rules of its images, one function per rule, and all rules in their
 //! order; and what is at the addresses of an accepted file.
 
 mod check;

@@ -21,7 +21,7 @@ use std::alloc::{AllocError, Global};
 pub enum Source {
     /// The byte of the slice at this offset.
     File(u64),
-    /// A zero that is no byte of the file.
+    /// A zero that is not a byte of the file.
     Zero,
 }
 
@@ -59,9 +59,9 @@ impl Mapping {
     ghost use Rattle.macho_rules.specs.Source.{source_of};
     ghost use Rattle.macho_rules.specs.Verdict.{HasMapped};
 
-    /// The mapping of the image in the slice with this index, or `None` where the slice is not
-    /// read, or there is none with the index. It takes memory for the mapped segments of the image alone,
-    /// and none where there are none.
+    /// The mapping of the image in the slice with this index, or `None` if the slice is not read,
+    /// or there is none with the index. It takes memory for the mapped segments of the image alone,
+    /// and none if there are none.
     pub fn of(alloc: Global, verified: &Verified, index: u64) -> Result<Option<Mapping>, AllocError>
         ensures is_image { IfOk result (λ mapping.
             IsSome mapping ↔ HasImage verified.now index) }
@@ -84,8 +84,8 @@ impl Mapping {
         Ok(Some(mapping))
     }
 
-    /// The mapping of an image that breaks no rule, so that no two of its segments share an address.
-    /// It takes memory for the mapped segments alone, and none where there are none.
+    /// The mapping of an image that breaks no rule, so that no two of its segments share an
+    /// address. It takes memory for the mapped segments alone, and none if there are none.
     pub fn of_image(alloc: Global, image: &Image) -> Result<Mapping, AllocError>
         requires { NothingBreaks (BreaksImage image.now None) }
         ensures sources { IfOk result (λ mapping. GivesSources image.now (sources mapping)) }
@@ -106,7 +106,7 @@ impl Mapping {
         })
     }
 
-    /// What is at the address, or `None` where no segment supplies it.
+    /// What is at the address, or `None` if no segment supplies it.
     pub fn source(&mut self, addr: u64) -> Option<Source>
         ensures source { option_map source_of result ≡ sources self.old addr }
         ensures same { (address : ℕ) → sources self.new address ≡ sources self.old address }
@@ -132,7 +132,7 @@ impl Mapping {
 }
 
 // The addresses of the `count` mapped segments of an image that breaks no rule, each with its index
-// among them. The list that is sorted is let go.
+// among them. The sorted list is freed.
 fn mapped_spans(alloc: Global, image: &Image, count: usize) -> Result<Spans, AllocError>
     requires unbroken { NothingBreaks (BreaksImage image.now None) }
     requires count { count ≡ min (length (mapped_segments image.now)) (2 ^ 64 - 1) }
@@ -181,7 +181,7 @@ fn file_parts(alloc: Global, image: &Image, count: usize) -> Result<Vec<FilePart
     Ok(files)
 }
 
-// The spans with their tags. Where they come in ascending order, no insertion moves a pair.
+// The spans with their tags. If they are in ascending order, no insertion moves a pair.
 fn spans_of(alloc: Global, pairs: &[(Span, u64)]) -> Result<Spans, AllocError>
     requires placed { All (λ pair. IsPlaced pair.0) pairs.now }
     requires apart { AllPairs (λ pair later. ¬ Shares pair.0 later.0) pairs.now }
@@ -211,7 +211,7 @@ impl FilePart {
         }
     }
 
-    // What the segment has so many addresses past its first one.
+    // What the segment has at this distance from its first address.
     fn source(self, past: u64) -> Source
         requires { FitsFile self }
         ensures { source_of result ≡ source_past past self }

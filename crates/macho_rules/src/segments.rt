@@ -54,7 +54,7 @@ pub(crate) fn segment_overlap(alloc: Global, image: &Image, survey: &Survey) -> 
     }
 }
 
-// The same for the `count` mapped segments, which are in no order: they are sorted.
+// Decides `segment-overlap` for the `count` mapped segments, which are unordered: it sorts them.
 fn sorted_overlap(alloc: Global, image: &Image, count: usize) -> Result<(), Refusal>
     requires count { count ≡ min (length (mapped_segments image.now)) (2 ^ 64 - 1) }
     requires kept { KeptBefore image.now Rule.SegmentOverlap }
@@ -80,8 +80,8 @@ pub(crate) fn mapped_count(image: &Image) -> usize
     count
 }
 
-// The addresses of each of the `count` mapped segments, in the order of the commands. The memory for
-// them is taken at once.
+// The addresses of each of the `count` mapped segments, in the order of the commands. The memory
+// for them is allocated at once.
 fn mapped_memory(alloc: Global, image: &Image, count: usize) -> Result<SpanList, AllocError>
     requires { count ≡ min (length (mapped_segments image.now)) (2 ^ 64 - 1) }
     ensures memory { IfOk result (λ list.

@@ -1,7 +1,7 @@
-//! A second verdict, without memory. Each rule of the file, of segments, of sections and of symbols is
-//! decided by a walk of its own, and none is shared with the first verdict; `segment-overlap` and
-//! `symbol-name` are decided in another way too. What is tested of one segment, section or symbol is
-//! the same in both, and so are the other rules of an opened image.
+//! A second verdict, without memory. Each rule of the file, of segments, of sections and of symbols
+//! is decided by a separate walk, which the first verdict does not share; `segment-overlap` and
+//! `symbol-name` are decided in another way too. What is tested of one segment, section or symbol
+//! is the same in both, and so are the other rules of an opened image.
 
 mod entries;
 mod file;
@@ -33,12 +33,12 @@ use sections::judge_sections;
 use segments::judge_segments;
 use symbols::judge_symbols;
 
-/// The first broken rule of a file, with its place in the file, or `None` where no rule is broken.
+/// The first broken rule of a file, with its place in the file, or `None` if no rule is broken.
 ///
-/// It takes no memory, and compares all pairs: for n slices or segments it takes time in the order of
-/// n^2, and for each symbol with a name it searches the strings. It is there to be compared with
-/// [`verify`](crate::verify), of which it uses neither the slices, nor what a walk notes of several
-/// rules at once, nor anything that is sorted.
+/// It takes no memory, and compares all pairs: for n slices or segments it takes time in the order
+/// of n^2, and for each symbol with a name it searches the strings. Its purpose is a comparison
+/// with [`verify`](crate::verify), without its slices, its walks that note several rules at once,
+/// or its sorted lists.
 pub fn slow_first(file: &[u8]) -> Option<Break>
     ensures unbroken { (result ≡ None) ↔ IsUnbroken file.now }
     ensures first { IfSome result (IsFirstBroken file.now) }

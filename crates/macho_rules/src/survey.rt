@@ -14,7 +14,7 @@ use std::marker::Model;
 // What one walk over the segments of an image and their sections finds.
 #[derive(Drop)]
 pub(crate) struct Survey<'a> {
-    // The image that was gone over.
+    // The image that was scanned.
     image: Bytes<'a>,
     segments: SegmentBreaks,
     sections: SectionBreaks,
@@ -45,7 +45,7 @@ impl<'a> Survey<'a> {
     ghost use Rattle.macho_rules.specs.Check.{KeptBefore, JudgesUpTo};
     ghost use Rattle.macho_rules.specs.Mapped.{mapped_segments, tagged_memory};
 
-    // Goes over the segments of the image, and over the sections of each.
+    // Scans the segments of the image, and the sections of each.
     pub(crate) fn of(image: &Image<'a>) -> Survey<'a>
         ensures { result ≡ image.now }
     {
@@ -191,7 +191,7 @@ impl SegmentBreaks {
         }
     }
 
-    // Notes which of the rules the segment breaks.
+    // Notes which rules the segment breaks.
     fn note(&mut self, segment: &Segment)
         ensures { NotesSegment segment.now self.old self.new }
     {
@@ -200,7 +200,7 @@ impl SegmentBreaks {
         }
     }
 
-    // The same, where it breaks one of them.
+    // Notes which rules the segment breaks. It breaks at least one.
     #[cold]
     #[inline(never)]
     fn note_broken(&mut self, segment: &Segment)
@@ -237,7 +237,7 @@ impl SectionBreaks {
         }
     }
 
-    // Notes which of the rules the sections of the segment break.
+    // Notes which rules the sections of the segment break.
     fn note_all(&mut self, segment: &Segment)
         ensures { (passed : List SectionView)
             → EndBy (λ s. s.place) passed segment.now.place → AreFirstSections passed self.old
@@ -249,7 +249,7 @@ impl SectionBreaks {
         }
     }
 
-    // Notes which of the rules the section breaks.
+    // Notes which rules the section breaks.
     fn note(&mut self, section: &Section)
         ensures { NotesSection section.now self.old self.new }
     {
@@ -258,7 +258,7 @@ impl SectionBreaks {
         }
     }
 
-    // The same, where it breaks one of them.
+    // Notes which rules the section breaks. It breaks at least one.
     #[cold]
     #[inline(never)]
     fn note_broken(&mut self, section: &Section)
@@ -298,7 +298,7 @@ impl Mapped {
         }
     }
 
-    // Notes the segment, where it is mapped.
+    // Notes the segment if it is mapped.
     fn note(&mut self, segment: &Segment)
         ensures { (passed : List SegmentView) → AreMapped passed self.old
             → AreMapped (passed ++ segment.now ∷ []) self.new }
@@ -312,7 +312,7 @@ impl Mapped {
     }
 }
 
-// The base address, where it was found before, and otherwise what the segment gives.
+// The base address: the one found before, if any, otherwise that of the segment.
 fn base_with(base: Option<u64>, segment: &Segment) -> Option<u64>
     ensures { result ≡ option_or base (base_among (segment.now ∷ [])) }
 {

@@ -18,7 +18,7 @@ use std::marker::Model;
 // What one walk over the symbols of an image finds: where each of their rules is first broken.
 #[derive(Drop)]
 pub(crate) struct SymbolSurvey<'a> {
-    // The image that was gone over.
+    // The image that was scanned.
     image: Bytes<'a>,
     name: FirstPlace,
     section: FirstPlace,
@@ -47,7 +47,7 @@ impl<'a> SymbolSurvey<'a> {
     ghost use Rattle.macho_fields.specs.declared.rule.Rule.{Rule};
     ghost use Rattle.macho_rules.specs.Check.{KeptBefore, JudgesUpTo};
 
-    // Goes over the symbols of the image, whose segments have `sections` sections in all.
+    // Scans the symbols of the image, whose segments have `sections` sections in all.
     pub(crate) fn of(image: &Image<'a>, sections: u64) -> SymbolSurvey<'a>
         requires kept { KeptBefore image.now Rule.SymbolName }
         requires sections { sections ≡ section_count image.now (commands_of image.now) }
@@ -76,7 +76,7 @@ impl<'a> SymbolSurvey<'a> {
         self.symbol_section()
     }
 
-    // Each symbol that has a name has one that ends in the strings.
+    // The name of each symbol that has one ends in the strings.
     fn symbol_name(&self) -> Result<(), Break>
         requires { KeptBefore self.now Rule.SymbolName }
         ensures { JudgesUpTo self.now Rule.SymbolName result }
@@ -84,7 +84,7 @@ impl<'a> SymbolSurvey<'a> {
         self.name.judge(Rule::SymbolName)
     }
 
-    // Each symbol that is defined in a section has the number of one.
+    // Each symbol that is defined in a section has the number of an existing section.
     fn symbol_section(&self) -> Result<(), Break>
         requires { KeptBefore self.now Rule.SymbolSection }
         ensures { JudgesUpTo self.now Rule.SymbolSection result }
@@ -93,7 +93,7 @@ impl<'a> SymbolSurvey<'a> {
     }
 }
 
-// The first offset in the strings from which on no name ends: the one after their last zero byte.
+// The first offset in the strings from which on no name ends: the one past their last zero byte.
 fn name_limit(image: &Image) -> u64
     ensures { IsNameLimit image.now result }
 {
@@ -135,7 +135,7 @@ pub(crate) fn is_in_no_section(symbol: Symbol, count: u64) -> bool
     symbol.names_section() && (symbol.sect == 0 || u64::from(symbol.sect) > count)
 }
 
-// Each indirect entry that is the index of a symbol is that of one.
+// Each indirect entry that is not marked is the index of an existing symbol.
 pub(crate) fn indirect_index(image: &Image) -> Result<(), Break>
     requires { KeptBefore image.now Rule.IndirectIndex }
     ensures { JudgesUpTo image.now Rule.IndirectIndex result }

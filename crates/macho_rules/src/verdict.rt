@@ -131,8 +131,8 @@ impl<'a> Verified<'a> {
         self.slices.get(index as usize)
     }
 
-    /// The image in the slice with this index, or `None` where the slice is of another kind, or
-    /// there is none. It goes over the commands of the image once more, and judges nothing.
+    /// The image in the slice with this index, or `None` if the slice is of another kind, or there
+    /// is none. It rescans the commands of the image, and judges nothing.
     pub fn image(&self, index: u64) -> Option<Image<'a>>
         ensures is_image { IsSome result ↔ HasImage self.now index }
         ensures image { IfSome result (λ image. IsSomeAnd (slice_get (slices_of self.now) index)
@@ -144,7 +144,7 @@ impl<'a> Verified<'a> {
         Some(Image::reopen(bytes))
     }
 
-    // The bytes of the image in the slice with this index, or `None` where the slice is of another
+    // The bytes of the image in the slice with this index, or `None` if the slice is of another
     // kind, or there is none.
     fn image_bytes(&self, index: u64) -> Option<Bytes<'a>>
         ensures is_image { IsSome result ↔ HasImage self.now index }

@@ -142,8 +142,8 @@ module _ (pairs : List (Span × ℕ)) (sorted : AreSorted pairs) where
               let first = placed.0 in absurd (apart_before k d less (span.start, (starts, omega arith), (omega arith, omega arith)))
         ]
 
--- the search has come so far, in so many probes: the spans below low start by the place, and those
--- from high on after it
+-- the search has reached these bounds, in this many probes: the spans below low start by the place,
+-- and those from high on after it
 pub record IsHalved (pairs : List (Span × ℕ)) (place low high probes : ℕ) : Type 0 where
   pub order : low ≤ high
   pub among : high ≤ length pairs

@@ -6,7 +6,7 @@ use Rattle.macho_spans.specs.declared.span.Span.{Span}
 abbrev pub Covers : ℕ → ℕ → ℕ → Type 0
 Covers start len place = (start ≤ place) × (place < start + len)
 
--- the first place after the span
+-- the first place past the span
 abbrev pub end_of : Span → ℕ
 end_of span = span.start + span.len
 

@@ -42,7 +42,7 @@ impl SpanList {
     ghost use Rattle.std.specs.Prelude.{IfOk, OnOk, OnErr, MatchOption};
     ghost use Rattle.macho_spans.specs.Overlap.{SharesEarlier, IsLeastSharing};
 
-    /// No spans, with room for so many and no more.
+    /// No spans. The capacity is exactly `count`. It allocates nothing if `count` is 0.
     pub fn with_capacity(alloc: Global, count: usize) -> Result<SpanList, AllocError>
         ensures none { IfOk result (λ list. list.spans ≡ []) }
         ensures capacity { IfOk result (λ list. list.capacity ≡ count) }
@@ -52,9 +52,9 @@ impl SpanList {
         Ok(SpanList { items })
     }
 
-    /// Adds a span, which may be empty, as the last one. Memory is asked for only where there is no
-    /// room left, and then for as many more as there are, or for four more where there are fewer.
-    /// Where it runs out, nothing has changed.
+    /// Adds a span, which may be empty, as the last one. Memory is allocated only if the list is
+    /// full, and then for as many more as there are, or for four if there are fewer. If it runs
+    /// out, nothing has changed.
     pub fn push(&mut self, span: Span) -> Result<(), AllocError>
         ensures ok { OnOk result (self.new.spans ≡ self.old.spans ++ span ∷ []) }
         ensures err { OnErr result (self.new ≡ self.old) }
@@ -73,7 +73,7 @@ impl SpanList {
         Ok(())
     }
 
-    /// The index of the first span that shares a place with an earlier one, or `None` where no two
+    /// The index of the first span that shares a place with an earlier one, or `None` if no two
     /// spans share a place.
     ///
     /// For n spans it takes time in the order of n log n, and no memory: it sorts the spans by
@@ -110,8 +110,8 @@ fn shares_below(items: &[Numbered], count: u64) -> bool
     false
 }
 
-// The least index of a span that shares a place with one of a lower index, by halves. The items are
-// sorted by start.
+// The least index of a span that shares a place with one of a lower index, by binary search. The
+// items are sorted by start.
 fn least_sharing(items: &[Numbered]) -> u64
     requires sorted { IsNonDecreasingBy (λ item. item.span.start) items.now }
     requires some { PairBelow items.now (length items.now) (length items.now) }

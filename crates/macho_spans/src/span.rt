@@ -13,7 +13,7 @@ pub struct Span {
 }
 
 impl Span {
-    /// The first place after the span, which may be too large for a `u64`.
+    /// The first place past the span, which may be too large for a `u64`.
     pub fn end(self) -> u128
         ensures { result ≡ end_of self }
     {
@@ -34,7 +34,7 @@ impl Span {
         other.start <= self.start && self.end() <= other.end()
     }
 
-    /// Whether some place is in both spans. An empty span shares nothing.
+    /// Whether some place is in both spans. An empty span shares no place.
     pub fn shares(self, other: &Span) -> bool
         ensures { IsTrue result ↔ Shares self other.now }
     {
@@ -43,7 +43,7 @@ impl Span {
     }
 }
 
-/// The first place after a table of `count` entries of `each` bytes that begins at `start`.
+/// The first place past a table of `count` entries of `each` bytes that begins at `start`.
 pub fn table_end(start: u64, count: u64, each: u64) -> u128
     ensures { result ≡ start + count * each }
 {

@@ -9,11 +9,11 @@ pub enum Sharing {
     None,
     /// The span with this tag is the first that shares a place with an earlier one.
     First(u64),
-    /// The spans are in no order, so they have to be sorted.
+    /// The spans are unordered, so they must be sorted.
     Unknown,
 }
 
-/// The order in which spans come. Empty spans share nothing, and are passed over.
+/// The order in which spans come. Empty spans share nothing, and are skipped.
 #[derive(Clone, Copy, Debug)]
 pub struct SpanOrder {
     // The last span that is not empty.
@@ -21,16 +21,16 @@ pub struct SpanOrder {
     trend: Trend,
 }
 
-// In what order the spans come that are not empty.
+// In what order the nonempty spans come.
 #[derive(Clone, Copy, Debug)]
 enum Trend {
     // There is none.
     Empty,
     // There is one.
     Single,
-    // Each begins where the one before it ends, or after that.
+    // Each begins at or past the end of the one before it.
     Ascending,
-    // Each ends where the one before it begins, or before that.
+    // Each ends at or before the start of the one before it.
     Descending,
     // No two before the one with this tag share a place, and it shares one with an earlier span.
     Sharing(u64),
@@ -64,7 +64,7 @@ impl SpanOrder {
         }
     }
 
-    // The trend with one span more, which is not empty.
+    // The trend after one more span, which is not empty.
     fn trend_with(&self, span: Span, tag: u64) -> Trend
         requires { 0 < span.len }
         ensures { (spans : List Span) (tags : List ℕ) → length tags ≡ length spans

@@ -1,4 +1,4 @@
-//! Spans that share no place, each with a tag: a list sorted by start, which is searched by halves.
+//! Spans that share no place, each with a tag: a list sorted by start, with binary search.
 
 mod count;
 mod pairs;
@@ -12,12 +12,12 @@ use pairs::CountedPairs;
 use std::alloc::{AllocError, Global};
 use std::marker::Model;
 
-/// What became of a span that was to be inserted.
+/// The result of an insertion.
 #[derive(Clone, Copy, Debug, PartialEq, Eq)]
 pub enum Insert {
-    /// It is held now, with its tag.
+    /// The span is held now, with its tag.
     Added,
-    /// It shares a place with a span that is held, and nothing has changed.
+    /// The span shares a place with a held span, and nothing has changed.
     Overlap,
 }
 
@@ -67,7 +67,7 @@ impl Spans {
         }
     }
 
-    /// No spans, with room for so many and no more. It takes no memory for none.
+    /// No spans. The capacity is exactly `count`. It allocates nothing if `count` is 0.
     pub fn with_capacity(alloc: Global, count: usize) -> Result<Spans, AllocError>
         ensures none { IfOk result (λ spans. spans.pairs ≡ []) }
         ensures capacity { IfOk result (λ spans. spans.capacity ≡ count) }
@@ -94,14 +94,14 @@ impl Spans {
         self.held.probes()
     }
 
-    /// Adds the span with its tag, unless it shares a place with a span that is held. The span must
-    /// not be empty, and must end at 2^64 or before. An overlap takes no memory. Where memory runs
-    /// out, nothing has changed.
+    /// Adds the span with its tag, unless it shares a place with a held span. The span must not be
+    /// empty, and must end at or before 2^64. An overlap allocates no memory. If memory runs out,
+    /// nothing has changed.
     pub fn try_insert(&mut self, span: Span, tag: u64) -> Result<Insert, AllocError>
         requires { IsPlaced span }
 
-        // What was inserted before and is kept stays, and the new pair is kept as well where it
-        // shares no place with any of it.
+        // Pairs that were kept stay, and the new pair is kept too if it shares no place with any of
+        // them.
         ensures kept { OnOk result ((calls : List (Span × ℕ)) → AreKept calls self.old.pairs
             → AreKept (calls ++ (span, tag) ∷ []) self.new.pairs) }
         ensures overlap { IfOk result (λ insert.
@@ -127,7 +127,7 @@ impl Spans {
         Ok(Insert::Added)
     }
 
-    /// The held span that holds the place, with its tag, or `None` where there is none.
+    /// The held span that holds the place, with its tag, or `None` if there is none.
     pub fn find(&mut self, place: u64) -> Option<(Span, u64)>
         ensures found { MatchOption result (¬ HoldsInOne self.old.pairs place)
             (λ pair. Contains self.old.pairs pair × Holds pair.0 place) }
@@ -144,7 +144,7 @@ impl Spans {
     }
 }
 
-// The index at which a span goes, or `None` where it shares a place with one that is held.
+// The index at which to insert a span, or `None` if it shares a place with a held span.
 fn gap_for(held: &mut CountedPairs, span: Span) -> Option<usize>
     requires sorted { AreSorted held.old.pairs.items }
     requires placed { IsPlaced span }

@@ -32,7 +32,7 @@ element_spans image = map (λ element. element.span) (elements_of image)
 abbrev pub IsUnordered : List Span → Type 0
 IsUnordered spans = (¬ IsAscending spans) × (¬ IsDescending spans)
 
--- the file parts of an image do not ascend, or its elements are in no order
+-- the file parts of an image do not ascend, or its elements are unordered
 abbrev pub TakesMemory : List ℕ → Type 0
 TakesMemory image = (¬ IsAscending (file_parts image)) ⊎ IsUnordered (element_spans image)
 

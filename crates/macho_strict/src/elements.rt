@@ -34,7 +34,7 @@ pub struct Element {
     pub span: Span,
 }
 
-// The header and the bytes that it gives to the load commands.
+// The header and the bytes that it reserves for the load commands.
 fn headers(image: &Image) -> Element
     ensures { result ≡ headers_of image.now }
 {
@@ -78,8 +78,8 @@ fn relocations(section: &Section) -> Element
     }
 }
 
-// The tables of a command with this `cmd` that are elements. The encrypted range is none: it covers
-// what sections have.
+// The tables of a command with this `cmd` that are elements. The encrypted range is not an element:
+// it covers sections.
 fn described_tables(cmd: u32) -> &'static [TableFields]
     ensures { result.now ≡ described_tables cmd }
 {
@@ -313,7 +313,7 @@ pub(crate) fn element_overlap(alloc: Global, image: &Image) -> Result<(), Refusa
     Ok(())
 }
 
-// Where the first element is described that shares a byte with an earlier one, or `None` where none
+// Where the first element is described that shares a byte with an earlier one, or `None` if none
 // does.
 fn first_overlap(alloc: Global, image: &Image) -> Result<Option<u64>, AllocError>
     ensures first { IfOk result (IsFirstSharing (tagged_elements image.now)) }

@@ -7,7 +7,7 @@ ghost use Rattle.macho_strict.specs.Gaps.{IsStray};
 
 use macho_fields::{Bytes, Span};
 
-// What lies between spans that are passed by their starts. Empty spans are passed over.
+// What lies between spans that are passed by their starts. Empty spans are skipped.
 #[derive(Clone, Copy)]
 pub(crate) struct Gaps<'a> {
     bytes: Bytes<'a>,
@@ -17,7 +17,7 @@ pub(crate) struct Gaps<'a> {
     start: u64,
     // The greatest end of a span.
     end: u128,
-    // The least place before `start` whose byte is not zero, in no span.
+    // The least place before `start` of a nonzero byte in no span.
     stray: Option<u64>,
 }
 
@@ -41,7 +41,7 @@ impl<'a> Gaps<'a> {
         }
     }
 
-    // Passes one span more.
+    // Passes one more span.
     pub(crate) fn pass(&mut self, span: Span)
         ensures { (bytes : List ℕ) (spans : List Span) → ArePassed bytes spans self.old
             → ArePassed bytes (spans ++ span ∷ []) self.new }
@@ -64,7 +64,7 @@ impl<'a> Gaps<'a> {
         self.by_start
     }
 
-    // The least place whose byte is not zero, and which lies in none of the spans.
+    // The least place of a nonzero byte that lies in none of the spans.
     pub(crate) fn stray(&self) -> Option<u64>
         requires { self.now.by_start ≡ true }
         ensures { (bytes : List ℕ) (spans : List Span) → ArePassed bytes spans self.now
@@ -73,8 +73,8 @@ impl<'a> Gaps<'a> {
         self.stray_before(self.bytes.len())
     }
 
-    // The place that was found, and otherwise the least one from `end` on and before `limit` whose
-    // byte is not zero.
+    // The place that was found, otherwise the least place from `end` up to `limit` whose byte is
+    // not zero.
     fn stray_before(&self, limit: u64) -> Option<u64>
         ensures { IsLeastNext (bytes_of self.now.bytes) self.now.end limit self.now.stray result }
     {
@@ -89,7 +89,7 @@ impl<'a> Gaps<'a> {
     }
 }
 
-// The least place whose byte is not zero, and which lies in none of the spans. They are sorted.
+// The least place of a nonzero byte that lies in none of the spans. They are sorted.
 pub(crate) fn stray_past(bytes: Bytes, spans: Vec<Span>) -> Option<u64>
     ensures { IsLeastPlace (IsStray (bytes_of bytes.entry) spans.items) result }
 {

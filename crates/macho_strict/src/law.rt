@@ -10,7 +10,7 @@ ghost use Rattle.macho_strict.specs.First.{IsFirstStrictlyBroken, IsStrictlyUnbr
 
 use macho_fields::Break;
 
-/// A file has one first broken strict rule at most.
+/// A file has at most one first broken strict rule.
 pub fn first_strictly_broken_is_one(file: &[u8], first: Break, other: Break)
     requires first { IsFirstStrictlyBroken file.now first }
     requires other { IsFirstStrictlyBroken file.now other }

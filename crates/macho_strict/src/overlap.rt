@@ -1,4 +1,4 @@
-//! Which parts of an image share a place, where these come in no order.
+//! Which parts of an image share a place, if these are unordered.
 
 ghost use Rattle.std.specs.Prelude.{◌≡◌, ◌-◌, ◌*◌, ◌+◌, ◌≤◌, ◌^◌, List, length, map, max, min, IfOk};
 ghost use Rattle.std.specs.Iterator.{Drains, IsFinite};
@@ -67,9 +67,9 @@ impl<'a> FileParts<'a> {
     }
 }
 
-// The place of the first segment whose file part shares a place with that of an earlier one, or `None`
-// where no two share one. For n segments it takes time in the order of n log n, and 24 bytes of memory
-// for each.
+// The place of the first segment whose file part shares a place with that of an earlier one, or
+// `None` if no two share one. For n segments it takes time in the order of n log n, and 24 bytes of
+// memory for each.
 pub(crate) fn sorted_file_overlap(alloc: Global, image: &Image) -> Result<Option<u64>, AllocError>
     ensures { IfOk result (IsFirstSharing (tagged_parts image.now)) }
 {
@@ -84,7 +84,8 @@ pub(crate) fn sorted_file_overlap(alloc: Global, image: &Image) -> Result<Option
     )
 }
 
-// The same of the elements, by what describes them.
+// Where the first element is described that shares a place with an earlier one, or `None` if no two
+// share one. It takes as much time and memory for n elements.
 pub(crate) fn sorted_element_overlap(
     alloc: Global,
     image: &Image,
@@ -116,7 +117,7 @@ fn count_of<I: Iterator<Item = Element>>(elements: I) -> usize
     count
 }
 
-// The spans of the elements, in their order. The memory for `count` of them is taken at once.
+// The spans of the elements, in their order. The memory for `count` of them is allocated at once.
 fn span_list<I: Iterator<Item = Element>>(
     alloc: Global,
     count: usize,

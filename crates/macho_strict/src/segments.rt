@@ -22,7 +22,7 @@ pub(crate) const SIZEOFCMDS: u64 = 20;
 // What one walk over the segments of an image finds of their file parts.
 #[derive(Drop)]
 pub(crate) struct Survey<'a> {
-    // The image that was gone over.
+    // The image that was scanned.
     image: Bytes<'a>,
     // Whether a segment has the header and all commands.
     has_headers: bool,
@@ -55,7 +55,7 @@ impl<'a> Survey<'a> {
     ghost use Rattle.macho_strict.specs.Verdict.{file_parts, IsUnordered};
     ghost use Rattle.macho_fields.specs.declared.rule.Rule.{Rule};
 
-    // Goes over the segments of the image.
+    // Scans the segments of the image.
     pub(crate) fn of(image: &Image<'a>) -> Survey<'a>
         ensures { result ≡ image.now }
     {
@@ -92,7 +92,7 @@ impl<'a> Survey<'a> {
 
     // No segment has a byte of the file in common with an earlier one.
     //
-    // It takes memory only where the file parts neither ascend nor descend: 24 bytes for each, to sort
+    // It takes memory only if the file parts neither ascend nor descend: 24 bytes for each, to sort
     // them.
     pub(crate) fn segment_file_overlap(&self, alloc: Global, image: &Image) -> Result<(), Refusal>
         requires image { self.now ≡ image.now }
@@ -111,7 +111,7 @@ impl<'a> Survey<'a> {
 
     // Each byte of the image is zero or lies in a segment.
     //
-    // It takes memory only where the file parts do not ascend: up to 32 bytes for each, to sort them.
+    // It takes memory only if the file parts do not ascend: up to 32 bytes for each, to sort them.
     pub(crate) fn stray_byte(&self, alloc: Global, image: &Image) -> Result<(), Refusal>
         requires image { self.now ≡ image.now }
         requires kept { KeptBelow (BreaksImage image.now) (rank Rule.StrayByte) }
@@ -124,7 +124,7 @@ impl<'a> Survey<'a> {
     }
 }
 
-// The least place whose byte is not zero, in no segment. The file parts were passed.
+// The least place of a nonzero byte in no segment. The file parts were passed.
 fn least_stray(alloc: Global, image: &Image, gaps: &Gaps) -> Result<Option<u64>, AllocError>
     requires { ArePassed image.now (file_parts image.now) gaps.now }
     ensures found { IfOk result (IsLeastPlace (IsStray image.now (file_parts image.now))) }

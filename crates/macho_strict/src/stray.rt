@@ -22,7 +22,7 @@ use std::alloc::{AllocError, Global};
 
 // Each byte of a universal file after its table is zero or lies in a slice.
 //
-// It takes memory only where the slices do not ascend: 16 bytes for each, to sort them.
+// It takes memory only if the slices do not ascend: 16 bytes for each, to sort them.
 pub(crate) fn fat_stray_byte(alloc: Global, verified: &Verified) -> Result<(), Refusal>
     ensures { ContinuesWithMemory (BreaksFile verified.now) Rule.FatStrayByte
         (¬ IsAscending (slice_spans verified.now)) result }
@@ -35,7 +35,7 @@ pub(crate) fn fat_stray_byte(alloc: Global, verified: &Verified) -> Result<(), R
     Ok(())
 }
 
-// The header and the table of a universal file, or `None` where the file is one image.
+// The header and the table of a universal file, or `None` if the file is one image.
 fn table(verified: &Verified) -> Option<Span>
     ensures { MatchOption result (¬ IsUniversal verified.now)
         (λ table. IsUniversal verified.now × (table ≡ table_span verified.now)) }
@@ -50,7 +50,7 @@ fn table(verified: &Verified) -> Option<Span>
     })
 }
 
-// The size in bytes of an entry of the table, or `None` where the file is not universal.
+// The size in bytes of an entry of the table, or `None` if the file is not universal.
 fn entry_size(file: Bytes) -> Option<u64>
     ensures { MatchOption result (¬ IsUniversal (bytes_of file.entry))
         (λ size. IsUniversal (bytes_of file.entry) × (size ≡ entry_size (bytes_of file.entry))) }
@@ -62,7 +62,7 @@ fn entry_size(file: Bytes) -> Option<u64>
     }
 }
 
-// The least place whose byte is not zero, neither in the table nor in a slice.
+// The least place of a nonzero byte that is neither in the table nor in a slice.
 fn least_stray(alloc: Global, verified: &Verified, table: Span) -> Result<Option<u64>, AllocError>
     ensures found { IfOk result (IsLeastPlace (IsStray verified.now (table ∷ slice_spans verified.now))) }
     ensures memory { OnErr result (¬ ComeByStart (table ∷ slice_spans verified.now)) }
@@ -87,7 +87,7 @@ fn pass_slices<'a>(verified: &Verified<'a>, table: Span) -> Gaps<'a>
     gaps
 }
 
-// The table and the slices, in their order. The memory for them is taken at once.
+// The table and the slices, in their order. The memory for them is allocated at once.
 fn spans(alloc: Global, verified: &Verified, table: Span) -> Result<Vec<Span>, AllocError>
     ensures { IfOk result (λ spans. spans.items ≡ table ∷ slice_spans verified.now) }
 {

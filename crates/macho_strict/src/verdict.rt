@@ -17,10 +17,10 @@ use std::alloc::Global;
 /// Decides the rules of a file as `macho_rules::verify` does, and then the strict rules, in their order:
 /// accepts it, or returns the first broken one, with its place in the file.
 ///
-/// The strict rule of the file comes first; then those of its 64-bit slices, in the order of the table.
-/// It takes memory as `verify` does, and past that only where slices, segments or elements do not come in
-/// the order of their bytes: at most 32 bytes for each segment, or 24 for each slice or element, to
-/// sort them.
+/// The strict rule of the file comes first; then those of its 64-bit slices, in the order of the
+/// table. It takes memory as `verify` does, and further memory only if slices, segments or elements
+/// are not in the order of their bytes: at most 32 bytes for each segment, or 24 for each slice or
+/// element, to sort them.
 pub fn verify_strictly<'a>(alloc: Global, file: &'a [u8]) -> Result<Verified<'a>, Refusal>
     // It accepts only a file that breaks no rule and no strict rule, and refuses only one that breaks
     // one of them, unless there is no memory.

@@ -1,9 +1,10 @@
-//! Makes one call that may answer want of memory, and prints its answer. `tests/refusals` runs it, and
+//! Makes one call that may run out of memory, and prints its answer. `tests/refusals` runs it, and
 //! refuses its growths of memory, its reads and its writes, one after the other.
 //!
-//! The first word names the call, and the second is how many bytes are read at most. Standard input has
-//! the file that is asked about, or a line `START LEN` for each span. Right before the call goes a line
-//! to standard error, so a growth that is refused before that line is none of the call's.
+//! The first word names the call, and the second is how many bytes are read at most. Standard input
+//! has the file that is asked about, or a line `START LEN` for each span. Right before the call
+//! goes a line to standard error, so a growth that is refused before that line does not belong to
+//! the call.
 
 mod fault;
 mod image;
@@ -19,9 +20,9 @@ use std::env::Args;
 /// What `run_where` is asked about: the first address of the code of an executable.
 const ADDRESS: u64 = 0x1_0000_0000;
 
-/// Makes the call that the words name. The status is 0 where the call answered with a value or a broken
-/// rule, 1 where want of memory changed something, 2 where there was no call, 3 where a run read or wrote
-/// no further, and 4 where the call answered want of memory.
+/// Makes the call that the words name. The status is 0 where the call answered with a value or a
+/// broken rule, 1 if running out of memory changed something, 2 if there was no call, 3 if a run
+/// read or wrote no further, and 4 if the call ran out of memory.
 pub(crate) fn call(rt: &HostRuntime, words: Args<Global>) -> u8 {
     let ended = make_call(rt, words);
     let printed = match ended {

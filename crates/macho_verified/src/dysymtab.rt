@@ -15,8 +15,8 @@ impl<'a> VerifiedImage<'a> {
     ghost use Rattle.macho_verified.specs.Image.{symbol_view, symbol_group};
     ghost use Rattle.macho_verified.specs.Accepted.{IsAccepted};
 
-    /// The local symbols: the `nlocalsym` symbols from the index `ilocalsym` on. None where the
-    /// image has no `LC_DYSYMTAB`.
+    /// The local symbols: the `nlocalsym` symbols from the index `ilocalsym` on. Empty if the image
+    /// has no `LC_DYSYMTAB`.
     pub fn local_symbols(&self) -> VerifiedSymbols<'a>
         ensures symbols { result
             ≡ map (symbol_view self.now) (symbol_group ilocalsym nlocalsym self.now) }
@@ -26,8 +26,8 @@ impl<'a> VerifiedImage<'a> {
         self.group_of(|groups| (groups.ilocalsym, groups.nlocalsym))
     }
 
-    /// The defined external symbols: the `nextdefsym` symbols from the index `iextdefsym` on. None
-    /// where the image has no `LC_DYSYMTAB`.
+    /// The defined external symbols: the `nextdefsym` symbols from the index `iextdefsym` on. Empty
+    /// if the image has no `LC_DYSYMTAB`.
     pub fn defined_symbols(&self) -> VerifiedSymbols<'a>
         ensures symbols { result
             ≡ map (symbol_view self.now) (symbol_group iextdefsym nextdefsym self.now) }
@@ -37,7 +37,7 @@ impl<'a> VerifiedImage<'a> {
         self.group_of(|groups| (groups.iextdefsym, groups.nextdefsym))
     }
 
-    /// The undefined symbols: the `nundefsym` symbols from the index `iundefsym` on. None where the
+    /// The undefined symbols: the `nundefsym` symbols from the index `iundefsym` on. Empty if the
     /// image has no `LC_DYSYMTAB`.
     pub fn undefined_symbols(&self) -> VerifiedSymbols<'a>
         ensures symbols { result
@@ -48,8 +48,8 @@ impl<'a> VerifiedImage<'a> {
         self.group_of(|groups| (groups.iundefsym, groups.nundefsym))
     }
 
-    // The symbols of the group whose first index and number `LC_DYSYMTAB` has in these fields. None
-    // where the image has no `LC_DYSYMTAB`.
+    // The symbols of the group whose first index and number `LC_DYSYMTAB` has in these fields.
+    // Empty if the image has no `LC_DYSYMTAB`.
     fn group_of<F: Fn(Dysymtab) -> (u64, u64)>(&self, fields: F) -> VerifiedSymbols<'a>
         requires { F.IsAlwaysCallable fields }
         ensures symbols { (first count : List ℕ → ℕ → ℕ)
@@ -62,7 +62,7 @@ impl<'a> VerifiedImage<'a> {
         self.symbol_group(dysymtab.map_or((0, 0), fields))
     }
 
-    // The symbols of a group: those from its first index on, so many of them, those that there are.
+    // The symbols of a group: up to as many as it has, starting at its first index.
     pub(crate) fn symbol_group(&self, group: (u64, u64)) -> VerifiedSymbols<'a>
         ensures symbols { result ≡ map (symbol_view self.now)
             (take group.1 (drop group.0 (symbols_of self.now (commands_of self.now)))) }

@@ -8,7 +8,7 @@ use macho_image::Image;
 use macho_rules::Verified;
 use std::marker::Model;
 
-/// An image that breaks no rule. Only a verdict gives one.
+/// An image that breaks no rule. Only a verdict makes one.
 #[derive(Drop)]
 pub struct VerifiedImage<'a> {
     pub(crate) image: Image<'a>,
@@ -39,8 +39,8 @@ impl<'a> VerifiedImage<'a> {
     ghost use Rattle.macho_image.specs.Symbol.{symbols_of};
     ghost use Rattle.macho_verified.specs.Image.{symbol_view, HasBytesAt, bytes_from};
 
-    /// The image in the slice with this index, or `None` where the slice is of another kind, or
-    /// there is none. It goes over the commands of the image once more, and judges nothing.
+    /// The image in the slice with this index, or `None` if the slice is of another kind, or there
+    /// is none. It rescans the commands of the image, and judges nothing.
     pub fn of(verified: &Verified<'a>, index: u64) -> Option<VerifiedImage<'a>>
         ensures is_image { IsSome result ↔ HasImage verified.now index }
         ensures image { IfSome result (λ image.
@@ -70,8 +70,8 @@ impl<'a> VerifiedImage<'a> {
         }
     }
 
-    /// The section with this number, or `None` where there is none. Sections are numbered from 1 on over
-    /// all segments, as `n_sect` of a symbol numbers them. (`mach-o/nlist.h`: `nlist_64`)
+    /// The section with this number, or `None` if there is none. Sections are numbered from 1 on
+    /// over all segments, as `n_sect` of a symbol numbers them. (`mach-o/nlist.h`: `nlist_64`)
     pub fn section(&self, number: u8) -> Option<VerifiedSection<'a>>
         ensures none { number ≡ 0 → result ≡ None }
         ensures section { 0 < number → result ≡ slice_get (map (section_at self.now)
@@ -82,9 +82,9 @@ impl<'a> VerifiedImage<'a> {
         Some(VerifiedSection { section })
     }
 
-    /// The bytes at `len` addresses from `address` on, borrowed from the image. `None` where no one
-    /// mapped segment has bytes of the file for all of them. With `len` 0 the address has to be in the
-    /// file part of a mapped segment, or at its end.
+    /// The bytes at `len` addresses from `address` on, borrowed from the image. `None` if no one
+    /// mapped segment has bytes of the file for all of them. With `len` 0 the address must be in
+    /// the file part of a mapped segment, or at its end.
     pub fn bytes_at(&self, address: u64, len: u64) -> Option<&'a [u8]>
         ensures held { IsSome result ↔ Any (HasBytesAt self.now address len)
             (segments_of self.now (commands_of self.now)) }
@@ -102,7 +102,7 @@ impl<'a> VerifiedImage<'a> {
         None
     }
 
-    /// All symbols of `LC_SYMTAB`, in the order of the table. None where the image has no
+    /// All symbols of `LC_SYMTAB`, in the order of the table. Empty if the image has no
     /// `LC_SYMTAB`.
     pub fn symbols(&self) -> VerifiedSymbols<'a>
         ensures symbols { result ≡ map (symbol_view self.now)
@@ -114,8 +114,8 @@ impl<'a> VerifiedImage<'a> {
         self.symbol_group((0, count))
     }
 
-    /// The symbol with this index in the table of `LC_SYMTAB`, or `None` where there is none. The symbols
-    /// before it are not gone over.
+    /// The symbol with this index in the table of `LC_SYMTAB`, or `None` if there is none. It does
+    /// not scan the symbols before it.
     pub fn symbol(&self, index: u64) -> Option<VerifiedSymbol<'a>>
         ensures { result ≡ slice_get (map (symbol_view self.now)
             (symbols_of self.now (commands_of self.now))) index }

@@ -39,8 +39,8 @@ impl<'i, 'a> VerifiedIndirect<'i, 'a> {
         self.entry
     }
 
-    /// The symbol that it names: that with this index in the symbol table. `None` where it is marked
-    /// as local (`INDIRECT_SYMBOL_LOCAL`) or absolute (`INDIRECT_SYMBOL_ABS`), and only there.
+    /// The symbol that it names: that with this index in the symbol table. `None` exactly if it is
+    /// marked as local (`INDIRECT_SYMBOL_LOCAL`) or absolute (`INDIRECT_SYMBOL_ABS`).
     pub fn symbol(&self) -> Option<VerifiedSymbol<'a>>
         ensures named { IsSome result ↔ IsSymbolIndex (word self.now.image self.now.place) }
         ensures symbol { IfSome result (λ symbol. slice_get (map (symbol_view self.now.image)
@@ -100,7 +100,7 @@ impl<'a> VerifiedImage<'a> {
     ghost use Rattle.macho_image.specs.Symbol.{indirects_of};
     ghost use Rattle.macho_verified.specs.Image.{indirect_view};
 
-    /// All entries of the indirect symbol table, in its order. None where the image has no
+    /// All entries of the indirect symbol table, in its order. Empty if the image has no
     /// `LC_DYSYMTAB`. (`indirectsymoff` and `nindirectsyms` of `dysymtab_command`)
     pub fn indirects<'i>(&'i self) -> VerifiedIndirects<'i, 'a>
         ensures indirects { result ≡ map (indirect_view self.now)

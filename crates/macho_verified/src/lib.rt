@@ -1,6 +1,7 @@
 #![tactic(auto)]
 //! The images of an accepted file, and reads of them that cannot fail: what an accepted image names
-//! is there, so no caller tests it again. Only `mapping` takes memory, and may answer that there is none.
+//! is there, so no caller tests it again. Only `mapping` takes memory, and may report that there is
+//! none.
 
 mod data;
 pub mod dysymtab;

@@ -17,10 +17,10 @@ use macho_fields::{Bytes, Order, Span, Structure, structure_of};
 
 impl<'a> VerifiedImage<'a> {
     /// The data that the first command with this `cmd`, such as `LC_FUNCTION_STARTS`, names: the
-    /// `datasize` bytes from `dataoff` on, borrowed from the image. `None` where the list of load
-    /// commands (`macho_fields::structure_of`) has no `linkedit_data_command` with this `cmd`, and
-    /// where the image has none, and only there. The image may have several, since no rule forbids
-    /// that, and a loader may take another than the first.
+    /// `datasize` bytes from `dataoff` on, borrowed from the image. `None` exactly if the list of
+    /// load commands (`macho_fields::structure_of`) has no `linkedit_data_command` with this `cmd`,
+    /// or the image has none. The image may have several, since no rule forbids that, and a loader
+    /// may take another than the first.
     pub fn linkedit_data(&self, cmd: u32) -> Option<&'a [u8]>
         ensures held { IsSome result ↔ ((structure_of cmd ≡ Some Structure.LinkeditDataCommand)
             × IsSome (first_with_cmd self.now cmd (commands_of self.now))) }

@@ -33,8 +33,8 @@ impl<'a> VerifiedSection<'a> {
         &self.section
     }
 
-    /// Its bytes, borrowed from the image: the `size` bytes from `offset` on. `None` where it is
-    /// zero-fill, and only there.
+    /// Its bytes, borrowed from the image: the `size` bytes from `offset` on. `None` exactly if it
+    /// is zero-fill.
     pub fn bytes(&self) -> Option<&'a [u8]>
         ensures in_file { IsSome result ↔ (is_zero_fill self.now.image self.now.place ≡ false) }
         ensures bytes { IfSome result (λ bytes.

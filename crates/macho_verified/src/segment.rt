@@ -46,9 +46,9 @@ impl<'a> VerifiedSegment<'a> {
         data_in(self.segment.image(), self.segment.file_part())
     }
 
-    /// Its bytes at `len` addresses from `address` on, borrowed from the image. `None` where the
-    /// segment is not mapped, and where it has no byte of the file for one of the addresses. With `len`
-    /// 0 the address has to be in the file part of the segment, or at its end.
+    /// Its bytes at `len` addresses from `address` on, borrowed from the image. `None` if the
+    /// segment is not mapped, or if it has no byte of the file for one of the addresses. With `len`
+    /// 0 the address must be in the file part of the segment, or at its end.
     pub fn bytes_at(&self, address: u64, len: u64) -> Option<&'a [u8]>
         ensures held { IsSome result ↔ HasBytesAt self.now.image address len self.now.place }
         ensures bytes { IfSome result (λ bytes.

@@ -44,8 +44,8 @@ impl<'a> VerifiedSymbol<'a> {
         self.symbol
     }
 
-    /// Its name, borrowed from the image, without the zero byte that ends it. `None` where its
-    /// `n_strx` is 0, and only there.
+    /// Its name, borrowed from the image, without the zero byte that ends it. `None` exactly if its
+    /// `n_strx` is 0.
     pub fn name(&self) -> Option<&'a [u8]>
         ensures named { IsSome result ↔ (n_strx self.now.image self.now.place ≢ 0) }
         ensures name { IfSome result (λ name. IsNameAt self.now.image
@@ -113,7 +113,7 @@ impl<'a> Iterator for VerifiedSymbols<'a> {
     }
 }
 
-// The strings of `LC_SYMTAB`, which is the empty span where the image has none.
+// The strings of `LC_SYMTAB`, which is the empty span if the image has none.
 pub(crate) fn strings_of(image: &Image) -> Span
     ensures { result ≡ strings image.now }
 {

@@ -7,8 +7,8 @@ ghost use Rattle.symbolize.specs.Find.{sections, HasAddress, IsFirstAt};
 use macho_image::Section;
 use macho_verified::{VerifiedImage, VerifiedSymbol};
 
-/// The symbol of a section that begins nearest before the address, or at it. Of several that begin
-/// there it is the last.
+/// The symbol of a section that begins nearest before the address, or at it. If several begin
+/// there, it is the last of them.
 pub(crate) fn nearest_symbol<'a>(
     image: &VerifiedImage<'a>,
     address: u64,
@@ -29,8 +29,8 @@ pub(crate) fn nearest_symbol<'a>(
     nearest
 }
 
-/// Whether the symbol names an address of a section, which is this one or a lower one. A debugging
-/// entry names none.
+/// Whether the symbol names an address of a section, at or before this one. A debugging entry does
+/// not.
 fn is_at_or_before(symbol: &VerifiedSymbol, address: u64) -> bool
     ensures { IsTrue result ↔ IsAtOrBefore address symbol.now }
 {

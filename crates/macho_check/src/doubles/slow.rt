@@ -1,4 +1,4 @@
-//! An input for tests, which gives one byte a read.
+//! An input for tests, which returns one byte per read.
 
 ghost use Rattle.std.specs.Prelude.{Some};
 

@@ -1,5 +1,5 @@
-//! The entries of a universal file, each read where it stands.
-//! (`mach-o/fat.h`: `fat_header`, `fat_arch`, `fat_arch_64`)
+//! The entries of a universal file, each read from its place in the file. (`mach-o/fat.h`:
+//! `fat_header`, `fat_arch`, `fat_arch_64`)
 
 ghost use Rattle.std.specs.Prelude.{◌≡◌, ◌≤◌, length, if◌then◌else◌};
 ghost use Rattle.macho_fields.specs.Bytes.{bytes_of};
@@ -56,7 +56,7 @@ impl<'a> Entries<'a> {
     ghost use Rattle.macho_fields.specs.Universal.{entry_align, entry_count, entry_place};
     ghost use Rattle.macho_fields.specs.Universal.{entry_slice, slice_bytes, table_end, IsUniversal};
 
-    // The entries of a universal file, or `None` where the header or the table ends past the file.
+    // The entries of a universal file, or `None` if the header or the table ends past the file.
     pub(super) fn of(file: Bytes<'a>) -> Option<Entries<'a>>
         requires { IsUniversal (bytes_of file) }
         ensures inside { IsSome result ↔ ((8 ≤ length (bytes_of file.entry))

@@ -1,4 +1,4 @@
-//! The rules of a file, one a function: each takes over where the rules before it are unbroken. Each
+//! The rules of a file, one function each. Each requires that the earlier rules are unbroken. Each
 //! entry is compared with all earlier ones, which takes time in the order of n^2 for n entries.
 //! (`mach-o/fat.h`)
 
@@ -171,7 +171,7 @@ pub(super) fn fat_slice_magic(entries: Entries) -> Result<(), Break>
     }
 }
 
-// The lesser of two places, of which the first may be missing.
+// The lesser of two places; the first may be missing.
 fn lesser(least: Option<u64>, place: u64) -> u64
     ensures { MatchOption least (result ≡ place) (λ least. result ≡ min least place) }
 {

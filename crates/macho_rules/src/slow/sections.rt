@@ -1,4 +1,4 @@
-//! The rules of the sections of an image, each with a search of its own.
+//! The rules of the sections of an image, each with its own search.
 
 ghost use Rattle.std.specs.Prelude.{◌≤◌, ◌↔◌, Bool, IsTrue};
 ghost use Rattle.std.specs.Fn.{FnReturnsAt};

@@ -1,4 +1,5 @@
-//! The rules of the segments of an image, each with a search of its own. Each two segments are compared.
+//! The rules of the segments of an image, each with its own search. All pairs of segments are
+//! compared.
 
 ghost use Rattle.std.specs.Prelude.{◌≡◌, ◌≤◌, ◌↔◌, Bool, IsTrue};
 ghost use Rattle.std.specs.Fn.{FnReturnsAt};

@@ -1,4 +1,4 @@
-//! The rules of the symbols of an image, each with a loop of its own. The strings are searched for each
+//! The rules of the symbols of an image, each with its own loop. The strings are searched for each
 //! name.
 
 ghost use Rattle.std.specs.Prelude.{◌≡◌, ◌+◌, ◌≤◌, ◌<◌, ◌↔◌, length, IsTrue};
@@ -21,8 +21,8 @@ pub(super) fn judge_symbols(image: &Image) -> Result<(), Break>
     symbol_section(image)
 }
 
-// Each symbol that has a name has one that ends in the strings. The end of each name is searched for
-// on its own, which takes time in proportion to the symbols times the strings.
+// The name of each symbol that has one ends in the strings. The rule searches for the end of each
+// name, which takes time in proportion to the symbols times the strings.
 fn symbol_name(image: &Image) -> Result<(), Break>
     requires { KeptBefore image.now Rule.SymbolName }
     ensures { JudgesUpTo image.now Rule.SymbolName result }
@@ -61,7 +61,7 @@ fn has_endless_name(image: Bytes, symtab: Symtab, symbol: Symbol) -> bool
     image.first_zero(rest).is_none()
 }
 
-// Each symbol that is defined in a section has the number of one.
+// Each symbol that is defined in a section has the number of an existing section.
 fn symbol_section(image: &Image) -> Result<(), Break>
     requires { KeptBefore image.now Rule.SymbolSection }
     ensures { JudgesUpTo image.now Rule.SymbolSection result }

@@ -1,10 +1,10 @@
-//! A count that is kept twice. What the calls made in all is set by nothing: only `raise` changes it.
+//! A count that is kept twice. Nothing sets the total of all calls: only `raise` changes it.
 
 ghost use Rattle.std.specs.Prelude.{◌≡◌, ◌+◌, ◌<◌, ◌^◌};
 ghost use Rattle.macho_spans.specs.Spans.{RoseBy};
 
-// How often something was done, in the last call and in all calls. What it was in all is 0 again after
-// 2^64 - 1.
+// How often something was done, in the last call and in all calls. The total is 0 again after 2^64
+// - 1.
 #[derive(Drop)]
 pub(super) struct Count {
     call: u64,
@@ -34,7 +34,7 @@ impl Count {
         self.call = 0;
     }
 
-    // It is done once more.
+    // Counts once more.
     pub(super) fn raise(&mut self)
         requires { self.old.call < 2 ^ 32 }
         ensures call { self.new.call ≡ self.old.call + 1 }

@@ -1,9 +1,9 @@
-//! The pairs of a span and a tag. What is counted as a probe is one comparison of a held span's start
-//! with the start or place that is searched for: `starts_by`, which counts it, and which the search by
-//! halves alone calls. What is counted as a test is a look at one given pair: whether its span shares a
-//! place with a span (`shares`) or holds a place (`holding`). A test compares the pair's start as well,
-//! and is no probe: an insertion makes two at most, a look-up one. A caller sees no start but that of
-//! the pair that `holding` found and returns.
+//! The pairs of a span and a tag. What is counted as a probe is one comparison of a held span's
+//! start with the start or place that is searched for: `starts_by`, which counts it, and which only
+//! the binary search calls. What is counted as a test is a look at one given pair: whether its span
+//! shares a place with a span (`shares`) or holds a place (`holding`). A test compares the pair's
+//! start as well, and is not a probe: an insertion makes two at most, a look-up one. A caller sees
+//! no start but that of the pair that `holding` found and returns.
 
 use super::count::Count;
 use crate::span::Span;
@@ -39,7 +39,7 @@ impl CountedPairs {
         }
     }
 
-    // None, with room for so many and no more.
+    // No pairs. The capacity is exactly `count`.
     pub(super) fn with_capacity(alloc: Global, count: usize) -> Result<CountedPairs, AllocError>
         ensures none { IfOk result (λ held. held.pairs.items ≡ []) }
         ensures capacity { IfOk result (λ held. vec_capacity held.pairs ≡ count) }
@@ -82,7 +82,8 @@ impl CountedPairs {
         self.tests.begin();
     }
 
-    // How many of the spans start at the place or before it, by halves. A call begins with it.
+    // How many of the spans start at or before the place, by binary search. Each call begins with
+    // it.
     pub(super) fn count_starts_by(&mut self, place: u64) -> usize
         requires { AreSorted self.old.pairs.items }
         ensures count { StartBy self.old.pairs.items place result }

@@ -1,4 +1,4 @@
-//! How a call ends, if not with what it answers where no rule is broken.
+//! How a call ends, if not with its answer on a file that breaks no rule.
 
 ghost use Rattle.std.specs.Prelude.{◌≡◌};
 ghost use Rattle.macho_trials.specs.Status.{status_of};
@@ -17,7 +17,7 @@ pub(crate) enum Fault {
     Broken(Break),
     /// There was no memory.
     Memory,
-    /// After want of memory, something else is held than before.
+    /// After running out of memory, something else is held than before.
     Changed,
     /// A run read or wrote no further.
     Run(RunFault),

@@ -9,8 +9,9 @@ use crate::refusals::fault::Fault;
 use macho_fields::{Insert, Span, SpanList, Spans};
 use std::alloc::Global;
 
-/// Makes `Spans` with room for all spans or for none, inserts each, and prints how many are held in the
-/// end. After want of memory and in the end, what is held is compared with a plain list.
+/// Makes `Spans` with room for all spans or for none, inserts each, and prints how many are held in
+/// the end. After running out of memory and at the end, the held spans are compared with a plain
+/// list.
 pub(crate) fn call_try_insert(rt: &HostRuntime, input: &[u8], has_room: bool) -> Result<(), Fault> {
     let all = spans_of(rt.alloc(), input)?;
     let mut pairs = Vec::with_capacity(rt.alloc(), all.len())?;
@@ -21,7 +22,7 @@ pub(crate) fn call_try_insert(rt: &HostRuntime, input: &[u8], has_room: bool) ->
     end(refused)
 }
 
-/// Inserts each span, and compares what is held in the end. It answers whether memory was wanting.
+/// Inserts each span, and compares what is held in the end. It returns whether memory ran out.
 fn insert_each(
     spans: &mut Spans,
     pairs: &mut Vec<(Span, u64)>,
@@ -35,7 +36,7 @@ fn insert_each(
     Ok(refused)
 }
 
-/// Inserts a span, a second time where memory was wanting. It answers whether it was.
+/// Inserts a span, a second time if memory ran out. It returns whether it did.
 fn insert(
     spans: &mut Spans,
     pairs: &mut Vec<(Span, u64)>,
@@ -58,7 +59,7 @@ fn insert(
     Ok(refused)
 }
 
-/// How all calls have ended: with want of memory where one of them was refused it.
+/// How all calls have ended: out of memory if one of them was refused some.
 fn end(refused: bool) -> Result<(), Fault> {
     if refused {
         return Err(Fault::Memory);
@@ -77,7 +78,7 @@ pub(crate) fn call_push(rt: &HostRuntime, input: &[u8], has_room: bool) -> Resul
     end(refused)
 }
 
-/// Pushes each span, a second time where memory was wanting. It answers whether it was.
+/// Pushes each span, a second time if memory ran out. It returns whether it did.
 fn push_each(list: &mut SpanList, all: &[Span]) -> Result<bool, Fault> {
     let mut refused = false;
     for &span in all {
