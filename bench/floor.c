@@ -1,7 +1,8 @@
 // Decides what macho-check decides of standard input, and prints the same text with the same status: the layout of a
 // file that breaks no rule of docs/RULES.md (status 0), or the first rule that is broken and its place (status 1).
 //
-//     cc -std=c99 -O2 -o floor bench/floor.c && ./floor [--strict] <FILE
+//     bench/floor_tables.py >floor_tables.h && cc -std=c99 -O2 -I. -o floor bench/floor.c
+//     ./floor [--strict] <FILE
 //
 // With --strict it decides what macho-strict decides.
 //
@@ -13,7 +14,8 @@
 //
 // Structures and constants have their public names. The rules stand in the order of docs/RULES.md, a function for each:
 // of the file, of the header and the load commands, of segments and sections, of tables and symbols, and of the entry.
-// After them stand the walk and the judgment, which call them, then the strict profile, and the report.
+// After them stand the walk and the judgment, which call them, then the strict profile, and the report. The names of
+// the rules, the filetypes, the listed commands and their tables are those of that page, as floor_tables.h has them.
 
 #define _GNU_SOURCE // memrchr
 #include <stdbool.h>
@@ -24,6 +26,8 @@
 #include <string.h>
 #include <sys/stat.h>
 #include <unistd.h>
+
+#include "floor_tables.h"
 
 #if SIZE_MAX < UINT64_MAX || __BYTE_ORDER__ != __ORDER_LITTLE_ENDIAN__
 #error "this program is for 64-bit little-endian machines"
@@ -75,43 +79,11 @@ struct fat_arch_64 {
 #define MH_MAGIC_64 0xfeedfacfu
 #define MH_CIGAM_64 0xcffaedfeu
 
-#define MH_EXECUTE 2u
-#define MH_DYLIB 6u
-#define MH_BUNDLE 8u
-
 struct mach_header_64 {
     uint32_t magic, cputype, cpusubtype, filetype, ncmds, sizeofcmds, flags, reserved;
 };
 
 #define LC_REQ_DYLD 0x80000000u
-#define LC_SYMTAB 0x2u
-#define LC_DYSYMTAB 0xbu
-#define LC_LOAD_DYLIB 0xcu
-#define LC_ID_DYLIB 0xdu
-#define LC_LOAD_DYLINKER 0xeu
-#define LC_ID_DYLINKER 0xfu
-#define LC_SEGMENT_64 0x19u
-#define LC_UUID 0x1bu
-#define LC_CODE_SIGNATURE 0x1du
-#define LC_SEGMENT_SPLIT_INFO 0x1eu
-#define LC_LAZY_LOAD_DYLIB 0x20u
-#define LC_DYLD_INFO 0x22u
-#define LC_FUNCTION_STARTS 0x26u
-#define LC_DYLD_ENVIRONMENT 0x27u
-#define LC_DATA_IN_CODE 0x29u
-#define LC_DYLIB_CODE_SIGN_DRS 0x2bu
-#define LC_ENCRYPTION_INFO_64 0x2cu
-#define LC_LINKER_OPTIMIZATION_HINT 0x2eu
-#define LC_NOTE 0x31u
-#define LC_BUILD_VERSION 0x32u
-#define LC_LOAD_WEAK_DYLIB (0x18u | LC_REQ_DYLD)
-#define LC_RPATH (0x1cu | LC_REQ_DYLD)
-#define LC_REEXPORT_DYLIB (0x1fu | LC_REQ_DYLD)
-#define LC_DYLD_INFO_ONLY (0x22u | LC_REQ_DYLD)
-#define LC_LOAD_UPWARD_DYLIB (0x23u | LC_REQ_DYLD)
-#define LC_MAIN (0x28u | LC_REQ_DYLD)
-#define LC_DYLD_EXPORTS_TRIE (0x33u | LC_REQ_DYLD)
-#define LC_DYLD_CHAINED_FIXUPS (0x34u | LC_REQ_DYLD)
 
 struct load_command {
     uint32_t cmd, cmdsize;
@@ -140,9 +112,12 @@ struct dylib_command {
     uint32_t cmd, cmdsize, name, timestamp, current_version, compatibility_version;
 };
 
-// dylinker_command and rpath_command, which are alike.
-struct name_command {
+struct dylinker_command {
     uint32_t cmd, cmdsize, name;
+};
+
+struct rpath_command {
+    uint32_t cmd, cmdsize, path;
 };
 
 struct symtab_command {
@@ -191,9 +166,6 @@ struct entry_point_command {
 };
 
 #define BUILD_TOOL_VERSION_SIZE 8u
-#define DYLIB_TABLE_OF_CONTENTS_SIZE 8u
-#define DYLIB_MODULE_64_SIZE 56u
-#define DYLIB_REFERENCE_SIZE 4u
 #define INDIRECT_ENTRY_SIZE 4u
 
 // mach-o/nlist.h, mach-o/reloc.h
@@ -245,57 +217,12 @@ static inline bool fits(uint64_t start, uint64_t size, uint64_t limit) {
 
 // The rules, in the order in which they are judged.
 
-enum rule {
-    MAGIC, FAT_TRUNCATED, FAT_SLICE_OUTSIDE, FAT_SLICE_IN_TABLE, FAT_ALIGN, FAT_OVERLAP, FAT_DUPLICATE, FAT_SLICE_MAGIC,
-    FAT_EMPTY,
-    HEADER_TRUNCATED, ARCH_MISMATCH, FILE_TYPE, COMMANDS_OUTSIDE, COMMAND_WALK, COMMAND_SHORT, COMMAND_REPEATED,
-    DYLIB_ID, NAME,
-    SEGMENT_ADDRESS, SEGMENT_SIZE, SEGMENT_FILE, SEGMENT_OVERLAP, SECTION_ADDRESS, SECTION_FILE, SECTION_RELOCS,
-    TABLE_RANGE, SYMBOL_GROUP, SYMBOL_NAME, SYMBOL_SECTION, INDIRECT_INDEX,
-    ENTRY,
-    FAT_STRAY_BYTE, COMMANDS_END, HEADER_SEGMENT, SEGMENT_FILE_OVERLAP, ELEMENT_OVERLAP, STRAY_BYTE,
-    RULE_COUNT
-};
+#define AS_CONSTANT(rule, name) rule,
+#define AS_NAME(rule, name) name,
 
-static const char *const rule_names[RULE_COUNT] = {
-    [MAGIC] = "magic",
-    [FAT_TRUNCATED] = "fat-truncated",
-    [FAT_SLICE_OUTSIDE] = "fat-slice-outside",
-    [FAT_SLICE_IN_TABLE] = "fat-slice-in-table",
-    [FAT_ALIGN] = "fat-align",
-    [FAT_OVERLAP] = "fat-overlap",
-    [FAT_DUPLICATE] = "fat-duplicate",
-    [FAT_SLICE_MAGIC] = "fat-slice-magic",
-    [FAT_EMPTY] = "fat-empty",
-    [HEADER_TRUNCATED] = "header-truncated",
-    [ARCH_MISMATCH] = "arch-mismatch",
-    [FILE_TYPE] = "file-type",
-    [COMMANDS_OUTSIDE] = "commands-outside",
-    [COMMAND_WALK] = "command-walk",
-    [COMMAND_SHORT] = "command-short",
-    [COMMAND_REPEATED] = "command-repeated",
-    [DYLIB_ID] = "dylib-id",
-    [NAME] = "name",
-    [SEGMENT_ADDRESS] = "segment-address",
-    [SEGMENT_SIZE] = "segment-size",
-    [SEGMENT_FILE] = "segment-file",
-    [SEGMENT_OVERLAP] = "segment-overlap",
-    [SECTION_ADDRESS] = "section-address",
-    [SECTION_FILE] = "section-file",
-    [SECTION_RELOCS] = "section-relocs",
-    [TABLE_RANGE] = "table-range",
-    [SYMBOL_GROUP] = "symbol-group",
-    [SYMBOL_NAME] = "symbol-name",
-    [SYMBOL_SECTION] = "symbol-section",
-    [INDIRECT_INDEX] = "indirect-index",
-    [ENTRY] = "entry",
-    [FAT_STRAY_BYTE] = "fat-stray-byte",
-    [COMMANDS_END] = "commands-end",
-    [HEADER_SEGMENT] = "header-segment",
-    [SEGMENT_FILE_OVERLAP] = "segment-file-overlap",
-    [ELEMENT_OVERLAP] = "element-overlap",
-    [STRAY_BYTE] = "stray-byte",
-};
+enum rule { RULES(AS_CONSTANT) RULE_COUNT };
+
+static const char *const rule_names[RULE_COUNT] = {RULES(AS_NAME)};
 
 // The rules that were found broken, a bit for each, and the least place in the file at which each of these is. The
 // first broken rule is that of the least bit, once all rules before it have been judged.
@@ -621,6 +548,26 @@ static void judge_entries(const struct universal *file, struct breaks *breaks) {
 
 // Images
 
+struct filetype {
+    uint32_t filetype;
+    bool names_itself;
+    const char *word;
+};
+
+#define AS_FILETYPE(filetype, names_itself, word) {filetype, names_itself, word},
+
+static const struct filetype filetypes[] = {FILETYPES(AS_FILETYPE)};
+
+// NULL where it is none of those that are judged.
+static const struct filetype *find_filetype(uint64_t filetype) {
+    for (size_t k = 0; k < sizeof filetypes / sizeof filetypes[0]; k++) {
+        if (filetypes[k].filetype == filetype) {
+            return &filetypes[k];
+        }
+    }
+    return NULL;
+}
+
 // The places of the first and the last command of a kind. Where there is none, the first is 0, which is in the header,
 // and the last has no value.
 struct range {
@@ -634,7 +581,8 @@ struct image {
     uint64_t size;
     uint64_t start; // in the file
     struct arch arch;
-    uint64_t filetype, ncmds;
+    const struct filetype *filetype; // NULL where it is none of those that are judged
+    uint64_t ncmds;
     uint64_t commands_end;
     uint64_t walked_end; // where the last command ends
     // The places of commands that stand once; 0 where there is none.
@@ -677,8 +625,8 @@ static bool breaks_arch_mismatch(const struct image *image, const struct arch *e
     return entry != NULL && arch_number(&image->arch) != arch_number(entry);
 }
 
-static bool breaks_file_type(uint64_t filetype) {
-    return filetype != MH_EXECUTE && filetype != MH_DYLIB && filetype != MH_BUNDLE;
+static bool breaks_file_type(const struct image *image) {
+    return image->filetype == NULL;
 }
 
 static bool breaks_commands_outside(const struct image *image) {
@@ -719,12 +667,12 @@ static void judge_command_repeated(const struct image *image, uint64_t *first, u
 }
 
 static bool breaks_dylib_id(const struct image *image) {
-    return (image->filetype == MH_DYLIB) != (image->id_dylib != 0);
+    return image->filetype->names_itself != (image->id_dylib != 0);
 }
 
-// `least` is the size of the command's structure. The name begins at its end or later.
+// The name begins at the offset `least` or later. Its own offset is the first field of each structure that has one.
 static inline bool breaks_name(const uint8_t *command, uint64_t size, uint64_t least) {
-    uint64_t name = FIELD(command, name_command, name);
+    uint64_t name = FIELD(command, dylinker_command, name);
     return name < least || name >= size || memchr(command + name, 0, size - name) == NULL;
 }
 
@@ -835,53 +783,28 @@ static inline bool breaks_section_relocs(const struct section *section, uint64_t
 
 // Rules of tables and symbols
 
-// A bounded table: the offsets of its start and count in the command, and the bytes per entry.
+// A bounded table: the offsets of its start and count in the command, the width of these, and the bytes per entry.
 struct table {
-    uint8_t start, count, entry;
+    uint8_t start, count, width, entry;
 };
 
-#define TABLE(type, start, count, entry) {offsetof(struct type, start), offsetof(struct type, count), entry}
+#define AS_TABLE(structure, start, count, entry) \
+    {offsetof(struct structure, start), offsetof(struct structure, count), WIDTH(structure, start), entry},
 
-static const struct table symtab_tables[] = {
-    TABLE(symtab_command, symoff, nsyms, sizeof(struct nlist_64)),
-    TABLE(symtab_command, stroff, strsize, 1),
-};
+static const struct table bounded_tables[] = {BOUNDED_TABLES(AS_TABLE)};
 
-static const struct table dysymtab_tables[] = {
-    TABLE(dysymtab_command, tocoff, ntoc, DYLIB_TABLE_OF_CONTENTS_SIZE),
-    TABLE(dysymtab_command, modtaboff, nmodtab, DYLIB_MODULE_64_SIZE),
-    TABLE(dysymtab_command, extrefsymoff, nextrefsyms, DYLIB_REFERENCE_SIZE),
-    TABLE(dysymtab_command, indirectsymoff, nindirectsyms, INDIRECT_ENTRY_SIZE),
-    TABLE(dysymtab_command, extreloff, nextrel, RELOCATION_INFO_SIZE),
-    TABLE(dysymtab_command, locreloff, nlocrel, RELOCATION_INFO_SIZE),
-};
-
-static const struct table linkedit_data_tables[] = {
-    TABLE(linkedit_data_command, dataoff, datasize, 1),
-};
-
-static const struct table dyld_info_tables[] = {
-    TABLE(dyld_info_command, rebase_off, rebase_size, 1),
-    TABLE(dyld_info_command, bind_off, bind_size, 1),
-    TABLE(dyld_info_command, weak_bind_off, weak_bind_size, 1),
-    TABLE(dyld_info_command, lazy_bind_off, lazy_bind_size, 1),
-    TABLE(dyld_info_command, export_off, export_size, 1),
-};
-
-static const struct table encryption_info_tables[] = {
-    TABLE(encryption_info_command_64, cryptoff, cryptsize, 1),
-};
-
-static bool breaks_table_range(const uint8_t *command, const struct table *table, uint64_t slice_size) {
-    uint64_t start = read_little(command + table->start, sizeof(uint32_t));
-    uint64_t count = read_little(command + table->count, sizeof(uint32_t));
-    return count != 0 && !fits(start, count * table->entry, slice_size);
+// A count of 64 bits is one of single bytes.
+static inline uint64_t table_start(const uint8_t *command, const struct table *table) {
+    return read_little(command + table->start, table->width);
 }
 
-// LC_NOTE alone has fields of 64 bits.
-static bool breaks_table_range_of_note(const uint8_t *command, uint64_t slice_size) {
-    uint64_t size = FIELD(command, note_command, size);
-    return size != 0 && !fits(FIELD(command, note_command, offset), size, slice_size);
+static inline uint64_t table_size(const uint8_t *command, const struct table *table) {
+    return read_little(command + table->count, table->width) * table->entry;
+}
+
+static inline bool breaks_table_range(const uint8_t *command, const struct table *table, uint64_t slice_size) {
+    uint64_t size = table_size(command, table);
+    return size != 0 && !fits(table_start(command, table), size, slice_size);
 }
 
 static uint64_t symbol_count(const struct image *image) {
@@ -988,53 +911,38 @@ static bool breaks_entry(const struct image *image) {
 
 // The walk over the load commands
 
-// What is judged in a listed command, past its size.
-enum kind {
-    NOT_LISTED, SYMBOLS, GROUPS, LIBRARY, LIBRARY_ID, NAMED, SEGMENT, IDENTITY, LINKEDIT_DATA, DYLD_INFO,
-    ENCRYPTION_INFO, DATA_NOTE, BUILD, MAIN
-};
-
+// What is judged of a listed command by its structure: the least offset of its name, if it has one, and its tables.
 struct listed {
-    uint8_t kind, least; // the size of the command's structure
+    uint8_t least; // the size of the structure; 0 where the command is not listed
+    uint8_t name;
+    uint8_t first_table, table_count;
 };
 
-// A number below 128 for a `cmd` whose other bits are 0. All listed commands have such a one.
+// A number from 1 to 127 for a `cmd` whose other bits are 0. All listed commands have such a one.
 #define SLOT(cmd) (((cmd) & 0x3fu) | (cmd) >> 31 << 6)
 #define SLOT_BITS (0x3fu | LC_REQ_DYLD)
 
-static const struct listed listed_commands[128] = {
-    [SLOT(LC_SYMTAB)] = {SYMBOLS, sizeof(struct symtab_command)},
-    [SLOT(LC_DYSYMTAB)] = {GROUPS, sizeof(struct dysymtab_command)},
-    [SLOT(LC_LOAD_DYLIB)] = {LIBRARY, sizeof(struct dylib_command)},
-    [SLOT(LC_ID_DYLIB)] = {LIBRARY_ID, sizeof(struct dylib_command)},
-    [SLOT(LC_LOAD_DYLINKER)] = {NAMED, sizeof(struct name_command)},
-    [SLOT(LC_ID_DYLINKER)] = {NAMED, sizeof(struct name_command)},
-    [SLOT(LC_SEGMENT_64)] = {SEGMENT, sizeof(struct segment_command_64)},
-    [SLOT(LC_UUID)] = {IDENTITY, sizeof(struct uuid_command)},
-    [SLOT(LC_CODE_SIGNATURE)] = {LINKEDIT_DATA, sizeof(struct linkedit_data_command)},
-    [SLOT(LC_SEGMENT_SPLIT_INFO)] = {LINKEDIT_DATA, sizeof(struct linkedit_data_command)},
-    [SLOT(LC_LAZY_LOAD_DYLIB)] = {LIBRARY, sizeof(struct dylib_command)},
-    [SLOT(LC_DYLD_INFO)] = {DYLD_INFO, sizeof(struct dyld_info_command)},
-    [SLOT(LC_FUNCTION_STARTS)] = {LINKEDIT_DATA, sizeof(struct linkedit_data_command)},
-    [SLOT(LC_DYLD_ENVIRONMENT)] = {NAMED, sizeof(struct name_command)},
-    [SLOT(LC_DATA_IN_CODE)] = {LINKEDIT_DATA, sizeof(struct linkedit_data_command)},
-    [SLOT(LC_DYLIB_CODE_SIGN_DRS)] = {LINKEDIT_DATA, sizeof(struct linkedit_data_command)},
-    [SLOT(LC_ENCRYPTION_INFO_64)] = {ENCRYPTION_INFO, sizeof(struct encryption_info_command_64)},
-    [SLOT(LC_LINKER_OPTIMIZATION_HINT)] = {LINKEDIT_DATA, sizeof(struct linkedit_data_command)},
-    [SLOT(LC_NOTE)] = {DATA_NOTE, sizeof(struct note_command)},
-    [SLOT(LC_BUILD_VERSION)] = {BUILD, sizeof(struct build_version_command)},
-    [SLOT(LC_LOAD_WEAK_DYLIB)] = {LIBRARY, sizeof(struct dylib_command)},
-    [SLOT(LC_RPATH)] = {NAMED, sizeof(struct name_command)},
-    [SLOT(LC_REEXPORT_DYLIB)] = {LIBRARY, sizeof(struct dylib_command)},
-    [SLOT(LC_DYLD_INFO_ONLY)] = {DYLD_INFO, sizeof(struct dyld_info_command)},
-    [SLOT(LC_LOAD_UPWARD_DYLIB)] = {LIBRARY, sizeof(struct dylib_command)},
-    [SLOT(LC_MAIN)] = {MAIN, sizeof(struct entry_point_command)},
-    [SLOT(LC_DYLD_EXPORTS_TRIE)] = {LINKEDIT_DATA, sizeof(struct linkedit_data_command)},
-    [SLOT(LC_DYLD_CHAINED_FIXUPS)] = {LINKEDIT_DATA, sizeof(struct linkedit_data_command)},
-};
+#define AS_LISTED(cmd, structure, name, first_table, table_count) \
+    [SLOT(cmd)] = {sizeof(struct structure), name, first_table, table_count},
 
-static inline struct listed listed_command(uint64_t cmd) {
-    return (cmd & ~(uint64_t)SLOT_BITS) == 0 ? listed_commands[SLOT(cmd)] : (struct listed){NOT_LISTED, 0};
+static const struct listed listed_commands[128] = {LISTED_COMMANDS(AS_LISTED)};
+
+// The commands that load a library, and their words.
+#define LIBRARIES(X) \
+    X(LC_LOAD_DYLIB, "load ") \
+    X(LC_LOAD_WEAK_DYLIB, "weak ") \
+    X(LC_REEXPORT_DYLIB, "reexport ") \
+    X(LC_LAZY_LOAD_DYLIB, "lazy ") \
+    X(LC_LOAD_UPWARD_DYLIB, "upward ")
+
+#define AS_CASE(cmd, word) case SLOT(cmd):
+#define AS_WORD(cmd, word) [SLOT(cmd)] = word,
+
+static const char *const library_words[128] = {LIBRARIES(AS_WORD)};
+
+// The slot of a command; 0, which is that of no listed command, where it cannot be listed.
+static inline size_t slot_of(uint64_t cmd) {
+    return (cmd & ~(uint64_t)SLOT_BITS) == 0 ? SLOT(cmd) : 0;
 }
 
 static inline void judge_section(const struct image *image, const struct segment *segment, uint64_t place) {
@@ -1076,69 +984,48 @@ static inline void judge_segment(struct image *image, uint64_t place) {
     }
 }
 
-static inline void judge_name(const struct image *image, uint64_t place, uint64_t size, uint64_t least) {
-    if (breaks_name(image->bytes + place, size, least)) {
-        note_in(image, NAME, place);
-    }
-}
-
-static void judge_tables(const struct image *image, uint64_t place, const struct table *tables, size_t count) {
-    for (size_t k = 0; k < count; k++) {
+static void judge_tables(const struct image *image, uint64_t place, size_t slot) {
+    const struct table *tables = bounded_tables + listed_commands[slot].first_table;
+    for (size_t k = 0; k < listed_commands[slot].table_count; k++) {
         if (breaks_table_range(image->bytes + place, &tables[k], image->size)) {
             note_in(image, TABLE_RANGE, place);
         }
     }
 }
 
-#define JUDGE_TABLES(image, place, tables) judge_tables(image, place, tables, sizeof(tables) / sizeof((tables)[0]))
-
 // A listed command that is not too short.
-static inline void judge_command(struct image *image, uint64_t place, uint64_t size, struct listed listed) {
-    switch (listed.kind) {
-    case SYMBOLS:
-        judge_command_repeated(image, &image->symtab, place);
-        JUDGE_TABLES(image, place, symtab_tables);
-        break;
-    case GROUPS:
-        judge_command_repeated(image, &image->dysymtab, place);
-        JUDGE_TABLES(image, place, dysymtab_tables);
-        break;
-    case LIBRARY_ID:
-        judge_command_repeated(image, &image->id_dylib, place);
-        judge_name(image, place, size, listed.least);
-        break;
-    case LIBRARY:
-        extend(&image->libraries, place);
-        judge_name(image, place, size, listed.least);
-        break;
-    case NAMED:
-        judge_name(image, place, size, listed.least);
-        break;
-    case SEGMENT:
+static inline void judge_command(struct image *image, uint64_t place, uint64_t size, size_t slot) {
+    struct listed listed = listed_commands[slot];
+    if (listed.table_count != 0) {
+        judge_tables(image, place, slot);
+    }
+    if (listed.name != 0 && breaks_name(image->bytes + place, size, listed.name)) {
+        note_in(image, NAME, place);
+    }
+    switch (slot) {
+    case SLOT(LC_SEGMENT_64):
         judge_segment(image, place);
         break;
-    case IDENTITY:
+    case SLOT(LC_SYMTAB):
+        judge_command_repeated(image, &image->symtab, place);
+        break;
+    case SLOT(LC_DYSYMTAB):
+        judge_command_repeated(image, &image->dysymtab, place);
+        break;
+    case SLOT(LC_ID_DYLIB):
+        judge_command_repeated(image, &image->id_dylib, place);
+        break;
+    case SLOT(LC_UUID):
         judge_command_repeated(image, &image->uuid, place);
         break;
-    case LINKEDIT_DATA:
-        JUDGE_TABLES(image, place, linkedit_data_tables);
+    case SLOT(LC_MAIN):
+        judge_command_repeated(image, &image->main, place);
         break;
-    case DYLD_INFO:
-        JUDGE_TABLES(image, place, dyld_info_tables);
-        break;
-    case ENCRYPTION_INFO:
-        JUDGE_TABLES(image, place, encryption_info_tables);
-        break;
-    case DATA_NOTE:
-        if (breaks_table_range_of_note(image->bytes + place, image->size)) {
-            note_in(image, TABLE_RANGE, place);
-        }
-        break;
-    case BUILD:
+    case SLOT(LC_BUILD_VERSION):
         extend(&image->builds, place);
         break;
-    case MAIN:
-        judge_command_repeated(image, &image->main, place);
+    LIBRARIES(AS_CASE)
+        extend(&image->libraries, place);
         break;
     default:
         break;
@@ -1155,12 +1042,13 @@ static void walk(struct image *image) {
             note_in(image, COMMAND_WALK, place);
             return;
         }
-        struct listed listed = listed_command(FIELD(command, load_command, cmd));
-        if (listed.kind != NOT_LISTED) {
-            if (breaks_command_short(command, size, listed.least)) {
+        size_t slot = slot_of(FIELD(command, load_command, cmd));
+        uint8_t least = listed_commands[slot].least;
+        if (least != 0) {
+            if (breaks_command_short(command, size, least)) {
                 note_in(image, COMMAND_SHORT, place);
             } else {
-                judge_command(image, place, size, listed);
+                judge_command(image, place, size, slot);
             }
         }
         place += size;
@@ -1193,12 +1081,12 @@ static void survey(struct image *image, const struct arch *entry) {
         return;
     }
     image->arch = masked(FIELD(header, mach_header_64, cputype), FIELD(header, mach_header_64, cpusubtype));
-    image->filetype = FIELD(header, mach_header_64, filetype);
+    image->filetype = find_filetype(FIELD(header, mach_header_64, filetype));
     image->ncmds = FIELD(header, mach_header_64, ncmds);
     image->commands_end = sizeof(struct mach_header_64) + FIELD(header, mach_header_64, sizeofcmds);
     if (breaks_arch_mismatch(image, entry)) {
         note_in(image, ARCH_MISMATCH, offsetof(struct mach_header_64, cputype));
-    } else if (breaks_file_type(image->filetype)) {
+    } else if (breaks_file_type(image)) {
         note_in(image, FILE_TYPE, offsetof(struct mach_header_64, filetype));
     } else if (breaks_commands_outside(image)) {
         note_in(image, COMMANDS_OUTSIDE, offsetof(struct mach_header_64, sizeofcmds));
@@ -1336,44 +1224,21 @@ static void gather_sections(const struct image *image, uint64_t segment, struct 
     }
 }
 
-static void gather_tables(const struct image *image, uint64_t place, const struct table *tables, size_t count,
-                          struct gathered *elements) {
+static inline void gather_tables(const struct image *image, uint64_t place, size_t slot, struct gathered *elements) {
     const uint8_t *command = image->bytes + place;
-    for (size_t k = 0; k < count; k++) {
-        uint64_t start = read_little(command + tables[k].start, sizeof(uint32_t));
-        uint64_t entries = read_little(command + tables[k].count, sizeof(uint32_t));
-        gather(elements, start, entries * tables[k].entry, image->start + place);
+    const struct table *tables = bounded_tables + listed_commands[slot].first_table;
+    for (size_t k = 0; k < listed_commands[slot].table_count; k++) {
+        gather(elements, table_start(command, &tables[k]), table_size(command, &tables[k]), image->start + place);
     }
 }
 
-#define GATHER_TABLES(image, place, tables, elements) \
-    gather_tables(image, place, tables, sizeof(tables) / sizeof((tables)[0]), elements)
-
 // What is encrypted is no element: it is in a section.
 static inline void gather_command(const struct image *image, uint64_t place, struct gathered *elements) {
-    const uint8_t *command = image->bytes + place;
-    switch (listed_command(FIELD(command, load_command, cmd)).kind) {
-    case SEGMENT:
+    size_t slot = slot_of(FIELD(image->bytes + place, load_command, cmd));
+    if (slot == SLOT(LC_SEGMENT_64)) {
         gather_sections(image, place, elements);
-        break;
-    case SYMBOLS:
-        GATHER_TABLES(image, place, symtab_tables, elements);
-        break;
-    case GROUPS:
-        GATHER_TABLES(image, place, dysymtab_tables, elements);
-        break;
-    case LINKEDIT_DATA:
-        GATHER_TABLES(image, place, linkedit_data_tables, elements);
-        break;
-    case DYLD_INFO:
-        GATHER_TABLES(image, place, dyld_info_tables, elements);
-        break;
-    case DATA_NOTE:
-        gather(elements, FIELD(command, note_command, offset), FIELD(command, note_command, size),
-               image->start + place);
-        break;
-    default:
-        break;
+    } else if (slot != SLOT(LC_ENCRYPTION_INFO_64)) {
+        gather_tables(image, place, slot, elements);
     }
 }
 
@@ -1571,28 +1436,6 @@ static const char *arch_name(const struct arch *arch) {
     return NULL;
 }
 
-static const char *filetype_word(uint64_t filetype) {
-    return filetype == MH_EXECUTE ? "execute" : filetype == MH_DYLIB ? "dylib" : "bundle";
-}
-
-// The word of a library that the image loads, and NULL of any other command.
-static const char *library_word(uint64_t cmd) {
-    switch (cmd) {
-    case LC_LOAD_DYLIB:
-        return "load ";
-    case LC_LOAD_WEAK_DYLIB:
-        return "weak ";
-    case LC_REEXPORT_DYLIB:
-        return "reexport ";
-    case LC_LAZY_LOAD_DYLIB:
-        return "lazy ";
-    case LC_LOAD_UPWARD_DYLIB:
-        return "upward ";
-    default:
-        return NULL;
-    }
-}
-
 static void print_break(const struct breaks *breaks) {
     int first = __builtin_ctzll(breaks->broken);
     PUT("refused: ");
@@ -1719,7 +1562,7 @@ static void print_libraries(const struct image *image) {
     const struct range *libraries = &image->libraries;
     for (uint64_t place = libraries->first; place != 0; place = next_place(image, libraries, place)) {
         const uint8_t *command = image->bytes + place;
-        const char *word = library_word(FIELD(command, load_command, cmd));
+        const char *word = library_words[slot_of(FIELD(command, load_command, cmd))];
         if (word != NULL) {
             print_library(command, word);
         }
@@ -1739,7 +1582,7 @@ static void print_entry(const struct image *image) {
 
 // The lines of an accepted image.
 static void print_image(uint64_t index, const struct image *image) {
-    print_slice(index, &image->arch, image->start, image->size, filetype_word(image->filetype));
+    print_slice(index, &image->arch, image->start, image->size, image->filetype->word);
     if (image->id_dylib != 0) {
         print_library(image->bytes + image->id_dylib, "id ");
     }

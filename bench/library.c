@@ -1,6 +1,7 @@
 // Times the library on mapped files, and compares it with the same verdict written by hand in C and with a plain walk.
 //
-//     cc -std=c99 -O2 -I bindings/c -o library bench/library.c build/lib/libkesvuot.a
+//     bench/floor_tables.py >floor_tables.h
+//     cc -std=c99 -O2 -I. -I bindings/c -o library bench/library.c build/lib/libkesvuot.a
 //     ./library ROUNDS FILE
 //
 // It prints seven times in microseconds, and the first line that macho-check would print for FILE. Each time is the

@@ -101,26 +101,19 @@ FILETYPES = {
     for filetype, names_itself, word in rows_of(r"^\| `MH_\w+` \| (\d+) \| (yes|no) \| `(\w+)` \|$")
 }
 
-# The listed commands, by `cmd`: the structure, the least `cmdsize` with nothing counted, the least name offset.
-LISTED = {
-    int(cmd, 16): (structure, int(size), int(name) if name else None)
-    for cmd, structure, size, name in rows_of(r"^\| `LC_\w+` \| (0x\w+) \| `(\w+)` \| (\d+)[^|]* \| (\d*) ?\|$")
+# The listed commands, by name: `cmd`, the structure, the least `cmdsize` with nothing counted, the least name offset.
+COMMANDS = {
+    command: (int(cmd, 16), structure, int(size), int(name) if name else None)
+    for command, cmd, structure, size, name in rows_of(
+        r"^\| `(LC_\w+)` \| (0x\w+) \| `(\w+)` \| (\d+)[^|]* \| (\d*) ?\|$")
 }
+LISTED = {cmd: of_command for cmd, *of_command in COMMANDS.values()}
 
 # The bounded tables of a command, by its structure: the start, the count, the bytes per entry.
+TABLE_ROWS = rows_of(r"^\| `(\w+_command\w*)` \| `(\w+)` \| `(\w+)` \| (\d+) \|$")
 BOUNDED_TABLES = {
-    "symtab_command": [("symoff", "nsyms", 16), ("stroff", "strsize", 1)],
-    "dysymtab_command": [
-        ("tocoff", "ntoc", 8), ("modtaboff", "nmodtab", 56), ("extrefsymoff", "nextrefsyms", 4),
-        ("indirectsymoff", "nindirectsyms", 4), ("extreloff", "nextrel", 8), ("locreloff", "nlocrel", 8),
-    ],
-    "linkedit_data_command": [("dataoff", "datasize", 1)],
-    "dyld_info_command": [
-        ("rebase_off", "rebase_size", 1), ("bind_off", "bind_size", 1), ("weak_bind_off", "weak_bind_size", 1),
-        ("lazy_bind_off", "lazy_bind_size", 1), ("export_off", "export_size", 1),
-    ],
-    "encryption_info_command_64": [("cryptoff", "cryptsize", 1)],
-    "note_command": [("offset", "size", 1)],
+    structure: [(start, count, int(width)) for owner, start, count, width in TABLE_ROWS if owner == structure]
+    for structure, *_ in TABLE_ROWS
 }
 
 # The words of the layout for the commands that load a library.
