@@ -493,12 +493,18 @@ def read_vectors(path: Path) -> list[Vector]:
             pieces[name.strip()] = all_bytes(words, pieces)
         elif line == "cut" or line.startswith("field "):
             chosen = [vector._replace(mutations=(*vector.mutations, line)) for vector in chosen]
-        elif line:
+        elif line and not line.startswith("count "):
             vectors += chosen
             # A name may have colons, but none with a space before and after it.
             name, words, verdict = line.split(" : ", 2)
             chosen = [Vector(name, all_bytes(choice, pieces), verdict, is_strict) for choice in choices(words)]
     return vectors + chosen
+
+
+def read_count(path: Path) -> tuple[int, int]:
+    """How many vectors a file says that it has, and how many mutants of them."""
+    vectors, mutants_of_them = re.search(r"^count (\d+) (\d+)", path.read_text(encoding="ascii"), re.MULTILINE).groups()
+    return int(vectors), int(mutants_of_them)
 
 
 # The bytes of a field, and their order, by its kind.

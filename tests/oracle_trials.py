@@ -25,7 +25,7 @@ from pathlib import Path
 
 TOP = os.path.dirname(os.path.dirname(os.path.abspath(__file__)))
 sys.path.insert(0, os.path.join(TOP, "bench"))
-from images import read_reports, read_vectors  # pylint: disable=wrong-import-position
+from images import read_count, read_reports, read_vectors  # pylint: disable=wrong-import-position
 
 DATA = os.path.join(TOP, "crates", "macho_trials", "data")
 REAL = os.path.join(TOP, "tests", "real")
@@ -432,9 +432,7 @@ def read_all_reports():
     return read_reports(Path(TOP, "tests", "reports.txt"))
 
 def judge_vectors(report, oracle, program, is_strict):
-    """Three are compared: what stands in the data, the oracle, and the program. The counts are those of tests/vectors."""
-    with open(os.path.join(TOP, "tests", "vectors.figures"), encoding="ascii") as file:
-        counts = dict(re.findall(r"^(\S+\.txt) (\d+)", file.read(), re.MULTILINE))
+    """Three are compared: what stands in the data, the oracle, and the program."""
     seen = Counter()
     for name, vectors in read_all_vectors(is_strict):
         questions = [Question("%s: %s" % (name, vector.name), vector.data, "check", ()) for vector in vectors]
@@ -443,15 +441,15 @@ def judge_vectors(report, oracle, program, is_strict):
         report.agreeing("the vectors of " + name, judged.differences, len(questions), "answers")
         right = sum(agrees_by_hand(report, question, says, vector.wanted)
                     for question, says, vector in zip(questions, judged.oracle, vectors))
-        known = counts.get(name, "no")
+        known = read_count(Path(DATA, name))[0]
         if is_strict and name != "strict.txt":
             known = sum(vector.wanted != "" for vector in vectors)
-        report.case("the verdicts of %s, by hand" % name, "%d verdicts" % right, "%s verdicts" % known)
-    missing = " ".join(set(counts) - set(os.listdir(DATA)))
-    report.case("files of vectors that are not there", missing or "none", "none")
-    rules = len([kind for kind in seen if kind != "accepted"])
-    wanted = 37 if is_strict else 31
-    report.case("rules that some vector breaks first", "%d of %d" % (rules, wanted), "%d of %d" % (wanted, wanted))
+        report.case("the verdicts of %s, by hand" % name, "%d verdicts" % right, "%d verdicts" % known)
+    rules = oracle.RULES_OF_THE_FILE + oracle.RULES_OF_AN_IMAGE
+    if is_strict:
+        rules += oracle.STRICT_RULES_OF_THE_FILE + oracle.STRICT_RULES_OF_AN_IMAGE
+    unbroken = " ".join({rule.__name__.replace("_", "-") for rule in rules} - set(seen))
+    report.case("rules that no vector breaks first", unbroken or "none", "none")
 
 def agrees_by_hand(report, question, says, verdict):
     """Whether the oracle, which says this, has the verdict, where one is known."""

@@ -16,11 +16,11 @@ from typing import Iterator, NamedTuple
 
 TOP = Path(__file__).resolve().parent.parent
 sys.path.insert(0, os.fspath(TOP / "bench"))
-from images import Vector, mutants, random_lines, read_vectors  # pylint: disable=wrong-import-position
+from images import Vector, mutants, random_lines, read_count, read_vectors  # pylint: disable=wrong-import-position
 
 DATA = TOP / "crates/macho_trials/data"
-FIGURES = [line.split() for line in (TOP / "tests/vectors.figures").read_text(encoding="ascii").splitlines()
-           if not line.startswith("#")]
+FIGURES = dict(line.split() for line in (TOP / "tests/vectors.figures").read_text(encoding="ascii").splitlines()
+               if not line.startswith("#"))
 
 
 class Judged(NamedTuple):
@@ -80,24 +80,23 @@ def read_text(text: str) -> list[Vector]:
 
 def judge_data(program: str) -> None:
     """All vectors have the verdict that stands there, both verdicts agree, and each rule is the first broken one of as
-    many files as tests/vectors.figures says."""
+    many mutants as tests/vectors.figures says."""
     total: Counter[str] = Counter()
-    wanted = {name: counts for name, *counts in FIGURES}
     for path in sorted(DATA.glob("*.txt")):
         vectors = read_vectors(path)
+        count = len(vectors), sum(1 for vector in vectors for _ in mutants(vector))
+        case(f"the vectors and mutants of {path.name}", count, read_count(path))
         if vectors[0].is_strict:
-            case(f"the vectors of {path.name}", [f"{len(vectors)}"], wanted.pop(path.name, "no line"))
             continue
         judged = judge(program, vectors)
-        total += judged.verdicts
+        total += judged.verdicts - Counter(vector.wanted.split(" at ")[0] for vector in vectors)
         case(f"the vectors of {path.name} that have another verdict", judged.wrong or "none", "none")
         case(f"the files of {path.name} on which the verdicts differ", judged.different or "none", "none")
-        counts = [f"{judged.vectors}", f"{judged.files}"]
-        case(f"the vectors and files of {path.name}", counts, wanted.pop(path.name, "no line"))
+    wanted = dict(FIGURES)
     for kind, files in sorted(total.items()):
         kind = kind.replace("refused: ", "")
-        case(f"the files with the answer {kind}", [f"{files}"], wanted.pop(kind, "no line"))
-    case("lines for no file and no answer", list(wanted) or "none", "none")
+        case(f"the mutants with the answer {kind}", files, wanted.pop(kind, "no line"))
+    case("lines for no answer", list(wanted) or "none", "none")
 
 
 NOTATION = """
