@@ -1,6 +1,6 @@
 #!/usr/bin/env python3
-"""Prints the tables of docs/RULES.md for bench/floor.c: the rules, the filetypes that are judged, the listed commands and
-their bounded tables. tests/oracle.py reads all but the first there.
+"""Prints the tables of docs/RULES.md for bench/floor.c: the rules, the filetypes that are judged, the listed commands
+and their bounded tables. tests/oracle.py reads all but the first there.
 
     bench/floor_tables.py >floor_tables.h
 

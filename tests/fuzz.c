@@ -54,12 +54,14 @@ enum accepted { REFUSED = 0, ACCEPTED, ACCEPTED_STRICTLY };
 
 // Counters
 
-__attribute__((section("__libfuzzer_extra_counters"))) static uint8_t counters[64 * 64];
+// The kinds from RULES on are the rules, by their numbers.
+enum { TABLES = 0, SLICES = 9, IMAGE, AT, LINKEDIT, RULES, KINDS = RULES + 64 };
 
-enum { TABLES = 40, SLICES = 49, IMAGE, AT, LINKEDIT };
+__attribute__((section("__libfuzzer_extra_counters"))) static uint8_t counters[64 * KINDS];
 
 // Counts the kind with the number of digits.
 static void reach(unsigned kind, uint64_t number) {
+    CHECK(kind < KINDS);
     unsigned digits = number == 0 ? 0 : 64 - (unsigned)__builtin_clzll(number);
     counters[64 * kind + (digits < 64 ? digits : 63)] = 1;
 }
@@ -494,14 +496,19 @@ static bool is_same(const struct kesvuot_verdict *one, const struct kesvuot_verd
     return one->rule == other->rule && one->place == other->place && one->slices == other->slices;
 }
 
-// The verdict is whole, and its rule is one of so many.
-static void check_verdict(uint32_t status, const struct kesvuot_verdict *verdict, size_t size, uint32_t rules) {
+static bool is_strict(uint32_t rule) {
+    return rule >= KESVUOT_FAT_STRAY_BYTE && rule <= KESVUOT_STRAY_BYTE;
+}
+
+// The verdict is whole.
+static void check_verdict(uint32_t status, const struct kesvuot_verdict *verdict, size_t size) {
+    struct kesvuot_bytes name;
     CHECK(verdict->reserved == 0);
     if (status == KESVUOT_OK) {
         CHECK(verdict->rule == 0 && verdict->place == 0 && verdict->slices > 0);
     } else {
         CHECK(status == KESVUOT_REFUSED);
-        CHECK(verdict->rule > 0 && verdict->rule <= rules);
+        CHECK(kesvuot_rule(verdict->rule, &name) == KESVUOT_OK);
         CHECK(verdict->place <= size && verdict->slices == 0);
     }
 }
@@ -512,16 +519,17 @@ static enum accepted check_verdicts(const uint8_t *file, size_t size, struct kes
     memset(verdict, UNWRITTEN, sizeof *verdict);
     memset(&strict, UNWRITTEN, sizeof strict);
     uint32_t status = kesvuot_verify(file, size, verdict);
-    check_verdict(status, verdict, size, KESVUOT_ENTRY);
+    check_verdict(status, verdict, size);
+    CHECK(!is_strict(verdict->rule));
     uint32_t strict_status = kesvuot_verify_strictly(file, size, &strict);
-    check_verdict(strict_status, &strict, size, KESVUOT_STRAY_BYTE);
+    check_verdict(strict_status, &strict, size);
     if (status == KESVUOT_REFUSED || strict_status == KESVUOT_OK) {
         CHECK(strict_status == status && is_same(verdict, &strict));
     } else {
-        CHECK(strict.rule >= KESVUOT_FAT_STRAY_BYTE);
+        CHECK(is_strict(strict.rule));
     }
-    reach(verdict->rule, verdict->place);
-    reach(strict.rule, strict.place);
+    reach(RULES + verdict->rule, verdict->place);
+    reach(RULES + strict.rule, strict.place);
     return status == KESVUOT_REFUSED ? REFUSED : strict_status == KESVUOT_OK ? ACCEPTED_STRICTLY : ACCEPTED;
 }
 
@@ -539,17 +547,17 @@ static struct kesvuot_verdict check_file(const uint8_t *file, size_t size) {
     return verdict;
 }
 
-// What depends on no file: the names of rules, of which there are as many as the header has; and no bytes.
+// What depends on no file: the names of rules, whose numbers have no gap; and no bytes.
 static void check_constants(void) {
     struct kesvuot_bytes name;
     struct kesvuot_image image;
     struct kesvuot_verdict verdict;
-    for (uint32_t rule = KESVUOT_MAGIC; rule <= KESVUOT_STRAY_BYTE; rule++) {
-        CHECK(kesvuot_rule(rule, &name) == KESVUOT_OK);
+    uint32_t rule = KESVUOT_MAGIC;
+    for (; kesvuot_rule(rule, &name) == KESVUOT_OK; rule++) {
         CHECK(name.len > 0 && name.len == strlen((const char *)name.at));
     }
+    CHECK(rule > KESVUOT_STRAY_BYTE && is_empty(name));
     CHECK(kesvuot_rule(0, &name) == KESVUOT_NONE && is_empty(name));
-    CHECK(kesvuot_rule(KESVUOT_STRAY_BYTE + 1, &name) == KESVUOT_NONE && is_empty(name));
     CHECK(kesvuot_rule(UINT32_MAX, &name) == KESVUOT_NONE && is_empty(name));
     CHECK(kesvuot_version() == KESVUOT_VERSION);
     CHECK(kesvuot_verify(NULL, 0, &verdict) == KESVUOT_REFUSED && verdict.rule == KESVUOT_MAGIC && verdict.place == 0);

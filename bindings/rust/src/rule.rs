@@ -150,16 +150,16 @@ mod tests {
     }
 
     #[test]
-    fn numbers_are_counted_from_one() {
-        for (number, &rule) in (1..).zip(Rule::ALL) {
-            assert_eq!((rule.number(), Rule::from_number(number)), (number, rule));
+    fn each_number_is_of_its_rule() {
+        for &rule in Rule::ALL {
+            assert_eq!(Rule::from_number(rule.number()), rule);
         }
-        assert_eq!(Rule::ALL.len(), 37);
     }
 
     #[test]
     fn a_number_without_a_rule_has_no_name() {
-        for number in [0, 38, u32::MAX] {
+        let next = Rule::ALL.iter().map(|rule| rule.number()).max().unwrap() + 1;
+        for number in [0, next, u32::MAX] {
             let rule = Rule::from_number(number);
             assert_eq!(
                 (rule, rule.number(), rule.name()),
