@@ -993,6 +993,19 @@ static void judge_tables(const struct image *image, uint64_t place, size_t slot)
     }
 }
 
+// The commands that stand once, and where an image keeps their places.
+#define SINGLE_COMMANDS(X) \
+    X(LC_SYMTAB, symtab) \
+    X(LC_DYSYMTAB, dysymtab) \
+    X(LC_ID_DYLIB, id_dylib) \
+    X(LC_UUID, uuid) \
+    X(LC_MAIN, main)
+
+#define AS_JUDGED(cmd, first) \
+    case SLOT(cmd): \
+        judge_command_repeated(image, &image->first, place); \
+        break;
+
 // A listed command that is not too short.
 static inline void judge_command(struct image *image, uint64_t place, uint64_t size, size_t slot) {
     struct listed listed = listed_commands[slot];
@@ -1006,21 +1019,7 @@ static inline void judge_command(struct image *image, uint64_t place, uint64_t s
     case SLOT(LC_SEGMENT_64):
         judge_segment(image, place);
         break;
-    case SLOT(LC_SYMTAB):
-        judge_command_repeated(image, &image->symtab, place);
-        break;
-    case SLOT(LC_DYSYMTAB):
-        judge_command_repeated(image, &image->dysymtab, place);
-        break;
-    case SLOT(LC_ID_DYLIB):
-        judge_command_repeated(image, &image->id_dylib, place);
-        break;
-    case SLOT(LC_UUID):
-        judge_command_repeated(image, &image->uuid, place);
-        break;
-    case SLOT(LC_MAIN):
-        judge_command_repeated(image, &image->main, place);
-        break;
+    SINGLE_COMMANDS(AS_JUDGED)
     case SLOT(LC_BUILD_VERSION):
         extend(&image->builds, place);
         break;
@@ -1423,6 +1422,7 @@ static void put_name_of_16(const uint8_t *name) {
 }
 
 #define PUT_LABELLED(label, number) (PUT(label), put_hex(number))
+#define PUT_VERSION(label, number) (PUT(label), put_version(number))
 
 static const char *arch_name(const struct arch *arch) {
     if (arch->cputype == CPU_TYPE_X86_64) {
@@ -1474,10 +1474,8 @@ static void print_library(const uint8_t *command, const char *word) {
     PUT("  ");
     put_word(word);
     put_name(name, strlen((const char *)name));
-    PUT(" current ");
-    put_version(FIELD(command, dylib_command, current_version));
-    PUT(" compatible ");
-    put_version(FIELD(command, dylib_command, compatibility_version));
+    PUT_VERSION(" current ", FIELD(command, dylib_command, current_version));
+    PUT_VERSION(" compatible ", FIELD(command, dylib_command, compatibility_version));
     PUT("\n");
 }
 
@@ -1499,10 +1497,8 @@ static void print_build(const uint8_t *command) {
     make_room(LINE_SIZE);
     PUT("  build platform ");
     put_decimal(FIELD(command, build_version_command, platform));
-    PUT(" min ");
-    put_version(FIELD(command, build_version_command, minos));
-    PUT(" sdk ");
-    put_version(FIELD(command, build_version_command, sdk));
+    PUT_VERSION(" min ", FIELD(command, build_version_command, minos));
+    PUT_VERSION(" sdk ", FIELD(command, build_version_command, sdk));
     PUT("\n");
 }
 

@@ -197,38 +197,6 @@ extern "C" {
         slice: u64,
         image: *mut Image<'a>,
     ) -> u32;
-    fn kesvuot_segments<'a>(
-        image: *const Image<'a>,
-        first: u64,
-        rows: *mut Segment<'a>,
-        max: usize,
-    ) -> usize;
-    fn kesvuot_sections<'a>(
-        image: *const Image<'a>,
-        first: u64,
-        rows: *mut Section<'a>,
-        max: usize,
-    ) -> usize;
-    fn kesvuot_libraries<'a>(
-        image: *const Image<'a>,
-        first: u64,
-        rows: *mut Library<'a>,
-        max: usize,
-    ) -> usize;
-    fn kesvuot_builds(image: *const Image, first: u64, rows: *mut Build, max: usize) -> usize;
-    fn kesvuot_commands<'a>(
-        image: *const Image<'a>,
-        first: u64,
-        rows: *mut Command<'a>,
-        max: usize,
-    ) -> usize;
-    fn kesvuot_symbols<'a>(
-        image: *const Image<'a>,
-        first: u64,
-        rows: *mut Symbol<'a>,
-        max: usize,
-    ) -> usize;
-    fn kesvuot_indirects(image: *const Image, first: u64, rows: *mut u32, max: usize) -> usize;
     fn kesvuot_linkedit<'a>(image: *const Image<'a>, cmd: u32, data: *mut Bytes<'a>) -> u32;
     fn kesvuot_at<'a>(image: *const Image<'a>, address: u64, bytes: *mut Bytes<'a>) -> u32;
 }
@@ -286,16 +254,29 @@ pub trait Raw<'a>: Copy + Default {
     fn fill(image: &Image<'a>, first: u64, rows: &mut [Self]) -> usize;
 }
 
+/// Declares the calls that read tables, each for its row.
 macro_rules! tables {
-    ($($row:ty: $call:ident,)*) => {$(
-        impl<'a> Raw<'a> for $row {
-            fn fill(image: &Image<'a>, first: u64, rows: &mut [Self]) -> usize {
-                // SAFETY: the bytes of the image may be read for `'a`, and the rows may be written.
-                // They get bytes of the image, and stay initialized where they get none.
-                unsafe { $call(image, first, rows.as_mut_ptr(), rows.len()) }
-            }
+    ($($row:ty: $call:ident,)*) => {
+        extern "C" {
+            $(fn $call<'a>(
+                image: *const Image<'a>,
+                first: u64,
+                rows: *mut $row,
+                max: usize,
+            ) -> usize;)*
         }
-    )*};
+
+        $(
+            impl<'a> Raw<'a> for $row {
+                fn fill(image: &Image<'a>, first: u64, rows: &mut [Self]) -> usize {
+                    // SAFETY: the bytes of the image may be read for `'a`, and the rows may be
+                    // written. They get bytes of the image, and stay initialized where they get
+                    // none.
+                    unsafe { $call(image, first, rows.as_mut_ptr(), rows.len()) }
+                }
+            }
+        )*
+    };
 }
 
 tables! {

@@ -92,6 +92,7 @@ impl<'a, T: Row<'a>> fmt::Debug for Rows<'a, T> {
 #[cfg(test)]
 mod tests {
     use std::cell::RefCell;
+    use std::marker::PhantomData;
 
     use super::*;
     use crate::{Build, Command, Indirect, Library, Section, Segment, Symbol};
@@ -111,51 +112,38 @@ mod tests {
         }
     }
 
-    /// A row that is asked for as a symbol is.
-    struct Indexed;
+    /// A row that is asked for as another one is.
+    struct Like<T>(PhantomData<T>);
 
-    impl Row<'_> for Indexed {
+    impl<'a, T: Row<'a>> Row<'a> for Like<T> {
         type Raw = Noted;
 
-        const BATCH: u64 = Symbol::BATCH;
+        const BATCH: u64 = T::BATCH;
 
         fn new(_: Noted) -> Self {
-            Indexed
-        }
-    }
-
-    /// A row that is asked for as a segment is.
-    struct Walked;
-
-    impl Row<'_> for Walked {
-        type Raw = Noted;
-
-        const BATCH: u64 = Segment::BATCH;
-
-        fn new(_: Noted) -> Self {
-            Walked
+            Like(PhantomData)
         }
     }
 
     /// The calls for all rows of a range.
-    fn calls<T: for<'a> Row<'a>>(left: Range<u64>) -> Vec<(u64, usize)> {
+    fn calls<'a, T: Row<'a>>(left: Range<u64>) -> Vec<(u64, usize)> {
         CALLS.with(|calls| calls.borrow_mut().clear());
-        Rows::<T>::new(ffi::Image::default(), left).for_each(drop);
+        Rows::<Like<T>>::new(ffi::Image::default(), left).for_each(drop);
         CALLS.with(|calls| calls.borrow().clone())
     }
 
     #[test]
     fn rows_that_are_found_by_their_index_come_in_batches() {
-        assert_eq!(calls::<Indexed>(0..0), []);
-        assert_eq!(calls::<Indexed>(0..600), [(0, 256), (256, 256), (512, 88)]);
-        assert_eq!(calls::<Indexed>(100..356), [(100, 256)]);
+        assert_eq!(calls::<Symbol>(0..0), []);
+        assert_eq!(calls::<Symbol>(0..600), [(0, 256), (256, 256), (512, 88)]);
+        assert_eq!(calls::<Symbol>(100..356), [(100, 256)]);
         assert_eq!(Symbol::BATCH, Indirect::BATCH);
     }
 
     #[test]
     fn rows_of_a_walk_come_at_once() {
-        assert_eq!(calls::<Walked>(0..0), []);
-        assert_eq!(calls::<Walked>(0..100_000), [(0, 100_000)]);
+        assert_eq!(calls::<Segment>(0..0), []);
+        assert_eq!(calls::<Segment>(0..100_000), [(0, 100_000)]);
         let others = [Section::BATCH, Library::BATCH, Build::BATCH, Command::BATCH];
         assert_eq!(others, [Segment::BATCH; 4]);
     }
