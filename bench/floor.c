@@ -1,7 +1,7 @@
 // Decides what macho-check decides of standard input, and prints the same text with the same status: the layout of a
 // file that breaks no rule of docs/RULES.md (status 0), or the first rule that is broken and its place (status 1).
 //
-//     bench/floor_tables.py >floor_tables.h && cc -std=c99 -O2 -I. -o floor bench/floor.c
+//     bench/rules_tables.py >rules_tables.h && cc -std=c99 -O2 -I. -o floor bench/floor.c
 //     ./floor [--strict] <FILE
 //
 // With --strict it decides what macho-strict decides.
@@ -15,7 +15,7 @@
 // Structures and constants have their public names. The rules stand in the order of docs/RULES.md, a function for each:
 // of the file, of the header and the load commands, of segments and sections, of tables and symbols, and of the entry.
 // After them stand the walk and the judgment, which call them, then the strict profile, and the report. The names of
-// the rules, the filetypes, the listed commands and their tables are those of that page, as floor_tables.h has them.
+// the rules, the filetypes, the listed commands and their tables are those of that page, as rules_tables.h has them.
 
 #define _GNU_SOURCE // memrchr
 #include <stdbool.h>
@@ -27,7 +27,7 @@
 #include <sys/stat.h>
 #include <unistd.h>
 
-#include "floor_tables.h"
+#include "rules_tables.h"
 
 #if SIZE_MAX < UINT64_MAX || __BYTE_ORDER__ != __ORDER_LITTLE_ENDIAN__
 #error "this program is for 64-bit little-endian machines"

@@ -1,6 +1,6 @@
 // Times the library on mapped files, and compares it with the same verdict written by hand in C and with a plain walk.
 //
-//     bench/floor_tables.py >floor_tables.h
+//     bench/rules_tables.py >rules_tables.h
 //     cc -std=c99 -O2 -I. -I bindings/c -o library bench/library.c build/lib/libkesvuot.a
 //     ./library ROUNDS FILE
 //
@@ -42,7 +42,11 @@ static uint64_t by_library(const struct file *file) {
     return verdict.rule;
 }
 
-// The verdict of bench/floor.c: the number of the rule from 1 on, or 0.
+#define AS_NUMBER(rule, name) KESVUOT_##rule,
+
+static const uint32_t rule_numbers[RULE_COUNT] = {RULES(AS_NUMBER)};
+
+// The verdict of bench/floor.c: the number that the library has for the rule, or 0.
 static uint64_t by_hand(const struct file *file) {
     struct breaks breaks = {.broken = 0};
     struct universal universal;
@@ -61,7 +65,7 @@ static uint64_t by_hand(const struct file *file) {
             judge_slices(file, &universal, &breaks);
         }
     }
-    return breaks.broken == 0 ? 0 : (uint64_t)__builtin_ctzll(breaks.broken) + 1;
+    return breaks.broken == 0 ? 0 : rule_numbers[__builtin_ctzll(breaks.broken)];
 }
 
 static uint64_t walk_sections(const uint8_t *segment) {

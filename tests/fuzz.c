@@ -17,6 +17,7 @@
 #include <sys/mman.h>
 
 #include "kesvuot.h"
+#include "rules_tables.h"
 
 // What libFuzzer calls, and what it provides.
 int LLVMFuzzerTestOneInput(const uint8_t *data, size_t size);
@@ -27,16 +28,7 @@ size_t LLVMFuzzerMutate(uint8_t *data, size_t size, size_t max_size);
 #define ROOM_SIZE ((size_t)1 << 20)
 #define PAGE_SIZE ((size_t)1 << 12)
 
-// mach-o/loader.h and mach-o/nlist.h
-#define LC_SEGMENT_64 0x19u
-#define LC_CODE_SIGNATURE 0x1du
-#define LC_SEGMENT_SPLIT_INFO 0x1eu
-#define LC_FUNCTION_STARTS 0x26u
-#define LC_DATA_IN_CODE 0x29u
-#define LC_DYLIB_CODE_SIGN_DRS 0x2bu
-#define LC_LINKER_OPTIMIZATION_HINT 0x2eu
-#define LC_DYLD_EXPORTS_TRIE 0x80000033u
-#define LC_DYLD_CHAINED_FIXUPS 0x80000034u
+// mach-o/nlist.h and mach-o/loader.h. The commands are in rules_tables.h.
 #define N_STAB 0xe0u
 #define N_TYPE 0x0eu
 #define N_SECT 0x0eu
@@ -290,12 +282,14 @@ static void check_builds(const struct rows *all) {
     }
 }
 
-// The commands that are a linkedit_data_command.
-static const uint32_t linkedit[] = {
-    LC_CODE_SIGNATURE,      LC_SEGMENT_SPLIT_INFO,       LC_FUNCTION_STARTS,   LC_DATA_IN_CODE,
-    LC_DYLIB_CODE_SIGN_DRS, LC_LINKER_OPTIMIZATION_HINT, LC_DYLD_EXPORTS_TRIE, LC_DYLD_CHAINED_FIXUPS,
-};
-enum { LINKEDIT_COUNT = sizeof linkedit / sizeof linkedit[0] };
+#define AS_LISTED(cmd, structure, name, first_table, table_count) {cmd, #structure},
+
+static const struct listed {
+    uint32_t cmd;
+    const char *structure;
+} listed_commands[] = {LISTED_COMMANDS(AS_LISTED)};
+
+enum { LISTED_COUNT = sizeof listed_commands / sizeof listed_commands[0] };
 
 static uint32_t check_linkedit(const struct kesvuot_image *image, uint32_t cmd, struct kesvuot_bytes *data) {
     *data = (struct kesvuot_bytes){NULL, 1};
@@ -306,17 +300,19 @@ static uint32_t check_linkedit(const struct kesvuot_image *image, uint32_t cmd, 
     return status;
 }
 
-// The data of an image that is accepted is what its first command of each kind names.
+// The data of an image that is accepted is what its first linkedit_data_command of each kind names.
 static void check_linkedits(const struct kesvuot_image *image, const struct rows *commands) {
     struct kesvuot_bytes data;
-    for (size_t k = 0; k < LINKEDIT_COUNT; k++) {
+    for (size_t k = 0; k < LISTED_COUNT; k++) {
+        const struct listed *listed = &listed_commands[k];
         const struct kesvuot_command *row = commands->rows, *end = row + commands->count;
-        while (row < end && row->cmd != linkedit[k]) {
+        while (row < end && row->cmd != listed->cmd) {
             row++;
         }
-        uint32_t status = check_linkedit(image, linkedit[k], &data);
-        CHECK((status == KESVUOT_OK) == (row < end));
-        if (row < end) {
+        bool names_data = row < end && strcmp(listed->structure, "linkedit_data_command") == 0;
+        uint32_t status = check_linkedit(image, listed->cmd, &data);
+        CHECK((status == KESVUOT_OK) == names_data);
+        if (names_data) {
             uint32_t dataoff, datasize;
             memcpy(&dataoff, row->bytes.at + 8, sizeof dataoff);
             memcpy(&datasize, row->bytes.at + 12, sizeof datasize);

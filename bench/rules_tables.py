@@ -1,8 +1,8 @@
 #!/usr/bin/env python3
-"""Prints the tables of docs/RULES.md for bench/floor.c: the rules, the filetypes that are judged, the listed commands
-and their bounded tables. tests/oracle.py reads all but the first there.
+"""Prints the tables of docs/RULES.md for bench/floor.c and tests/fuzz.c: the rules, the filetypes that are judged, the
+listed commands and their bounded tables. tests/oracle.py reads all but the first there.
 
-    bench/floor_tables.py >floor_tables.h
+    bench/rules_tables.py >rules_tables.h
 
 Each table is a macro with a row `X(..)` for each of its lines. A row of a command ends with the index of the first of
 its tables, and how many it has.
@@ -12,14 +12,18 @@ from __future__ import annotations
 
 import sys
 from pathlib import Path
-from typing import Iterator
+from typing import Iterable, Iterator
 
 sys.dont_write_bytecode = True
 sys.path.insert(0, str(Path(__file__).resolve().parent.parent / "tests"))
 import oracle  # pylint: disable=wrong-import-position
 
 
-def macro(name: str, rows: Iterator[str]) -> str:
+# The structure of each bounded table, and the table. Those of one structure stand side by side.
+TABLES = [(structure, *table) for structure, tables in oracle.BOUNDED_TABLES.items() for table in tables]
+
+
+def macro(name: str, rows: Iterable[str]) -> str:
     return f"#define {name}(X)" + "".join(f" \\\n    X({row})" for row in rows) + "\n"
 
 
@@ -34,7 +38,7 @@ def filetype_rows() -> Iterator[str]:
 
 
 def command_rows() -> Iterator[str]:
-    owners = [structure for structure, *_ in oracle.TABLE_ROWS]
+    owners = [structure for structure, *_ in TABLES]
     for command, (_, structure, _, name) in oracle.COMMANDS.items():
         count = owners.count(structure)
         yield f"{command}, {structure}, {name or 0}, {owners.index(structure) if count else 0}, {count}"
@@ -43,17 +47,17 @@ def command_rows() -> Iterator[str]:
 def header() -> str:
     constants = [f"#define {command} {cmd:#x}u\n" for command, (cmd, *_) in oracle.COMMANDS.items()]
     return "\n".join((
-        "// Made by bench/floor_tables.py of docs/RULES.md.\n",
+        "// Made by bench/rules_tables.py of docs/RULES.md.\n",
         "".join(constants),
         macro("RULES", rule_rows()),
         macro("FILETYPES", filetype_rows()),
         macro("LISTED_COMMANDS", command_rows()),
-        macro("BOUNDED_TABLES", map(", ".join, oracle.TABLE_ROWS)),
+        macro("BOUNDED_TABLES", (", ".join(map(str, table)) for table in TABLES)),
     ))
 
 
 def write_header(folder: Path) -> None:
-    (folder / "floor_tables.h").write_text(header(), encoding="ascii")
+    (folder / "rules_tables.h").write_text(header(), encoding="ascii")
 
 
 if __name__ == "__main__":
