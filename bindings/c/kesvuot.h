@@ -21,9 +21,8 @@
  * - The bytes of the file stay valid while you use what was read from them: every `struct kesvuot_bytes` that a call
  *   writes points into the file, or to a constant of the library. Nothing is copied, and there is nothing to free.
  *
- * A program works with every library that has the soname it was linked against. Rules are numbered in the order of
- * judgment. A version that adds a rule may renumber them, and then has another soname and another major version: store
- * names of rules, not numbers.
+ * A program works with every library that has the soname it was linked against. The number of a rule never changes: a
+ * version that adds a rule gives it the next free number, wherever it is judged.
  *
  * No call keeps state, prints, or ends the process, and any number of threads may call at once. Only kesvuot_verify and
  * kesvuot_verify_strictly allocate memory, with malloc and realloc, and they free it before they return.
