@@ -1,4 +1,5 @@
 pub mod StreamLemmas
+pub mod Writers
 pub mod Digits
 pub mod LineTexts
 pub mod Holding

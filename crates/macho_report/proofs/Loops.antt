@@ -1,32 +1,19 @@
--- Loops that write a text for each item.
+-- The texts of the items of a loop.
 use Rattle.std.proofs.Common.{◌≡◌, ℕ, zero, suc, ◌+◌, List, [], ◌∷◌, ◌++◌, ◌≤◌, length, map, drop, Option, Some, None, IsSomeAnd, inl, inr, refl, ap, ◌∙◌, subst, arith}
 use Rattle.std.specs.Prelude.{slice_get, filter, not, Bool, if◌then◌else◌}
 use Rattle.std.specs.List.{enumerate_from}
 use Rattle.std.proofs.lemmas.Option.{same_Some}
 use Rattle.std.proofs.lemmas.Bool.{cases_Bool}
-use Rattle.macho_report.specs.Stream.{Wrote, WrotePrefix, joined}
-use Rattle.macho_report.specs.Progress.{Writing}
-use Rattle.macho_report.proofs.StreamLemmas.{writing_begins, writing_next, writing_fails, writing_ends}
-
-module _ {X : Type 0} (f : X → List ℕ) (a b c : Option (List ℕ)) (whole : List ℕ) (left : List X) where
-  pub item_wrote : (rest : List X) (x : X) → left ≡ x ∷ rest → Writing a b whole (map f left) → Wrote b c (f x) → Writing a c whole (map f rest)
-  item_wrote rest x is h wrote = writing_next a b c whole (f x) (map f rest) (subst (λ xs. Writing a b whole (map f xs)) is h) wrote
-
-  pub item_failed : (rest : List X) (x : X) → left ≡ x ∷ rest → Writing a b whole (map f left) → WrotePrefix b c (f x) → WrotePrefix a c whole
-  item_failed rest x is h wrote = writing_fails a b c whole (f x) (map f rest) (subst (λ xs. Writing a b whole (map f xs)) is h) wrote
-
-pub items_end : {X : Type 0} (f : X → List ℕ) (a b : Option (List ℕ)) (whole : List ℕ) (left : List X) → left ≡ [] → Writing a b whole (map f left) → Wrote a b whole
-items_end f a b whole left is h = writing_ends a b whole (subst (λ xs. Writing a b whole (map f xs)) is h)
+use Rattle.macho_report.specs.Stream.{joined}
 
 -- items that are read at places
 texts_at : {A X : Type 0} (f : X → List ℕ) (at : A → X) (places : List A) → map f (map at places) ≡ map (λ p. f (at p)) places
 texts_at f at [] = refl
 texts_at f at (p ∷ places) = ap (λ texts. f (at p) ∷ texts) (texts_at f at places)
 
-pub items_begin : {A X : Type 0} (f : X → List ℕ) (at : A → X) (places : List A) (items : List X) (a : Option (List ℕ)) → items ≡ map at places
-    → Writing a a (joined (map (λ p. f (at p)) places)) (map f items)
-items_begin f at places items a is =
-    subst (λ texts. Writing a a (joined texts) (map f items)) (ap (map f) is ∙ texts_at f at places) (writing_begins a (map f items))
+pub texts_placed : {A X : Type 0} (f : X → List ℕ) (at : A → X) (places : List A) {items : List X} → items ≡ map at places
+    → joined (map f items) ≡ joined (map (λ p. f (at p)) places)
+texts_placed f at places is = ap joined (ap (map f) is ∙ texts_at f at places)
 
 -- items of which those with the mark have no text
 unmarked : {A : Type 0} (mark : A → Bool) (g : A → List ℕ) (xs : List A)
@@ -63,18 +50,16 @@ all_passed a zero (x ∷ xs) h = absurd (omega arith)
 all_passed a (suc k) (x ∷ xs) h = all_passed (a + 1) k xs (omega arith)
 
 -- items that are read at places, which are made of others
-pub items_begin_within : {A B X : Type 0} (f : X → List ℕ) (at : B → X) (into : A → B) (places : List A) (items : List X) (a : Option (List ℕ)) → items ≡ map at (map into places)
-    → Writing a a (joined (map (λ p. f (at (into p))) places)) (map f items)
-items_begin_within f at into places items a is =
-    subst (λ texts. Writing a a (joined texts) (map f items)) (texts_at (λ q. f (at q)) into places) (items_begin f at (map into places) items a is)
+pub texts_within : {A B X : Type 0} (f : X → List ℕ) (at : B → X) (into : A → B) (places : List A) {items : List X} → items ≡ map at (map into places)
+    → joined (map f items) ≡ joined (map (λ p. f (at (into p))) places)
+texts_within f at into places is = texts_placed f at _ is ∙ ap joined (texts_at (λ q. f (at q)) into places)
 
 same_texts : {A : Type 0} (f g : A → List ℕ) → ((p : A) → f p ≡ g p) → (places : List A) → map f places ≡ map g places
 same_texts f g same [] = refl
 same_texts f g same (p ∷ places) = rw (same p) (ap (λ texts. g p ∷ texts) (same_texts f g same places))
 
 -- items that are read at places, of which those with the mark have no text
-pub items_begin_unmarked : {A X : Type 0} (f : X → List ℕ) (at : A → X) (mark : A → Bool) (g : A → List ℕ) (places : List A) (items : List X) (a : Option (List ℕ)) → items ≡ map at places
-    → ((p : A) → f (at p) ≡ (if mark p then [] else g p)) → Writing a a (joined (map g (filter (λ p. not (mark p)) places))) (map f items)
-items_begin_unmarked f at mark g places items a is same =
-    subst (λ whole. Writing a a whole (map f items)) (ap joined (same_texts (λ p. f (at p)) (λ p. if mark p then [] else g p) same places) ∙ unmarked mark g places)
-    (items_begin f at places items a is)
+pub texts_unmarked : {A X : Type 0} (f : X → List ℕ) (at : A → X) (mark : A → Bool) (g : A → List ℕ) (places : List A) {items : List X} → items ≡ map at places
+    → ((p : A) → f (at p) ≡ (if mark p then [] else g p)) → joined (map f items) ≡ joined (map g (filter (λ p. not (mark p)) places))
+texts_unmarked f at mark g places is same =
+    texts_placed f at _ is ∙ ap joined (same_texts (λ p. f (at p)) (λ p. if mark p then [] else g p) same places) ∙ unmarked mark g places

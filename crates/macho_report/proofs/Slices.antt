@@ -1,6 +1,6 @@
 -- The lines of a slice.
 use Rattle.std.proofs.Common.{◌≡◌, ◌∙◌, ℕ, zero, suc, ◌<◌, List, [], ◌∷◌, length, true, false, Option, Some, None}
-use Rattle.std.proofs.Common.{IsSome, IsSomeAnd, Result, arith, refl, sym, ap, ap₂, subst, inl, inr}
+use Rattle.std.proofs.Common.{IsSome, IsSomeAnd, Result, arith, refl, sym, ap, ap₂, inl, inr}
 use Rattle.std.proofs.lemmas.Bool.{cases_Bool}
 use Rattle.std.proofs.lemmas.Option.{same_Some}
 use Rattle.std.specs.Option.{option_map, option_map_or}
@@ -8,8 +8,10 @@ use Rattle.std.specs.Prelude.{slice_get}
 use Rattle.macho_fields.specs.Universal.{FileSlice, IsImage, slice_bytes}
 use Rattle.macho_fields.specs.FileTypes.{FileTypeView, file_type_of}
 use Rattle.macho_fields.specs.Image.{file_type}
-use Rattle.macho_report.specs.Stream.{Writes}
+use Rattle.macho_report.specs.Writer.{PutsText}
+use Rattle.macho_report.specs.declared.stream.Output as output
 use Rattle.macho_report.specs.Layout.{kind_text, is_image, image_slice_text, unread_slice_text, slice_text}
+use Rattle.macho_report.proofs.Writers.{puts_same}
 
 pub word_is : (image : List ℕ) (listed : FileTypeView) → file_type_of (file_type image) ≡ Some listed → listed.word ≡ kind_text image
 word_is image listed is = sym (ap (λ o. option_map_or (λ (t : FileTypeView). t.word) o []) is)
@@ -31,25 +33,26 @@ text_unread : (file : List ℕ) (index : ℕ) (slice : FileSlice) → is_image (
     → slice_text file (index, slice) ≡ unread_slice_text index slice
 text_unread file index slice h = rw h refl
 
--- the lines of a slice that is read
-pub read_lines : {T E : Type 0} (file image : List ℕ) (index : ℕ) (o : Option FileSlice) (written : FileSlice) (a b : Option (List ℕ)) (r : Result T E) → Some written ≡ o
-    → IsSomeAnd o (λ slice. IsImage (slice_bytes file slice)) → IsSomeAnd o (λ slice. image ≡ slice_bytes file slice)
-    → Writes a b r (image_slice_text image index written) → IsSomeAnd o (λ slice. Writes a b r (slice_text file (index, slice)))
-read_lines file image index None written a b r is read same wrote = absurd read
-read_lines file image index (Some slice) written a b r is read same wrote =
-    let text : image_slice_text image index written ≡ slice_text file (index, slice) =
-    ap₂ (λ i s. image_slice_text i index s) same (same_Some written slice is) ∙ sym (text_read file index slice (image_is _ read)) in
-    subst (Writes a b r) text wrote
+module _ {W T E : Type 0} {o : output.Ghosts W} {a b : W} {r : Result T E} where
+  -- the lines of a slice that is read
+  pub read_lines : (file image : List ℕ) (index : ℕ) (slices : Option FileSlice) (written : FileSlice) → Some written ≡ slices
+      → IsSomeAnd slices (λ slice. IsImage (slice_bytes file slice)) → IsSomeAnd slices (λ slice. image ≡ slice_bytes file slice)
+      → PutsText o a b r (image_slice_text image index written) → IsSomeAnd slices (λ slice. PutsText o a b r (slice_text file (index, slice)))
+  read_lines file image index None written is read same put = absurd read
+  read_lines file image index (Some slice) written is read same put =
+      let text : image_slice_text image index written ≡ slice_text file (index, slice) =
+      ap₂ (λ i s. image_slice_text i index s) same (same_Some written slice is) ∙ sym (text_read file index slice (image_is _ read)) in
+      puts_same text put
 
--- the line of one that is not
-pub unread_lines : {T E : Type 0} (file : List ℕ) (index : ℕ) (o : Option FileSlice) (written : FileSlice) (a b : Option (List ℕ)) (r : Result T E) → Some written ≡ o
-    → ¬ IsSomeAnd o (λ slice. IsImage (slice_bytes file slice))
-    → Writes a b r (unread_slice_text index written) → IsSomeAnd o (λ slice. Writes a b r (slice_text file (index, slice)))
-unread_lines file index None written a b r is unread wrote = absurd (cc)
-unread_lines file index (Some slice) written a b r is unread wrote = elim (cases_Bool (is_image (slice_bytes file slice))) [
-  | inl t ↦ absurd (unread (image_from _ t))
-  | inr f ↦ subst (Writes a b r) (ap (unread_slice_text index) (same_Some written slice is) ∙ sym (text_unread file index slice f)) wrote
-]
+  -- the line of one that is not
+  pub unread_lines : (file : List ℕ) (index : ℕ) (slices : Option FileSlice) (written : FileSlice) → Some written ≡ slices
+      → ¬ IsSomeAnd slices (λ slice. IsImage (slice_bytes file slice))
+      → PutsText o a b r (unread_slice_text index written) → IsSomeAnd slices (λ slice. PutsText o a b r (slice_text file (index, slice)))
+  unread_lines file index None written is unread put = absurd (cc)
+  unread_lines file index (Some slice) written is unread put = elim (cases_Bool (is_image (slice_bytes file slice))) [
+    | inl t ↦ absurd (unread (image_from _ t))
+    | inr f ↦ puts_same (ap (unread_slice_text index) (same_Some written slice is) ∙ sym (text_unread file index slice f)) put
+  ]
 
 -- the slice with an index that the table has is found
 pub slice_found : {A B : Type 0} (f : A → B) (o : Option A) (xs : List B) (index : ℕ) → option_map f o ≡ slice_get xs index → index < length xs → IsSome o

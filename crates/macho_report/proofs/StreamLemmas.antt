@@ -1,13 +1,13 @@
 -- Texts that are written one after the other.
-use Rattle.std.proofs.Common.{◌≡◌, ◌≢◌, ℕ, ◌+◌, ◌-◌, ◌<◌, ◌≤◌, arith, Result, Ok, Err, IsErr, List, [], ◌∷◌, ◌++◌, Option, Some, None, OnErr}
+use Rattle.std.proofs.Common.{◌≡◌, ◌≢◌, ℕ, ◌+◌, ◌-◌, ◌<◌, ◌≤◌, arith, Result, Ok, Err, List, [], ◌∷◌, ◌++◌, Option, Some, None, OnErr}
 use Rattle.std.proofs.Common.{length, take, drop, refl, sym, ap, ◌∙◌, append_assoc, append-nil, take-append-drop, subst}
 use Rattle.std.proofs.lemmas.Grind.{common_steps}
 use Rattle.std.proofs.lemmas.List.{take_all}
 use Rattle.std.proofs.Math.Seq.{take-add, take-append-add, take-append_seam}
 use Rattle.std.proofs.KnownBytes.{Appends-nil, Appends-trans}
 use Rattle.std.specs.Io.KnownBytes.{Keeps}
-use Rattle.macho_report.specs.Stream.{Wrote, WrotePrefix, Writes, joined}
-use Rattle.macho_report.specs.Progress.{Writing}
+use Rattle.macho_report.specs.Stream.{Wrote, WrotePrefix, joined}
+use Rattle.macho_report.specs.Writer.{Writing}
 
 pub wrote_nothing : (a : Option (List ℕ)) → Wrote a a []
 wrote_nothing a = record { appended = Appends-nil a }
@@ -68,15 +68,6 @@ pub fault_kept : {T E : Type 0} (a b : Option (List ℕ)) (r : Result T E) (text
 fault_kept a b (Ok x) text h = tt
 fault_kept a b (Err e) text h = wrote_prefix_kept a b text h
 
--- a fault after a prefix
-pub writes_fault : {T E : Type 0} (a b : Option (List ℕ)) (r : Result T E) (text : List ℕ) → IsErr r → WrotePrefix a b text → Writes a b r text
-writes_fault a b (Ok x) text h p = absurd (cc)
-writes_fault a b (Err e) text h p = p
-
--- the same text in another form
-pub writes_same : {T E : Type 0} (a b : Option (List ℕ)) (r : Result T E) (text other : List ℕ) → text ≡ other → Writes a b r text → Writes a b r other
-writes_same a b r text other same wrote = subst (Writes a b r) same wrote
-
 -- a text, and then those after it
 pub wrote_next_text : (a b c : Option (List ℕ)) (text : List ℕ) (rest : List (List ℕ)) → Wrote a b text → Wrote b c (joined rest) → Wrote a c (joined (text ∷ rest))
 unfolding joined
@@ -95,19 +86,6 @@ wrote_prefix_next_text a b c text rest first second = wrote_prefix_then a b c te
 pub wrote_prefix_first_text : (a b : Option (List ℕ)) (text : List ℕ) (rest : List (List ℕ)) → WrotePrefix a b text → WrotePrefix a b (joined (text ∷ rest))
 unfolding joined
 wrote_prefix_first_text a b text rest h = wrote_prefix_more a b text (joined rest) h
-
-pub writes_next_text : {T E : Type 0} (a b c : Option (List ℕ)) (r : Result T E) (text : List ℕ) (rest : List (List ℕ))
-    → Wrote a b text → Writes b c r (joined rest) → Writes a c r (joined (text ∷ rest))
-writes_next_text a b c (Ok x) text rest first second = wrote_next_text a b c text rest first second
-writes_next_text a b c (Err e) text rest first second = wrote_prefix_next_text a b c text rest first second
-
--- a fault in the first text
-pub writes_fails_text : {T E : Type 0} (a b : Option (List ℕ)) (r : Result T E) (text : List ℕ) (rest : List (List ℕ)) → IsErr r → WrotePrefix a b text → Writes a b r (joined (text ∷ rest))
-writes_fails_text a b r text rest err h = writes_fault a b r (joined (text ∷ rest)) err (wrote_prefix_first_text a b text rest h)
-
-pub writes_last_text : {T E : Type 0} (a b : Option (List ℕ)) (r : Result T E) (text : List ℕ) → Writes a b r text → Writes a b r (joined (text ∷ []))
-writes_last_text a b (Ok x) text h = wrote_last_text a b text h
-writes_last_text a b (Err e) text h = wrote_prefix_first_text a b text [] h
 
 -- What a loop has written of a text.
 pub writing_begins : (a : Option (List ℕ)) (texts : List (List ℕ)) → Writing a a (joined texts) texts

@@ -3,7 +3,7 @@ pub mod Number
 pub mod Name
 pub mod Arch
 pub mod Line
-pub mod Progress
+pub mod Writer
 pub mod Layout
 pub mod Text
 pub mod Judge

@@ -7,7 +7,8 @@ ghost use Rattle.macho_fields.specs.Image.{commands_of};
 ghost use Rattle.macho_fields.specs.Segment.{sections_in};
 ghost use Rattle.macho_fields.specs.Universal.{slices_of};
 ghost use Rattle.macho_image.specs.Library.{dylib_of};
-ghost use Rattle.macho_report.specs.Stream.{Writes, FailsAtFault, joined};
+ghost use Rattle.macho_report.specs.Stream.{joined};
+ghost use Rattle.macho_report.specs.Writer.{PutsText};
 ghost use Rattle.macho_report.specs.LineParts.{linked_text};
 ghost use Rattle.macho_report.specs.Layout.{layout_text, slice_text, image_slice_text, image_text, id_text, uuid_text, builds_text, segments_text, segment_text, libraries_text, symbols_text};
 ghost use Rattle.macho_report.specs.Line.{section_line};
@@ -26,9 +27,7 @@ use macho_rules::Verified;
 /// Writes the layout of an accepted file as text: how many slices it has, a line for each, and the
 /// parts of each slice that is read. It takes no memory, and does not flush.
 pub fn write_layout<W: Output>(verified: &Verified, writer: &mut W) -> Result<(), WriteFault>
-    ensures bytes { Writes (W.contents writer.old) (W.contents writer.new) result
-        (layout_text verified.now) }
-    ensures failed { FailsAtFault (W.has_failed writer.old) (W.has_failed writer.new) result }
+    ensures text { PutsText W.Output writer.old writer.new result (layout_text verified.now) }
     ensures stays_failed { IsTrue (W.has_failed writer.old) → IsErr result }
 {
     write_count(verified.slice_count(), writer)?;
@@ -37,9 +36,8 @@ pub fn write_layout<W: Output>(verified: &Verified, writer: &mut W) -> Result<()
 
 // Writes the lines of all slices.
 fn write_slices<W: Output>(verified: &Verified, writer: &mut W) -> Result<(), WriteFault>
-    ensures bytes { Writes (W.contents writer.old) (W.contents writer.new) result
+    ensures { PutsText W.Output writer.old writer.new result
         (joined (map (slice_text verified.now) (enumerate_from 0 (slices_of verified.now)))) }
-    ensures failed { FailsAtFault (W.has_failed writer.old) (W.has_failed writer.new) result }
 {
     for index in 0..verified.slice_count() {
         write_slice_lines(verified, index, writer)?;
@@ -54,10 +52,8 @@ fn write_slice_lines<W: Output>(
     writer: &mut W,
 ) -> Result<(), WriteFault>
     requires { index < length (slices_of verified.now) }
-    ensures bytes { IsSomeAnd (slice_get (slices_of verified.now) index) (λ slice.
-        Writes (W.contents writer.old) (W.contents writer.new) result
-        (slice_text verified.now (index, slice))) }
-    ensures failed { FailsAtFault (W.has_failed writer.old) (W.has_failed writer.new) result }
+    ensures { IsSomeAnd (slice_get (slices_of verified.now) index) (λ slice.
+        PutsText W.Output writer.old writer.new result (slice_text verified.now (index, slice))) }
 {
     // The index is below the number of slices.
     let slice = verified.slice(index).unwrap();
@@ -74,9 +70,8 @@ fn write_image_slice<W: Output>(
     image: &Image,
     writer: &mut W,
 ) -> Result<(), WriteFault>
-    ensures bytes { Writes (W.contents writer.old) (W.contents writer.new) result
+    ensures { PutsText W.Output writer.old writer.new result
         (image_slice_text image.now index (slice_of slice.now)) }
-    ensures failed { FailsAtFault (W.has_failed writer.old) (W.has_failed writer.new) result }
 {
     write_slice(
         index,
@@ -90,9 +85,7 @@ fn write_image_slice<W: Output>(
 
 // Writes the lines of an image.
 fn write_image<W: Output>(image: &Image, writer: &mut W) -> Result<(), WriteFault>
-    ensures bytes { Writes (W.contents writer.old) (W.contents writer.new) result
-        (image_text image.now) }
-    ensures failed { FailsAtFault (W.has_failed writer.old) (W.has_failed writer.new) result }
+    ensures { PutsText W.Output writer.old writer.new result (image_text image.now) }
 {
     write_id(image, writer)?;
     write_image_uuid(image, writer)?;
@@ -105,9 +98,8 @@ fn write_image<W: Output>(image: &Image, writer: &mut W) -> Result<(), WriteFaul
 
 // Writes what the image is as a library, where it is one.
 fn write_id<W: Output>(image: &Image, writer: &mut W) -> Result<(), WriteFault>
-    ensures bytes { Writes (W.contents writer.old) (W.contents writer.new) result
+    ensures { PutsText W.Output writer.old writer.new result
         (id_text image.now (commands_of image.now)) }
-    ensures failed { FailsAtFault (W.has_failed writer.old) (W.has_failed writer.new) result }
 {
     match image.id() {
         Some(library) => write_library(&library, writer),
@@ -117,9 +109,8 @@ fn write_id<W: Output>(image: &Image, writer: &mut W) -> Result<(), WriteFault>
 
 // Writes the UUID, where there is one.
 fn write_image_uuid<W: Output>(image: &Image, writer: &mut W) -> Result<(), WriteFault>
-    ensures bytes { Writes (W.contents writer.old) (W.contents writer.new) result
+    ensures { PutsText W.Output writer.old writer.new result
         (uuid_text image.now (commands_of image.now)) }
-    ensures failed { FailsAtFault (W.has_failed writer.old) (W.has_failed writer.new) result }
 {
     match image.uuid() {
         Some(uuid) => write_uuid(&uuid, writer),
@@ -129,9 +120,8 @@ fn write_image_uuid<W: Output>(image: &Image, writer: &mut W) -> Result<(), Writ
 
 // Writes the builds.
 fn write_builds<W: Output>(image: &Image, writer: &mut W) -> Result<(), WriteFault>
-    ensures bytes { Writes (W.contents writer.old) (W.contents writer.new) result
+    ensures { PutsText W.Output writer.old writer.new result
         (builds_text image.now (commands_of image.now)) }
-    ensures failed { FailsAtFault (W.has_failed writer.old) (W.has_failed writer.new) result }
 {
     for build in image.builds() {
         write_build(&build, writer)?;
@@ -141,9 +131,8 @@ fn write_builds<W: Output>(image: &Image, writer: &mut W) -> Result<(), WriteFau
 
 // Writes the segments, each with its sections.
 fn write_segments<W: Output>(image: &Image, writer: &mut W) -> Result<(), WriteFault>
-    ensures bytes { Writes (W.contents writer.old) (W.contents writer.new) result
+    ensures { PutsText W.Output writer.old writer.new result
         (segments_text image.now (commands_of image.now)) }
-    ensures failed { FailsAtFault (W.has_failed writer.old) (W.has_failed writer.new) result }
 {
     for segment in image.segments() {
         write_segment_lines(&segment, writer)?;
@@ -153,9 +142,8 @@ fn write_segments<W: Output>(image: &Image, writer: &mut W) -> Result<(), WriteF
 
 // Writes a segment, and its sections.
 fn write_segment_lines<W: Output>(segment: &Segment, writer: &mut W) -> Result<(), WriteFault>
-    ensures bytes { Writes (W.contents writer.old) (W.contents writer.new) result
+    ensures { PutsText W.Output writer.old writer.new result
         (segment_text segment.now.image segment.now.place) }
-    ensures failed { FailsAtFault (W.has_failed writer.old) (W.has_failed writer.new) result }
 {
     write_segment(segment, writer)?;
     write_sections(segment, writer)
@@ -163,9 +151,8 @@ fn write_segment_lines<W: Output>(segment: &Segment, writer: &mut W) -> Result<(
 
 // Writes the sections of a segment.
 fn write_sections<W: Output>(segment: &Segment, writer: &mut W) -> Result<(), WriteFault>
-    ensures bytes { Writes (W.contents writer.old) (W.contents writer.new) result
+    ensures { PutsText W.Output writer.old writer.new result
         (joined (map (section_line segment.now.image) (sections_in segment.now.image segment.now.place))) }
-    ensures failed { FailsAtFault (W.has_failed writer.old) (W.has_failed writer.new) result }
 {
     for section in segment.sections() {
         write_section(&section, writer)?;
@@ -175,9 +162,8 @@ fn write_sections<W: Output>(segment: &Segment, writer: &mut W) -> Result<(), Wr
 
 // Writes the libraries that the image is linked with.
 fn write_libraries<W: Output>(image: &Image, writer: &mut W) -> Result<(), WriteFault>
-    ensures bytes { Writes (W.contents writer.old) (W.contents writer.new) result
+    ensures { PutsText W.Output writer.old writer.new result
         (libraries_text image.now (commands_of image.now)) }
-    ensures failed { FailsAtFault (W.has_failed writer.old) (W.has_failed writer.new) result }
 {
     for library in image.dylibs() {
         write_linked_library(&library, writer)?;
@@ -187,9 +173,7 @@ fn write_libraries<W: Output>(image: &Image, writer: &mut W) -> Result<(), Write
 
 // Writes the line of a library, but none for `LC_ID_DYLIB`, whose line stands first.
 fn write_linked_library<W: Output>(library: &Dylib, writer: &mut W) -> Result<(), WriteFault>
-    ensures bytes { Writes (W.contents writer.old) (W.contents writer.new) result
-        (linked_text (dylib_of library.now)) }
-    ensures failed { FailsAtFault (W.has_failed writer.old) (W.has_failed writer.new) result }
+    ensures { PutsText W.Output writer.old writer.new result (linked_text (dylib_of library.now)) }
 {
     if library.cmd == LC_ID_DYLIB {
         return Ok(());
@@ -199,9 +183,8 @@ fn write_linked_library<W: Output>(library: &Dylib, writer: &mut W) -> Result<()
 
 // Writes how many symbols there are, where there is a symbol table.
 fn write_symbol_count<W: Output>(image: &Image, writer: &mut W) -> Result<(), WriteFault>
-    ensures bytes { Writes (W.contents writer.old) (W.contents writer.new) result
+    ensures { PutsText W.Output writer.old writer.new result
         (symbols_text image.now (commands_of image.now)) }
-    ensures failed { FailsAtFault (W.has_failed writer.old) (W.has_failed writer.new) result }
 {
     match image.symtab() {
         Some(symtab) => write_symbols(symtab.nsyms, writer),

@@ -1,8 +1,7 @@
 //! A line of the report, which is put together in an array and written at once.
 
 ghost use Rattle.std.specs.Prelude.{◌≡◌, ◌+◌, ◌≤◌, ◌<◌, ◌↔◌, [], ◌++◌, codes, length, take, IsErr, IsTrue, OnOk};
-ghost use Rattle.macho_report.specs.Stream.{Writes, FailsAtFault};
-ghost use Rattle.macho_report.specs.Progress.{Holding};
+ghost use Rattle.macho_report.specs.Writer.{PutsText, HoldsText};
 
 use crate::stream::Output;
 use crate::transfer::{WriteFault, write_all};
@@ -70,9 +69,8 @@ impl Line {
     #[inline(always)]
     pub(crate) fn word<W: Output>(&mut self, word: &[u8], writer: &mut W) -> Result<(), WriteFault>
         ensures room { OnOk result (length self.new + ROOM ≤ PLACES) }
-        ensures bytes { Holding (W.contents writer.old) (W.contents writer.new) result self.new
+        ensures text { HoldsText W.Output writer.old writer.new result self.new
             (self.old ++ word.now) }
-        ensures failed { FailsAtFault (W.has_failed writer.old) (W.has_failed writer.new) result }
     {
         if self.has_room(word.len()) {
             self.text(word);
@@ -86,9 +84,8 @@ impl Line {
     #[inline(never)]
     fn word_anew<W: Output>(&mut self, word: &[u8], writer: &mut W) -> Result<(), WriteFault>
         ensures room { OnOk result (length self.new + ROOM ≤ PLACES) }
-        ensures bytes { Holding (W.contents writer.old) (W.contents writer.new) result self.new
+        ensures text { HoldsText W.Output writer.old writer.new result self.new
             (self.old ++ word.now) }
-        ensures failed { FailsAtFault (W.has_failed writer.old) (W.has_failed writer.new) result }
     {
         self.hand_on(writer)?;
         if self.has_room(word.len()) {
@@ -109,8 +106,7 @@ impl Line {
     // Writes the bytes that are held. If this succeeds, none is held afterwards.
     fn hand_on<W: Output>(&mut self, writer: &mut W) -> Result<(), WriteFault>
         ensures none { OnOk result (self.new ≡ []) }
-        ensures bytes { Writes (W.contents writer.old) (W.contents writer.new) result self.old }
-        ensures failed { FailsAtFault (W.has_failed writer.old) (W.has_failed writer.new) result }
+        ensures text { PutsText W.Output writer.old writer.new result self.old }
     {
         write_all(&self.places[..self.len], writer)?;
         self.len = 0;
@@ -120,9 +116,7 @@ impl Line {
     // Ends the line with a line feed, and writes it.
     pub(crate) fn write<W: Output>(&mut self, writer: &mut W) -> Result<(), WriteFault>
         requires room { length self.old < PLACES }
-        ensures bytes { Writes (W.contents writer.old) (W.contents writer.new) result
-            (self.old ++ codes "\n") }
-        ensures failed { FailsAtFault (W.has_failed writer.old) (W.has_failed writer.new) result }
+        ensures text { PutsText W.Output writer.old writer.new result (self.old ++ codes "\n") }
         ensures stays_failed { IsTrue (W.has_failed writer.old) → IsErr result }
     {
         self.text(b"\n");

@@ -4,7 +4,7 @@ ghost use Rattle.std.specs.Prelude.{◌≡◌, [], IsErr, IsTrue, Some};
 ghost use Rattle.std.specs.Option.{option_map, option_map_or};
 ghost use Rattle.macho_fields.specs.Segment.{File};
 ghost use Rattle.macho_rules.specs.Source.{source_of};
-ghost use Rattle.macho_report.specs.Stream.{Writes, FailsAtFault};
+ghost use Rattle.macho_report.specs.Writer.{PutsText};
 ghost use Rattle.macho_report.specs.Arch.{arch_text};
 ghost use Rattle.macho_report.specs.Line.{contents_of, count_line, slice_line, uuid_line, build_line, segment_line, section_line, library_line, symbols_line, entry_line};
 ghost use Rattle.macho_report.specs.Text.{break_text, refusal_text};
@@ -24,9 +24,7 @@ use macho_rules::Source;
 
 /// Writes the line of a broken rule, as `refused: segment-file at 0x1e8`.
 pub fn write_break<W: Output>(broken: &Break, writer: &mut W) -> Result<(), WriteFault>
-    ensures bytes { Writes (W.contents writer.old) (W.contents writer.new) result
-        (break_text broken.now) }
-    ensures failed { FailsAtFault (W.has_failed writer.old) (W.has_failed writer.new) result }
+    ensures text { PutsText W.Output writer.old writer.new result (break_text broken.now) }
     ensures stays_failed { IsTrue (W.has_failed writer.old) → IsErr result }
 {
     write_refusal(broken.rule.name(), broken.place, writer)
@@ -38,9 +36,7 @@ pub(crate) fn write_refusal<W: Output>(
     place: u64,
     writer: &mut W,
 ) -> Result<(), WriteFault>
-    ensures bytes { Writes (W.contents writer.old) (W.contents writer.new) result
-        (refusal_text rule.now place) }
-    ensures failed { FailsAtFault (W.has_failed writer.old) (W.has_failed writer.new) result }
+    ensures text { PutsText W.Output writer.old writer.new result (refusal_text rule.now place) }
     ensures stays_failed { IsTrue (W.has_failed writer.old) → IsErr result }
 {
     let mut line = Line::new();
@@ -53,9 +49,7 @@ pub(crate) fn write_refusal<W: Output>(
 
 // Writes the first line of a layout: how many slices there are.
 pub(crate) fn write_count<W: Output>(slices: u64, writer: &mut W) -> Result<(), WriteFault>
-    ensures bytes { Writes (W.contents writer.old) (W.contents writer.new) result
-        (count_line slices) }
-    ensures failed { FailsAtFault (W.has_failed writer.old) (W.has_failed writer.new) result }
+    ensures text { PutsText W.Output writer.old writer.new result (count_line slices) }
     ensures stays_failed { IsTrue (W.has_failed writer.old) → IsErr result }
 {
     let mut line = Line::new();
@@ -72,9 +66,8 @@ pub(crate) fn write_slice<W: Output>(
     kind: &str,
     writer: &mut W,
 ) -> Result<(), WriteFault>
-    ensures bytes { Writes (W.contents writer.old) (W.contents writer.new) result
+    ensures { PutsText W.Output writer.old writer.new result
         (slice_line index (option_map_or arch_text arch []) span.start span.len kind.now) }
-    ensures failed { FailsAtFault (W.has_failed writer.old) (W.has_failed writer.new) result }
 {
     let mut line = Line::new();
     line.text(b"slice ");
@@ -89,9 +82,7 @@ pub(crate) fn write_slice<W: Output>(
 
 // Writes the line of a UUID.
 pub(crate) fn write_uuid<W: Output>(uuid: &[u8; 16], writer: &mut W) -> Result<(), WriteFault>
-    ensures bytes { Writes (W.contents writer.old) (W.contents writer.new) result
-        (uuid_line uuid.now) }
-    ensures failed { FailsAtFault (W.has_failed writer.old) (W.has_failed writer.new) result }
+    ensures { PutsText W.Output writer.old writer.new result (uuid_line uuid.now) }
 {
     let mut line = Line::new();
     line.text(b"  uuid ");
@@ -101,9 +92,8 @@ pub(crate) fn write_uuid<W: Output>(uuid: &[u8; 16], writer: &mut W) -> Result<(
 
 // Writes the line of a build: its platform and two versions.
 pub(crate) fn write_build<W: Output>(build: &Build, writer: &mut W) -> Result<(), WriteFault>
-    ensures bytes { Writes (W.contents writer.old) (W.contents writer.new) result
+    ensures { PutsText W.Output writer.old writer.new result
         (build_line build.now.platform build.now.minos build.now.sdk) }
-    ensures failed { FailsAtFault (W.has_failed writer.old) (W.has_failed writer.new) result }
 {
     let mut line = Line::new();
     line.text(b"  build platform ");
@@ -117,9 +107,8 @@ pub(crate) fn write_build<W: Output>(build: &Build, writer: &mut W) -> Result<()
 
 // Writes the line of a segment: its name, its memory, its bytes in the image, and its protection.
 pub(crate) fn write_segment<W: Output>(segment: &Segment, writer: &mut W) -> Result<(), WriteFault>
-    ensures bytes { Writes (W.contents writer.old) (W.contents writer.new) result
+    ensures { PutsText W.Output writer.old writer.new result
         (segment_line segment.now.image segment.now.place) }
-    ensures failed { FailsAtFault (W.has_failed writer.old) (W.has_failed writer.new) result }
 {
     let mut line = Line::new();
     line.text(b"  segment ");
@@ -133,9 +122,8 @@ pub(crate) fn write_segment<W: Output>(segment: &Segment, writer: &mut W) -> Res
 
 // Writes the line of a section: its name, its memory, and where its bytes begin in the image.
 pub(crate) fn write_section<W: Output>(section: &Section, writer: &mut W) -> Result<(), WriteFault>
-    ensures bytes { Writes (W.contents writer.old) (W.contents writer.new) result
+    ensures { PutsText W.Output writer.old writer.new result
         (section_line section.now.image section.now.place) }
-    ensures failed { FailsAtFault (W.has_failed writer.old) (W.has_failed writer.new) result }
 {
     let mut line = Line::new();
     line.text(b"    section ");
@@ -159,10 +147,9 @@ fn contents_of(section: &Section) -> Option<u64>
 
 // Writes the line of a library: the word of its command, its name, and two versions.
 pub(crate) fn write_library<W: Output>(library: &Dylib, writer: &mut W) -> Result<(), WriteFault>
-    ensures bytes { Writes (W.contents writer.old) (W.contents writer.new) result
+    ensures { PutsText W.Output writer.old writer.new result
         (library_line library.now.cmd library.now.name.now library.now.current
         library.now.compatible) }
-    ensures failed { FailsAtFault (W.has_failed writer.old) (W.has_failed writer.new) result }
 {
     let mut line = Line::new();
     line.text(library_start(library.cmd).as_bytes());
@@ -191,9 +178,7 @@ fn library_start(cmd: u32) -> &'static str
 
 // Writes the line that counts the symbols.
 pub(crate) fn write_symbols<W: Output>(nsyms: u64, writer: &mut W) -> Result<(), WriteFault>
-    ensures bytes { Writes (W.contents writer.old) (W.contents writer.new) result
-        (symbols_line nsyms) }
-    ensures failed { FailsAtFault (W.has_failed writer.old) (W.has_failed writer.new) result }
+    ensures { PutsText W.Output writer.old writer.new result (symbols_line nsyms) }
 {
     let mut line = Line::new();
     line.text(b"  symbols ");
@@ -203,9 +188,7 @@ pub(crate) fn write_symbols<W: Output>(nsyms: u64, writer: &mut W) -> Result<(),
 
 // Writes the line of the entry point: its address, or that there is none.
 pub(crate) fn write_entry<W: Output>(entry: Option<u64>, writer: &mut W) -> Result<(), WriteFault>
-    ensures bytes { Writes (W.contents writer.old) (W.contents writer.new) result
-        (entry_line entry) }
-    ensures failed { FailsAtFault (W.has_failed writer.old) (W.has_failed writer.new) result }
+    ensures { PutsText W.Output writer.old writer.new result (entry_line entry) }
 {
     let Some(address) = entry else {
         return write_all(b"  entry none\n", writer);
@@ -221,9 +204,8 @@ pub(crate) fn write_source<W: Output>(
     source: Option<Source>,
     writer: &mut W,
 ) -> Result<(), WriteFault>
-    ensures bytes { Writes (W.contents writer.old) (W.contents writer.new) result
+    ensures { PutsText W.Output writer.old writer.new result
         (where_text (option_map source_of source)) }
-    ensures failed { FailsAtFault (W.has_failed writer.old) (W.has_failed writer.new) result }
 {
     match source {
         Some(Source::File(place)) => write_place(place, writer),
@@ -234,9 +216,8 @@ pub(crate) fn write_source<W: Output>(
 
 // Writes the line of a place of the slice.
 fn write_place<W: Output>(place: u64, writer: &mut W) -> Result<(), WriteFault>
-    ensures bytes { Writes (W.contents writer.old) (W.contents writer.new) result
+    ensures { PutsText W.Output writer.old writer.new result
         (where_text (Some (File place))) }
-    ensures failed { FailsAtFault (W.has_failed writer.old) (W.has_failed writer.new) result }
 {
     let mut line = Line::new();
     line.text(b"file ");

@@ -1,9 +1,9 @@
 //! Names as text.
 
 ghost use Rattle.std.specs.Prelude.{◌≡◌, ℕ, ◌+◌, ◌<◌, ◌≤◌, ◌↔◌, ◌++◌, false, length, map, slice_index, IsTrue, OnOk};
-ghost use Rattle.macho_report.specs.Stream.{FailsAtFault, joined};
+ghost use Rattle.macho_report.specs.Stream.{joined};
 ghost use Rattle.macho_report.specs.Name.{is_plain, escaped, quoted};
-ghost use Rattle.macho_report.specs.Progress.{Holding};
+ghost use Rattle.macho_report.specs.Writer.{HoldsText};
 
 use crate::line::{Line, PLACES, ROOM};
 use crate::number::byte_digits;
@@ -15,9 +15,8 @@ impl Line {
     // ASCII are put as `\x` and two lower-case digits in base 16.
     pub(crate) fn name<W: Output>(&mut self, name: &[u8], writer: &mut W) -> Result<(), WriteFault>
         ensures room { OnOk result (length self.new + ROOM ≤ PLACES) }
-        ensures bytes { Holding (W.contents writer.old) (W.contents writer.new) result self.new
+        ensures text { HoldsText W.Output writer.old writer.new result self.new
             (self.old ++ quoted name.now) }
-        ensures failed { FailsAtFault (W.has_failed writer.old) (W.has_failed writer.new) result }
     {
         if self.has_room(name.len() + 2) && are_plain(name) {
             self.text(b"\"");
@@ -33,9 +32,8 @@ impl Line {
     // Puts each run of plain bytes as it is, and every other byte escaped.
     #[inline(never)]
     fn escaped<W: Output>(&mut self, name: &[u8], writer: &mut W) -> Result<(), WriteFault>
-        ensures bytes { Holding (W.contents writer.old) (W.contents writer.new) result self.new
+        ensures { HoldsText W.Output writer.old writer.new result self.new
             (self.old ++ joined (map escaped name.now)) }
-        ensures failed { FailsAtFault (W.has_failed writer.old) (W.has_failed writer.new) result }
     {
         let mut rest = name;
         while let Some((&first, after)) = rest.split_first() {

@@ -2,7 +2,8 @@
 
 ghost use Rattle.std.specs.Prelude.{◌≡◌, ◌≢◌, ◌+◌, ◌<◌, ◌≤◌, ◌↔◌, [], length, vec_len, IfOk, IfSome, OnOk, IsErr, IsErrOf, IsTrue};
 ghost use Rattle.std.specs.Io.KnownBytes.{IsAtEnd};
-ghost use Rattle.macho_report.specs.Stream.{TookAtMost, Writes, FailsAtFault};
+ghost use Rattle.macho_report.specs.Stream.{TookAtMost};
+ghost use Rattle.macho_report.specs.Writer.{PutsText};
 ghost use Rattle.macho_report.specs.declared.transfer.ReadFault.TheVariants.{Read, Memory};
 
 use crate::stream::{Failed, Input, Output};
@@ -107,8 +108,7 @@ fn expect_end<R: Input>(reader: &mut R) -> Result<(), ReadFault>
 /// Writes the whole text. An empty text makes no write.
 #[inline(always)]
 pub fn write_all<W: Output>(text: &[u8], writer: &mut W) -> Result<(), WriteFault>
-    ensures bytes { Writes (W.contents writer.old) (W.contents writer.new) result text.now }
-    ensures failed { FailsAtFault (W.has_failed writer.old) (W.has_failed writer.new) result }
+    ensures text { PutsText W.Output writer.old writer.new result text.now }
     ensures stays_failed { IsTrue (W.has_failed writer.old) → text.now ≢ [] → IsErr result }
     ensures untouched { text.now ≡ [] → writer.new ≡ writer.old }
 {

@@ -1,13 +1,11 @@
-use Rattle.std.proofs.Common.{◌≡◌, map}
+use Rattle.std.proofs.Common.{map}
 use Rattle.macho_fields.specs.Image.{commands_of}
 use Rattle.macho_report.specs.Layout.{builds_text}
 use Rattle.macho_report.specs.Line.{build_line}
-use Rattle.macho_report.specs.Progress.{Writing}
+use Rattle.macho_report.proofs.Writers.{PutsPart}
 use Rattle.macho_report.proofs.layout.write_builds.Given as goal
 
 -- the lines of the items that are left are still to be written
 abbrev pub invariant-loop-build : goal.invariant-loop-build
-invariant-loop-build g l = record {
-  writing : Writing (g.W.Output.contents l.initial.writer) (g.W.Output.contents l.writer) (builds_text l.image (commands_of l.image)) (map (λ b. build_line b.platform b.minos b.sdk) l.build-iterator);
-  same : g.W.Output.has_failed l.writer ≡ g.W.Output.has_failed l.initial.writer;
-}
+invariant-loop-build g l = PutsPart g.W.Output l.initial.writer l.writer (builds_text l.image (commands_of l.image))
+    (map (λ b. build_line b.platform b.minos b.sdk) l.build-iterator)

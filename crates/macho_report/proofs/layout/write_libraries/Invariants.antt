@@ -1,13 +1,11 @@
-use Rattle.std.proofs.Common.{◌≡◌, map}
+use Rattle.std.proofs.Common.{map}
 use Rattle.macho_fields.specs.Image.{commands_of}
 use Rattle.macho_report.specs.Layout.{libraries_text}
 use Rattle.macho_report.specs.LineParts.{linked_text}
-use Rattle.macho_report.specs.Progress.{Writing}
+use Rattle.macho_report.proofs.Writers.{PutsPart}
 use Rattle.macho_report.proofs.layout.write_libraries.Given as goal
 
 -- the lines of the items that are left are still to be written
 abbrev pub invariant-loop-library : goal.invariant-loop-library
-invariant-loop-library g l = record {
-  writing : Writing (g.W.Output.contents l.initial.writer) (g.W.Output.contents l.writer) (libraries_text l.image (commands_of l.image)) (map (linked_text) l.library-iterator);
-  same : g.W.Output.has_failed l.writer ≡ g.W.Output.has_failed l.initial.writer;
-}
+invariant-loop-library g l = PutsPart g.W.Output l.initial.writer l.writer (libraries_text l.image (commands_of l.image))
+    (map linked_text l.library-iterator)

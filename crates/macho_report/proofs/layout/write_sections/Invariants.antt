@@ -1,15 +1,11 @@
-use Rattle.std.proofs.Common.{◌≡◌, map}
+use Rattle.std.proofs.Common.{map}
 use Rattle.macho_fields.specs.Segment.{sections_in}
 use Rattle.macho_report.specs.Stream.{joined}
 use Rattle.macho_report.specs.Line.{section_line}
-use Rattle.macho_report.specs.Progress.{Writing}
+use Rattle.macho_report.proofs.Writers.{PutsPart}
 use Rattle.macho_report.proofs.layout.write_sections.Given as goal
 
 -- the lines of the items that are left are still to be written
 abbrev pub invariant-loop-section : goal.invariant-loop-section
-invariant-loop-section g l = record {
-  writing : Writing (g.W.Output.contents l.initial.writer) (g.W.Output.contents l.writer)
-      (joined (map (section_line l.segment.image) (sections_in l.segment.image l.segment.place)))
-      (map (λ s. section_line s.image s.place) l.section-iterator);
-  same : g.W.Output.has_failed l.writer ≡ g.W.Output.has_failed l.initial.writer;
-}
+invariant-loop-section g l = PutsPart g.W.Output l.initial.writer l.writer (joined (map (section_line l.segment.image) (sections_in l.segment.image l.segment.place)))
+    (map (λ s. section_line s.image s.place) l.section-iterator)

@@ -1,9 +1,8 @@
-use Rattle.std.proofs.Common.{rules}
-use Rattle.macho_report.proofs.StreamLemmas.{writes_fails_text, writes_last_text, writes_next_text}
+use Rattle.macho_report.proofs.Writers.{puts_fails, puts_last, puts_next}
 use Rattle.macho_report.proofs.layout.write_segment_lines.Goals as goal
 
-pub returns-in_err-write_segment-clause-bytes : goal.returns-in_err-write_segment-clause-bytes
-returns-in_err-write_segment-clause-bytes g c = search (rules, writes_fails_text)
+pub returns-in_err-write_segment : goal.returns-in_err-write_segment
+returns-in_err-write_segment g c = puts_fails _ c.from_residual.ensures.0 c.in_err-write_segment.ensures
 
-pub returns-clause-bytes : goal.returns-clause-bytes
-returns-clause-bytes g c = search (rules, writes_last_text, writes_next_text)
+pub returns : goal.returns
+returns g c = puts_next _ c.in_ok-write_segment.ensures (puts_last c.write_sections.ensures)

@@ -3,21 +3,15 @@ use Rattle.std.proofs.lemmas.Bool.{false≢true}
 use Rattle.macho_report.proofs.Slices.{read_lines, slice_found, unread_lines}
 use Rattle.macho_report.proofs.layout.write_slice_lines.Goals as goal
 
-pub returns-in-Some-clause-bytes : goal.returns-in-Some-clause-bytes
-returns-in-Some-clause-bytes g c =
-    read_lines c.args.verified.now _ c.args.index _ _ _ _ _ (rw c.unwrap-slice.ensures at c.slice.ensures.slice)
-    (c.in-Some.ensures.is_image.0 refl) c.in-Some.ensures.image c.write_image_slice.ensures.bytes
+pub returns-in-Some : goal.returns-in-Some
+returns-in-Some g c =
+    read_lines c.args.verified.now _ c.args.index _ _ (rw c.unwrap-slice.ensures at c.slice.ensures.slice)
+    (c.in-Some.ensures.is_image.0 refl) c.in-Some.ensures.image c.write_image_slice.ensures
 
-pub returns-in-None-clause-bytes : goal.returns-in-None-clause-bytes
-returns-in-None-clause-bytes g c =
-    unread_lines c.args.verified.now c.args.index _ _ _ _ _ (rw c.unwrap-slice.ensures at c.slice.ensures.slice)
-    (λ image. false≢true (c.in-None.ensures.is_image.1 image)) c.write_slice.ensures.bytes
-
-pub returns-in-Some-clause-failed : goal.returns-in-Some-clause-failed
-returns-in-Some-clause-failed g c = c.write_image_slice.ensures.failed
-
-pub returns-in-None-clause-failed : goal.returns-in-None-clause-failed
-returns-in-None-clause-failed g c = c.write_slice.ensures.failed
+pub returns-in-None : goal.returns-in-None
+returns-in-None g c =
+    unread_lines c.args.verified.now c.args.index _ _ (rw c.unwrap-slice.ensures at c.slice.ensures.slice)
+    (λ image. false≢true (c.in-None.ensures.is_image.1 image)) c.write_slice.ensures
 
 pub unwrap-slice-requires : goal.unwrap-slice-requires
 unwrap-slice-requires g c = slice_found _ _ _ _ c.slice.ensures.slice c.requires

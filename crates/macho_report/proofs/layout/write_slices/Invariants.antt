@@ -1,16 +1,13 @@
-use Rattle.std.proofs.Common.{◌≡◌, map, drop}
+use Rattle.std.proofs.Common.{map, drop}
 use Rattle.std.specs.List.{enumerate_from}
 use Rattle.macho_fields.specs.Universal.{slices_of}
 use Rattle.macho_report.specs.Stream.{joined}
 use Rattle.macho_report.specs.Layout.{slice_text}
-use Rattle.macho_report.specs.Progress.{Writing}
+use Rattle.macho_report.proofs.Writers.{PutsPart}
 use Rattle.macho_report.proofs.layout.write_slices.Given as goal
 
 -- the lines of the slices that are left are still to be written
 abbrev pub invariant-loop-index : goal.invariant-loop-index
-invariant-loop-index g l = record {
-  writing : Writing (g.W.Output.contents l.initial.writer) (g.W.Output.contents l.writer)
-      (joined (map (slice_text l.verified) (enumerate_from 0 (slices_of l.verified))))
-      (map (slice_text l.verified) (drop l.index (enumerate_from 0 (slices_of l.verified))));
-  same : g.W.Output.has_failed l.writer ≡ g.W.Output.has_failed l.initial.writer;
-}
+invariant-loop-index g l = PutsPart g.W.Output l.initial.writer l.writer
+    (joined (map (slice_text l.verified) (enumerate_from 0 (slices_of l.verified))))
+    (map (slice_text l.verified) (drop l.index (enumerate_from 0 (slices_of l.verified))))

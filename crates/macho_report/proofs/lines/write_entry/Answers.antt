@@ -1,7 +1,7 @@
-use Rattle.macho_report.proofs.StreamLemmas.{writes_same}
+use Rattle.macho_report.proofs.Writers.{puts_same}
 use Rattle.macho_report.proofs.Puts.{from_start, put_next, ended}
 use Rattle.macho_report.proofs.lines.write_entry.Goals as goal
 
-pub returns-clause-bytes : goal.returns-clause-bytes
-returns-clause-bytes g c =
-    rw c.in-Some.is (writes_same _ _ _ _ _ (from_start _ _ _ c.new-line.ensures (put_next _ _ _ _ _ c.text.ensures (put_next _ _ _ _ _ c.hex.ensures.text (ended _)))) c.write.ensures.bytes)
+pub returns : goal.returns
+returns g c =
+    rw c.in-Some.is (puts_same (from_start _ _ _ c.new-line.ensures (put_next _ _ _ _ _ c.text.ensures (put_next _ _ _ _ _ c.hex.ensures.text (ended _)))) c.write.ensures.text)

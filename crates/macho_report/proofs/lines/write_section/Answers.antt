@@ -4,12 +4,12 @@ use Rattle.macho_report.proofs.Puts.{from_start, put_next, put_many, put_last, e
 use Rattle.macho_report.proofs.Holding.{line_fails, line_written}
 use Rattle.macho_report.proofs.lines.write_section.Goals as goal
 
-pub returns-in_err-name-clause-bytes : goal.returns-in_err-name-clause-bytes
-returns-in_err-name-clause-bytes g c =
-    line_fails _ _ (codes "    section " ∷ []) _ _ _ _ c.from_residual.ensures.0 (from_start _ _ _ c.new-line.ensures (put_next _ _ _ _ _ c.text.ensures (put_last _))) (rw c.name.ensures at c.in_err-name.ensures.bytes)
+pub returns-in_err-name : goal.returns-in_err-name
+returns-in_err-name g c =
+    line_fails (codes "    section " ∷ []) _ _ c.from_residual.ensures.0 (from_start _ _ _ c.new-line.ensures (put_next _ _ _ _ _ c.text.ensures (put_last _))) (rw c.name.ensures at c.in_err-name.ensures.text)
 
-pub returns-clause-bytes : goal.returns-clause-bytes
-returns-clause-bytes g c =
-    line_written _ _ _ (codes "    section " ∷ []) _ _ _ _ _ _ (from_start _ _ _ c.new-line.ensures (put_next _ _ _ _ _ c.text.ensures (put_last _))) (rw c.name.ensures at c.in_ok-name.ensures.bytes)
+pub returns : goal.returns
+returns g c =
+    line_written (codes "    section " ∷ []) _ _ (from_start _ _ _ c.new-line.ensures (put_next _ _ _ _ _ c.text.ensures (put_last _))) (rw c.name.ensures at c.in_ok-name.ensures.text)
     (put_many _ _ _ _ _ (rw (c.addr.ensures, c.size.ensures) at c.extent.ensures.text)
-    (put_next _ _ _ _ _ c.text-2.ensures (put_next _ _ _ _ _ (rw c.contents_of.ensures at c.contents.ensures.text) (ended _)))) c.write.ensures.bytes
+    (put_next _ _ _ _ _ c.text-2.ensures (put_next _ _ _ _ _ (rw c.contents_of.ensures at c.contents.ensures.text) (ended _)))) c.write.ensures.text

@@ -20,10 +20,10 @@ returns-in_err-write_layout g c =
     let (same, accepted, unwritten) = rw c.in-Some.is at c.in_ok-verified.ensures.accepted in
     rw (at_fault _ _ c.from_residual-in_err-write_layout.ensures.1) record {
       verdict = tt;
-      fails = fails_to_write _ _ _ c.in_err-write_layout.ensures.failed (Accepted, _, (accepted, refl), (rw (same, unwritten) at c.in_err-write_layout.ensures.bytes));
+      fails = fails_to_write _ _ _ c.in_err-write_layout.ensures.text.failed (Accepted, _, (accepted, refl), (rw (same, unwritten) at c.in_err-write_layout.ensures.text.bytes));
     }
 
 pub returns : goal.returns
 returns g c =
     let (same, accepted, unwritten) = rw c.in-Some.is at c.in_ok-verified.ensures.accepted in
-    record { verdict = (_, (accepted, refl), (rw (same, unwritten) at c.in_ok-write_layout.ensures.bytes)); fails = fails_not _ _ _ _ }
+    record { verdict = (_, (accepted, refl), (rw (same, unwritten) at c.in_ok-write_layout.ensures.text.bytes)); fails = fails_not _ _ _ _ }

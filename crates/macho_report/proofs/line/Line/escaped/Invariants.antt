@@ -1,16 +1,13 @@
-use Rattle.std.proofs.Common.{◌≡◌, ◌∷◌, ◌++◌, length, map}
+use Rattle.std.proofs.Common.{◌∷◌, ◌++◌, length, map}
 use Rattle.macho_report.specs.Stream.{joined}
-use Rattle.macho_report.specs.Progress.{Writing}
 use Rattle.macho_report.specs.Name.{escaped}
+use Rattle.macho_report.proofs.Writers.{PutsPart}
 use Rattle.macho_report.proofs.line.Line.escaped.Given as goal
 
 -- the texts of the rest are left
 abbrev pub invariant-loop-first : goal.invariant-loop-first
-invariant-loop-first g l = record {
-  writing : Writing (g.W.Output.contents l.initial.writer) (g.W.Output.contents l.writer)
-      (l.initial.self ++ joined (map escaped l.initial.name)) (l.self ∷ map escaped l.rest);
-  same : g.W.Output.has_failed l.writer ≡ g.W.Output.has_failed l.initial.writer;
-}
+invariant-loop-first g l = PutsPart g.W.Output l.initial.writer l.writer
+    (l.initial.self ++ joined (map escaped l.initial.name)) (l.self ∷ map escaped l.rest)
 
 abbrev pub decreases-loop-first : goal.decreases-loop-first
 decreases-loop-first g l = length l.rest

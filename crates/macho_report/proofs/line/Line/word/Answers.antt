@@ -1,5 +1,5 @@
-use Rattle.macho_report.proofs.Holding.{all_held}
+use Rattle.macho_report.proofs.Holding.{holds_all}
 use Rattle.macho_report.proofs.line.Line.word.Goals as goal
 
-pub returns-then-has_room-clause-bytes : goal.returns-then-has_room-clause-bytes
-returns-then-has_room-clause-bytes g c = all_held _ _ _ c.text.ensures
+pub returns-then-has_room-clause-text : goal.returns-then-has_room-clause-text
+returns-then-has_room-clause-text g c = holds_all c.text.ensures
