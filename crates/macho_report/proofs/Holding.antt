@@ -43,6 +43,12 @@ unfolding joined
 after_others first rest line text is = append_assoc line text (joined rest) ∙ ap (λ l. l ++ (text ++ joined rest)) is ∙ sym (joined_append first (text ∷ rest))
 
 module _ {W : Type 0} {o : output.Ghosts W} where
+  -- a text, or a prefix of it, after one that was written
+  puts_after : {T E : Type 0} {a b c : W} {r : Result T E} {done text : List ℕ} → Wrote (o.contents a) (o.contents b) done → o.has_failed b ≡ o.has_failed a
+      → PutsText o b c r text → PutsText o a c r (done ++ text)
+  puts_after {r = Ok y} wrote same put = record { bytes = wrote_then _ _ _ _ _ wrote put.bytes; failed = put.failed ∙ same }
+  puts_after {r = Err e} wrote same put = record { bytes = wrote_prefix_then _ _ _ _ _ wrote put.bytes; failed = put.failed }
+
   -- all of a text is held
   pub holds_all : {T E : Type 0} {a : W} {x : T} {text held : List ℕ} → held ≡ text → HoldsText {E = E} o a a (Ok x) held text
   unfolding joined
@@ -103,6 +109,18 @@ module _ {W : Type 0} {o : output.Ghosts W} where
   holds_last {r = Ok x} h joins = record { bytes = part_held _ _ _ _ _ _ _ _ _ refl h.bytes joins.bytes; failed = joins.failed ∙ h.failed }
   holds_last {r = Err e} {text = text} h joins = record { bytes = part_fails _ _ _ _ _ text (text ∷ []) [] refl h.bytes joins.bytes; failed = joins.failed }
 
+  -- .. or that is not written
+  pub held_fails : {T U E F : Type 0} {a b c : W} {e : E} {r : Result U F} {whole held text next : List ℕ} {left : List (List ℕ)}
+      → IsErr r → PutsPart o a b whole (held ∷ text ∷ left) → HoldsText {T = T} o b c (Err e) next (held ++ text) → PutsText o a c r whole
+  unfolding joined
+  held_fails {text = text} {left = left} err h joins = puts_fault err (part_fails _ _ _ _ _ text (text ∷ left) left refl h.bytes joins.bytes) joins.failed
+
+  -- the last text joins what is held, and that is written
+  pub held_puts : {T E : Type 0} {a b c : W} {r : Result T E} {whole held text : List ℕ}
+      → PutsPart o a b whole (held ∷ text ∷ []) → PutsText o b c r (held ++ text) → PutsText o a c r whole
+  unfolding joined
+  held_puts {r = r} {held = held} {text = text} h put = puts_same (ap (λ l. h.bytes.done ++ (held ++ l)) (sym (append-nil text)) ∙ h.bytes.rest) (puts_after h.bytes.wrote h.failed put)
+
   -- a loop that puts a text for each item
   module _ {X : Type 0} (f : X → List ℕ) {a b : W} {whole held : List ℕ} {items : List X} where
     pub holds_item : {c : W} {next : List ℕ} {T E : Type 0} {y : T} {rest : List X} {x : X} → items ≡ x ∷ rest → PutsPart o a b whole (held ∷ map f items) → HoldsText {E = E} o b c (Ok y) next (held ++ f x)
@@ -120,14 +138,10 @@ module _ {W : Type 0} {o : output.Ghosts W} where
   line_ends : {T U E F : Type 0} {a b c : W} {x : T} {r : Result U F} (before held line : List ℕ) (rest : List (List ℕ))
       → HoldsText {E = E} o a b (Ok x) held before → line ≡ held ++ joined rest → PutsText o b c r line → PutsText o a c r (before ++ joined rest)
   unfolding joined
-  line_ends {U = U} {F = F} {a = a} {b = b} {c = c} {r = r} before held line rest h is put =
+  line_ends before held line rest h is put =
       let whole : h.bytes.done ++ line ≡ before ++ joined rest =
       ap (λ l. h.bytes.done ++ l) is ∙ sym (append_assoc h.bytes.done held (joined rest)) ∙ ap (λ l. l ++ joined rest) (ap (λ l. h.bytes.done ++ l) (sym (append-nil held)) ∙ h.bytes.rest) in
-      puts_same whole (after_done r put)
-    where
-      after_done : (r : Result U F) → PutsText o b c r line → PutsText o a c r (h.bytes.done ++ line)
-      after_done (Ok y) put = record { bytes = wrote_then _ _ _ _ _ h.bytes.wrote put.bytes; failed = put.failed ∙ h.failed }
-      after_done (Err e) put = record { bytes = wrote_prefix_then _ _ _ _ _ h.bytes.wrote put.bytes; failed = put.failed }
+      puts_same whole (puts_after h.bytes.wrote h.failed put)
 
   -- the line of which a text was put by parts that may be written
   pub line_written : {T U E F : Type 0} {a b c : W} {x : T} {r : Result U F} (first rest : List (List ℕ)) (text : List ℕ) {start held line : List ℕ} → start ≡ joined first

@@ -1,16 +1,13 @@
 -- What a run says of its input, from what it says of the bytes that it read.
-use Rattle.std.proofs.Common.{◌≡◌, ℕ, ◌≤◌, List, Option, Some, None, Result, Ok, Err, IfOk, IsErrOf, length, inl, inr, refl, ap, ap₂, ◌∙◌, arith, subst}
+use Rattle.std.proofs.Common.{◌≡◌, ℕ, ◌≤◌, List, Option, Some, None, Result, Ok, Err, IfOk, IsErrOf, length, inl, inr, refl, ap, ap₂, arith, subst}
 use Rattle.std.specs.Prelude.{◌⊎◌, ◌↔◌, ◌+◌, ◌<◌, IfErr, IfSome, IsTrue, OnOk}
 use Rattle.std.specs.Io.KnownBytes.{IsAtEnd}
 use Rattle.macho_report.specs.Stream.{TookAtMost}
-use Rattle.macho_fields.specs.First.{IsUnbroken, IsFirstBroken}
+use Rattle.macho_fields.specs.First.{IsFirstBroken}
 use Rattle.macho_fields.specs.declared.rule.Break.{Break}
 use Rattle.macho_report.specs.Judge.{IsNamedFirstBroken}
 use Rattle.macho_report.specs.Text.{break_text, refusal_text}
-use Rattle.macho_report.specs.Run.{IsVerdict, IsVerdictBy, ReadsRight, WroteVerdict, WroteVerdictPrefix, run_fault_of}
-use Rattle.macho_report.specs.declared.judge.Judge as judge
-use Rattle.macho_report.specs.declared.outcome.Outcome.{Outcome}
-use Rattle.macho_report.specs.declared.outcome.Outcome.TheVariants.{Accepted, Refused}
+use Rattle.macho_report.specs.Run.{ReadsRight, run_fault_of}
 use Rattle.macho_report.specs.declared.outcome.RunFault.{RunFault}
 use Rattle.macho_report.specs.declared.outcome.RunFault.TheVariants as fault
 use Rattle.macho_report.specs.declared.stream.Input as input
@@ -31,26 +28,6 @@ input_ok input bytes limit P (Ok found) is within h = input_is input bytes limit
 -- a refusal by the rules of the layout is for their first break
 pub named_break : (file name : List ℕ) (place : ℕ) → IsNamedFirstBroken file name place → (b : Break) × IsFirstBroken file b × (refusal_text name place ≡ break_text b)
 named_break file name place (b, first, named, at) = (b, first, ap₂ refusal_text named at)
-
--- a verdict by the rules of the layout
-pub layout_verdict : {J : Type 0} (j : judge.Ghosts J) → ((file : List ℕ) → j.accepts file → IsUnbroken file)
-    → ((file name : List ℕ) (place : ℕ) → j.refuses file name place → IsNamedFirstBroken file name place)
-    → (file : List ℕ) (outcome : Outcome) (text : List ℕ) → IsVerdictBy j file outcome text → IsVerdict file outcome text
-layout_verdict j accepted refused file Accepted text (right, is) = (accepted file right, is)
-layout_verdict j accepted refused file Refused text (name, place, right, is) =
-    let (b, first, same) = named_break file name place (refused file name place right) in (b, first, is ∙ same)
-
--- what is right by one definition of a verdict, and so by another
-module _ (V V' : List ℕ → Outcome → List ℕ → Type 0) (means : (file : List ℕ) (outcome : Outcome) (text : List ℕ) → V file outcome text → V' file outcome text) where
-  pub verdict_as : {E : Type 0} (input old new : Option (List ℕ)) (limit : ℕ) (r : Result Outcome E)
-      → IfOk r (λ outcome. WroteVerdict V input limit outcome old new) → IfOk r (λ outcome. WroteVerdict V' input limit outcome old new)
-  verdict_as input old new limit (Err fault) h = tt
-  verdict_as None old new limit (Ok outcome) h = tt
-  verdict_as (Some file) old new limit (Ok outcome) (within, (text, right, wrote)) = (within, (text, means file outcome text right, wrote))
-
-  pub verdict_prefix_as : (input old new : Option (List ℕ)) (limit : ℕ) → WroteVerdictPrefix V input limit old new → WroteVerdictPrefix V' input limit old new
-  verdict_prefix_as None old new limit h = tt
-  verdict_prefix_as (Some file) old new limit (within, (outcome, text, right, wrote)) = (within, (outcome, text, means file outcome text right, wrote))
 
 -- a fault of reading, which the run returns as its own
 fault_passed : {T U : Type 0} (e f : ReadFault) → IsErrOf {T = T} (Err (run_fault_of e)) (run_fault_of f) → IsErrOf {T = U} (Err e) f

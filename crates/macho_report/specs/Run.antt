@@ -1,40 +1,34 @@
 -- What a run writes of its input.
-use Rattle.std.specs.Prelude.{◌≡◌, ◌⊎◌, ◌↔◌, ℕ, ◌+◌, ◌<◌, ◌≤◌, Bool, List, length, Option, IfSome, Result, IsErrOf, IsTrue, IfErr, OnOk}
+use Rattle.std.specs.Prelude.{◌≡◌, ◌⊎◌, ◌↔◌, ℕ, ◌+◌, ◌<◌, ◌≤◌, Bool, List, length, Option, IfSome, Result, IsErrOf, IsTrue, IfErr, IfOk, OnOk}
 use Rattle.std.specs.Io.KnownBytes.{IsAtEnd}
-use Rattle.macho_fields.specs.First.{IsUnbroken, IsFirstBroken}
-use Rattle.macho_fields.specs.declared.rule.Break.{Break}
 use Rattle.macho_report.specs.Stream.{TookAtMost, Wrote, WrotePrefix}
 use Rattle.macho_report.specs.Layout.{layout_text}
-use Rattle.macho_report.specs.Text.{break_text, refusal_text}
+use Rattle.macho_report.specs.Text.{refusal_text}
 use Rattle.macho_report.specs.declared.judge.Judge as judge
 use Rattle.macho_report.specs.declared.outcome.Outcome.{Outcome}
 use Rattle.macho_report.specs.declared.outcome.Outcome.TheVariants.{Accepted, Refused}
 use Rattle.macho_report.specs.declared.stream.Input as input
+use Rattle.macho_report.specs.declared.stream.Output as output
 use Rattle.macho_report.specs.declared.transfer.ReadFault.{ReadFault}
 use Rattle.macho_report.specs.declared.transfer.ReadFault.TheVariants as read
 use Rattle.macho_report.specs.declared.outcome.RunFault.{RunFault}
 use Rattle.macho_report.specs.declared.outcome.RunFault.TheVariants as fault
 
--- the outcome is right for the file, and this is its text
-abbrev pub IsVerdict : List ℕ → Outcome → List ℕ → Type 0
-IsVerdict file Accepted text = IsUnbroken file × (text ≡ layout_text file)
-IsVerdict file Refused text = (b : Break) × IsFirstBroken file b × (text ≡ break_text b)
-
--- the same by any judge
-abbrev pub IsVerdictBy : {J : Type 0} → judge.Ghosts J → List ℕ → Outcome → List ℕ → Type 0
-IsVerdictBy j file Accepted text = j.accepts file × (text ≡ layout_text file)
-IsVerdictBy j file Refused text =
+-- by the judge, the outcome is right for the file, and this is its text
+abbrev pub IsVerdict : {J : Type 0} → judge.Ghosts J → List ℕ → Outcome → List ℕ → Type 0
+IsVerdict j file Accepted text = j.accepts file × (text ≡ layout_text file)
+IsVerdict j file Refused text =
     (name : List ℕ) × (place : ℕ) × j.refuses file name place × (text ≡ refusal_text name place)
 
--- the input is within the limit, and the text of the outcome was written. `IsRight` holds where an outcome and its text are right for a file
-abbrev pub WroteVerdict : (List ℕ → Outcome → List ℕ → Type 0) → Option (List ℕ) → ℕ → Outcome → Option (List ℕ) → Option (List ℕ) → Type 0
-WroteVerdict IsRight input limit outcome old new =
-    IfSome input (λ file. (length file ≤ limit) × ((text : List ℕ) × IsRight file outcome text × Wrote old new text))
+-- the input is within the limit, and the text of the outcome, which is right for it, was written
+abbrev pub WroteVerdict : {J : Type 0} → judge.Ghosts J → Option (List ℕ) → ℕ → Outcome → Option (List ℕ) → Option (List ℕ) → Type 0
+WroteVerdict j input limit outcome old new =
+    IfSome input (λ file. (length file ≤ limit) × ((text : List ℕ) × IsVerdict j file outcome text × Wrote old new text))
 
 -- the same of a prefix of the text
-abbrev pub WroteVerdictPrefix : (List ℕ → Outcome → List ℕ → Type 0) → Option (List ℕ) → ℕ → Option (List ℕ) → Option (List ℕ) → Type 0
-WroteVerdictPrefix IsRight input limit old new =
-    IfSome input (λ file. (length file ≤ limit) × ((outcome : Outcome) × (text : List ℕ) × IsRight file outcome text × WrotePrefix old new text))
+abbrev pub WroteVerdictPrefix : {J : Type 0} → judge.Ghosts J → Option (List ℕ) → ℕ → Option (List ℕ) → Option (List ℕ) → Type 0
+WroteVerdictPrefix j input limit old new =
+    IfSome input (λ file. (length file ≤ limit) × ((outcome : Outcome) × (text : List ℕ) × IsVerdict j file outcome text × WrotePrefix old new text))
 
 -- A run that reads an input of at most `limit` bytes whole: when each fault of reading comes, and what was taken.
 pub record ReadsRight {R T : Type 0} (i : input.Ghosts R) (limit : ℕ) (old new : R) (end : Result T RunFault) : Type 0 where
@@ -44,6 +38,17 @@ pub record ReadsRight {R T : Type 0} (i : input.Ghosts R) (limit : ℕ) (old new
   pub one_too_many : IsErrOf end fault.TooLong → TookAtMost (limit + 1) (i.remaining old) (i.remaining new)
   pub memory : IsErrOf end fault.Memory → TookAtMost limit (i.remaining old) (i.remaining new)
   pub few_reads : i.reads new ≤ i.reads old + limit + 1
+
+-- A run that reads an input of at most `limit` bytes whole, and writes the text of its verdict.
+pub record RunsRight {J R W : Type 0} (j : judge.Ghosts J) (i : input.Ghosts R) (o : output.Ghosts W) (limit : ℕ)
+    (reader reader' : R) (writer writer' : W) (end : Result Outcome RunFault) : Type 0 where
+  -- All of the input was read, or a fault says why not. The outcome is right for it, and exactly its text was written.
+  pub verdict : IfOk end (λ outcome. WroteVerdict j (i.remaining reader) limit outcome (o.contents writer) (o.contents writer'))
+  pub input : ReadsRight i limit reader reader' end
+  -- Nothing was written but where a write failed.
+  pub write : IsErrOf end fault.Write → IsTrue (o.has_failed writer')
+  pub prefix : IsErrOf end fault.Write → WroteVerdictPrefix j (i.remaining reader) limit (o.contents writer) (o.contents writer')
+  pub unwritten : IfErr end (λ e. (e ≡ fault.Write) ⊎ (writer' ≡ writer))
 
 -- When a run fails that has read its input: `failed` is whether a write has failed, `in_part` holds where a prefix of the
 -- text was written, and `unwritten` where nothing was.

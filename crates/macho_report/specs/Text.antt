@@ -1,4 +1,4 @@
--- The line of a broken rule, and those of faults. Each ends with one line feed.
+-- The line of a broken rule, and what the lines of faults say. Each line ends with one line feed.
 use Rattle.std.specs.Prelude.{ℕ, List, [], ◌∷◌, codes}
 use Rattle.macho_fields.specs.RuleList.{name_of}
 use Rattle.macho_fields.specs.declared.rule.Break.{Break}
@@ -16,9 +16,13 @@ refusal_text name place =
 abbrev pub break_text : Break → List ℕ
 break_text b = refusal_text (name_of b.rule) b.place
 
--- the lines of faults, which go to standard error
-abbrev pub run_fault_line : RunFault → List ℕ
-run_fault_line fault.Read = codes "macho-check: read failed\n"
-run_fault_line fault.TooLong = codes "macho-check: more than 4294967296 bytes\n"
-run_fault_line fault.Write = codes "macho-check: write failed\n"
-run_fault_line fault.Memory = codes "macho-check: out of memory\n"
+-- what is wrong, as the line of a fault says it
+abbrev pub run_fault_reason : RunFault → List ℕ
+run_fault_reason fault.Read = codes "read failed"
+run_fault_reason fault.TooLong = codes "more than 4294967296 bytes"
+run_fault_reason fault.Write = codes "write failed"
+run_fault_reason fault.Memory = codes "out of memory"
+
+-- a line of three words
+abbrev pub words_line : List ℕ → List ℕ → List ℕ → List ℕ
+words_line first second third = joined (first ∷ second ∷ third ∷ codes "\n" ∷ [])

@@ -7,7 +7,7 @@ ghost use Rattle.macho_rules.specs.Source.{source_of};
 ghost use Rattle.macho_report.specs.Writer.{PutsText};
 ghost use Rattle.macho_report.specs.Arch.{arch_text};
 ghost use Rattle.macho_report.specs.Line.{contents_of, count_line, slice_line, uuid_line, build_line, segment_line, section_line, library_line, symbols_line, entry_line};
-ghost use Rattle.macho_report.specs.Text.{break_text, refusal_text};
+ghost use Rattle.macho_report.specs.Text.{break_text, refusal_text, words_line};
 ghost use Rattle.macho_report.specs.Where.{where_text};
 ghost use Rattle.macho_report.specs.LineParts.{library_start};
 
@@ -44,6 +44,23 @@ pub(crate) fn write_refusal<W: Output>(
     line.word(rule.as_bytes(), writer)?;
     line.text(b" at ");
     line.hex(place);
+    line.write(writer)
+}
+
+/// Writes a line of three words.
+pub fn write_words<W: Output>(
+    first: &str,
+    second: &str,
+    third: &str,
+    writer: &mut W,
+) -> Result<(), WriteFault>
+    ensures { PutsText W.Output writer.old writer.new result
+        (words_line first.now second.now third.now) }
+{
+    let mut line = Line::new();
+    line.word(first.as_bytes(), writer)?;
+    line.word(second.as_bytes(), writer)?;
+    line.word(third.as_bytes(), writer)?;
     line.write(writer)
 }
 

@@ -1,9 +1,9 @@
 //! From an input to its report: what was found, and the text of it.
 
-ghost use Rattle.std.specs.Prelude.{◌≡◌, ◌⊎◌, List, ℕ, IfOk, IfErr, IfNone, IfSome, IsErrOf, IsTrue};
+ghost use Rattle.std.specs.Prelude.{◌≡◌, List, ℕ, IfOk, IfNone, IfSome};
 ghost use Rattle.macho_report.specs.Stream.{Wrote, WrotePrefix};
-ghost use Rattle.macho_report.specs.Text.{refusal_text, run_fault_line};
-ghost use Rattle.macho_report.specs.Run.{FailsRight, ReadsRight, IsVerdict, IsVerdictBy, WroteVerdict, WroteVerdictPrefix, run_fault_of};
+ghost use Rattle.macho_report.specs.Text.{refusal_text, run_fault_reason};
+ghost use Rattle.macho_report.specs.Run.{FailsRight, IsVerdict, RunsRight, run_fault_of};
 ghost use Rattle.macho_report.specs.declared.outcome.Outcome.{Outcome};
 ghost use Rattle.macho_report.specs.declared.outcome.RunFault.TheVariants as fault;
 
@@ -25,37 +25,36 @@ pub enum Outcome {
     Refused,
 }
 
-// The lines of the faults, each with its line feed.
-const READ_FAILED: &str = "macho-check: read failed\n";
+const READ_FAILED: &str = "read failed";
 
-const TOO_LONG: &str = "macho-check: more than 4294967296 bytes\n";
+const TOO_LONG: &str = "more than 4294967296 bytes";
 
-const WRITE_FAILED: &str = "macho-check: write failed\n";
+const WRITE_FAILED: &str = "write failed";
 
-const OUT_OF_MEMORY: &str = "macho-check: out of memory\n";
+const OUT_OF_MEMORY: &str = "out of memory";
 
-/// Why a run wrote no report, or not all of it. The texts are the program's lines, without the line
-/// feed.
+/// Why a run wrote no report, or not all of it. The texts are the lines of `macho-check`, without the
+/// line feed.
 #[derive(Clone, Copy, Debug, PartialEq, Eq, Error)]
 pub enum RunFault {
     /// A read failed.
-    #[error("{line}", line = READ_FAILED.trim_end())]
+    #[error("macho-check: {reason}", reason = READ_FAILED)]
     Read,
     /// The input has more bytes than the limit.
-    #[error("{line}", line = TOO_LONG.trim_end())]
+    #[error("macho-check: {reason}", reason = TOO_LONG)]
     TooLong,
     /// A write failed.
-    #[error("{line}", line = WRITE_FAILED.trim_end())]
+    #[error("macho-check: {reason}", reason = WRITE_FAILED)]
     Write,
     /// There was no memory.
-    #[error("{line}", line = OUT_OF_MEMORY.trim_end())]
+    #[error("macho-check: {reason}", reason = OUT_OF_MEMORY)]
     Memory,
 }
 
 impl RunFault {
-    /// The program's line for standard error, with its line feed.
-    pub fn line(self) -> &'static str
-        ensures { result.now ≡ run_fault_line self }
+    /// What is wrong, as the program's line says it after its name.
+    pub fn reason(self) -> &'static str
+        ensures { result.now ≡ run_fault_reason self }
     {
         match self {
             RunFault::Read => READ_FAILED,
@@ -94,32 +93,22 @@ impl From<WriteFault> for RunFault {
     }
 }
 
-/// Reads all of the input, decides its rules, and writes the text of the verdict. It does not
-/// flush. Of the input it reads at most `limit + 1` bytes, in at most `limit + 1` reads.
+/// Reads all of the input, decides the rules of the layout, and writes the text of the verdict:
+/// [`run_with`] by [`LayoutRules`].
 pub fn run<R: Input, W: Output>(
     alloc: Global,
     limit: u64,
     reader: &mut R,
     writer: &mut W,
 ) -> Result<Outcome, RunFault>
-    // All of the input was read, or a fault says why not. The outcome is right for it, and exactly its
-    // text was written.
-    ensures verdict { IfOk result (λ outcome. WroteVerdict IsVerdict (R.remaining reader.old) limit
-        outcome (W.contents writer.old) (W.contents writer.new)) }
-    ensures input { ReadsRight R.Input limit reader.old reader.new result }
-
-    // Nothing was written but where a write failed.
-    ensures write { IsErrOf result RunFault.Write → IsTrue (W.has_failed writer.new) }
-    ensures prefix { IsErrOf result RunFault.Write → WroteVerdictPrefix IsVerdict
-        (R.remaining reader.old) limit (W.contents writer.old) (W.contents writer.new) }
-    ensures unwritten { IfErr result (λ fault. (fault ≡ RunFault.Write) ⊎ (writer.new ≡ writer.old)) }
+    ensures { RunsRight ⟦<LayoutRules as Judge>⟧ R.Input W.Output limit reader.old reader.new
+        writer.old writer.new result }
 {
     run_with(alloc, &LayoutRules, limit, reader, writer)
 }
 
-/// The same by any judge: reads all of the input, hands it to the judge, and writes the text of the
-/// verdict. It does not flush. Of the input it reads at most `limit + 1` bytes, in at most `limit + 1`
-/// reads.
+/// Reads all of the input, hands it to the judge, and writes the text of the verdict. It does not
+/// flush. Of the input it reads at most `limit + 1` bytes, in at most `limit + 1` reads.
 pub fn run_with<J: Judge, R: Input, W: Output>(
     alloc: Global,
     judge: &J,
@@ -127,17 +116,8 @@ pub fn run_with<J: Judge, R: Input, W: Output>(
     reader: &mut R,
     writer: &mut W,
 ) -> Result<Outcome, RunFault>
-    // All of the input was read, or a fault says why not. The outcome is right for it, and exactly its
-    // text was written.
-    ensures verdict { IfOk result (λ outcome. WroteVerdict (IsVerdictBy J.Judge)
-        (R.remaining reader.old) limit outcome (W.contents writer.old) (W.contents writer.new)) }
-    ensures input { ReadsRight R.Input limit reader.old reader.new result }
-
-    // Nothing was written but where a write failed.
-    ensures write { IsErrOf result RunFault.Write → IsTrue (W.has_failed writer.new) }
-    ensures prefix { IsErrOf result RunFault.Write → WroteVerdictPrefix (IsVerdictBy J.Judge)
-        (R.remaining reader.old) limit (W.contents writer.old) (W.contents writer.new) }
-    ensures unwritten { IfErr result (λ fault. (fault ≡ RunFault.Write) ⊎ (writer.new ≡ writer.old)) }
+    ensures { RunsRight J.Judge R.Input W.Output limit reader.old reader.new
+        writer.old writer.new result }
 {
     let file = read_all(alloc, limit, reader)?;
     write_verdict(alloc, judge, &file, writer)
@@ -151,10 +131,10 @@ fn write_verdict<J: Judge, W: Output>(
     writer: &mut W,
 ) -> Result<Outcome, RunFault>
     ensures verdict { IfOk result (λ outcome. (text : List ℕ)
-        × IsVerdictBy J.Judge file.now outcome text
+        × IsVerdict J.Judge file.now outcome text
         × Wrote (W.contents writer.old) (W.contents writer.new) text) }
     ensures fails { FailsRight result (W.has_failed writer.new)
-        ((outcome : Outcome) × (text : List ℕ) × IsVerdictBy J.Judge file.now outcome text
+        ((outcome : Outcome) × (text : List ℕ) × IsVerdict J.Judge file.now outcome text
         × WrotePrefix (W.contents writer.old) (W.contents writer.new) text)
         (writer.new ≡ writer.old) }
 {

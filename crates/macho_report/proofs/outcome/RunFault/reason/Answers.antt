@@ -1,5 +1,5 @@
 use Rattle.std.proofs.Common.{rules}
-use Rattle.macho_report.proofs.outcome.RunFault.line.Goals as goal
+use Rattle.macho_report.proofs.outcome.RunFault.reason.Goals as goal
 
 pub returns-in-Memory : goal.returns-in-Memory
 returns-in-Memory c = search rules
