@@ -9,14 +9,14 @@ mod notation;
 #[cfg(test)]
 mod tests;
 
-use macho_program::{ProgramName, Tool, run_process};
+use macho_program::{Program, Tool, run_process};
 use macho_report::LayoutRules;
 use std::process::ExitCode;
 
 // Runs the tool on the words, the files and the streams of the process.
 fn main(rt: HostRuntime) -> ExitCode {
     let tool = Tool {
-        name: ProgramName::MachoCheck,
+        program: Program::macho_check(),
         judge: LayoutRules,
     };
     run_process(&rt, &tool, &mut rt.stdin(), rt.stdout(), &mut rt.stderr())

@@ -1,4 +1,5 @@
 pub mod Number
+pub mod Tool
 pub mod Words
 pub mod Program
 pub mod Text

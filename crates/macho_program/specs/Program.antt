@@ -7,14 +7,13 @@ use Rattle.macho_report.specs.Stream.{TookAtMost}
 use Rattle.macho_report.specs.Run.{WroteVerdict, WroteVerdictPrefix}
 use Rattle.macho_report.specs.Where.{WroteWhere, WroteWherePrefix}
 use Rattle.macho_report.specs.declared.address.WhereOutcome.TheVariants.{NoImage}
-use Rattle.macho_report.specs.declared.outcome.Outcome.{Outcome}
+use Rattle.macho_report.specs.declared.judge.Judge as judge
 use Rattle.macho_report.specs.declared.outcome.RunFault.TheVariants as run
 use Rattle.macho_report.specs.declared.stream.Input as input
 use Rattle.macho_report.specs.declared.stream.Output as output
 use Rattle.macho_report.specs.declared.stream.Flush as flush
 use Rattle.macho_program.specs.Words.{Asked, verdict, place, asked_by, asked_of, file_of}
-use Rattle.macho_program.specs.declared.tools.ProgramName.{ProgramName}
-use Rattle.macho_program.specs.declared.tools.ProgramName.TheVariants.{MachoCheck}
+use Rattle.macho_program.specs.Tool.{ProgramView}
 use Rattle.macho_program.specs.declared.words.Request.{Request}
 use Rattle.macho_program.specs.declared.words.WordFault.{WordFault}
 use Rattle.macho_program.specs.declared.words.WordFault.TheVariants as words
@@ -28,23 +27,19 @@ abbrev pub input_of : Option (List ℕ) → (List ℕ → Option (List ℕ)) →
 input_of standard files request =
     if bytes_eq (file_of request) (codes "-") then standard else files (file_of request)
 
--- where an outcome of a check and its text are right for a file
-abbrev pub Verdict : Type 1
-Verdict = List ℕ → Outcome → List ℕ → Type 0
-
 -- what was asked for was found of the input, which has at most 2^32 bytes, and exactly its text was written
-abbrev pub WroteFound : Verdict → Asked → Option (List ℕ) → Found → Option (List ℕ) → Option (List ℕ) → Type 0
-WroteFound IsRight (verdict name) input (kind.Check outcome) old new =
-    WroteVerdict IsRight input (2 ^ 32) outcome old new
-WroteFound IsRight (place name slice address) input (kind.Where outcome) old new =
+abbrev pub WroteFound : {J : Type 0} → judge.Ghosts J → Asked → Option (List ℕ) → Found → Option (List ℕ) → Option (List ℕ) → Type 0
+WroteFound j (verdict name) input (kind.Check outcome) old new =
+    WroteVerdict j input (2 ^ 32) outcome old new
+WroteFound j (place name slice address) input (kind.Where outcome) old new =
     WroteWhere input (2 ^ 32) slice address outcome old new
 WroteFound _ _ _ _ _ _ = ⊥
 
 -- the same of a prefix of the text
-abbrev pub WroteFoundPrefix : Verdict → Asked → Option (List ℕ) → Option (List ℕ) → Option (List ℕ) → Type 0
-WroteFoundPrefix IsRight (verdict name) input old new =
-    WroteVerdictPrefix IsRight input (2 ^ 32) old new
-WroteFoundPrefix IsRight (place name slice address) input old new =
+abbrev pub WroteFoundPrefix : {J : Type 0} → judge.Ghosts J → Asked → Option (List ℕ) → Option (List ℕ) → Option (List ℕ) → Type 0
+WroteFoundPrefix j (verdict name) input old new =
+    WroteVerdictPrefix j input (2 ^ 32) old new
+WroteFoundPrefix j (place name slice address) input old new =
     WroteWherePrefix input (2 ^ 32) slice address old new
 
 -- what is asked for, or the fault of the words
@@ -52,15 +47,11 @@ abbrev pub with_program_fault : Result Asked WordFault → Result Asked ProgramF
 with_program_fault (Ok request) = Ok request
 with_program_fault (Err fault) = Err (program.Words fault)
 
--- what the words ask of the program of this name. The first of them is how it was called. Where the system does not hand
--- them over, that is a failed read
-abbrev pub request_to : {S : Type 0} → ProgramName → (S → List ℕ) → Option (Bor (List S)) → Result Asked ProgramFault
-request_to name text None = Err (program.Run run.Read)
-request_to name text (Some words) = with_program_fault (asked_of name (map text (drop 1 words.now)))
-
--- the same of `macho-check`
-abbrev pub request_of : {S : Type 0} → (S → List ℕ) → Option (Bor (List S)) → Result Asked ProgramFault
-request_of text words = request_to MachoCheck text words
+-- what the words ask of a program. The first of them is how it was called. Where the system does not hand them over, that is
+-- a failed read
+abbrev pub request_of : {S : Type 0} → ProgramView → (S → List ℕ) → Option (Bor (List S)) → Result Asked ProgramFault
+request_of p text None = Err (program.Run run.Read)
+request_of p text (Some words) = with_program_fault (asked_of p (map text (drop 1 words.now)))
 
 -- the answer is what is asked, or memory ran out
 abbrev pub AnswersWords : Result Request ProgramFault → Result Asked ProgramFault → Type 0
@@ -79,13 +70,13 @@ abbrev pub IsOfStandardInput : Asked → Type 0
 IsOfStandardInput request = file_of request ≡ codes "-"
 
 -- The program ended right: `end` and what became of both streams are right for what is asked.
--- `IsRight` is what a check finds, `bytes` are those of the file that a request asks about, and `Reads` holds where that file is the input.
-pub record EndsRight {R W : Type 0} (IsRight : Verdict) (i : input.Ghosts R) (o : output.Ghosts W) (f : flush.Ghosts W)
+-- `j` judges a check, `bytes` are those of the file that a request asks about, and `Reads` holds where that file is the input.
+pub record EndsRight {J R W : Type 0} (j : judge.Ghosts J) (i : input.Ghosts R) (o : output.Ghosts W) (f : flush.Ghosts W)
     (asked : Result Asked ProgramFault) (bytes : Asked → Option (List ℕ)) (Reads : Asked → Type 0)
     (reader reader' : R) (writer writer' : W) (end : Result Found ProgramFault) : Type 0 where
   -- What is found is right for the file that is asked about, and exactly its text is written.
   pub found : IfOk end (λ what. IsOkAnd asked (λ request.
-      WroteFound IsRight request (bytes request) what (o.contents writer) (o.contents writer')))
+      WroteFound j request (bytes request) what (o.contents writer) (o.contents writer')))
   pub at_end : IfOk asked (λ request. Reads request → OnOk end (IsAtEnd (i.remaining reader')))
   pub flushed : IfOk end (λ what. what ≢ kind.Where NoImage → IsTrue (f.is_flushed writer'))
   pub no_image : end ≡ Ok (kind.Where NoImage) → writer' ≡ writer
@@ -102,7 +93,7 @@ pub record EndsRight {R W : Type 0} (IsRight : Verdict) (i : input.Ghosts R) (o 
       → IsOkAnd asked (λ request. IfSome (bytes request) (λ all. 2 ^ 32 < length all))
   pub write : IsErrOf end (program.Run run.Write) → IsTrue (o.has_failed writer')
   pub prefix : IsErrOf end (program.Run run.Write) → IsOkAnd asked (λ request.
-      WroteFoundPrefix IsRight request (bytes request) (o.contents writer) (o.contents writer'))
+      WroteFoundPrefix j request (bytes request) (o.contents writer) (o.contents writer'))
   pub unwritten : IfErr end (λ fault. (fault ≡ program.Run run.Write) ⊎ (writer' ≡ writer))
   -- Where the input is not asked about, it is not read.
   pub unread : ¬ IsOkAnd asked Reads → reader' ≡ reader

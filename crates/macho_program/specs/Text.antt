@@ -1,52 +1,41 @@
 -- The lines on standard error. Each ends with one line feed.
-use Rattle.std.specs.Prelude.{ℕ, List, Option, Some, None, Result, Ok, Err, codes}
-use Rattle.macho_report.specs.Text.{run_fault_line}
-use Rattle.macho_report.specs.declared.outcome.RunFault.TheVariants as run
+use Rattle.std.specs.Prelude.{◌≡◌, ℕ, List, Bool, Option, Some, None, Result, Ok, Err, codes, if◌then◌else◌}
+use Rattle.macho_report.specs.Stream.{WritesUnlessFailed}
+use Rattle.macho_report.specs.Text.{run_fault_reason, words_line}
 use Rattle.macho_report.specs.declared.address.WhereOutcome.TheVariants.{NoImage}
+use Rattle.macho_report.specs.declared.stream.Output as output
+use Rattle.macho_program.specs.Tool.{ProgramView}
 use Rattle.macho_program.specs.declared.words.WordFault.{WordFault}
 use Rattle.macho_program.specs.declared.words.WordFault.TheVariants as words
 use Rattle.macho_program.specs.declared.program.Found.{Found}
 use Rattle.macho_program.specs.declared.program.Found.TheVariants as found
 use Rattle.macho_program.specs.declared.program.ProgramFault.{ProgramFault}
 use Rattle.macho_program.specs.declared.program.ProgramFault.TheVariants as program
-use Rattle.macho_program.specs.declared.tools.ProgramName.{ProgramName}
-use Rattle.macho_program.specs.declared.tools.ProgramName.TheVariants.{MachoCheck, MachoStrict}
 
-abbrev pub word_fault_line : WordFault → List ℕ
-word_fault_line words.Usage = codes "usage: macho-check check FILE | where FILE SLICE ADDRESS\n"
-word_fault_line words.BadNumber = codes "macho-check: bad number\n"
-word_fault_line words.Memory = codes "macho-check: out of memory\n"
+-- what the words of a program may be
+abbrev pub usage_words : Bool → List ℕ
+usage_words has_where =
+    if has_where then codes " check FILE | where FILE SLICE ADDRESS" else codes " check FILE"
 
-abbrev pub fault_line : ProgramFault → List ℕ
-fault_line (program.Words fault) = word_fault_line fault
-fault_line (program.Run fault) = run_fault_line fault
+-- the line of a fault: `usage: `, the program's name and its words; or its name, `: ` and what is wrong
+abbrev pub word_fault_line : ProgramView → WordFault → List ℕ
+word_fault_line p words.Usage = words_line (codes "usage: ") p.name (usage_words p.has_where)
+word_fault_line p words.BadNumber = words_line p.name (codes ": ") (codes "bad number")
+word_fault_line p words.Memory = words_line p.name (codes ": ") (codes "out of memory")
 
--- the line for how the program ended: none where the text of what was found stands on standard output
-abbrev pub end_line : Result Found ProgramFault → Option (List ℕ)
-end_line (Ok (found.Where NoImage)) = Some (codes "macho-check: no such image\n")
-end_line (Ok _) = None
-end_line (Err fault) = Some (fault_line fault)
+abbrev pub fault_line : ProgramView → ProgramFault → List ℕ
+fault_line p (program.Words fault) = word_fault_line p fault
+fault_line p (program.Run fault) = words_line p.name (codes ": ") (run_fault_reason fault)
 
--- the same lines of `macho-strict`, which takes no numbers and looks up no address
-abbrev pub strict_fault_line : ProgramFault → List ℕ
-strict_fault_line (program.Words words.Usage) = codes "usage: macho-strict check FILE\n"
-strict_fault_line (program.Words words.BadNumber) = codes "usage: macho-strict check FILE\n"
-strict_fault_line (program.Words words.Memory) = codes "macho-strict: out of memory\n"
-strict_fault_line (program.Run run.Read) = codes "macho-strict: read failed\n"
-strict_fault_line (program.Run run.TooLong) =
-    codes "macho-strict: more than 4294967296 bytes\n"
-strict_fault_line (program.Run run.Write) = codes "macho-strict: write failed\n"
-strict_fault_line (program.Run run.Memory) = codes "macho-strict: out of memory\n"
+-- the line for how a program ended: none where the text of what was found stands on standard output
+abbrev pub end_line : ProgramView → Result Found ProgramFault → Option (List ℕ)
+end_line p (Ok (found.Where NoImage)) =
+    Some (words_line p.name (codes ": ") (codes "no such image"))
+end_line p (Ok _) = None
+end_line p (Err fault) = Some (fault_line p fault)
 
-abbrev pub strict_end_line : Result Found ProgramFault → Option (List ℕ)
-strict_end_line (Ok _) = None
-strict_end_line (Err fault) = Some (strict_fault_line fault)
-
--- the lines of the program of this name
-abbrev pub fault_line_of : ProgramName → ProgramFault → List ℕ
-fault_line_of MachoCheck fault = fault_line fault
-fault_line_of MachoStrict fault = strict_fault_line fault
-
-abbrev pub end_line_of : ProgramName → Result Found ProgramFault → Option (List ℕ)
-end_line_of MachoCheck end = end_line end
-end_line_of MachoStrict end = strict_end_line end
+-- the line was written where there is one, or a prefix of it where the output has failed, and otherwise nothing
+abbrev pub SaysLine : {E : Type 0} → output.Ghosts E → E → E → Option (List ℕ) → Type 0
+SaysLine o old new (Some text) =
+    WritesUnlessFailed (o.has_failed new) (o.contents old) (o.contents new) text
+SaysLine o old new None = new ≡ old

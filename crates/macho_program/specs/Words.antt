@@ -7,8 +7,7 @@ use Rattle.clap.specs.Simple.{on_top}
 use Rattle.clap.specs.declared.error.kind.ErrorKind.{ErrorKind}
 use Rattle.clap.specs.declared.error.kind.ErrorKind.TheVariants.{OutOfMemory}
 use Rattle.macho_program.specs.Number.{number_of}
-use Rattle.macho_program.specs.declared.tools.ProgramName.{ProgramName}
-use Rattle.macho_program.specs.declared.tools.ProgramName.TheVariants.{MachoCheck, MachoStrict}
+use Rattle.macho_program.specs.Tool.{ProgramView}
 use Rattle.macho_program.specs.declared.words.Request.{Request}
 use Rattle.macho_program.specs.declared.words.Request.TheVariants.{Check, Where}
 use Rattle.macho_program.specs.declared.words.WordFault.{WordFault}
@@ -40,10 +39,11 @@ bare_command name = on_top (λ s. record s {
 abbrev pub checking_command : Text → App
 checking_command name = with_subcommand (bare_command name) check_command.top
 
-abbrev pub program_command : ProgramName → App
-program_command MachoCheck =
-    with_subcommand (checking_command (codes "macho-check")) where_command.top
-program_command MachoStrict = checking_command (codes "macho-strict")
+-- a program, with its subcommands
+abbrev pub program_command : ProgramView → App
+program_command p =
+    if p.has_where then with_subcommand (checking_command p.name) where_command.top
+    else checking_command p.name
 
 -- what is asked for: a file's verdict, or what is at an address of a slice of it
 pub data Asked : Type 0 where
@@ -96,16 +96,12 @@ abbrev pub asked_unless : Kinds → Option (Text × List Row) → Result Asked W
 asked_unless [] subcommand = asked_under subcommand
 asked_unless (fault ∷ faults) subcommand = Err Usage
 
--- what the words ask of the program of this name, or why they ask for nothing
-abbrev pub asked_of : ProgramName → List Text → Result Asked WordFault
+-- what the words ask of a program, or why they ask for nothing
+abbrev pub asked_of : ProgramView → List Text → Result Asked WordFault
 asked_of program [] = Ok (verdict (codes "-"))
 asked_of program (word ∷ words) =
     asked_unless (fault_of (program_command program) (word ∷ words))
     (subcommand_of (program_command program) (word ∷ words))
-
--- the same of `macho-check`
-abbrev pub asked : List Text → Result Asked WordFault
-asked words = asked_of MachoCheck words
 
 -- the answer is what is asked, or memory ran out
 abbrev pub Answers : Result Request WordFault → Result Asked WordFault → Type 0

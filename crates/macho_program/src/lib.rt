@@ -13,9 +13,7 @@ mod words;
 pub use files::{Open, SystemFiles};
 pub use number::read_number;
 pub use process::run_process;
-pub use program::{
-    Found, ProgramFault, run_program, run_tool, tool_without_memory, without_memory,
-};
+pub use program::{Found, ProgramFault, run_program, without_memory};
 pub use status::{check_status, exit_code, where_status};
-pub use tools::{ProgramName, Tool};
+pub use tools::{Program, Tool};
 pub use words::{Request, WordFault, parse_words, parse_words_of};

@@ -4,7 +4,7 @@ ghost use Rattle.std.specs.Prelude.{◌≤◌};
 ghost use Rattle.std.specs.Process.{exit_status};
 
 use crate::files::SystemFiles;
-use crate::program::{Found, ProgramFault, run_tool, tool_without_memory};
+use crate::program::{Found, ProgramFault, run_program, without_memory};
 use crate::status::exit_code;
 use crate::tools::Tool;
 use macho_report::{Flush, FromRead, FromWrite, Judge, Output};
@@ -16,7 +16,7 @@ use std::{env, io};
 /// How many bytes of the report are gathered before they are written.
 const OUTPUT_BUFFER: usize = 65_536;
 
-/// Passes the words, the files and the streams of a process to [`run_tool`], and returns the status
+/// Passes the words, the files and the streams of a process to [`run_program`], and returns the status
 /// with which the process ends. It decides only whether there is memory for the buffer and for the
 /// words.
 pub fn run_process<J: Judge, S: Env + Files + AllocGlobal, R: Read, W: Write + Drop, E: Write>(
@@ -30,7 +30,7 @@ pub fn run_process<J: Judge, S: Env + Files + AllocGlobal, R: Read, W: Write + D
 {
     let mut errors = FromWrite::new(stderr);
     let Ok(mut stdout) = BufWriter::with_capacity(system.alloc(), OUTPUT_BUFFER, stdout) else {
-        return exit_code(&tool_without_memory(tool.name, &mut errors));
+        return exit_code(&without_memory(tool.program, &mut errors));
     };
     let ended = run_on_words(
         system,
@@ -54,11 +54,11 @@ fn run_on_words<J: Judge, S: Env + Files + AllocGlobal, R: Read, W: Flush, E: Ou
 ) -> Result<Found, ProgramFault> {
     let words = match words_of(system) {
         Err(error) if error.kind() == ErrorKind::OutOfMemory => {
-            return tool_without_memory(tool.name, errors);
+            return without_memory(tool.program, errors);
         }
         words => words.ok(),
     };
-    run_tool(
+    run_program(
         system.alloc(),
         tool,
         words.as_ref().map(|words| words.as_slice()),

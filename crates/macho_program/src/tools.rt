@@ -1,84 +1,88 @@
-//! What differs between the programs: who judges, what the words ask for, and the lines on standard
-//! error.
+//! What differs between the programs, as data.
 
-ghost use Rattle.std.specs.Prelude.{◌≡◌, option_map};
-ghost use Rattle.macho_program.specs.Text.{end_line_of, fault_line_of, strict_end_line, strict_fault_line};
+ghost use Rattle.std.specs.Prelude.{◌≡◌, codes};
+ghost use Rattle.macho_report.specs.Stream.{WritesUnlessFailed};
+ghost use Rattle.macho_report.specs.Text.{words_line};
+ghost use Rattle.macho_program.specs.Text.{SaysLine, end_line, usage_words};
+ghost use Rattle.macho_program.specs.Tool.{macho_check, program_view};
 
-use crate::program::{Found, ProgramFault, line_of};
-use crate::words::WordFault;
-use macho_report::RunFault;
+use crate::program::{Found, ProgramFault};
+use crate::words::{BAD_NUMBER, CHECK_OR_WHERE, WordFault};
+use macho_report::{Output, RunFault, WhereOutcome, write_words};
 
-/// One of the programs.
+/// A program: how its lines on standard error begin, and what its words may be.
+#[derive(Clone, Copy, Debug, PartialEq, Eq)]
+pub struct Program<'a> {
+    /// Its name.
+    pub name: &'a str,
+    /// Whether it takes `where FILE SLICE ADDRESS` beside `check FILE`.
+    pub has_where: bool,
+}
+
+/// A program, and who judges for it.
 #[derive(Drop)]
-pub struct Tool<J> {
+pub struct Tool<'a, J> {
     /// Whose words it takes, and whose lines it writes.
-    pub name: ProgramName,
+    pub program: Program<'a>,
     /// Who decides whether a file is accepted.
     pub judge: J,
 }
 
-/// The name of a program.
-#[derive(Clone, Copy, Debug, PartialEq, Eq)]
-pub enum ProgramName {
-    /// `macho-check`, which takes `check FILE` and `where FILE SLICE ADDRESS`.
-    MachoCheck,
-    /// `macho-strict`, which takes `check FILE`.
-    MachoStrict,
-}
+const NO_IMAGE: &str = "no such image";
 
-// The lines of `macho-strict`, each with its line feed.
-const USAGE: &str = "usage: macho-strict check FILE\n";
-
-const READ_FAILED: &str = "macho-strict: read failed\n";
-
-const TOO_LONG: &str = "macho-strict: more than 4294967296 bytes\n";
-
-const WRITE_FAILED: &str = "macho-strict: write failed\n";
-
-const OUT_OF_MEMORY: &str = "macho-strict: out of memory\n";
-
-impl ProgramName {
-    /// The line of a fault for standard error, with its line feed.
-    pub fn fault_line(self, fault: ProgramFault) -> &'static str
-        ensures { result.now ≡ fault_line_of self fault }
+impl<'a> Program<'a> {
+    /// `macho-check`.
+    pub fn macho_check() -> Program<'a>
+        ensures { program_view result ≡ macho_check }
     {
-        match self {
-            ProgramName::MachoCheck => fault.line(),
-            ProgramName::MachoStrict => strict_fault_line(fault),
+        Program {
+            name: "macho-check",
+            has_where: true,
         }
     }
 
-    // The line for how the program ended.
-    pub(crate) fn end_line(self, ended: &Result<Found, ProgramFault>) -> Option<&'static str>
-        ensures { option_map (λ line. line.now) result ≡ end_line_of self ended.now }
+    // Writes the line for how the program ended, where there is one. Faults of `errors` are ignored.
+    pub(crate) fn write_end<E: Output>(self, ended: &Result<Found, ProgramFault>, errors: &mut E)
+        ensures { SaysLine E.Output errors.old errors.new (end_line (program_view self.entry) ended.now) }
     {
-        match self {
-            ProgramName::MachoCheck => line_of(ended),
-            ProgramName::MachoStrict => strict_end_line(ended),
+        match *ended {
+            Ok(Found::Where(WhereOutcome::NoImage)) => self.write_fault(NO_IMAGE, errors),
+            Ok(_) => {}
+            Err(ProgramFault::Words(WordFault::Usage)) => {
+                write_line("usage: ", self.name, self.usage(), errors);
+            }
+            Err(ProgramFault::Words(WordFault::BadNumber)) => self.write_fault(BAD_NUMBER, errors),
+            Err(ProgramFault::Words(WordFault::Memory)) => {
+                self.write_fault(RunFault::Memory.reason(), errors);
+            }
+            Err(ProgramFault::Run(fault)) => self.write_fault(fault.reason(), errors),
+        }
+    }
+
+    // Writes the line of a fault: the program's name, and what is wrong.
+    fn write_fault<E: Output>(self, reason: &str, errors: &mut E)
+        ensures { WritesUnlessFailed (E.has_failed errors.new) (E.contents errors.old)
+            (E.contents errors.new) (words_line self.entry.name.now (codes ": ") reason.now) }
+    {
+        write_line(self.name, ": ", reason, errors);
+    }
+
+    // What the words may be.
+    fn usage(self) -> &'static str
+        ensures { result.now ≡ usage_words self.entry.has_where }
+    {
+        if self.has_where {
+            CHECK_OR_WHERE
+        } else {
+            " check FILE"
         }
     }
 }
 
-// The line of a fault of `macho-strict`, which takes no numbers.
-fn strict_fault_line(fault: ProgramFault) -> &'static str
-    ensures { result.now ≡ strict_fault_line fault }
+// Writes a line of three words. Faults of `errors` are ignored.
+fn write_line<E: Output>(first: &str, second: &str, third: &str, errors: &mut E)
+    ensures { WritesUnlessFailed (E.has_failed errors.new) (E.contents errors.old)
+        (E.contents errors.new) (words_line first.now second.now third.now) }
 {
-    match fault {
-        ProgramFault::Words(WordFault::Usage | WordFault::BadNumber) => USAGE,
-        ProgramFault::Words(WordFault::Memory) => OUT_OF_MEMORY,
-        ProgramFault::Run(RunFault::Read) => READ_FAILED,
-        ProgramFault::Run(RunFault::TooLong) => TOO_LONG,
-        ProgramFault::Run(RunFault::Write) => WRITE_FAILED,
-        ProgramFault::Run(RunFault::Memory) => OUT_OF_MEMORY,
-    }
-}
-
-// The line for how `macho-strict` ended, which looks up no address.
-fn strict_end_line(ended: &Result<Found, ProgramFault>) -> Option<&'static str>
-    ensures { option_map (λ line. line.now) result ≡ strict_end_line ended.now }
-{
-    match *ended {
-        Ok(_) => None,
-        Err(fault) => Some(strict_fault_line(fault)),
-    }
+    let _ = write_words(first, second, third, errors);
 }

@@ -3,13 +3,12 @@
 ghost use Rattle.std.specs.Prelude.{◌≡◌, map, option_map, IfOk, false};
 ghost use Rattle.clap.specs.Words.{app_of, first_of, found_of, kind_of, rows_of, rule_of};
 ghost use Rattle.clap.specs.declared.builder.command.Command.TheViews.{out-Command as fields_of};
-ghost use Rattle.macho_program.specs.Text.{word_fault_line};
-ghost use Rattle.macho_program.specs.Words.{Answers, asked, asked_by, asked_in, asked_of, bare_command, check_asked, check_command, checking_command, file_of, program_command, required, where_asked, where_command, word_fault_of};
-ghost use Rattle.macho_program.specs.declared.tools.ProgramName.TheVariants.{MachoCheck};
+ghost use Rattle.macho_program.specs.Tool.{macho_check, program_view};
+ghost use Rattle.macho_program.specs.Words.{Answers, asked_by, asked_in, asked_of, bare_command, check_asked, check_command, checking_command, file_of, program_command, required, where_asked, where_command, word_fault_of};
 ghost use Rattle.macho_program.specs.declared.words.WordFault.TheVariants.{Memory};
 
 use crate::number::read_number;
-use crate::tools::ProgramName;
+use crate::tools::Program;
 use clap::error::ErrorKind;
 use clap::{Arg, ArgMatches, Command};
 use macho_report::RunFault;
@@ -35,36 +34,23 @@ pub enum Request {
     },
 }
 
-// The lines of the faults, each with its line feed. That for want of memory is the run's.
-const USAGE: &str = "usage: macho-check check FILE | where FILE SLICE ADDRESS\n";
+// What the words may be, after the name of a program that takes both subcommands.
+pub(crate) const CHECK_OR_WHERE: &str = " check FILE | where FILE SLICE ADDRESS";
 
-const BAD_NUMBER: &str = "macho-check: bad number\n";
+pub(crate) const BAD_NUMBER: &str = "bad number";
 
-/// Why the words ask for nothing. The texts are the program's lines, without the line feed.
+/// Why the words ask for nothing. The texts are the lines of `macho-check`, without the line feed.
 #[derive(Clone, Copy, Debug, PartialEq, Eq, Error)]
 pub enum WordFault {
     /// The words are not those of the program.
-    #[error("{line}", line = USAGE.trim_end())]
+    #[error("usage: macho-check{words}", words = CHECK_OR_WHERE)]
     Usage,
     /// SLICE or ADDRESS is no number.
-    #[error("{line}", line = BAD_NUMBER.trim_end())]
+    #[error("macho-check: {reason}", reason = BAD_NUMBER)]
     BadNumber,
     /// There was no memory.
-    #[error("{line}", line = RunFault::Memory.line().trim_end())]
+    #[error("macho-check: {reason}", reason = RunFault::Memory.reason())]
     Memory,
-}
-
-impl WordFault {
-    /// The line for standard error, with its line feed.
-    pub fn line(self) -> &'static str
-        ensures { result.now ≡ word_fault_line self }
-    {
-        match self {
-            WordFault::Usage => USAGE,
-            WordFault::BadNumber => BAD_NUMBER,
-            WordFault::Memory => RunFault::Memory.line(),
-        }
-    }
 }
 
 impl From<AllocError> for WordFault {
@@ -97,21 +83,21 @@ impl Request {
     }
 }
 
-/// Reads the words after the name of `macho-check`. No words ask for a check of standard input. `BadNumber`
-/// is answered only where the words are otherwise those of the program.
+/// Reads the words after the name of `macho-check`, as [`parse_words_of`] does.
 pub fn parse_words<'a, S: AsStr>(alloc: Global, words: &'a [S]) -> Result<Request, WordFault>
-    ensures { Answers result (asked (map S.text words.now)) }
+    ensures { Answers result (asked_of macho_check (map S.text words.now)) }
 {
-    parse_words_of(alloc, ProgramName::MachoCheck, words)
+    parse_words_of(alloc, Program::macho_check(), words)
 }
 
-/// The same of the words after the name of any of the programs.
+/// Reads the words after the name of a program. No words ask for a check of standard input. `BadNumber`
+/// is answered only where the words are otherwise those of the program.
 pub fn parse_words_of<'a, S: AsStr>(
     alloc: Global,
-    program: ProgramName,
+    program: Program,
     words: &'a [S],
 ) -> Result<Request, WordFault>
-    ensures { Answers result (asked_of program (map S.text words.now)) }
+    ensures { Answers result (asked_of (program_view program.entry) (map S.text words.now)) }
 {
     if words.is_empty() {
         let file = String::from_str(alloc, STANDARD_INPUT)?;
@@ -125,21 +111,15 @@ pub fn parse_words_of<'a, S: AsStr>(
 }
 
 // The command of a program, with its subcommands.
-fn program_command<'a>(alloc: Global, program: ProgramName) -> Result<Command<'a>, AllocError>
-    ensures { IfOk result (λ command. app_of command ≡ program_command program) }
+fn program_command<'a>(alloc: Global, program: Program<'a>) -> Result<Command<'a>, AllocError>
+    ensures { IfOk result (λ command. app_of command ≡ program_command (program_view program.entry)) }
 {
-    match program {
-        ProgramName::MachoCheck => searching_command(alloc),
-        ProgramName::MachoStrict => checking_command(alloc, "macho-strict"),
+    let command = checking_command(alloc, program.name)?;
+    if !program.has_where {
+        return Ok(command);
     }
-}
-
-// `check FILE` and `where FILE SLICE ADDRESS`.
-fn searching_command<'a>(alloc: Global) -> Result<Command<'a>, AllocError>
-    ensures { IfOk result (λ command. app_of command ≡ program_command MachoCheck) }
-{
     let place = where_command(alloc)?;
-    checking_command(alloc, "macho-check")?.subcommand(place)
+    command.subcommand(place)
 }
 
 // `check FILE`, of a program of this name.

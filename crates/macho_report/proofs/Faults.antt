@@ -1,10 +1,10 @@
 -- What is returned at a fault.
 use Rattle.std.proofs.Common.{◌≡◌, ℕ, Bool, List, Result, Ok, Err, IsErrOf, IsTrue, inl, inr, refl, ap, subst}
 use Rattle.std.specs.Prelude.{IsErrAnd}
-use Rattle.std.specs.Borrow.{Bor}
-use Rattle.macho_report.specs.Judge.{IsRejectionBy}
-use Rattle.macho_report.specs.declared.judge.Rejection.{Rejection}
-use Rattle.macho_report.specs.declared.judge.Rejection.TheVariants.{Broken}
+use Rattle.macho_fields.specs.declared.rule.Break.{Break}
+use Rattle.macho_rules.specs.declared.refusal.Refusal.{Refusal}
+use Rattle.macho_rules.specs.declared.refusal.Refusal.TheVariants.{Broken}
+use Rattle.macho_report.specs.Judge.{IsRefusalBy}
 use Rattle.macho_report.specs.Run.{FailsRight}
 use Rattle.macho_report.specs.declared.outcome.RunFault.{RunFault}
 use Rattle.macho_report.specs.declared.outcome.RunFault.TheVariants as fault
@@ -18,10 +18,9 @@ at_fault (Err e) fault is = ap Err is
 pub same_fault : {T U E : Type 0} (e f : E) → IsErrOf {T = T} (Err e) f → IsErrOf {T = U} (Err e) f
 same_fault e f is = let same : e ≡ f = cc in ap Err same
 
--- a rejection for a broken rule is for one that the file is refused for
-pub refused_for : (refuses : List ℕ → List ℕ → ℕ → Type 0) (file : List ℕ) (why : Rejection) (rule : Bor (List ℕ)) (place : ℕ) → why ≡ Broken rule place
-    → IsRejectionBy refuses file why → refuses file rule.now place
-refused_for refuses file why rule place is refused = subst (IsRejectionBy refuses file) is refused
+-- the break of a refusal is one that the file is refused for
+pub refused_for : (refuses : List ℕ → Break → Type 0) (file : List ℕ) (why : Refusal) (b : Break) → why ≡ Broken b → IsRefusalBy refuses file why → refuses file b
+refused_for refuses file why b is refused = subst (IsRefusalBy refuses file) is refused
 
 -- what has an answer has no fault
 pub no_fault : {T E : Type 0} (x : T) (e : E) → ¬ IsErrOf (Ok x) e

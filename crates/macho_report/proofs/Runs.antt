@@ -1,12 +1,8 @@
 -- What a run says of its input, from what it says of the bytes that it read.
-use Rattle.std.proofs.Common.{◌≡◌, ℕ, ◌≤◌, List, Option, Some, None, Result, Ok, Err, IfOk, IsErrOf, length, inl, inr, refl, ap, ap₂, arith, subst}
+use Rattle.std.proofs.Common.{◌≡◌, ℕ, ◌≤◌, List, Option, Some, None, Result, Ok, Err, IfOk, IsErrOf, length, inl, inr, refl, ap, arith, subst}
 use Rattle.std.specs.Prelude.{◌⊎◌, ◌↔◌, ◌+◌, ◌<◌, IfErr, IfSome, IsTrue, OnOk}
 use Rattle.std.specs.Io.KnownBytes.{IsAtEnd}
 use Rattle.macho_report.specs.Stream.{TookAtMost}
-use Rattle.macho_fields.specs.First.{IsFirstBroken}
-use Rattle.macho_fields.specs.declared.rule.Break.{Break}
-use Rattle.macho_report.specs.Judge.{IsNamedFirstBroken}
-use Rattle.macho_report.specs.Text.{break_text, refusal_text}
 use Rattle.macho_report.specs.Run.{ReadsRight, run_fault_of}
 use Rattle.macho_report.specs.declared.outcome.RunFault.{RunFault}
 use Rattle.macho_report.specs.declared.outcome.RunFault.TheVariants as fault
@@ -24,10 +20,6 @@ pub input_ok : {T E : Type 0} (input : Option (List ℕ)) (bytes : List ℕ) (li
     → IfSome input (λ all. bytes ≡ all) → length bytes ≤ limit → IfOk r (P bytes) → IfOk r (λ found. IfSome input (λ file. (length file ≤ limit) × P file found))
 input_ok input bytes limit P (Err fault) is within h = tt
 input_ok input bytes limit P (Ok found) is within h = input_is input bytes limit (λ file. P file found) is within h
-
--- a refusal by the rules of the layout is for their first break
-pub named_break : (file name : List ℕ) (place : ℕ) → IsNamedFirstBroken file name place → (b : Break) × IsFirstBroken file b × (refusal_text name place ≡ break_text b)
-named_break file name place (b, first, named, at) = (b, first, ap₂ refusal_text named at)
 
 -- a fault of reading, which the run returns as its own
 fault_passed : {T U : Type 0} (e f : ReadFault) → IsErrOf {T = T} (Err (run_fault_of e)) (run_fault_of f) → IsErrOf {T = U} (Err e) f

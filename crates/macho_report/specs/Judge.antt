@@ -1,17 +1,10 @@
 -- What a judge says of a file.
-use Rattle.std.specs.Prelude.{◌≡◌, ℕ, List, ⊤}
-use Rattle.macho_fields.specs.First.{IsFirstBroken}
-use Rattle.macho_fields.specs.RuleList.{name_of}
+use Rattle.std.specs.Prelude.{List, ℕ, ⊤}
 use Rattle.macho_fields.specs.declared.rule.Break.{Break}
-use Rattle.macho_report.specs.declared.judge.Rejection.{Rejection}
-use Rattle.macho_report.specs.declared.judge.Rejection.TheVariants as rejection
+use Rattle.macho_rules.specs.declared.refusal.Refusal.{Refusal}
+use Rattle.macho_rules.specs.declared.refusal.Refusal.TheVariants as refusal
 
--- the file is refused for the rule that the rejection names, or there was no memory
-abbrev pub IsRejectionBy : (List ℕ → List ℕ → ℕ → Type 0) → List ℕ → Rejection → Type 0
-IsRejectionBy refuses file (rejection.Broken rule place) = refuses file rule.now place
-IsRejectionBy refuses file rejection.Memory = ⊤
-
--- the first rule of the layout that the file breaks has this name, and is broken at this place
-abbrev pub IsNamedFirstBroken : List ℕ → List ℕ → ℕ → Type 0
-IsNamedFirstBroken file name place =
-    (b : Break) × IsFirstBroken file b × (name ≡ name_of b.rule) × (place ≡ b.place)
+-- the file is refused for this break, or there was no memory
+abbrev pub IsRefusalBy : (List ℕ → Break → Type 0) → List ℕ → Refusal → Type 0
+IsRefusalBy refuses file (refusal.Broken b) = refuses file b
+IsRefusalBy refuses file refusal.Memory = ⊤

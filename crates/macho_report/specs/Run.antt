@@ -1,9 +1,10 @@
 -- What a run writes of its input.
 use Rattle.std.specs.Prelude.{◌≡◌, ◌⊎◌, ◌↔◌, ℕ, ◌+◌, ◌<◌, ◌≤◌, Bool, List, length, Option, IfSome, Result, IsErrOf, IsTrue, IfErr, IfOk, OnOk}
 use Rattle.std.specs.Io.KnownBytes.{IsAtEnd}
+use Rattle.macho_fields.specs.declared.rule.Break.{Break}
 use Rattle.macho_report.specs.Stream.{TookAtMost, Wrote, WrotePrefix}
 use Rattle.macho_report.specs.Layout.{layout_text}
-use Rattle.macho_report.specs.Text.{refusal_text}
+use Rattle.macho_report.specs.Text.{break_text}
 use Rattle.macho_report.specs.declared.judge.Judge as judge
 use Rattle.macho_report.specs.declared.outcome.Outcome.{Outcome}
 use Rattle.macho_report.specs.declared.outcome.Outcome.TheVariants.{Accepted, Refused}
@@ -17,8 +18,7 @@ use Rattle.macho_report.specs.declared.outcome.RunFault.TheVariants as fault
 -- by the judge, the outcome is right for the file, and this is its text
 abbrev pub IsVerdict : {J : Type 0} → judge.Ghosts J → List ℕ → Outcome → List ℕ → Type 0
 IsVerdict j file Accepted text = j.accepts file × (text ≡ layout_text file)
-IsVerdict j file Refused text =
-    (name : List ℕ) × (place : ℕ) × j.refuses file name place × (text ≡ refusal_text name place)
+IsVerdict j file Refused text = (b : Break) × j.refuses file b × (text ≡ break_text b)
 
 -- the input is within the limit, and the text of the outcome, which is right for it, was written
 abbrev pub WroteVerdict : {J : Type 0} → judge.Ghosts J → Option (List ℕ) → ℕ → Outcome → Option (List ℕ) → Option (List ℕ) → Type 0

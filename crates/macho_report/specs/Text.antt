@@ -7,14 +7,10 @@ use Rattle.macho_report.specs.declared.outcome.RunFault.TheVariants as fault
 use Rattle.macho_report.specs.Stream.{joined}
 use Rattle.macho_report.specs.Number.{prefixed_hex}
 
--- a refusal: `refused: `, the rule's name, ` at ` and the place
-abbrev pub refusal_text : List ℕ → ℕ → List ℕ
-refusal_text name place =
-    joined (codes "refused: " ∷ name ∷ codes " at " ∷ prefixed_hex place ∷ codes "\n" ∷ [])
-
--- the same of a broken rule of the layout
+-- a break: `refused: `, the rule's name, ` at ` and the place
 abbrev pub break_text : Break → List ℕ
-break_text b = refusal_text (name_of b.rule) b.place
+break_text b =
+    joined (codes "refused: " ∷ name_of b.rule ∷ codes " at " ∷ prefixed_hex b.place ∷ codes "\n" ∷ [])
 
 -- what is wrong, as the line of a fault says it
 abbrev pub run_fault_reason : RunFault → List ℕ

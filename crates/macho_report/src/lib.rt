@@ -20,7 +20,7 @@ pub mod transfer;
 pub use address::{WhereOutcome, run_where};
 pub use from_read::FromRead;
 pub use from_write::FromWrite;
-pub use judge::{Judge, LayoutRules, Rejection};
+pub use judge::{Judge, LayoutRules};
 pub use layout::write_layout;
 pub use lines::{write_break, write_words};
 pub use outcome::{Outcome, RunFault, run, run_with};

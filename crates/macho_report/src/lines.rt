@@ -7,7 +7,7 @@ ghost use Rattle.macho_rules.specs.Source.{source_of};
 ghost use Rattle.macho_report.specs.Writer.{PutsText};
 ghost use Rattle.macho_report.specs.Arch.{arch_text};
 ghost use Rattle.macho_report.specs.Line.{contents_of, count_line, slice_line, uuid_line, build_line, segment_line, section_line, library_line, symbols_line, entry_line};
-ghost use Rattle.macho_report.specs.Text.{break_text, refusal_text, words_line};
+ghost use Rattle.macho_report.specs.Text.{break_text, words_line};
 ghost use Rattle.macho_report.specs.Where.{where_text};
 ghost use Rattle.macho_report.specs.LineParts.{library_start};
 
@@ -27,23 +27,11 @@ pub fn write_break<W: Output>(broken: &Break, writer: &mut W) -> Result<(), Writ
     ensures text { PutsText W.Output writer.old writer.new result (break_text broken.now) }
     ensures stays_failed { IsTrue (W.has_failed writer.old) → IsErr result }
 {
-    write_refusal(broken.rule.name(), broken.place, writer)
-}
-
-// Writes the line of a refusal: the name of the broken rule, and the place.
-pub(crate) fn write_refusal<W: Output>(
-    rule: &str,
-    place: u64,
-    writer: &mut W,
-) -> Result<(), WriteFault>
-    ensures text { PutsText W.Output writer.old writer.new result (refusal_text rule.now place) }
-    ensures stays_failed { IsTrue (W.has_failed writer.old) → IsErr result }
-{
     let mut line = Line::new();
     line.text(b"refused: ");
-    line.word(rule.as_bytes(), writer)?;
+    line.word(broken.rule.name().as_bytes(), writer)?;
     line.text(b" at ");
-    line.hex(place);
+    line.hex(broken.place);
     line.write(writer)
 }
 

@@ -1,18 +1,19 @@
 //! From an input to its report: what was found, and the text of it.
 
 ghost use Rattle.std.specs.Prelude.{◌≡◌, List, ℕ, IfOk, IfNone, IfSome};
+ghost use Rattle.macho_fields.specs.declared.rule.Break.{Break};
 ghost use Rattle.macho_report.specs.Stream.{Wrote, WrotePrefix};
-ghost use Rattle.macho_report.specs.Text.{refusal_text, run_fault_reason};
+ghost use Rattle.macho_report.specs.Text.{break_text, run_fault_reason};
 ghost use Rattle.macho_report.specs.Run.{FailsRight, IsVerdict, RunsRight, run_fault_of};
 ghost use Rattle.macho_report.specs.declared.outcome.Outcome.{Outcome};
 ghost use Rattle.macho_report.specs.declared.outcome.RunFault.TheVariants as fault;
 
-use crate::judge::{Judge, LayoutRules, Rejection};
+use crate::judge::{Judge, LayoutRules};
 use crate::layout::write_layout;
-use crate::lines::write_refusal;
+use crate::lines::write_break;
 use crate::stream::{Input, Output};
 use crate::transfer::{ReadFault, WriteFault, read_all};
-use macho_rules::Verified;
+use macho_rules::{Refusal, Verified};
 use std::alloc::{AllocError, Global};
 use thiserror::Error;
 
@@ -145,7 +146,7 @@ fn write_verdict<J: Judge, W: Output>(
     Ok(Outcome::Accepted)
 }
 
-// Hands a file to the judge. Where it is refused, it writes the line of the refusal, and returns
+// Hands a file to the judge. Where it is refused, it writes the line of the break, and returns
 // `None`.
 pub(crate) fn accept<'a, J: Judge, W: Output>(
     alloc: Global,
@@ -155,20 +156,19 @@ pub(crate) fn accept<'a, J: Judge, W: Output>(
 ) -> Result<Option<Verified<'a>>, RunFault>
     ensures accepted { IfOk result (λ answer. IfSome answer (λ verified.
         (verified ≡ file.now) × J.accepts file.now × (writer.new ≡ writer.old))) }
-    ensures refused { IfOk result (λ answer. IfNone answer ((name : List ℕ) × (place : ℕ)
-        × J.refuses file.now name place
-        × Wrote (W.contents writer.old) (W.contents writer.new) (refusal_text name place))) }
+    ensures refused { IfOk result (λ answer. IfNone answer ((b : Break) × J.refuses file.now b
+        × Wrote (W.contents writer.old) (W.contents writer.new) (break_text b))) }
     ensures fails { FailsRight result (W.has_failed writer.new)
-        ((name : List ℕ) × (place : ℕ) × J.refuses file.now name place
-        × WrotePrefix (W.contents writer.old) (W.contents writer.new) (refusal_text name place))
+        ((b : Break) × J.refuses file.now b
+        × WrotePrefix (W.contents writer.old) (W.contents writer.new) (break_text b))
         (writer.new ≡ writer.old) }
 {
     match judge.judge(alloc, file) {
         Ok(verified) => Ok(Some(verified)),
-        Err(Rejection::Broken { rule, place }) => {
-            write_refusal(rule, place, writer)?;
+        Err(Refusal::Broken(broken)) => {
+            write_break(&broken, writer)?;
             Ok(None)
         }
-        Err(Rejection::Memory) => Err(RunFault::Memory),
+        Err(Refusal::Memory) => Err(RunFault::Memory),
     }
 }

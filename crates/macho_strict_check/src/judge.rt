@@ -1,8 +1,8 @@
 //! Who decides for `macho-strict` whether a file is accepted.
 
-ghost use Rattle.macho_strict_check.specs.Judge.{IsStrictlyAccepted, IsNamedFirst};
+ghost use Rattle.macho_strict_check.specs.Judge.{IsStrictlyAccepted, IsStrictlyRefused};
 
-use macho_report::{Judge, Rejection};
+use macho_report::Judge;
 use macho_rules::{Refusal, Verified};
 use macho_strict::verify_strictly;
 use std::alloc::Global;
@@ -14,16 +14,9 @@ pub struct StrictRules;
 impl Judge for StrictRules {
     ghost accepts = { IsStrictlyAccepted };
 
-    ghost refuses = { IsNamedFirst };
+    ghost refuses = { IsStrictlyRefused };
 
-    fn judge<'a>(&self, alloc: Global, file: &'a [u8]) -> Result<Verified<'a>, Rejection> {
-        match verify_strictly(alloc, file) {
-            Ok(verified) => Ok(verified),
-            Err(Refusal::Broken(broken)) => Err(Rejection::Broken {
-                rule: broken.rule.name(),
-                place: broken.place,
-            }),
-            Err(Refusal::Memory) => Err(Rejection::Memory),
-        }
+    fn judge<'a>(&self, alloc: Global, file: &'a [u8]) -> Result<Verified<'a>, Refusal> {
+        verify_strictly(alloc, file)
     }
 }

@@ -5,13 +5,16 @@
 mod judge;
 
 use judge::StrictRules;
-use macho_program::{ProgramName, Tool, run_process};
+use macho_program::{Program, Tool, run_process};
 use std::process::ExitCode;
 
 // Runs the tool on the words, the files and the streams of the process.
 fn main(rt: HostRuntime) -> ExitCode {
     let tool = Tool {
-        name: ProgramName::MachoStrict,
+        program: Program {
+            name: "macho-strict",
+            has_where: false,
+        },
         judge: StrictRules,
     };
     run_process(&rt, &tool, &mut rt.stdin(), rt.stdout(), &mut rt.stderr())

@@ -1,10 +1,11 @@
 use Rattle.std.proofs.Common.{◌≡◌, ◌∙◌, ℕ, List, Bool, true, false, Option, Some, None, Result, Ok, Err, IfOk, IfSome, length, codes, refl, ap, sym, ◌<◌, ◌^◌, rules}
 use Rattle.std.specs.Prelude.{⊤}
 use Rattle.std.specs.Str.{bytes_eq}
+use Rattle.macho_report.specs.declared.judge.Judge as judge
 use Rattle.macho_report.specs.declared.stream.Input as input
 use Rattle.macho_report.specs.declared.stream.Output as output
 use Rattle.macho_report.specs.declared.stream.Flush as flush
-use Rattle.macho_program.specs.Program.{EndsRight, IsOfStandardInput, Verdict, WroteFound, WroteFoundPrefix}
+use Rattle.macho_program.specs.Program.{EndsRight, IsOfStandardInput, WroteFound, WroteFoundPrefix}
 use Rattle.macho_program.specs.Words.{Asked, verdict, place}
 use Rattle.macho_program.specs.declared.program.Found.{Found}
 use Rattle.macho_program.specs.declared.program.Found.TheVariants as kind
@@ -12,33 +13,33 @@ use Rattle.macho_program.specs.declared.program.ProgramFault.{ProgramFault}
 use Rattle.macho_program.proofs.program.find_asked.Goals as goal
 
 -- what is found of the bytes that a file gives, where those of its name are known
-found_in : (IsRight : Verdict) (asked : Asked) (known given old new : Option (List ℕ)) (end : Result Found ProgramFault) → IfSome known (λ all. given ≡ Some all)
-    → IfOk end (λ what. WroteFound IsRight asked given what old new) → IfOk end (λ what. WroteFound IsRight asked known what old new)
-found_in IsRight asked (Some all) given old new end is wrote = rw is at wrote
-found_in IsRight asked None given old new (Err fault) is wrote = tt
-found_in IsRight (verdict name) None given old new (Ok (kind.Check outcome)) is wrote = tt
-found_in IsRight (place name slice address) None given old new (Ok (kind.Where outcome)) is wrote = tt
-found_in IsRight (verdict name) None given old new (Ok (kind.Where outcome)) is wrote = absurd wrote
-found_in IsRight (place name slice address) None given old new (Ok (kind.Check outcome)) is wrote = absurd wrote
+found_in : {J : Type 0} (j : judge.Ghosts J) (asked : Asked) (known given old new : Option (List ℕ)) (end : Result Found ProgramFault) → IfSome known (λ all. given ≡ Some all)
+    → IfOk end (λ what. WroteFound j asked given what old new) → IfOk end (λ what. WroteFound j asked known what old new)
+found_in j asked (Some all) given old new end is wrote = rw is at wrote
+found_in j asked None given old new (Err fault) is wrote = tt
+found_in j (verdict name) None given old new (Ok (kind.Check outcome)) is wrote = tt
+found_in j (place name slice address) None given old new (Ok (kind.Where outcome)) is wrote = tt
+found_in j (verdict name) None given old new (Ok (kind.Where outcome)) is wrote = absurd wrote
+found_in j (place name slice address) None given old new (Ok (kind.Check outcome)) is wrote = absurd wrote
 
-prefix_in : (IsRight : Verdict) (asked : Asked) (known given old new : Option (List ℕ)) → IfSome known (λ all. given ≡ Some all)
-    → WroteFoundPrefix IsRight asked given old new → WroteFoundPrefix IsRight asked known old new
-prefix_in IsRight asked (Some all) given old new is wrote = rw is at wrote
-prefix_in IsRight (verdict name) None given old new is wrote = tt
-prefix_in IsRight (place name slice address) None given old new is wrote = tt
+prefix_in : {J : Type 0} (j : judge.Ghosts J) (asked : Asked) (known given old new : Option (List ℕ)) → IfSome known (λ all. given ≡ Some all)
+    → WroteFoundPrefix j asked given old new → WroteFoundPrefix j asked known old new
+prefix_in j asked (Some all) given old new is wrote = rw is at wrote
+prefix_in j (verdict name) None given old new is wrote = tt
+prefix_in j (place name slice address) None given old new is wrote = tt
 
 long_in : (known given : Option (List ℕ)) → IfSome known (λ all. given ≡ Some all) → IfSome given (λ all. 2 ^ 32 < length all) → IfSome known (λ all. 2 ^ 32 < length all)
 long_in (Some all) given is long = rw is at long
 long_in None given is long = tt
 
 -- a run over another input than standard input, which is not read
-in_file : {R S W : Type 0} {i : input.Ghosts R} {j : input.Ghosts S} {o : output.Ghosts W} {f : flush.Ghosts W} (IsRight : Verdict) (asked : Asked) (words : Result Asked ProgramFault)
+in_file : {R S W : Type 0} {i : input.Ghosts R} {k : input.Ghosts S} {o : output.Ghosts W} {f : flush.Ghosts W} {J : Type 0} (j : judge.Ghosts J) (asked : Asked) (words : Result Asked ProgramFault)
     (bytes : Asked → Option (List ℕ)) (standard : R) (file file' : S) (writer writer' : W) (end : Result Found ProgramFault)
-    → words ≡ Ok asked → ¬ IsOfStandardInput asked → IfSome (bytes asked) (λ all. j.remaining file ≡ Some all)
-    → EndsRight IsRight j o f (Ok asked) (λ _. j.remaining file) (λ _. ⊤) file file' writer writer' end
-    → EndsRight IsRight i o f words bytes IsOfStandardInput standard standard writer writer' end
-in_file IsRight asked words bytes standard file file' writer writer' end is other known h = rw is record {
-  found = found_in IsRight asked (bytes asked) _ _ _ end known h.found;
+    → words ≡ Ok asked → ¬ IsOfStandardInput asked → IfSome (bytes asked) (λ all. k.remaining file ≡ Some all)
+    → EndsRight j k o f (Ok asked) (λ _. k.remaining file) (λ _. ⊤) file file' writer writer' end
+    → EndsRight j i o f words bytes IsOfStandardInput standard standard writer writer' end
+in_file j asked words bytes standard file file' writer writer' end is other known h = rw is record {
+  found = found_in j asked (bytes asked) _ _ _ end known h.found;
   at_end = λ is. absurd (other is);
   flushed = h.flushed;
   no_image = h.no_image;
@@ -49,7 +50,7 @@ in_file IsRight asked words bytes standard file file' writer writer' end is othe
   few_reads = λ is. absurd (other is);
   too_long = λ e. long_in (bytes asked) _ known (h.too_long e);
   write = h.write;
-  prefix = λ e. prefix_in IsRight asked (bytes asked) _ _ _ known (h.prefix e);
+  prefix = λ e. prefix_in j asked (bytes asked) _ _ _ known (h.prefix e);
   unwritten = h.unwritten;
   unread = λ _. refl;
 }

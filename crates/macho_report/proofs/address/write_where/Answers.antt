@@ -2,7 +2,7 @@ use Rattle.std.proofs.Common.{refl}
 use Rattle.std.proofs.lemmas.Bool.{false≢true}
 use Rattle.macho_report.specs.declared.address.WhereOutcome.TheVariants.{Told, Refused}
 use Rattle.macho_report.proofs.Faults.{at_fault, fails_as, fails_not, fails_to_write, lacks_memory, no_answer, other_answer}
-use Rattle.macho_report.proofs.Runs.{named_break}
+use Rattle.macho_report.specs.Text.{break_text}
 use Rattle.macho_report.proofs.StreamLemmas.{wrote_nothing}
 use Rattle.macho_report.proofs.Where.{refused_other, told, told_other}
 use Rattle.macho_report.proofs.address.write_where.Goals as goal
@@ -11,13 +11,13 @@ pub returns-in_err-verified : goal.returns-in_err-verified
 returns-in_err-verified g c = rw (at_fault _ _ c.from_residual.ensures.1) record {
   verdict = tt;
   no_image = λ e. absurd (no_answer _ _ e);
-  fails = fails_as _ _ _ _ _ (λ part. (Refused, _, named_break _ _ _ part.2, refused_other, part.3)) c.in_err-verified.ensures.fails;
+  fails = fails_as _ _ _ _ _ (λ part. (Refused, _, (part.0, part.1, refl), refused_other, part.2)) c.in_err-verified.ensures.fails;
 }
 
 pub returns-in_default : goal.returns-in_default
 returns-in_default g c =
-    let (name, place, refused, wrote) = rw c.in_default.is at c.in_ok-verified.ensures.refused in record {
-      verdict = (_, named_break _ _ _ refused, wrote);
+    let (b, refused, wrote) = rw c.in_default.is at c.in_ok-verified.ensures.refused in record {
+      verdict = (break_text b, (b, refused, refl), wrote);
       no_image = λ e. absurd (other_answer _ _ _ refl refused_other e);
       fails = fails_not _ _ _ _;
     }

@@ -1,5 +1,5 @@
 use Rattle.std.proofs.Common.{refl}
-use Rattle.macho_report.specs.Text.{refusal_text}
+use Rattle.macho_report.specs.Text.{break_text}
 use Rattle.macho_report.specs.declared.outcome.Outcome.TheVariants.{Accepted, Refused}
 use Rattle.macho_report.proofs.Faults.{at_fault, fails_as, fails_not, fails_to_write}
 use Rattle.macho_report.proofs.outcome.write_verdict.Goals as goal
@@ -7,13 +7,13 @@ use Rattle.macho_report.proofs.outcome.write_verdict.Goals as goal
 pub returns-in_err-verified : goal.returns-in_err-verified
 returns-in_err-verified g c = rw (at_fault _ _ c.from_residual.ensures.1) record {
   verdict = tt;
-  fails = fails_as _ _ _ _ _ (λ part. (Refused, _, (part.0, part.1, part.2, refl), part.3)) c.in_err-verified.ensures.fails;
+  fails = fails_as _ _ _ _ _ (λ part. (Refused, _, (part.0, part.1, refl), part.2)) c.in_err-verified.ensures.fails;
 }
 
 pub returns-in_default : goal.returns-in_default
 returns-in_default g c =
-    let (name, place, refused, wrote) = rw c.in_default.is at c.in_ok-verified.ensures.refused in
-    record { verdict = (_, (name, place, refused, refl {a = refusal_text name place}), wrote); fails = fails_not _ _ _ _ }
+    let (b, refused, wrote) = rw c.in_default.is at c.in_ok-verified.ensures.refused in
+    record { verdict = (break_text b, (b, refused, refl), wrote); fails = fails_not _ _ _ _ }
 
 pub returns-in_err-write_layout : goal.returns-in_err-write_layout
 returns-in_err-write_layout g c =
