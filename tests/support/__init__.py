@@ -1,0 +1,1 @@
+"""What the scripts of tests/ that are written in Python share."""

@@ -1,0 +1,64 @@
+"""Ends a script by a signal, with all that it has started."""
+
+from __future__ import annotations
+
+import os
+import signal
+from pathlib import Path
+from typing import Callable, Iterator, NoReturn
+
+SIGNALS = (signal.SIGINT, signal.SIGTERM, signal.SIGHUP, signal.SIGPIPE)
+
+
+class Ended(KeyboardInterrupt):
+    """A signal has to end the script. unittest lets no other exception of a test pass."""
+
+    def __init__(self, number: int) -> None:
+        super().__init__()
+        self.number = number
+
+
+def started_by(process: int) -> Iterator[int]:
+    """The processes that a process has started, and those that they have started."""
+    for children in Path(f"/proc/{process}/task").glob("*/children"):
+        try:
+            found = children.read_text(encoding="ascii").split()
+        except OSError:
+            continue
+        for child in map(int, found):
+            yield child
+            yield from started_by(child)
+
+
+def raise_ended(number: int, _frame: object) -> NoReturn:
+    for other in SIGNALS:
+        signal.signal(other, signal.SIG_IGN)
+    raise Ended(number)
+
+
+def end_all() -> None:
+    """Ends what the script has started."""
+    for process in list(started_by(os.getpid())):
+        try:
+            os.kill(process, signal.SIGTERM)
+        except ProcessLookupError:
+            pass
+
+
+def end_by(number: int) -> NoReturn:
+    """Ends the script itself by the signal."""
+    signal.signal(number, signal.SIG_DFL)
+    os.kill(os.getpid(), number)
+    raise SystemExit(128 + number)
+
+
+def end_with_children(run: Callable[[], int]) -> NoReturn:
+    """Runs the function, and ends with the status that it returns, or by a signal, with all that was started."""
+    for number in SIGNALS:
+        signal.signal(number, raise_ended)
+    try:
+        status = run()
+    except Ended as ended:
+        end_all()
+        end_by(ended.number)
+    raise SystemExit(status)

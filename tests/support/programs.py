@@ -1,0 +1,64 @@
+"""The programs and the library of this repository, and whether they are built."""
+
+from __future__ import annotations
+
+import os
+from pathlib import Path
+
+from .calling import TOP, Answer, call, shell
+
+MACHO_CHECK = TOP / "crates/macho_check/out/macho_check"
+MACHO_STRICT = TOP / "crates/macho_strict_check/out/macho_strict_check"
+MACHO_TRIALS = TOP / "crates/macho_trials/out/macho_trials"
+REAL = TOP / "tests/real"
+# The file of the stored run of macho-check, and its layout.
+EXECUTABLE, LAYOUT = TOP / "crates/macho_check/stdin", TOP / "crates/macho_check/stdout"
+NO_BYTES = b"refused: magic at 0x0\n"
+
+
+def is_built(command: str) -> bool:
+    """Builds the program of ./macho-check or ./macho-strict, where it is not current."""
+    return call(TOP / command, stderr=2) == Answer(1, NO_BYTES)
+
+
+def why_outdated(name: str) -> str:
+    """Why a program or `libkesvuot` is not current, or nothing where it is (crates/macho_check/record.sh)."""
+    return shell('top=$1 && cd "$top" && . crates/macho_check/record.sh && take_program "$2" && '
+                 'is_current || echo "${reason:-it cannot be read}"', TOP, name).text
+
+
+def library_folder() -> Path:
+    """The folder of the library that is tested."""
+    return Path(os.environ.get("KESVUOT_LIB_DIR") or TOP / "build/lib").resolve()
+
+
+def why_no_library() -> str:
+    """Why there is no library to test, or nothing where there is one: that of KESVUOT_LIB_DIR, or else that of
+    build/lib, which has to be current."""
+    folder = library_folder()
+    if folder != TOP / "build/lib":
+        return "" if os.access(folder / "libkesvuot.a", os.R_OK) else f"there is no libkesvuot.a in {folder}"
+    why = why_outdated("libkesvuot")
+    return f"libkesvuot: {why}: make lib builds it" if why else ""
+
+
+def is_older(program: Path) -> bool:
+    """Whether a program is not there, or older than a source."""
+    if not os.access(program, os.X_OK):
+        return True
+    built = program.stat().st_mtime_ns
+    for folder, folders, files in os.walk(TOP / "crates"):
+        folders[:] = [name for name in folders if name != "out"]
+        if any(Path(folder, name).lstat().st_mtime_ns > built for name in files):
+            return True
+    return False
+
+
+def build_trials() -> str:
+    """Builds the program macho_trials where it is not there, or older than a source. Returns why it is not there."""
+    if not is_older(MACHO_TRIALS):
+        return ""
+    if MACHO_TRIALS.exists():
+        MACHO_TRIALS.unlink()
+    ran = call("rt", "run", folder=MACHO_TRIALS.parents[1])
+    return "" if os.access(MACHO_TRIALS, os.X_OK) else f"{MACHO_TRIALS} was not built: {ran.error[-2000:]}"
