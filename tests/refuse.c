@@ -7,8 +7,7 @@
 //   EMPTY_WRITE     the write to standard output that takes no bytes
 //   READ_MOST       how many bytes a read gives at most, or `random`: a number from 1 to 200, another each time
 //   WRITE_MOST      how many bytes a write to standard output takes at most
-//
-// A refusal is reported by a line to the file that is open as 9.
+//   REPORTS         the number of an open file: a refusal is reported by a line to it
 
 typedef unsigned long size;
 
@@ -20,7 +19,7 @@ extern int *__errno_location(void);
 extern char *getenv(const char *name);
 extern long strtol(const char *text, char **end, int base);
 
-enum { STANDARD_OUTPUT = 1, REPORTS = 9, INPUT_OUTPUT_ERROR = 5 };
+enum { STANDARD_OUTPUT = 1, INPUT_OUTPUT_ERROR = 5 };
 
 static long growths, reads, writes;
 
@@ -35,7 +34,7 @@ static int refuses(const char *name, long number) {
     if (number_in(name) != number) {
         return 0;
     }
-    __write(REPORTS, "refused\n", 8);
+    __write((int)number_in("REPORTS"), "refused\n", 8);
     return 1;
 }
 
