@@ -1,0 +1,224 @@
+"""Runs scripts side by side, shows what they say one after the other, and counts their cases by their closing lines."""
+
+from __future__ import annotations
+
+import argparse
+import os
+import re
+import subprocess
+import sys
+import threading
+import time
+from concurrent.futures import Future, ThreadPoolExecutor
+from dataclasses import dataclass
+from typing import NoReturn, Sequence
+
+from .calling import TOP, has_tool
+from .processes import end_with_children
+from .programs import build_trials
+
+# What takes long comes first. Those of the library wait until it is built. The others run the programs, but
+# tests/floor, which runs one of its own, tests/counts, which runs none, and tests/command, which has stubs.
+PROGRAM_SCRIPTS = "program floor refusals oracle strict cost sizes limits vectors counts".split()
+LIBRARY_SCRIPTS = "rebuild library python examples rust fuzz recipes install".split()
+SCRIPTS = ["command", *PROGRAM_SCRIPTS, *LIBRARY_SCRIPTS]
+CLOSING_LINE = re.compile(r"(\d+) passed, (\d+) failed")
+
+
+@dataclass
+class Counts:
+    passed: int = 0
+    failed: int = 0
+
+    def add(self, other: Counts) -> None:
+        self.passed += other.passed
+        self.failed += other.failed
+
+    def __str__(self) -> str:
+        return f"{self.passed} passed, {self.failed} failed"
+
+
+class Terminal:
+    """Prints lines, and below them how far the scripts are, where standard error is a terminal."""
+
+    def __init__(self, total: int) -> None:
+        self.total = total
+        self.done = 0
+        self.running: list[str] = []
+        self.began = time.monotonic()
+        self.lock = threading.Lock()
+        self.ended = threading.Event()
+        if sys.stderr.isatty():
+            threading.Thread(target=self.keep_drawing, daemon=True).start()
+
+    def seconds(self) -> int:
+        return int(time.monotonic() - self.began)
+
+    def progress(self) -> str:
+        return f"{self.done} of {self.total} scripts, {self.seconds()} s: {' '.join(self.running)}"
+
+    def draw(self, text: str) -> None:
+        if sys.stderr.isatty():
+            columns = os.get_terminal_size(sys.stderr.fileno()).columns or 80
+            sys.stderr.write(f"\r\033[K{text[:columns - 1]}")
+            sys.stderr.flush()
+
+    def keep_drawing(self) -> None:
+        while not self.ended.wait(1):
+            with self.lock:
+                self.draw(self.progress())
+
+    def begin(self, name: str) -> None:
+        with self.lock:
+            self.running.append(name)
+
+    def end(self, name: str) -> None:
+        with self.lock:
+            self.running.remove(name)
+            self.done += 1
+
+    def print(self, text: str) -> None:
+        with self.lock:
+            self.draw("")
+            print(text, flush=True)
+
+    def close(self) -> None:
+        self.ended.set()
+        with self.lock:
+            self.draw("")
+
+
+class Script:
+    """A script of tests/, with the lines that it has printed."""
+
+    def __init__(self, name: str, terminal: Terminal) -> None:
+        self.name = name
+        self.terminal = terminal
+        self.lines: list[str] = []
+        self.status = 0
+        self.is_shown = False
+        self.lock = threading.Lock()
+
+    def run(self) -> None:
+        self.terminal.begin(self.name)
+        with subprocess.Popen([TOP / "tests" / self.name], stdin=subprocess.DEVNULL, stdout=subprocess.PIPE,
+                              stderr=subprocess.STDOUT) as process:
+            for line in process.stdout:
+                self.keep(line.decode(errors="replace").rstrip("\n"))
+        self.status = process.returncode
+        self.terminal.end(self.name)
+
+    def keep(self, line: str) -> None:
+        with self.lock:
+            self.lines.append(line)
+            if self.is_shown:
+                self.show_line(line)
+
+    def show_line(self, line: str) -> None:
+        self.terminal.print(f"tests/{self.name}: {line}" if CLOSING_LINE.fullmatch(line) else line)
+
+    def show(self) -> None:
+        """Prints what it has said, and from now on what it says."""
+        with self.lock:
+            for line in self.lines:
+                self.show_line(line)
+            self.is_shown = True
+
+    def fault(self, why: str) -> Counts:
+        self.terminal.print(f"FAILED  tests/{self.name}: ended with status {self.status}, {why}")
+        return Counts(0, 1)
+
+    def counts(self) -> Counts:
+        """The counts of its closing line. Where it has failed and counts no failure, that is one."""
+        closing = [match for match in map(CLOSING_LINE.fullmatch, self.lines) if match]
+        if not closing:
+            return self.fault("and no closing line")
+        counts = Counts(*map(int, closing[-1].groups()))
+        if self.status != 0 and counts.failed == 0:
+            counts.add(self.fault("and counts no failure"))
+        return counts
+
+
+class Gate:
+    """Runs the scripts with these names."""
+
+    def __init__(self, names: Sequence[str], is_proved: bool) -> None:
+        self.is_proved = is_proved
+        self.terminal = Terminal(len(names) + is_proved)
+        self.scripts = [Script(name, self.terminal) for name in names]
+        self.counts = Counts()
+        self.skips = 0
+        self.pool = ThreadPoolExecutor(len(os.sched_getaffinity(0)))
+
+    def show(self, script: Script, ran: Future) -> None:
+        script.show()
+        ran.result()
+        self.counts.add(script.counts())
+
+    def begin(self, names: Sequence[str]) -> list[tuple[Script, Future]]:
+        return [(script, self.pool.submit(script.run)) for script in self.scripts if script.name in names]
+
+    def prove(self) -> None:
+        """Runs rt ci, on a core more than the other scripts have."""
+        proofs = Script("proofs", self.terminal)
+        with ThreadPoolExecutor(1) as pool:
+            self.show(proofs, pool.submit(proofs.run))
+
+    def skip(self, case: str, why: str) -> None:
+        self.skips += 1
+        self.terminal.print(f"skipped {case}: {why}")
+
+    def build_library(self) -> None:
+        """Builds the library into build/lib, where no case has failed before."""
+        if self.counts.failed:
+            self.skip("the library", "other cases have failed")
+        elif not has_tool("cc") or not has_tool("objcopy"):
+            self.skip("the library", "there is no cc, or no objcopy")
+        else:
+            words = ["--proved"] if self.is_proved else []
+            if subprocess.run([TOP / "packaging/library", *words], stdin=subprocess.DEVNULL, check=False).returncode:
+                self.fault("the library", "it was not built")
+
+    def fault(self, case: str, why: str) -> None:
+        self.counts.add(Counts(0, 1))
+        self.terminal.print(f"FAILED  {case}: {why}")
+
+    def build_trials(self) -> None:
+        """Two of the scripts run macho_trials, and would build it at one time."""
+        why = build_trials()
+        if why:
+            self.fault("macho_trials", why)
+
+    def run(self) -> int:
+        command = self.begin(["command"])
+        if self.is_proved:
+            self.prove()
+        elif any(script.name in ("refusals", "vectors") for script in self.scripts):
+            self.build_trials()
+        needs_library = any(script.name in LIBRARY_SCRIPTS for script in self.scripts)
+        library = self.pool.submit(self.build_library) if needs_library else None
+        begun = self.begin(PROGRAM_SCRIPTS)
+        if library:
+            library.result()
+        for script, ran in [*begun, *self.begin(LIBRARY_SCRIPTS), *command]:
+            self.show(script, ran)
+        return self.close()
+
+    def close(self) -> int:
+        self.terminal.close()
+        seconds = self.terminal.seconds()
+        print(f"that took {seconds // 60} min {seconds % 60} s on {len(os.sched_getaffinity(0))} processors")
+        print(self.counts, flush=True)
+        return 0 if not self.counts.failed and self.counts.passed + self.skips else 1
+
+
+def main(words: Sequence[str], description: str) -> NoReturn:
+    parser = argparse.ArgumentParser(description=description, formatter_class=argparse.RawDescriptionHelpFormatter)
+    parser.add_argument("--gate", action="store_true", help="run rt ci first")
+    parser.add_argument("names", nargs="*", metavar="NAME", help=f"a script: {', '.join(SCRIPTS)}")
+    chosen = parser.parse_args(words)
+    unknown = set(chosen.names) - set(SCRIPTS)
+    if unknown:
+        parser.error(f"no script of the gate: {', '.join(sorted(unknown))}")
+    names = [name for name in SCRIPTS if not chosen.names or name in chosen.names]
+    end_with_children(lambda: Gate(names, chosen.gate).run())
