@@ -3,9 +3,9 @@
 
     tests/python_trials.py ALL_KINDS MIXED [FOLDER..]
 
-The first two are the files of tests/making, and the files of the folders are judged and read as well. For each case it
-prints a line of three texts with tabs between them: the case, what was found, and what is wanted. What differs is shown
-on standard error.
+The first two are files of tests/support/files.py, and the files of the folders are judged and read as well. For each
+case it prints a line of three texts with tabs between them: the case, what was found, and what is wanted. What differs
+is shown on standard error.
 """
 
 import array
@@ -438,7 +438,7 @@ def compare_all_views(report, all_kinds, mixed):
     accepted += [(f"{name}: {vector.name}", vector.data) for name, vectors in oracle_trials.read_all_vectors(True)
                  for vector in vectors if vector.is_strict and verdict(vector.data, False) == "accepted"]
     compare_views(report, f"{len(accepted)} accepted vectors", accepted)
-    compare_views(report, "two files of tests/making", [("all kinds", all_kinds), ("mixed", mixed)])
+    compare_views(report, "two files of tests/support", [("all kinds", all_kinds), ("mixed", mixed)])
     compare_views(report, "the reports", ((name, data) for name, data, *_ in oracle_trials.read_all_reports()))
     compare_views(report, "the real files", ((name, data) for name, data, _ in oracle_trials.read_real()))
 
