@@ -14,7 +14,7 @@ from contextlib import contextmanager
 from pathlib import Path
 from typing import Iterator, NoReturn, Sequence
 
-from .calling import Answer, call, has_tool
+from .calling import Answer, has_tool
 from .processes import end_with_children
 from .programs import is_built
 

@@ -7,7 +7,8 @@ import signal
 from pathlib import Path
 from typing import Callable, Iterator, NoReturn
 
-SIGNALS = (signal.SIGINT, signal.SIGTERM, signal.SIGHUP, signal.SIGPIPE)
+# Not SIGPIPE, which a program sends that does not read its input: Python ignores that signal.
+SIGNALS = (signal.SIGINT, signal.SIGTERM, signal.SIGHUP)
 
 
 class Ended(KeyboardInterrupt):
@@ -53,7 +54,8 @@ def end_by(number: int) -> NoReturn:
 
 
 def end_with_children(run: Callable[[], int]) -> NoReturn:
-    """Runs the function, and ends with the status that it returns, or by a signal, with all that was started."""
+    """Runs the function, and ends with the status that it returns. By a signal, or where nobody reads what it prints, it
+    ends with all that was started."""
     for number in SIGNALS:
         signal.signal(number, raise_ended)
     try:
@@ -61,4 +63,7 @@ def end_with_children(run: Callable[[], int]) -> NoReturn:
     except Ended as ended:
         end_all()
         end_by(ended.number)
+    except BrokenPipeError:
+        end_all()
+        end_by(signal.SIGPIPE)
     raise SystemExit(status)

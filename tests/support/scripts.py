@@ -11,9 +11,9 @@ import threading
 import time
 from concurrent.futures import Future, ThreadPoolExecutor
 from dataclasses import dataclass
-from typing import NoReturn, Sequence
+from typing import Callable, NoReturn, Sequence
 
-from .calling import TOP, has_tool
+from .calling import TOP, Word, has_tool
 from .processes import end_with_children
 from .programs import build_trials
 
@@ -88,6 +88,14 @@ class Terminal:
             self.draw("")
 
 
+def run_lines(words: Sequence[Word], show: Callable[[str], None]) -> int:
+    """Runs a program without input, shows each line that it writes, and returns its status."""
+    with subprocess.Popen(words, stdin=subprocess.DEVNULL, stdout=subprocess.PIPE, stderr=subprocess.STDOUT) as process:
+        for line in process.stdout:
+            show(line.decode(errors="replace").rstrip("\n"))
+    return process.returncode
+
+
 class Script:
     """A script of tests/, with the lines that it has printed."""
 
@@ -101,11 +109,7 @@ class Script:
 
     def run(self) -> None:
         self.terminal.begin(self.name)
-        with subprocess.Popen([TOP / "tests" / self.name], stdin=subprocess.DEVNULL, stdout=subprocess.PIPE,
-                              stderr=subprocess.STDOUT) as process:
-            for line in process.stdout:
-                self.keep(line.decode(errors="replace").rstrip("\n"))
-        self.status = process.returncode
+        self.status = run_lines([TOP / "tests" / self.name], self.keep)
         self.terminal.end(self.name)
 
     def keep(self, line: str) -> None:
@@ -176,7 +180,7 @@ class Gate:
             self.skip("the library", "there is no cc, or no objcopy")
         else:
             words = ["--proved"] if self.is_proved else []
-            if subprocess.run([TOP / "packaging/library", *words], stdin=subprocess.DEVNULL, check=False).returncode:
+            if run_lines([TOP / "packaging/library", *words], self.terminal.print):
                 self.fault("the library", "it was not built")
 
     def fault(self, case: str, why: str) -> None:
