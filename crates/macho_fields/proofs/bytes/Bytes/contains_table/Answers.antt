@@ -1,5 +1,0 @@
-use Rattle.std.proofs.Common.{rules}
-use Rattle.macho_fields.proofs.bytes.Bytes.contains_table.Goals as goal
-
-pub returns : goal.returns
-returns c = search rules

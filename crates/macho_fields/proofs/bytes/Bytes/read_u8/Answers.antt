@@ -1,5 +1,0 @@
-use Rattle.std.proofs.Common.{rules}
-use Rattle.macho_fields.proofs.bytes.Bytes.read_u8.Goals as goal
-
-pub returns : goal.returns
-returns c = search rules
