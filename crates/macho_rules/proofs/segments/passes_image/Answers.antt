@@ -1,3 +1,4 @@
+-- Found without this answer; with it a wrong body fails at once.
 use Rattle.std.proofs.Common.{rules, tests}
 use Rattle.macho_rules.proofs.segments.passes_image.Goals as goal
 

@@ -1,3 +1,4 @@
+-- Found without this answer; with it a wrong body fails at once.
 use Rattle.std.proofs.Common.{arith}
 use Rattle.std.proofs.lemmas.Grind.{common_steps}
 use Rattle.macho_fat.proofs.table.Table.entry.Goals as goal
