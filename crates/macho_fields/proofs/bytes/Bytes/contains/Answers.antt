@@ -1,0 +1,6 @@
+-- Found without this answer; with it a wrong body fails at once.
+use Rattle.std.proofs.Common.{rules}
+use Rattle.macho_fields.proofs.bytes.Bytes.contains.Goals as goal
+
+pub returns : goal.returns
+returns c = search rules
