@@ -24,8 +24,9 @@
  * A program works with every library that has the soname it was linked against. The number of a rule never changes: a
  * version that adds a rule gives it the next free number, wherever it is judged.
  *
- * No call keeps state, prints, or ends the process, and any number of threads may call at once. Only kesvuot_verify and
- * kesvuot_verify_strictly allocate memory, with malloc and realloc, and they free it before they return.
+ * No call keeps state, prints, or ends the process, and any number of threads may call at once. Only kesvuot_verify,
+ * kesvuot_verify_strictly and kesvuot_layout allocate memory, with malloc and realloc, and they free it before they
+ * return.
  */
 #ifndef KESVUOT_H
 #define KESVUOT_H
@@ -38,7 +39,7 @@ extern "C" {
 #endif
 
 /* The version of this header: major << 16 | minor << 8 | patch. */
-#define KESVUOT_VERSION 0x010000
+#define KESVUOT_VERSION 0x010100
 
 /* The version of the linked library: major << 16 | minor << 8 | patch. */
 uint32_t kesvuot_version(void);
@@ -121,6 +122,14 @@ uint32_t kesvuot_verify(const void *file, size_t size, struct kesvuot_verdict *v
 /* Judges a file as kesvuot_verify does, and then by the rules of the strict profile: every nonzero byte is accounted
  * for, and no byte belongs to two parts. Every file that is OK here is also OK for kesvuot_verify. */
 uint32_t kesvuot_verify_strictly(const void *file, size_t size, struct kesvuot_verdict *verdict);
+
+/* Writes the layout of an accepted file as text, as macho-check prints it: up to `max` bytes, from its first byte on.
+ * Later bytes of `text` are unchanged, and no zero byte is added. `needed` is the length of the whole layout: if it is
+ * more than max, call again with that much room. All bytes are printable ASCII or line feeds, whatever names the file
+ * has. Each call judges the file again, as kesvuot_verify does, and allocates memory for the whole layout.
+ * OK: as much as fits is written. REFUSED: the file breaks a rule, which kesvuot_verify gives. NO_MEMORY: memory ran
+ * out for the verdict or the layout. After REFUSED and NO_MEMORY `needed` is 0, and `text` is unchanged. */
+uint32_t kesvuot_layout(const void *file, size_t size, char *text, size_t max, size_t *needed);
 
 /* The name of a rule, such as "section-file". A zero byte, which len does not count, follows it in memory.
  * OK: the name is written. NONE: no rule has this number, and the name is empty. */

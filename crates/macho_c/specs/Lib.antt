@@ -2,6 +2,7 @@ pub mod Address
 pub mod Builds
 pub mod Commands
 pub mod Image
+pub mod Layout
 pub mod Libraries
 pub mod Linkedit
 pub mod Numbered

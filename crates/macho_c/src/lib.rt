@@ -10,6 +10,7 @@ mod builds;
 mod commands;
 mod image;
 mod indirects;
+mod layout;
 mod libraries;
 mod linkedit;
 mod parts;
