@@ -529,11 +529,47 @@ static enum accepted check_verdicts(const uint8_t *file, size_t size, struct kes
     return status == KESVUOT_REFUSED ? REFUSED : strict_status == KESVUOT_OK ? ACCEPTED_STRICTLY : ACCEPTED;
 }
 
+static uint8_t *make_room(void);
+
+// Asks for the layout with this much room, which ends where a page cannot be written to.
+static void check_text(const uint8_t *file, size_t size, uint32_t wanted, size_t length, size_t room) {
+    static uint8_t *block;
+    if (block == NULL) {
+        block = make_room();
+    }
+    if (room >= ROOM_SIZE) {
+        return;
+    }
+    uint8_t *text = block + ROOM_SIZE - room;
+    size_t needed = length + 1;
+    memset(text - 1, UNWRITTEN, room + 1);
+    CHECK(kesvuot_layout(file, size, (char *)text, room, &needed) == wanted && needed == length);
+    CHECK(text[-1] == UNWRITTEN);
+    for (size_t k = 0; k < room; k++) {
+        bool is_text = text[k] == '\n' || (text[k] >= ' ' && text[k] <= '~');
+        CHECK(k < length ? is_text : text[k] == UNWRITTEN);
+    }
+    CHECK(length == 0 || room < length || text[length - 1] == '\n');
+}
+
+static void check_layout(const uint8_t *file, size_t size, enum accepted accepted) {
+    size_t length = 1;
+    uint32_t status = kesvuot_layout(file, size, NULL, 0, &length);
+    CHECK(status == (accepted ? KESVUOT_OK : KESVUOT_REFUSED));
+    CHECK(accepted ? length > 0 : length == 0);
+    check_text(file, size, status, length, 0);
+    check_text(file, size, status, length, 1);
+    check_text(file, size, status, length, length - 1);
+    check_text(file, size, status, length, length);
+    check_text(file, size, status, length, length + 9);
+}
+
 static struct kesvuot_verdict check_file(const uint8_t *file, size_t size) {
     struct kesvuot_verdict verdict;
     enum accepted accepted = check_verdicts(file, size, &verdict);
     uint64_t slices = accepted ? verdict.slices : 3;
     reach(SLICES, verdict.slices);
+    check_layout(file, size, accepted);
     for (uint64_t k = 0; k < slices && k < 99; k++) {
         check_slice(file, size, k, slices, accepted);
     }

@@ -63,6 +63,11 @@ HAS_UUID, HAS_BASE, HAS_ENTRY, HAS_SYMTAB, HAS_DYSYMTAB = 1, 2, 4, 8, 16
 # How many rows are read at once of a table that may have millions.
 BATCH = 4096
 
+# Room for the layout of most files. A longer one takes a second call.
+LAYOUT_ROOM = 1 << 14
+
+CHANGED = "the bytes have changed after the verdict"
+
 
 class Refused(Exception):
     """The file breaks a rule. `rule` is the name of the first broken one, and `place` the offset in the file where it
@@ -233,6 +238,7 @@ def _declare(library: Any) -> None:
             ("kesvuot_rule", u32, u32, pointer),
             ("kesvuot_verify", u32, pointer, size, pointer),
             ("kesvuot_verify_strictly", u32, pointer, size, pointer),
+            ("kesvuot_layout", u32, pointer, size, pointer, size, pointer),
             ("kesvuot_image", u32, pointer, size, u64, pointer),
             ("kesvuot_linkedit", u32, pointer, u32, pointer),
             ("kesvuot_at", u32, pointer, u64, pointer),
@@ -487,8 +493,22 @@ class File:
         return place
 
     def layout(self) -> str:
-        """The text that `macho-check` prints of the file."""
-        return "\n".join(_lines(self)) + "\n"
+        """The text that `macho-check` prints of the file. Each call judges the file anew. MemoryError means that memory
+        ran out."""
+        text, needed = ctypes.create_string_buffer(LAYOUT_ROOM), ctypes.c_size_t()
+        self._write_layout(text, needed)
+        while needed.value > len(text):
+            text = ctypes.create_string_buffer(needed.value)
+            self._write_layout(text, needed)
+        return ctypes.string_at(text, needed.value).decode("ascii")
+
+    def _write_layout(self, text: Any, needed: ctypes.c_size_t) -> None:
+        """Writes as much of the layout as there is room for, and how long it is."""
+        status = _library().kesvuot_layout(self._data.address, len(self._data), text, len(text), ctypes.byref(needed))
+        if status == NO_MEMORY:
+            raise MemoryError("no memory for the layout")
+        if status != OK:
+            raise RuntimeError(CHANGED)
 
     def _slice(self, index: int) -> Slice:
         image = ctypes.create_string_buffer(IMAGE.size)
@@ -498,7 +518,7 @@ class File:
             return Image(self._data, index, image, fields)
         if status == UNREAD:
             return Slice(self._data, index, fields)
-        raise RuntimeError("the bytes have changed after the verdict")
+        raise RuntimeError(CHANGED)
 
 
 def library_version() -> Tuple[int, int, int]:
@@ -528,66 +548,15 @@ def _rule_name(rule: int) -> str:
     return ctypes.string_at(*PART.unpack(name)).decode("ascii")
 
 
-# The layout, as text and for JSON. docs/COMMAND.md has its lines.
+# The layout for JSON
 
 ARCHITECTURES = {
     (0x100_0007, 3): "x86_64", (0x100_0007, 8): "x86_64h", (0x100_000C, 0): "arm64", (0x100_000C, 2): "arm64e"}
-FILETYPES = {2: "execute", 6: "dylib", 8: "bundle"}
-LC_ID_DYLIB = 0xD
-LOADS = {0xC: "load", 0x8000_0018: "weak", 0x8000_001F: "reexport", 0x20: "lazy", 0x8000_0023: "upward"}
 
 
 def _plain(name: memoryview) -> str:
     """A name, with numbers for a quote, a backslash and all that is not printable ASCII."""
     return "".join(chr(byte) if 0x20 <= byte <= 0x7E and byte not in b'"\\' else f"\\x{byte:02x}" for byte in name)
-
-
-def _version(number: int) -> str:
-    return f"{number >> 16}.{number >> 8 & 0xFF}.{number & 0xFF}"
-
-
-def _lines(file: File) -> Iterator[str]:
-    yield f"accepted, slices {file.slice_count}"
-    for part in file.slices:
-        kind = FILETYPES[part.filetype] if isinstance(part, Image) else "not read"
-        yield f"slice {part.index} {part.arch} at {part.place:#x} size {len(part.bytes):#x} {kind}"
-        if isinstance(part, Image):
-            yield from _image_lines(part)
-
-
-def _image_lines(image: Image) -> Iterator[str]:
-    for library in image.libraries:
-        if library.cmd == LC_ID_DYLIB:
-            yield _library_line("id", library)
-    if image.uuid is not None:
-        yield f"  uuid {str(image.uuid).upper()}"
-    for build in image.builds:
-        yield f"  build platform {build.platform} min {_version(build.minos)} sdk {_version(build.sdk)}"
-    for segment in image.segments:
-        yield _segment_line(segment)
-        yield from map(_section_line, image.sections_of(segment))
-    for library in image.libraries:
-        if library.cmd in LOADS:
-            yield _library_line(LOADS[library.cmd], library)
-    if image.symtab is not None:
-        yield f"  symbols {image.symtab.nsyms}"
-    yield "  entry none" if image.entry is None else f"  entry {image.entry:#x}"
-
-
-def _library_line(word: str, library: Library) -> str:
-    current, compatible = _version(library.current), _version(library.compatible)
-    return f'  {word} "{_plain(library.name)}" current {current} compatible {compatible}'
-
-
-def _segment_line(segment: Segment) -> str:
-    letters = "".join(letter if segment.initprot >> bit & 1 else "-" for bit, letter in enumerate("rwx"))
-    return (f'  segment "{_plain(segment.name)}" addr {segment.vmaddr:#x} size {segment.vmsize:#x} '
-            f"file {segment.fileoff:#x} size {segment.filesize:#x} {letters}")
-
-
-def _section_line(section: Section) -> str:
-    source = "zero" if section.zero_fill else f"file {section.offset:#x}"
-    return f'    section "{_plain(section.name)}" addr {section.addr:#x} size {section.size:#x} {source}'
 
 
 def _row_object(row: Any) -> Dict[str, Any]:

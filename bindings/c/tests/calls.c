@@ -78,6 +78,51 @@ static void try_verdicts(void) {
     try_call(kesvuot_verify_strictly, mixed.bytes, mixed.size, KESVUOT_REFUSED, no_segment);
 }
 
+// Asks for the layout in this much room. `text` has room for `length` bytes and one more.
+static void try_room(const struct file file, const char *layout, size_t length, char *text, size_t room) {
+    size_t needed = 0;
+    memset(text, UNWRITTEN, length + 1);
+    CHECK(kesvuot_layout(file.bytes, file.size, text, room, &needed) == KESVUOT_OK && needed == length);
+    const size_t written = room < length ? room : length;
+    CHECK(memcmp(text, layout, written) == 0);
+    CHECK(is_filled(text + written, length + 1 - written, UNWRITTEN));
+}
+
+// The layout of an accepted file, with room for each number of its bytes.
+static void try_layout(const struct file file) {
+    size_t length = 0, needed;
+    CHECK(kesvuot_layout(file.bytes, file.size, NULL, 0, &length) == KESVUOT_OK && length > 0);
+    char *layout = malloc(length), *text = malloc(length + 1);
+    if (!layout || !text) {
+        stop("malloc", "no memory");
+    }
+    CHECK(kesvuot_layout(file.bytes, file.size, layout, length, &needed) == KESVUOT_OK && needed == length);
+    CHECK(length > 9 && memcmp(layout, "accepted,", 9) == 0 && layout[length - 1] == '\n');
+    for (size_t room = 0; room <= length + 1; room++) {
+        try_room(file, layout, length, text, room);
+    }
+    free(layout);
+    free(text);
+}
+
+// A refused file has no layout.
+static void try_no_layout(const void *bytes, size_t size) {
+    char text[ROWS];
+    size_t needed = 1;
+    memset(text, UNWRITTEN, sizeof text);
+    CHECK(kesvuot_layout(bytes, size, text, sizeof text, &needed) == KESVUOT_REFUSED && needed == 0);
+    CHECK(is_filled(text, sizeof text, UNWRITTEN));
+    needed = 1;
+    CHECK(kesvuot_layout(bytes, size, NULL, 0, &needed) == KESVUOT_REFUSED && needed == 0);
+}
+
+static void try_layouts(void) {
+    try_layout(library);
+    try_layout(mixed);
+    try_no_layout(NULL, 0);
+    try_no_layout(library.bytes, library.size - 1);
+}
+
 static void try_images(void) {
     struct kesvuot_image image = unwritten_image();
     CHECK(kesvuot_image(library.bytes, library.size, 1, &image) == KESVUOT_OK);
@@ -232,6 +277,7 @@ int main(int count, char **words) {
     mixed = read_file(words[2], side_or_block(AT_END));
     try_version_and_rules();
     try_verdicts();
+    try_layouts();
     try_images();
     try_slices_of_two_kinds();
     for (uint64_t slice = 0; slice < 2; slice++) {

@@ -1,5 +1,5 @@
-// memory FILE..: refuses each allocation of both verdicts in turn. Then the status is NO_MEMORY, and all allocated
-// memory is freed. No other call allocates memory. Linked with --wrap for malloc, realloc and free.
+// memory FILE..: refuses each allocation of both verdicts and of the layout in turn. Then the status is NO_MEMORY, and
+// all allocated memory is freed. No other call allocates memory. Linked with --wrap for malloc, realloc and free.
 #include "support.h"
 #include <stdio.h>
 #include <string.h>
@@ -62,6 +62,38 @@ static void try_verdict(judge *verify, struct file file) {
     CHECK(memcmp(&verdict, &wanted, sizeof verdict) == 0);
 }
 
+enum { ROOM = 64, UNWRITTEN = 0xa5 };
+
+// Asks for the front of the layout, and refuses the allocation with this number, if it is not 0.
+static uint32_t write_refusing(struct file file, long number, char *text, size_t *needed) {
+    const long held_before = held;
+    memset(text, UNWRITTEN, ROOM);
+    *needed = 1;
+    asked = 0;
+    refused = number;
+    const uint32_t status = kesvuot_layout(file.bytes, file.size, text, ROOM, needed);
+    refused = 0;
+    CHECK(held == held_before);
+    return status;
+}
+
+// Without memory nothing of the layout is written.
+static void try_layout(struct file file) {
+    char text[ROOM], wanted[ROOM], none[ROOM];
+    size_t needed, length;
+    const uint32_t status = write_refusing(file, 0, wanted, &length);
+    const long allocations = asked;
+    memset(none, UNWRITTEN, ROOM);
+    CHECK(status == KESVUOT_OK ? length > ROOM && allocations > 0 : status == KESVUOT_REFUSED && length == 0);
+    for (long number = 1; number <= allocations; number++) {
+        CHECK(write_refusing(file, number, text, &needed) == KESVUOT_NO_MEMORY && needed == 0);
+        CHECK(memcmp(text, none, ROOM) == 0);
+        refusals++;
+    }
+    CHECK(write_refusing(file, allocations + 1, text, &needed) == status && needed == length);
+    CHECK(memcmp(text, wanted, ROOM) == 0);
+}
+
 static void try_views(struct file file) {
     struct kesvuot_image image;
     struct kesvuot_bytes bytes;
@@ -92,6 +124,7 @@ int main(int count, char **words) {
         const struct file file = read_file(words[index], AT_END);
         try_verdict(kesvuot_verify, file);
         try_verdict(kesvuot_verify_strictly, file);
+        try_layout(file);
         try_views(file);
         release(file);
     }

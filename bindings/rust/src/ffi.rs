@@ -5,6 +5,7 @@
 
 use std::ffi::c_void;
 use std::marker::PhantomData;
+use std::os::raw::c_char;
 use std::{ptr, slice};
 
 /// What a call returns. `NO_MEMORY` and `NONE` are the remaining statuses.
@@ -191,6 +192,13 @@ extern "C" {
     fn kesvuot_rule(rule: u32, name: *mut Bytes<'static>) -> u32;
     fn kesvuot_verify(file: *const c_void, size: usize, verdict: *mut Verdict) -> u32;
     fn kesvuot_verify_strictly(file: *const c_void, size: usize, verdict: *mut Verdict) -> u32;
+    fn kesvuot_layout(
+        file: *const c_void,
+        size: usize,
+        text: *mut c_char,
+        max: usize,
+        needed: *mut usize,
+    ) -> u32;
     fn kesvuot_image<'a>(
         file: *const c_void,
         size: usize,
@@ -218,6 +226,9 @@ pub fn rule(number: u32) -> Bytes<'static> {
     name
 }
 
+/// Room for the layout of most files. A longer one takes a second call.
+const LAYOUT_ROOM: usize = 1 << 14;
+
 type Judge = unsafe extern "C" fn(*const c_void, usize, *mut Verdict) -> u32;
 
 /// Calls one of the two calls that judge, if the structures here are those of the library. Returns
@@ -237,6 +248,23 @@ pub fn verify(file: &[u8]) -> (u32, Verdict) {
 
 pub fn verify_strictly(file: &[u8]) -> (u32, Verdict) {
     judge(kesvuot_verify_strictly, file)
+}
+
+/// The status, and the layout of the file, empty unless the status is `OK`.
+pub fn layout(file: &[u8]) -> (u32, Vec<u8>) {
+    let mut text = vec![0; LAYOUT_ROOM];
+    loop {
+        let (room, mut needed) = (text.len(), 0);
+        let at = text.as_mut_ptr().cast();
+        // SAFETY: the file may be read, and nobody changes it meanwhile. The text and the number may
+        // be written.
+        let status =
+            unsafe { kesvuot_layout(file.as_ptr().cast(), file.len(), at, room, &mut needed) };
+        text.resize(needed, 0);
+        if needed <= room {
+            return (status, text);
+        }
+    }
 }
 
 /// The status, and the image of the slice with this index.

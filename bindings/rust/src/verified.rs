@@ -38,6 +38,21 @@ impl<'a> Verified<'a> {
         self.bytes
     }
 
+    /// The layout of the file as text, as `macho-check` prints it: a line for each slice, with those
+    /// of its parts. Each call judges the file anew.
+    ///
+    /// # Errors
+    ///
+    /// That memory ran out.
+    pub fn layout(&self) -> Result<String, Error> {
+        let (status, text) = ffi::layout(self.bytes);
+        match status {
+            ffi::OK => Ok(text.into_iter().map(char::from).collect()),
+            ffi::REFUSED => unreachable!("the bytes of an accepted file do not change"),
+            _ => Err(Error::NoMemory),
+        }
+    }
+
     /// How many slices the file has: 1 if it is not universal.
     #[must_use]
     pub fn slice_count(&self) -> u64 {

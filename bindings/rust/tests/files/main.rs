@@ -4,7 +4,6 @@
 //! of the repository, and runs the tests that are ignored otherwise. `KESVUOT_TRIALS` is their
 //! folder. In it are lists of files, a line each: what is wanted, a tab, and the path.
 
-mod layout;
 mod plain;
 
 use std::path::Path;
@@ -57,7 +56,8 @@ fn compare_layout(path: &str, wanted: &str) {
     let _at = At(path);
     let file = fs::read(path).unwrap();
     let verified = kesvuot::verify(&file).unwrap();
-    assert_eq!(layout::of(&verified), fs::read_to_string(wanted).unwrap());
+    let layout = verified.layout().unwrap();
+    assert_eq!(layout, fs::read_to_string(wanted).unwrap());
     verified.images().for_each(|image| plain::compare(&image));
 }
 
