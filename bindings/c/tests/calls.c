@@ -5,19 +5,9 @@
 #include <stdlib.h>
 #include <string.h>
 
-enum { UNWRITTEN = 0xa5, ROWS = 32 };
+enum { ROWS = 32 };
 
 static struct file library, mixed;
-
-// Whether all bytes have a value.
-static bool is_filled(const void *bytes, size_t size, int value) {
-    for (size_t index = 0; index < size; index++) {
-        if (((const uint8_t *)bytes)[index] != value) {
-            return false;
-        }
-    }
-    return true;
-}
 
 static struct kesvuot_image unwritten_image(void) {
     struct kesvuot_image image;

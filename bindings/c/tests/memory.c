@@ -38,7 +38,7 @@ static unsigned long refusals;
 // Judges the file, and refuses the allocation with this number, if it is not 0.
 static uint32_t judge_refusing(judge *verify, struct file file, long number, struct kesvuot_verdict *verdict) {
     const long held_before = held;
-    memset(verdict, 0xa5, sizeof *verdict);
+    memset(verdict, UNWRITTEN, sizeof *verdict);
     asked = 0;
     refused = number;
     const uint32_t status = verify(file.bytes, file.size, verdict);
@@ -62,7 +62,7 @@ static void try_verdict(judge *verify, struct file file) {
     CHECK(memcmp(&verdict, &wanted, sizeof verdict) == 0);
 }
 
-enum { ROOM = 64, UNWRITTEN = 0xa5 };
+enum { ROOM = 64 };
 
 // Asks for the front of the layout, and refuses the allocation with this number, if it is not 0.
 static uint32_t write_refusing(struct file file, long number, char *text, size_t *needed) {

@@ -28,24 +28,42 @@ static struct file in_block(const void *data, size_t size) {
     return (struct file){block, size, block, 0};
 }
 
-struct file file_of(const void *data, size_t size, enum side side) {
-    if (side == IN_BLOCK) {
-        return in_block(data, size);
-    }
-    const size_t page = (size_t)sysconf(_SC_PAGESIZE), room = (size + page - 1) / page * page;
+static size_t page_size(void) {
+    return (size_t)sysconf(_SC_PAGESIZE);
+}
+
+// Bytes between guard pages, which may be written.
+static struct file between_guards(size_t size, enum side side) {
+    const size_t page = page_size(), room = (size + page - 1) / page * page;
     uint8_t *pages = mmap(NULL, room + 2 * page, PROT_READ | PROT_WRITE, MAP_PRIVATE | MAP_ANONYMOUS, -1, 0);
     if (pages == MAP_FAILED) {
         stop("mmap", "no memory");
     }
-    uint8_t *bytes = pages + page + (side == AT_END ? room - size : 0);
-    if (size) {
-        memcpy(bytes, data, size);
-    }
-    if (mprotect(pages, page, PROT_NONE) || mprotect(pages + page + room, page, PROT_NONE)
-        || (room && mprotect(pages + page, room, PROT_READ))) {
+    if (mprotect(pages, page, PROT_NONE) || mprotect(pages + page + room, page, PROT_NONE)) {
         stop("mprotect", "it failed");
     }
+    uint8_t *bytes = pages + page + (side == AT_END ? room - size : 0);
     return (struct file){bytes, size, pages, room + 2 * page};
+}
+
+struct file file_of(const void *data, size_t size, enum side side) {
+    if (side == IN_BLOCK) {
+        return in_block(data, size);
+    }
+    const struct file file = between_guards(size, side);
+    if (size) {
+        memcpy(file.bytes, data, size);
+        if (mprotect((uint8_t *)file.pages + page_size(), file.pages_size - 2 * page_size(), PROT_READ)) {
+            stop("mprotect", "it failed");
+        }
+    }
+    return file;
+}
+
+struct file room_of(size_t size, enum side side) {
+    const struct file room = between_guards(size, side);
+    memset(room.bytes, UNWRITTEN, size);
+    return room;
 }
 
 struct file read_file(const char *path, enum side side) {
@@ -71,6 +89,15 @@ void release(struct file file) {
     } else {
         free(file.pages);
     }
+}
+
+bool is_filled(const void *bytes, size_t size, int value) {
+    for (size_t index = 0; index < size; index++) {
+        if (((const uint8_t *)bytes)[index] != value) {
+            return false;
+        }
+    }
+    return true;
 }
 
 void check(bool holds, const char *what, int line) {

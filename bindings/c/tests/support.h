@@ -21,6 +21,15 @@ struct file read_file(const char *path, enum side side);
 struct file file_of(const void *data, size_t size, enum side side);
 void release(struct file file);
 
+// What a test puts where a call may write, so that a byte that is not written is seen.
+enum { UNWRITTEN = 0xa5 };
+
+// Room for a call to write to, between guard pages. All its bytes are UNWRITTEN.
+struct file room_of(size_t size, enum side side);
+
+// Whether all bytes have a value.
+bool is_filled(const void *bytes, size_t size, int value);
+
 // The side that the environment asks for: IN_BLOCK if IN_BLOCK is set, otherwise the given one.
 enum side side_or_block(enum side side);
 

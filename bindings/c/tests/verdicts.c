@@ -11,7 +11,7 @@ typedef uint32_t judge(const void *file, size_t size, struct kesvuot_verdict *ve
 // What verdicts have before the call, so that a field that is not written is seen.
 static struct kesvuot_verdict unwritten(void) {
     struct kesvuot_verdict verdict;
-    memset(&verdict, 0xa5, sizeof verdict);
+    memset(&verdict, UNWRITTEN, sizeof verdict);
     return verdict;
 }
 
