@@ -1,28 +1,31 @@
--- The layout of an accepted file as text, in the room of the caller.
+-- The layout of an accepted file as text, in a buffer of the caller.
 use Rattle.std.specs.Prelude.{◌≡◌, ℕ, ◌⊎◌, List, ◌++◌, length, take, drop}
 use Rattle.macho_fields.specs.First.{IsFirstBroken, IsUnbroken}
 use Rattle.macho_fields.specs.declared.rule.Break.{Break}
 use Rattle.macho_report.specs.Layout.{layout_text}
+use Rattle.macho_rules.specs.Verdict.{IsRefusal}
+use Rattle.macho_rules.specs.declared.refusal.Refusal.TheVariants as refusal
 use Rattle.macho_c.specs.Status.{KESVUOT_OK, KESVUOT_REFUSED, KESVUOT_NO_MEMORY}
 
--- The room had `old`, and has `new`: the first bytes of the text, as many as it has room for, and after
--- those what it had.
-abbrev pub HasFront : List ℕ → List ℕ → List ℕ → Type 0
-HasFront text old new = new ≡ take (length old) text ++ drop (length text) old
+-- The buffer was `old`: it now begins with the first bytes of the text, as many as it has room for,
+-- and its other bytes are as they were.
+abbrev pub begun_with : List ℕ → List ℕ → List ℕ
+begun_with text old = take (length old) text ++ drop (length text) old
 
--- The file breaks no rule, the room has the front of its layout, and `needed` is how long that is.
-abbrev pub IsWritten : List ℕ → List ℕ → List ℕ → ℕ → Type 0
-IsWritten file old new needed =
-    IsUnbroken file × HasFront (layout_text file) old new × (needed ≡ length (layout_text file))
+-- The file breaks no rule. Its layout is in the buffer, and needs so many bytes.
+abbrev pub IsWritten : List ℕ → ℕ → List ℕ → List ℕ → Type 0
+IsWritten file needed old new =
+    IsUnbroken file × (needed ≡ length (layout_text file))
+    × (new ≡ begun_with (layout_text file) old)
 
 -- nothing is written
-abbrev pub IsUnwritten : List ℕ → List ℕ → ℕ → Type 0
-IsUnwritten old new needed = (new ≡ old) × (needed ≡ 0)
+abbrev pub IsUnwritten : ℕ → List ℕ → List ℕ → Type 0
+IsUnwritten needed old new = (needed ≡ 0) × (new ≡ old)
 
--- The answer on a file. That there was no memory says nothing of the file.
-abbrev pub IsLayout : List ℕ → ℕ → List ℕ → List ℕ → ℕ → Type 0
-IsLayout file status old new needed =
-    ((status ≡ KESVUOT_OK) × IsWritten file old new needed)
-    ⊎ ((status ≡ KESVUOT_REFUSED) × ((b : Break) × IsFirstBroken file b)
-    × IsUnwritten old new needed)
-    ⊎ ((status ≡ KESVUOT_NO_MEMORY) × IsUnwritten old new needed)
+-- The answer on a file. As by kesvuot_verify, that there was no memory is returned only where the rules
+-- before fat-overlap are unbroken.
+abbrev pub IsLayout : List ℕ → ℕ → ℕ → List ℕ → List ℕ → Type 0
+IsLayout file status needed old new =
+    ((status ≡ KESVUOT_OK) × IsWritten file needed old new)
+    ⊎ ((status ≡ KESVUOT_REFUSED) × ((b : Break) × IsFirstBroken file b) × IsUnwritten needed old new)
+    ⊎ ((status ≡ KESVUOT_NO_MEMORY) × IsRefusal file refusal.Memory × IsUnwritten needed old new)

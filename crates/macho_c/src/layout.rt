@@ -1,17 +1,20 @@
-//! The layout of an accepted file as text.
+//! The layout of a file as text.
 
-ghost use Rattle.std.specs.Prelude.{◌≡◌, [], Some};
-ghost use Rattle.macho_c.specs.Layout.{IsLayout, HasFront};
+ghost use Rattle.std.specs.Prelude.{◌≡◌, Some, MatchResult};
+ghost use Rattle.macho_fields.specs.First.{IsUnbroken};
+ghost use Rattle.macho_report.specs.Layout.{layout_text};
+ghost use Rattle.macho_rules.specs.Verdict.{IsRefusal};
+ghost use Rattle.macho_c.specs.Layout.{IsLayout, begun_with};
 
 use crate::status::{NO_MEMORY, OK, REFUSED};
 use macho_report::{Failed, Output, write_layout};
 use macho_rules::{Refusal, verify};
 use std::alloc::Global;
 
-/// Writes the layout of an accepted file as text: its first bytes, as many as there is room for. The
-/// bytes after those are left as they were. `needed` is how many bytes the whole text has. The status
-/// is `OK`, `REFUSED` where the file breaks a rule, or `NO_MEMORY`. Where it is not `OK`, nothing is
-/// written and `needed` is 0.
+/// Decides the rules of a file, and writes the layout of an accepted one to the buffer as text: its first
+/// bytes, as many as there is room for, with no zero byte after them. `needed` is how many bytes the
+/// whole text has. The status is that of `kesvuot_verify`. If it is not `OK`, `needed` is 0 and the
+/// buffer is unchanged.
 #[unsafe(no_mangle)]
 pub extern "C" fn kesvuot_layout(
     alloc: Global,
@@ -19,48 +22,49 @@ pub extern "C" fn kesvuot_layout(
     text: &mut [u8],
     needed: &mut usize,
 ) -> u32
-    ensures { IsLayout file.now result text.old text.new needed.new }
+    ensures { IsLayout file.now result needed.new text.old text.new }
 {
     *needed = 0;
-    let verified = match verify(alloc, file) {
-        Ok(verified) => verified,
-        Err(Refusal::Broken(_)) => return REFUSED,
-        Err(Refusal::Memory) => return NO_MEMORY,
-    };
-    let mut layout = Text::new(alloc);
-    if write_layout(&verified, &mut layout).is_err() {
-        return NO_MEMORY;
+    match layout_of(alloc, file) {
+        Ok(layout) => {
+            *needed = layout.len();
+            write_front(&layout, text);
+            OK
+        }
+        Err(Refusal::Broken(_)) => REFUSED,
+        Err(Refusal::Memory) => NO_MEMORY,
     }
-    *needed = layout.bytes.len();
-    write_front(&layout.bytes, text);
-    OK
 }
 
-// Writes the first bytes, as many as there is room for.
-fn write_front(bytes: &[u8], room: &mut [u8])
-    ensures { HasFront bytes.now room.old room.new }
+// The layout of the file.
+fn layout_of(alloc: Global, file: &[u8]) -> Result<Vec<u8>, Refusal>
+    ensures { MatchResult result (λ layout. IsUnbroken file.now × (layout.items ≡ layout_text file.now))
+        (IsRefusal file.now) }
 {
-    let count = bytes.len().min(room.len());
-    room[..count].copy_from_slice(&bytes[..count]);
+    let verified = verify(alloc, file)?;
+    let mut layout = Text {
+        bytes: Vec::new(alloc),
+        has_failed: false,
+    };
+    match write_layout(&verified, &mut layout) {
+        Ok(()) => Ok(layout.bytes),
+        Err(_) => Err(Refusal::Memory),
+    }
 }
 
-// A text in memory. It has failed once there was no memory for more.
+// Writes the first bytes to the buffer, as many as there is room for.
+fn write_front(bytes: &[u8], buffer: &mut [u8])
+    ensures { buffer.new ≡ begun_with bytes.now buffer.old }
+{
+    let count = bytes.len().min(buffer.len());
+    buffer[..count].copy_from_slice(&bytes[..count]);
+}
+
+// A text in memory as an output. A write fails where there is no memory.
 #[derive(Drop)]
 struct Text {
     bytes: Vec<u8>,
     has_failed: bool,
-}
-
-impl Text {
-    // No text. It takes no memory.
-    fn new(alloc: Global) -> Text
-        ensures { result.bytes.items ≡ [] }
-    {
-        Text {
-            bytes: Vec::new(alloc),
-            has_failed: false,
-        }
-    }
 }
 
 impl Output for Text {
@@ -69,8 +73,8 @@ impl Output for Text {
     ghost contents = { λ text. Some text.bytes.items };
 
     fn write(&mut self, piece: &[u8]) -> Result<usize, Failed> {
-        self.has_failed = self.has_failed || self.bytes.extend_from_slice(piece).is_err();
-        if self.has_failed {
+        if self.has_failed || self.bytes.extend_from_slice(piece).is_err() {
+            self.has_failed = true;
             return Err(Failed);
         }
         Ok(piece.len())
