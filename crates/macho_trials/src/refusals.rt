@@ -29,7 +29,7 @@ pub(crate) fn call(rt: &HostRuntime, words: Args<Global>) -> u8 {
         Err(Fault::Broken(broken)) => {
             write_break(&broken, &mut FromWrite::new(&mut rt.stdout())).is_ok()
         }
-        Err(Fault::Run(fault)) => eprint!(rt; "{}", fault.line()).is_ok(),
+        Err(Fault::Run(fault)) => eprintln!(rt; "{fault}").is_ok(),
         _ => true,
     };
     status(if printed { ended } else { Err(Fault::NoCall) })
