@@ -1,14 +1,15 @@
 -- The structures of load commands: where their fields lie, and what holds of a listed command.
-use Rattle.std.proofs.Common.{◌≡◌, ◌↔◌, ◌&&◌, ℕ, ◌+◌, ◌≤◌, List, [], map, Bool, true, false, Option, Some, None, All, Contains, get_or, refl, sym, ap, ◌∙◌, subst, lit≤, lit<}
+use Rattle.std.proofs.Common.{◌≡◌, ◌==◌, ◌↔◌, ◌&&◌, ℕ, ◌+◌, ◌≤◌, List, [], ◌∷◌, map, Bool, true, false, Option, Some, None, All, Contains, get_or, refl, sym, ap, ◌∙◌, subst, lit≤, lit<, inl, inr}
 use Rattle.std.specs.Prelude.{nat_le}
 use Rattle.std.specs.List.{list_all}
 use Rattle.std.specs.Option.{option_map_or}
-use Rattle.std.proofs.lemmas.Bool.{true≢false, leb-true, le-leb, and_parts}
+use Rattle.std.proofs.lemmas.Bool.{cases_Bool, true≢false, leb-true, le-leb, and_parts}
 use Rattle.std.proofs.lemmas.List.Sums.{AllPass-from_list_all}
-use Rattle.macho_fields.specs.LoadCommands.{structure_of, structure_size, has_name, names_library, is_dylib_command, width_size, AreFieldsInside, table_fields, symbol_table, string_table, indirect_table, linkedit_data_table}
+use Rattle.macho_fields.specs.LoadCommands.{structure_of, structure_size, has_name, names_library, is_dylib_command, width_size, AreFieldsInside, table_fields, unlisted_tables, hint_table, symbol_table, string_table, indirect_table, linkedit_data_table}
 use Rattle.macho_fields.specs.Image.{word, command_cmd, command_size}
 use Rattle.macho_fields.specs.Command.{HasStructure, record_count}
 use Rattle.macho_fields.specs.Symbol.{table_at, tables_of}
+use Rattle.macho_fields.specs.declared.header.loader.TheConstants as loader
 use Rattle.macho_fields.specs.declared.load_command.Structure.{Structure}
 use Rattle.macho_fields.specs.declared.load_command.Structure.TheVariants as structure
 use Rattle.macho_fields.specs.declared.load_command.TableFields.{TableFields}
@@ -22,13 +23,33 @@ all_inside : (s : Structure) → list_all (are_inside (structure_size s)) (table
 all_inside structure.SymtabCommand = refl
 all_inside other = refl
 
+all_inside_of : (size : ℕ) (tables : List TableFields) → list_all (are_inside size) tables ≡ true → All (AreFieldsInside size) tables
+all_inside_of size tables all k d less =
+    let fields = get_or tables k d in
+    let both = and_parts (nat_le (fields.place + width_size fields.width) size) (nat_le (fields.count + width_size fields.width) size) (AllPass-from_list_all (are_inside size) tables all k d less) in
+    (leb-true (fields.place + width_size fields.width) size both.0, leb-true (fields.count + width_size fields.width) size both.1)
+
 -- the fields that bound the tables of a command lie in its structure
 pub fields_inside : (s : Structure) → All (AreFieldsInside (structure_size s)) (table_fields s)
-fields_inside s k d less =
-    let fields = get_or (table_fields s) k d in
-    let both = and_parts (nat_le (fields.place + width_size fields.width) (structure_size s)) (nat_le (fields.count + width_size fields.width) (structure_size s))
-    (AllPass-from_list_all (are_inside (structure_size s)) (table_fields s) (all_inside s) k d less) in
-    (leb-true (fields.place + width_size fields.width) (structure_size s) both.0, leb-true (fields.count + width_size fields.width) (structure_size s) both.1)
+fields_inside s = all_inside_of (structure_size s) (table_fields s) (all_inside s)
+
+-- what holds of hints, of data and of none holds of the tables of each command that is not judged
+pub unlisted_each : (P : List TableFields → Type 0) → P (hint_table ∷ []) → P (linkedit_data_table ∷ []) → P [] → (cmd : ℕ) → P (unlisted_tables cmd)
+unlisted_each P hints linkedit none cmd = elim (cases_Bool (cmd == loader.LC_TWOLEVEL_HINTS)) [
+  | inl t ↦ rw t hints
+  | inr a ↦ elim (cases_Bool (cmd == loader.LC_ATOM_INFO)) [
+    | inl t ↦ rw (a, t) linkedit
+    | inr b ↦ elim (cases_Bool (cmd == loader.LC_FUNCTION_VARIANTS)) [
+      | inl t ↦ rw (a, b, t) linkedit
+      | inr c ↦ elim (cases_Bool (cmd == loader.LC_FUNCTION_VARIANT_FIXUPS)) [ inl t ↦ rw (a, b, c, t) linkedit | inr d ↦ rw (a, b, c, d) none ]
+    ]
+  ]
+]
+
+-- those of a command that is not judged lie in its first bytes
+pub unlisted_inside : (cmd : ℕ) → All (AreFieldsInside loader.LINKEDIT_DATA_COMMAND_SIZE) (unlisted_tables cmd)
+unlisted_inside cmd = all_inside_of loader.LINKEDIT_DATA_COMMAND_SIZE (unlisted_tables cmd)
+    (unlisted_each (λ tables. list_all (are_inside loader.LINKEDIT_DATA_COMMAND_SIZE) tables ≡ true) refl refl refl cmd)
 
 -- the tables of a structure that are spoken of by name
 pub symbols_listed : Contains (table_fields structure.SymtabCommand) symbol_table

@@ -21,6 +21,20 @@ byte_of_number i (suc n) xs more =
       | inr some ↦ (i, omega arith, omega arith, λ e. absurd (omega arith))
     ]
 
+-- and one that is zero has none
+pub none_of_number : (i n : ℕ) (xs : List ℕ) → little_from i n xs ≡ 0 → (k : ℕ) → i ≤ k → k < i + n → slice_index xs k ≡ 0
+none_of_number i zero xs is k low high = absurd (omega arith)
+none_of_number i (suc n) xs is k low high =
+    elim (cases_lt i k) [
+      | inl after ↦ none_of_number (suc i) n xs (omega arith) k (omega arith) (omega arith)
+      | inr here ↦ let same : k ≡ i = omega arith in ap (slice_index xs) same ∙ omega arith
+    ]
+
+-- what holds before a place and from it on
+pub none_joined : (bytes : List ℕ) (start middle end : ℕ) → ¬ HasNonZero bytes start middle → ¬ HasNonZero bytes middle end → ¬ HasNonZero bytes start end
+none_joined bytes start middle end before after (z, low, high, is) =
+    elim (cases_lt z middle) [ inl early ↦ before (z, low, early, is) | inr late ↦ after (z, late, high, is) ]
+
 module _ (bytes within : List ℕ) (start len : ℕ) (are : within ≡ part start len bytes) where
   inside_part : (k : ℕ) → k < length within → (k < len) × (start + k < length bytes)
   inside_part k h =
@@ -44,7 +58,7 @@ module _ (bytes within : List ℕ) (start len : ℕ) (are : within ≡ part star
       let (k, low, high, is) = byte_of_number 0 8 within word in
       (start + k, omega arith, omega arith, (nonzero_in_part k (omega arith, is)).1)
 
-  -- where no byte of the part before an index is, none of the bytes before its place is
+  -- where no byte of the part before an index is not zero, none of the bytes before its place is
   pub none_in_part : (k : ℕ) → k ≤ length within → ¬ HasNonZero within 0 k → ¬ HasNonZero bytes start (start + k)
   none_in_part k fits none (z, low, high, (inside, is)) =
       let here : z - start < length within = omega arith in
@@ -56,3 +70,7 @@ module _ (bytes within : List ℕ) (start len : ℕ) (are : within ≡ part star
   none_in_span none (z, low, high, (inside, is)) =
       let here = in_part z low high inside in
       none_in_part (length within) (omega arith) none (z, low, omega arith, (inside, is))
+
+  -- a word of the part that is zero has none
+  pub none_in_word : 8 ≤ length within → number Little 8 within 0 ≡ 0 → ¬ HasNonZero bytes start (start + 8)
+  none_in_word whole word = none_in_part 8 whole (λ (k, low, high, is). is.1 (none_of_number 0 8 within word k low (omega arith)))

@@ -28,17 +28,19 @@ pub record AreLoaderConstants : Type 0 where
   pub MH_EXECUTE : loader.MH_EXECUTE ≡ 0x2
   pub MH_DYLIB : loader.MH_DYLIB ≡ 0x6
   pub MH_BUNDLE : loader.MH_BUNDLE ≡ 0x8
-  -- the sizes of mach_header_64, load_command, segment_command_64 and section_64
+  -- the sizes of mach_header_64, load_command, segment_command_64, linkedit_data_command and section_64
   pub MACH_HEADER_64_SIZE : loader.MACH_HEADER_64_SIZE ≡ 32
   pub LOAD_COMMAND_SIZE : loader.LOAD_COMMAND_SIZE ≡ 8
   pub SEGMENT_COMMAND_64_SIZE : loader.SEGMENT_COMMAND_64_SIZE ≡ 72
+  pub LINKEDIT_DATA_COMMAND_SIZE : loader.LINKEDIT_DATA_COMMAND_SIZE ≡ 16
   pub SECTION_64_SIZE : loader.SECTION_64_SIZE ≡ 80
-  -- the sizes of build_tool_version, dylib_table_of_contents, dylib_module_64, dylib_reference, and
-  -- of an entry of the indirect symbol table
+  -- the sizes of build_tool_version, dylib_table_of_contents, dylib_module_64, dylib_reference,
+  -- twolevel_hint, and of an entry of the indirect symbol table
   pub BUILD_TOOL_VERSION_SIZE : loader.BUILD_TOOL_VERSION_SIZE ≡ 8
   pub DYLIB_TABLE_OF_CONTENTS_SIZE : loader.DYLIB_TABLE_OF_CONTENTS_SIZE ≡ 8
   pub DYLIB_MODULE_64_SIZE : loader.DYLIB_MODULE_64_SIZE ≡ 56
   pub DYLIB_REFERENCE_SIZE : loader.DYLIB_REFERENCE_SIZE ≡ 4
+  pub TWOLEVEL_HINT_SIZE : loader.TWOLEVEL_HINT_SIZE ≡ 4
   pub INDIRECT_ENTRY_SIZE : loader.INDIRECT_ENTRY_SIZE ≡ 4
   -- load_command.cmd
   pub LC_SYMTAB : loader.LC_SYMTAB ≡ 0x2
@@ -47,6 +49,7 @@ pub record AreLoaderConstants : Type 0 where
   pub LC_ID_DYLIB : loader.LC_ID_DYLIB ≡ 0xd
   pub LC_LOAD_DYLINKER : loader.LC_LOAD_DYLINKER ≡ 0xe
   pub LC_ID_DYLINKER : loader.LC_ID_DYLINKER ≡ 0xf
+  pub LC_TWOLEVEL_HINTS : loader.LC_TWOLEVEL_HINTS ≡ 0x16
   pub LC_SEGMENT_64 : loader.LC_SEGMENT_64 ≡ 0x19
   pub LC_UUID : loader.LC_UUID ≡ 0x1b
   pub LC_CODE_SIGNATURE : loader.LC_CODE_SIGNATURE ≡ 0x1d
@@ -61,6 +64,9 @@ pub record AreLoaderConstants : Type 0 where
   pub LC_LINKER_OPTIMIZATION_HINT : loader.LC_LINKER_OPTIMIZATION_HINT ≡ 0x2e
   pub LC_NOTE : loader.LC_NOTE ≡ 0x31
   pub LC_BUILD_VERSION : loader.LC_BUILD_VERSION ≡ 0x32
+  pub LC_ATOM_INFO : loader.LC_ATOM_INFO ≡ 0x36
+  pub LC_FUNCTION_VARIANTS : loader.LC_FUNCTION_VARIANTS ≡ 0x37
+  pub LC_FUNCTION_VARIANT_FIXUPS : loader.LC_FUNCTION_VARIANT_FIXUPS ≡ 0x38
   -- the bit LC_REQ_DYLD, and the commands that have it: the headers write 0x1c | LC_REQ_DYLD
   pub LC_REQ_DYLD : loader.LC_REQ_DYLD ≡ 0x80000000
   pub LC_LOAD_WEAK_DYLIB : loader.LC_LOAD_WEAK_DYLIB ≡ 0x80000018

@@ -1,11 +1,11 @@
 -- The load commands that are judged: the structure of each, and what the structure has.
 -- (mach-o/loader.h; mach-o/nlist.h: nlist_64; mach-o/reloc.h: relocation_info)
 use Rattle.std.specs.Prelude.{◌≡◌, ℕ, ◌+◌, ◌≤◌, ◌==◌, List, [], ◌∷◌, find, map, Option, Some, None}
+use Rattle.std.specs.Prelude.{if◌then◌else◌}
 use Rattle.std.specs.Prelude.{Bool, IsTrue, true, false}
 use Rattle.std.specs.List.{list_any, position}
 use Rattle.std.specs.Option.{option_map, option_map_or, option_or}
 use Rattle.macho_fields.specs.declared.load_command.Layout.{Layout}
-use Rattle.macho_fields.specs.declared.load_command.LoadCommand.{LoadCommand}
 use Rattle.macho_fields.specs.declared.load_command.Records.{Records}
 use Rattle.macho_fields.specs.declared.load_command.Structure.{Structure}
 use Rattle.macho_fields.specs.declared.load_command.Structure.TheVariants as structure
@@ -18,6 +18,10 @@ use Rattle.macho_fields.specs.declared.header.reloc.TheConstants as reloc
 
 -- The listed commands, each with its cmd and its structure. Both lists are in the order of the
 -- numbers.
+
+pub record LoadCommand : Type 0 where
+  pub cmd : ℕ
+  pub structure : Structure
 
 abbrev pub listed : ℕ → Structure → LoadCommand
 listed cmd structure = record { cmd = cmd; structure = structure }
@@ -180,6 +184,10 @@ dyld_info_tables =
 abbrev pub encrypted_table : TableFields
 encrypted_table = word_table 8 12 1
 
+-- twolevel_hints_command: offset and nhints, of twolevel_hint
+abbrev pub hint_table : TableFields
+hint_table = word_table 8 12 loader.TWOLEVEL_HINT_SIZE
+
 -- note_command: offset and size, in bytes
 abbrev pub note_table : TableFields
 note_table = long_table 24 32 1
@@ -216,7 +224,8 @@ layout_of structure.DylinkerCommand = named 12
 layout_of structure.RpathCommand = named 12
 layout_of structure.SegmentCommand64 = with_records loader.SEGMENT_COMMAND_64_SIZE section_records
 layout_of structure.UuidCommand = plain 24
-layout_of structure.LinkeditDataCommand = with_tables 16 (linkedit_data_table ∷ [])
+layout_of structure.LinkeditDataCommand =
+    with_tables loader.LINKEDIT_DATA_COMMAND_SIZE (linkedit_data_table ∷ [])
 layout_of structure.DyldInfoCommand = with_tables 48 dyld_info_tables
 layout_of structure.EncryptionInfoCommand64 = with_tables 24 (encrypted_table ∷ [])
 layout_of structure.NoteCommand = with_tables 40 (note_table ∷ [])
@@ -238,6 +247,15 @@ records_of s = (layout_of s).records
 -- the tables that its fields bound
 abbrev pub table_fields : Structure → List TableFields
 table_fields s = (layout_of s).tables
+
+-- The tables of a command that is not judged, by its cmd. Its structure is twolevel_hints_command or
+-- linkedit_data_command, which have one size.
+abbrev pub unlisted_tables : ℕ → List TableFields
+unlisted_tables cmd =
+    if cmd == loader.LC_TWOLEVEL_HINTS then hint_table ∷ []
+    else (if cmd == loader.LC_ATOM_INFO then linkedit_data_table ∷ []
+    else (if cmd == loader.LC_FUNCTION_VARIANTS then linkedit_data_table ∷ []
+    else (if cmd == loader.LC_FUNCTION_VARIANT_FIXUPS then linkedit_data_table ∷ [] else [])))
 
 -- a layout of the code is that of the structure
 pub record IsLayoutOf (s : Structure) (layout : Layout) : Type 0 where

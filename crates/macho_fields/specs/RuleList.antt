@@ -47,6 +47,9 @@ rank rule.HeaderSegment = 34
 rank rule.SegmentFileOverlap = 35
 rank rule.ElementOverlap = 36
 rank rule.StrayByte = 37
+rank rule.EncryptedRange = 38
+rank rule.CommandSlack = 39
+rank rule.UnclaimedByte = 40
 
 -- the number by which programs know a rule. It never changes: a rule that is added takes the next free
 -- one, wherever it stands
@@ -88,6 +91,9 @@ rule_number rule.HeaderSegment = 34
 rule_number rule.SegmentFileOverlap = 35
 rule_number rule.ElementOverlap = 36
 rule_number rule.StrayByte = 37
+rule_number rule.EncryptedRange = 38
+rule_number rule.CommandSlack = 39
+rule_number rule.UnclaimedByte = 40
 
 -- the profile that a rule belongs to
 abbrev pub profile_of : Rule → Profile
@@ -97,6 +103,9 @@ profile_of rule.HeaderSegment = Strict
 profile_of rule.SegmentFileOverlap = Strict
 profile_of rule.ElementOverlap = Strict
 profile_of rule.StrayByte = Strict
+profile_of rule.EncryptedRange = Strict
+profile_of rule.CommandSlack = Strict
+profile_of rule.UnclaimedByte = Strict
 profile_of other = Layout
 
 -- the name of a rule, as ASCII text
@@ -138,6 +147,9 @@ name_of rule.HeaderSegment = codes "header-segment"
 name_of rule.SegmentFileOverlap = codes "segment-file-overlap"
 name_of rule.ElementOverlap = codes "element-overlap"
 name_of rule.StrayByte = codes "stray-byte"
+name_of rule.EncryptedRange = codes "encrypted-range"
+name_of rule.CommandSlack = codes "command-slack"
+name_of rule.UnclaimedByte = codes "unclaimed-byte"
 
 -- the text of a break: the name of its rule, and its place in lower-case hexadecimal
 abbrev pub text_of : Break → List ℕ

@@ -13,6 +13,12 @@ use memchr::{memchr, memrchr};
 // The size in bytes of a word, by which bytes are searched.
 const WORD: usize = 8;
 
+// The size in bytes of half a block, which has four words.
+const HALF_BLOCK: usize = 32;
+
+// The size in bytes of a block of eight words.
+const BLOCK: usize = 64;
+
 /// The order of the bytes of a field.
 #[derive(Clone, Copy, Debug, PartialEq, Eq)]
 pub enum Order {
@@ -256,11 +262,45 @@ fn zeros_by_words(bytes: &[u8]) -> usize
     ensures zero { ¬ HasNonZero bytes.now 0 result }
     ensures all { result + WORD ≤ length bytes.now → HasNonZero bytes.now result (result + WORD) }
 {
-    let mut index = 0;
+    let mut index = zeros_by_blocks(bytes);
     while bytes.len() - index >= WORD && u64_from(Order::Little, &bytes[index..]) == 0 {
         index += WORD;
     }
     index
+}
+
+// How many bytes the first blocks take that are zero, up to the first block that is not.
+fn zeros_by_blocks(bytes: &[u8]) -> usize
+    ensures within { result ≤ length bytes.now }
+    ensures zero { ¬ HasNonZero bytes.now 0 result }
+{
+    let mut index = 0;
+    while bytes.len() - index >= BLOCK && block_from(&bytes[index..]) == 0 {
+        index += BLOCK;
+    }
+    index
+}
+
+// The eight words of the first block, joined by `or`: 0 if all its bytes are zero.
+fn block_from(bytes: &[u8]) -> u64
+    requires { BLOCK ≤ length bytes.now }
+    ensures { result ≡ 0 → ¬ HasNonZero bytes.now 0 BLOCK }
+{
+    let first = half_block_from(bytes);
+    let second = half_block_from(&bytes[HALF_BLOCK..]);
+    first | second
+}
+
+// The four words of the first half of a block, joined by `or`.
+fn half_block_from(bytes: &[u8]) -> u64
+    requires { HALF_BLOCK ≤ length bytes.now }
+    ensures { result ≡ 0 → ¬ HasNonZero bytes.now 0 HALF_BLOCK }
+{
+    let first = u64_from(Order::Little, bytes);
+    let second = u64_from(Order::Little, &bytes[WORD..]);
+    let third = u64_from(Order::Little, &bytes[2 * WORD..]);
+    let fourth = u64_from(Order::Little, &bytes[3 * WORD..]);
+    (first | second) | (third | fourth)
 }
 
 // The number in the first 2 bytes.

@@ -14,8 +14,8 @@ pub use bytes::{Bytes, Order};
 pub use file_type::{FileType, Kind, file_type_of};
 pub use first_place::FirstPlace;
 pub use load_command::{
-    LoadCommand, Records, Structure, TableFields, UNIQUE_COUNT, Width, names_library, structure_of,
-    unique_index,
+    Records, Structure, TableFields, UNIQUE_COUNT, Width, names_library, structure_of,
+    unique_index, unlisted_tables,
 };
-pub use macho_spans::{Insert, Sharing, Span, SpanList, SpanOrder, Spans, table_end};
+pub use macho_spans::{Insert, Sharing, Span, SpanList, SpanOrder, Spans, SpansByStart, table_end};
 pub use rule::{Break, Profile, Rule};

@@ -1,10 +1,10 @@
 //! The load commands that are judged: the structure of each, and what the structure has.
 //! (`mach-o/loader.h`)
 
-ghost use Rattle.std.specs.Prelude.{◌≡◌, ◌<◌, ◌==◌, find, IfSome};
-ghost use Rattle.std.specs.Option.{option_map};
-ghost use Rattle.macho_fields.specs.LoadCommands.{load_command_of, structure_of};
+ghost use Rattle.std.specs.Prelude.{◌≡◌, ◌<◌, All, IfSome};
+ghost use Rattle.macho_fields.specs.LoadCommands.{structure_of};
 ghost use Rattle.macho_fields.specs.LoadCommands.{names_library, unique_index};
+ghost use Rattle.macho_fields.specs.LoadCommands.{unlisted_tables, AreFieldsInside};
 
 use crate::bytes::{Bytes, Order};
 use crate::header::loader::build_version_command::NTOOLS;
@@ -22,9 +22,16 @@ use crate::header::loader::note_command::{OFFSET, SIZE_OFFSET};
 use crate::header::loader::segment_command_64::NSECTS;
 use crate::header::loader::symtab_command::{NSYMS, STROFF, STRSIZE, SYMOFF};
 use crate::header::loader::{
-    self, BUILD_TOOL_VERSION_SIZE, DYLIB_MODULE_64_SIZE, DYLIB_REFERENCE_SIZE,
-    DYLIB_TABLE_OF_CONTENTS_SIZE, INDIRECT_ENTRY_SIZE, LC_STR_OFFSET, SECTION_64_SIZE,
-    SEGMENT_COMMAND_64_SIZE,
+    BUILD_TOOL_VERSION_SIZE, DYLIB_MODULE_64_SIZE, DYLIB_REFERENCE_SIZE,
+    DYLIB_TABLE_OF_CONTENTS_SIZE, INDIRECT_ENTRY_SIZE, LC_ATOM_INFO, LC_BUILD_VERSION,
+    LC_CODE_SIGNATURE, LC_DATA_IN_CODE, LC_DYLD_CHAINED_FIXUPS, LC_DYLD_ENVIRONMENT,
+    LC_DYLD_EXPORTS_TRIE, LC_DYLD_INFO, LC_DYLD_INFO_ONLY, LC_DYLIB_CODE_SIGN_DRS, LC_DYSYMTAB,
+    LC_ENCRYPTION_INFO_64, LC_FUNCTION_STARTS, LC_FUNCTION_VARIANT_FIXUPS, LC_FUNCTION_VARIANTS,
+    LC_ID_DYLIB, LC_ID_DYLINKER, LC_LAZY_LOAD_DYLIB, LC_LINKER_OPTIMIZATION_HINT, LC_LOAD_DYLIB,
+    LC_LOAD_DYLINKER, LC_LOAD_UPWARD_DYLIB, LC_LOAD_WEAK_DYLIB, LC_MAIN, LC_NOTE,
+    LC_REEXPORT_DYLIB, LC_RPATH, LC_SEGMENT_64, LC_SEGMENT_SPLIT_INFO, LC_STR_OFFSET, LC_SYMTAB,
+    LC_TWOLEVEL_HINTS, LC_UUID, LINKEDIT_DATA_COMMAND_SIZE, SECTION_64_SIZE,
+    SEGMENT_COMMAND_64_SIZE, TWOLEVEL_HINT_SIZE, twolevel_hints_command,
 };
 use crate::header::nlist::NLIST_64_SIZE;
 use crate::header::reloc::RELOCATION_INFO_SIZE;
@@ -191,6 +198,14 @@ const ENCRYPTION_INFO_TABLES: &[TableFields] = &[table!(CRYPTOFF, CRYPTSIZE, Uin
 // The data, as bytes.
 const NOTE_TABLES: &[TableFields] = &[table!(OFFSET, SIZE_OFFSET, Uint64, 1)];
 
+// The hints.
+const HINT_TABLES: &[TableFields] = &[table!(
+    twolevel_hints_command::OFFSET,
+    twolevel_hints_command::NHINTS,
+    Uint32,
+    TWOLEVEL_HINT_SIZE
+)];
+
 // What a structure has.
 #[derive(Clone, Copy)]
 struct Layout {
@@ -258,7 +273,9 @@ impl Structure {
                 layout!(SEGMENT_COMMAND_64_SIZE, records NSECTS, SECTION_64_SIZE)
             }
             Structure::UuidCommand => layout!(24),
-            Structure::LinkeditDataCommand => layout!(16, tables LINKEDIT_DATA_TABLES),
+            Structure::LinkeditDataCommand => {
+                layout!(LINKEDIT_DATA_COMMAND_SIZE, tables LINKEDIT_DATA_TABLES)
+            }
             Structure::DyldInfoCommand => layout!(48, tables DYLD_INFO_TABLES),
             Structure::EncryptionInfoCommand64 => layout!(24, tables ENCRYPTION_INFO_TABLES),
             Structure::NoteCommand => layout!(40, tables NOTE_TABLES),
@@ -301,86 +318,56 @@ impl Structure {
     }
 }
 
-/// A load command that is judged.
-#[derive(Clone, Copy, Debug, PartialEq, Eq)]
-pub struct LoadCommand {
-    /// Its `cmd`.
-    pub cmd: u32,
-    /// Its structure.
-    pub structure: Structure,
-}
-
-// A load command, by the name of its `cmd` and its structure.
-macro_rules! command {
-    ($cmd:ident, $structure:ident) => {
-        LoadCommand {
-            cmd: loader::$cmd,
-            structure: Structure::$structure,
-        }
-    };
-}
-
 /// How many load commands there are of which an image has at most one.
 pub const UNIQUE_COUNT: usize = 5;
-
-// The load commands of which an image has at most one, in the order of their numbers.
-const UNIQUE_COMMANDS: [LoadCommand; UNIQUE_COUNT] = [
-    command!(LC_SYMTAB, SymtabCommand),
-    command!(LC_DYSYMTAB, DysymtabCommand),
-    command!(LC_ID_DYLIB, DylibCommand),
-    command!(LC_UUID, UuidCommand),
-    command!(LC_MAIN, EntryPointCommand),
-];
-
-// The load commands of which an image has any number, in the order of their numbers.
-const REPEATABLE_COMMANDS: &[LoadCommand] = &[
-    command!(LC_LOAD_DYLIB, DylibCommand),
-    command!(LC_LOAD_DYLINKER, DylinkerCommand),
-    command!(LC_ID_DYLINKER, DylinkerCommand),
-    command!(LC_SEGMENT_64, SegmentCommand64),
-    command!(LC_CODE_SIGNATURE, LinkeditDataCommand),
-    command!(LC_SEGMENT_SPLIT_INFO, LinkeditDataCommand),
-    command!(LC_LAZY_LOAD_DYLIB, DylibCommand),
-    command!(LC_DYLD_INFO, DyldInfoCommand),
-    command!(LC_FUNCTION_STARTS, LinkeditDataCommand),
-    command!(LC_DYLD_ENVIRONMENT, DylinkerCommand),
-    command!(LC_DATA_IN_CODE, LinkeditDataCommand),
-    command!(LC_DYLIB_CODE_SIGN_DRS, LinkeditDataCommand),
-    command!(LC_ENCRYPTION_INFO_64, EncryptionInfoCommand64),
-    command!(LC_LINKER_OPTIMIZATION_HINT, LinkeditDataCommand),
-    command!(LC_NOTE, NoteCommand),
-    command!(LC_BUILD_VERSION, BuildVersionCommand),
-    command!(LC_LOAD_WEAK_DYLIB, DylibCommand),
-    command!(LC_RPATH, RpathCommand),
-    command!(LC_REEXPORT_DYLIB, DylibCommand),
-    command!(LC_DYLD_INFO_ONLY, DyldInfoCommand),
-    command!(LC_LOAD_UPWARD_DYLIB, DylibCommand),
-    command!(LC_DYLD_EXPORTS_TRIE, LinkeditDataCommand),
-    command!(LC_DYLD_CHAINED_FIXUPS, LinkeditDataCommand),
-];
-
-/// What the lists say of a command with this `cmd`, or `None` where it is not judged.
-pub fn load_command_of(cmd: u32) -> Option<LoadCommand>
-    ensures { result ≡ load_command_of cmd }
-{
-    first_of(cmd, &UNIQUE_COMMANDS)
-        .or_else(|| first_of(cmd, REPEATABLE_COMMANDS))
-        .copied()
-}
-
-// The first of the commands with this `cmd`.
-fn first_of(cmd: u32, commands: &[LoadCommand]) -> Option<&LoadCommand>
-    ensures { option_map (λ found. found.now) result
-        ≡ find (λ command. command.cmd == cmd) commands.now }
-{
-    commands.iter().find(|command| command.cmd == cmd)
-}
 
 /// The structure of a command with this `cmd`, or `None` where it is not judged.
 pub fn structure_of(cmd: u32) -> Option<Structure>
     ensures { result ≡ structure_of cmd }
 {
-    load_command_of(cmd).map(|command| command.structure)
+    match cmd {
+        LC_SYMTAB => Some(Structure::SymtabCommand),
+        LC_DYSYMTAB => Some(Structure::DysymtabCommand),
+        LC_LOAD_DYLIB
+        | LC_ID_DYLIB
+        | LC_LAZY_LOAD_DYLIB
+        | LC_LOAD_WEAK_DYLIB
+        | LC_REEXPORT_DYLIB
+        | LC_LOAD_UPWARD_DYLIB => Some(Structure::DylibCommand),
+        LC_LOAD_DYLINKER | LC_ID_DYLINKER | LC_DYLD_ENVIRONMENT => {
+            Some(Structure::DylinkerCommand)
+        }
+        LC_RPATH => Some(Structure::RpathCommand),
+        LC_SEGMENT_64 => Some(Structure::SegmentCommand64),
+        LC_UUID => Some(Structure::UuidCommand),
+        LC_CODE_SIGNATURE
+        | LC_SEGMENT_SPLIT_INFO
+        | LC_FUNCTION_STARTS
+        | LC_DATA_IN_CODE
+        | LC_DYLIB_CODE_SIGN_DRS
+        | LC_LINKER_OPTIMIZATION_HINT
+        | LC_DYLD_EXPORTS_TRIE
+        | LC_DYLD_CHAINED_FIXUPS => Some(Structure::LinkeditDataCommand),
+        LC_DYLD_INFO | LC_DYLD_INFO_ONLY => Some(Structure::DyldInfoCommand),
+        LC_ENCRYPTION_INFO_64 => Some(Structure::EncryptionInfoCommand64),
+        LC_NOTE => Some(Structure::NoteCommand),
+        LC_BUILD_VERSION => Some(Structure::BuildVersionCommand),
+        LC_MAIN => Some(Structure::EntryPointCommand),
+        _ => None,
+    }
+}
+
+/// The tables of a command with this `cmd` that is not judged, if `loader.h` gives it any. The fields
+/// that bound them lie in the first `LINKEDIT_DATA_COMMAND_SIZE` bytes of the command, if it has so many.
+pub fn unlisted_tables(cmd: u32) -> &'static [TableFields]
+    ensures tables { result.now ≡ unlisted_tables cmd }
+    ensures inside { All (AreFieldsInside LINKEDIT_DATA_COMMAND_SIZE) result.now }
+{
+    match cmd {
+        LC_TWOLEVEL_HINTS => HINT_TABLES,
+        LC_ATOM_INFO | LC_FUNCTION_VARIANTS | LC_FUNCTION_VARIANT_FIXUPS => LINKEDIT_DATA_TABLES,
+        _ => &[],
+    }
 }
 
 /// Where a command with this `cmd` stands among those of which an image has at most one, from 0 on, or
@@ -389,9 +376,14 @@ pub fn unique_index(cmd: u32) -> Option<usize>
     ensures index { result ≡ unique_index cmd }
     ensures inside { IfSome result (λ index. index < UNIQUE_COUNT) }
 {
-    UNIQUE_COMMANDS
-        .iter()
-        .position(|command| command.cmd == cmd)
+    match cmd {
+        LC_SYMTAB => Some(0),
+        LC_DYSYMTAB => Some(1),
+        LC_ID_DYLIB => Some(2),
+        LC_UUID => Some(3),
+        LC_MAIN => Some(4),
+        _ => None,
+    }
 }
 
 /// Whether a command with this `cmd` names a library.

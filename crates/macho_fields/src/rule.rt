@@ -99,6 +99,13 @@ pub enum Rule {
     ElementOverlap = 36,
     /// A byte of an image that is not zero lies in no segment.
     StrayByte = 37,
+    /// What is encrypted is not bytes of one segment, past the header and the load commands.
+    EncryptedRange = 38,
+    /// A byte of a load command that is not zero lies past its fields, its records and its name.
+    CommandSlack = 39,
+    /// A byte of a segment that is neither zero nor padding of code lies in no part that a structure
+    /// describes.
+    UnclaimedByte = 40,
 }
 
 // The name of a rule with what comes after it, so that one list serves every reader of names.
@@ -142,6 +149,9 @@ macro_rules! name_before {
             Rule::SegmentFileOverlap => concat!("segment-file-overlap", $end),
             Rule::ElementOverlap => concat!("element-overlap", $end),
             Rule::StrayByte => concat!("stray-byte", $end),
+            Rule::EncryptedRange => concat!("encrypted-range", $end),
+            Rule::CommandSlack => concat!("command-slack", $end),
+            Rule::UnclaimedByte => concat!("unclaimed-byte", $end),
         }
     };
 }
@@ -186,6 +196,9 @@ impl Rule {
         Rule::SegmentFileOverlap,
         Rule::ElementOverlap,
         Rule::StrayByte,
+        Rule::EncryptedRange,
+        Rule::CommandSlack,
+        Rule::UnclaimedByte,
     ];
 
     /// The name of the rule in reports, in lower case.
@@ -237,7 +250,10 @@ impl Rule {
             | Rule::HeaderSegment
             | Rule::SegmentFileOverlap
             | Rule::ElementOverlap
-            | Rule::StrayByte => Profile::Strict,
+            | Rule::StrayByte
+            | Rule::EncryptedRange
+            | Rule::CommandSlack
+            | Rule::UnclaimedByte => Profile::Strict,
             _ => Profile::Layout,
         }
     }

@@ -12,7 +12,7 @@ use Rattle.std.proofs.lemmas.List.Sums.{fails_before_first}
 use Rattle.macho_fields.specs.Image.{command_cmd}
 use Rattle.macho_fields.specs.LoadCommands.{structure_of, unique_commands, unique_cmds, unique_index, IsUnique}
 use Rattle.macho_fields.specs.declared.header.loader.TheConstants as loader
-use Rattle.macho_fields.specs.declared.load_command.LoadCommand.{LoadCommand}
+use Rattle.macho_fields.specs.LoadCommands.{LoadCommand}
 use Rattle.macho_fields.specs.declared.load_command.Structure.TheVariants.{SymtabCommand}
 use Rattle.macho_fields.proofs.Lists.{none_by_test, none_in_nil, contains_first, contains_later}
 use Rattle.macho_image.specs.Command.{first_with_cmd}

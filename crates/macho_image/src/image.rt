@@ -93,7 +93,9 @@ impl<'a> Image<'a> {
     pub fn bytes(&self) -> Bytes<'a>
         ensures bytes { bytes_of result ≡ self.now }
         ensures opened { IsOpened self.now }
+        ensures fits { length self.now < 2 ^ 64 }
     {
+        prove!(self.bytes.len() <= u64::MAX);
         self.bytes
     }
 

@@ -195,7 +195,7 @@ impl<'a> Iterator for Segments<'a> {
 }
 
 impl<'a> Image<'a> {
-    ghost use Rattle.std.specs.Prelude.{◌≡◌, map};
+    ghost use Rattle.std.specs.Prelude.{◌≡◌, ◌<◌, ◌^◌, length, map};
     ghost use Rattle.macho_fields.specs.Segment.{segments_of, section_count};
     ghost use Rattle.macho_fields.specs.Image.{commands_of};
     ghost use Rattle.macho_image.specs.Opened.{IsOpened};
@@ -206,6 +206,7 @@ impl<'a> Image<'a> {
         ensures segments { result ≡ map (segment_at self.now)
             (segments_of self.now (commands_of self.now)) }
         ensures opened { IsOpened self.now }
+        ensures fits { length self.now < 2 ^ 64 }
     {
         Segments {
             image: self.bytes(),
@@ -218,7 +219,6 @@ impl<'a> Image<'a> {
         ensures { result ≡ section_count self.now (commands_of self.now) }
     {
         // The sections lie inside the image, so their number is below 2^64.
-        prove!(self.bytes().len() <= u64::MAX);
         let mut count = 0;
         for segment in self.segments() {
             count += segment.nsects();

@@ -50,8 +50,6 @@ impl<'a> Survey<'a> {
         ensures { result ≡ image.now }
     {
         let bytes = image.bytes();
-        // The sections lie inside the image, so their number is below 2^64.
-        prove!(bytes.len() <= u64::MAX);
         let mut segments = SegmentBreaks::none();
         let mut sections = SectionBreaks::none();
         let mut mapped = Mapped::none();

@@ -1,6 +1,6 @@
 //! The verdict on a file.
 
-ghost use Rattle.std.specs.Prelude.{◌≡◌, ◌+◌, ◌≤◌, ◌↔◌, OnOk, IfOk, IfErr, IfSome, IsSome, IsSomeAnd, IsTrue, length, slice_get, None};
+ghost use Rattle.std.specs.Prelude.{◌≡◌, ◌+◌, ◌≤◌, ◌<◌, ◌^◌, ◌↔◌, OnOk, IfOk, IfErr, IfSome, IsSome, IsSomeAnd, IsTrue, length, slice_get, None};
 ghost use Rattle.std.specs.Option.{option_map};
 ghost use Rattle.macho_fields.specs.Bytes.{bytes_of};
 ghost use Rattle.macho_fields.specs.First.{IsUnbroken};
@@ -109,7 +109,9 @@ impl<'a> Verified<'a> {
         ensures bytes { bytes_of result ≡ self.now }
         ensures unbroken { IsUnbroken self.now }
         ensures sound { IsSound self.now }
+        ensures fits { length self.now < 2 ^ 64 }
     {
+        prove!(self.file.len() <= u64::MAX);
         self.file
     }
 

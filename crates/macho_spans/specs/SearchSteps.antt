@@ -1,5 +1,5 @@
 -- What only the contracts of private functions and proofs need.
-use Rattle.std.specs.Prelude.{◌≡◌, ℕ, ◌≤◌, ◌<◌, List, length, slice_index_or}
+use Rattle.std.specs.Prelude.{◌≡◌, ℕ, ◌≤◌, ◌<◌, List, length, map, slice_index_or, IsPermutation}
 use Rattle.macho_spans.specs.Span.{end_of, Shares}
 use Rattle.macho_spans.specs.declared.span.Span.{Span}
 use Rattle.macho_spans.specs.declared.overlap.Numbered.{Numbered}
@@ -19,6 +19,16 @@ item_at items p =
 -- each item has its own place as its index
 abbrev pub AreNumbered : List Numbered → Type 0
 AreNumbered items = (p : ℕ) → p < length items → (item_at items p).index ≡ p
+
+-- the items are those of a list that has these spans, in which each had its own place as its index
+abbrev pub WereAdded : List Span → List Numbered → Type 0
+WereAdded spans items =
+    (added : List Numbered) × (map (λ item. item.span) added ≡ spans) × AreNumbered added
+    × IsPermutation added items
+
+-- the spans of the items
+abbrev pub sorted_spans : List Numbered → List Span
+sorted_spans items = map (λ item. item.span) items
 
 -- two of the first high items share a place, and their indices are below count
 abbrev pub PairBelow : List Numbered → ℕ → ℕ → Type 0

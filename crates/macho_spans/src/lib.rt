@@ -7,7 +7,7 @@ pub mod span;
 pub mod span_order;
 pub mod spans;
 
-pub use overlap::SpanList;
+pub use overlap::{SpanList, SpansByStart};
 pub use span::{Span, table_end};
 pub use span_order::{Sharing, SpanOrder};
 pub use spans::{Insert, Spans};

@@ -39,8 +39,10 @@ impl Model for SpanList {
 
 impl SpanList {
     ghost use Rattle.std.specs.Prelude.{◌≡◌, ◌+◌, ◌<◌, ◌≤◌, [], ◌∷◌, ◌++◌, ℕ, max, length};
-    ghost use Rattle.std.specs.Prelude.{IfOk, OnOk, OnErr, MatchOption};
+    ghost use Rattle.std.specs.Prelude.{IfOk, OnOk, OnErr, MatchOption, IsPermutation};
+    ghost use Rattle.std.specs.List.Sorted.{IsNonDecreasingBy};
     ghost use Rattle.macho_spans.specs.Overlap.{SharesEarlier, IsLeastSharing};
+    ghost use Rattle.macho_spans.specs.SearchSteps.{WereAdded, sorted_spans};
 
     /// No spans. The capacity is exactly `count`. It allocates nothing if `count` is 0.
     pub fn with_capacity(alloc: Global, count: usize) -> Result<SpanList, AllocError>
@@ -82,10 +84,77 @@ impl SpanList {
         ensures { MatchOption result ((j : ℕ) → ¬ SharesEarlier self.spans j)
             (IsLeastSharing self.spans) }
     {
+        self.sorted().least_overlap()
+    }
+
+    /// The spans, sorted by their starts. It takes no memory.
+    pub fn sorted(self) -> SpansByStart
+        ensures added { WereAdded self.spans result }
+        ensures permutation { IsPermutation self.spans (sorted_spans result) }
+        ensures rising { IsNonDecreasingBy (λ span. span.start) (sorted_spans result) }
+    {
         let mut items = self.items;
         items.sort_unstable_by_key(|item| item.span.start);
-        if shares_below(&items, items.len() as u64) {
-            Some(least_sharing(&items))
+        SpansByStart { items }
+    }
+}
+
+/// The spans of a list, sorted by their starts. The list in which they were added is that of the
+/// [`SpanList`].
+#[derive(Drop)]
+pub struct SpansByStart {
+    items: Vec<Numbered>,
+}
+
+impl Model for SpansByStart {
+    ghost use Rattle.std.specs.Prelude.{List};
+    ghost use Rattle.std.specs.List.Sorted.{IsNonDecreasingBy};
+    ghost use Rattle.macho_spans.specs.declared.overlap.Numbered.{Numbered};
+
+    ghost Value = { List Numbered };
+
+    ghost view = { λ sorted. sorted.items.items };
+
+    ghost invariant = { λ sorted.
+        IsNonDecreasingBy (λ item. item.span.start) sorted.items.items };
+}
+
+impl SpansByStart {
+    ghost use Rattle.std.specs.Prelude.{◌≡◌, ◌<◌, ◌↔◌, [], ℕ, List, length, IsTrue, MatchOption};
+    ghost use Rattle.macho_spans.specs.Overlap.{SharesEarlier, IsLeastSharing, span_at};
+    ghost use Rattle.macho_spans.specs.SearchSteps.{WereAdded, sorted_spans};
+    ghost use Rattle.macho_spans.specs.declared.span.Span.{Span};
+
+    /// How many spans there are.
+    pub fn len(&self) -> usize
+        ensures { result ≡ length (sorted_spans self.now) }
+    {
+        self.items.len()
+    }
+
+    /// Whether there are none.
+    pub fn is_empty(&self) -> bool
+        ensures { IsTrue result ↔ (sorted_spans self.now ≡ []) }
+    {
+        self.items.is_empty()
+    }
+
+    /// The span with this index, by ascending starts.
+    pub fn span(&self, index: usize) -> Span
+        requires { index < length (sorted_spans self.now) }
+        ensures { result ≡ span_at (sorted_spans self.now) index }
+    {
+        self.items[index].span
+    }
+
+    /// The index in the list of the first span that shares a place with an earlier one, or `None` if
+    /// no two spans share a place. It compares neighbours.
+    pub fn least_overlap(&self) -> Option<u64>
+        ensures { (spans : List Span) → WereAdded spans self.now
+            → MatchOption result ((j : ℕ) → ¬ SharesEarlier spans j) (IsLeastSharing spans) }
+    {
+        if shares_below(&self.items, self.items.len() as u64) {
+            Some(least_sharing(&self.items))
         } else {
             None
         }

@@ -5,7 +5,8 @@ use Rattle.std.proofs.lemmas.Bool.{cases_Bool}
 use Rattle.std.proofs.lemmas.List.Elements.{Contains-append_cases}
 use Rattle.macho_fields.specs.Image.{command_cmd, command_size, commands_of, Follow}
 use Rattle.macho_fields.specs.Segment.{sections_in, nsects}
-use Rattle.macho_fields.specs.Symbol.{tables_of}
+use Rattle.macho_fields.specs.Symbol.{table_at}
+use Rattle.macho_fields.specs.declared.load_command.TableFields.{TableFields}
 use Rattle.macho_fields.specs.declared.header.loader.TheConstants as loader
 use Rattle.macho_fields.proofs.Lists.{none_in_nil, contains_first, contains_later, first_or_later}
 use Rattle.macho_image.specs.Opened.{IsOpened}
@@ -13,7 +14,7 @@ use Rattle.macho_image.proofs.OpenedWalk.{opened_commands}
 use Rattle.macho_rules.proofs.Mapped.{filtered}
 use Rattle.macho_rules.proofs.Searches.{numbers_rise, ordered_append, Rising}
 use Rattle.macho_rules.proofs.SectionItems.{after_segment, section_before}
-use Rattle.macho_strict.specs.Elements.{contents, relocations, section_elements, table_element, command_elements, elements_of}
+use Rattle.macho_strict.specs.Elements.{contents, relocations, section_elements, table_element, described_tables, command_elements, elements_of}
 use Rattle.macho_strict.specs.declared.elements.Element.{Element}
 
 abbrev pub place_of : Element → ℕ
@@ -50,20 +51,26 @@ module _ (image : List ℕ) where
 
   -- Tables
 
-  of_table : (command : ℕ) (tables : List (ℕ × ℕ × ℕ)) (e : Element) → Contains (map (table_element command) tables) e → command ≡ e.described
-  of_table command [] e has = absurd (none_in_nil e has)
-  of_table command (t ∷ ts) e has = elim (first_or_later (table_element command t) e (map (table_element command) ts) has) [ inl same ↦ ap place_of same | inr later ↦ of_table command ts e later ]
+  abbrev table_of : ℕ → TableFields → Element
+  table_of command fields = table_element command (table_at image command fields)
 
-  tables_rise : (command : ℕ) (tables : List (ℕ × ℕ × ℕ)) → Rising place_of (map (table_element command) tables)
+  of_table : (command : ℕ) (tables : List TableFields) (e : Element) → Contains (map (table_of command) tables) e → command ≡ e.described
+  of_table command [] e has = absurd (none_in_nil e has)
+  of_table command (t ∷ ts) e has = elim (first_or_later (table_of command t) e (map (table_of command) ts) has) [ inl same ↦ ap place_of same | inr later ↦ of_table command ts e later ]
+
+  tables_rise : (command : ℕ) (tables : List TableFields) → Rising place_of (map (table_of command) tables)
   tables_rise command [] = tt
   tables_rise command (t ∷ ts) = ((λ e has. let same = of_table command ts e has in omega arith), tables_rise command ts)
+
+  abbrev tables_here : ℕ → List TableFields
+  tables_here command = described_tables (command_cmd image command) (command_size image command)
 
   -- Commands
 
   command_rises : (command : ℕ) → Rising place_of (command_elements image command)
   command_rises command = elim (cases_Bool (command_cmd image command == loader.LC_SEGMENT_64)) [
     | inl t ↦ rw t (sections_rise (sections_in image command) (numbers_rise (λ k. command + 72 + 80 * k) (λ i k less. omega arith) 0 (nsects image command)))
-    | inr f ↦ elim (cases_Bool (command_cmd image command == loader.LC_ENCRYPTION_INFO_64)) [ inl t ↦ rw (f, t) tt | inr other ↦ rw (f, other) (tables_rise command (tables_of image command)) ]
+    | inr f ↦ rw f (tables_rise command (tables_here command))
   ]
 
   module _ (opened : IsOpened image) where
@@ -73,10 +80,7 @@ module _ (image : List ℕ) where
         after_segment image command e.described among,
         section_before image opened command (command + command_size image command) e.described (filtered (λ c. command_cmd image c == loader.LC_SEGMENT_64) (commands_of image) command listed t) (le_refl (command + command_size image command)) among,
       ))
-      | inr f ↦ elim (cases_Bool (command_cmd image command == loader.LC_ENCRYPTION_INFO_64)) [
-        | inl t ↦ rw (f, t) (λ e has. absurd (none_in_nil e has))
-        | inr other ↦ rw (f, other) (λ e has. let same = of_table command (tables_of image command) e has in (omega arith, omega arith))
-      ]
+      | inr f ↦ rw f (λ e has. let same = of_table command (tables_here command) e has in (omega arith, omega arith))
     ]
 
     -- the elements of some commands are described from a place on, in order

@@ -1,29 +1,29 @@
 -- A walk over the elements of an image, step by step.
-use Rattle.std.proofs.Common.{◌≡◌, ℕ, ◌-◌, ◌*◌, ◌^◌, ◌≤◌, ◌<◌, ◌==◌, List, [], ◌∷◌, ◌++◌, map, filter, Bool, true, false, All, Contains, Option, Some, None, Fits, w64, refl, sym, ap, ap₂, ◌∙◌, subst, arith, inl, inr}
-use Rattle.std.specs.Prelude.{nat_lt, flat_map}
+use Rattle.std.proofs.Common.{◌≡◌, ℕ, ◌-◌, ◌*◌, ◌^◌, ◌≤◌, ◌<◌, ◌==◌, List, [], ◌∷◌, ◌++◌, map, filter, Bool, true, false, All, Contains, get_or, Option, Some, None, Fits, w64, refl, sym, ap, ap₂, ◌∙◌, subst, arith, inl, inr}
+use Rattle.std.specs.Prelude.{nat_lt, flat_map, if◌then◌else◌}
 use Rattle.std.specs.List.{list_all}
 use Rattle.std.specs.Option.{option_map_or}
 use Rattle.std.proofs.Math.Nat.{mul-le-mul_right}
-use Rattle.std.proofs.lemmas.Bool.{cases_Bool, ltb-true, eqb-true, eq-eqb, ne_eqb}
+use Rattle.std.proofs.lemmas.Bool.{cases_Bool, ltb-true, ltb-false, eqb-true, eq-eqb, ne_eqb}
 use Rattle.std.proofs.lemmas.List.{append-nil}
 use Rattle.std.proofs.lemmas.List.Elements.{All-nil, All-map, All-tail, All-contains_itself}
 use Rattle.std.proofs.lemmas.List.Folds.{flat_map-map}
 use Rattle.std.proofs.lemmas.List.Sums.{AllPass-from_list_all}
-use Rattle.macho_fields.specs.Image.{command_cmd, commands_of}
-use Rattle.macho_fields.specs.LoadCommands.{structure_of, width_size, table_fields}
+use Rattle.macho_fields.specs.Image.{command_cmd, command_size, commands_of}
+use Rattle.macho_fields.specs.LoadCommands.{structure_of, width_size, table_fields, unlisted_tables}
 use Rattle.macho_fields.specs.Segment.{sections_in}
-use Rattle.macho_fields.specs.Symbol.{table_at}
 use Rattle.macho_fields.specs.declared.header.loader.TheConstants as loader
 use Rattle.macho_fields.specs.declared.load_command.Structure.{Structure}
 use Rattle.macho_fields.specs.declared.load_command.Structure.TheVariants as structure
 use Rattle.macho_fields.specs.declared.load_command.TableFields.{TableFields}
-use Rattle.macho_fields.proofs.Opened.{table_fields_inside}
+use Rattle.macho_fields.proofs.LoadCommands.{unlisted_each, unlisted_inside}
+use Rattle.macho_fields.proofs.Opened.{command_inside, table_fields_inside}
 use Rattle.macho_image.specs.Command.{CommandView, command_at}
 use Rattle.macho_image.specs.Opened.{IsOpened}
 use Rattle.macho_image.specs.Segment.{SegmentView, SectionView, segment_at, section_at, sections_with, segments_left}
 use Rattle.macho_rules.proofs.Judged.{opened_facts, opened_commands}
-use Rattle.macho_strict.specs.Elements.{headers, section_elements, table_element, command_elements, elements_of}
-use Rattle.macho_strict.specs.ElementWalk.{described_tables, tables_left, sections_left, commands_left, all_of, HoldsTable, CanDescribe}
+use Rattle.macho_strict.specs.Elements.{headers, section_elements, described_tables, command_elements, elements_of}
+use Rattle.macho_strict.specs.ElementWalk.{tables_left, sections_left, commands_left, all_of, HoldsTable, CanDescribe}
 use Rattle.macho_strict.specs.declared.elements.Element.{Element}
 
 -- Tables
@@ -41,6 +41,10 @@ unfolding is_near
 all_near structure.SymtabCommand = refl
 all_near other = refl
 
+unlisted_near : (cmd : ℕ) → list_all is_near (unlisted_tables cmd) ≡ true
+unfolding is_near
+unlisted_near cmd = unlisted_each (λ tables. list_all is_near tables ≡ true) refl refl refl cmd
+
 module _ (image : List ℕ) (opened : IsOpened image) (command : ℕ) (listed : Contains (commands_of image) command) where
   of_structure : (o : Option Structure) → structure_of (command_cmd image command) ≡ o → All (HoldsTable image command) (option_map_or table_fields o [])
   unfolding is_near
@@ -49,10 +53,27 @@ module _ (image : List ℕ) (opened : IsOpened image) (command : ℕ) (listed : 
       let (place, count) = table_fields_inside image (commands_of image) (opened_facts image opened) (opened_commands image opened) command s listed is k d less in
       record { place = place; count = count; near = ltb-true _ _ (AllPass-from_list_all is_near (table_fields s) (all_near s) k d less) }
 
-  pub tables_hold : (cmd : ℕ) → cmd ≡ command_cmd image command → All (HoldsTable image command) (described_tables cmd)
-  tables_hold cmd is = elim (cases_Bool (cmd == loader.LC_ENCRYPTION_INFO_64)) [
+  -- of a command that is not judged its table, if the command is long enough
+  unlisted_hold : (cmd : ℕ) → loader.LINKEDIT_DATA_COMMAND_SIZE ≤ command_size image command → All (HoldsTable image command) (unlisted_tables cmd)
+  unfolding is_near
+  unlisted_hold cmd long = λ k d less.
+      let inside = command_inside image (commands_of image) (opened_facts image opened) (opened_commands image opened) command listed in
+      let fields = get_or (unlisted_tables cmd) k d in
+      let (place, count) = unlisted_inside cmd k d less in
+      record { place = omega arith; count = omega arith; near = ltb-true _ _ (AllPass-from_list_all is_near (unlisted_tables cmd) (unlisted_near cmd) k d less) }
+
+  of_tables : (cmd size : ℕ) (o : Option Structure) → structure_of (command_cmd image command) ≡ o → size ≡ command_size image command
+      → All (HoldsTable image command) (option_map_or table_fields o (if nat_lt size loader.LINKEDIT_DATA_COMMAND_SIZE then [] else unlisted_tables cmd))
+  of_tables cmd size None is same = elim (cases_Bool (nat_lt size loader.LINKEDIT_DATA_COMMAND_SIZE)) [
     | inl t ↦ rw t (All-nil (HoldsTable image command))
-    | inr f ↦ rw f (of_structure (structure_of cmd) (ap structure_of (sym is)))
+    | inr f ↦ rw f (unlisted_hold cmd (let long = ltb-false size loader.LINKEDIT_DATA_COMMAND_SIZE f in omega (arith, long, same)))
+  ]
+  of_tables cmd size (Some s) is same = of_structure (Some s) is
+
+  pub tables_hold : (cmd size : ℕ) → cmd ≡ command_cmd image command → size ≡ command_size image command → All (HoldsTable image command) (described_tables cmd size)
+  tables_hold cmd size is same = elim (cases_Bool (cmd == loader.LC_ENCRYPTION_INFO_64)) [
+    | inl t ↦ rw t (All-nil (HoldsTable image command))
+    | inr f ↦ rw f (of_tables cmd size (structure_of cmd) (ap structure_of (sym is)) same)
   ]
 
 -- Sections
@@ -64,30 +85,20 @@ sections_same image segment =
 
 -- Commands
 
-tables_same : (image : List ℕ) (command : ℕ) (o : Option Structure)
-    → tables_left image command (option_map_or table_fields o []) ≡ map (table_element command) (option_map_or (λ s. map (table_at image command) (table_fields s)) o [])
-tables_same image command None = refl
-tables_same image command (Some s) = each (table_fields s)
-  where
-    each : (all : List TableFields) → map (λ fields. table_element command (table_at image command fields)) all ≡ map (table_element command) (map (table_at image command) all)
-    each [] = refl
-    each (fields ∷ rest) = ap (λ more. table_element command (table_at image command fields) ∷ more) (each rest)
-
 -- what a command describes that is no segment
 pub other_elements : (image : List ℕ) (command : ℕ) → (command_cmd image command == loader.LC_SEGMENT_64) ≡ false
-    → command_elements image command ≡ tables_left image command (described_tables (command_cmd image command))
-other_elements image command not_segment = elim (cases_Bool (command_cmd image command == loader.LC_ENCRYPTION_INFO_64)) [
-  | inl t ↦ rw (not_segment, t) refl
-  | inr f ↦ rw (not_segment, f) (sym (tables_same image command (structure_of (command_cmd image command))))
-]
+    → command_elements image command ≡ tables_left image command (described_tables (command_cmd image command) (command_size image command))
+other_elements image command not_segment = rw not_segment refl
 
 -- what a segment describes
 pub segment_elements : (image : List ℕ) (command : ℕ) → (command_cmd image command == loader.LC_SEGMENT_64) ≡ true
-    → command_elements image command ≡ sections_left (map (section_at image) (sections_with image command)) ++ tables_left image command (described_tables (command_cmd image command))
+    → command_elements image command
+    ≡ sections_left (map (section_at image) (sections_with image command)) ++ tables_left image command (described_tables (command_cmd image command) (command_size image command))
 segment_elements image command is =
     rw is
     (sym (sections_same image command) ∙ (sym (append-nil (sections_left (map (section_at image) (sections_with image command))))
-    ∙ ap (λ cmd. sections_left (map (section_at image) (sections_with image command)) ++ tables_left image command (described_tables cmd)) (sym (eqb-true (command_cmd image command) loader.LC_SEGMENT_64 is))))
+    ∙ ap (λ cmd. sections_left (map (section_at image) (sections_with image command)) ++ tables_left image command (described_tables cmd (command_size image command)))
+    (sym (eqb-true (command_cmd image command) loader.LC_SEGMENT_64 is))))
 
 module _ (image : List ℕ) (all rest : List CommandView) (c : CommandView) (next : all ≡ c ∷ rest) (segments : List SegmentView) (can : CanDescribe image all segments) where
   here : Contains (commands_of image) c.place × (c ≡ command_at image c.place)
@@ -98,6 +109,9 @@ module _ (image : List ℕ) (all rest : List CommandView) (c : CommandView) (nex
 
   pub has_cmd : c.cmd ≡ command_cmd image c.place
   has_cmd = ap (λ (v : CommandView). v.cmd) here.1
+
+  pub has_size : c.size ≡ command_size image c.place
+  has_size = ap (λ (v : CommandView). v.size) here.1
 
   later : All (λ (v : CommandView). Contains (commands_of image) v.place × (v ≡ command_at image v.place)) rest
   later = All-tail (λ (v : CommandView). Contains (commands_of image) v.place × (v ≡ command_at image v.place)) c rest (subst (All (λ v. Contains (commands_of image) v.place × (v ≡ command_at image v.place))) next can.listed)
@@ -117,11 +131,12 @@ module _ (image : List ℕ) (all rest : List CommandView) (c : CommandView) (nex
       among = can.among ∙ (ap (segments_left image) next ∙ rw not_segment refl);
     }
 
-    pub other_described : (tables : List TableFields) → tables ≡ described_tables c.cmd → commands_left image all ≡ tables_left image c.place tables ∷ commands_left image rest
+    pub other_described : (tables : List TableFields) → tables ≡ described_tables c.cmd c.size → commands_left image all ≡ tables_left image c.place tables ∷ commands_left image rest
     other_described tables are =
         at_first
         ∙ ap (λ list. list ∷ commands_left image rest)
-        (other_elements image c.place (subst (λ cmd. (cmd == loader.LC_SEGMENT_64) ≡ false) has_cmd not_segment) ∙ ap (tables_left image c.place) (ap described_tables (sym has_cmd) ∙ sym are))
+        (other_elements image c.place (subst (λ cmd. (cmd == loader.LC_SEGMENT_64) ≡ false) has_cmd not_segment)
+        ∙ ap (tables_left image c.place) (ap₂ described_tables (sym has_cmd) (sym has_size) ∙ sym are))
 
   -- it is a segment
   module _ (is : c.cmd ≡ loader.LC_SEGMENT_64) where
@@ -142,14 +157,14 @@ module _ (image : List ℕ) (all rest : List CommandView) (c : CommandView) (nex
         among = let both = sym first ∙ left_here in cc;
       }
 
-      pub segment_described : (sections : List SectionView) (tables : List TableFields) → sections ≡ map (section_at s.image) (sections_with s.image s.place) → tables ≡ described_tables c.cmd
+      pub segment_described : (sections : List SectionView) (tables : List TableFields) → sections ≡ map (section_at s.image) (sections_with s.image s.place) → tables ≡ described_tables c.cmd c.size
           → commands_left image all ≡ (sections_left sections ++ tables_left image c.place tables) ∷ commands_left image rest
       segment_described sections tables have are =
           at_first
           ∙ ap (λ list. list ∷ commands_left image rest)
           (segment_elements image c.place (subst (λ cmd. (cmd == loader.LC_SEGMENT_64) ≡ true) has_cmd segment)
           ∙ ap₂ (λ ss ts. sections_left ss ++ tables_left image c.place ts)
-          (sym (have ∙ ap (λ (t : SegmentView). map (section_at t.image) (sections_with t.image t.place)) segment_is)) (ap described_tables (sym has_cmd) ∙ sym are))
+          (sym (have ∙ ap (λ (t : SegmentView). map (section_at t.image) (sections_with t.image t.place)) segment_is)) (ap₂ described_tables (sym has_cmd) (sym has_size) ∙ sym are))
 
 -- The walk begins
 

@@ -54,7 +54,12 @@ module _ (image : List ℕ) (none : NothingBreaks (Breaks image None)) where
   place_inside rule.HeaderSegment place (at, wrong) = let header = facts.header in omega arith
   place_inside rule.SegmentFileOverlap place (has, shares) =
       let inside = command_inside image (commands_of image) facts are place (with_cmd_among image (commands_of image) loader.LC_SEGMENT_64 place has) in omega arith
-  place_inside rule.ElementOverlap place (j, later, (at, shares), same) =
+  place_inside rule.ElementOverlap place (inl (j, later, (at, shares), same)) =
       let inside = element_inside later (j, slice_get_within (elements_of image) j later at, get_or_from_slice_get (elements_of image) j later later at) in omega (arith, same)
+  place_inside rule.ElementOverlap place (inr (j, element, less, at, (past, same))) = let inside = element_inside element (j, less, at) in omega (arith, same)
   place_inside rule.StrayByte place (nonzero, outside) = let within = nonzero.0 in omega arith
+  place_inside rule.EncryptedRange place (has, misplaced) =
+      let inside = command_inside image (commands_of image) facts are place (with_cmd_among image (commands_of image) loader.LC_ENCRYPTION_INFO_64 place has) in omega arith
+  place_inside rule.CommandSlack place (nonzero, slack) = let within = nonzero.0 in omega arith
+  place_inside rule.UnclaimedByte place (nonzero, some, none) = let within = nonzero.0 in omega arith
   place_inside other place broken = absurd broken

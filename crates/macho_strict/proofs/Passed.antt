@@ -1,23 +1,29 @@
 -- One span more in a walk over spans that come by their starts.
-use Rattle.std.proofs.Common.{◌≡◌, ℕ, ◌≤◌, ◌<◌, ◌⊎◌, Bool, true, false, max, List, [], ◌∷◌, ◌++◌, length, map, All, Contains, Option, Some, None, sym, ap, ◌∙◌, subst, arith, inl, inr, length-append}
+use Rattle.std.proofs.Common.{◌≡◌, ℕ, ◌+◌, ◌≤◌, ◌<◌, ◌⊎◌, Bool, true, false, max, List, [], ◌∷◌, ◌++◌, length, map, All, Contains, Option, Some, None, sym, ap, ◌∙◌, subst, arith, inl, inr, length-append}
 use Rattle.std.specs.Prelude.{MatchOption, IsPermutation}
 use Rattle.std.specs.List.Sorted.{IsNonDecreasingBy}
 use Rattle.std.proofs.Math.ListN.{get_or-append}
 use Rattle.std.proofs.Math.Seq.{get_or-append_seam}
 use Rattle.std.proofs.lemmas.Bool.{true≢false, cases_lt, cases_eq, cases_Bool}
 use Rattle.std.proofs.lemmas.List.{get_or_default, get_or_past, get_or-map, length-map}
+use Rattle.std.proofs.lemmas.List.Elements.{Contains-append_cases}
 use Rattle.std.proofs.lemmas.List.Sorted.{IsPermutation-sym, Contains-permutation}
 use Rattle.macho_fields.specs.Bytes.{bytes_of}
 use Rattle.macho_fields.specs.FirstPlace.{IsLeastPlace}
-use Rattle.macho_fields.specs.NonZero.{IsNonZero}
 use Rattle.macho_spans.specs.Overlap.{span_at, IsAscending}
-use Rattle.macho_spans.specs.Span.{end_of, Holds}
+use Rattle.macho_fields.proofs.Decided.{both_or_not, le_or_not}
+use Rattle.macho_spans.specs.Span.{Covers, end_of, Holds}
 use Rattle.macho_spans.specs.declared.span.Span.{Span}
-use Rattle.macho_strict.specs.Gaps.{IsStray, ComeByStart, Walked, ArePassed, IsLeastNext}
+use Rattle.macho_strict.specs.Gaps.{IsWanted, IsFree, IsStray, ComeByStart, Walked, ArePassed, IsLeastNext}
 use Rattle.macho_strict.specs.declared.gaps.Gaps.{Gaps}
+use Rattle.macho_strict.specs.declared.gaps.Wanted.{Wanted}
 
-abbrev no_span : Span
+abbrev pub no_span : Span
 no_span = record { start = 0; len = 0 }
+
+-- a span has a place, or has it not
+pub covers_or_not : (start len place : ℕ) → Covers start len place ⊎ ¬ Covers start len place
+covers_or_not start len place = both_or_not (le_or_not start place) (elim (cases_lt place (start + len)) [ inl less ↦ inl less | inr past ↦ inr (λ less. absurd (omega arith)) ])
 
 -- a least place of one of two predicates, of which the second is decided where the first has none
 pub least_of_two : (First Next All : ℕ → Type 0) (old new : Option ℕ) → IsLeastPlace First old
@@ -35,7 +41,7 @@ pub least_same : (P Q : ℕ → Type 0) → ((p : ℕ) → P p → Q p) → ((p 
 least_same P Q to from None none = λ p q. none p (from p q)
 least_same P Q to from (Some place) (here, least) = (to place here, λ p q. least p (from p q))
 
-module _ (bytes : List ℕ) (spans : List Span) (start end : ℕ) (stray : Option ℕ) (walked : Walked bytes spans start end stray) where
+module _ (wanted : Wanted) (bytes : List ℕ) (spans : List Span) (start end : ℕ) (stray : Option ℕ) (walked : Walked wanted bytes spans start end stray) where
   begins_before_end : start ≤ end
   begins_before_end = elim walked.last [
     | inl none ↦ omega (arith, none)
@@ -46,7 +52,7 @@ module _ (bytes : List ℕ) (spans : List Span) (start end : ℕ) (stray : Optio
   past_all p past i held = let low = walked.ends i (omega (arith, held.0, held.1)) in absurd (omega (arith, low, held.1))
 
   -- a stray place was passed, or comes after all spans
-  before_or_past : (p : ℕ) → IsStray bytes spans p → ((p < start) × IsStray bytes spans p) ⊎ (end ≤ p)
+  before_or_past : (p : ℕ) → IsStray wanted bytes spans p → ((p < start) × IsStray wanted bytes spans p) ⊎ (end ≤ p)
   before_or_past p is = elim (cases_lt p start) [
     | inl before ↦ inl (before, is)
     | inr from ↦
@@ -103,8 +109,8 @@ module _ (spans : List Span) (x : Span) where
   pub still_unsorted : ¬ ComeByStart spans → ¬ ComeByStart more
   still_unsorted not all = not (by_start_old all)
 
-  pub now_unsorted : (bytes : List ℕ) (start end : ℕ) (stray : Option ℕ) → Walked bytes spans start end stray → 0 < x.len → x.start < start → ¬ ComeByStart more
-  now_unsorted bytes start end stray walked filled before all = elim walked.last [
+  pub now_unsorted : (wanted : Wanted) (bytes : List ℕ) (start end : ℕ) (stray : Option ℕ) → Walked wanted bytes spans start end stray → 0 < x.len → x.start < start → ¬ ComeByStart more
+  now_unsorted wanted bytes start end stray walked filled before all = elim walked.last [
     | inl none ↦ absurd (omega (arith, none))
     | inr (j, filled_j, same) ↦
         let (under, at) = filled_old j filled_j in
@@ -112,15 +118,15 @@ module _ (spans : List Span) (x : Span) where
         absurd (omega (arith, here, ap (λ s. s.start) at, ap (λ s. s.start) at_last, same))
   ]
 
-  module _ (bytes : List ℕ) where
-    stray_old : (p : ℕ) → IsStray bytes more p → IsStray bytes spans p
+  module _ (wanted : Wanted) (bytes : List ℕ) where
+    stray_old : (p : ℕ) → IsStray wanted bytes more p → IsStray wanted bytes spans p
     stray_old p (is, free) = (is, each_old (λ s. ¬ Holds s p) (λ held. absurd (omega (arith, held.1))) free)
 
-    stray_more : (p : ℕ) → IsStray bytes spans p → ¬ Holds x p → IsStray bytes more p
+    stray_more : (p : ℕ) → IsStray wanted bytes spans p → ¬ Holds x p → IsStray wanted bytes more p
     stray_more p (is, free) past = (is, each_more (λ s. ¬ Holds s p) (λ held. absurd (omega (arith, held.1))) free past)
 
     -- an empty span
-    pub walked_empty : (start end : ℕ) (stray : Option ℕ) → x.len ≡ 0 → Walked bytes spans start end stray → Walked bytes more start end stray
+    pub walked_empty : (start end : ℕ) (stray : Option ℕ) → x.len ≡ 0 → Walked wanted bytes spans start end stray → Walked wanted bytes more start end stray
     walked_empty start end stray empty walked = record {
       last = elim walked.last [
         | inl none ↦ inl none
@@ -129,24 +135,24 @@ module _ (spans : List Span) (x : Span) where
       starts = each_more (λ s. 0 < s.len → s.start ≤ start) (λ none. absurd (omega (arith, none))) walked.starts (λ none. absurd (omega (arith, none, empty)));
       ends = each_more (λ s. 0 < s.len → end_of s ≤ end) (λ none. absurd (omega (arith, none))) walked.ends (λ none. absurd (omega (arith, none, empty)));
       covered = λ p low high. let (i, held) = walked.covered p low high in (i, subst (λ s. Holds s p) (sym (filled_old i (omega (arith, held.0, held.1))).1) held);
-      least = least_same (λ p. (p < start) × IsStray bytes spans p) (λ p. (p < start) × IsStray bytes more p)
+      least = least_same (λ p. (p < start) × IsStray wanted bytes spans p) (λ p. (p < start) × IsStray wanted bytes more p)
           (λ p (low, is). (low, stray_more p is (λ held. absurd (omega (arith, held.0, held.1, empty)))))
           (λ p (low, is). (low, stray_old p is)) stray walked.least;
     }
 
     -- one that begins with the last one or after it
-    pub walked_more : (start end : ℕ) (old new : Option ℕ) → 0 < x.len → start ≤ x.start → Walked bytes spans start end old → IsLeastNext bytes end x.start old new
-        → Walked bytes more x.start (max end (end_of x)) new
+    pub walked_more : (start end : ℕ) (old new : Option ℕ) → 0 < x.len → start ≤ x.start → Walked wanted bytes spans start end old → IsLeastNext wanted bytes end x.start old new
+        → Walked wanted bytes more x.start (max end (end_of x)) new
     walked_more start end old new filled after walked next = record {
       last = inr (length spans, omega (arith, ap (λ s. s.len) at_last, filled), ap (λ s. s.start) at_last);
       starts = each_more (λ s. 0 < s.len → s.start ≤ x.start) (λ none. absurd (omega (arith, none))) (λ i one. let low = walked.starts i one in omega (arith, low)) (λ _. omega arith);
       ends = each_more (λ s. 0 < s.len → end_of s ≤ max end (end_of x)) (λ none. absurd (omega (arith, none))) (λ i one. let low = walked.ends i one in omega (arith, low)) (λ _. omega arith);
       covered = covers;
-      least = least_of_two (λ p. (p < start) × IsStray bytes spans p) (λ p. (end ≤ p) × (p < x.start) × IsNonZero bytes p) (λ p. (p < x.start) × IsStray bytes more p) old new walked.least next
+      least = least_of_two (λ p. (p < start) × IsStray wanted bytes spans p) (λ p. (end ≤ p) × (p < x.start) × IsWanted wanted bytes p) (λ p. (p < x.start) × IsStray wanted bytes more p) old new walked.least next
           (λ p (low, is). (omega arith, stray_more p is (λ held. absurd (omega (arith, held.0)))))
-          (λ p (past, low, is). (low, stray_more p (is, past_all bytes spans start end old walked p past) (λ held. absurd (omega (arith, held.0)))))
-          (λ p (low, is). elim (before_or_past bytes spans start end old walked p (stray_old p is)) [ inl before ↦ inl before | inr past ↦ inr (past, low, is.0) ])
-          (λ p q (low, is) (past, high, other). let order = begins_before_end bytes spans start end old walked in omega (arith, order, low, past));
+          (λ p (past, low, is). (low, stray_more p (is, past_all wanted bytes spans start end old walked p past) (λ held. absurd (omega (arith, held.0)))))
+          (λ p (low, is). elim (before_or_past wanted bytes spans start end old walked p (stray_old p is)) [ inl before ↦ inl before | inr past ↦ inr (past, low, is.0) ])
+          (λ p q (low, is) (past, high, other). let order = begins_before_end wanted bytes spans start end old walked in omega (arith, order, low, past));
     }
       where
         covers : (p : ℕ) → x.start ≤ p → p < max end (end_of x) → (i : ℕ) × Holds (span_at more i) p
@@ -159,33 +165,36 @@ module _ (spans : List Span) (x : Span) where
 
 -- One span more was passed
 
-module _ (bytes : List ℕ) (spans : List Span) (x : Span) (old : Gaps) (are : ArePassed bytes spans old) where
-  pub passed_empty : x.len ≡ 0 → ArePassed bytes (spans ++ x ∷ []) old
+module _ (wanted : Wanted) (bytes : List ℕ) (spans : List Span) (x : Span) (old : Gaps) (are : ArePassed wanted bytes spans old) where
+  pub passed_empty : x.len ≡ 0 → ArePassed wanted bytes (spans ++ x ∷ []) old
   passed_empty empty = record {
     of = are.of;
+    wants = are.wants;
     unsorted = λ e. still_unsorted spans x (are.unsorted e);
-    walked = λ e. walked_empty spans x bytes old.start old.end old.stray empty (are.walked e);
+    walked = λ e. walked_empty spans x wanted bytes old.start old.end old.stray empty (are.walked e);
   }
 
   pub passed_on : (by_start : Bool) (end : ℕ) (stray : Option ℕ) → by_start ≡ true → old.by_start ≡ true → 0 < x.len → old.start ≤ x.start
-      → IsLeastNext (bytes_of old.bytes) old.end x.start old.stray stray → end ≡ max old.end (end_of x)
-      → ArePassed bytes (spans ++ x ∷ []) (record { bytes = old.bytes; by_start = by_start; start = x.start; end = end; stray = stray })
+      → IsLeastNext old.wanted (bytes_of old.bytes) old.end x.start old.stray stray → end ≡ max old.end (end_of x)
+      → ArePassed wanted bytes (spans ++ x ∷ []) (record { bytes = old.bytes; wanted = old.wanted; by_start = by_start; start = x.start; end = end; stray = stray })
   passed_on by_start end stray set was filled after next ends = record {
     of = are.of;
+    wants = are.wants;
     unsorted = λ e. absurd (true≢false (sym set ∙ e));
     walked = λ _.
-        subst (λ e. Walked bytes (spans ++ x ∷ []) x.start e stray) (sym ends)
-        (walked_more spans x bytes old.start old.end old.stray stray filled after (are.walked was) (subst (λ (bs : List ℕ). IsLeastNext bs old.end x.start old.stray stray) are.of next));
+        subst (λ e. Walked wanted bytes (spans ++ x ∷ []) x.start e stray) (sym ends)
+        (walked_more spans x wanted bytes old.start old.end old.stray stray filled after (are.walked was) (subst (λ (w : Wanted). IsLeastNext w bytes old.end x.start old.stray stray) are.wants
+        (subst (λ (bs : List ℕ). IsLeastNext old.wanted bs old.end x.start old.stray stray) are.of next)));
   }
 
   pub passed_back : (by_start : Bool) → by_start ≡ false → ¬ ComeByStart (spans ++ x ∷ [])
-      → ArePassed bytes (spans ++ x ∷ []) (record { bytes = old.bytes; by_start = by_start; start = old.start; end = old.end; stray = old.stray })
-  passed_back by_start unset unsorted = record { of = are.of; unsorted = λ _. unsorted; walked = λ e. absurd (true≢false (sym e ∙ unset)) }
+      → ArePassed wanted bytes (spans ++ x ∷ []) (record { bytes = old.bytes; wanted = old.wanted; by_start = by_start; start = old.start; end = old.end; stray = old.stray })
+  passed_back by_start unset unsorted = record { of = are.of; wants = are.wants; unsorted = λ _. unsorted; walked = λ e. absurd (true≢false (sym e ∙ unset)) }
 
 -- All were passed
 
-pub by_start_where_sorted : (bytes : List ℕ) (spans : List Span) (gaps : Gaps) → ArePassed bytes spans gaps → ComeByStart spans → gaps.by_start ≡ true
-by_start_where_sorted bytes spans gaps are sorted = elim (cases_Bool gaps.by_start) [
+pub by_start_where_sorted : (wanted : Wanted) (bytes : List ℕ) (spans : List Span) (gaps : Gaps) → ArePassed wanted bytes spans gaps → ComeByStart spans → gaps.by_start ≡ true
+by_start_where_sorted wanted bytes spans gaps are sorted = elim (cases_Bool gaps.by_start) [
   | inl set ↦ set
   | inr unset ↦ absurd (are.unsorted unset sorted)
 ]
@@ -203,11 +212,20 @@ pub ascending_by_start : (spans : List Span) → IsAscending spans → ComeBySta
 ascending_by_start spans up i j less filled_i filled_j = let here = up i j less filled_i filled_j in omega (arith, here)
 
 -- a place in none of some spans is in none of those among them
-free_among : (spans others : List Span) (p : ℕ) → ((x : Span) → Contains others x → Contains spans x) → ((i : ℕ) → ¬ Holds (span_at spans i) p) → (i : ℕ) → ¬ Holds (span_at others i) p
+pub free_among : (spans others : List Span) (p : ℕ) → ((x : Span) → Contains others x → Contains spans x) → ((i : ℕ) → ¬ Holds (span_at spans i) p) → (i : ℕ) → ¬ Holds (span_at others i) p
 free_among spans others p has free i held =
     let less = among others i (omega (arith, held.0, held.1)) in
     let there = has (span_at others i) (i, less, get_or_default others i _ no_span less) in
     free there.0 (subst (λ s. Holds s p) (sym (get_or_default spans there.0 no_span _ there.1 ∙ there.2)) held)
+
+-- a place in none of the first spans and in none of the others is in none of both
+pub free_joined : (spans others : List Span) (p : ℕ) → IsFree spans p → IsFree others p → IsFree (spans ++ others) p
+free_joined spans others p here there i held =
+    let less = among (spans ++ others) i (omega (arith, held.0, held.1)) in
+    elim (Contains-append_cases spans others (span_at (spans ++ others) i) (i, less, get_or_default (spans ++ others) i _ no_span less)) [
+      | inl (k, below, at) ↦ here k (subst (λ s. Holds s p) (sym (get_or_default spans k no_span _ below ∙ at)) held)
+      | inr (k, below, at) ↦ there k (subst (λ s. Holds s p) (sym (get_or_default others k no_span _ below ∙ at)) held)
+    ]
 
 -- a place in none of the spans of some items, item by item
 pub all_of_free : {X : Type 0} (span : X → Span) (items : List X) (p : ℕ) → ((i : ℕ) → ¬ Holds (span_at (map span items) i) p) → All (λ x. ¬ Holds (span x) p) items
@@ -219,8 +237,15 @@ free_of_all span items x p none i held =
     none i x less (subst (λ s. Holds s p) (get_or-map span items i x no_span less) held)
 
 -- the order of the spans does not matter
-pub least_sorted : (bytes : List ℕ) (spans sorted : List Span) → IsPermutation spans sorted → (found : Option ℕ) → IsLeastPlace (IsStray bytes sorted) found → IsLeastPlace (IsStray bytes spans) found
-least_sorted bytes spans sorted moved found least =
-    least_same (IsStray bytes sorted) (IsStray bytes spans)
+pub least_sorted : (wanted : Wanted) (bytes : List ℕ) (spans sorted : List Span) → IsPermutation spans sorted → (found : Option ℕ) → IsLeastPlace (IsStray wanted bytes sorted) found → IsLeastPlace (IsStray wanted bytes spans) found
+least_sorted wanted bytes spans sorted moved found least =
+    least_same (IsStray wanted bytes sorted) (IsStray wanted bytes spans)
     (λ p is. (is.0, free_among sorted spans p (λ x. Contains-permutation spans sorted x moved) is.1))
     (λ p is. (is.0, free_among spans sorted p (λ x. Contains-permutation sorted spans x (IsPermutation-sym spans sorted moved)) is.1)) found least
+
+-- the least place that was found between the sorted spans is that of all, of whatever bytes they are
+pub least_moved : (wanted : Wanted) (bytes own : List ℕ) (spans list sorted : List Span) (found : Option ℕ) → own ≡ bytes → list ≡ spans → IsPermutation list sorted
+    → IsLeastPlace (IsStray wanted own sorted) found → IsLeastPlace (IsStray wanted bytes spans) found
+least_moved wanted bytes own spans list sorted found same are moved least =
+    subst (λ (all : List Span). IsLeastPlace (IsStray wanted bytes all) found) are
+    (subst (λ (bs : List ℕ). IsLeastPlace (IsStray wanted bs list) found) same (least_sorted wanted own list sorted moved found least))

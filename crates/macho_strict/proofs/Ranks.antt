@@ -24,7 +24,7 @@ first_of_image : (image : List ℕ) (r : Rule) (place : ℕ) → BreaksImage ima
 first_of_image image rule.Magic place broken = absurd broken
 first_of_image image other place broken = search rules
 
-pub last_of_image : (image : List ℕ) (r : Rule) (place : ℕ) → BreaksImage image r place → rank r ≤ rank rule.StrayByte
+pub last_of_image : (image : List ℕ) (r : Rule) (place : ℕ) → BreaksImage image r place → rank r ≤ rank rule.UnclaimedByte
 last_of_image image rule.Magic place broken = absurd broken
 last_of_image image other place broken = search rules
 

@@ -57,32 +57,37 @@ module _ (all given : List Element) (is : given ≡ all) where
       → YieldsFirst (λ (these : List Element). these) left next rest → next ≡ None → yielded ≡ all
   all_yielded yielded left rest next came steps ended = let (same, _) = YieldsList-end road yielded left came next rest ended steps in sym (map-id yielded) ∙ same
 
-  module _ (spans : List Span) (xs : List Element) (ran : Drains (YieldsFirst (λ (left : List Element). left)) given xs) (are : spans ≡ map span_of xs) where
-    all_spans : spans ≡ spans_in (tagged all)
-    all_spans = are ∙ (ap (map span_of) (drained xs ran) ∙ sym (spans_tagged all))
+  -- the spans of those that were drained are those of all
+  pub drained_spans : (spans : List Span) (xs : List Element) → Drains (YieldsFirst (λ (left : List Element). left)) given xs → spans ≡ map span_of xs → spans ≡ map span_of all
+  drained_spans spans xs ran are = are ∙ ap (map span_of) (drained xs ran)
 
-    -- where no span shares a place with an earlier one
-    pub none_sharing : ((j : ℕ) → ¬ SharesEarlier spans j) → IsFirstSharing (tagged all) None
-    none_sharing none j shares = none j (subst (λ ss. SharesEarlier ss j) (sym all_spans) shares)
+-- The spans of all of them
 
-    -- the element with the index of the first span that does
-    module _ (j : ℕ) (least : IsLeastSharing spans j) (found : Option Element) (rest other : List Element) (same : other ≡ all) (skipped : SkipsThenYields (YieldsFirst (λ (left : List Element). left)) other j found rest) where
-      within : j < length all
-      within =
-          let less : j < length spans = least.0.0 in
-          let count : length spans ≡ length xs = ap length are ∙ length-map xs span_of in
-          let whole : length xs ≡ length all = ap length (drained xs ran) in omega arith
+module _ (all : List Element) (spans : List Span) (are : spans ≡ map span_of all) where
+  all_spans : spans ≡ spans_in (tagged all)
+  all_spans = are ∙ sym (spans_tagged all)
 
-      found_at : found ≡ slice_get all j
-      found_at = sym (option_map_id found) ∙ nth_from_yields_List found rest j skipped (YieldsList-from_first (λ (e : Element). e) (λ (left : List Element). left) all same)
+  -- where no span shares a place with an earlier one
+  pub none_sharing : ((j : ℕ) → ¬ SharesEarlier spans j) → IsFirstSharing (tagged all) None
+  none_sharing none j shares = none j (subst (λ ss. SharesEarlier ss j) (sym all_spans) shares)
 
-      pub first_sharing : (answer : Option ℕ) → answer ≡ option_map tag_of found → IsFirstSharing (tagged all) answer
-      first_sharing None none = absurd (none-some _ (none ∙ (ap (option_map tag_of) found_at ∙ (sym (slice_get-map tag_of all j) ∙ slice_get-get_or (map tag_of all) j 0 (omega (arith, within, length-map all tag_of))))))
-      first_sharing (Some tag) at = (
-        j,
-        subst (λ ss. IsLeastSharing ss j) all_spans least,
-        ap (λ ts. slice_get ts j) (tags_tagged all) ∙ (slice_get-map tag_of all j ∙ sym (at ∙ ap (option_map tag_of) found_at)),
-      )
+  -- the element with the index of the first span that does
+  module _ (j : ℕ) (least : IsLeastSharing spans j) (found : Option Element) (rest other : List Element) (same : other ≡ all) (skipped : SkipsThenYields (YieldsFirst (λ (left : List Element). left)) other j found rest) where
+    within : j < length all
+    within =
+        let less : j < length spans = least.0.0 in
+        let count : length spans ≡ length all = ap length are ∙ length-map all span_of in omega arith
+
+    found_at : found ≡ slice_get all j
+    found_at = sym (option_map_id found) ∙ nth_from_yields_List found rest j skipped (YieldsList-from_first (λ (e : Element). e) (λ (left : List Element). left) all same)
+
+    pub first_sharing : (answer : Option ℕ) → answer ≡ option_map tag_of found → IsFirstSharing (tagged all) answer
+    first_sharing None none = absurd (none-some _ (none ∙ (ap (option_map tag_of) found_at ∙ (sym (slice_get-map tag_of all j) ∙ slice_get-get_or (map tag_of all) j 0 (omega (arith, within, length-map all tag_of))))))
+    first_sharing (Some tag) at = (
+      j,
+      subst (λ ss. IsLeastSharing ss j) all_spans least,
+      ap (λ ts. slice_get ts j) (tags_tagged all) ∙ (slice_get-map tag_of all j ∙ sym (at ∙ ap (option_map tag_of) found_at)),
+    )
 
 -- What their order shows
 

@@ -1,8 +1,7 @@
 -- What one walk over the segments of an image finds of their file parts.
-use Rattle.std.proofs.Common.{◌≡◌, ◌↔◌, ℕ, ◌+◌, ◌≤◌, ◌<◌, ◌⊎◌, List, [], ◌∷◌, ◌++◌, length, map, get_or, slice_get, Bool, true, false, IsTrue, Any, Contains, Option, None, Some, refl, sym, ap, ◌∙◌, subst, arith, inl, inr}
-use Rattle.std.proofs.lemmas.Bool.{true≢false, cases_lt}
+use Rattle.std.proofs.Common.{◌≡◌, ℕ, ◌+◌, ◌≤◌, ◌<◌, List, [], ◌∷◌, ◌++◌, length, map, get_or, slice_get, Contains, Option, None, Some, sym, ap, ◌∙◌, subst, arith, inl, inr}
+use Rattle.std.proofs.lemmas.Bool.{cases_lt}
 use Rattle.std.proofs.lemmas.List.{get_or_default, get_or-map, length-map, map_push}
-use Rattle.std.proofs.lemmas.List.Elements.{Contains-append_cases, Contains-append_left, Contains-append_right}
 use Rattle.std.proofs.lemmas.Option.{get_or_from_slice_get}
 use Rattle.std.proofs.lemmas.Simd.{map-map}
 use Rattle.macho_fields.specs.FirstPlace.{IsLeastPlace}
@@ -12,20 +11,20 @@ use Rattle.macho_spans.specs.Span.{Holds}
 use Rattle.macho_spans.specs.SpanOrder.{IsOrderOf, spans_in, tags_in}
 use Rattle.macho_spans.specs.declared.span.Span.{Span}
 use Rattle.macho_spans.specs.declared.span_order.SpanOrder.{SpanOrder}
-use Rattle.macho_fields.proofs.Lists.{contains_first, any_of, only_one}
 use Rattle.macho_fields.proofs.Parts.{command_good, with_cmd_among}
 use Rattle.macho_fields.specs.declared.header.loader.TheConstants as loader
 use Rattle.macho_image.specs.Opened.{IsOpened}
-use Rattle.macho_rules.proofs.Searches.{ordered_at, mapped_has}
+use Rattle.macho_rules.proofs.Searches.{ordered_at}
 use Rattle.macho_rules.proofs.SegmentItems.{segments_spread}
 use Rattle.macho_image.proofs.OpenedWalk.{opened_commands}
-use Rattle.macho_strict.specs.FileParts.{HoldsHeaders, AreSurveyed}
+use Rattle.macho_strict.specs.FileParts.{AreSurveyed}
 use Rattle.macho_strict.specs.Gaps.{IsStray, ArePassed}
-use Rattle.macho_strict.specs.Rules.{BreaksImage, HasHeaders, SharesFilePart, all_segments}
+use Rattle.macho_strict.specs.Rules.{BreaksImage, SharesFilePart, all_segments}
 use Rattle.macho_strict.specs.Sharing.{file_part, all_parts, tagged, tagged_parts, IsFirstSharing}
 use Rattle.macho_strict.specs.Verdict.{file_parts, IsUnordered}
 use Rattle.macho_strict.specs.declared.elements.Element.{Element}
 use Rattle.macho_strict.specs.declared.gaps.Gaps.{Gaps}
+use Rattle.macho_strict.specs.declared.gaps.Wanted.TheVariants as wanted
 use Rattle.macho_fields.specs.declared.rule.Rule.TheVariants as rule
 use Rattle.macho_strict.proofs.Passed.{least_same, all_of_free, free_of_all}
 use Rattle.macho_strict.proofs.Sharings.{spans_tagged, tags_tagged}
@@ -38,30 +37,13 @@ no_span = record { start = 0; len = 0 }
 
 -- One file part more
 
-any_more : (P : Element → Type 0) (xs : List Element) (x : Element) (old new : Bool) → (IsTrue old ↔ Any P xs) → (IsTrue new ↔ (IsTrue old ⊎ P x)) → IsTrue new ↔ Any P (xs ++ x ∷ [])
-any_more P xs x old new before here = (to, from)
-  where
-    to : IsTrue new → Any P (xs ++ x ∷ [])
-    to is = elim (here.0 is) [
-      | inl early ↦ let (k, y, less, at, p) = before.0 early in any_of P (xs ++ x ∷ []) y (Contains-append_left xs (x ∷ []) y (k, less, at)) p
-      | inr late ↦ any_of P (xs ++ x ∷ []) x (Contains-append_right xs (x ∷ []) x (contains_first x [])) late
-    ]
-
-    from : Any P (xs ++ x ∷ []) → IsTrue new
-    from (k, y, less, at, p) = elim (Contains-append_cases xs (x ∷ []) y (k, less, at)) [
-      | inl early ↦ here.1 (inl (before.1 (any_of P xs y early p)))
-      | inr late ↦ here.1 (inr (subst P (sym (only_one x y late)) p))
-    ]
-
-pub surveyed_more : (image : List ℕ) (parts : List Element) (part : Element) (old new : Bool) (order order' : SpanOrder) (gaps gaps' : Gaps) → AreSurveyed image parts old order gaps
-    → (IsTrue new ↔ (IsTrue old ⊎ HoldsHeaders image part))
+pub surveyed_more : (image : List ℕ) (parts : List Element) (part : Element) (order order' : SpanOrder) (gaps gaps' : Gaps) → AreSurveyed image parts order gaps
     → (IsOrderOf (tagged parts) order → IsOrderOf (tagged parts ++ (part.span, part.described) ∷ []) order')
-    → (ArePassed image (map span_of parts) gaps → ArePassed image (map span_of parts ++ part.span ∷ []) gaps')
-    → AreSurveyed image (parts ++ part ∷ []) new order' gaps'
-surveyed_more image parts part old new order order' gaps gaps' are headers ordered passed = record {
-  headers = any_more (HoldsHeaders image) parts part old new are.headers headers;
+    → (ArePassed wanted.NonZero image (map span_of parts) gaps → ArePassed wanted.NonZero image (map span_of parts ++ part.span ∷ []) gaps')
+    → AreSurveyed image (parts ++ part ∷ []) order' gaps'
+surveyed_more image parts part order order' gaps gaps' are ordered passed = record {
   ordered = subst (λ pairs. IsOrderOf pairs order') (sym (map_push (λ (e : Element). (e.span, e.described)) parts part)) (ordered are.ordered);
-  passed = subst (λ (spans : List Span). ArePassed image spans gaps') (sym (map_push span_of parts part)) (passed are.passed);
+  passed = subst (λ (spans : List Span). ArePassed wanted.NonZero image spans gaps') (sym (map_push span_of parts part)) (passed are.passed);
 }
 
 -- All file parts of an image
@@ -76,8 +58,8 @@ module _ (image : List ℕ) where
   pub parts_are : map span_of (all_parts image) ≡ file_parts image
   parts_are = map-map span_of (file_part image) segments
 
-  pub passed_parts : (gaps : Gaps) → ArePassed image (map span_of (all_parts image)) gaps → ArePassed image (file_parts image) gaps
-  passed_parts gaps = subst (λ (spans : List Span). ArePassed image spans gaps) parts_are
+  pub passed_parts : (gaps : Gaps) → ArePassed wanted.NonZero image (map span_of (all_parts image)) gaps → ArePassed wanted.NonZero image (file_parts image) gaps
+  passed_parts gaps = subst (λ (spans : List Span). ArePassed wanted.NonZero image spans gaps) parts_are
 
   spans_are : spans_in (tagged_parts image) ≡ file_parts image
   spans_are = spans_tagged (all_parts image) ∙ parts_are
@@ -88,32 +70,15 @@ module _ (image : List ℕ) where
   pub unordered_parts : IsUnordered (spans_in (tagged_parts image)) → IsUnordered (file_parts image)
   unordered_parts = subst IsUnordered spans_are
 
-  -- The rule header-segment
-
-  some_part : Any (HasHeaders image) segments → Any (HoldsHeaders image) (all_parts image)
-  some_part (k, segment, less, at, has) =
-      (k, file_part image segment, omega (arith, less, length-map segments (file_part image)), get_or-map (file_part image) segments k segment (file_part image segment) less ∙ ap (file_part image) at, has)
-
-  some_segment : Any (HoldsHeaders image) (all_parts image) → Any (HasHeaders image) segments
-  some_segment (k, part, less, at, has) =
-      let (segment, among, same) = mapped_has (file_part image) segments part (k, less, at) in
-      any_of (HasHeaders image) segments segment among (subst (HoldsHeaders image) (sym same) has)
-
-  pub with_headers : (has : Bool) → (IsTrue has ↔ Any (HoldsHeaders image) (all_parts image)) → has ≡ true → IsLeastPlace (BreaksImage image rule.HeaderSegment) None
-  with_headers has found is = λ place (at, none). none (some_segment (found.0 is))
-
-  pub without_headers : (has : Bool) → (IsTrue has ↔ Any (HoldsHeaders image) (all_parts image)) → has ≡ false → IsLeastPlace (BreaksImage image rule.HeaderSegment) (Some 20)
-  without_headers has found unset = ((refl, λ some. true≢false (sym (found.1 (some_part some)) ∙ unset)), λ place (at, none). omega (arith, at))
-
   -- The rule stray-byte
 
-  pub least_stray : (found : Option ℕ) → IsLeastPlace (IsStray image (file_parts image)) found → IsLeastPlace (BreaksImage image rule.StrayByte) found
-  least_stray found least = least_same (IsStray image (file_parts image)) (BreaksImage image rule.StrayByte) to from found least
+  pub least_stray : (found : Option ℕ) → IsLeastPlace (IsStray wanted.NonZero image (file_parts image)) found → IsLeastPlace (BreaksImage image rule.StrayByte) found
+  least_stray found least = least_same (IsStray wanted.NonZero image (file_parts image)) (BreaksImage image rule.StrayByte) to from found least
     where
-      to : (p : ℕ) → IsStray image (file_parts image) p → BreaksImage image rule.StrayByte p
+      to : (p : ℕ) → IsStray wanted.NonZero image (file_parts image) p → BreaksImage image rule.StrayByte p
       to p (is, free) = (is, all_of_free part_of segments p free)
 
-      from : (p : ℕ) → BreaksImage image rule.StrayByte p → IsStray image (file_parts image) p
+      from : (p : ℕ) → BreaksImage image rule.StrayByte p → IsStray wanted.NonZero image (file_parts image) p
       from p (is, none) = (is, free_of_all part_of segments 0 p none)
 
   -- The rule segment-file-overlap

@@ -26,7 +26,7 @@ passed_of image P to f found answer is = passed_on (IsRefusalOf (BreaksImage ima
     taken refusal.Memory p = to p
 
 -- where the last rule is unbroken, all are
-pub all_unbroken : (image : List ℕ) → KeptBelow (BreaksImage image) (rank rule.StrayByte + 1) → NothingBreaks (BreaksImage image)
+pub all_unbroken : (image : List ℕ) → KeptBelow (BreaksImage image) (rank rule.UnclaimedByte + 1) → NothingBreaks (BreaksImage image)
 all_unbroken image kept r place broken = let most = last_of_image image r place broken in kept r place (omega (arith, most)) broken
 
 -- nothing is broken in the first n scopes

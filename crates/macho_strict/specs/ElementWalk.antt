@@ -1,21 +1,15 @@
 -- A walk over the elements of an image: what is left of them.
-use Rattle.std.specs.Prelude.{◌≡◌, ℕ, ◌+◌, ◌-◌, ◌*◌, ◌^◌, ◌≤◌, ◌<◌, ◌==◌, List, [], ◌++◌, length, map, flat_map, All, Contains, Option, option_to_list, if◌then◌else◌}
+use Rattle.std.specs.Prelude.{◌≡◌, ℕ, ◌+◌, ◌-◌, ◌*◌, ◌^◌, ◌≤◌, ◌<◌, List, [], ◌++◌, length, map, flat_map, All, Contains, Option, option_to_list}
 use Rattle.std.specs.Option.{option_map_or}
 use Rattle.macho_fields.specs.Image.{commands_of}
-use Rattle.macho_fields.specs.LoadCommands.{structure_of, width_size, table_fields}
+use Rattle.macho_fields.specs.LoadCommands.{width_size}
 use Rattle.macho_fields.specs.Symbol.{table_at}
 use Rattle.macho_fields.specs.declared.load_command.TableFields.{TableFields}
-use Rattle.macho_fields.specs.declared.header.loader.TheConstants as loader
 use Rattle.macho_image.specs.Command.{CommandView, command_at}
 use Rattle.macho_image.specs.Opened.{IsOpened}
 use Rattle.macho_image.specs.Segment.{SegmentView, SectionView, segments_left}
 use Rattle.macho_strict.specs.Elements.{section_elements, table_element, command_elements}
 use Rattle.macho_strict.specs.declared.elements.Element.{Element}
-
--- the tables of a command with the cmd that are elements
-abbrev pub described_tables : ℕ → List TableFields
-described_tables cmd =
-    if cmd == loader.LC_ENCRYPTION_INFO_64 then [] else option_map_or table_fields (structure_of cmd) []
 
 -- the tables of a command that remain
 abbrev pub tables_left : List ℕ → ℕ → List TableFields → List Element

@@ -1,5 +1,5 @@
 -- What a walk over spans that come by their starts finds between them.
-use Rattle.std.specs.Prelude.{◌≡◌, ℕ, ◌≤◌, ◌<◌, ◌⊎◌, List, true, false, Option, Some, MatchOption}
+use Rattle.std.specs.Prelude.{◌≡◌, ◌≢◌, ℕ, ◌≤◌, ◌<◌, ◌⊎◌, List, slice_index, true, false, Option, Some, MatchOption}
 use Rattle.macho_fields.specs.Bytes.{bytes_of}
 use Rattle.macho_fields.specs.FirstPlace.{IsLeastPlace}
 use Rattle.macho_fields.specs.NonZero.{IsNonZero}
@@ -7,10 +7,21 @@ use Rattle.macho_spans.specs.Overlap.{span_at}
 use Rattle.macho_spans.specs.Span.{end_of, Holds}
 use Rattle.macho_spans.specs.declared.span.Span.{Span}
 use Rattle.macho_strict.specs.declared.gaps.Gaps.{Gaps}
+use Rattle.macho_strict.specs.declared.gaps.Wanted.{Wanted}
+use Rattle.macho_strict.specs.declared.gaps.Wanted.TheVariants as wanted
 
--- the place has a byte that is not zero, and lies in none of the spans
-abbrev pub IsStray : List ℕ → List Span → ℕ → Type 0
-IsStray bytes spans place = IsNonZero bytes place × ((i : ℕ) → ¬ Holds (span_at spans i) place)
+-- the place has a byte of the kind that is looked for
+abbrev pub IsWanted : Wanted → List ℕ → ℕ → Type 0
+IsWanted wanted.NonZero bytes place = IsNonZero bytes place
+IsWanted wanted.NoPadding bytes place = IsNonZero bytes place × (slice_index bytes place ≢ 0x90)
+
+-- the place lies in none of the spans
+abbrev pub IsFree : List Span → ℕ → Type 0
+IsFree spans place = (i : ℕ) → ¬ Holds (span_at spans i) place
+
+-- the place has such a byte, and lies in none of the spans
+abbrev pub IsStray : Wanted → List ℕ → List Span → ℕ → Type 0
+IsStray wanted bytes spans place = IsWanted wanted bytes place × IsFree spans place
 
 -- of the spans that are not empty, none begins before an earlier one
 abbrev pub ComeByStart : List Span → Type 0
@@ -22,22 +33,26 @@ ComeByStart spans =
 
 -- the last span that is not empty begins at `start`, and those that are not empty end at `end` or
 -- before it, with no gap between the two
-pub record Walked (bytes : List ℕ) (spans : List Span) (start end : ℕ) (stray : Option ℕ) : Type 0 where
+pub record Walked (wanted : Wanted) (bytes : List ℕ) (spans : List Span) (start end : ℕ) (stray : Option ℕ) : Type 0 where
   pub last : (start ≡ 0) ⊎ ((j : ℕ) × (0 < (span_at spans j).len) × ((span_at spans j).start ≡ start))
   pub starts : (i : ℕ) → 0 < (span_at spans i).len → (span_at spans i).start ≤ start
   pub ends : (i : ℕ) → 0 < (span_at spans i).len → end_of (span_at spans i) ≤ end
   pub covered : (place : ℕ) → start ≤ place → place < end → (i : ℕ) × Holds (span_at spans i) place
-  pub least : IsLeastPlace (λ place. (place < start) × IsStray bytes spans place) stray
+  pub least : IsLeastPlace (λ place. (place < start) × IsStray wanted bytes spans place) stray
 
--- these spans were passed
-pub record ArePassed (bytes : List ℕ) (spans : List Span) (gaps : Gaps) : Type 0 where
+-- these spans were passed, and such bytes were looked for
+pub record ArePassed (wanted : Wanted) (bytes : List ℕ) (spans : List Span) (gaps : Gaps) : Type 0 where
   pub of : bytes_of gaps.bytes ≡ bytes
+  pub wants : gaps.wanted ≡ wanted
   pub unsorted : gaps.by_start ≡ false → ¬ ComeByStart spans
-  pub walked : gaps.by_start ≡ true → Walked bytes spans gaps.start gaps.end gaps.stray
+  pub walked : gaps.by_start ≡ true → Walked wanted bytes spans gaps.start gaps.end gaps.stray
 
--- the least place of those from `start` on and before `end` whose byte is not zero, where none was
--- found before
-abbrev pub IsLeastNext : List ℕ → ℕ → ℕ → Option ℕ → Option ℕ → Type 0
-IsLeastNext bytes start end old new =
-    MatchOption old (IsLeastPlace (λ place. (start ≤ place) × (place < end) × IsNonZero bytes place) new)
-    (λ place. new ≡ Some place)
+-- the least place of those from `start` on and before `end` that has such a byte
+abbrev pub IsLeastWithin : Wanted → List ℕ → ℕ → ℕ → Option ℕ → Type 0
+IsLeastWithin wanted bytes start end found =
+    IsLeastPlace (λ place. (start ≤ place) × (place < end) × IsWanted wanted bytes place) found
+
+-- the same, where none was found before
+abbrev pub IsLeastNext : Wanted → List ℕ → ℕ → ℕ → Option ℕ → Option ℕ → Type 0
+IsLeastNext wanted bytes start end old new =
+    MatchOption old (IsLeastWithin wanted bytes start end new) (λ place. new ≡ Some place)

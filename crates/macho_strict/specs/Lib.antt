@@ -8,3 +8,7 @@ pub mod Verdict
 pub mod Gaps
 pub mod Stray
 pub mod FileParts
+pub mod Claims
+pub mod Encrypted
+pub mod Slack
+pub mod Unclaimed

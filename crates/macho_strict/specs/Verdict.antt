@@ -1,9 +1,11 @@
 -- The strict verdict on a file, and where it takes memory.
-use Rattle.std.specs.Prelude.{◌≡◌, ℕ, suc, zero, ◌+◌, ◌⊎◌, List, map, slice_get, IsSomeAnd}
+use Rattle.std.specs.Prelude.{◌≡◌, ℕ, suc, zero, ◌+◌, ◌<◌, ◌⊎◌, List, map, slice_get, slice_index, Any, IsSomeAnd}
 use Rattle.macho_fields.specs.First.{IsUnbroken, IsFirstBroken, scope_start}
 use Rattle.macho_spans.specs.Overlap.{IsAscending, IsDescending}
+use Rattle.macho_fields.specs.Image.{commands_of, with_cmd}
 use Rattle.macho_fields.specs.Segment.{fileoff, filesize}
 use Rattle.macho_fields.specs.Universal.{slices_of, slice_bytes}
+use Rattle.macho_fields.specs.declared.header.loader.TheConstants as loader
 use Rattle.macho_spans.specs.declared.span.Span.{Span}
 use Rattle.macho_rules.specs.Verdict.{IsRefusal}
 use Rattle.macho_rules.specs.declared.refusal.Refusal.{Refusal}
@@ -11,7 +13,8 @@ use Rattle.macho_rules.specs.declared.refusal.Refusal.TheVariants as refusal
 use Rattle.macho_strict.specs.Elements.{elements_of}
 use Rattle.macho_strict.specs.First.{IsBrokenIn, IsFirstStrictlyBroken}
 use Rattle.macho_fields.specs.Layers.{IsLeast}
-use Rattle.macho_strict.specs.Rules.{all_segments}
+use Rattle.macho_strict.specs.Gaps.{IsFree}
+use Rattle.macho_strict.specs.Rules.{all_segments, cryptsize}
 use Rattle.macho_fields.specs.declared.rule.Break.{Break}
 
 -- the places of the slices of a file, in table order
@@ -32,9 +35,23 @@ element_spans image = map (λ element. element.span) (elements_of image)
 abbrev pub IsUnordered : List Span → Type 0
 IsUnordered spans = (¬ IsAscending spans) × (¬ IsDescending spans)
 
--- the file parts of an image do not ascend, or its elements are unordered
+-- some command has a range that is encrypted
+abbrev pub HasEncrypted : List ℕ → Type 0
+HasEncrypted image =
+    Any (λ command. 0 < cryptsize image command)
+    (with_cmd image loader.LC_ENCRYPTION_INFO_64 (commands_of image))
+
+-- a byte 0x90 lies in no element
+abbrev pub HasLooseNop : List ℕ → Type 0
+HasLooseNop image =
+    (place : ℕ) × (slice_index image place ≡ 0x90) × IsFree (element_spans image) place
+
+-- The file parts of an image do not ascend, or its elements do not; or it has an encrypted range, or a
+-- NOP in no element.
 abbrev pub TakesMemory : List ℕ → Type 0
-TakesMemory image = (¬ IsAscending (file_parts image)) ⊎ IsUnordered (element_spans image)
+TakesMemory image =
+    (¬ IsAscending (file_parts image)) ⊎ (¬ IsAscending (element_spans image))
+    ⊎ (HasEncrypted image ⊎ HasLooseNop image)
 
 -- A refusal is the first broken rule of the layout, or where none of these is broken the first broken
 -- strict rule, or that there was no memory, which says no more than it does of `verify`.

@@ -8,8 +8,11 @@ ghost use Rattle.macho_strict.specs.Rules.{BreaksImage};
 ghost use Rattle.macho_strict.specs.Verdict.{TakesMemory};
 ghost use Rattle.macho_fields.specs.declared.rule.Rule.{Rule};
 
-use crate::elements::element_overlap;
-use crate::segments::{SIZEOFCMDS, Survey};
+use crate::claims::Claims;
+use crate::encrypted::encrypted_range;
+use crate::segments::{SIZEOFCMDS, Survey, header_segment};
+use crate::slack::command_slack;
+use crate::unclaimed::unclaimed_byte;
 use macho_fields::header::loader::MACH_HEADER_64_SIZE;
 use macho_fields::{Break, Rule};
 use macho_image::Image;
@@ -24,11 +27,15 @@ pub(crate) fn check_image(alloc: Global, image: &Image) -> Result<(), Refusal>
     ensures refused { IfErr result (IsRefusalOf (BreaksImage image.now) (TakesMemory image.now)) }
 {
     commands_end(image)?;
+    header_segment(image)?;
     let survey = Survey::of(image);
-    survey.header_segment()?;
     survey.segment_file_overlap(alloc, image)?;
-    element_overlap(alloc, image)?;
+    let claims = Claims::of(alloc, image)?;
+    claims.element_overlap()?;
     survey.stray_byte(alloc, image)?;
+    encrypted_range(alloc, image)?;
+    command_slack(image)?;
+    unclaimed_byte(alloc, image, &claims)?;
     Ok(())
 }
 

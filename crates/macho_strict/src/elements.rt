@@ -1,27 +1,15 @@
 //! The elements of an image: the parts of it that its structures describe. (`mach-o/loader.h`)
 
-ghost use Rattle.std.specs.Prelude.{◌≡◌, None, IfOk, OnErr};
-ghost use Rattle.macho_fields.specs.Layers.{NothingBreaks};
-ghost use Rattle.macho_fields.specs.Rules.{BreaksImage as Breaks};
-ghost use Rattle.macho_spans.specs.SpanOrder.{IsOrderOf};
+ghost use Rattle.std.specs.Prelude.{◌≡◌};
 ghost use Rattle.macho_strict.specs.Elements.{contents as contents_of, relocations as relocations_of};
-ghost use Rattle.macho_strict.specs.Elements.{headers as headers_of};
-ghost use Rattle.macho_strict.specs.ElementWalk.{described_tables};
-ghost use Rattle.macho_fields.specs.Layers.{KeptBelow};
-ghost use Rattle.macho_rules.specs.Check.{ContinuesWithMemory};
-ghost use Rattle.macho_fields.specs.RuleList.{rank};
-ghost use Rattle.macho_strict.specs.Rules.{BreaksImage};
-ghost use Rattle.macho_strict.specs.Sharing.{IsFirstSharing, tagged_elements};
-ghost use Rattle.macho_strict.specs.Verdict.{element_spans, IsUnordered};
-ghost use Rattle.macho_fields.specs.declared.rule.Rule.{Rule};
+ghost use Rattle.macho_strict.specs.Elements.{described_tables, headers as headers_of};
 
-use crate::overlap::sorted_element_overlap;
-use macho_fields::header::loader::{LC_ENCRYPTION_INFO_64, LC_SEGMENT_64};
+use macho_fields::header::loader::{
+    LC_ENCRYPTION_INFO_64, LC_SEGMENT_64, LINKEDIT_DATA_COMMAND_SIZE,
+};
 use macho_fields::header::reloc::RELOCATION_INFO_SIZE;
-use macho_fields::{Bytes, Rule, Sharing, Span, SpanOrder, TableFields, structure_of};
+use macho_fields::{Bytes, Span, TableFields, structure_of, unlisted_tables};
 use macho_image::{Commands, Image, Section, Sections, Segments};
-use macho_rules::Refusal;
-use std::alloc::{AllocError, Global};
 use std::marker::Model;
 
 /// A part of an image that a structure describes.
@@ -78,14 +66,18 @@ fn relocations(section: &Section) -> Element
     }
 }
 
-// The tables of a command with this `cmd` that are elements. The encrypted range is not an element:
-// it covers sections.
-fn described_tables(cmd: u32) -> &'static [TableFields]
-    ensures { result.now ≡ described_tables cmd }
+// The tables of a command with this `cmd` and of this size that are elements. The encrypted range is
+// not an element: it covers sections.
+fn described_tables(cmd: u32, size: u32) -> &'static [TableFields]
+    ensures { result.now ≡ described_tables cmd size }
 {
+    if cmd == LC_ENCRYPTION_INFO_64 {
+        return &[];
+    }
     match structure_of(cmd) {
-        Some(structure) if cmd != LC_ENCRYPTION_INFO_64 => structure.tables(),
-        _ => &[],
+        Some(structure) => structure.tables(),
+        None if u64::from(size) < LINKEDIT_DATA_COMMAND_SIZE => &[],
+        None => unlisted_tables(cmd),
     }
 }
 
@@ -219,7 +211,7 @@ impl<'a> Iterator for Describing<'a> {
         let tables = Tables {
             image: self.image,
             command: command.place,
-            fields: described_tables(command.cmd),
+            fields: described_tables(command.cmd, command.size),
         };
         Some(Described {
             pending: None,
@@ -296,43 +288,4 @@ impl<'a> Elements<'a> {
             },
         }
     }
-}
-
-// No element shares a byte with an earlier one.
-//
-// For n elements that ascend or descend it takes one walk, and no memory. For others it may take time
-// in the order of n log n, and 24 bytes of memory for each.
-pub(crate) fn element_overlap(alloc: Global, image: &Image) -> Result<(), Refusal>
-    requires unbroken { NothingBreaks (Breaks image.now None) }
-    requires kept { KeptBelow (BreaksImage image.now) (rank Rule.ElementOverlap) }
-    ensures { ContinuesWithMemory (BreaksImage image.now) Rule.ElementOverlap
-        (IsUnordered (element_spans image.now)) result }
-{
-    let first = first_overlap(alloc, image)?;
-    Rule::ElementOverlap.judge(first)?;
-    Ok(())
-}
-
-// Where the first element is described that shares a byte with an earlier one, or `None` if none
-// does.
-fn first_overlap(alloc: Global, image: &Image) -> Result<Option<u64>, AllocError>
-    ensures first { IfOk result (IsFirstSharing (tagged_elements image.now)) }
-    ensures memory { OnErr result (IsUnordered (element_spans image.now)) }
-{
-    match element_order(image).sharing() {
-        Sharing::None => Ok(None),
-        Sharing::First(place) => Ok(Some(place)),
-        Sharing::Unknown => sorted_element_overlap(alloc, image),
-    }
-}
-
-// The order in which the elements come. What describes one is its tag.
-fn element_order(image: &Image) -> SpanOrder
-    ensures { IsOrderOf (tagged_elements image.now) result }
-{
-    let mut order = SpanOrder::new();
-    for element in Elements::of(image) {
-        order.note(element.span, element.described);
-    }
-    order
 }

@@ -1,23 +1,74 @@
 //! The bytes between spans.
 
 ghost use Rattle.std.specs.Prelude.{◌≡◌};
+ghost use Rattle.std.specs.List.Sorted.{IsNonDecreasingBy};
 ghost use Rattle.macho_fields.specs.Bytes.{bytes_of};
 ghost use Rattle.macho_fields.specs.FirstPlace.{IsLeastPlace};
-ghost use Rattle.macho_strict.specs.Gaps.{IsStray};
+ghost use Rattle.macho_spans.specs.Span.{end_of};
+ghost use Rattle.macho_spans.specs.SearchSteps.{sorted_spans};
+ghost use Rattle.macho_strict.specs.Gaps.{IsStray, IsLeastWithin};
+ghost use Rattle.macho_strict.specs.declared.gaps.Wanted.{Wanted};
 
-use macho_fields::{Bytes, Span};
+use macho_fields::{Bytes, Span, SpansByStart};
+
+// The instruction of one byte that does nothing, with which linkers fill gaps between code.
+pub(crate) const NOP: u8 = 0x90;
+
+// Which bytes are looked for.
+#[derive(Clone, Copy)]
+pub(crate) enum Wanted {
+    // Those that are not zero.
+    NonZero,
+    // Those that are neither zero nor a NOP.
+    NoPadding,
+}
+
+impl Wanted {
+    ghost use Rattle.std.specs.Prelude.{◌≡◌, ◌+◌};
+    ghost use Rattle.macho_fields.specs.Bytes.{bytes_of};
+    ghost use Rattle.macho_spans.specs.Span.{end_of, Holds};
+    ghost use Rattle.macho_strict.specs.Gaps.{IsLeastWithin};
+
+    // The least place of the span that has such a byte.
+    fn first(self, bytes: Bytes, span: Span) -> Option<u64>
+        ensures { IsLeastWithin self (bytes_of bytes.entry) span.start (end_of span) result }
+    {
+        match self {
+            Wanted::NonZero => bytes.first_nonzero(span),
+            Wanted::NoPadding => first_no_padding(bytes, span),
+        }
+    }
+}
+
+// The least place of the span that has a byte which is neither zero nor a NOP.
+fn first_no_padding(bytes: Bytes, span: Span) -> Option<u64>
+    ensures { IsLeastWithin Wanted.NoPadding (bytes_of bytes.entry) span.start (end_of span) result }
+{
+    let end = span.end().min(u128::from(bytes.len())) as u64;
+    let mut start = span.start;
+    while start < end {
+        let len = end - start;
+        let place = bytes.first_nonzero(Span { start, len })?;
+        if bytes.read_u8(place) != NOP {
+            return Some(place);
+        }
+        start = place + 1;
+    }
+    None
+}
 
 // What lies between spans that are passed by their starts. Empty spans are skipped.
 #[derive(Clone, Copy)]
 pub(crate) struct Gaps<'a> {
     bytes: Bytes<'a>,
+    wanted: Wanted,
     // Whether none of the spans began before an earlier one. If one did, nothing more is noted.
     by_start: bool,
     // Where the last span begins.
     start: u64,
     // The greatest end of a span.
     end: u128,
-    // The least place before `start` of a nonzero byte in no span.
+    // The least place before `start` that has a byte which is looked for, and is in no span.
     stray: Option<u64>,
 }
 
@@ -27,13 +78,15 @@ impl<'a> Gaps<'a> {
     ghost use Rattle.macho_fields.specs.FirstPlace.{IsLeastPlace};
     ghost use Rattle.macho_spans.specs.declared.span.Span.{Span};
     ghost use Rattle.macho_strict.specs.Gaps.{ArePassed, IsLeastNext, IsStray};
+    ghost use Rattle.macho_strict.specs.declared.gaps.Wanted.{Wanted};
 
     // No span was passed.
-    pub(crate) fn new(bytes: Bytes<'a>) -> Gaps<'a>
-        ensures { ArePassed (bytes_of bytes.entry) [] result }
+    pub(crate) fn new(bytes: Bytes<'a>, wanted: Wanted) -> Gaps<'a>
+        ensures { ArePassed wanted (bytes_of bytes.entry) [] result }
     {
         Gaps {
             bytes,
+            wanted,
             by_start: true,
             start: 0,
             end: 0,
@@ -43,8 +96,9 @@ impl<'a> Gaps<'a> {
 
     // Passes one more span.
     pub(crate) fn pass(&mut self, span: Span)
-        ensures { (bytes : List ℕ) (spans : List Span) → ArePassed bytes spans self.old
-            → ArePassed bytes (spans ++ span ∷ []) self.new }
+        ensures { (wanted : Wanted) (bytes : List ℕ) (spans : List Span)
+            → ArePassed wanted bytes spans self.old
+            → ArePassed wanted bytes (spans ++ span ∷ []) self.new }
     {
         if span.len == 0 {
             return;
@@ -64,40 +118,44 @@ impl<'a> Gaps<'a> {
         self.by_start
     }
 
-    // The least place of a nonzero byte that lies in none of the spans.
+    // The least place of a byte that is looked for and lies in none of the spans.
     pub(crate) fn stray(&self) -> Option<u64>
         requires { self.now.by_start ≡ true }
-        ensures { (bytes : List ℕ) (spans : List Span) → ArePassed bytes spans self.now
-            → IsLeastPlace (IsStray bytes spans) result }
+        ensures { (wanted : Wanted) (bytes : List ℕ) (spans : List Span)
+            → ArePassed wanted bytes spans self.now
+            → IsLeastPlace (IsStray wanted bytes spans) result }
     {
         self.stray_before(self.bytes.len())
     }
 
-    // The place that was found, otherwise the least place from `end` up to `limit` whose byte is
-    // not zero.
+    // The place that was found, otherwise the least place from `end` up to `limit` that has a byte
+    // which is looked for.
     fn stray_before(&self, limit: u64) -> Option<u64>
-        ensures { IsLeastNext (bytes_of self.now.bytes) self.now.end limit self.now.stray result }
+        ensures { IsLeastNext self.now.wanted (bytes_of self.now.bytes) self.now.end limit
+            self.now.stray result }
     {
         if self.stray.is_some() || u128::from(limit) <= self.end {
             return self.stray;
         }
         let start = self.end as u64;
-        self.bytes.first_nonzero(Span {
-            start,
-            len: limit - start,
-        })
+        self.wanted.first(
+            self.bytes,
+            Span {
+                start,
+                len: limit - start,
+            },
+        )
     }
 }
 
-// The least place of a nonzero byte that lies in none of the spans. They are sorted.
-pub(crate) fn stray_past(bytes: Bytes, spans: Vec<Span>) -> Option<u64>
-    ensures { IsLeastPlace (IsStray (bytes_of bytes.entry) spans.items) result }
+// The least place of a byte that is looked for and lies in none of the spans.
+pub(crate) fn stray_in(bytes: Bytes, wanted: Wanted, spans: &SpansByStart) -> Option<u64>
+    requires { IsNonDecreasingBy (λ span. span.start) (sorted_spans spans.now) }
+    ensures { IsLeastPlace (IsStray wanted (bytes_of bytes.entry) (sorted_spans spans.now)) result }
 {
-    let mut spans = spans;
-    spans.sort_unstable_by_key(|span| span.start);
-    let mut gaps = Gaps::new(bytes);
-    for span in &spans {
-        gaps.pass(*span);
+    let mut gaps = Gaps::new(bytes, wanted);
+    for index in 0..spans.len() {
+        gaps.pass(spans.span(index));
     }
     gaps.stray()
 }

@@ -1,14 +1,18 @@
 #![tactic(auto)]
 //! The strict profile, of a file that breaks no rule of the layout: every nonzero byte is accounted
-//! for, and no byte belongs to two parts.
+//! for, and no byte belongs to two elements.
 
 mod check;
+mod claims;
 pub mod elements;
+mod encrypted;
 mod gaps;
 pub mod law;
 mod overlap;
 mod segments;
+mod slack;
 mod stray;
+mod unclaimed;
 pub mod verdict;
 
 pub use elements::{Element, Elements};

@@ -2,11 +2,11 @@
 
 ghost use Rattle.std.specs.Prelude.{◌≡◌, ◌-◌, ◌*◌, ◌+◌, ◌≤◌, ◌^◌, List, length, map, max, min, IfOk};
 ghost use Rattle.std.specs.Iterator.{Drains, IsFinite};
-ghost use Rattle.macho_strict.specs.Sharing.{IsFirstSharing, tagged_elements, tagged_parts};
+ghost use Rattle.macho_strict.specs.Sharing.{IsFirstSharing, tagged_parts};
 ghost use Rattle.macho_strict.specs.Sharing.{file_part as file_part_of};
 ghost use Rattle.macho_strict.specs.declared.elements.Element.{Element};
 
-use crate::elements::{Element, Elements};
+use crate::elements::Element;
 use macho_fields::SpanList;
 use macho_image::{Image, Segment, Segments};
 use std::alloc::{AllocError, Global};
@@ -84,27 +84,8 @@ pub(crate) fn sorted_file_overlap(alloc: Global, image: &Image) -> Result<Option
     )
 }
 
-// Where the first element is described that shares a place with an earlier one, or `None` if no two
-// share one. It takes as much time and memory for n elements.
-pub(crate) fn sorted_element_overlap(
-    alloc: Global,
-    image: &Image,
-) -> Result<Option<u64>, AllocError>
-    ensures { IfOk result (IsFirstSharing (tagged_elements image.now)) }
-{
-    let list = span_list(alloc, count_of(Elements::of(image)), Elements::of(image))?;
-    let Some(index) = list.least_overlap() else {
-        return Ok(None);
-    };
-    Ok(
-        Elements::of(image)
-            .nth(index as usize)
-            .map(|element| element.described),
-    )
-}
-
 // How many elements there are, or the largest `usize` where there are more.
-fn count_of<I: Iterator<Item = Element>>(elements: I) -> usize
+pub(crate) fn count_of<I: Iterator<Item = Element>>(elements: I) -> usize
     requires can { I.can_next elements }
     requires finite { IsFinite (I.remaining elements) }
     ensures { (all : List Element) × Drains I.next_gives elements all
@@ -118,7 +99,7 @@ fn count_of<I: Iterator<Item = Element>>(elements: I) -> usize
 }
 
 // The spans of the elements, in their order. The memory for `count` of them is allocated at once.
-fn span_list<I: Iterator<Item = Element>>(
+pub(crate) fn span_list<I: Iterator<Item = Element>>(
     alloc: Global,
     count: usize,
     elements: I,

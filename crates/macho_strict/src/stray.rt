@@ -11,18 +11,19 @@ ghost use Rattle.macho_strict.specs.Rules.{BreaksFile};
 ghost use Rattle.macho_strict.specs.Verdict.{slice_spans};
 ghost use Rattle.macho_strict.specs.Stray.{table_span};
 ghost use Rattle.macho_fields.specs.declared.rule.Rule.{Rule};
+ghost use Rattle.macho_strict.specs.declared.gaps.Wanted.{Wanted};
 
-use crate::gaps::{Gaps, stray_past};
+use crate::gaps::{Gaps, Wanted, stray_in};
 use macho_fields::header::fat::{
     FAT_ARCH_64_SIZE, FAT_ARCH_SIZE, FAT_HEADER_SIZE, FAT_MAGIC, FAT_MAGIC_64,
 };
-use macho_fields::{Bytes, Order, Rule, Span};
+use macho_fields::{Bytes, Order, Rule, Span, SpanList};
 use macho_rules::{Refusal, Verified};
 use std::alloc::{AllocError, Global};
 
 // Each byte of a universal file after its table is zero or lies in a slice.
 //
-// It takes memory only if the slices do not ascend: 16 bytes for each, to sort them.
+// It takes memory only if the slices do not ascend: 24 bytes for each, to sort them.
 pub(crate) fn fat_stray_byte(alloc: Global, verified: &Verified) -> Result<(), Refusal>
     ensures { ContinuesWithMemory (BreaksFile verified.now) Rule.FatStrayByte
         (¬ IsAscending (slice_spans verified.now)) result }
@@ -64,22 +65,23 @@ fn entry_size(file: Bytes) -> Option<u64>
 
 // The least place of a nonzero byte that is neither in the table nor in a slice.
 fn least_stray(alloc: Global, verified: &Verified, table: Span) -> Result<Option<u64>, AllocError>
-    ensures found { IfOk result (IsLeastPlace (IsStray verified.now (table ∷ slice_spans verified.now))) }
+    ensures found { IfOk result (IsLeastPlace
+        (IsStray Wanted.NonZero verified.now (table ∷ slice_spans verified.now))) }
     ensures memory { OnErr result (¬ ComeByStart (table ∷ slice_spans verified.now)) }
 {
     let gaps = pass_slices(verified, table);
     if gaps.by_start() {
         return Ok(gaps.stray());
     }
-    let spans = spans(alloc, verified, table)?;
-    Ok(stray_past(verified.bytes(), spans))
+    let spans = span_list(alloc, verified, table)?.sorted();
+    Ok(stray_in(verified.bytes(), Wanted::NonZero, &spans))
 }
 
 // Passes the table and the slices, in their order.
 fn pass_slices<'a>(verified: &Verified<'a>, table: Span) -> Gaps<'a>
-    ensures { ArePassed verified.now (table ∷ slice_spans verified.now) result }
+    ensures { ArePassed Wanted.NonZero verified.now (table ∷ slice_spans verified.now) result }
 {
-    let mut gaps = Gaps::new(verified.bytes());
+    let mut gaps = Gaps::new(verified.bytes(), Wanted::NonZero);
     gaps.pass(table);
     for index in 0..verified.slice_count() {
         gaps.pass(slice_span(verified, index));
@@ -88,16 +90,16 @@ fn pass_slices<'a>(verified: &Verified<'a>, table: Span) -> Gaps<'a>
 }
 
 // The table and the slices, in their order. The memory for them is allocated at once.
-fn spans(alloc: Global, verified: &Verified, table: Span) -> Result<Vec<Span>, AllocError>
-    ensures { IfOk result (λ spans. spans.items ≡ table ∷ slice_spans verified.now) }
+fn span_list(alloc: Global, verified: &Verified, table: Span) -> Result<SpanList, AllocError>
+    ensures { IfOk result (λ list. list.spans ≡ table ∷ slice_spans verified.now) }
 {
     let count = (verified.slice_count() as usize).saturating_add(1);
-    let mut spans = Vec::with_capacity(alloc, count)?;
-    spans.push(table)?;
+    let mut list = SpanList::with_capacity(alloc, count)?;
+    list.push(table)?;
     for index in 0..verified.slice_count() {
-        spans.push(slice_span(verified, index))?;
+        list.push(slice_span(verified, index))?;
     }
-    Ok(spans)
+    Ok(list)
 }
 
 // Where the slice with this index lies in the file.

@@ -18,6 +18,8 @@ pub const MACH_HEADER_64_SIZE: u64 = 32;
 pub const LOAD_COMMAND_SIZE: u64 = 8;
 /// The size in bytes of `segment_command_64`, after which its sections follow.
 pub const SEGMENT_COMMAND_64_SIZE: u64 = 72;
+/// The size in bytes of `linkedit_data_command`.
+pub const LINKEDIT_DATA_COMMAND_SIZE: u64 = 16;
 /// The size in bytes of `section_64`.
 pub const SECTION_64_SIZE: u64 = 80;
 /// The size in bytes of `build_tool_version`, of which records follow `build_version_command`.
@@ -28,6 +30,8 @@ pub const DYLIB_TABLE_OF_CONTENTS_SIZE: u64 = 8;
 pub const DYLIB_MODULE_64_SIZE: u64 = 56;
 /// The size in bytes of `dylib_reference`, an entry of the table of referenced symbols.
 pub const DYLIB_REFERENCE_SIZE: u64 = 4;
+/// The size in bytes of `twolevel_hint`, an entry of the table of hints.
+pub const TWOLEVEL_HINT_SIZE: u64 = 4;
 /// The size in bytes of an indirect entry, an index of a symbol.
 pub const INDIRECT_ENTRY_SIZE: u64 = 4;
 
@@ -46,6 +50,8 @@ pub const LC_ID_DYLIB: u32 = 0xd;
 pub const LC_LOAD_DYLINKER: u32 = 0xe;
 /// The name of a dynamic linker.
 pub const LC_ID_DYLINKER: u32 = 0xf;
+/// The place of the hints for the look-up of undefined symbols.
+pub const LC_TWOLEVEL_HINTS: u32 = 0x16;
 /// A segment of a 64-bit image, with its sections.
 pub const LC_SEGMENT_64: u32 = 0x19;
 /// The number that identifies a build.
@@ -74,6 +80,12 @@ pub const LC_LINKER_OPTIMIZATION_HINT: u32 = 0x2e;
 pub const LC_NOTE: u32 = 0x31;
 /// The platform, its least version and the tools of a build.
 pub const LC_BUILD_VERSION: u32 = 0x32;
+/// The place of what the linker knew of the atoms of the image.
+pub const LC_ATOM_INFO: u32 = 0x36;
+/// The place of the variants of functions.
+pub const LC_FUNCTION_VARIANTS: u32 = 0x37;
+/// The place of the fixups of the variants of functions.
+pub const LC_FUNCTION_VARIANT_FIXUPS: u32 = 0x38;
 
 /// A library that the image is linked with and can run without.
 pub const LC_LOAD_WEAK_DYLIB: u32 = 0x18 | LC_REQ_DYLD;
@@ -168,6 +180,14 @@ pub mod linkedit_data_command {
     pub const DATAOFF: u64 = 8;
     /// The number of bytes of the data.
     pub const DATASIZE: u64 = 12;
+}
+
+/// The offsets of the 32-bit fields of `twolevel_hints_command`.
+pub mod twolevel_hints_command {
+    /// The place of the hints.
+    pub const OFFSET: u64 = 8;
+    /// The number of hints.
+    pub const NHINTS: u64 = 12;
 }
 
 /// The offsets of the 32-bit fields of `dyld_info_command`.

@@ -1,6 +1,7 @@
-use Rattle.std.proofs.Common.{inl}
+use Rattle.std.proofs.Common.{◌⊎◌, inl, inr}
+use Rattle.macho_rules.specs.declared.refusal.Refusal.TheVariants as refusal
 use Rattle.macho_spans.specs.Overlap.{IsAscending}
-use Rattle.macho_strict.specs.Verdict.{IsUnordered, file_parts}
+use Rattle.macho_strict.specs.Verdict.{IsUnordered, file_parts, element_spans, HasEncrypted, HasLooseNop}
 use Rattle.macho_strict.proofs.Verdicts.{passed_of, all_unbroken}
 use Rattle.macho_strict.proofs.check.check_image.Goals as goal
 
@@ -9,10 +10,25 @@ returns-in_err-segment_file_overlap-clause-refused c =
     passed_of c.args.image.now (IsUnordered (file_parts c.args.image.now)) (λ unordered. inl unordered.0) c.in_err-segment_file_overlap.field-0.0 c.in_err-segment_file_overlap.ensures
     c.from_residual-in_err-segment_file_overlap.result c.from_residual-in_err-segment_file_overlap.ensures.1
 
+pub returns-in_err-claims-clause-refused : goal.returns-in_err-claims-clause-refused
+returns-in_err-claims-clause-refused c =
+    passed_of c.args.image.now (¬ IsAscending (element_spans c.args.image.now)) (λ not. inr (inl not)) refusal.Memory c.in_err-claims.ensures.memory c.from_residual-in_err-claims.result c.from_residual-in_err-claims.ensures.1
+
 pub returns-in_err-stray_byte-clause-refused : goal.returns-in_err-stray_byte-clause-refused
 returns-in_err-stray_byte-clause-refused c =
     passed_of c.args.image.now (¬ IsAscending (file_parts c.args.image.now)) (λ not. inl not) c.in_err-stray_byte.field-0.0 c.in_err-stray_byte.ensures
     c.from_residual-in_err-stray_byte.result c.from_residual-in_err-stray_byte.ensures.1
 
+pub returns-in_err-encrypted_range-clause-refused : goal.returns-in_err-encrypted_range-clause-refused
+returns-in_err-encrypted_range-clause-refused c =
+    passed_of c.args.image.now (HasEncrypted c.args.image.now) (λ has. inr (inr (inl has))) c.in_err-encrypted_range.field-0.0 c.in_err-encrypted_range.ensures
+    c.from_residual-in_err-encrypted_range.result c.from_residual-in_err-encrypted_range.ensures.1
+
+pub returns-in_err-unclaimed_byte-clause-refused : goal.returns-in_err-unclaimed_byte-clause-refused
+returns-in_err-unclaimed_byte-clause-refused c =
+    passed_of c.args.image.now ((¬ IsAscending (element_spans c.args.image.now)) ⊎ HasLooseNop c.args.image.now) (λ either. elim either [ inl not ↦ inr (inl not) | inr nop ↦ inr (inr (inr nop)) ])
+    c.in_err-unclaimed_byte.field-0.0 c.in_err-unclaimed_byte.ensures
+    c.from_residual-in_err-unclaimed_byte.result c.from_residual-in_err-unclaimed_byte.ensures.1
+
 pub returns-clause-unbroken : goal.returns-clause-unbroken
-returns-clause-unbroken c = all_unbroken c.args.image.now c.in_ok-stray_byte.ensures
+returns-clause-unbroken c = all_unbroken c.args.image.now c.in_ok-unclaimed_byte.ensures

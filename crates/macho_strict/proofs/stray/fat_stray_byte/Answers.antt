@@ -2,6 +2,7 @@ use Rattle.std.proofs.Common.{◌∷◌, Ok, Err, subst}
 use Rattle.macho_fields.specs.FirstPlace.{IsLeastPlace}
 use Rattle.macho_spans.specs.Overlap.{IsAscending}
 use Rattle.macho_spans.specs.declared.span.Span.{Span}
+use Rattle.macho_strict.specs.declared.gaps.Wanted.TheVariants as wanted
 use Rattle.macho_strict.specs.Gaps.{IsStray, ComeByStart}
 use Rattle.macho_fields.specs.Layers.{IsLeast}
 use Rattle.macho_strict.specs.Rules.{BreaksFile}
@@ -25,7 +26,7 @@ returns-in_err-judge c =
     let file = c.args.verified.now in
     let stray = c.in_ok-stray.stray in
     let b = c.in_err-judge.field-0.0 in
-    let found = least_of_file file c.in-Some.ensures.0 stray (subst (λ (table : Span). IsLeastPlace (IsStray file (table ∷ slice_spans file)) stray) c.in-Some.ensures.1 c.in_ok-stray.ensures.found) in
+    let found = least_of_file file c.in-Some.ensures.0 stray (subst (λ (table : Span). IsLeastPlace (IsStray wanted.NonZero file (table ∷ slice_spans file)) stray) c.in-Some.ensures.1 c.in_ok-stray.ensures.found) in
     let least : IsLeast (BreaksFile file) b = first_judged {T = Unit {0}} (BreaksFile file) rule.FatStrayByte stray (Err b) (none_before_file file) found c.in_err-judge.ensures in
     refused (BreaksFile file) rule.FatStrayByte (¬ IsAscending (slice_spans file)) b least c.from_residual-in_err-judge.result c.from_residual-in_err-judge.ensures.1
 
@@ -33,5 +34,5 @@ pub returns : goal.returns
 returns c =
     let file = c.args.verified.now in
     let stray = c.in_ok-stray.stray in
-    let found = least_of_file file c.in-Some.ensures.0 stray (subst (λ (table : Span). IsLeastPlace (IsStray file (table ∷ slice_spans file)) stray) c.in-Some.ensures.1 c.in_ok-stray.ensures.found) in
+    let found = least_of_file file c.in-Some.ensures.0 stray (subst (λ (table : Span). IsLeastPlace (IsStray wanted.NonZero file (table ∷ slice_spans file)) stray) c.in-Some.ensures.1 c.in_ok-stray.ensures.found) in
     first_judged {T = Unit {0}} (BreaksFile file) rule.FatStrayByte stray (Ok c.in_ok-judge.field-0) (none_before_file file) found c.in_ok-judge.ensures

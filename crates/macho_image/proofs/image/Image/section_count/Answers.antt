@@ -11,7 +11,7 @@ overflow_add-count c =
     let same = ap counted c.into_iter-segment-iterator.ensures.into_iter_gives in
     let more = counted_more _ _ _ c.in-Some.ensures.steps in
     let fits : 80 * section_count image (commands_of image) ≤ length image = count_fits image c.segments-segment-items.ensures.opened in
-    omega (arith, all, same, c.loop-segment.invariant.2, more, c.nsects-count.ensures.number, fits, ap length c.bytes.ensures.bytes, c.len.ensures.count, c.len.ensures.fits)
+    omega (arith, all, same, c.loop-segment.invariant.2, more, c.nsects-count.ensures.number, fits, c.segments-segment-items.ensures.fits)
 
 pub loop-segment-preserved : goal.loop-segment-preserved
 loop-segment-preserved c = (tt, tt, omega (arith, c.loop-segment.invariant.2, counted_more _ _ _ c.in-Some.ensures.steps, c.nsects-count.ensures.number))

@@ -1,4 +1,4 @@
-use Rattle.std.proofs.Common.{◌≡◌, ◌++◌, [], ◌∷◌, ◌<◌, ◌^◌, List, ℕ, length, sym, ap, ◌∙◌, subst, arith}
+use Rattle.std.proofs.Common.{◌++◌, [], ◌∷◌, ◌<◌, ◌^◌, List, ℕ, length, sym, ◌∙◌, subst, arith}
 use Rattle.macho_image.specs.Segment.{SegmentView}
 use Rattle.macho_rules.specs.Survey.{AreFirstSections, BreaksSegment, segment_notes, IsSurveyOf, sections_among}
 use Rattle.macho_rules.proofs.Surveys.{walked, walked_on, walked_all, segments_end_by, all_end_by, noted_more, sections_append, counted_more, survey_found}
@@ -27,7 +27,6 @@ invariant_of-result c =
     let are = c.into_iter-segment-iterator.ensures.into_iter_gives ∙ c.segments-segment-items.ensures.segments in
     let (seen, reached, segments, sections, mapped, count) = c.loop-segment.invariant in
     let all = sym (walked_all _ seen _ reached c.in-None.ensures.steps.0) ∙ are in
-    let size : c.len.result ≡ length image = c.len.ensures.count ∙ ap length c.bytes-bytes.ensures.bytes in
-    let short : length image < 2 ^ 64 = omega (arith, size, c.len.type_inv) in
+    let short : length image < 2 ^ 64 = c.bytes-bytes.ensures.fits in
     subst (λ (bytes : List ℕ). IsSurveyOf bytes c.loop-segment.segments c.loop-segment.sections c.loop-segment.mapped c.loop-segment.section_count) (sym c.bytes-bytes.ensures.bytes)
     (survey_found image opened seen all c.loop-segment.segments c.loop-segment.sections c.loop-segment.mapped c.loop-segment.section_count short segments sections mapped count)

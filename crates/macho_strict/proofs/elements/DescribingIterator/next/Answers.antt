@@ -1,7 +1,7 @@
 use Rattle.std.proofs.Common.{sym, ◌∙◌}
 use Rattle.macho_fields.specs.Bytes.{bytes_of}
 use Rattle.macho_image.specs.Command.{command_of}
-use Rattle.macho_strict.proofs.ElementWalks.{is_listed, has_cmd, tables_hold, past_other, past_segment, other_described, segment_described}
+use Rattle.macho_strict.proofs.ElementWalks.{is_listed, has_cmd, has_size, tables_hold, past_other, past_segment, other_described, segment_described}
 use Rattle.macho_strict.proofs.elements.DescribingIterator.next.Goals as goal
 use Rattle.macho_strict.proofs.elements.DescribingIterator.next.Goals.{then-command-eq-LC_SEGMENT_64+in_ok-next, else-command-eq-LC_SEGMENT_64}
 
@@ -11,7 +11,8 @@ invariant_of-tables c =
     let next = c.in_ok-command.ensures.steps in
     let listed = is_listed image c.self.inside.commands c.next.new.self (command_of c.in_ok-command.command) next c.self.inside.segments c.self.invariant in
     let cmd = has_cmd image c.self.inside.commands c.next.new.self (command_of c.in_ok-command.command) next c.self.inside.segments c.self.invariant in
-    let held = tables_hold image c.self.invariant.opened c.in_ok-command.command.place listed c.in_ok-command.command.cmd cmd in
+    let size = has_size image c.self.inside.commands c.next.new.self (command_of c.in_ok-command.command) next c.self.inside.segments c.self.invariant in
+    let held = tables_hold image c.self.invariant.opened c.in_ok-command.command.place listed c.in_ok-command.command.cmd c.in_ok-command.command.size cmd size in
     elim c.if-command-eq-LC_SEGMENT_64.branch [
       | then-command-eq-LC_SEGMENT_64+in_ok-next w ↦ rw (w.self-inside-is, c.described_tables.ensures) held
       | else-command-eq-LC_SEGMENT_64 w ↦ rw (w.self-inside-is, c.described_tables.ensures) held

@@ -6,4 +6,4 @@ use Rattle.macho_strict.proofs.segments.Survey.of.Given as goal
 -- these file parts were noted
 abbrev pub invariant-loop-part : goal.invariant-loop-part
 invariant-loop-part l =
-    (seen : List Element) × (l.initial.part-iterator ≡ seen ++ l.part-iterator) × AreSurveyed l.image seen l.has_headers l.order l.gaps
+    (seen : List Element) × (l.initial.part-iterator ≡ seen ++ l.part-iterator) × AreSurveyed l.image seen l.order l.gaps

@@ -6,6 +6,7 @@ use Rattle.macho_fields.specs.Layers.{IsLeast}
 use Rattle.macho_strict.specs.Rules.{BreaksImage}
 use Rattle.macho_strict.specs.Verdict.{file_parts}
 use Rattle.macho_fields.specs.declared.rule.Rule.TheVariants as rule
+use Rattle.macho_strict.specs.declared.gaps.Wanted.TheVariants as wanted
 use Rattle.macho_fields.proofs.FirstPlaces.{first_judged}
 use Rattle.macho_strict.proofs.Judged.{without_memory, refused}
 use Rattle.macho_strict.proofs.Passed.{ascending_by_start}
@@ -16,7 +17,7 @@ pub least_stray-requires : goal.least_stray-requires
 least_stray-requires c =
     let own = bytes_of c.self.inside.image in
     let same : own ≡ c.args.image.now = c.self.view_is ∙ c.requires.image in
-    subst (λ (bytes : List ℕ). ArePassed bytes (file_parts bytes) c.self.inside.gaps) same (passed_parts own c.self.inside.gaps c.self.invariant.1.passed)
+    subst (λ (bytes : List ℕ). ArePassed wanted.NonZero bytes (file_parts bytes) c.self.inside.gaps) same (passed_parts own c.self.inside.gaps c.self.invariant.1.passed)
 
 pub returns-in_err-stray : goal.returns-in_err-stray
 returns-in_err-stray c =

@@ -1,7 +1,0 @@
-use Rattle.std.proofs.Common.{◌≡◌, ◌∷◌, take}
-use Rattle.macho_strict.specs.Verdict.{slice_spans}
-use Rattle.macho_strict.proofs.stray.spans.Given as goal
-
--- the table and the slices before this one were added
-abbrev pub invariant-loop-index : goal.invariant-loop-index
-invariant-loop-index l = l.spans.items ≡ l.fn.table ∷ take l.index (slice_spans l.verified)

@@ -1,0 +1,284 @@
+//! What one walk over the elements of an image finds: which of them share bytes, and what lies between
+//! them.
+
+ghost use Rattle.std.specs.Prelude.{◌≡◌, ◌↔◌, ◌++◌, ◌∷◌, [], IsTrue, IfOk, IfSome, IfNone, IsPermutation};
+ghost use Rattle.macho_fields.specs.Bytes.{bytes_of};
+ghost use Rattle.macho_fields.specs.FirstPlace.{IsLeastPlace};
+ghost use Rattle.std.specs.List.Sorted.{IsNonDecreasingBy};
+ghost use Rattle.macho_spans.specs.SearchSteps.{WereAdded, sorted_spans};
+ghost use Rattle.macho_strict.specs.Claims.{least_option};
+ghost use Rattle.macho_strict.specs.Gaps.{ArePassed, IsStray};
+ghost use Rattle.macho_strict.specs.Rules.{EndsPast};
+ghost use Rattle.macho_strict.specs.Sharing.{IsFirstSharing, tagged_elements};
+ghost use Rattle.macho_strict.specs.Verdict.{element_spans};
+ghost use Rattle.macho_strict.specs.declared.gaps.Wanted.{Wanted};
+
+use crate::elements::{Element, Elements};
+use crate::gaps::{Gaps, Wanted, stray_in};
+use crate::overlap::{count_of, span_list};
+use macho_fields::{Break, Bytes, Rule, Sharing, Span, SpanList, SpanOrder, SpansByStart};
+use macho_image::Image;
+use std::alloc::{AllocError, Global};
+use std::marker::Model;
+
+// The most elements of which a walk keeps the bytes, so that they can be sorted without another walk.
+const KEPT: usize = 256;
+
+// For how many elements there is room at first.
+const ROOM: usize = 32;
+
+// What one walk over the elements of an image notes.
+#[derive(Drop)]
+struct Noted {
+    // How many there are, or the largest `usize` where there are more.
+    count: usize,
+    // Where the first is described that ends past the image.
+    outside: Option<u64>,
+    // In what order they come. What describes one is its tag.
+    order: SpanOrder,
+    // Their bytes, if they are few. Without memory for them none are kept.
+    list: Option<SpanList>,
+}
+
+impl Noted {
+    ghost use Rattle.std.specs.Prelude.{◌≡◌, ◌∷◌, ◌++◌, [], ℕ, List};
+    ghost use Rattle.macho_fields.specs.Bytes.{bytes_of};
+    ghost use Rattle.macho_strict.specs.Claims.{AreNoted};
+    ghost use Rattle.macho_strict.specs.Elements.{elements_of};
+    ghost use Rattle.macho_strict.specs.declared.elements.Element.{Element};
+
+    // Goes over all elements of the image.
+    fn of(alloc: Global, image: &Image) -> Noted
+        ensures { AreNoted image.now (elements_of image.now) result }
+    {
+        let bytes = image.bytes();
+        let mut noted = Noted {
+            count: 0,
+            outside: None,
+            order: SpanOrder::new(),
+            list: SpanList::with_capacity(alloc, ROOM).ok(),
+        };
+        for element in Elements::of(image) {
+            noted.note(bytes, element);
+        }
+        noted
+    }
+
+    // Notes one more element of an image that has these bytes.
+    fn note(&mut self, bytes: Bytes, element: Element)
+        ensures { (elements : List Element) → AreNoted (bytes_of bytes.entry) elements self.old
+            → AreNoted (bytes_of bytes.entry) (elements ++ element ∷ []) self.new }
+    {
+        self.count = self.count.saturating_add(1);
+        if ends_past(bytes, element) {
+            self.outside = least(self.outside, Some(element.described));
+        }
+        self.order.note(element.span, element.described);
+        self.list = list_with(self.list.take(), self.count, element.span);
+    }
+}
+
+// The list with one more span, if there are no more than `KEPT` with it, and there is room.
+fn list_with(list: Option<SpanList>, count: usize, span: Span) -> Option<SpanList>
+    ensures { IfSome result (λ new. IfNone list ⊥
+        × IfSome list (λ old. new.spans ≡ old.spans ++ span ∷ [])) }
+{
+    let mut list = list?;
+    if count > KEPT {
+        return None;
+    }
+    list.push(span).ok()?;
+    Some(list)
+}
+
+// Whether the element has bytes, and ends past the image, which has `bytes`.
+fn ends_past(bytes: Bytes, element: Element) -> bool
+    ensures { IsTrue result ↔ EndsPast (bytes_of bytes.entry) element }
+{
+    element.span.len > 0 && !bytes.contains(element.span)
+}
+
+// The lesser of two places, of which either may be missing.
+pub(crate) fn least(one: Option<u64>, other: Option<u64>) -> Option<u64>
+    ensures { result ≡ least_option one other }
+{
+    match (one, other) {
+        (Some(one), Some(other)) => Some(one.min(other)),
+        (Some(place), None) | (None, Some(place)) => Some(place),
+        (None, None) => None,
+    }
+}
+
+// What is found of the elements of an image.
+#[derive(Drop)]
+pub(crate) struct Claims<'a> {
+    // The image whose elements they are.
+    image: Bytes<'a>,
+    // The least place at which `element-overlap` is broken.
+    broken: Option<u64>,
+    // Their bytes, if these had to be sorted.
+    sorted: Option<SpansByStart>,
+}
+
+impl<'a> Model for Claims<'a> {
+    ghost use Rattle.std.specs.Prelude.{List, ℕ};
+    ghost use Rattle.macho_fields.specs.Bytes.{bytes_of};
+    ghost use Rattle.macho_strict.specs.Claims.{AreClaims};
+
+    ghost Value = { List ℕ };
+
+    ghost view = { λ claims. bytes_of claims.image };
+
+    ghost invariant = { λ claims.
+        AreClaims (bytes_of claims.image) claims.broken claims.sorted };
+}
+
+impl<'a> Claims<'a> {
+    ghost use Rattle.std.specs.Prelude.{◌≡◌, IfOk, OnErr};
+    ghost use Rattle.macho_fields.specs.FirstPlace.{IsLeastPlace};
+    ghost use Rattle.macho_fields.specs.Layers.{KeptBelow, Continues};
+    ghost use Rattle.macho_fields.specs.RuleList.{rank};
+    ghost use Rattle.macho_fields.specs.declared.rule.Rule.{Rule};
+    ghost use Rattle.macho_spans.specs.Overlap.{IsAscending};
+    ghost use Rattle.macho_strict.specs.Claims.{AreNoted};
+    ghost use Rattle.macho_strict.specs.Elements.{elements_of};
+    ghost use Rattle.macho_strict.specs.Gaps.{IsStray};
+    ghost use Rattle.macho_strict.specs.Rules.{BreaksImage};
+    ghost use Rattle.macho_strict.specs.Sharing.{IsFirstSharing, tagged_elements};
+    ghost use Rattle.macho_strict.specs.Verdict.{element_spans};
+    ghost use Rattle.macho_strict.specs.declared.gaps.Wanted.{Wanted};
+
+    // Goes over the elements of the image. It needs memory only if they neither ascend nor descend: 24
+    // bytes for each, to sort them. If they are few, it takes that memory in any case.
+    pub(crate) fn of(alloc: Global, image: &Image<'a>) -> Result<Claims<'a>, AllocError>
+        ensures claims { IfOk result (λ claims. claims ≡ image.now) }
+        ensures memory { OnErr result (¬ IsAscending (element_spans image.now)) }
+    {
+        let noted = Noted::of(alloc, image);
+        match noted.order.sharing() {
+            Sharing::None => Ok(Claims::in_order(image, noted, None)),
+            Sharing::First(place) => Ok(Claims::in_order(image, noted, Some(place))),
+            Sharing::Unknown => Claims::sorting(alloc, image, noted),
+        }
+    }
+
+    // The claims of elements whose order shows the first that shares a byte with an earlier one. They
+    // are sorted if they were kept.
+    fn in_order(image: &Image<'a>, noted: Noted, shared: Option<u64>) -> Claims<'a>
+        requires noted { AreNoted image.now (elements_of image.now) noted }
+        requires shared { IsFirstSharing (tagged_elements image.now) shared }
+        ensures { result ≡ image.now }
+    {
+        Claims {
+            image: image.bytes(),
+            broken: least(noted.outside, shared),
+            sorted: sorted(noted.list),
+        }
+    }
+
+    // The claims of elements that are sorted here.
+    fn sorting(alloc: Global, image: &Image<'a>, noted: Noted) -> Result<Claims<'a>, AllocError>
+        requires { AreNoted image.now (elements_of image.now) noted }
+        ensures { IfOk result (λ claims. claims ≡ image.now) }
+    {
+        let sorted = element_list(alloc, image, noted.list, noted.count)?.sorted();
+        let shared = first_sharing(image, &sorted);
+        Ok(Claims {
+            image: image.bytes(),
+            broken: least(noted.outside, shared),
+            sorted: Some(sorted),
+        })
+    }
+
+    // No element shares a byte with an earlier one, or ends past the image.
+    pub(crate) fn element_overlap(&self) -> Result<(), Break>
+        requires { KeptBelow (BreaksImage self.now) (rank Rule.ElementOverlap) }
+        ensures { Continues (BreaksImage self.now) Rule.ElementOverlap result }
+    {
+        Rule::ElementOverlap.judge(self.broken)
+    }
+
+    // The least place of a byte that is not zero and lies in no element. It takes memory only if the
+    // elements descend.
+    pub(crate) fn first_loose(
+        &self,
+        alloc: Global,
+        image: &Image,
+    ) -> Result<Option<u64>, AllocError>
+        requires { self.now ≡ image.now }
+        ensures found { IfOk result (IsLeastPlace
+            (IsStray Wanted.NonZero image.now (element_spans image.now))) }
+        ensures memory { OnErr result (¬ IsAscending (element_spans image.now)) }
+    {
+        if let Some(sorted) = &self.sorted {
+            return Ok(stray_in(self.image, Wanted::NonZero, sorted));
+        }
+        let gaps = pass_elements(image);
+        if gaps.by_start() {
+            return Ok(gaps.stray());
+        }
+        sorted_stray(alloc, image, Wanted::NonZero)
+    }
+}
+
+// The spans of the list by ascending starts, if there is one.
+fn sorted(list: Option<SpanList>) -> Option<SpansByStart>
+    ensures moved { IfSome result (λ sorted. IfNone list ⊥
+        × IfSome list (λ list. IsPermutation list.spans (sorted_spans sorted))) }
+    ensures rising { IfSome result (λ sorted.
+        IsNonDecreasingBy (λ span. span.start) (sorted_spans sorted)) }
+{
+    Some(list?.sorted())
+}
+
+// The bytes of the elements, in their order: those that were kept, if they were. There are `count` of
+// them.
+fn element_list(
+    alloc: Global,
+    image: &Image,
+    kept: Option<SpanList>,
+    count: usize,
+) -> Result<SpanList, AllocError>
+    requires { IfSome kept (λ list. list.spans ≡ element_spans image.now) }
+    ensures { IfOk result (λ list. list.spans ≡ element_spans image.now) }
+{
+    match kept {
+        Some(list) => Ok(list),
+        None => span_list(alloc, count, Elements::of(image)),
+    }
+}
+
+// Where the first element is described that shares a byte with an earlier one, or `None` if no two
+// share one.
+fn first_sharing(image: &Image, sorted: &SpansByStart) -> Option<u64>
+    requires { WereAdded (element_spans image.now) sorted.now }
+    ensures { IsFirstSharing (tagged_elements image.now) result }
+{
+    let index = sorted.least_overlap()?;
+    Elements::of(image)
+        .nth(index as usize)
+        .map(|element| element.described)
+}
+
+// Passes the elements, in their order.
+fn pass_elements<'a>(image: &Image<'a>) -> Gaps<'a>
+    ensures { ArePassed Wanted.NonZero image.now (element_spans image.now) result }
+{
+    let mut gaps = Gaps::new(image.bytes(), Wanted::NonZero);
+    for element in Elements::of(image) {
+        gaps.pass(element.span);
+    }
+    gaps
+}
+
+// The least place of a byte that is looked for and lies in no element. They are sorted.
+pub(crate) fn sorted_stray(
+    alloc: Global,
+    image: &Image,
+    wanted: Wanted,
+) -> Result<Option<u64>, AllocError>
+    ensures { IfOk result (IsLeastPlace (IsStray wanted image.now (element_spans image.now))) }
+{
+    let list = span_list(alloc, count_of(Elements::of(image)), Elements::of(image))?;
+    Ok(stray_in(image.bytes(), wanted, &list.sorted()))
+}
