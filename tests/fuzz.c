@@ -493,7 +493,7 @@ static bool is_same(const struct kesvuot_verdict *one, const struct kesvuot_verd
 }
 
 static bool is_strict(uint32_t rule) {
-    return rule >= KESVUOT_FAT_STRAY_BYTE && rule <= KESVUOT_STRAY_BYTE;
+    return rule >= KESVUOT_FAT_STRAY_BYTE && rule <= KESVUOT_UNCLAIMED_BYTE;
 }
 
 // The verdict is whole.
@@ -588,7 +588,7 @@ static void check_constants(void) {
     for (; kesvuot_rule(rule, &name) == KESVUOT_OK; rule++) {
         CHECK(name.len > 0 && name.len == strlen((const char *)name.at));
     }
-    CHECK(rule > KESVUOT_STRAY_BYTE && is_empty(name));
+    CHECK(rule > KESVUOT_UNCLAIMED_BYTE && is_empty(name));
     CHECK(kesvuot_rule(0, &name) == KESVUOT_NONE && is_empty(name));
     CHECK(kesvuot_rule(UINT32_MAX, &name) == KESVUOT_NONE && is_empty(name));
     CHECK(kesvuot_version() == KESVUOT_VERSION);

@@ -102,7 +102,10 @@ enum {
     KESVUOT_HEADER_SEGMENT = 34,
     KESVUOT_SEGMENT_FILE_OVERLAP = 35,
     KESVUOT_ELEMENT_OVERLAP = 36,
-    KESVUOT_STRAY_BYTE = 37
+    KESVUOT_STRAY_BYTE = 37,
+    KESVUOT_ENCRYPTED_RANGE = 38,
+    KESVUOT_COMMAND_SLACK = 39,
+    KESVUOT_UNCLAIMED_BYTE = 40
 };
 
 /* The verdict on a file */
@@ -120,7 +123,8 @@ struct kesvuot_verdict {
 uint32_t kesvuot_verify(const void *file, size_t size, struct kesvuot_verdict *verdict);
 
 /* Judges a file as kesvuot_verify does, and then by the rules of the strict profile: every nonzero byte is accounted
- * for, and no byte belongs to two parts. Every file that is OK here is also OK for kesvuot_verify. */
+ * for, and no byte belongs to two elements, such as the headers, a section or a table. RULES.md says what that means.
+ * Every file that is OK here is also OK for kesvuot_verify. */
 uint32_t kesvuot_verify_strictly(const void *file, size_t size, struct kesvuot_verdict *verdict);
 
 /* Writes the layout of an accepted file as text, as macho-check prints it: up to `max` bytes, from its first byte on.

@@ -68,7 +68,8 @@ pub fn verify(file: &[u8]) -> Result<Verified<'_>, Error> {
 }
 
 /// Judges a file by the rules of the strict profile too: every nonzero byte is accounted for, and
-/// no byte belongs to two parts. Whatever is accepted here is accepted by [`verify`].
+/// no byte belongs to two elements, such as the headers, a section or a table. `docs/RULES.md` says
+/// what that means. Whatever is accepted here is accepted by [`verify`].
 ///
 /// # Errors
 ///

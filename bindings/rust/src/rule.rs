@@ -108,14 +108,23 @@ rules! {
     FatStrayByte = 32,
     /// Strictly: the last load command does not end where the header says.
     CommandsEnd = 33,
-    /// Strictly: no segment has the header and the load commands.
+    /// Strictly: no mapped segment has the header and the load commands.
     HeaderSegment = 34,
     /// Strictly: a segment shares a byte of the file with an earlier one.
     SegmentFileOverlap = 35,
-    /// Strictly: a section or a table shares a byte with an earlier one, or with the headers.
+    /// Strictly: a section or a table shares a byte with an earlier one, or with the headers. Or the
+    /// data of a command that `docs/RULES.md` does not list ends past the image.
     ElementOverlap = 36,
     /// Strictly: a byte that is not zero is in no segment.
     StrayByte = 37,
+    /// Strictly: the encrypted range begins in the headers, or is not in the bytes of one segment.
+    EncryptedRange = 38,
+    /// Strictly: a byte of a load command that is not zero is not in its structure, its records or its
+    /// name.
+    CommandSlack = 39,
+    /// Strictly: a byte of a segment that is neither zero nor a NOP of code is not in the headers, nor
+    /// in a section or a table.
+    UnclaimedByte = 40,
 }
 
 impl Rule {
