@@ -43,6 +43,7 @@ STRUCTURES = {
     "dylib_command": "u32 cmd  u32 cmdsize  u32 name  u32 timestamp  u32 current_version  u32 compatibility_version",
     "dylinker_command": "u32 cmd  u32 cmdsize  u32 name",
     "rpath_command": "u32 cmd  u32 cmdsize  u32 path",
+    "twolevel_hints_command": "u32 cmd  u32 cmdsize  u32 offset  u32 nhints",
     "uuid_command": "u32 cmd  u32 cmdsize  16bytes uuid",
     "linkedit_data_command": "u32 cmd  u32 cmdsize  u32 dataoff  u32 datasize",
     "dyld_info_command": "u32 cmd  u32 cmdsize  u32 rebase_off  u32 rebase_size  u32 bind_off  u32 bind_size"
@@ -88,6 +89,10 @@ VM_PROT_READ, VM_PROT_WRITE, VM_PROT_EXECUTE = 1, 2, 4
 # The commands that are looked for by name.
 LC_SYMTAB, LC_DYSYMTAB, LC_ID_DYLIB, LC_SEGMENT_64 = 0x2, 0xb, 0xd, 0x19
 LC_UUID, LC_ENCRYPTION_INFO_64, LC_BUILD_VERSION, LC_MAIN = 0x1b, 0x2c, 0x32, 0x80000028
+LC_TWOLEVEL_HINTS, LC_ATOM_INFO, LC_FUNCTION_VARIANTS, LC_FUNCTION_VARIANT_FIXUPS = 0x16, 0x36, 0x37, 0x38
+
+# A byte that linkers fill the gaps of code with.
+NOP = b"\x90"
 
 def rows_of(row):
     """The cells of the rows of docs/RULES.md that have this form."""
@@ -114,6 +119,14 @@ TABLE_ROWS = rows_of(r"^\| `(\w+_command\w*)` \| `(\w+)` \| `(\w+)` \| (\d+) \|$
 BOUNDED_TABLES = {
     structure: [(start, count, int(width)) for owner, start, count, width in TABLE_ROWS if owner == structure]
     for structure, *_ in TABLE_ROWS
+}
+
+# The data of the commands that have some but are not listed: the structure, the start, the count, the bytes per entry.
+UNLISTED_DATA = {
+    LC_TWOLEVEL_HINTS: ("twolevel_hints_command", "offset", "nhints", 4),
+    LC_ATOM_INFO: ("linkedit_data_command", "dataoff", "datasize", 1),
+    LC_FUNCTION_VARIANTS: ("linkedit_data_command", "dataoff", "datasize", 1),
+    LC_FUNCTION_VARIANT_FIXUPS: ("linkedit_data_command", "dataoff", "datasize", 1),
 }
 
 # The words of the layout for the commands that load a library.
@@ -531,17 +544,27 @@ def entry(image):
 
 # The strict profile. Its rules may take for granted that all above are unbroken as well.
 
-def first_stray(data, ranges):
-    """The place of the first byte that is not zero and lies in none of the ranges. A range is a start and a size."""
+def gaps(length, ranges):
+    """What of so many bytes lies in none of the ranges, by ascending places. A range is a start and a size, and a gap
+    is a start and an end."""
     place = 0
-    for start, size in sorted(ranges) + [(len(data), 1)]:
+    for start, size in sorted(ranges) + [(length, 1)]:
         if size > 0:
-            gap = data[place:start]
-            zeros = len(gap) - len(gap.lstrip(b"\0"))
-            if zeros < len(gap):
-                yield place + zeros
-                return
+            if place < start:
+                yield place, start
             place = max(place, start + size)
+
+def first_other(data, start, end, expected):
+    """The first place from `start` up to `end` with a byte that is none of the expected ones; `end` if there is none."""
+    return end - len(data[start:end].lstrip(expected))
+
+def first_stray(data, ranges):
+    """The place of the first byte that is not zero and lies in none of the ranges."""
+    for start, end in gaps(len(data), ranges):
+        place = first_other(data, start, end, b"\0")
+        if place < end:
+            yield place
+            return
 
 def fat_stray_byte(file):
     """A byte that is not zero lies neither in the header or the table nor in a slice."""
@@ -556,34 +579,90 @@ def commands_end(image):
         yield 20
 
 def header_segment(image):
-    """No segment has `fileoff` 0 and a `filesize` of at least 32 + `sizeofcmds`."""
-    if not any(segment.fileoff == 0 and segment.filesize >= image.commands_end for segment in image.segments):
+    """No mapped segment has `fileoff` 0 and a `filesize` of at least 32 + `sizeofcmds`."""
+    if not any(is_mapped(segment) and segment.fileoff == 0 and segment.filesize >= image.commands_end
+               for segment in image.segments):
         yield 20
 
 def segment_file_overlap(image):
     """The segment shares a byte of the file with some segment earlier in command order."""
     return first_sharing((segment.place, segment.fileoff, segment.filesize) for segment in image.segments)
 
+def tables(image, command):
+    """The start and the size of each table of a listed command, or of the data of another one."""
+    if command.cmd in LISTED:
+        structure = LISTED[command.cmd][0]
+        rows = BOUNDED_TABLES.get(structure, [])
+    elif command.cmd in UNLISTED_DATA and command.cmdsize >= 16:
+        structure, *row = UNLISTED_DATA[command.cmd]
+        rows = [row]
+    else:
+        return
+    fields = read(image.data, command.place, structure)
+    for start, count, width in rows:
+        yield getattr(fields, start), getattr(fields, count) * width
+
 def elements(image):
     """The elements, in their order: of each the place where it is described, its start and its size."""
     sections = {segment.place: segment.sections for segment in image.segments}
     yield 0, 0, image.commands_end
-    for command in image.listed:
+    for command in image.commands:
         for section in sections.get(command.place, []):
             if not is_zero_fill(section):
                 yield section.place, section.offset, section.size
             yield section.place, section.reloff, 8 * section.nreloc
         if command.cmd != LC_ENCRYPTION_INFO_64:
-            for start, count, width in BOUNDED_TABLES.get(LISTED[command.cmd][0], []):
-                yield command.place, getattr(command, start), getattr(command, count) * width
+            for start, size in tables(image, command):
+                yield command.place, start, size
 
 def element_overlap(image):
-    """The element shares a byte with some earlier element."""
-    return first_sharing(elements(image))
+    """The element shares a byte with some earlier element; or it has bytes, and ends past the slice."""
+    yield from first_sharing(elements(image))
+    for place, start, size in elements(image):
+        if size > 0 and start + size > image.length:
+            yield place
 
 def stray_byte(image):
     """A byte that is not zero lies in no segment's bytes in the file."""
     return first_stray(image.data, [(segment.fileoff, segment.filesize) for segment in image.segments])
+
+def encrypted_range(image):
+    """`cryptsize` > 0, and `cryptoff` is in the headers, or the range is not among the file bytes of one segment."""
+    # No two segments share a byte, so of those that begin at `cryptoff` or before it only the last can have the range.
+    parts = sorted((segment.fileoff, segment.filesize) for segment in image.segments if segment.filesize > 0)
+    for command in image.listed:
+        if command.cmd == LC_ENCRYPTION_INFO_64 and command.cryptsize > 0:
+            at = bisect.bisect(parts, (command.cryptoff, 2 ** 64))
+            end = sum(parts[at - 1]) if at > 0 else 0
+            if command.cryptoff < image.commands_end or command.cryptoff + command.cryptsize > end:
+                yield command.place
+
+def command_slack(image):
+    """A byte that is not zero lies in a listed command, and not in its structure, its records or its name."""
+    for command in image.listed:
+        content = image.data[command.place:command.place + command.cmdsize]
+        ranges = [(0, least_size(image, command))]
+        if LISTED[command.cmd][2] is not None:
+            start = name_offset(command)
+            ranges.append((start, content.index(0, start) + 1 - start))
+        for offset in first_stray(content, ranges):
+            yield command.place + offset
+
+def unclaimed_byte(image):
+    """A byte that is not zero lies among the file bytes of a segment, but in no element, and is no NOP."""
+    unclaimed = list(gaps(image.length, [(start, size) for _, start, size in elements(image)]))
+    ends = [end for _, end in unclaimed]
+    for segment in image.segments:
+        expected = b"\0" + NOP if segment.initprot & VM_PROT_EXECUTE else b"\0"
+        segment_end = segment.fileoff + segment.filesize
+        at = bisect.bisect(ends, segment.fileoff)
+        while at < len(unclaimed) and unclaimed[at][0] < segment_end:
+            start, end = max(unclaimed[at][0], segment.fileoff), min(unclaimed[at][1], segment_end)
+            place = first_other(image.data, start, end, expected)
+            if place < end:
+                yield place
+                break
+            at += 1
 
 # Order of judgment
 
@@ -597,7 +676,10 @@ RULES_OF_AN_IMAGE = [
     section_relocs, table_range, symbol_group, symbol_name, symbol_section, indirect_index, entry,
 ]
 STRICT_RULES_OF_THE_FILE = [fat_stray_byte]
-STRICT_RULES_OF_AN_IMAGE = [commands_end, header_segment, segment_file_overlap, element_overlap, stray_byte]
+STRICT_RULES_OF_AN_IMAGE = [
+    commands_end, header_segment, segment_file_overlap, element_overlap, stray_byte, encrypted_range, command_slack,
+    unclaimed_byte,
+]
 
 def first_of(file, rules_of_the_file, rules_of_an_image):
     """The first broken one of these rules, by name, and the least place in the file at which it is broken; or None."""
