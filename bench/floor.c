@@ -137,9 +137,16 @@ struct uuid_command {
     uint8_t uuid[16];
 };
 
+
 struct linkedit_data_command {
     uint32_t cmd, cmdsize, dataoff, datasize;
 };
+
+// The commands that are not listed, but have data. A twolevel_hints_command has its two fields at the same places.
+#define LC_TWOLEVEL_HINTS 0x16u
+#define LC_ATOM_INFO 0x36u
+#define LC_FUNCTION_VARIANTS 0x37u
+#define LC_FUNCTION_VARIANT_FIXUPS 0x38u
 
 struct dyld_info_command {
     uint32_t cmd, cmdsize, rebase_off, rebase_size, bind_off, bind_size, weak_bind_off, weak_bind_size, lazy_bind_off,
@@ -167,6 +174,7 @@ struct entry_point_command {
 
 #define BUILD_TOOL_VERSION_SIZE 8u
 #define INDIRECT_ENTRY_SIZE 4u
+#define TWOLEVEL_HINT_SIZE 4u
 
 // mach-o/nlist.h, mach-o/reloc.h
 
@@ -182,6 +190,9 @@ struct nlist_64 {
 };
 
 #define RELOCATION_INFO_SIZE 8u
+
+// The byte that Apple's linker fills the gaps of code with.
+#define NOP 0x90u
 
 // Numbers. Every field is read as 64 bits, so that no sum or product of fields of 32 bits wraps.
 
@@ -1191,20 +1202,49 @@ static inline void gather(struct gathered *gathered, uint64_t start, uint64_t si
     follow(&gathered->order, span.start, span.last, place);
 }
 
+// Counts what is gathered next.
+static void begin_counted(struct gathered *gathered) {
+    gathered->spans = NULL;
+    begin_order(&gathered->order);
+}
+
 // Gathers once more what was counted, with room for it.
 static void begin_gathered(struct gathered *gathered, uint64_t count) {
     gathered->spans = count == 0 ? NULL : room_for(count);
     begin_order(&gathered->order);
 }
 
-// The bytes of the file that segments have. Returns whether one of them has the header and all commands.
+// The spans that were gathered, by ascending starts.
+static const struct span *sorted_spans(const struct gathered *gathered) {
+    return gathered->order.ascends ? gathered->spans : sort(gathered->spans, gathered->order.count);
+}
+
+// The spans of an image, by ascending starts. `room` is what is given back.
+struct spans {
+    struct span *room;
+    const struct span *sorted;
+    size_t count;
+};
+
+// Notes the rule where two of the spans share a byte.
+static struct spans judge_gathered(const struct image *image, enum rule rule, const struct gathered *gathered) {
+    struct spans spans = {gathered->spans, sorted_spans(gathered), gathered->order.count};
+    uint64_t shared = is_in_order(&gathered->order) ? NOWHERE : least_shared(spans.sorted, spans.count);
+    if (shared != NOWHERE) {
+        note(image->breaks, rule, shared);
+    }
+    return spans;
+}
+
+// The bytes of the file that segments have. Returns whether one that is mapped has the header and all commands.
 static bool gather_file_parts(const struct image *image, struct gathered *parts) {
     bool has_headers = false;
     const struct range *segments = &image->segments;
     for (uint64_t place = segments->first; place != 0; place = next_place(image, segments, place)) {
         if (is_command(image, place, LC_SEGMENT_64)) {
             struct segment segment = read_segment(image->bytes + place);
-            has_headers = has_headers || (segment.fileoff == 0 && segment.filesize >= image->commands_end);
+            has_headers = has_headers ||
+                (is_mapped(&segment) && segment.fileoff == 0 && segment.filesize >= image->commands_end);
             gather(parts, segment.fileoff, segment.filesize, image->start + place);
         }
     }
@@ -1231,12 +1271,39 @@ static inline void gather_tables(const struct image *image, uint64_t place, size
     }
 }
 
+// The data of a command that is not listed, in entries of this size. The command can be too short to have any, and
+// element-overlap is the first rule that bounds the data.
+static void gather_data(const struct image *image, uint64_t place, uint64_t entry, struct gathered *elements) {
+    const uint8_t *command = image->bytes + place;
+    if (FIELD(command, load_command, cmdsize) < sizeof(struct linkedit_data_command)) {
+        return;
+    }
+    uint64_t start = FIELD(command, linkedit_data_command, dataoff);
+    uint64_t size = entry * FIELD(command, linkedit_data_command, datasize);
+    if (size != 0 && !fits(start, size, image->size)) {
+        note_in(image, ELEMENT_OVERLAP, place);
+    }
+    gather(elements, start, size, image->start + place);
+}
+
 // What is encrypted is no element: it is in a section.
 static inline void gather_command(const struct image *image, uint64_t place, struct gathered *elements) {
     size_t slot = slot_of(FIELD(image->bytes + place, load_command, cmd));
-    if (slot == SLOT(LC_SEGMENT_64)) {
+    switch (slot) {
+    case SLOT(LC_SEGMENT_64):
         gather_sections(image, place, elements);
-    } else if (slot != SLOT(LC_ENCRYPTION_INFO_64)) {
+        break;
+    case SLOT(LC_ENCRYPTION_INFO_64):
+        break;
+    case SLOT(LC_TWOLEVEL_HINTS):
+        gather_data(image, place, TWOLEVEL_HINT_SIZE, elements);
+        break;
+    case SLOT(LC_ATOM_INFO):
+    case SLOT(LC_FUNCTION_VARIANTS):
+    case SLOT(LC_FUNCTION_VARIANT_FIXUPS):
+        gather_data(image, place, 1, elements);
+        break;
+    default:
         gather_tables(image, place, slot, elements);
     }
 }
@@ -1250,41 +1317,171 @@ static void gather_elements(const struct image *image, struct gathered *elements
     }
 }
 
-static void judge_element_overlap(const struct image *image) {
-    struct gathered elements = {.spans = NULL};
-    begin_order(&elements.order);
-    gather_elements(image, &elements);
-    if (elements.order.shared != NOWHERE) {
-        note(image->breaks, ELEMENT_OVERLAP, elements.order.shared);
-    } else if (!is_in_order(&elements.order)) {
-        begin_gathered(&elements, elements.order.count);
-        gather_elements(image, &elements);
-        judge_spans(image->breaks, ELEMENT_OVERLAP, elements.spans, elements.order.count);
+// The last of the sorted spans that starts at the place or before it. The first one does.
+static const struct span *last_up_to(const struct spans *spans, uint64_t place) {
+    size_t low = 0, high = spans->count;
+    while (high - low > 1) {
+        size_t middle = low + (high - low) / 2;
+        if (spans->sorted[middle].start <= place) {
+            low = middle;
+        } else {
+            high = middle;
+        }
     }
+    return &spans->sorted[low];
+}
+
+// The first of the file parts begins at 0: it has the headers.
+static bool breaks_encrypted_range(const struct image *image, const uint8_t *command, const struct spans *parts) {
+    uint64_t cryptoff = FIELD(command, encryption_info_command_64, cryptoff);
+    uint64_t cryptsize = FIELD(command, encryption_info_command_64, cryptsize);
+    if (cryptsize == 0) {
+        return false;
+    }
+    return cryptoff < image->commands_end || cryptoff + (cryptsize - 1) > last_up_to(parts, cryptoff)->last;
+}
+
+// How long the structure of a listed command is, with the records after it.
+static inline uint64_t structure_size(const uint8_t *command, size_t slot) {
+    uint64_t size = listed_commands[slot].least;
+    switch (slot) {
+    case SLOT(LC_SEGMENT_64):
+        return size + sizeof(struct section_64) * FIELD(command, segment_command_64, nsects);
+    case SLOT(LC_BUILD_VERSION):
+        return size + BUILD_TOOL_VERSION_SIZE * FIELD(command, build_version_command, ntools);
+    default:
+        return size;
+    }
+}
+
+// The offset of the first byte of a listed command that breaks command-slack; the size of the command where none does.
+static uint64_t first_slack(const uint8_t *command, size_t slot) {
+    uint64_t size = FIELD(command, load_command, cmdsize);
+    uint64_t start = structure_size(command, slot);
+    if (listed_commands[slot].name == 0) {
+        return first_nonzero(command, start, size);
+    }
+    uint64_t name = FIELD(command, dylinker_command, name);
+    uint64_t slack = first_nonzero(command, start, name);
+    return slack < name ? slack : first_nonzero(command, name + strlen((const char *)command + name), size);
+}
+
+// encrypted-range and command-slack
+static void judge_commands(const struct image *image, const struct spans *parts) {
+    uint64_t place = sizeof(struct mach_header_64);
+    for (uint64_t k = 0; k < image->ncmds; k++) {
+        const uint8_t *command = image->bytes + place;
+        uint64_t size = FIELD(command, load_command, cmdsize);
+        size_t slot = slot_of(FIELD(command, load_command, cmd));
+        if (slot == SLOT(LC_ENCRYPTION_INFO_64) && breaks_encrypted_range(image, command, parts)) {
+            note_in(image, ENCRYPTED_RANGE, place);
+        }
+        if (listed_commands[slot].least != 0) {
+            uint64_t slack = first_slack(command, slot);
+            if (slack < size) {
+                note_in(image, COMMAND_SLACK, place + slack);
+            }
+        }
+        place += size;
+    }
+}
+
+// The first place from `start` up to `end` with a byte that is neither zero nor a NOP; `end` where there is none. These
+// two bytes have no bits but the fifth and the last, and have both or none.
+static uint64_t first_no_nop(const uint8_t *bytes, uint64_t start, uint64_t end) {
+    const uint64_t ones = 0x0101010101010101u, nops = ones * NOP, fifth = ones << 4;
+    uint64_t place = start;
+    while (end - place >= sizeof(uint64_t)) {
+        uint64_t word = read_little(bytes + place, sizeof(uint64_t));
+        if ((word & ~nops) != 0 || ((word ^ word >> 3) & fifth) != 0) {
+            break;
+        }
+        place += sizeof(uint64_t);
+    }
+    while (place < end && (bytes[place] == 0 || bytes[place] == NOP)) {
+        place++;
+    }
+    return place;
+}
+
+static bool has_nops(const struct image *image, const struct span *part) {
+    const uint8_t *command = image->bytes + (part->place - image->start);
+    return (FIELD(command, segment_command_64, initprot) & VM_PROT_EXECUTE) != 0;
+}
+
+// The first byte from `start` up to `end` that is neither zero nor a NOP; `end` where there is none. Each byte that is
+// not zero lies in one of the file parts; `part` is one that ends before no such byte, and goes on with them.
+static uint64_t first_unclaimed(const struct image *image, uint64_t start, uint64_t end, const struct span **part) {
+    uint64_t place = first_nonzero(image->bytes, start, end);
+    while (place < end) {
+        while ((*part)->last < place) {
+            ++*part;
+        }
+        uint64_t part_end = (*part)->last < end ? (*part)->last + 1 : end;
+        uint64_t other = has_nops(image, *part) ? first_no_nop(image->bytes, place, part_end) : place;
+        if (other < part_end) {
+            return other;
+        }
+        place = first_nonzero(image->bytes, part_end, end);
+    }
+    return end;
+}
+
+static void judge_unclaimed_byte(const struct image *image, const struct spans *elements, const struct spans *parts) {
+    const struct span *part = parts->sorted;
+    uint64_t place = 0;
+    for (size_t k = 0; k <= elements->count; k++) {
+        uint64_t end = k < elements->count ? elements->sorted[k].start : image->size;
+        uint64_t unclaimed = first_unclaimed(image, place, end, &part);
+        if (unclaimed < end) {
+            note_in(image, UNCLAIMED_BYTE, unclaimed);
+            return;
+        }
+        place = k < elements->count ? elements->sorted[k].last + 1 : end;
+    }
+}
+
+// The rules from element-overlap on. The file parts share no byte.
+static void judge_elements(const struct image *image, const struct spans *parts) {
+    struct gathered gathered;
+    begin_counted(&gathered);
+    gather_elements(image, &gathered);
+    if (gathered.order.shared != NOWHERE) {
+        note(image->breaks, ELEMENT_OVERLAP, gathered.order.shared);
+        return;
+    }
+    begin_gathered(&gathered, gathered.order.count);
+    gather_elements(image, &gathered);
+    struct spans elements = judge_gathered(image, ELEMENT_OVERLAP, &gathered);
+    if (image->breaks->broken == 0) {
+        judge_strays(image->breaks, STRAY_BYTE, image, parts->sorted, parts->count);
+    }
+    if (image->breaks->broken == 0) {
+        judge_commands(image, parts);
+        judge_unclaimed_byte(image, &elements, parts);
+    }
+    free(elements.room);
 }
 
 // The rules of the strict profile for an image that was surveyed, from header-segment on.
 static void judge_file_parts(const struct image *image) {
-    struct gathered parts = {.spans = NULL};
-    begin_order(&parts.order);
-    if (!gather_file_parts(image, &parts)) {
+    struct gathered gathered;
+    begin_counted(&gathered);
+    if (!gather_file_parts(image, &gathered)) {
         note_in(image, HEADER_SEGMENT, offsetof(struct mach_header_64, sizeofcmds));
         return;
     }
-    begin_gathered(&parts, parts.order.count);
-    gather_file_parts(image, &parts);
-    size_t count = parts.order.count;
-    struct span *sorted = sort(parts.spans, count);
-    uint64_t shared = least_shared(sorted, count);
-    if (shared != NOWHERE) {
-        note(image->breaks, SEGMENT_FILE_OVERLAP, shared);
-    } else {
-        judge_element_overlap(image);
-        if (image->breaks->broken == 0) {
-            judge_strays(image->breaks, STRAY_BYTE, image, sorted, count);
-        }
+    if (gathered.order.shared != NOWHERE) {
+        note(image->breaks, SEGMENT_FILE_OVERLAP, gathered.order.shared);
+        return;
     }
-    free(parts.spans);
+    begin_gathered(&gathered, gathered.order.count);
+    gather_file_parts(image, &gathered);
+    struct spans parts = judge_gathered(image, SEGMENT_FILE_OVERLAP, &gathered);
+    if (image->breaks->broken == 0) {
+        judge_elements(image, &parts);
+    }
+    free(parts.room);
 }
 
 static void judge_image_strictly(const struct image *image) {
@@ -1305,7 +1502,7 @@ static void judge_fat_stray_byte(const struct file *file, const struct universal
         struct entry entry = read_entry(universal, k);
         gather(&parts, entry.offset, entry.size, entry_place(universal, k));
     }
-    judge_strays(breaks, FAT_STRAY_BYTE, &whole, sort(parts.spans, parts.order.count), parts.order.count);
+    judge_strays(breaks, FAT_STRAY_BYTE, &whole, sorted_spans(&parts), parts.order.count);
     free(parts.spans);
 }
 

@@ -91,7 +91,7 @@ LC_SYMTAB, LC_DYSYMTAB, LC_ID_DYLIB, LC_SEGMENT_64 = 0x2, 0xb, 0xd, 0x19
 LC_UUID, LC_ENCRYPTION_INFO_64, LC_BUILD_VERSION, LC_MAIN = 0x1b, 0x2c, 0x32, 0x80000028
 LC_TWOLEVEL_HINTS, LC_ATOM_INFO, LC_FUNCTION_VARIANTS, LC_FUNCTION_VARIANT_FIXUPS = 0x16, 0x36, 0x37, 0x38
 
-# A byte that linkers fill the gaps of code with.
+# The byte that Apple's linker fills the gaps of code with.
 NOP = b"\x90"
 
 def rows_of(row):
