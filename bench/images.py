@@ -34,7 +34,12 @@ whose LC_MAIN names an address of no segment. That breaks the last rule, so all 
     sections-N                      N empty sections in one segment
     sections-N-ascending, -descending, -shuffled
                                     N sections of 16 bytes in one segment, by their bytes in the file, and a last byte
-                                    in no segment. That breaks the last rule of the strict profile
+                                    of it in none. That breaks the last rule of the strict profile, as it does below
+    gaps-N, gaps-N-nops             the same, ascending, with 16 zeros or NOPs after each section, but for a last byte
+    encrypted-N-ascending, -descending, -shuffled
+                                    N segments of 16 zeros, but for a last byte, and N LC_ENCRYPTION_INFO_64 of their
+                                    bytes, which begin with those of the last segment
+    slack-N                         N LC_RPATH of 64 bytes with zeros after their names, accepted
     padding-Nm                      a universal file of two slices with N MiB of zeros between them, accepted
     gap-Nm                          two segments with N MiB of zeros between them, accepted
     sections-N-in-M                 M segments with N sections in all, all with bytes in the file
@@ -69,13 +74,17 @@ CPU_TYPE_X86_64, CPU_SUBTYPE_X86_64_ALL = 0x01000007, 3
 CPU_TYPE_ARM64, CPU_SUBTYPE_ARM64_ALL = 0x0100000C, 0
 MH_OBJECT, MH_EXECUTE = 1, 2
 LC_SYMTAB, LC_DYSYMTAB, LC_LOAD_DYLIB, LC_SEGMENT_64, LC_MAIN = 0x2, 0xB, 0xC, 0x19, 0x80000028
+LC_ENCRYPTION_INFO_64, LC_ATOM_INFO, LC_RPATH = 0x2C, 0x36, 0x8000001C
 LC_UNLISTED = 0x7FFFFFFF
+VM_PROT_READ, VM_PROT_EXECUTE = 1, 4
 HEADER_SIZE, SEGMENT_SIZE, SECTION_SIZE = 32, 72, 80
+ENCRYPTION_INFO_SIZE, ATOM_INFO_SIZE = 24, 16
 SYMTAB_SIZE, DYSYMTAB_SIZE, MAIN_SIZE, SYMBOL_SIZE = 24, 80, 24, 16
 FAT_HEADER_SIZE, FAT_ARCH_SIZE = 8, 20
 S_ZEROFILL = 1
 RELOCATION_SIZE = 8
 N_SECT = 0xE
+NOP = 0x90
 
 BASE = 0x1_0000_0000
 FAR = 0x2_0000_0000
@@ -89,9 +98,10 @@ def header(ncmds: int, sizeofcmds: int, arch=(CPU_TYPE_X86_64, CPU_SUBTYPE_X86_6
     return struct.pack("<8I", MH_MAGIC_64, *arch, filetype, ncmds, sizeofcmds, 0, 0)
 
 
-def segment(name: bytes, vmaddr: int, vmsize: int, fileoff: int = 0, filesize: int = 0, sections: bytes = b"") -> bytes:
+def segment(name: bytes, vmaddr: int, vmsize: int, fileoff: int = 0, filesize: int = 0, sections: bytes = b"",
+            initprot: int = VM_PROT_READ | VM_PROT_EXECUTE) -> bytes:
     nsects = len(sections) // SECTION_SIZE
-    fields = (vmaddr, vmsize, fileoff, filesize, 5, 5, nsects, 0)
+    fields = (vmaddr, vmsize, fileoff, filesize, VM_PROT_READ | VM_PROT_EXECUTE, initprot, nsects, 0)
     return struct.pack("<2I16s4Q4I", LC_SEGMENT_64, SEGMENT_SIZE + len(sections), name, *fields) + sections
 
 
@@ -114,6 +124,18 @@ def library(number: int) -> bytes:
 
 def libraries(count: int) -> bytes:
     return b"".join(map(library, range(count)))
+
+
+def rpaths(count: int) -> bytes:
+    return struct.pack("<3I52s", LC_RPATH, 64, 12, b"@loader_path") * count
+
+
+def encryption_info(cryptoff: int, cryptsize: int) -> bytes:
+    return struct.pack("<6I", LC_ENCRYPTION_INFO_64, ENCRYPTION_INFO_SIZE, cryptoff, cryptsize, 0, 0)
+
+
+def atom_info(dataoff: int, datasize: int) -> bytes:
+    return struct.pack("<4I", LC_ATOM_INFO, ATOM_INFO_SIZE, dataoff, datasize)
 
 
 def unlisted(count: int) -> bytes:
@@ -283,18 +305,50 @@ def empty_sections(out: BinaryIO, count: int) -> str:
 def ordered_sections(out: BinaryIO, count: int, order: str) -> str:
     """One segment of so many sections of 16 bytes, which cover the rest of the file but for its last byte."""
     start = HEADER_SIZE + SEGMENT_SIZE + SECTION_SIZE * count + MAIN_SIZE
-    size = start + 16 * count
+    size = start + 16 * count + 1
     offsets = [start + 16 * number for number in ordered(count, order)]
     sections = b"".join(section(b"__const", BASE + offset, 16, offset) for offset in offsets)
-    image(out, segment(b"__TEXT", BASE, size, 0, size, sections), 1, filler(16 * count + 1), accepted=True)
-    return refused("stray-byte", size)
+    tail = [*filler(16 * count), b"\1"]
+    image(out, segment(b"__TEXT", BASE, size, 0, size, sections), 1, tail, accepted=True)
+    return refused("unclaimed-byte", size - 1)
+
+
+def gapped_sections(out: BinaryIO, count: int, has_nops: bool) -> str:
+    """One segment of so many sections of 16 bytes, each with 16 bytes after it. Only the last of these is neither zero
+    nor a NOP."""
+    start = HEADER_SIZE + SEGMENT_SIZE + SECTION_SIZE * count + MAIN_SIZE
+    size = start + 32 * count
+    sections = b"".join(section(b"__const", BASE + offset, 16, offset) for offset in range(start, size, 32))
+    between = bytes([NOP if has_nops else 0]) * 16
+    tail = b"".join(b + between for b in filler(16)) * count
+    image(out, segment(b"__TEXT", BASE, size, 0, size, sections), 1, [tail[:-1], b"\1"], accepted=True)
+    return refused("unclaimed-byte", size - 1)
+
+
+def encrypted(out: BinaryIO, count: int, order: str) -> str:
+    """A segment of the headers and so many others of 16 bytes, and as many ranges that are encrypted. Of the bytes only
+    the last is not zero."""
+    start = HEADER_SIZE + SEGMENT_SIZE + count * (SEGMENT_SIZE + ENCRYPTION_INFO_SIZE) + MAIN_SIZE
+    numbers = ordered(count, order)
+    commands = [segment(b"__TEXT", BASE, start, 0, start)]
+    commands += [segment(b"__DATA", FAR + 2 * PAGE * number, PAGE, start + 16 * number, 16) for number in numbers]
+    commands += [encryption_info(start + 16 * number, 16) for number in reversed(numbers)]
+    image(out, b"".join(commands), 1 + 2 * count, [bytes(16 * count - 1), b"\1"], accepted=True)
+    return refused("unclaimed-byte", start + 16 * count - 1)
+
+
+def slack(out: BinaryIO, count: int) -> str:
+    commands = rpaths(count)
+    size = HEADER_SIZE + SEGMENT_SIZE + len(commands) + MAIN_SIZE
+    return image(out, segment(b"__TEXT", BASE, size, 0, size) + commands, 1 + count, accepted=True)
 
 
 def gap(out: BinaryIO, mebibytes: int) -> str:
-    """An executable of two segments: the headers, and a page after the gap."""
-    end = HEADER_SIZE + 2 * SEGMENT_SIZE + MAIN_SIZE
+    """An executable of two segments: the headers, and a section of a page after the gap."""
+    end = HEADER_SIZE + 2 * SEGMENT_SIZE + SECTION_SIZE + MAIN_SIZE
+    offset = end + mebibytes * MIB
     commands = segment(b"__TEXT", BASE, PAGE, 0, end)
-    commands += segment(b"__DATA", FAR, PAGE, end + mebibytes * MIB, PAGE)
+    commands += segment(b"__DATA", FAR, PAGE, offset, PAGE, section(b"__const", FAR, PAGE, offset))
 
     def tail() -> Iterator[bytes]:
         yield from zeros(mebibytes)
@@ -373,6 +427,7 @@ SIZED = {
     "sections": empty_sections,
     "gap": gap,
     "padding": padding,
+    "slack": slack,
     "indirect": indirect,
     "string": one_string,
     "endless": endless,
@@ -399,6 +454,10 @@ def maker(name: str) -> Callable[[BinaryIO], str]:
         return partial(segments_of_sections, count=int(words[1]), each=size // int(words[1]))
     if kind == "sections" and order:
         return partial(ordered_sections, count=size, order=order)
+    if kind == "gaps":
+        return partial(gapped_sections, count=size, has_nops=order == "nops")
+    if kind == "encrypted":
+        return partial(encrypted, count=size, order=order)
     return lambda out: SIZED[kind](out, size)
 
 
@@ -609,44 +668,71 @@ def random_slices(rng: random.Random, count: int) -> str:
     return f"slices : {data.hex()} .71 : {verdict}"
 
 
+def random_tail(rng: random.Random, covered: list[bool], weights: tuple[int, int, int],
+                weights_outside: tuple[int, int, int]) -> bytes:
+    """Bytes that are zero, a NOP or 1, with these weights where they are covered, and with the others where not."""
+    return bytes(rng.choices((0, NOP, 1), weights if is_covered else weights_outside)[0] for is_covered in covered)
+
+
 def random_parts(rng: random.Random, count: int) -> str:
-    """A vector: an executable of a segment with the headers, and segments with some of 71 bytes. Of these few are in no
-    segment and not zero."""
+    """A vector: an executable of a segment with the headers, and segments with some of 71 bytes, most of them of code.
+    Few bytes are in no segment and not zero, and few of the others are neither zero nor a NOP."""
     ranges = random_ranges(rng, count)
+    is_code = [rng.random() < 0.9 for _ in ranges]
     end = HEADER_SIZE + SEGMENT_SIZE * (count + 1)
-    commands = [segment(b"", 0, 0, 0, end)]
-    commands += [segment(b"", 0, 0, end + it.start, it.stop - it.start) for it in ranges]
+    commands = [segment(b"", 0, end, 0, end)]
+    for it, has_nops in zip(ranges, is_code):
+        initprot = VM_PROT_EXECUTE if has_nops else VM_PROT_READ
+        commands.append(segment(b"", 0, 0, end + it.start, it.stop - it.start, initprot=initprot))
     covered = [any(place in it for it in ranges) for place in range(71)]
-    tail = bytes(rng.random() < (0.5 if is_covered else 0.02) for is_covered in covered)
+    tail = random_tail(rng, covered, (20, 20, 1), (400, 1, 1))
     overlap = first_alike(ranges, share)
     strays = [place for place in range(71) if tail[place] and not covered[place]]
+    nops = {place for it, has_nops in zip(ranges, is_code) if has_nops for place in it if tail[place] == NOP}
+    unclaimed = [place for place in range(71) if tail[place] and place not in nops]
     verdict = "accepted"
     if overlap < count:
         verdict = refused("segment-file-overlap", HEADER_SIZE + SEGMENT_SIZE * (overlap + 1))
     elif strays:
         verdict = refused("stray-byte", end + strays[0])
+    elif unclaimed:
+        verdict = refused("unclaimed-byte", end + unclaimed[0])
     return f"parts : {(header(count + 1, end - HEADER_SIZE) + b''.join(commands) + tail).hex()} : {verdict}"
 
 
 def random_elements(rng: random.Random, count: int) -> str:
     """A vector: an executable of one segment with the whole file, whose sections have some of 71 bytes. Some of these
-    are zero-fill and have none, and some have a relocation."""
-    end = HEADER_SIZE + SEGMENT_SIZE + SECTION_SIZE * count
+    are zero-fill and have none, and some have a relocation. Some files have an LC_ATOM_INFO, whose data may end past
+    the file."""
+    atoms = rng.choice((0, 0, 1))
+    end = HEADER_SIZE + SEGMENT_SIZE + SECTION_SIZE * count + ATOM_INFO_SIZE * atoms
     sections = b""
-    # The elements of the sections, and of which section each is. No range is in the headers.
+    # The elements but the headers, and the place of each. No range is in the headers.
     elements: list[tuple[range, int]] = []
     for number, it in enumerate(random_ranges(rng, count)):
         flags, nreloc, reloff = rng.choice((0, 0, 0, S_ZEROFILL)), rng.choice((0, 0, 1)), rng.randrange(64)
-        size = it.stop - it.start
-        sections += section(b"", 0, size, end + it.start, end + reloff, nreloc, flags)
-        elements += [(it if flags == 0 else range(0), number)]
-        elements += [(range(reloff, reloff + RELOCATION_SIZE * nreloc), number)]
+        start, size = end + it.start, it.stop - it.start
+        sections += section(b"", start, size, start, end + reloff, nreloc, flags)
+        place = HEADER_SIZE + SEGMENT_SIZE + SECTION_SIZE * number
+        elements += [(it if flags == 0 else range(0), place)]
+        elements += [(range(reloff, reloff + RELOCATION_SIZE * nreloc), place)]
+    commands = segment(b"", 0, end + 71, 0, end + 71, sections)
+    for _ in range(atoms):
+        start, size = rng.randrange(72), rng.randrange(4)
+        elements += [(range(start, start + size), HEADER_SIZE + len(commands))]
+        commands += atom_info(end + start, size)
+    covered = [any(place in it for it, _ in elements) for place in range(71)]
+    tail = random_tail(rng, covered, (1, 1, 1), (100, 20, 1))
     alike = first_alike(elements, lambda one, other: share(one[0], other[0]))
+    past = [number for number, (it, _) in enumerate(elements) if it and it.stop > 71]
+    broken = min([alike, *past])
+    unclaimed = [place for place in range(71) if tail[place] not in (0, NOP) and not covered[place]]
     verdict = "accepted"
-    if alike < len(elements):
-        verdict = refused("element-overlap", HEADER_SIZE + SEGMENT_SIZE + SECTION_SIZE * elements[alike][1])
-    data = header(1, SEGMENT_SIZE + len(sections)) + segment(b"", 0, 0, 0, end + 71, sections)
-    return f"elements : {data.hex()} .71 : {verdict}"
+    if broken < len(elements):
+        verdict = refused("element-overlap", elements[broken][1])
+    elif unclaimed:
+        verdict = refused("unclaimed-byte", end + unclaimed[0])
+    return f"elements : {(header(1 + atoms, len(commands)) + commands + tail).hex()} : {verdict}"
 
 
 RANDOM = {"segments": random_segments, "slices": random_slices, "parts": random_parts, "elements": random_elements}
