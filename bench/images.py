@@ -36,6 +36,7 @@ whose LC_MAIN names an address of no segment. That breaks the last rule, so all 
                                     N sections of 16 bytes in one segment, by their bytes in the file, and a last byte
                                     of it in none. That breaks the last rule of the strict profile, as it does below
     gaps-N, gaps-N-nops             the same, ascending, with 16 zeros or NOPs after each section, but for a last byte
+    gaps-N-shuffled                 the same with NOPs, of N segments in no order, each with one section
     encrypted-N-ascending, -descending, -shuffled
                                     N segments of 16 zeros, but for a last byte, and N LC_ENCRYPTION_INFO_64 of their
                                     bytes, which begin with those of the last segment
@@ -313,16 +314,28 @@ def ordered_sections(out: BinaryIO, count: int, order: str) -> str:
     return refused("unclaimed-byte", size - 1)
 
 
-def gapped_sections(out: BinaryIO, count: int, has_nops: bool) -> str:
-    """One segment of so many sections of 16 bytes, each with 16 bytes after it. Only the last of these is neither zero
-    nor a NOP."""
+def gapped(count: int, between: int) -> list[bytes]:
+    """The bytes of so many sections of 16 bytes, each with this byte 16 times after it, but for the last byte."""
+    section_and_gap = b"".join(filler(16)) + bytes([between]) * 16
+    return [(section_and_gap * count)[:-1], b"\1"]
+
+
+def gapped_sections(out: BinaryIO, count: int, between: int) -> str:
     start = HEADER_SIZE + SEGMENT_SIZE + SECTION_SIZE * count + MAIN_SIZE
     size = start + 32 * count
     sections = b"".join(section(b"__const", BASE + offset, 16, offset) for offset in range(start, size, 32))
-    between = bytes([NOP if has_nops else 0]) * 16
-    tail = b"".join(b + between for b in filler(16)) * count
-    image(out, segment(b"__TEXT", BASE, size, 0, size, sections), 1, [tail[:-1], b"\1"], accepted=True)
+    image(out, segment(b"__TEXT", BASE, size, 0, size, sections), 1, gapped(count, between), accepted=True)
     return refused("unclaimed-byte", size - 1)
+
+
+def gapped_segments(out: BinaryIO, count: int, order: str) -> str:
+    start = HEADER_SIZE + SEGMENT_SIZE + count * (SEGMENT_SIZE + SECTION_SIZE) + MAIN_SIZE
+    commands = [segment(b"__TEXT", BASE, start, 0, start)]
+    for number in ordered(count, order):
+        vmaddr, fileoff = FAR + 2 * PAGE * number, start + 32 * number
+        commands.append(segment(b"__DATA", vmaddr, PAGE, fileoff, 32, section(b"__const", vmaddr, 16, fileoff)))
+    image(out, b"".join(commands), 1 + count, gapped(count, NOP), accepted=True)
+    return refused("unclaimed-byte", start + 32 * count - 1)
 
 
 def encrypted(out: BinaryIO, count: int, order: str) -> str:
@@ -454,8 +467,10 @@ def maker(name: str) -> Callable[[BinaryIO], str]:
         return partial(segments_of_sections, count=int(words[1]), each=size // int(words[1]))
     if kind == "sections" and order:
         return partial(ordered_sections, count=size, order=order)
+    if kind == "gaps" and order == "shuffled":
+        return partial(gapped_segments, count=size, order=order)
     if kind == "gaps":
-        return partial(gapped_sections, count=size, has_nops=order == "nops")
+        return partial(gapped_sections, count=size, between=NOP if order == "nops" else 0)
     if kind == "encrypted":
         return partial(encrypted, count=size, order=order)
     return lambda out: SIZED[kind](out, size)
