@@ -555,7 +555,7 @@ def gaps(length, ranges):
             place = max(place, start + size)
 
 def first_other(data, start, end, expected):
-    """The first place from `start` up to `end` with a byte that is none of the expected ones; `end` if there is none."""
+    """The first place from `start` up to `end` whose byte is none of the expected ones; `end` if there is none."""
     return end - len(data[start:end].lstrip(expected))
 
 def first_stray(data, ranges):
