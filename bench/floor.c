@@ -9,8 +9,9 @@
 // It shows how fast C can be at this. bench/speed runs it beside the program, and tests/floor tries its answers.
 // Nothing is walked twice without need: one walk over the load commands judges each command, segment and section, and
 // notes the least place at which each rule is broken; one loop judges the symbols. Ranges are sorted only where they
-// neither ascend nor descend. The file is read as bench/speed reads it: standard input has to be a file, of 4 GiB at
-// most. Where it cannot be read, or there is no memory, or writing fails, there is no verdict (status 3, 4 and 3).
+// neither ascend nor descend, and those between which bytes are searched where they do not ascend. The file is read as
+// bench/speed reads it: standard input has to be a file, of 4 GiB at most. Where it cannot be read, or there is no
+// memory, or writing fails, there is no verdict (status 3, 4 and 3).
 //
 // Structures and constants have their public names. The rules stand in the order of docs/RULES.md, a function for each:
 // of the file, of the header and the load commands, of segments and sections, of tables and symbols, and of the entry.
