@@ -602,7 +602,8 @@ struct image {
     bool has_base;
     uint64_t base;
     struct range builds, segments, libraries;
-    uint64_t section_count;
+    uint64_t segment_count, section_count;
+    uint64_t table_count; // with one for each command that is not listed, which can have data
     struct order addresses; // of the mapped segments
 };
 
@@ -989,6 +990,7 @@ static inline void judge_segment(struct image *image, uint64_t place) {
         }
     }
     extend(&image->segments, place);
+    image->segment_count++;
     image->section_count += segment.nsects;
     uint64_t sections = place + sizeof(struct segment_command_64);
     for (uint64_t k = 0; k < segment.nsects; k++) {
@@ -1022,6 +1024,7 @@ static void judge_tables(const struct image *image, uint64_t place, size_t slot)
 static inline void judge_command(struct image *image, uint64_t place, uint64_t size, size_t slot) {
     struct listed listed = listed_commands[slot];
     if (listed.table_count != 0) {
+        image->table_count += listed.table_count;
         judge_tables(image, place, slot);
     }
     if (listed.name != 0 && breaks_name(image->bytes + place, size, listed.name)) {
@@ -1055,12 +1058,12 @@ static void walk(struct image *image) {
         }
         size_t slot = slot_of(FIELD(command, load_command, cmd));
         uint8_t least = listed_commands[slot].least;
-        if (least != 0) {
-            if (breaks_command_short(command, size, least)) {
-                note_in(image, COMMAND_SHORT, place);
-            } else {
-                judge_command(image, place, size, slot);
-            }
+        if (least == 0) {
+            image->table_count++;
+        } else if (breaks_command_short(command, size, least)) {
+            note_in(image, COMMAND_SHORT, place);
+        } else {
+            judge_command(image, place, size, slot);
         }
         place += size;
     }
@@ -1079,7 +1082,7 @@ static inline void begin_image(struct image *image, const struct file *file, uin
     image->symtab = image->dysymtab = image->id_dylib = image->uuid = image->main = 0;
     image->has_base = false;
     image->builds.first = image->segments.first = image->libraries.first = 0;
-    image->section_count = 0;
+    image->segment_count = image->section_count = image->table_count = 0;
     begin_order(&image->addresses);
 }
 
@@ -1186,51 +1189,45 @@ static void judge_strays(struct breaks *breaks, enum rule rule, const struct ima
     }
 }
 
-// Spans by ascending places, which are counted and, if there is room, kept.
+// Spans by ascending places, with room for them.
 struct gathered {
     struct order order;
     struct span *spans;
 };
+
+// There are no more than so many.
+static void begin_gathered(struct gathered *gathered, uint64_t count) {
+    gathered->spans = count == 0 ? NULL : room_for(count);
+    begin_order(&gathered->order);
+}
 
 static inline void gather(struct gathered *gathered, uint64_t start, uint64_t size, uint64_t place) {
     if (size == 0) {
         return;
     }
     struct span span = {start, start + (size - 1), place};
-    if (gathered->spans != NULL) {
-        gathered->spans[gathered->order.count] = span;
-    }
+    gathered->spans[gathered->order.count] = span;
     follow(&gathered->order, span.start, span.last, place);
 }
 
-// Counts what is gathered next.
-static void begin_counted(struct gathered *gathered) {
-    gathered->spans = NULL;
-    begin_order(&gathered->order);
-}
-
-// Gathers once more what was counted, with room for it.
-static void begin_gathered(struct gathered *gathered, uint64_t count) {
-    gathered->spans = count == 0 ? NULL : room_for(count);
-    begin_order(&gathered->order);
-}
-
-// The spans that were gathered, by ascending starts.
-static const struct span *sorted_spans(const struct gathered *gathered) {
-    return gathered->order.ascends ? gathered->spans : sort(gathered->spans, gathered->order.count);
-}
-
-// The spans of an image, by ascending starts. `room` is what is given back.
+// Spans by ascending starts.
 struct spans {
-    struct span *room;
     const struct span *sorted;
     size_t count;
 };
 
-// Notes the rule where two of the spans share a byte.
+static struct spans sort_gathered(const struct gathered *gathered) {
+    size_t count = gathered->order.count;
+    return (struct spans){gathered->order.ascends ? gathered->spans : sort(gathered->spans, count), count};
+}
+
+// Sorts the spans, and notes the rule where two of them share a byte.
 static struct spans judge_gathered(const struct image *image, enum rule rule, const struct gathered *gathered) {
-    struct spans spans = {gathered->spans, sorted_spans(gathered), gathered->order.count};
-    uint64_t shared = is_in_order(&gathered->order) ? NOWHERE : least_shared(spans.sorted, spans.count);
+    struct spans spans = sort_gathered(gathered);
+    uint64_t shared = gathered->order.shared;
+    if (shared == NOWHERE && !is_in_order(&gathered->order)) {
+        shared = least_shared(spans.sorted, spans.count);
+    }
     if (shared != NOWHERE) {
         note(image->breaks, rule, shared);
     }
@@ -1445,13 +1442,7 @@ static void judge_unclaimed_byte(const struct image *image, const struct spans *
 // The rules from element-overlap on. The file parts share no byte.
 static void judge_elements(const struct image *image, const struct spans *parts) {
     struct gathered gathered;
-    begin_counted(&gathered);
-    gather_elements(image, &gathered);
-    if (gathered.order.shared != NOWHERE) {
-        note(image->breaks, ELEMENT_OVERLAP, gathered.order.shared);
-        return;
-    }
-    begin_gathered(&gathered, gathered.order.count);
+    begin_gathered(&gathered, 1 + 2 * image->section_count + image->table_count);
     gather_elements(image, &gathered);
     struct spans elements = judge_gathered(image, ELEMENT_OVERLAP, &gathered);
     if (image->breaks->broken == 0) {
@@ -1461,28 +1452,22 @@ static void judge_elements(const struct image *image, const struct spans *parts)
         judge_commands(image, parts);
         judge_unclaimed_byte(image, &elements, parts);
     }
-    free(elements.room);
+    free(gathered.spans);
 }
 
 // The rules of the strict profile for an image that was surveyed, from header-segment on.
 static void judge_file_parts(const struct image *image) {
     struct gathered gathered;
-    begin_counted(&gathered);
+    begin_gathered(&gathered, image->segment_count);
     if (!gather_file_parts(image, &gathered)) {
         note_in(image, HEADER_SEGMENT, offsetof(struct mach_header_64, sizeofcmds));
-        return;
+    } else {
+        struct spans parts = judge_gathered(image, SEGMENT_FILE_OVERLAP, &gathered);
+        if (image->breaks->broken == 0) {
+            judge_elements(image, &parts);
+        }
     }
-    if (gathered.order.shared != NOWHERE) {
-        note(image->breaks, SEGMENT_FILE_OVERLAP, gathered.order.shared);
-        return;
-    }
-    begin_gathered(&gathered, gathered.order.count);
-    gather_file_parts(image, &gathered);
-    struct spans parts = judge_gathered(image, SEGMENT_FILE_OVERLAP, &gathered);
-    if (image->breaks->broken == 0) {
-        judge_elements(image, &parts);
-    }
-    free(parts.room);
+    free(gathered.spans);
 }
 
 static void judge_image_strictly(const struct image *image) {
@@ -1503,7 +1488,8 @@ static void judge_fat_stray_byte(const struct file *file, const struct universal
         struct entry entry = read_entry(universal, k);
         gather(&parts, entry.offset, entry.size, entry_place(universal, k));
     }
-    judge_strays(breaks, FAT_STRAY_BYTE, &whole, sorted_spans(&parts), parts.order.count);
+    struct spans spans = sort_gathered(&parts);
+    judge_strays(breaks, FAT_STRAY_BYTE, &whole, spans.sorted, spans.count);
     free(parts.spans);
 }
 
