@@ -1,8 +1,11 @@
 -- What only the contracts of private functions and proofs need.
-use Rattle.std.specs.Prelude.{◌≡◌, ℕ, ◌≤◌, ◌<◌, List, length, map, slice_index_or, IsPermutation}
+use Rattle.std.specs.Prelude.{◌≡◌, ℕ, ◌+◌, ◌≤◌, ◌<◌, List, length, map, slice_index_or, IsPermutation}
 use Rattle.macho_spans.specs.Span.{end_of, Shares}
 use Rattle.macho_spans.specs.declared.span.Span.{Span}
+use Rattle.macho_spans.specs.Spans.{IsProbeCount, RoseBy}
 use Rattle.macho_spans.specs.declared.overlap.Numbered.{Numbered}
+use Rattle.macho_spans.specs.declared.spans.pairs.Count.{Count}
+use Rattle.macho_spans.specs.declared.spans.pairs.CountedPairs.{CountedPairs}
 
 -- so many of the sorted pairs start at the place or before it
 pub record StartBy (pairs : List (Span × ℕ)) (place count : ℕ) : Type 0 where
@@ -10,6 +13,25 @@ pub record StartBy (pairs : List (Span × ℕ)) (place count : ℕ) : Type 0 whe
   pub before : (k : ℕ) (d : Span × ℕ) → k < count → (slice_index_or pairs k d).0.start ≤ place
   pub after : (k : ℕ) (d : Span × ℕ) → count ≤ k → k < length pairs
       → place < (slice_index_or pairs k d).0.start
+
+-- a call begins, and nothing is counted for it
+pub record IsBegun (before after : Count) : Type 0 where
+  pub call : after.call ≡ 0
+  pub all : after.all ≡ before.all
+
+-- one more is counted
+pub record IsRaised (before after : Count) : Type 0 where
+  pub call : after.call ≡ before.call + 1
+  pub all : RoseBy before.all 1 after.all
+
+-- A call searched once among the pairs, which it left as they were, and tested at most so many of them.
+-- What it made is what both totals rose by.
+pub record IsOneSearch (before after : CountedPairs) (most_tests : ℕ) : Type 0 where
+  pub same : after.pairs ≡ before.pairs
+  pub probes : IsProbeCount (length before.pairs.items) after.probes.call
+  pub all_probes : RoseBy before.probes.all after.probes.call after.probes.all
+  pub tests : after.tests.call ≤ most_tests
+  pub all_tests : RoseBy before.tests.all after.tests.call after.tests.all
 
 -- the item at the place in a list
 abbrev pub item_at : List Numbered → ℕ → Numbered

@@ -3,6 +3,7 @@
 //! sorted and searched. Nothing here knows of Mach-O.
 
 pub mod overlap;
+mod room;
 pub mod span;
 pub mod span_order;
 pub mod spans;

@@ -4,6 +4,7 @@ ghost use Rattle.std.specs.Prelude.{◌+◌, ◌↔◌, length, IsTrue};
 ghost use Rattle.std.specs.List.Sorted.{IsNonDecreasingBy};
 ghost use Rattle.macho_spans.specs.SearchSteps.{PairBelow};
 
+use crate::room::make_room;
 use crate::span::Span;
 use std::alloc::{AllocError, Global};
 use std::marker::Model;
@@ -66,11 +67,8 @@ impl SpanList {
             → self.new.capacity ≤ length self.old.spans + max (length self.old.spans) 4 }
         ensures memory { OnErr result (self.old.capacity ≤ length self.old.spans) }
     {
-        let index = self.items.len();
-        if index == self.items.capacity() {
-            self.items.reserve_exact(index.max(4))?;
-        }
-        let index = index as u64;
+        make_room(&mut self.items)?;
+        let index = self.items.len() as u64;
         self.items.push_reserved(Numbered { span, index });
         Ok(())
     }

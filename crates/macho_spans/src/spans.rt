@@ -1,14 +1,11 @@
 //! Spans that share no place, each with a tag: a list sorted by start, with binary search.
 
-mod count;
 mod pairs;
-
-ghost use Rattle.std.specs.Prelude.{◌≡◌, ◌≤◌, length, MatchOption};
-ghost use Rattle.macho_spans.specs.SearchSteps.{StartBy};
-ghost use Rattle.macho_spans.specs.Spans.{AreSorted, IsPlaced, IsProbeCount, RoseBy, SharesWithOne};
+mod search;
 
 use crate::span::Span;
 use pairs::CountedPairs;
+use search::{count_starts_by, gap_for};
 use std::alloc::{AllocError, Global};
 use std::marker::Model;
 
@@ -47,7 +44,8 @@ impl Model for Spans {
 }
 
 impl Spans {
-    ghost use Rattle.std.specs.Prelude.{◌≡◌, ◌<◌, ◌≤◌, ◌↔◌, ℕ, [], ◌∷◌, ◌++◌, List, length};
+    ghost use Rattle.std.specs.Prelude.{◌≡◌, ◌+◌, ◌<◌, ◌≤◌, ◌↔◌, ℕ, [], ◌∷◌, ◌++◌, List};
+    ghost use Rattle.std.specs.Prelude.{length, max};
     ghost use Rattle.std.specs.Prelude.{Contains, IsPermutation, IfOk, OnOk, OnErr, MatchOption};
     ghost use Rattle.macho_spans.specs.Span.{Holds};
     ghost use Rattle.macho_spans.specs.Spans.{AreKept, AreSorted, HoldsInOne, IsPlaced};
@@ -95,8 +93,9 @@ impl Spans {
     }
 
     /// Adds the span with its tag, unless it shares a place with a held span. The span must not be
-    /// empty, and must end at or before 2^64. An overlap allocates no memory. If memory runs out,
-    /// nothing has changed.
+    /// empty, and must end at or before 2^64. An overlap allocates no memory. Otherwise memory is
+    /// allocated only if there is no room, and then for as many more as are held, or for four if
+    /// there are fewer. If it runs out, nothing has changed.
     pub fn try_insert(&mut self, span: Span, tag: u64) -> Result<Insert, AllocError>
         requires { IsPlaced span }
 
@@ -112,6 +111,10 @@ impl Spans {
             → (self.new.pairs ≡ self.old.pairs) × (self.new.capacity ≡ self.old.capacity)) }
         ensures memory { OnErr result (self.new.pairs ≡ self.old.pairs) }
         ensures memory_when_full { OnErr result (self.old.capacity ≤ length self.old.pairs) }
+        ensures room { length self.old.pairs < self.old.capacity
+            → self.new.capacity ≡ self.old.capacity }
+        ensures more { self.old.capacity ≤ length self.old.pairs
+            → self.new.capacity ≤ length self.old.pairs + max (length self.old.pairs) 4 }
         ensures memory_to_add { OnErr result (¬ SharesWithOne self.old.pairs span) }
 
         ensures sorted { AreSorted self.new.pairs }
@@ -138,27 +141,8 @@ impl Spans {
         ensures tests { self.new.tests ≤ 1 }
         ensures all_tests { RoseBy self.old.all_tests self.new.tests self.new.all_tests }
     {
-        let next = self.held.count_starts_by(place);
+        let next = count_starts_by(&mut self.held, place);
         let before = next.checked_sub(1)?;
         self.held.holding(before, place)
     }
-}
-
-// The index at which to insert a span, or `None` if it shares a place with a held span.
-fn gap_for(held: &mut CountedPairs, span: Span) -> Option<usize>
-    requires sorted { AreSorted held.old.pairs.items }
-    requires placed { IsPlaced span }
-    ensures gap { MatchOption result (SharesWithOne held.old.pairs.items span)
-        (λ next. (¬ SharesWithOne held.old.pairs.items span)
-        × StartBy held.old.pairs.items span.start next) }
-    ensures same { held.new.pairs ≡ held.old.pairs }
-    ensures probes { IsProbeCount (length held.old.pairs.items) held.new.probes.call }
-    ensures all_probes { RoseBy held.old.probes.all held.new.probes.call held.new.probes.all }
-    ensures tests { held.new.tests.call ≤ 2 }
-    ensures all_tests { RoseBy held.old.tests.all held.new.tests.call held.new.tests.all }
-{
-    let next = held.count_starts_by(span.start);
-    let before = next > 0 && held.shares(next - 1, span);
-    let after = next < held.len() && held.shares(next, span);
-    if before || after { None } else { Some(next) }
 }

@@ -1,11 +1,21 @@
-//! The pairs of a span and a tag. What is counted as a probe is one comparison of a held span's
-//! start with the start or place that is searched for: `starts_by`, which counts it, and which only
-//! the binary search calls. What is counted as a test is a look at one given pair: whether its span
-//! shares a place with a span (`shares`) or holds a place (`holding`). A test compares the pair's
-//! start as well, and is not a probe: an insertion makes two at most, a look-up one. A caller sees
-//! no start but that of the pair that `holding` found and returns.
+//! The pairs of a span and a tag. They and their counts are private to this file, which is the one
+//! place to read for what no clause says: **no function here looks at a start without counting.**
+//!
+//! - `starts_by` makes a *probe*: it compares the start of one held span with the place that is
+//!   searched for, and counts once.
+//! - `shares` and `holding` make a *test* of one pair, which also compares its start, and count once.
+//!   `holding` returns the pair if its span holds the place.
+//! - No other function looks at a start, and none returns a reference to a pair or a count.
+//! - A total only rises, by one for each probe or test. A value that was built here begins with no
+//!   pairs, and cannot be copied.
+//!
+//! What the clauses prove of every caller: its pairs are those that it was given, and the totals
+//! rose by what it says that it made. So a search outside this file cannot be hidden.
 
-use super::count::Count;
+ghost use Rattle.std.specs.Prelude.{◌≡◌, ◌<◌, ◌^◌};
+ghost use Rattle.macho_spans.specs.SearchSteps.{IsRaised};
+
+use crate::room::make_room;
 use crate::span::Span;
 use std::alloc::{AllocError, Global};
 
@@ -17,14 +27,45 @@ pub(super) struct CountedPairs {
     tests: Count,
 }
 
+// How often something was done, in the last call and in all calls. The total is 0 again after 2^64
+// - 1.
+#[derive(Drop)]
+struct Count {
+    call: u64,
+    all: u64,
+}
+
+impl Count {
+    // Counts once more.
+    fn raise(&mut self)
+        requires { self.old.call < 2 ^ 32 }
+        ensures { IsRaised self.old self.new }
+    {
+        self.call += 1;
+        self.all = self.all.wrapping_add(1);
+    }
+}
+
 impl CountedPairs {
-    ghost use Rattle.std.specs.Prelude.{◌≡◌, ◌↔◌, ◌+◌, ◌≤◌, ◌<◌, ◌^◌, [], length};
+    ghost use Rattle.std.specs.Prelude.{◌≡◌, ◌↔◌, ◌+◌, ◌≤◌, ◌<◌, ◌^◌, [], length, max};
     ghost use Rattle.std.specs.Prelude.{IsTrue, MatchOption, IfOk, OnOk, OnErr};
     ghost use Rattle.std.specs.List.{HoldsAt, insert};
     ghost use Rattle.std.specs.Vec.{vec_capacity};
-    ghost use Rattle.macho_spans.specs.SearchSteps.{StartBy};
+    ghost use Rattle.macho_spans.specs.SearchSteps.{IsBegun, IsRaised};
     ghost use Rattle.macho_spans.specs.Span.{Holds, Shares};
-    ghost use Rattle.macho_spans.specs.Spans.{AreSorted, IsProbeCount, RoseBy};
+
+    // No pairs, in the order of the list, which is empty.
+    fn counting(pairs: Vec<(Span, u64)>) -> CountedPairs
+        ensures pairs { result.pairs ≡ pairs }
+        ensures probes { (result.probes.call ≡ 0) × (result.probes.all ≡ 0) }
+        ensures tests { (result.tests.call ≡ 0) × (result.tests.all ≡ 0) }
+    {
+        CountedPairs {
+            pairs,
+            probes: Count { call: 0, all: 0 },
+            tests: Count { call: 0, all: 0 },
+        }
+    }
 
     pub(super) fn new(alloc: Global) -> CountedPairs
         ensures none { result.pairs.items ≡ [] }
@@ -32,11 +73,7 @@ impl CountedPairs {
         ensures probes { (result.probes.call ≡ 0) × (result.probes.all ≡ 0) }
         ensures tests { (result.tests.call ≡ 0) × (result.tests.all ≡ 0) }
     {
-        CountedPairs {
-            pairs: Vec::new(alloc),
-            probes: Count::new(),
-            tests: Count::new(),
-        }
+        CountedPairs::counting(Vec::new(alloc))
     }
 
     // No pairs. The capacity is exactly `count`.
@@ -49,11 +86,7 @@ impl CountedPairs {
         ensures memory { OnErr result (0 < count) }
     {
         let pairs = Vec::with_capacity(alloc, count)?;
-        Ok(CountedPairs {
-            pairs,
-            probes: Count::new(),
-            tests: Count::new(),
-        })
+        Ok(CountedPairs::counting(pairs))
     }
 
     // How many pairs there are.
@@ -67,55 +100,27 @@ impl CountedPairs {
     pub(super) fn probes(&self) -> u64
         ensures { result ≡ self.now.probes.call }
     {
-        self.probes.call()
+        self.probes.call
     }
 
     // A call begins, which has made no probe and no test.
-    fn begin_call(&mut self)
+    pub(super) fn begin_call(&mut self)
         ensures same { self.new.pairs ≡ self.old.pairs }
-        ensures probes { self.new.probes.call ≡ 0 }
-        ensures tests { self.new.tests.call ≡ 0 }
-        ensures all_probes { self.new.probes.all ≡ self.old.probes.all }
-        ensures all_tests { self.new.tests.all ≡ self.old.tests.all }
+        ensures probes { IsBegun self.old.probes self.new.probes }
+        ensures tests { IsBegun self.old.tests self.new.tests }
     {
-        self.probes.begin();
-        self.tests.begin();
-    }
-
-    // How many of the spans start at or before the place, by binary search. Each call begins with
-    // it.
-    pub(super) fn count_starts_by(&mut self, place: u64) -> usize
-        requires { AreSorted self.old.pairs.items }
-        ensures count { StartBy self.old.pairs.items place result }
-        ensures same { self.new.pairs ≡ self.old.pairs }
-        ensures probes { IsProbeCount (length self.old.pairs.items) self.new.probes.call }
-        ensures all_probes { RoseBy self.old.probes.all self.new.probes.call self.new.probes.all }
-        ensures tests { self.new.tests.call ≡ 0 }
-        ensures all_tests { self.new.tests.all ≡ self.old.tests.all }
-    {
-        self.begin_call();
-        let mut low = 0;
-        let mut high = self.len();
-        while low < high {
-            let middle = low + (high - low) / 2;
-            if self.starts_by(middle, place) {
-                low = middle + 1;
-            } else {
-                high = middle;
-            }
-        }
-        low
+        self.probes.call = 0;
+        self.tests.call = 0;
     }
 
     // Whether the span at the index starts at the place or before it. It counts as a probe.
-    fn starts_by(&mut self, index: usize, place: u64) -> bool
+    pub(super) fn starts_by(&mut self, index: usize, place: u64) -> bool
         requires index { index < length self.old.pairs.items }
         requires few { self.old.probes.call < 2 ^ 32 }
         ensures starts { HoldsAt (λ pair. IsTrue result ↔ (pair.0.start ≤ place))
             self.old.pairs.items index }
         ensures same { self.new.pairs ≡ self.old.pairs }
-        ensures probes { self.new.probes.call ≡ self.old.probes.call + 1 }
-        ensures all_probes { RoseBy self.old.probes.all 1 self.new.probes.all }
+        ensures probes { IsRaised self.old.probes self.new.probes }
         ensures tests { self.new.tests ≡ self.old.tests }
     {
         self.probes.raise();
@@ -130,8 +135,7 @@ impl CountedPairs {
             self.old.pairs.items index }
         ensures same { self.new.pairs ≡ self.old.pairs }
         ensures probes { self.new.probes ≡ self.old.probes }
-        ensures tests { self.new.tests.call ≡ self.old.tests.call + 1 }
-        ensures all_tests { RoseBy self.old.tests.all 1 self.new.tests.all }
+        ensures tests { IsRaised self.old.tests self.new.tests }
     {
         self.tests.raise();
         self.pairs[index].0.shares(&span)
@@ -145,8 +149,7 @@ impl CountedPairs {
             (λ found. (found ≡ pair) × Holds pair.0 place)) self.old.pairs.items index }
         ensures same { self.new.pairs ≡ self.old.pairs }
         ensures probes { self.new.probes ≡ self.old.probes }
-        ensures tests { self.new.tests.call ≡ self.old.tests.call + 1 }
-        ensures all_tests { RoseBy self.old.tests.all 1 self.new.tests.all }
+        ensures tests { IsRaised self.old.tests self.new.tests }
     {
         self.tests.raise();
         let pair = self.pairs[index];
@@ -157,17 +160,24 @@ impl CountedPairs {
         }
     }
 
-    // Puts a pair before the one at the index, or last.
+    // Puts a pair before the one at the index, or last. If there is no room it allocates as
+    // `make_room` does.
     pub(super) fn insert(&mut self, index: usize, span: Span, tag: u64) -> Result<(), AllocError>
         requires { index ≤ length self.old.pairs.items }
         ensures ok { OnOk result
             (self.new.pairs.items ≡ insert self.old.pairs.items index (span, tag)) }
         ensures err { OnErr result (self.new.pairs.items ≡ self.old.pairs.items) }
+        ensures room { length self.old.pairs.items < vec_capacity self.old.pairs
+            → vec_capacity self.new.pairs ≡ vec_capacity self.old.pairs }
+        ensures more { vec_capacity self.old.pairs ≤ length self.old.pairs.items
+            → vec_capacity self.new.pairs
+            ≤ length self.old.pairs.items + max (length self.old.pairs.items) 4 }
         ensures full { OnErr result
             (vec_capacity self.old.pairs ≤ length self.old.pairs.items) }
         ensures probes { self.new.probes ≡ self.old.probes }
         ensures tests { self.new.tests ≡ self.old.tests }
     {
+        make_room(&mut self.pairs)?;
         self.pairs.insert(index, (span, tag))?;
         Ok(())
     }

@@ -7,7 +7,7 @@ use Rattle.macho_spans.proofs.spans.Spans.find.Goals as goal
 pub returns-clause-found : goal.returns-clause-found
 returns-clause-found c =
     let held = c.self.inside.held in
-    let same : c.count_starts_by-next.new.self.pairs ≡ held.pairs = search rules in
+    let same : c.count_starts_by-next.new.held.pairs ≡ held.pairs = search rules in
     let count : StartBy held.pairs.items c.args.place c.count_starts_by-next.result = search rules in
     rw (← ap (λ (view : SpansView). view.pairs) c.self.view_is)
     (found_before held.pairs.items c.self.invariant c.args.place c.count_starts_by-next.result count c.holding.result c.in_ok-before.before (omega (arith, c.in_ok-before.ensures))

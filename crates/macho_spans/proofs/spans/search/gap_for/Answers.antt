@@ -1,16 +1,16 @@
-use Rattle.std.proofs.Common.{ℕ, ◌≡◌, ◌-◌, ◌⊎◌, true, false, sym, ◌∙◌, ap, inl, inr, arith, rules}
+use Rattle.std.proofs.Common.{ℕ, ◌≡◌, ◌-◌, ◌⊎◌, true, false, sym, ◌∙◌, ap, inl, inr, arith}
 use Rattle.std.proofs.lemmas.Bool.{false≢true, le-ltb}
 use Rattle.macho_spans.specs.declared.span.Span.{Span}
 use Rattle.macho_spans.specs.declared.spans.pairs.CountedPairs.{CountedPairs}
 use Rattle.macho_spans.proofs.SortedSpans.{shares_at, shares_beside}
-use Rattle.macho_spans.proofs.spans.gap_for.Goals as goal
-use Rattle.macho_spans.proofs.spans.gap_for.Goals.{then-next-gt0, else-next-gt0, then-next-len, else-next-len, then-before, else-before}
+use Rattle.macho_spans.proofs.spans.search.gap_for.Goals as goal
+use Rattle.macho_spans.proofs.spans.search.gap_for.Goals.{then-next-gt0, else-next-gt0, then-next-len, else-next-len, then-before, else-before}
 
 pub returns-then-after-clause-gap : goal.returns-then-after-clause-gap
 returns-then-after-clause-gap c =
     let pairs = c.args.held.now.pairs.items in
     let among = c.count_starts_by-next.ensures.count.among in
-    let found = c.count_starts_by-next.ensures.same in
+    let found = c.count_starts_by-next.ensures.search.same in
     let same : c.if-next-gt0.held.pairs ≡ c.args.held.now.pairs = elim c.if-next-gt0.branch [
       | then-next-gt0 w ↦ ap (λ (held : CountedPairs). held.pairs) w.held-is ∙ (w.shares-before.ensures.same ∙ found)
       | else-next-gt0 w ↦ ap (λ (held : CountedPairs). held.pairs) w.held-is ∙ found
@@ -37,7 +37,7 @@ returns-then-after-clause-gap c =
 pub returns-else-after-clause-gap : goal.returns-else-after-clause-gap
 returns-else-after-clause-gap c =
     let by = c.count_starts_by-next.ensures.count in
-    let found = c.count_starts_by-next.ensures.same in
+    let found = c.count_starts_by-next.ensures.search.same in
     let same : c.if-next-gt0.held.pairs ≡ c.args.held.now.pairs = elim c.if-next-gt0.branch [
       | then-next-gt0 w ↦ ap (λ (held : CountedPairs). held.pairs) w.held-is ∙ (w.shares-before.ensures.same ∙ found)
       | else-next-gt0 w ↦ ap (λ (held : CountedPairs). held.pairs) w.held-is ∙ found
@@ -63,9 +63,3 @@ returns-else-after-clause-gap c =
       ],
       by,
     )
-
-pub returns-then-after-clause-tests : goal.returns-then-after-clause-tests
-returns-then-after-clause-tests c = search rules
-
-pub returns-else-after-clause-tests : goal.returns-else-after-clause-tests
-returns-else-after-clause-tests c = search rules
