@@ -65,7 +65,9 @@ module _ (file : List ℕ) (span : ℕ → Span) where
 
   -- the order shows nothing only of spans that neither ascend nor descend
   pub unordered : (shown : Sharing) → shown ≡ sharing.Unknown → IsSharingOf (placed_spans file span (entry_count file)) shown → IsUnordered (entry_spans file span)
-  unordered shown unknown is = subst IsUnordered spans_of_placed (subst (IsSharingOf (placed_spans file span (entry_count file))) unknown is)
+  unordered shown unknown is =
+      let (up, down, mixed) = subst (IsSharingOf (placed_spans file span (entry_count file))) unknown is in
+      subst IsUnordered spans_of_placed (up, down)
 
 -- where the spans of two entries share a place exactly if the entries have R
 module _ (file : List ℕ) (span : ℕ → Span) (R : ℕ → ℕ → Type 0) (exactly : (i j : ℕ) → Shares (span i) (span j) ↔ R i j) where

@@ -140,7 +140,7 @@ module _ (image : List ℕ) (opened : IsOpened image) where
   first_shown place (j, least, at) = least_overlapping j place (subst (λ ps. slice_get ps j ≡ Some place) tags_tagged at) (spans_in (tagged_memory image)) spans_tagged least
 
   pub unordered_shown : IsSharingOf (tagged_memory image) sharing.Unknown → IsUnordered image
-  unordered_shown shown = subst (λ all. (¬ IsAscending all) × (¬ IsDescending all)) spans_tagged shown
+  unordered_shown (up, down, mixed) = subst (λ all. (¬ IsAscending all) × (¬ IsDescending all)) spans_tagged (up, down)
 
 -- no spans ascend, so some segment is mapped where the mapped ones do not
 unordered_some : (image : List ℕ) → IsUnordered image → HasMapped image

@@ -1,11 +1,11 @@
 -- One span more, in a list of spans that are in some order.
 use Rattle.std.proofs.Common.{◌≡◌, ℕ, ◌≤◌, ◌<◌, ◌⊎◌, List, [], ◌∷◌, ◌++◌, length, get_or, Some, slice_get, sym, ap, ◌∙◌, subst, arith, inl, inr, length-append}
 use Rattle.std.proofs.Math.ListN.{get_or-append}
-use Rattle.std.proofs.Math.Seq.{get_or-append_seam}
+use Rattle.std.proofs.Math.Seq.{get_or-append_seam, take-length}
 use Rattle.std.proofs.lemmas.Bool.{cases_lt, cases_eq}
-use Rattle.std.proofs.lemmas.List.{get_or_past}
+use Rattle.std.proofs.lemmas.List.{get_or_past, take-append-le}
 use Rattle.std.proofs.lemmas.Option.{slice_get-get_or, slice_get_within, get_or_from_slice_get}
-use Rattle.macho_spans.specs.Overlap.{SharesEarlier, IsLeastSharing, IsAscending, IsDescending, span_at}
+use Rattle.macho_spans.specs.Overlap.{SharesEarlier, IsLeastSharing, IsAscending, IsDescending, SharesWithNeighbour, AreMixed, span_at}
 use Rattle.macho_spans.specs.Span.{end_of, Shares}
 use Rattle.macho_spans.specs.SpanOrder.{Ascends, Descends, IsTrend}
 use Rattle.macho_spans.specs.declared.span.Span.{Span}
@@ -110,6 +110,71 @@ module _ (spans : List Span) (x : Span) where
       },
     )
 
+  -- What was found of the old spans holds of all
+  old_neighbour : (j : ℕ) → j < length spans → SharesWithNeighbour more j → SharesWithNeighbour spans j
+  old_neighbour j within (under, (i, less, shares, between)) = (
+    within,
+    (
+      i,
+      less,
+      subst (λ a. Shares a (span_at spans j)) (at_old i (omega arith)) (subst (Shares (span_at more i)) (at_old j within) shares),
+      λ k after before filled. between k after before (old_filled k filled).1,
+    ),
+  )
+
+  still_mixed : (n : ℕ) → AreMixed spans n → AreMixed more n
+  still_mixed n mixed = record {
+    among = let among = mixed.among in omega (arith, length-append spans (x ∷ []));
+    up = subst (λ first. ¬ IsAscending first) (sym (take-append-le n spans (x ∷ []) mixed.among)) mixed.up;
+    down = subst (λ first. ¬ IsDescending first) (sym (take-append-le n spans (x ∷ []) mixed.among)) mixed.down;
+    apart = λ j less shares. mixed.apart j less (old_neighbour j (let among = mixed.among in omega arith) shares);
+  }
+
+  pub still_unordered : (¬ IsAscending spans) × (¬ IsDescending spans) × ((n : ℕ) × AreMixed spans n) → (¬ IsAscending more) × (¬ IsDescending more) × ((n : ℕ) × AreMixed more n)
+  still_unordered (up, down, (n, mixed)) = (λ all. up (pairs_less Below all), λ all. down (pairs_less Above all), (n, still_mixed n mixed))
+
+  old_shares : (k : ℕ) → k < length spans → SharesEarlier more k → SharesEarlier spans k
+  old_shares k within (under, (i, less, shares)) =
+      (within, (i, less, subst (λ a. Shares a (span_at spans k)) (at_old i (omega arith)) (subst (Shares (span_at more i)) (at_old k within) shares)))
+
+  now_shares : (k : ℕ) → SharesEarlier spans k → SharesEarlier more k
+  now_shares k (within, (i, less, shares)) =
+      (omega (arith, length-append spans (x ∷ [])), (i, less, subst (λ a. Shares a (span_at more k)) (sym (at_old i (omega arith))) (subst (Shares (span_at spans i)) (sym (at_old k within)) shares)))
+
+  still_least : (j : ℕ) → IsLeastSharing spans j → IsLeastSharing more j
+  still_least j (shares, least) = (now_shares j shares, λ k less earlier. least k less (old_shares k (let within = shares.0 in omega arith) earlier))
+
+  -- where the old ones share no place and the last shares none with its neighbour, nothing is shared by neighbours
+  now_mixed : ¬ IsAscending more → ¬ IsDescending more → ((k : ℕ) → ¬ SharesEarlier spans k) → ¬ SharesWithNeighbour more (length spans) → (n : ℕ) × AreMixed more n
+  now_mixed up down old last = (
+    length more,
+    record {
+      among = omega arith;
+      up = subst (λ all. ¬ IsAscending all) (sym (take-length more)) up;
+      down = subst (λ all. ¬ IsDescending all) (sym (take-length more)) down;
+      apart = λ j less shares. elim (cases_lt j (length spans)) [
+        | inl before ↦ let (within, (i, first, both, between)) = old_neighbour j before shares in old j (within, (i, first, both))
+        | inr past ↦ last (subst (SharesWithNeighbour more) {y = length spans} (omega (arith, length-append spans (x ∷ []), less, past)) shares)
+      ];
+    },
+  )
+
+  -- the neighbour of the last span is the old one after which all are empty
+  at_neighbour : (last : Span) → 0 < last.len → (j : ℕ) → span_at spans j ≡ last → ((i : ℕ) → IsFilled spans i → ¬ (j < i)) → SharesWithNeighbour more (length spans) → Shares last x
+  at_neighbour last some j same rest (under, (i, less, shares, between)) = elim (cases_lt i j) [
+    | inl before ↦ absurd (between j before there.0 there.1)
+    | inr past ↦ let here : i ≡ j = omega (arith, past, rest i filled_i) in subst (λ a. Shares a x) (ap (span_at spans) here ∙ same) both
+  ]
+    where
+      there : (j < length spans) × IsFilled more j
+      there = old_filled j (omega (arith, ap (λ s. s.len) same, some))
+
+      both : Shares (span_at spans i) x
+      both = subst (λ a. Shares a x) (at_old i less) (subst (Shares (span_at more i)) at_last shares)
+
+      filled_i : IsFilled spans i
+      filled_i = let (place, (from, to), other) = both in omega (arith, from, to)
+
   -- One more after others, of which the last that is not empty is known
   module _ (last : Span) (filled : 0 < x.len) where
     filled_last : 0 < last.len → (j : ℕ) × (span_at spans j ≡ last) → (j : ℕ) × (span_at spans j ≡ last) × IsFilled spans j
@@ -155,26 +220,45 @@ module _ (spans : List Span) (x : Span) where
       not_ascending down.filled down.among below,
     )
 
-    pub turns_down : Ascends spans last → ¬ IsDescending spans → end_of x ≤ last.start → (¬ IsAscending more) × (¬ IsDescending more)
-    turns_down up not below = (not_ascending up.filled up.among below, λ down. not (pairs_less Above down))
+    pub turns_down : Ascends spans last → ¬ IsDescending spans → end_of x ≤ last.start → (¬ IsAscending more) × (¬ IsDescending more) × ((n : ℕ) × AreMixed more n)
+    turns_down up not below = (not_up, not_down, now_mixed not_up not_down (ascending_apart spans up.ascending) apart)
+      where
+        not_up : ¬ IsAscending more
+        not_up = not_ascending up.filled up.among below
 
-    pub turns_up : Descends spans last → ¬ IsAscending spans → end_of last ≤ x.start → (¬ IsAscending more) × (¬ IsDescending more)
-    turns_up down not above = (λ up. not (pairs_less Below up), not_descending down.filled down.among above)
+        not_down : ¬ IsDescending more
+        not_down down = not (pairs_less Above down)
 
-  -- What was found of the old spans holds of all
-  pub still_unordered : (¬ IsAscending spans) × (¬ IsDescending spans) → (¬ IsAscending more) × (¬ IsDescending more)
-  still_unordered (up, down) = (λ all. up (pairs_less Below all), λ all. down (pairs_less Above all))
+        -- none after the last one ends past it
+        rest : (i : ℕ) → IsFilled spans i → ¬ (up.among.0 < i)
+        rest i filled_i less =
+            let (j, same) = up.among in
+            let at : IsFilled spans j = omega (arith, ap (λ s. s.len) same, up.filled) in
+            let over : end_of (span_at spans j) ≤ (span_at spans i).start = up.ascending j i less at filled_i in
+            let most = up.most i filled_i in omega (arith, over, most, filled_i, ap (λ s. s.start) same, ap (λ s. s.len) same)
 
-  old_shares : (k : ℕ) → k < length spans → SharesEarlier more k → SharesEarlier spans k
-  old_shares k within (under, (i, less, shares)) =
-      (within, (i, less, subst (λ a. Shares a (span_at spans k)) (at_old i (omega arith)) (subst (Shares (span_at more i)) (at_old k within) shares)))
+        apart : ¬ SharesWithNeighbour more (length spans)
+        apart shares = let (place, (from, to), (first, until)) = at_neighbour last up.filled up.among.0 up.among.1 rest shares in omega (arith, from, until, below)
 
-  now_shares : (k : ℕ) → SharesEarlier spans k → SharesEarlier more k
-  now_shares k (within, (i, less, shares)) =
-      (omega (arith, length-append spans (x ∷ [])), (i, less, subst (λ a. Shares a (span_at more k)) (sym (at_old i (omega arith))) (subst (Shares (span_at spans i)) (sym (at_old k within)) shares)))
+    pub turns_up : Descends spans last → ¬ IsAscending spans → end_of last ≤ x.start → (¬ IsAscending more) × (¬ IsDescending more) × ((n : ℕ) × AreMixed more n)
+    turns_up down not above = (not_up, not_down, now_mixed not_up not_down (descending_apart spans down.descending) apart)
+      where
+        not_up : ¬ IsAscending more
+        not_up up = not (pairs_less Below up)
 
-  still_least : (j : ℕ) → IsLeastSharing spans j → IsLeastSharing more j
-  still_least j (shares, least) = (now_shares j shares, λ k less earlier. least k less (old_shares k (let within = shares.0 in omega arith) earlier))
+        not_down : ¬ IsDescending more
+        not_down = not_descending down.filled down.among above
+
+        -- none after the last one begins before it
+        rest : (i : ℕ) → IsFilled spans i → ¬ (down.among.0 < i)
+        rest i filled_i less =
+            let (j, same) = down.among in
+            let at : IsFilled spans j = omega (arith, ap (λ s. s.len) same, down.filled) in
+            let under : end_of (span_at spans i) ≤ (span_at spans j).start = down.descending j i less at filled_i in
+            let least = down.least i filled_i in omega (arith, under, least, filled_i, ap (λ s. s.start) same)
+
+        apart : ¬ SharesWithNeighbour more (length spans)
+        apart shares = let (place, (from, to), (first, until)) = at_neighbour last down.filled down.among.0 down.among.1 rest shares in omega (arith, to, first, above)
 
   -- The last span shares a place with the one before it that is not empty
   pub last_shares : (last : Span) → 0 < x.len → 0 < last.len → (j : ℕ) × (span_at spans j ≡ last) → ¬ (end_of last ≤ x.start) → ¬ (end_of x ≤ last.start)

@@ -1,5 +1,5 @@
 -- Which of many spans shares a place with an earlier one.
-use Rattle.std.specs.Prelude.{ℕ, ◌≤◌, ◌<◌, List, length, slice_index_or}
+use Rattle.std.specs.Prelude.{ℕ, ◌≤◌, ◌<◌, List, length, take, slice_index_or}
 use Rattle.macho_spans.specs.Span.{end_of, Shares}
 use Rattle.macho_spans.specs.declared.span.Span.{Span}
 
@@ -32,3 +32,16 @@ abbrev pub IsDescending : List Span → Type 0
 IsDescending spans =
     (i j : ℕ) → i < j → 0 < (span_at spans i).len → 0 < (span_at spans j).len
     → end_of (span_at spans j) ≤ (span_at spans i).start
+
+-- The span with the index j shares a place with its neighbour, the last one before it that is not empty
+abbrev pub SharesWithNeighbour : List Span → ℕ → Type 0
+SharesWithNeighbour spans j =
+    (j < length spans) × ((i : ℕ) × (i < j) × Shares (span_at spans i) (span_at spans j)
+    × ((k : ℕ) → i < k → k < j → ¬ (0 < (span_at spans k).len)))
+
+-- The first n spans neither ascend nor descend, and none of them shares a place with its neighbour
+pub record AreMixed (spans : List Span) (n : ℕ) : Type 0 where
+  pub among : n ≤ length spans
+  pub up : ¬ IsAscending (take n spans)
+  pub down : ¬ IsDescending (take n spans)
+  pub apart : (j : ℕ) → j < n → ¬ SharesWithNeighbour spans j

@@ -1,7 +1,7 @@
 -- What the order of spans shows of which of them share a place. Each span has a tag, which names it in
 -- the answer. Empty spans share nothing.
 use Rattle.std.specs.Prelude.{◌≡◌, ℕ, ◌≤◌, ◌<◌, List, map, slice_get, Some}
-use Rattle.macho_spans.specs.Overlap.{span_at, SharesEarlier, IsLeastSharing, IsAscending, IsDescending}
+use Rattle.macho_spans.specs.Overlap.{span_at, SharesEarlier, IsLeastSharing, IsAscending, IsDescending, AreMixed}
 use Rattle.macho_spans.specs.Span.{end_of}
 use Rattle.macho_spans.specs.declared.span.Span.{Span}
 use Rattle.macho_spans.specs.declared.span_order.Sharing.{Sharing}
@@ -16,14 +16,15 @@ spans_in pairs = map (λ pair. pair.0) pairs
 abbrev pub tags_in : List (Span × ℕ) → List ℕ
 tags_in pairs = map (λ pair. pair.1) pairs
 
--- What the order shows
+-- What the order shows. The first span that shares a place with its neighbour is answered, unless the
+-- spans before it neither ascend nor descend
 
 abbrev pub IsSharingOf : List (Span × ℕ) → Sharing → Type 0
 IsSharingOf pairs sharing.None = (j : ℕ) → ¬ SharesEarlier (spans_in pairs) j
 IsSharingOf pairs (sharing.First tag) =
     (j : ℕ) × IsLeastSharing (spans_in pairs) j × (slice_get (tags_in pairs) j ≡ Some tag)
 IsSharingOf pairs sharing.Unknown =
-    (¬ IsAscending (spans_in pairs)) × (¬ IsDescending (spans_in pairs))
+    (¬ IsAscending (spans_in pairs)) × (¬ IsDescending (spans_in pairs)) × ((n : ℕ) × AreMixed (spans_in pairs) n)
 
 -- What is kept while spans are noted
 
@@ -48,7 +49,7 @@ IsTrend spans tags last trend.Ascending = Ascends spans last × (¬ IsDescending
 IsTrend spans tags last trend.Descending = Descends spans last × (¬ IsAscending spans)
 IsTrend spans tags last (trend.Sharing tag) =
     (j : ℕ) × IsLeastSharing spans j × (slice_get tags j ≡ Some tag)
-IsTrend spans tags last trend.Unordered = (¬ IsAscending spans) × (¬ IsDescending spans)
+IsTrend spans tags last trend.Unordered = (¬ IsAscending spans) × (¬ IsDescending spans) × ((n : ℕ) × AreMixed spans n)
 
 -- the order is that of the spans
 abbrev pub IsOrderOf : List (Span × ℕ) → SpanOrder → Type 0

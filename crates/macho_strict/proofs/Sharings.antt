@@ -95,7 +95,7 @@ pub order_noted : (noted : List Element) (e : Element) (order : SpanOrder) → I
 order_noted noted e order is = subst (λ pairs. IsOrderOf pairs order) (sym (map-append (λ (x : Element). (x.span, x.described)) noted (e ∷ []))) is
 
 pub unordered_shown : (all : List Element) → IsSharingOf (tagged all) sharing.Unknown → IsUnordered (map span_of all)
-unordered_shown all shown = subst IsUnordered (spans_tagged all) shown
+unordered_shown all (up, down, mixed) = subst IsUnordered (spans_tagged all) (up, down)
 
 -- Which elements share a place with an earlier one, where the places of what describes them do not fall
 

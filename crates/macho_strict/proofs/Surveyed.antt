@@ -8,8 +8,9 @@ use Rattle.macho_fields.specs.FirstPlace.{IsLeastPlace}
 use Rattle.macho_fields.specs.Image.{commands_of, command_size}
 use Rattle.macho_spans.specs.Overlap.{span_at, SharesEarlier, IsLeastSharing}
 use Rattle.macho_spans.specs.Span.{Holds}
-use Rattle.macho_spans.specs.SpanOrder.{IsOrderOf, spans_in, tags_in}
+use Rattle.macho_spans.specs.SpanOrder.{IsOrderOf, IsSharingOf, spans_in, tags_in}
 use Rattle.macho_spans.specs.declared.span.Span.{Span}
+use Rattle.macho_spans.specs.declared.span_order.Sharing.TheVariants as sharing
 use Rattle.macho_spans.specs.declared.span_order.SpanOrder.{SpanOrder}
 use Rattle.macho_fields.proofs.Parts.{command_good, with_cmd_among}
 use Rattle.macho_fields.specs.declared.header.loader.TheConstants as loader
@@ -27,7 +28,7 @@ use Rattle.macho_strict.specs.declared.gaps.Gaps.{Gaps}
 use Rattle.macho_strict.specs.declared.gaps.Wanted.TheVariants as wanted
 use Rattle.macho_fields.specs.declared.rule.Rule.TheVariants as rule
 use Rattle.macho_strict.proofs.Passed.{least_same, all_of_free, free_of_all}
-use Rattle.macho_strict.proofs.Sharings.{spans_tagged, tags_tagged}
+use Rattle.macho_strict.proofs.Sharings.{spans_tagged, tags_tagged, unordered_shown}
 
 abbrev span_of : Element → Span
 span_of part = part.span
@@ -67,8 +68,8 @@ module _ (image : List ℕ) where
   tags_are : tags_in (tagged_parts image) ≡ map (λ segment. segment) segments
   tags_are = tags_tagged (all_parts image) ∙ map-map (λ (e : Element). e.described) (file_part image) segments
 
-  pub unordered_parts : IsUnordered (spans_in (tagged_parts image)) → IsUnordered (file_parts image)
-  unordered_parts = subst IsUnordered spans_are
+  pub unordered_parts : IsSharingOf (tagged_parts image) sharing.Unknown → IsUnordered (file_parts image)
+  unordered_parts shown = subst IsUnordered parts_are (unordered_shown (all_parts image) shown)
 
   -- The rule stray-byte
 

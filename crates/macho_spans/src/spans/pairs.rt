@@ -1,16 +1,16 @@
-//! The pairs of a span and a tag. They and their counts are private to this file, which is the one
-//! place to read for what no clause says: **no function here looks at a start without counting.**
+//! The pairs of a span and a tag. They and their counts are private to this file. It has to be read
+//! for what no clause says of it: **nothing here looks at a start without counting.**
 //!
 //! - `starts_by` makes a *probe*: it compares the start of one held span with the place that is
 //!   searched for, and counts once.
-//! - `shares` and `holding` make a *test* of one pair, which also compares its start, and count once.
-//!   `holding` returns the pair if its span holds the place.
-//! - No other function looks at a start, and none returns a reference to a pair or a count.
-//! - A total only rises, by one for each probe or test. A value that was built here begins with no
-//!   pairs, and cannot be copied.
+//! - `shares` and `holding` make a *test* of one pair, which compares its start as well, and count
+//!   once. `holding` returns the pair if its span holds the place.
+//! - No other function looks at a start, and none lends a pair or a count.
+//! - A total is 0 where a list is made. After that only `raise` changes it, by one. A list cannot be
+//!   copied.
 //!
-//! What the clauses prove of every caller: its pairs are those that it was given, and the totals
-//! rose by what it says that it made. So a search outside this file cannot be hidden.
+//! The clauses of `Spans` say that the totals rise by what a call reports. So a probe or test that is
+//! made outside this file cannot be hidden.
 
 ghost use Rattle.std.specs.Prelude.{◌≡◌, ◌<◌, ◌^◌};
 ghost use Rattle.macho_spans.specs.SearchSteps.{IsRaised};
@@ -54,7 +54,7 @@ impl CountedPairs {
     ghost use Rattle.macho_spans.specs.SearchSteps.{IsBegun, IsRaised};
     ghost use Rattle.macho_spans.specs.Span.{Holds, Shares};
 
-    // No pairs, in the order of the list, which is empty.
+    // The pairs of the list, of which nothing was counted.
     fn counting(pairs: Vec<(Span, u64)>) -> CountedPairs
         ensures pairs { result.pairs ≡ pairs }
         ensures probes { (result.probes.call ≡ 0) × (result.probes.all ≡ 0) }
@@ -67,6 +67,7 @@ impl CountedPairs {
         }
     }
 
+    // No pairs. It takes no memory.
     pub(super) fn new(alloc: Global) -> CountedPairs
         ensures none { result.pairs.items ≡ [] }
         ensures capacity { vec_capacity result.pairs ≡ 0 }
