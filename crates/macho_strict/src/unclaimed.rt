@@ -16,7 +16,7 @@ ghost use Rattle.macho_strict.specs.declared.gaps.Wanted.{Wanted};
 use crate::claims::{Claims, least, sorted_stray};
 use crate::elements::Elements;
 use crate::gaps::{NOP, Wanted, stray_in};
-use crate::overlap::{count_of, span_list};
+use crate::overlap::{FileParts, count_of, span_list};
 use macho_fields::header::vm_prot::VM_PROT_EXECUTE;
 use macho_fields::{Rule, SpanList};
 use macho_image::{Image, Segment};
@@ -75,7 +75,8 @@ fn stray_outside_code(alloc: Global, image: &Image) -> Result<Option<u64>, Alloc
     ensures { IfOk result (IsLeastPlace (IsStray Wanted.NonZero image.now
         (element_spans image.now ++ code_parts image.now))) }
 {
-    let mut list = span_list(alloc, count_of(Elements::of(image)), Elements::of(image))?;
+    let count = count_of(Elements::of(image)).saturating_add(count_of(FileParts::of(image)));
+    let mut list = span_list(alloc, count, Elements::of(image))?;
     push_code(&mut list, image)?;
     Ok(stray_in(image.bytes(), Wanted::NonZero, &list.sorted()))
 }

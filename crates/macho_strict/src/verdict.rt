@@ -18,9 +18,10 @@ use std::alloc::Global;
 /// accepts it, or returns the first broken one, with its place in the file.
 ///
 /// The strict rule of the file comes first; then those of its 64-bit slices, in the order of the
-/// table. It takes memory as `verify` does, and further memory only if slices, segments or elements
-/// are not in the order of their bytes: at most 32 bytes for each segment, or 24 for each slice or
-/// element, to sort them.
+/// table. It takes memory as `verify` does, and then 24 bytes for each slice, segment or element that
+/// it has to sort: those that are not in the order of their bytes, and the elements and executable
+/// segments of an image with a NOP in no element. For an image with an encrypted range it takes 56
+/// bytes for each segment. The bytes of up to 256 elements are kept in any case, if there is memory.
 pub fn verify_strictly<'a>(alloc: Global, file: &'a [u8]) -> Result<Verified<'a>, Refusal>
     // It accepts only a file that breaks no rule and no strict rule, and refuses only one that breaks
     // one of them, unless there is no memory.

@@ -12,7 +12,7 @@ use Rattle.macho_strict.proofs.unclaimed.stray_outside_code.Goals as goal
 pub returns : goal.returns
 returns c =
     let image = c.args.image.now in
-    let are = drained_spans _ c.of-2.result c.of-2.ensures.elements c.in_ok-list.list.spans c.in_ok-list.ensures.0 c.in_ok-list.ensures.1 c.in_ok-list.ensures.2 in
+    let are = drained_spans _ c.of-3.result c.of-3.ensures.elements c.in_ok-list.list.spans c.in_ok-list.ensures.0 c.in_ok-list.ensures.1 c.in_ok-list.ensures.2 in
     let all = c.in_ok-push_code.ensures ∙ ap (λ (spans : List Span). spans ++ code_parts image) are in
     least_moved wanted.NonZero image (bytes_of c.bytes.result) (element_spans image ++ code_parts image) c.push_code.new.list.spans (sorted_spans c.sorted.result) c.stray_in-2.result c.bytes.ensures.bytes all c.sorted.ensures.permutation
     c.stray_in-2.ensures
