@@ -1,4 +1,5 @@
--- What the strict rules promise of a file: every nonzero byte is in exactly one part.
+-- What the strict rules promise of a file: every nonzero byte is accounted for, and no byte is in two
+-- elements.
 use Rattle.std.specs.Prelude.{◌≡◌, ℕ, ◌+◌, ◌<◌, ◌⊎◌, List, slice_get, Some, All, Any, Contains}
 use Rattle.macho_fields.specs.Command.{least_size}
 use Rattle.macho_fields.specs.Image.{command_cmd, command_size, commands_of, commands_end}

@@ -25,8 +25,8 @@ use std::alloc::{AllocError, Global};
 
 // Each byte of a segment is zero, a NOP of code, or lies in an element.
 //
-// It takes memory only if the elements descend, or a NOP lies in none: 24 bytes for each element and
-// for each segment that may be executed, to sort them.
+// It takes memory only if the elements do not ascend, or a NOP lies in none: 24 bytes for each element
+// and each segment, to sort the elements with the segments that may be executed.
 pub(crate) fn unclaimed_byte(alloc: Global, image: &Image, claims: &Claims) -> Result<(), Refusal>
     requires claims { claims.now ≡ image.now }
     requires kept { KeptBelow (BreaksImage image.now) (rank Rule.UnclaimedByte) }

@@ -18,10 +18,11 @@ use std::alloc::Global;
 /// accepts it, or returns the first broken one, with its place in the file.
 ///
 /// The strict rule of the file comes first; then those of its 64-bit slices, in the order of the
-/// table. It takes memory as `verify` does, and then 24 bytes for each slice, segment or element that
-/// it has to sort: those that are not in the order of their bytes, and the elements and executable
-/// segments of an image with a NOP in no element. For an image with an encrypted range it takes 56
-/// bytes for each segment. The bytes of up to 256 elements are kept in any case, if there is memory.
+/// table. It takes memory as `verify` does, and then 24 bytes for each slice, segment or element of
+/// those that are not in the order of their bytes. If a NOP lies in no element, it takes 24 bytes for
+/// each element and each segment of the slice, even if it holds the elements sorted already. For an
+/// image with an encrypted range it takes 56 bytes for each segment. The bytes of up to 256 elements are
+/// kept in any case, if there is memory.
 pub fn verify_strictly<'a>(alloc: Global, file: &'a [u8]) -> Result<Verified<'a>, Refusal>
     // It accepts only a file that breaks no rule and no strict rule, and refuses only one that breaks
     // one of them, unless there is no memory.
