@@ -112,18 +112,19 @@ rules! {
     HeaderSegment = 34,
     /// Strictly: a segment shares a byte of the file with an earlier one.
     SegmentFileOverlap = 35,
-    /// Strictly: a section or a table shares a byte with an earlier one, or with the headers. Or the
-    /// data of a command that `docs/RULES.md` does not list ends past the image.
+    /// Strictly: a section, its relocations or a table shares a byte with an earlier one, or with the
+    /// headers. Or the data of a command that `docs/RULES.md` does not list ends past the image.
     ElementOverlap = 36,
     /// Strictly: a byte that is not zero is in no segment.
     StrayByte = 37,
-    /// Strictly: the encrypted range begins in the headers, or is not in the bytes of one segment.
+    /// Strictly: a nonempty encrypted range begins in the headers, or is not in the file bytes of one
+    /// segment.
     EncryptedRange = 38,
-    /// Strictly: a byte of a load command that is not zero is not in its structure, its records or its
+    /// Strictly: a nonzero byte of a listed load command is not in its structure, its records or its
     /// name.
     CommandSlack = 39,
-    /// Strictly: a byte of a segment that is neither zero nor a NOP of code is not in the headers, nor
-    /// in a section or a table.
+    /// Strictly: a byte of a segment that is neither zero nor a NOP of code is in no element: not in the
+    /// headers, a section, its relocations or a table.
     UnclaimedByte = 40,
 }
 
