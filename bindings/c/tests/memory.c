@@ -1,5 +1,7 @@
-// memory FILE..: refuses each allocation of both verdicts and of the layout in turn. Then the status is NO_MEMORY, and
-// all allocated memory is freed. No other call allocates memory. Linked with --wrap for malloc, realloc and free.
+// memory FILE..: refuses each allocation of both verdicts and of the layout in turn. Then the status is NO_MEMORY, or that
+// with ample memory if it was room for elements that kesvuot_verify_strictly keeps only where there is room: at most one
+// allocation for each slice. All allocated memory is freed. No other call allocates memory. Linked with --wrap for malloc,
+// realloc and free.
 #include "support.h"
 #include <stdio.h>
 #include <string.h>
@@ -47,17 +49,33 @@ static uint32_t judge_refusing(judge *verify, struct file file, long number, str
     return status;
 }
 
-static void try_verdict(judge *verify, struct file file) {
+// How many slices of the file have an image.
+static uint64_t images_of(struct file file) {
+    struct kesvuot_image image;
+    uint64_t slice = 0, images = 0;
+    for (uint32_t status; (status = kesvuot_image(file.bytes, file.size, slice, &image)) != KESVUOT_NONE; slice++) {
+        images += status == KESVUOT_OK;
+    }
+    return images;
+}
+
+// Refuses each allocation of the call. At most so many may be refused without a change of the verdict.
+static void try_verdict(judge *verify, struct file file, uint64_t spared) {
     struct kesvuot_verdict verdict, wanted;
     static const struct kesvuot_verdict none;
     const uint32_t status = judge_refusing(verify, file, 0, &wanted);
     const long needed = asked;
+    uint64_t unmoved = 0;
     CHECK(status == KESVUOT_OK || status == KESVUOT_REFUSED);
     for (long number = 1; number <= needed; number++) {
-        CHECK(judge_refusing(verify, file, number, &verdict) == KESVUOT_NO_MEMORY);
-        CHECK(memcmp(&verdict, &none, sizeof verdict) == 0);
-        refusals++;
+        const uint32_t refused_status = judge_refusing(verify, file, number, &verdict);
+        const bool is_same = refused_status == status;
+        CHECK(is_same || refused_status == KESVUOT_NO_MEMORY);
+        CHECK(memcmp(&verdict, is_same ? &wanted : &none, sizeof verdict) == 0);
+        unmoved += is_same;
+        refusals += !is_same;
     }
+    CHECK(unmoved <= spared);
     CHECK(judge_refusing(verify, file, needed + 1, &verdict) == status);
     CHECK(memcmp(&verdict, &wanted, sizeof verdict) == 0);
 }
@@ -122,8 +140,8 @@ static void try_views(struct file file) {
 int main(int count, char **words) {
     for (int index = 1; index < count; index++) {
         const struct file file = read_file(words[index], AT_END);
-        try_verdict(kesvuot_verify, file);
-        try_verdict(kesvuot_verify_strictly, file);
+        try_verdict(kesvuot_verify, file, 0);
+        try_verdict(kesvuot_verify_strictly, file, images_of(file));
         try_layout(file);
         try_views(file);
         release(file);
