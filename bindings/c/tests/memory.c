@@ -1,7 +1,7 @@
-// memory FILE..: refuses each allocation of both verdicts and of the layout in turn. Then the status is NO_MEMORY, or that
-// with ample memory if it was room for elements that kesvuot_verify_strictly keeps only where there is room: at most one
-// allocation for each slice. All allocated memory is freed. No other call allocates memory. Linked with --wrap for malloc,
-// realloc and free.
+// memory FILE..: refuses each allocation of both verdicts and of the layout in turn. Then the status is NO_MEMORY, or
+// that with ample memory if it was room for elements that kesvuot_verify_strictly keeps only where there is room: at
+// most one allocation for each slice. All allocated memory is freed. No other call allocates memory. Linked with --wrap
+// for malloc, realloc and free.
 #include "support.h"
 #include <stdio.h>
 #include <string.h>
@@ -114,25 +114,11 @@ static void try_layout(struct file file) {
 
 static void try_views(struct file file) {
     struct kesvuot_image image;
-    struct kesvuot_bytes bytes;
-    struct kesvuot_segment segment;
-    struct kesvuot_section section;
-    struct kesvuot_library library;
-    struct kesvuot_build build;
-    struct kesvuot_command command;
-    struct kesvuot_symbol symbol;
-    uint32_t indirect;
     asked = 0;
     for (uint64_t slice = 0; kesvuot_image(file.bytes, file.size, slice, &image) == KESVUOT_OK; slice++) {
-        kesvuot_segments(&image, 0, &segment, 1);
-        kesvuot_sections(&image, 0, &section, 1);
-        kesvuot_libraries(&image, 0, &library, 1);
-        kesvuot_builds(&image, 0, &build, 1);
-        kesvuot_commands(&image, 0, &command, 1);
-        kesvuot_symbols(&image, 0, &symbol, 1);
-        kesvuot_indirects(&image, 0, &indirect, 1);
-        kesvuot_linkedit(&image, 0x26, &bytes);
-        kesvuot_at(&image, image.base, &bytes);
+        for (size_t index = 0; index < VIEWS; index++) {
+            views[index].call(&image);
+        }
     }
     CHECK(asked == 0);
 }

@@ -1,20 +1,16 @@
-// once CALL FILE: makes one call of the library on a file. tests/cost counts its instructions. It prints what came of it:
+// once CALL FILE: makes one call of the library on a file. tests/cost counts its instructions. What came of it is
+// printed:
 //
 //     none        nothing: no call is made
 //     verify, verify_strictly
 //                 the verdict, as macho-check prints it
 //     layout      the first line
-//     commands, segments, sections, libraries, symbols, indirects
-//                 kesvuot_image of slice 0, and then a first batch of at most 16 of its rows: how many there are
-//     at          the same of the address 0x100000000: 1 if the file has bytes for it
+//     NAME        kesvuot_image of slice 0, and what the view of this name returns of it
 #include "support.h"
 #include <inttypes.h>
 #include <stdio.h>
 #include <stdlib.h>
 #include <string.h>
-
-enum { BATCH = 16 };
-static const uint64_t ADDRESS = 0x100000000;
 
 typedef uint32_t judge(const void *file, size_t size, struct kesvuot_verdict *verdict);
 
@@ -46,38 +42,14 @@ static void print_layout(const struct file *file) {
     free(text);
 }
 
-// The calls on an image: each returns what is printed.
-#define FIRST_BATCH(rows, type)                                                                                         \
-    static size_t rows(const struct kesvuot_image *image) {                                                            \
-        static type batch[BATCH];                                                                                      \
-        return kesvuot_##rows(image, 0, batch, BATCH);                                                                 \
-    }
-FIRST_BATCH(commands, struct kesvuot_command)
-FIRST_BATCH(segments, struct kesvuot_segment)
-FIRST_BATCH(sections, struct kesvuot_section)
-FIRST_BATCH(libraries, struct kesvuot_library)
-FIRST_BATCH(symbols, struct kesvuot_symbol)
-FIRST_BATCH(indirects, uint32_t)
-
-static size_t at(const struct kesvuot_image *image) {
-    struct kesvuot_bytes bytes;
-    return kesvuot_at(image, ADDRESS, &bytes) == KESVUOT_OK;
-}
-
-static const struct {
-    const char *name;
-    size_t (*call)(const struct kesvuot_image *);
-} CALLS[] = {{"commands", commands},   {"segments", segments}, {"sections", sections},  {"libraries", libraries},
-             {"symbols", symbols},     {"indirects", indirects}, {"at", at}};
-
 static void print_of_image(const char *name, const struct file *file) {
     struct kesvuot_image image;
     if (kesvuot_image(file->bytes, file->size, 0, &image) != KESVUOT_OK) {
         stop("kesvuot_image", "there is none");
     }
-    for (size_t index = 0; index < sizeof CALLS / sizeof *CALLS; index++) {
-        if (!strcmp(name, CALLS[index].name)) {
-            printf("%zu\n", CALLS[index].call(&image));
+    for (size_t index = 0; index < VIEWS; index++) {
+        if (!strcmp(name, views[index].name)) {
+            printf("%zu\n", views[index].call(&image));
             return;
         }
     }

@@ -1,6 +1,6 @@
 // stack MOST FILE..: how much stack each call takes at most, on any of the files, beyond what a thread takes that makes
-// none. Each call runs in a thread whose stack is painted first: what is still painted afterwards was not used. A call that
-// takes more than MOST bytes fails.
+// none. Each call runs in a thread whose stack is painted first: what is still painted afterwards was not used. A call
+// that takes more than MOST bytes fails.
 #define _GNU_SOURCE // MAP_ANONYMOUS
 #include "support.h"
 #include <inttypes.h>
@@ -10,9 +10,7 @@
 #include <string.h>
 #include <sys/mman.h>
 
-enum { STACK_SIZE = 1 << 20, BATCH = 64 };
-static const uint64_t ADDRESS = 0x100000000;
-static const uint32_t LC_SYMTAB = 2;
+enum { STACK_SIZE = 1 << 20 };
 
 static uint8_t *stack;
 static struct file file;
@@ -38,51 +36,22 @@ static void first_image(void) {
     kesvuot_image(file.bytes, file.size, 0, &image);
 }
 
-// The calls on the image, which `first_image` has set.
-#define FIRST_BATCH(rows, type)                                                                                        \
-    static void rows(void) {                                                                                           \
-        static type batch[BATCH];                                                                                      \
-        kesvuot_##rows(&image, 0, batch, BATCH);                                                                       \
-    }
-FIRST_BATCH(commands, struct kesvuot_command)
-FIRST_BATCH(segments, struct kesvuot_segment)
-FIRST_BATCH(sections, struct kesvuot_section)
-FIRST_BATCH(libraries, struct kesvuot_library)
-FIRST_BATCH(builds, struct kesvuot_build)
-FIRST_BATCH(symbols, struct kesvuot_symbol)
-FIRST_BATCH(indirects, uint32_t)
-
-static void linkedit(void) {
-    struct kesvuot_bytes data;
-    kesvuot_linkedit(&image, LC_SYMTAB, &data);
-}
-
-static void at(void) {
-    struct kesvuot_bytes bytes;
-    kesvuot_at(&image, ADDRESS, &bytes);
-}
-
-static struct {
+static const struct {
     const char *name;
     void (*call)(void);
-    size_t used;
-} calls[] = {{"kesvuot_verify", verify, 0},
-             {"kesvuot_verify_strictly", verify_strictly, 0},
-             {"kesvuot_layout", layout, 0},
-             {"kesvuot_image", first_image, 0},
-             {"kesvuot_commands", commands, 0},
-             {"kesvuot_segments", segments, 0},
-             {"kesvuot_sections", sections, 0},
-             {"kesvuot_libraries", libraries, 0},
-             {"kesvuot_builds", builds, 0},
-             {"kesvuot_symbols", symbols, 0},
-             {"kesvuot_indirects", indirects, 0},
-             {"kesvuot_linkedit", linkedit, 0},
-             {"kesvuot_at", at, 0}};
-enum { CALLS = sizeof calls / sizeof *calls };
+} calls[] = {{"verify", verify}, {"verify_strictly", verify_strictly}, {"layout", layout}, {"image", first_image}};
+enum { CALLS = sizeof calls / sizeof *calls, ALL = CALLS + VIEWS };
 
-static void *run(void *index) {
-    calls[*(const size_t *)index].call();
+// How many bytes each takes at most: the calls, and then the views of the image, which `first_image` has set.
+static size_t taken[ALL];
+
+static void *run(void *given) {
+    const size_t index = *(const size_t *)given;
+    if (index < CALLS) {
+        calls[index].call();
+    } else {
+        views[index - CALLS].call(&image);
+    }
     return NULL;
 }
 
@@ -110,10 +79,10 @@ static size_t used_by(void *(*start)(void *), void *given) {
 static void measure(const char *path) {
     file = read_file(path, AT_END);
     const size_t base = used_by(run_none, NULL);
-    for (size_t index = 0; index < CALLS; index++) {
+    for (size_t index = 0; index < ALL; index++) {
         const size_t used = used_by(run, &index);
-        if (used > base && used - base > calls[index].used) {
-            calls[index].used = used - base;
+        if (used > base && used - base > taken[index]) {
+            taken[index] = used - base;
         }
     }
     release(file);
@@ -131,9 +100,10 @@ int main(int count, char **words) {
         measure(words[index]);
     }
     const size_t most = strtoul(words[1], NULL, 10);
-    for (size_t index = 0; index < CALLS; index++) {
-        printf("%s: %zu bytes\n", calls[index].name, calls[index].used);
-        check(calls[index].used > 0 && calls[index].used <= most, calls[index].name, __LINE__);
+    for (size_t index = 0; index < ALL; index++) {
+        const char *name = index < CALLS ? calls[index].name : views[index - CALLS].name;
+        printf("%s: %zu bytes\n", name, taken[index]);
+        check(taken[index] > 0 && taken[index] <= most, name, __LINE__);
     }
     return print_counts("stack");
 }

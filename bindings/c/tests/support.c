@@ -118,3 +118,34 @@ void print_name(struct kesvuot_bytes name) {
         fwrite(name.at, 1, name.len, stdout);
     }
 }
+
+enum { BATCH = 16, LC_FUNCTION_STARTS = 0x26 };
+
+#define FIRST_BATCH(rows, type)                                                                                        \
+    static size_t rows(const struct kesvuot_image *image) {                                                            \
+        static type batch[BATCH];                                                                                      \
+        return kesvuot_##rows(image, 0, batch, BATCH);                                                                 \
+    }
+FIRST_BATCH(commands, struct kesvuot_command)
+FIRST_BATCH(segments, struct kesvuot_segment)
+FIRST_BATCH(sections, struct kesvuot_section)
+FIRST_BATCH(libraries, struct kesvuot_library)
+FIRST_BATCH(builds, struct kesvuot_build)
+FIRST_BATCH(symbols, struct kesvuot_symbol)
+FIRST_BATCH(indirects, uint32_t)
+
+static size_t linkedit(const struct kesvuot_image *image) {
+    struct kesvuot_bytes data;
+    return kesvuot_linkedit(image, LC_FUNCTION_STARTS, &data) == KESVUOT_OK;
+}
+
+static size_t at(const struct kesvuot_image *image) {
+    struct kesvuot_bytes bytes;
+    return kesvuot_at(image, image->base, &bytes) == KESVUOT_OK;
+}
+
+const struct view views[VIEWS] = {
+    {"commands", commands}, {"segments", segments}, {"sections", sections},
+    {"libraries", libraries}, {"builds", builds}, {"symbols", symbols},
+    {"indirects", indirects}, {"linkedit", linkedit}, {"at", at},
+};

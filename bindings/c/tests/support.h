@@ -45,4 +45,15 @@ int print_counts(const char *name);
 
 void print_name(struct kesvuot_bytes name);
 
+// A call on an image, by its name without `kesvuot_`. Of a table it asks for the first 16 rows, and returns how many
+// there are. `linkedit` asks for the data of LC_FUNCTION_STARTS and `at` for the bytes at the base: they return whether
+// there are any.
+struct view {
+    const char *name;
+    size_t (*call)(const struct kesvuot_image *image);
+};
+
+enum { VIEWS = 9 };
+extern const struct view views[VIEWS];
+
 #endif
