@@ -19,6 +19,7 @@ pub mod Layers
 pub mod Zeros
 pub mod NonZeros
 pub mod Strings
+pub mod Whole
 pub mod Opened
 pub mod Inside
 pub mod Scopes

@@ -1,7 +1,9 @@
 -- A search for a byte that is not zero in a part of the bytes, which may be cut at their end.
-use Rattle.std.proofs.Common.{◌≡◌, ℕ, suc, zero, ◌+◌, ◌-◌, ◌≤◌, ◌<◌, ◌⊎◌, List, length, drop, slice_index, sym, ap, ◌∙◌, arith, inl, inr, length-drop, length-take}
+use Rattle.std.proofs.Common.{◌≡◌, ℕ, suc, zero, ◌+◌, ◌-◌, ◌≤◌, ◌<◌, ◌⊎◌, List, length, drop, slice_index, refl, sym, ap, ◌∙◌, arith, inl, inr, length-drop, length-take}
 use Rattle.std.specs.Prelude.{◌≢◌}
+use Rattle.std.specs.Int.Bits.{bit_or}
 use Rattle.std.proofs.lemmas.Bool.{cases_lt}
+use Rattle.std.proofs.lemmas.Nat.{le_or_l, le_or_r}
 use Rattle.std.proofs.lemmas.List.{get_or-take, get_or-drop}
 use Rattle.byteorder.specs.Endian.{little_from}
 use Rattle.macho_fields.specs.Field.{part, number}
@@ -34,6 +36,13 @@ none_of_number i (suc n) xs is k low high =
 pub none_joined : (bytes : List ℕ) (start middle end : ℕ) → ¬ HasNonZero bytes start middle → ¬ HasNonZero bytes middle end → ¬ HasNonZero bytes start end
 none_joined bytes start middle end before after (z, low, high, is) =
     elim (cases_lt z middle) [ inl early ↦ before (z, low, early, is) | inr late ↦ after (z, late, high, is) ]
+
+-- numbers that are zero when they are joined
+pub none_of_four : (a b c d : ℕ) → bit_or (bit_or a b) (bit_or c d) ≡ 0 → (a ≡ 0) × (b ≡ 0) × (c ≡ 0) × (d ≡ 0)
+none_of_four a b c d none =
+    let left = le_or_l (bit_or a b) (bit_or c d) in
+    let right = le_or_r (bit_or a b) (bit_or c d) in
+    (omega (arith, le_or_l a b), omega (arith, le_or_r a b), omega (arith, le_or_l c d), omega (arith, le_or_r c d))
 
 module _ (bytes within : List ℕ) (start len : ℕ) (are : within ≡ part start len bytes) where
   inside_part : (k : ℕ) → k < length within → (k < len) × (start + k < length bytes)
@@ -74,3 +83,9 @@ module _ (bytes within : List ℕ) (start len : ℕ) (are : within ≡ part star
   -- a word of the part that is zero has none
   pub none_in_word : 8 ≤ length within → number Little 8 within 0 ≡ 0 → ¬ HasNonZero bytes start (start + 8)
   none_in_word whole word = none_in_part 8 whole (λ (k, low, high, is). is.1 (none_of_number 0 8 within word k low (omega arith)))
+
+-- what holds at the begin of the bytes from a place on
+pub none_in_rest : (bytes : List ℕ) (place size : ℕ) → place + size ≤ length bytes → ¬ HasNonZero (part place (length bytes - place) bytes) 0 size → ¬ HasNonZero bytes place (place + size)
+none_in_rest bytes place size inside none =
+    let left = length bytes - place in
+    none_in_part bytes (part place left bytes) place left refl size (omega (arith, length-take left (drop place bytes), length-drop place bytes)) none

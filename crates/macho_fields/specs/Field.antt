@@ -1,6 +1,6 @@
 -- Bytes as numbers. A file is a list of bytes. A place is an offset in bytes
 -- from its start.
-use Rattle.std.specs.Prelude.{◌≡◌, ℕ, ◌+◌, ◌≤◌, ◌<◌, ◌==◌, List, length, drop, take, slice_index, Option, Some, None, nat_le, if◌then◌else◌}
+use Rattle.std.specs.Prelude.{◌≡◌, ℕ, ◌+◌, ◌≤◌, ◌<◌, ◌==◌, List, length, drop, take, slice_get, slice_index, Option, Some, None, nat_le, if◌then◌else◌}
 use Rattle.std.specs.List.{before_first}
 use Rattle.byteorder.specs.Endian.{big_number, little_number}
 use Rattle.macho_fields.specs.declared.bytes.Order.{Order}
@@ -24,6 +24,12 @@ part start len bytes = take len (drop start bytes)
 -- the bytes from start on, up to the first zero byte
 abbrev pub string_from : ℕ → List ℕ → List ℕ
 string_from start bytes = before_first (λ byte. byte == 0) (drop start bytes)
+
+-- the string from start on is followed by a zero byte, which comes before end
+abbrev pub IsEnded : List ℕ → ℕ → ℕ → Type 0
+IsEnded bytes start end =
+    let after = start + length (string_from start bytes) in
+    (after < end) × (slice_get bytes after ≡ Some 0)
 
 -- some place from start on and below end is inside the bytes, and its byte is zero
 abbrev pub HasZero : List ℕ → ℕ → ℕ → Type 0

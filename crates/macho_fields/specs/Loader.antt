@@ -34,6 +34,18 @@ IsTable image commands start len =
     × (len ≡ reloc.RELOCATION_INFO_SIZE * nreloc image section)) (sections_in image segment))
     (segments_of image commands)
 
+-- A part, by its start and its length in bytes: a command, the file range of a segment, that of a
+-- section that is not zero-fill, or a table. It may be empty.
+abbrev pub IsPart : List ℕ → List ℕ → ℕ → ℕ → Type 0
+IsPart image commands start len =
+    Any (λ command. (start ≡ command) × (len ≡ command_size image command)) commands
+    ⊎ Any (λ segment. (start ≡ fileoff image segment) × (len ≡ filesize image segment))
+    (segments_of image commands)
+    ⊎ (Any (λ segment. Any (λ section. (is_zero_fill image section ≡ false)
+    × (start ≡ section_offset image section) × (len ≡ section_size image section))
+    (sections_in image segment)) (segments_of image commands)
+    ⊎ IsTable image commands start len)
+
 -- The loader reads a place: in the header; in a command; in the structure of a listed command and
 -- its records; in the file range of a segment; in that of a section that is not zero-fill; in a
 -- table; in a name, up to the first zero byte. Nothing bounds the place.

@@ -19,6 +19,9 @@ const HALF_BLOCK: usize = 32;
 // The size in bytes of a block of eight words.
 const BLOCK: usize = 64;
 
+// The size in bytes of a large block, which has four blocks.
+const LARGE_BLOCK: usize = 256;
+
 /// The order of the bytes of a field.
 #[derive(Clone, Copy, Debug, PartialEq, Eq)]
 pub enum Order {
@@ -274,11 +277,35 @@ fn zeros_by_blocks(bytes: &[u8]) -> usize
     ensures within { result ≤ length bytes.now }
     ensures zero { ¬ HasNonZero bytes.now 0 result }
 {
-    let mut index = 0;
+    let mut index = zeros_by_large_blocks(bytes);
     while bytes.len() - index >= BLOCK && block_from(&bytes[index..]) == 0 {
         index += BLOCK;
     }
     index
+}
+
+// How many bytes the first large blocks take that are zero, up to the first one that is not.
+fn zeros_by_large_blocks(bytes: &[u8]) -> usize
+    ensures within { result ≤ length bytes.now }
+    ensures zero { ¬ HasNonZero bytes.now 0 result }
+{
+    let mut index = 0;
+    while bytes.len() - index >= LARGE_BLOCK && large_block_from(&bytes[index..]) == 0 {
+        index += LARGE_BLOCK;
+    }
+    index
+}
+
+// The four blocks of the first large block, joined by `or`: 0 if all its bytes are zero.
+fn large_block_from(bytes: &[u8]) -> u64
+    requires { LARGE_BLOCK ≤ length bytes.now }
+    ensures { result ≡ 0 → ¬ HasNonZero bytes.now 0 LARGE_BLOCK }
+{
+    let first = block_from(bytes);
+    let second = block_from(&bytes[BLOCK..]);
+    let third = block_from(&bytes[2 * BLOCK..]);
+    let fourth = block_from(&bytes[3 * BLOCK..]);
+    (first | second) | (third | fourth)
 }
 
 // The eight words of the first block, joined by `or`: 0 if all its bytes are zero.

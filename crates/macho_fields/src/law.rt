@@ -8,7 +8,8 @@ ghost use Rattle.macho_fields.specs.Header.{AreMachineConstants, AreNlistConstan
 ghost use Rattle.macho_fields.specs.Header.{AreRelocConstants, AreVmProtConstants};
 ghost use Rattle.macho_fields.specs.Image.{AreCommands, commands_of};
 ghost use Rattle.macho_fields.specs.First.{IsFirstBroken, IsUnbroken};
-ghost use Rattle.macho_fields.specs.Loader.{IsSound};
+ghost use Rattle.macho_fields.specs.Field.{IsEnded, part};
+ghost use Rattle.macho_fields.specs.Loader.{IsSound, IsSoundImage, IsName, IsPart};
 ghost use Rattle.macho_fields.specs.RuleList.{rule_number, profile_of};
 ghost use Rattle.macho_fields.specs.Rules.{BreaksImage};
 ghost use Rattle.macho_fields.specs.declared.rule.Profile.TheVariants.{Layout};
@@ -85,4 +86,19 @@ pub fn unbroken_is_without_first(file: &[u8])
 pub fn unbroken_is_sound(file: &[u8])
     requires { IsUnbroken file.now }
     ensures { IsSound file.now }
+{}
+
+/// In a sound image a zero byte follows each name: that of a command in the command, and that of a
+/// symbol in the string table.
+pub fn a_zero_follows_each_name(image: &[u8], commands: &[u64])
+    requires { IsSoundImage image.now commands.now }
+    ensures { (start end : ℕ) → IsName image.now commands.now start end
+        → IsEnded image.now start end }
+{}
+
+/// In a sound image each part that a structure names has all its bytes: none ends past the image.
+pub fn parts_are_whole(image: &[u8], commands: &[u64])
+    requires { IsSoundImage image.now commands.now }
+    ensures { (start len : ℕ) → IsPart image.now commands.now start len
+        → length (part start len image.now) ≡ len }
 {}

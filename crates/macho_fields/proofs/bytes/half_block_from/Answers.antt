@@ -1,10 +1,8 @@
 use Rattle.std.proofs.Common.{◌≡◌, ℕ, ◌+◌, ◌-◌, ◌≤◌, ◌∙◌, sym, length, drop, refl, arith, length-drop, length-take, List}
-use Rattle.std.specs.Int.Bits.{bit_or}
-use Rattle.std.proofs.lemmas.Nat.{le_or_l, le_or_r}
 use Rattle.macho_fields.specs.Field.{part, number}
 use Rattle.macho_fields.specs.NonZero.{HasNonZero}
 use Rattle.macho_fields.specs.declared.bytes.Order.TheVariants.{Little}
-use Rattle.macho_fields.proofs.NonZeros.{none_of_number, none_in_word, none_joined}
+use Rattle.macho_fields.proofs.NonZeros.{none_of_four, none_of_number, none_in_word, none_joined}
 use Rattle.macho_fields.proofs.bytes.half_block_from.Goals as goal
 
 -- where the word at a place is zero, none of its bytes is not
@@ -12,16 +10,10 @@ word_at : (bytes : List ℕ) (k : ℕ) → k + 8 ≤ length bytes → number Lit
 word_at bytes k inside word =
     none_in_word bytes (part k (length bytes - k) bytes) k (length bytes - k) refl (omega (arith, length-take (length bytes - k) (drop k bytes), length-drop k bytes)) word
 
-all_zero : (a b c d : ℕ) → bit_or (bit_or a b) (bit_or c d) ≡ 0 → (a ≡ 0) × (b ≡ 0) × (c ≡ 0) × (d ≡ 0)
-all_zero a b c d none =
-    let left = le_or_l (bit_or a b) (bit_or c d) in
-    let right = le_or_r (bit_or a b) (bit_or c d) in
-    (omega (arith, le_or_l a b), omega (arith, le_or_r a b), omega (arith, le_or_l c d), omega (arith, le_or_r c d))
-
 pub returns : goal.returns
 returns c = λ none.
     let bytes = c.args.bytes.now in
-    let (first, second, third, fourth) = all_zero c.u64_from-first.result c.u64_from-second.result c.u64_from-third.result c.u64_from-fourth.result none in
+    let (first, second, third, fourth) = none_of_four c.u64_from-first.result c.u64_from-second.result c.u64_from-third.result c.u64_from-fourth.result none in
     none_joined bytes 0 8 32 (λ (z, low, high, is). is.1 (none_of_number 0 8 bytes (sym c.u64_from-first.ensures ∙ first) z low high))
     (none_joined bytes 8 16 32 (word_at bytes 8 (omega arith) (sym c.u64_from-second.ensures ∙ second))
     (none_joined bytes 16 24 32 (word_at bytes 16 (omega arith) (sym c.u64_from-third.ensures ∙ third))
