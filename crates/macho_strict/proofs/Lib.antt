@@ -5,6 +5,7 @@ pub mod Unclaims
 pub mod ElementWalks
 pub mod ElementPlaces
 pub mod Sharings
+pub mod Occupied
 pub mod Passed
 pub mod Judged
 pub mod Reaches

@@ -199,7 +199,7 @@ by_start_where_sorted wanted bytes spans gaps are sorted = elim (cases_Bool gaps
   | inr unset ↦ absurd (are.unsorted unset sorted)
 ]
 
-among : (spans : List Span) (i : ℕ) → 0 < (span_at spans i).len → i < length spans
+pub among : (spans : List Span) (i : ℕ) → 0 < (span_at spans i).len → i < length spans
 among spans i filled = elim (cases_lt i (length spans)) [
   | inl less ↦ less
   | inr past ↦ absurd (omega (arith, ap (λ s. s.len) (get_or_past spans i no_span past), filled))

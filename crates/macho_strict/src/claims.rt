@@ -1,14 +1,16 @@
 //! What one walk over the elements of an image finds: which of them share bytes, and what lies between
 //! them.
 
-ghost use Rattle.std.specs.Prelude.{◌≡◌, ◌↔◌, ◌++◌, ◌∷◌, [], IsTrue, IfOk, IfSome, IfNone, IsPermutation};
-ghost use Rattle.macho_fields.specs.Bytes.{bytes_of};
+ghost use Rattle.std.specs.Prelude.{◌≡◌, ◌<◌, ◌++◌, ◌∷◌, [], ℕ, List, IfOk, IfSome, IfNone, IsPermutation};
 ghost use Rattle.macho_fields.specs.FirstPlace.{IsLeastPlace};
 ghost use Rattle.std.specs.List.Sorted.{IsNonDecreasingBy};
+ghost use Rattle.macho_spans.specs.Overlap.{SharesEarlier};
 ghost use Rattle.macho_spans.specs.SearchSteps.{WereAdded, sorted_spans};
-ghost use Rattle.macho_strict.specs.Claims.{least_option};
+ghost use Rattle.macho_fields.specs.Bytes.{bytes_of};
+ghost use Rattle.macho_spans.specs.declared.span.Span.{Span};
+ghost use Rattle.macho_strict.specs.Claims.{least_option, PassesAt};
+ghost use Rattle.macho_strict.specs.declared.elements.Element.{Element};
 ghost use Rattle.macho_strict.specs.Gaps.{ArePassed, IsStray};
-ghost use Rattle.macho_strict.specs.Rules.{EndsPast};
 ghost use Rattle.macho_strict.specs.Sharing.{IsFirstSharing, tagged_elements};
 ghost use Rattle.macho_strict.specs.Verdict.{element_spans};
 ghost use Rattle.macho_strict.specs.declared.gaps.Wanted.{Wanted};
@@ -21,6 +23,9 @@ use macho_image::Image;
 use std::alloc::{AllocError, Global};
 use std::marker::Model;
 
+// The elements are few if the commands end by this place.
+const FEW_END: u64 = 16_384;
+
 // The most elements of which a walk keeps the bytes, so that they can be sorted without another walk.
 const KEPT: usize = 256;
 
@@ -29,39 +34,54 @@ const ROOM: usize = 32;
 
 // What one walk over the elements of an image notes.
 #[derive(Drop)]
-struct Noted {
+struct Noted<'a> {
     // How many there are, or the largest `usize` where there are more.
     count: usize,
     // Where the first is described that ends past the image.
     outside: Option<u64>,
     // In what order they come. What describes one is its tag.
     order: SpanOrder,
-    // Their bytes, if they are few. Without memory for them none are kept.
+    // The bytes of those that have some, if the elements are few. Without memory none are kept.
     list: Option<SpanList>,
+    // What lies between them, if they are many.
+    gaps: Option<Gaps<'a>>,
 }
 
-impl Noted {
-    ghost use Rattle.std.specs.Prelude.{◌≡◌, ◌∷◌, ◌++◌, [], ℕ, List};
+impl<'a> Noted<'a> {
+    ghost use Rattle.std.specs.Prelude.{◌≡◌, ◌∷◌, ◌++◌, [], List};
     ghost use Rattle.macho_fields.specs.Bytes.{bytes_of};
     ghost use Rattle.macho_strict.specs.Claims.{AreNoted};
     ghost use Rattle.macho_strict.specs.Elements.{elements_of};
     ghost use Rattle.macho_strict.specs.declared.elements.Element.{Element};
 
     // Goes over all elements of the image.
-    fn of(alloc: Global, image: &Image) -> Noted
+    fn of(alloc: Global, image: &Image<'a>) -> Noted<'a>
         ensures { AreNoted image.now (elements_of image.now) result }
     {
         let bytes = image.bytes();
-        let mut noted = Noted {
-            count: 0,
-            outside: None,
-            order: SpanOrder::new(),
-            list: SpanList::with_capacity(alloc, ROOM).ok(),
-        };
+        let mut noted = Noted::new(alloc, bytes, image.commands_end() <= FEW_END);
         for element in Elements::of(image) {
             noted.note(bytes, element);
         }
         noted
+    }
+
+    // Nothing is noted yet of an image that has these bytes.
+    fn new(alloc: Global, bytes: Bytes<'a>, few: bool) -> Noted<'a>
+        ensures { AreNoted (bytes_of bytes.entry) [] result }
+    {
+        let (list, gaps) = if few {
+            (SpanList::with_capacity(alloc, ROOM).ok(), None)
+        } else {
+            (None, Some(Gaps::new(bytes, Wanted::NonZero)))
+        };
+        Noted {
+            count: 0,
+            outside: None,
+            order: SpanOrder::new(),
+            list,
+            gaps,
+        }
     }
 
     // Notes one more element of an image that has these bytes.
@@ -70,15 +90,41 @@ impl Noted {
             → AreNoted (bytes_of bytes.entry) (elements ++ element ∷ []) self.new }
     {
         self.count = self.count.saturating_add(1);
-        if ends_past(bytes, element) {
-            self.outside = least(self.outside, Some(element.described));
-        }
         self.order.note(element.span, element.described);
+        if element.span.len == 0 {
+            return;
+        }
+        self.outside = outside_with(self.outside, bytes, element);
         self.list = list_with(self.list.take(), self.count, element.span);
+        pass_between(&mut self.gaps, element.span);
     }
 }
 
-// The list with one more span, if there are no more than `KEPT` with it, and there is room.
+// Where the first element is described that ends past the image, with one more, which has bytes.
+fn outside_with(outside: Option<u64>, bytes: Bytes, element: Element) -> Option<u64>
+    requires { 0 < element.span.len }
+    ensures { (elements : List Element)
+        → IsLeastPlace (PassesAt (bytes_of bytes.entry) elements) outside
+        → IsLeastPlace (PassesAt (bytes_of bytes.entry) (elements ++ element ∷ [])) result }
+{
+    if bytes.contains(element.span) {
+        return outside;
+    }
+    least(outside, Some(element.described))
+}
+
+// Passes one more span, if what lies between them is noted.
+fn pass_between(gaps: &mut Option<Gaps>, span: Span)
+    ensures { (wanted : Wanted) (bytes : List ℕ) (spans : List Span)
+        → IfSome gaps.old (ArePassed wanted bytes spans)
+        → IfSome gaps.new (ArePassed wanted bytes (spans ++ span ∷ [])) }
+{
+    if let Some(gaps) = gaps {
+        gaps.pass(span);
+    }
+}
+
+// The list with one more span, if there are no more than `KEPT` elements with it, and there is room.
 fn list_with(list: Option<SpanList>, count: usize, span: Span) -> Option<SpanList>
     ensures { IfSome result (λ new. IfNone list ⊥
         × IfSome list (λ old. new.spans ≡ old.spans ++ span ∷ [])) }
@@ -89,13 +135,6 @@ fn list_with(list: Option<SpanList>, count: usize, span: Span) -> Option<SpanLis
     }
     list.push(span).ok()?;
     Some(list)
-}
-
-// Whether the element has bytes, and ends past the image, which has `bytes`.
-fn ends_past(bytes: Bytes, element: Element) -> bool
-    ensures { IsTrue result ↔ EndsPast (bytes_of bytes.entry) element }
-{
-    element.span.len > 0 && !bytes.contains(element.span)
 }
 
 // The lesser of two places, of which either may be missing.
@@ -116,8 +155,10 @@ pub(crate) struct Claims<'a> {
     image: Bytes<'a>,
     // The least place at which `element-overlap` is broken.
     broken: Option<u64>,
-    // Their bytes, if these had to be sorted.
+    // The bytes of those that have some, if they were kept, or had to be sorted.
     sorted: Option<SpansByStart>,
+    // What lies between them, if this was noted.
+    gaps: Option<Gaps<'a>>,
 }
 
 impl<'a> Model for Claims<'a> {
@@ -130,7 +171,7 @@ impl<'a> Model for Claims<'a> {
     ghost view = { λ claims. bytes_of claims.image };
 
     ghost invariant = { λ claims.
-        AreClaims (bytes_of claims.image) claims.broken claims.sorted };
+        AreClaims (bytes_of claims.image) claims.broken claims.sorted claims.gaps };
 }
 
 impl<'a> Claims<'a> {
@@ -164,7 +205,7 @@ impl<'a> Claims<'a> {
 
     // The claims of elements whose order shows the first that shares a byte with an earlier one. They
     // are sorted if they were kept.
-    fn in_order(image: &Image<'a>, noted: Noted, shared: Option<u64>) -> Claims<'a>
+    fn in_order(image: &Image<'a>, noted: Noted<'a>, shared: Option<u64>) -> Claims<'a>
         requires noted { AreNoted image.now (elements_of image.now) noted }
         requires shared { IsFirstSharing (tagged_elements image.now) shared }
         ensures { result ≡ image.now }
@@ -173,20 +214,31 @@ impl<'a> Claims<'a> {
             image: image.bytes(),
             broken: least(noted.outside, shared),
             sorted: sorted(noted.list),
+            gaps: noted.gaps,
         }
     }
 
-    // The claims of elements that are sorted here.
-    fn sorting(alloc: Global, image: &Image<'a>, noted: Noted) -> Result<Claims<'a>, AllocError>
+    // The claims of elements whose order does not show which share a byte. If those that were kept
+    // share none, no other list is made.
+    fn sorting(alloc: Global, image: &Image<'a>, noted: Noted<'a>) -> Result<Claims<'a>, AllocError>
         requires { AreNoted image.now (elements_of image.now) noted }
         ensures { IfOk result (λ claims. claims ≡ image.now) }
     {
-        let sorted = element_list(alloc, image, noted.list, noted.count)?.sorted();
+        if let Some(sorted) = apart(noted.list) {
+            return Ok(Claims {
+                image: image.bytes(),
+                broken: noted.outside,
+                sorted: Some(sorted),
+                gaps: None,
+            });
+        }
+        let sorted = span_list(alloc, noted.count, Elements::of(image))?.sorted();
         let shared = first_sharing(image, &sorted);
         Ok(Claims {
             image: image.bytes(),
             broken: least(noted.outside, shared),
             sorted: Some(sorted),
+            gaps: None,
         })
     }
 
@@ -213,7 +265,10 @@ impl<'a> Claims<'a> {
         if let Some(sorted) = &self.sorted {
             return Ok(stray_in(self.image, Wanted::NonZero, sorted));
         }
-        let gaps = pass_elements(image);
+        let gaps = match self.gaps {
+            Some(gaps) => gaps,
+            None => pass_elements(image),
+        };
         if gaps.by_start() {
             return Ok(gaps.stray());
         }
@@ -224,27 +279,26 @@ impl<'a> Claims<'a> {
 // The spans of the list by ascending starts, if there is one.
 fn sorted(list: Option<SpanList>) -> Option<SpansByStart>
     ensures moved { IfSome result (λ sorted. IfNone list ⊥
-        × IfSome list (λ list. IsPermutation list.spans (sorted_spans sorted))) }
+        × IfSome list (λ list. IsPermutation list.spans (sorted_spans sorted)
+        × WereAdded list.spans sorted)) }
     ensures rising { IfSome result (λ sorted.
         IsNonDecreasingBy (λ span. span.start) (sorted_spans sorted)) }
 {
     Some(list?.sorted())
 }
 
-// The bytes of the elements, in their order: those that were kept, if they were. There are `count` of
-// them.
-fn element_list(
-    alloc: Global,
-    image: &Image,
-    kept: Option<SpanList>,
-    count: usize,
-) -> Result<SpanList, AllocError>
-    requires { IfSome kept (λ list. list.spans ≡ element_spans image.now) }
-    ensures { IfOk result (λ list. list.spans ≡ element_spans image.now) }
+// The spans of the list by ascending starts, if there is one and no two share a place.
+fn apart(list: Option<SpanList>) -> Option<SpansByStart>
+    ensures moved { IfSome result (λ sorted. IfNone list ⊥ × IfSome list (λ list.
+        IsPermutation list.spans (sorted_spans sorted)
+        × ((j : ℕ) → ¬ SharesEarlier list.spans j))) }
+    ensures rising { IfSome result (λ sorted.
+        IsNonDecreasingBy (λ span. span.start) (sorted_spans sorted)) }
 {
-    match kept {
-        Some(list) => Ok(list),
-        None => span_list(alloc, count, Elements::of(image)),
+    let sorted = sorted(list)?;
+    match sorted.least_overlap() {
+        None => Some(sorted),
+        Some(_) => None,
     }
 }
 

@@ -192,32 +192,30 @@ impl<'a> Model for Describing<'a> {
         CanDescribe (bytes_of left.image) left.commands left.segments };
 }
 
-impl<'a> Iterator for Describing<'a> {
-    ghost use Rattle.std.specs.Iterator.{YieldsFirstBy, item_count};
+impl<'a> Describing<'a> {
+    ghost use Rattle.std.specs.Prelude.{◌≡◌, [], ◌∷◌, OnSome, IfNone};
 
-    type Item = Described<'a>;
-
-    ghost next_gives = { YieldsFirstBy (λ described. described) (λ left. left) };
-
-    ghost remaining = { item_count (λ left. left) };
-
-    fn next(&mut self) -> Option<Described<'a>> {
+    // Sets `described` to what the next command describes, or returns `None` after the last. It is
+    // written in place, since a walk over small commands would spend most of its time on the copies.
+    fn reach(&mut self, described: &mut Described<'a>) -> Option<()>
+        ensures next { OnSome result (self.old ≡ described.new ∷ self.new) }
+        ensures ended { IfNone result
+            ((self.old ≡ []) × (self.new ≡ []) × (described.new ≡ described.old)) }
+    {
         let command = self.commands.next()?;
         let sections = if command.cmd == LC_SEGMENT_64 {
             Some(self.segments.next()?.sections())
         } else {
             None
         };
-        let tables = Tables {
+        described.pending = None;
+        described.sections = sections;
+        described.tables = Tables {
             image: self.image,
             command: command.place,
             fields: described_tables(command.cmd, command.size),
         };
-        Some(Described {
-            pending: None,
-            sections,
-            tables,
-        })
+        Some(())
     }
 }
 
@@ -254,7 +252,7 @@ impl<'a> Iterator for Elements<'a> {
             if let Some(element) = self.described.next() {
                 return Some(element);
             }
-            self.described = self.commands.next()?;
+            self.commands.reach(&mut self.described)?;
         }
     }
 }

@@ -1,20 +1,12 @@
-use Rattle.std.proofs.Common.{◌≡◌, ◌++◌, ◌∷◌, [], ℕ, List, Option, Result, Ok, Err, IfOk, subst, sym, ◌∙◌}
-use Rattle.std.specs.Prelude.{IfSome}
-use Rattle.std.specs.Result.{result_ok}
-use Rattle.macho_spans.specs.Overlap.{SpanListView}
+use Rattle.std.proofs.Common.{◌++◌, ◌∷◌, [], ℕ, List, subst, sym, ◌∙◌}
 use Rattle.macho_strict.specs.Claims.{AreNoted}
 use Rattle.macho_strict.specs.Elements.{elements_of}
 use Rattle.macho_strict.specs.declared.elements.Element.{Element}
-use Rattle.macho_strict.proofs.Claimed.{nothing_noted}
 use Rattle.macho_strict.proofs.Sharings.{all_yielded}
 use Rattle.macho_strict.proofs.claims.Noted.of.Goals as goal
 
-of_ok : {E : Type 0} (answer : Result SpanListView E) → IfOk answer (λ l. l.spans ≡ []) → IfSome (result_ok answer) (λ l. l.spans ≡ [])
-of_ok (Ok l) is = is
-of_ok (Err e) is = tt
-
 pub loop-element-init : goal.loop-element-init
-loop-element-init c = nothing_noted c.args.image.now c.new.result c.ok.result c.new.ensures (subst (λ (list : Option SpanListView). IfSome list (λ l. l.spans ≡ [])) (sym c.ok.ensures.value) (of_ok c.with_capacity.result c.with_capacity.ensures.none))
+loop-element-init c = subst (λ (image : List ℕ). AreNoted image [] c.new-noted.result) c.bytes-bytes.ensures.bytes c.new-noted.ensures
 
 pub loop-element-preserved : goal.loop-element-preserved
 loop-element-preserved c =
