@@ -22,7 +22,8 @@ use Rattle.macho_spans.specs.declared.span_order.Sharing.{Sharing}
 use Rattle.macho_spans.specs.declared.span_order.Sharing.TheVariants as sharing
 use Rattle.macho_fields.proofs.Entries.{Breaks, place_rises}
 use Rattle.macho_fields.specs.FirstPlace.{IsLeastPlace}
-use Rattle.macho_fat.specs.TableWalk.{IsEntry, entry_spans, placed_spans, slice_span, arch_span, ReturnsSpans, FindsFirstSharing, IsUnordered, IsJudged, ContinuesWithMemory}
+use Rattle.macho_fat.specs.Slices.{entry_spans, slice_span, arch_span, IsUnordered}
+use Rattle.macho_fat.specs.TableWalk.{IsEntry, placed_spans, ReturnsSpans, FindsFirstSharing, IsJudged, ContinuesWithMemory}
 use Rattle.macho_fat.specs.declared.fault.FatFault.{FatFault}
 use Rattle.macho_fat.proofs.Faults.{found_judged}
 use Rattle.macho_fat.specs.declared.table.Entry.{Entry}

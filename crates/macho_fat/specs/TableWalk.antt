@@ -1,19 +1,18 @@
 -- What only proofs need: what is known of values between the functions of this crate. No public
 -- contract cites any of it.
-use Rattle.std.specs.Prelude.{◌≡◌, ◌⊎◌, ◌↔◌, ℕ, ◌+◌, ◌*◌, ◌^◌, ◌≤◌, ◌<◌, List, length, map, Option, Some, MatchOption, Result, MatchResult, IsOk, IsErrAnd, Bool, false, IsTrue}
+use Rattle.std.specs.Prelude.{◌≡◌, ◌⊎◌, ◌↔◌, ℕ, ◌+◌, ◌≤◌, ◌<◌, List, length, map, Option, Some, MatchOption, Result, MatchResult, IsOk, IsErrAnd, Bool, false, IsTrue}
 use Rattle.std.specs.List.{range_with_len}
-use Rattle.macho_fields.specs.Field.{number}
 use Rattle.macho_fields.specs.First.{rank}
 use Rattle.macho_fields.specs.FirstPlace.{IsFirstOf, IsLeastPlace}
 use Rattle.macho_fields.specs.Layers.{IsLeast, KeptBelow}
-use Rattle.macho_spans.specs.Overlap.{SharesEarlier, IsLeastSharing, IsAscending, IsDescending}
+use Rattle.macho_spans.specs.Overlap.{SharesEarlier, IsLeastSharing}
 use Rattle.macho_fields.specs.Rules.{BreaksFile}
 use Rattle.macho_spans.specs.SpanOrder.{IsOrderOf}
-use Rattle.macho_fields.specs.Universal.{is_universal, masked, IsUniversal, IsImage, entry_count, entry_place, entry_align, entry_slice, slice_bytes, table_end, IsSliceOutside, IsSliceInTable, IsSliceMisaligned}
-use Rattle.macho_fields.specs.declared.bytes.Order.TheVariants.{Big}
+use Rattle.macho_fields.specs.Universal.{is_universal, IsUniversal, IsImage, entry_count, entry_place, entry_align, entry_slice, slice_bytes, table_end, IsSliceOutside, IsSliceInTable, IsSliceMisaligned}
 use Rattle.macho_fields.specs.declared.rule.Rule.{Rule}
 use Rattle.macho_fields.specs.declared.rule.Rule.TheVariants as rule
 use Rattle.macho_spans.specs.declared.span.Span.{Span}
+use Rattle.macho_fat.specs.Slices.{entry_spans, slice_span, arch_span}
 use Rattle.macho_fat.specs.declared.fault.FatFault.{FatFault}
 use Rattle.macho_fat.specs.declared.fault.FatFault.TheVariants as fault
 use Rattle.macho_fat.specs.declared.rules.Format.{Format}
@@ -41,21 +40,6 @@ pub record IsEntry (file : List ℕ) (k : ℕ) (entry : Entry) : Type 0 where
 
 -- The spans by which two entries are compared
 
--- the span of the slice of entry k
-abbrev pub slice_span : List ℕ → ℕ → Span
-slice_span file k =
-    record { start = (entry_slice file k).start; len = (entry_slice file k).size }
-
--- the span of the one place that numbers the architecture of entry k
-abbrev pub arch_span : List ℕ → ℕ → Span
-arch_span file k =
-    let place = entry_place file k in
-    record { start = number Big 4 file place * 2 ^ 24 + masked (number Big 4 file (place + 4)); len = 1 }
-
--- the spans of the entries, in order
-abbrev pub entry_spans : List ℕ → (ℕ → Span) → List Span
-entry_spans file span = map span (range_with_len 0 (entry_count file))
-
 -- the spans of the first n entries, each with the place of its entry
 abbrev pub placed_spans : List ℕ → (ℕ → Span) → ℕ → List (Span × ℕ)
 placed_spans file span n = map (λ k. (span k, entry_place file k)) (range_with_len 0 n)
@@ -71,10 +55,6 @@ abbrev pub FindsFirstSharing : List ℕ → (ℕ → Span) → Option ℕ → Ty
 FindsFirstSharing file span found =
     MatchOption found ((j : ℕ) → ¬ SharesEarlier (entry_spans file span) j)
     (λ place. (j : ℕ) × IsLeastSharing (entry_spans file span) j × (place ≡ entry_place file j))
-
--- the spans neither ascend nor descend
-abbrev pub IsUnordered : List Span → Type 0
-IsUnordered spans = (¬ IsAscending spans) × (¬ IsDescending spans)
 
 -- What a walk over the entries notes
 

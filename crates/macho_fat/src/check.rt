@@ -4,7 +4,7 @@ ghost use Rattle.std.specs.Prelude.{◌≡◌, false, IfOk, OnOk, IfErr, MatchOp
 ghost use Rattle.macho_fields.specs.Bytes.{bytes_of};
 ghost use Rattle.macho_fields.specs.Layers.{NothingBreaks};
 ghost use Rattle.macho_fields.specs.Rules.{BreaksFile};
-ghost use Rattle.macho_fields.specs.Universal.{is_universal, IsImage};
+ghost use Rattle.macho_fields.specs.Universal.{is_universal, IsUniversal, IsImage};
 ghost use Rattle.macho_fat.specs.Slices.{IsFatFault};
 
 use crate::fault::FatFault;
@@ -22,7 +22,7 @@ pub(crate) fn check_file<'a>(alloc: Global, file: Bytes<'a>) -> Result<Option<Ta
     ensures refused { IfErr result (IsFatFault (bytes_of file.entry)) }
     ensures table { IfOk result (λ table. MatchOption table
         (IsImage (bytes_of file.entry) × (is_universal (bytes_of file.entry) ≡ false))
-        (λ table. table ≡ bytes_of file.entry)) }
+        (λ table. (table ≡ bytes_of file.entry) × IsUniversal (bytes_of file.entry))) }
 {
     let table = match magic(file)? {
         Format::Image => return Ok(None),

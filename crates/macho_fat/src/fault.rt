@@ -13,8 +13,8 @@ pub enum FatFault {
     /// The first broken rule of the file, with its place.
     #[error("refused: {0}")]
     Broken(Break),
-    /// There was no memory for the slices, or to sort unordered entries, as `fat-overlap` and
-    /// `fat-duplicate` do.
+    /// There was no memory for the slices of a universal file, or to sort its unordered entries, as
+    /// `fat-overlap` and `fat-duplicate` do.
     #[error("out of memory")]
     Memory,
 }

@@ -5,7 +5,8 @@ ghost use Rattle.macho_spans.specs.SpanOrder.{IsSharingOf};
 ghost use Rattle.macho_fields.specs.Universal.{entry_count};
 ghost use Rattle.macho_spans.specs.declared.span.Span.{Span};
 ghost use Rattle.macho_spans.specs.declared.span_order.Sharing.{Sharing};
-ghost use Rattle.macho_fat.specs.TableWalk.{ReturnsSpans, entry_spans, placed_spans};
+ghost use Rattle.macho_fat.specs.Slices.{entry_spans};
+ghost use Rattle.macho_fat.specs.TableWalk.{ReturnsSpans, placed_spans};
 ghost use Rattle.macho_fat.specs.TableWalk.{FindsFirstSharing, IsJudged};
 
 use crate::fault::FatFault;

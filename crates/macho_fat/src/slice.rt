@@ -1,15 +1,16 @@
 //! The slices of a file.
 
-ghost use Rattle.std.specs.Prelude.{◌≡◌, ◌<◌, false, length, map, slice_get, All, ◌↔◌, IsTrue, IfOk, OnOk, IfErr, IfSome};
+ghost use Rattle.std.specs.Prelude.{◌≡◌, [], ◌∷◌, false, map, slice_get, All, ◌↔◌, IsTrue, IfOk, OnOk, IfErr, IfSome};
 ghost use Rattle.std.specs.Option.{option_map};
 ghost use Rattle.std.specs.Vec.{vec_capacity};
 ghost use Rattle.macho_fields.specs.Bytes.{bytes_of};
 ghost use Rattle.macho_fields.specs.Layers.{NothingBreaks, Continues, StopsAt};
 ghost use Rattle.macho_fields.specs.Rules.{BreaksFile};
-ghost use Rattle.macho_fields.specs.Universal.{is_universal, slices_of, IsImage};
+ghost use Rattle.macho_fields.specs.Universal.{entry_count, is_universal, slices_of, IsImage};
 ghost use Rattle.macho_fields.specs.declared.rule.Rule.{Rule};
-ghost use Rattle.macho_fat.specs.Slices.{slice_of, MarksRead, AreSlices, IsFatFault};
-ghost use Rattle.macho_fat.specs.Slices.{HasImageInside, MarksReadInside};
+ghost use Rattle.macho_fat.specs.Slices.{slice_of, slices_in, capacity_of, listed_count};
+ghost use Rattle.macho_fat.specs.Slices.{MarksRead, AreSlices, HasImageInside, MarksReadInside};
+ghost use Rattle.macho_fat.specs.Slices.{IsFatFault};
 
 use crate::check::check_file;
 use crate::fault::FatFault;
@@ -17,6 +18,7 @@ use crate::rules::{Format, fat_truncated, is_image, magic};
 use crate::table::Table;
 use macho_fields::{Break, Bytes, Span};
 use std::alloc::{AllocError, Global};
+use std::slice::from_ref;
 
 /// The part of a file that holds one image.
 #[derive(Clone, Copy, Debug, PartialEq, Eq)]
@@ -31,25 +33,46 @@ pub struct Slice {
     pub read: bool,
 }
 
+/// The slices of a file, in order. The one slice of an image takes no memory.
+#[derive(Debug, Drop)]
+pub enum SliceList {
+    /// That of a file that is one image: the whole of the file.
+    One(Slice),
+    /// Those of a universal file: one for each entry of the table.
+    Many(Vec<Slice>),
+}
+
+impl SliceList {
+    /// The slices in this list.
+    pub fn as_slice(&self) -> &[Slice]
+        ensures { result.now ≡ slices_in self.now }
+    {
+        match self {
+            SliceList::One(slice) => from_ref(slice),
+            SliceList::Many(slices) => slices,
+        }
+    }
+}
+
 /// The slices of a file: the whole of a file that is one image, and otherwise one slice for each
 /// entry of the table, in order. If one of the rules of the file, from `magic` to `fat-empty`, is
 /// broken, it returns the first broken rule. The list has no spare capacity.
 ///
-/// Memory is allocated only if the rules from `magic` to `fat-align` are unbroken. `fat-overlap`
-/// and `fat-duplicate` take it only if the slices, or the numbers of the architectures, neither
-/// ascend nor descend: 24 bytes per entry, to sort them, which they free. The list is made last.
-pub fn slices(alloc: Global, file: Bytes) -> Result<Vec<Slice>, FatFault>
-    ensures slices { IfOk result (λ slices.
-        map slice_of slices.items ≡ slices_of (bytes_of file.entry)) }
-    ensures read { IfOk result (λ slices. All (MarksRead (bytes_of file.entry)) slices.items) }
-    ensures capacity { IfOk result (λ slices.
-        vec_capacity slices ≡ length (slices_of (bytes_of file.entry))) }
+/// Memory is allocated only for a universal file, and only if the rules from `magic` to `fat-align`
+/// are unbroken. `fat-overlap` and `fat-duplicate` take it only if the slices, or the numbers of the
+/// architectures, neither ascend nor descend: 24 bytes per entry, to sort them, which they free. The
+/// list is made last.
+pub fn slices(alloc: Global, file: Bytes) -> Result<SliceList, FatFault>
+    ensures slices { IfOk result (λ list.
+        map slice_of (slices_in list) ≡ slices_of (bytes_of file.entry)) }
+    ensures read { IfOk result (λ list. All (MarksRead (bytes_of file.entry)) (slices_in list)) }
+    ensures capacity { IfOk result (λ list. capacity_of list ≡ listed_count (bytes_of file.entry)) }
     ensures unbroken { OnOk result (NothingBreaks (BreaksFile (bytes_of file.entry))) }
     ensures refused { IfErr result (IsFatFault (bytes_of file.entry)) }
 {
     match check_file(alloc, file)? {
-        None => Ok(whole(alloc, file)?),
-        Some(table) => Ok(listed(alloc, &table)?),
+        None => Ok(SliceList::One(whole(file))),
+        Some(table) => Ok(SliceList::Many(listed(alloc, &table)?)),
     }
 }
 
@@ -77,18 +100,7 @@ fn whole_at(file: Bytes, index: u64) -> Option<Slice>
     ensures slice { option_map slice_of result ≡ slice_get (slices_of (bytes_of file.entry)) index }
     ensures read { IfSome result (MarksReadInside (bytes_of file.entry)) }
 {
-    if index > 0 {
-        return None;
-    }
-    let span = Span {
-        start: 0,
-        len: file.len(),
-    };
-    Some(Slice {
-        span,
-        arch: None,
-        read: has_image(file, span),
-    })
+    if index > 0 { None } else { Some(whole(file)) }
 }
 
 // The slice with this index in a table.
@@ -119,31 +131,27 @@ fn has_image(file: Bytes, span: Span) -> bool
 }
 
 // The one slice of a file that is an image.
-fn whole(alloc: Global, file: Bytes) -> Result<Vec<Slice>, AllocError>
+fn whole(file: Bytes) -> Slice
     requires image { IsImage (bytes_of file) }
     requires plain { is_universal (bytes_of file) ≡ false }
-    ensures slices { IfOk result (λ slices. AreSlices (bytes_of file.entry) slices.items) }
-    ensures capacity { IfOk result (λ slices.
-        vec_capacity slices ≡ length (slices_of (bytes_of file.entry))) }
+    ensures slices { AreSlices (bytes_of file.entry) (result ∷ []) }
+    ensures inside { MarksReadInside (bytes_of file.entry) result }
 {
-    let mut slices = Vec::with_capacity(alloc, 1)?;
-    slices.push_reserved(Slice {
+    Slice {
         span: Span {
             start: 0,
             len: file.len(),
         },
         arch: None,
         read: true,
-    });
-    Ok(slices)
+    }
 }
 
 // The slices of a table, in order, in a file that breaks none of its rules.
 fn listed(alloc: Global, table: &Table) -> Result<Vec<Slice>, AllocError>
     requires { NothingBreaks (BreaksFile table.now) }
     ensures slices { IfOk result (λ slices. AreSlices table.now slices.items) }
-    ensures capacity { IfOk result (λ slices.
-        vec_capacity slices ≡ length (slices_of table.now)) }
+    ensures capacity { IfOk result (λ slices. vec_capacity slices ≡ entry_count table.now) }
 {
     let mut slices = Vec::with_capacity(alloc, table.count() as usize)?;
     for k in 0..table.count() {

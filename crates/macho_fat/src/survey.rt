@@ -36,8 +36,8 @@ impl<'t, 'a> Survey<'t, 'a> {
     ghost use Rattle.macho_fields.specs.Layers.{KeptBelow, Continues};
     ghost use Rattle.macho_fields.specs.Rules.{BreaksFile};
     ghost use Rattle.macho_fields.specs.declared.rule.Rule.{Rule};
-    ghost use Rattle.macho_fat.specs.TableWalk.{ContinuesWithMemory, IsUnordered};
-    ghost use Rattle.macho_fat.specs.TableWalk.{entry_spans, slice_span, arch_span};
+    ghost use Rattle.macho_fat.specs.Slices.{entry_spans, slice_span, arch_span, IsUnordered};
+    ghost use Rattle.macho_fat.specs.TableWalk.{ContinuesWithMemory};
 
     // Scans the entries of a table once.
     pub(crate) fn of(table: &'t Table<'a>) -> Survey<'t, 'a>

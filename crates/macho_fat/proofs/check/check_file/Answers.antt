@@ -1,8 +1,9 @@
-use Rattle.std.proofs.Common.{List, ℕ, refl, sym, ◌∙◌, subst, arith, lit≤, lit<, rules}
+use Rattle.std.proofs.Common.{List, ℕ, refl, sym, ◌∙◌, subst, arith, lit<, inl, inr, rules}
 use Rattle.macho_fields.specs.Bytes.{bytes_of}
 use Rattle.macho_fields.specs.First.{rank}
 use Rattle.macho_fields.specs.Layers.{KeptBelow}
 use Rattle.macho_fields.specs.Rules.{BreaksFile}
+use Rattle.macho_fields.specs.Universal.{IsUniversal}
 use Rattle.macho_fields.specs.declared.rule.Rule.TheVariants as rule
 use Rattle.macho_fields.proofs.Ranks.{file_rule_rank}
 use Rattle.macho_fat.proofs.Faults.{fault_passed, break_passed, rule_fault}
@@ -42,9 +43,11 @@ returns-in_err-fat_align-clause-refused c =
 pub returns-in_err-fat_overlap-clause-refused : goal.returns-in_err-fat_overlap-clause-refused
 returns-in_err-fat_overlap-clause-refused c =
     let table = c.of-survey.result in
+    let same = c.of-survey.ensures ∙ c.in_ok-table-in-Universal.ensures.table in
+    let universal = rw c.in-Universal.is at c.in_ok-magic.ensures.format in
     let found = c.in_err-fat_overlap.field-0.0 in
-    fault_passed table (bytes_of c.args.file) (c.of-survey.ensures ∙ c.in_ok-table-in-Universal.ensures.table) c.from_residual-in_err-fat_overlap.result found
-    c.from_residual-in_err-fat_overlap.ensures.1 (rule_fault table rule.FatOverlap _ found (lit≤ tt) c.in_err-fat_overlap.ensures)
+    fault_passed table (bytes_of c.args.file) same c.from_residual-in_err-fat_overlap.result found
+    c.from_residual-in_err-fat_overlap.ensures.1 (rule_fault table rule.FatOverlap _ found (λ sorted. (subst IsUniversal (sym same) universal, inr (inl sorted))) c.in_err-fat_overlap.ensures)
 
 pub fat_duplicate-requires : goal.fat_duplicate-requires
 fat_duplicate-requires c = search rules
@@ -52,9 +55,11 @@ fat_duplicate-requires c = search rules
 pub returns-in_err-fat_duplicate-clause-refused : goal.returns-in_err-fat_duplicate-clause-refused
 returns-in_err-fat_duplicate-clause-refused c =
     let table = c.of-survey.result in
+    let same = c.of-survey.ensures ∙ c.in_ok-table-in-Universal.ensures.table in
+    let universal = rw c.in-Universal.is at c.in_ok-magic.ensures.format in
     let found = c.in_err-fat_duplicate.field-0.0 in
-    fault_passed table (bytes_of c.args.file) (c.of-survey.ensures ∙ c.in_ok-table-in-Universal.ensures.table) c.from_residual-in_err-fat_duplicate.result found
-    c.from_residual-in_err-fat_duplicate.ensures.1 (rule_fault table rule.FatDuplicate _ found (lit≤ tt) c.in_err-fat_duplicate.ensures)
+    fault_passed table (bytes_of c.args.file) same c.from_residual-in_err-fat_duplicate.result found
+    c.from_residual-in_err-fat_duplicate.ensures.1 (rule_fault table rule.FatDuplicate _ found (λ sorted. (subst IsUniversal (sym same) universal, inr (inr sorted))) c.in_err-fat_duplicate.ensures)
 
 pub of-magics-requires : goal.of-magics-requires
 of-magics-requires c place broken =
@@ -81,4 +86,4 @@ returns-clause-unbroken c r place broken =
     c.in_ok-fat_empty.ensures r place (omega (arith, most)) seen
 
 pub returns-clause-table : goal.returns-clause-table
-returns-clause-table c = c.in_ok-table-in-Universal.ensures.table
+returns-clause-table c = (c.in_ok-table-in-Universal.ensures.table, rw c.in-Universal.is at c.in_ok-magic.ensures.format)

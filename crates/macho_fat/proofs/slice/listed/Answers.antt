@@ -1,22 +1,17 @@
 use Rattle.std.proofs.Common.{◌↔◌, IsTrue, Some, ◌∙◌, subst, arith}
 use Rattle.macho_fields.specs.Universal.{IsImage}
-use Rattle.macho_fields.proofs.Slices.{slice_count}
 use Rattle.macho_fat.proofs.Listed.{none_listed, listed_more, all_listed}
 use Rattle.macho_fat.proofs.slice.listed.Goals as goal
 
 pub loop-k-init : goal.loop-k-init
-loop-k-init c =
-    let counted = slice_count c.args.table.now c.count-k-end.ensures.table.universal in
-    record {
-      first = none_listed c.args.table.now c.in_ok-slices.slices.items c.in_ok-slices.ensures.items;
-      len = c.in_ok-slices.ensures.len;
-      capacity = omega (arith, counted, c.in_ok-slices.ensures.exact, c.count.ensures.count);
-    }
+loop-k-init c = record {
+  first = none_listed c.args.table.now c.in_ok-slices.slices.items c.in_ok-slices.ensures.items;
+  len = c.in_ok-slices.ensures.len;
+  capacity = omega (arith, c.in_ok-slices.ensures.exact, c.count.ensures.count);
+}
 
 pub push_reserved-requires : goal.push_reserved-requires
-push_reserved-requires c =
-    let counted = slice_count c.args.table.now c.count-k-end.ensures.table.universal in
-    omega (arith, counted, c.count-k-end.ensures.count, c.loop-k.invariant.len, c.loop-k.invariant.capacity)
+push_reserved-requires c = omega (arith, c.count-k-end.ensures.count, c.loop-k.invariant.len, c.loop-k.invariant.capacity)
 
 pub loop-k-preserved : goal.loop-k-preserved
 loop-k-preserved c = record {

@@ -1,6 +1,7 @@
 use Rattle.std.proofs.Common.{◌+◌, refl, sym, subst}
 use Rattle.macho_spans.specs.SpanOrder.{IsOrderOf}
-use Rattle.macho_fat.specs.TableWalk.{placed_spans, slice_span, arch_span}
+use Rattle.macho_fat.specs.Slices.{slice_span, arch_span}
+use Rattle.macho_fat.specs.TableWalk.{placed_spans}
 use Rattle.macho_fat.proofs.FirstEntries.{none_broken}
 use Rattle.macho_fat.proofs.SharedSpans.{slice_read, arch_read, order_more}
 use Rattle.macho_fat.proofs.survey.Notes.note.Goals as goal

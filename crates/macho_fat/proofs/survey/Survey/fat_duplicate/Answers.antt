@@ -1,6 +1,6 @@
 use Rattle.std.proofs.Common.{rules}
 use Rattle.macho_fields.specs.declared.rule.Rule.TheVariants as rule
-use Rattle.macho_fat.specs.TableWalk.{arch_span}
+use Rattle.macho_fat.specs.Slices.{arch_span}
 use Rattle.macho_fat.proofs.SharedSpans.{sharing_judged, arch_read, least_duplicate}
 use Rattle.macho_fat.proofs.survey.Survey.fat_duplicate.Goals as goal
 

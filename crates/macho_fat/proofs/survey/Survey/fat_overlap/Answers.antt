@@ -1,6 +1,6 @@
 use Rattle.std.proofs.Common.{rules}
 use Rattle.macho_fields.specs.declared.rule.Rule.TheVariants as rule
-use Rattle.macho_fat.specs.TableWalk.{slice_span}
+use Rattle.macho_fat.specs.Slices.{slice_span}
 use Rattle.macho_fat.proofs.SharedSpans.{sharing_judged, slice_read, least_overlap}
 use Rattle.macho_fat.proofs.survey.Survey.fat_overlap.Goals as goal
 
