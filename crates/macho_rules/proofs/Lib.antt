@@ -13,6 +13,7 @@ pub mod TableItems
 pub mod SymbolItems
 pub mod TableRange
 pub mod KeptSlices
+pub mod FileMemory
 pub mod Verdicts
 pub mod Second
 pub mod Surveys

@@ -26,6 +26,7 @@ use Rattle.macho_fat.specs.declared.slice.Slice.{Slice}
 use Rattle.macho_image.specs.Opened.{IsOpened}
 use Rattle.macho_rules.specs.Verdict.{IsVerified, IsRefusal, IsImageRefusal, IsSliceRefusal, refusal_of}
 use Rattle.macho_rules.proofs.KeptSlices.{KeptSlices, file_first, slice_first}
+use Rattle.macho_rules.proofs.FileMemory.{slice_takes}
 use Rattle.macho_rules.specs.declared.refusal.Refusal.{Refusal}
 use Rattle.macho_rules.specs.declared.refusal.Refusal.TheVariants as refusal
 
@@ -70,7 +71,7 @@ slice_at file slices are k d less =
 pub slice_refused : (file : List ℕ) (k : ℕ) (slice : FileSlice) → slice_get (slices_of file) k ≡ Some slice → KeptSlices file k → IsImage (slice_bytes file slice) → (refused : Refusal)
     → IsSliceRefusal file slice refused → IsRefusal file refused
 slice_refused file k slice is kept image (refusal.Broken b) (found, least, rule, place) = slice_first file k slice found b is kept image least rule place
-slice_refused file k slice is kept image refusal.Memory none = λ r place early broken. kept 0 r place (omega arith) broken
+slice_refused file k slice is kept image refusal.Memory takes = slice_takes file k slice is (λ r place. kept 0 r place (omega arith)) image takes
 
 pub slices_counted : (file : List ℕ) (slices : List Slice) → AreSlices file slices → length slices ≡ length (slices_of file)
 slices_counted file slices are =
@@ -80,7 +81,7 @@ slices_counted file slices are =
 -- a fault of the slices is a refusal of the file
 pub fat_refused : (file : List ℕ) (f : FatFault) → IsFatFault file f → IsRefusal file (refusal_of f)
 fat_refused file (fault.Broken b) least = file_first file b least
-fat_refused file fault.Memory kept = kept
+fat_refused file fault.Memory takes = inl takes
 
 -- What a verified file keeps
 

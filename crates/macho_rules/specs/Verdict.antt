@@ -1,7 +1,7 @@
--- The verdict on a file, on a slice of it and on an image.
-use Rattle.std.specs.Prelude.{◌≡◌, ℕ, ◌+◌, ◌<◌, List, Any, Option}
-use Rattle.macho_fields.specs.Universal.{FileSlice, slice_bytes}
-use Rattle.macho_fields.specs.Rules.{BreaksFile, BreaksImage}
+-- The verdict on a file, on a slice of it and on an image, and where it takes memory.
+use Rattle.std.specs.Prelude.{◌≡◌, ◌⊎◌, ℕ, ◌+◌, ◌<◌, List, Any, Option, None}
+use Rattle.macho_fields.specs.Universal.{FileSlice, slice_bytes, IsImage}
+use Rattle.macho_fields.specs.Rules.{BreaksImage}
 use Rattle.macho_fields.specs.First.{rank, IsFirstBroken, IsUnbroken}
 use Rattle.macho_fields.specs.Image.{commands_of}
 use Rattle.macho_fields.specs.Layers.{IsLeast, KeptBelow}
@@ -9,7 +9,7 @@ use Rattle.macho_fields.specs.Segment.{segments_of, vmsize}
 use Rattle.macho_fields.specs.declared.rule.Rule.{Rule}
 use Rattle.macho_fields.specs.declared.rule.Rule.TheVariants as rule
 use Rattle.macho_fields.specs.declared.rule.Break.{Break}
-use Rattle.macho_fat.specs.Slices.{AreSlices}
+use Rattle.macho_fat.specs.Slices.{AreSlices, SlicesTakeMemory}
 use Rattle.macho_fat.specs.declared.slice.Slice.{Slice}
 use Rattle.macho_fat.specs.declared.fault.FatFault.{FatFault}
 use Rattle.macho_fat.specs.declared.fault.FatFault.TheVariants as fault
@@ -28,14 +28,24 @@ abbrev pub IsRefusalOf : (Rule → ℕ → Type 0) → Type 0 → Refusal → Ty
 IsRefusalOf breaks CanRunOut (refusal.Broken b) = IsLeast breaks b
 IsRefusalOf breaks CanRunOut refusal.Memory = CanRunOut
 
--- A refusal of an image is its first broken rule, or that there was no memory. That is returned
--- only if the rules before segment-overlap are unbroken, and the addresses of the mapped segments,
--- of which there are some, neither ascend nor descend.
+-- The verdict on an image takes memory: the rules before segment-overlap are unbroken, and the
+-- addresses of the mapped segments, of which there are some, neither ascend nor descend.
+abbrev pub ImageTakesMemory : List ℕ → Option (ℕ × ℕ) → Type 0
+ImageTakesMemory image arch =
+    KeptBelow (BreaksImage image arch) (rank rule.SegmentOverlap) × HasMapped image
+    × IsUnordered image
+
+-- The verdict on a file takes memory: the file is universal, and its slices take memory; or it is one
+-- image, and the verdict on that does. The images of a universal file are judged when its slices are
+-- listed, and so take memory already.
+abbrev pub FileTakesMemory : List ℕ → Type 0
+FileTakesMemory file = SlicesTakeMemory file ⊎ (IsImage file × ImageTakesMemory file None)
+
+-- A refusal of an image is its first broken rule, or that there was no memory, which is returned only
+-- if the verdict takes memory.
 abbrev pub IsImageRefusal : List ℕ → Option (ℕ × ℕ) → Refusal → Type 0
 IsImageRefusal image arch =
-    IsRefusalOf (BreaksImage image arch)
-    (KeptBelow (BreaksImage image arch) (rank rule.SegmentOverlap) × HasMapped image
-    × IsUnordered image)
+    IsRefusalOf (BreaksImage image arch) (ImageTakesMemory image arch)
 
 -- A refusal of a slice is one of its image, with the place of the break in the file.
 abbrev pub IsSliceRefusal : List ℕ → FileSlice → Refusal → Type 0
@@ -49,12 +59,11 @@ IsSliceRefusal file slice refusal.Memory =
 abbrev pub IsSliceBreak : List ℕ → FileSlice → Break → Type 0
 IsSliceBreak file slice b = IsSliceRefusal file slice (refusal.Broken b)
 
--- A refusal of a file is its first broken rule, or that there was no memory. That is reported only
--- if the rules before fat-overlap are unbroken: the header and the table of the file are whole, and
--- the slice of each entry begins after the table, lies in the file and is aligned.
+-- A refusal of a file is its first broken rule, or that there was no memory, which is reported only
+-- if the verdict takes memory.
 abbrev pub IsRefusal : List ℕ → Refusal → Type 0
 IsRefusal file (refusal.Broken b) = IsFirstBroken file b
-IsRefusal file refusal.Memory = KeptBelow (BreaksFile file) (rank rule.FatOverlap)
+IsRefusal file refusal.Memory = FileTakesMemory file
 
 -- a fault of the slices, as a refusal
 abbrev pub refusal_of : FatFault → Refusal

@@ -4,6 +4,7 @@
 
 mod check;
 mod entry;
+pub mod law;
 pub mod mapping;
 pub mod refusal;
 mod sections;

@@ -14,7 +14,7 @@ ghost use Rattle.macho_rules.specs.Verdict.{IsRefusal, IsImageRefusal, IsSliceRe
 
 use crate::check::check_image;
 use crate::refusal::Refusal;
-use macho_fat::{Slice, slices};
+use macho_fat::{Slice, SliceList, slices};
 use macho_fields::{Break, Bytes};
 use macho_image::Image;
 use std::alloc::Global;
@@ -24,19 +24,21 @@ use std::marker::Model;
 #[derive(Drop)]
 pub struct Verified<'a> {
     file: Bytes<'a>,
-    slices: Vec<Slice>,
+    slices: SliceList,
 }
 
 impl<'a> Model for Verified<'a> {
     ghost use Rattle.std.specs.Prelude.{List, ℕ};
     ghost use Rattle.macho_fields.specs.Bytes.{bytes_of};
+    ghost use Rattle.macho_fat.specs.Slices.{slices_in};
     ghost use Rattle.macho_rules.specs.Verdict.{IsVerified};
 
     ghost Value = { List ℕ };
 
     ghost view = { λ verified. bytes_of verified.file };
 
-    ghost invariant = { λ verified. IsVerified (bytes_of verified.file) verified.slices.items };
+    ghost invariant = { λ verified.
+        IsVerified (bytes_of verified.file) (slices_in verified.slices) };
 }
 
 /// Decides the rules of a file, in their order: accepts it, or returns the first broken one, with
@@ -44,7 +46,8 @@ impl<'a> Model for Verified<'a> {
 ///
 /// The rules of the file itself come first; then its 64-bit slices, in the order of the table, each
 /// with all of its rules before the next. It takes memory as [`slices`] does, and for one image at a
-/// time as [`check_image`] does.
+/// time as [`check_image`] does: none for a file that is not universal, and whose mapped segments
+/// ascend or descend.
 pub fn verify<'a>(alloc: Global, file: &'a [u8]) -> Result<Verified<'a>, Refusal>
     // It accepts only a file that breaks no rule, and refuses only one that breaks a rule, unless
     // there is no memory.
@@ -57,7 +60,7 @@ pub fn verify<'a>(alloc: Global, file: &'a [u8]) -> Result<Verified<'a>, Refusal
 {
     let file = Bytes::new(file);
     let slices = slices(alloc, file)?;
-    check_slices(alloc, file, &slices)?;
+    check_slices(alloc, file, slices.as_slice())?;
     Ok(Verified { file, slices })
 }
 
@@ -119,7 +122,7 @@ impl<'a> Verified<'a> {
     pub fn slice_count(&self) -> u64
         ensures { result ≡ length (slices_of self.now) }
     {
-        self.slices.len() as u64
+        self.slices.as_slice().len() as u64
     }
 
     /// The slice with this index, counted from 0 in the order of the table, or `None` past the last
@@ -130,7 +133,7 @@ impl<'a> Verified<'a> {
         ensures read { IfSome result (λ slice. IsTrue slice.now.read
             ↔ IsImage (slice_bytes self.now (slice_of slice.now))) }
     {
-        self.slices.get(index as usize)
+        self.slices.as_slice().get(index as usize)
     }
 
     /// The image in the slice with this index, or `None` if the slice is of another kind, or there

@@ -2,6 +2,7 @@ use Rattle.std.proofs.Common.{subst}
 use Rattle.macho_fields.specs.Bytes.{bytes_of}
 use Rattle.macho_fields.specs.First.{IsUnbroken}
 use Rattle.macho_fields.proofs.Sound.{unbroken_is_sound}
+use Rattle.macho_fat.specs.Slices.{slices_in}
 use Rattle.macho_rules.specs.Verdict.{IsRefusal, refusal_of}
 use Rattle.macho_rules.proofs.Verdicts.{passed_on, fat_refused, verified}
 use Rattle.macho_rules.proofs.verdict.verify.Goals as goal
@@ -14,7 +15,7 @@ returns-in_err-slices-clause-refused c =
 
 pub invariant_of-result : goal.invariant_of-result
 invariant_of-result c =
-    verified (bytes_of c.new-file.result) c.in_ok-slices.slices.items c.in_ok-check_slices.ensures.unbroken
+    verified (bytes_of c.new-file.result) (slices_in c.in_ok-slices.slices) c.in_ok-check_slices.ensures.unbroken
     (record { all = c.in_ok-slices.ensures.slices; read = c.in_ok-slices.ensures.read })
 
 pub returns-clause-sound : goal.returns-clause-sound
