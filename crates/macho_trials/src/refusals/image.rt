@@ -22,7 +22,8 @@ const ADDRESSES: [u64; 5] = [
 /// Calls `slices`, and prints a line for each.
 pub(crate) fn call_slices(rt: &HostRuntime, file: &[u8]) -> Result<(), Fault> {
     announce(rt)?;
-    for slice in &slices(rt.alloc(), Bytes::new(file))? {
+    let list = slices(rt.alloc(), Bytes::new(file))?;
+    for slice in list.as_slice() {
         println!(rt; "{slice:?}")?;
     }
     Ok(())
