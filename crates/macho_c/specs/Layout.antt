@@ -3,7 +3,8 @@ use Rattle.std.specs.Prelude.{◌≡◌, ℕ, ◌⊎◌, List, ◌++◌, length,
 use Rattle.macho_fields.specs.First.{IsFirstBroken, IsUnbroken}
 use Rattle.macho_fields.specs.declared.rule.Break.{Break}
 use Rattle.macho_report.specs.Layout.{layout_text}
-use Rattle.macho_rules.specs.Verdict.{IsRefusal}
+use Rattle.macho_rules.specs.Verdict.{FileTakesMemory}
+use Rattle.macho_rules.specs.declared.refusal.Refusal.{Refusal}
 use Rattle.macho_rules.specs.declared.refusal.Refusal.TheVariants as refusal
 use Rattle.macho_c.specs.Status.{KESVUOT_OK, KESVUOT_REFUSED, KESVUOT_NO_MEMORY}
 
@@ -22,10 +23,15 @@ IsWritten file needed old new =
 abbrev pub IsUnwritten : ℕ → List ℕ → List ℕ → Type 0
 IsUnwritten needed old new = (needed ≡ 0) × (new ≡ old)
 
--- The answer on a file. As by kesvuot_verify, that there was no memory is returned only where the rules
--- before fat-overlap are unbroken.
+-- Why a file has no layout: its first broken rule, or that there was no memory. That is returned only if
+-- the verdict takes memory, or the layout of an accepted file does.
+abbrev pub IsLayoutRefusal : List ℕ → Refusal → Type 0
+IsLayoutRefusal file (refusal.Broken b) = IsFirstBroken file b
+IsLayoutRefusal file refusal.Memory = FileTakesMemory file ⊎ IsUnbroken file
+
+-- the answer on a file
 abbrev pub IsLayout : List ℕ → ℕ → ℕ → List ℕ → List ℕ → Type 0
 IsLayout file status needed old new =
     ((status ≡ KESVUOT_OK) × IsWritten file needed old new)
     ⊎ ((status ≡ KESVUOT_REFUSED) × ((b : Break) × IsFirstBroken file b) × IsUnwritten needed old new)
-    ⊎ ((status ≡ KESVUOT_NO_MEMORY) × IsRefusal file refusal.Memory × IsUnwritten needed old new)
+    ⊎ ((status ≡ KESVUOT_NO_MEMORY) × IsLayoutRefusal file refusal.Memory × IsUnwritten needed old new)

@@ -9,6 +9,7 @@ use Rattle.macho_rules.specs.Verdict.{IsRefusal}
 use Rattle.macho_rules.specs.declared.refusal.Refusal.TheVariants as refusal
 use Rattle.macho_strict.specs.Accounted.{IsAccounted}
 use Rattle.macho_strict.specs.First.{IsStrictlyUnbroken, IsFirstStrictlyBroken}
+use Rattle.macho_strict.specs.Verdict.{IsStrictRefusal}
 use Rattle.macho_c.specs.Status.{KESVUOT_OK, KESVUOT_REFUSED, KESVUOT_NO_MEMORY}
 use Rattle.macho_c.specs.declared.verdict.KesvuotVerdict.{KesvuotVerdict}
 
@@ -25,7 +26,7 @@ IsAccepted file v = IsUnbroken file × IsSound file × Has v 0 0 (length (slices
 abbrev pub IsRefused : List ℕ → KesvuotVerdict → Type 0
 IsRefused file v = (b : Break) × IsFirstBroken file b × Has v (rule_number b.rule) b.place 0
 
--- There was no memory. That is answered only where the rules before fat-overlap are unbroken.
+-- There was no memory. That is answered only if the verdict takes some.
 abbrev pub IsUndecided : List ℕ → KesvuotVerdict → Type 0
 IsUndecided file v = IsRefusal file refusal.Memory × Has v 0 0 0
 
@@ -46,8 +47,12 @@ IsRefusedStrictly file v =
     ⊎ (IsUnbroken file
     × (b : Break) × IsFirstStrictlyBroken file b × Has v (rule_number b.rule) b.place 0)
 
+-- There was no memory. That is answered only if the strict verdict takes some.
+abbrev pub IsUndecidedStrictly : List ℕ → KesvuotVerdict → Type 0
+IsUndecidedStrictly file v = IsStrictRefusal file refusal.Memory × Has v 0 0 0
+
 -- the answer on a file, by the strict rules too
 abbrev pub IsStrictVerdict : List ℕ → ℕ → KesvuotVerdict → Type 0
 IsStrictVerdict file status v =
     ((status ≡ KESVUOT_OK) × IsAcceptedStrictly file v) ⊎ ((status ≡ KESVUOT_REFUSED) × IsRefusedStrictly file v)
-    ⊎ ((status ≡ KESVUOT_NO_MEMORY) × IsUndecided file v)
+    ⊎ ((status ≡ KESVUOT_NO_MEMORY) × IsUndecidedStrictly file v)

@@ -3,8 +3,7 @@
 ghost use Rattle.std.specs.Prelude.{◌≡◌, Some, MatchResult};
 ghost use Rattle.macho_fields.specs.First.{IsUnbroken};
 ghost use Rattle.macho_report.specs.Layout.{layout_text};
-ghost use Rattle.macho_rules.specs.Verdict.{IsRefusal};
-ghost use Rattle.macho_c.specs.Layout.{IsLayout, begun_with};
+ghost use Rattle.macho_c.specs.Layout.{IsLayout, IsLayoutRefusal, begun_with};
 
 use crate::status::{NO_MEMORY, OK, REFUSED};
 use macho_report::{Failed, Output, write_layout};
@@ -39,7 +38,7 @@ pub extern "C" fn kesvuot_layout(
 // The layout of the file.
 fn layout_of(alloc: Global, file: &[u8]) -> Result<Vec<u8>, Refusal>
     ensures { MatchResult result (λ layout. IsUnbroken file.now × (layout.items ≡ layout_text file.now))
-        (IsRefusal file.now) }
+        (IsLayoutRefusal file.now) }
 {
     let verified = verify(alloc, file)?;
     let mut layout = Text {
