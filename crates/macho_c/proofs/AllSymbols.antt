@@ -29,7 +29,7 @@ use Rattle.macho_rules.proofs.OneCommand.{is_with_cmd, symbols_counted}
 use Rattle.macho_rules.proofs.TableItems.{table_inside, in_items}
 use Rattle.macho_rules.proofs.Verdicts.{unbroken_image_sound}
 use Rattle.macho_c.specs.Image.{ShowsUnbroken, only, symtab_in, dysymtab_in, field_of}
-use Rattle.macho_c.specs.Rows.{IsFilled, part_or_none, ended_string}
+use Rattle.macho_c.specs.Rows.{IsFilled, part_or_none, ended_string, placeless}
 use Rattle.macho_c.specs.Symbols.{symbol_shown, symbol_row, symbol_rows, symbol_name, named_row, all_symbol_rows, GivesAllSymbols, indirect_shown, indirect_row, indirect_rows, all_indirect_rows, GivesAllIndirects}
 use Rattle.macho_c.specs.declared.image.KesvuotImage.{KesvuotImage}
 use Rattle.macho_c.specs.declared.symbols.KesvuotSymbol.{KesvuotSymbol}
@@ -195,7 +195,7 @@ module _ (row : KesvuotImage) (shows : ShowsUnbroken row) where
       row_same p has =
           let string : ℕ → ℕ → List ℕ = λ start size. if n_strx image p == 0 then [] else ended_string (drop (n_strx image p) (part_or_none start size image)) in
           ap (λ name. record {
-            name = name;
+            name = placeless name;
             value = n_value image p;
             strx = n_strx image p;
             desc = n_desc image p;

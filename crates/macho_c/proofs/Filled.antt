@@ -2,18 +2,19 @@
 use Rattle.std.proofs.Common.{◌≡◌, ◌≤◌, ◌∙◌, ℕ, List, length, map, take, drop, Option, None, Result, Err, refl, sym, ap, subst, inl, inr, arith}
 use Rattle.std.proofs.lemmas.Iterator.{YieldsList, YieldsList-from_map_by, maps}
 use Rattle.std.proofs.lemmas.Iterator.Adapters.{YieldsList-from_skip}
-use Rattle.std.proofs.lemmas.Iterator.Consumers.{YieldsList-so_far, YieldsList-end, YieldsList-at}
+use Rattle.std.proofs.lemmas.Iterator.Consumers.{YieldsList-so_far, YieldsList-end, YieldsList-at, YieldsList-from_first}
 use Rattle.std.proofs.lemmas.List.{drop-map, take-map, take_all, length-map, length-take}
 use Rattle.std.specs.declared.iter.Skip.{Skip}
 use Rattle.std.specs.declared.iter.Map.{Map}
 use Rattle.std.specs.Fn.{Called}
+use Rattle.std.specs.Iterator.{YieldsFirstBy}
 use Rattle.std.specs.Iterator.Adapters.{skip_source, skip_count, skip_steps, map_source, map_callee}
 use denote.Param.Members.{Mut}
 use Rattle.macho_fields.specs.Layers.{Continues, StopsAt}
 use Rattle.macho_fields.specs.Rules.{BreaksImage}
 use Rattle.macho_fields.specs.declared.rule.Break.{Break}
 use Rattle.macho_fields.specs.declared.rule.Rule.TheVariants as rule
-use Rattle.macho_c.specs.Rows.{IsFilled, IsBrokenImage, HasHeaders, Fills}
+use Rattle.macho_c.specs.Rows.{IsFilled, IsTable, IsBrokenImage, HasHeaders, Fills}
 
 module _ {S R V T : Type 0} {steps : S → Option R → S → Type 0} {s : S} {n : ℕ} {old new : List R} where
   -- the rows of what is left of the views from the first on
@@ -79,3 +80,13 @@ refused image file b answer is same decides stops =
 -- and opens only what breaks none
 pub opened : (image file : List ℕ) → image ≡ file → HasHeaders image None → HasHeaders file None
 opened image file same kept = subst (λ bytes. HasHeaders bytes None) same kept
+
+-- the table of an image that opens, of the items of its iterator after the first `first` items
+module _ {S A V F R T : Type 0} {g : Mut F (A × Unit {0}) R} {n : ℕ} {old new : List R} {t : S} {u : Skip S} {s : Map (Skip S) F} {f : F} where
+  pub opened_table : (v : A → V) (left : S → List V) (shown : R → T) (row : V → T) (views : List ℕ → List V) (first : ℕ) {image bytes file : List ℕ} → HasHeaders bytes None → image ≡ bytes → bytes ≡ file → left t ≡ views image
+      → Fills (maps (skip_steps (YieldsFirstBy v left)) g) s n old new → skip_source u ≡ t → skip_count u ≡ first → map_source s ≡ u → map_callee s ≡ f
+      → ((x : A) (r : R) (q : F) → Called g f (x, tt) r q → (q ≡ f) × (shown r ≡ row (v x)))
+      → IsTable file shown (map row (views file)) first n old new
+  opened_table v left shown row views first {image} {bytes} {file} kept as_read as_given yields fills past count source callee of =
+      let all = YieldsList-from_first v left (views file) (yields ∙ ap views (as_read ∙ as_given)) in
+      inl (opened bytes file as_given kept, filled_past shown row (views file) first fills all past count source callee of)

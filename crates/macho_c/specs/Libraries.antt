@@ -2,29 +2,17 @@
 use Rattle.std.specs.Prelude.{ℕ, List, map}
 use Rattle.macho_fields.specs.Image.{commands_of}
 use Rattle.macho_image.specs.Library.{DylibView, dylib_at, libraries}
+use Rattle.macho_c.specs.Rows.{placeless}
 use Rattle.macho_c.specs.declared.libraries.KesvuotLibrary.{KesvuotLibrary}
 
--- what a row of a library shows
-pub record LibraryRow : Type 0 where
-  pub name : List ℕ
-  pub cmd : ℕ
-  pub current : ℕ
-  pub compatible : ℕ
-  pub reserved : ℕ
-
-abbrev pub library_shown : KesvuotLibrary → LibraryRow
-library_shown row = record {
-  name = row.name.now;
-  cmd = row.cmd;
-  current = row.current;
-  compatible = row.compatible;
-  reserved = row.reserved;
-}
+-- a row of a library shows all of it, but where its name lies
+abbrev pub library_shown : KesvuotLibrary → KesvuotLibrary
+library_shown row = record row { name = placeless row.name.now }
 
 -- the row of a library
-abbrev pub library_row : DylibView → LibraryRow
+abbrev pub library_row : DylibView → KesvuotLibrary
 library_row library = record {
-  name = library.name;
+  name = placeless library.name;
   cmd = library.cmd;
   current = library.current;
   compatible = library.compatible;
@@ -35,5 +23,5 @@ library_row library = record {
 abbrev pub libraries_in : List ℕ → List DylibView
 libraries_in image = map (dylib_at image) (libraries image (commands_of image))
 
-abbrev pub library_rows : List ℕ → List LibraryRow
+abbrev pub library_rows : List ℕ → List KesvuotLibrary
 library_rows image = map library_row (libraries_in image)

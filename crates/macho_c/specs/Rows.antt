@@ -1,5 +1,6 @@
 -- A table of the caller, and what an export writes to it.
 use Rattle.std.specs.Prelude.{◌≡◌, ℕ, ◌+◌, ◌⊎◌, List, [], length, map, take, drop, Option, None, ◌==◌, nat_le, if◌then◌else◌}
+use Rattle.std.specs.Borrow.{Bor}
 use Rattle.std.specs.Iterator.{Yields}
 use Rattle.std.specs.List.{before_first, list_any}
 use Rattle.macho_fields.specs.Field.{part}
@@ -7,6 +8,10 @@ use Rattle.macho_fields.specs.First.{rank}
 use Rattle.macho_fields.specs.Layers.{BreaksUpTo, KeptBelow}
 use Rattle.macho_fields.specs.Rules.{BreaksImage}
 use Rattle.macho_fields.specs.declared.rule.Rule.TheVariants as rule
+
+-- a slice of these bytes, wherever it lies in memory
+abbrev pub placeless : List ℕ → Bor (List ℕ)
+placeless bytes = record { ref_ptr = (0, 0); now = bytes }
 
 -- The table had `old`, and has `new`: its first n rows are now those from the index first on, as
 -- many as there are and as it has room for, and the others are as they were. `shown` is what a row

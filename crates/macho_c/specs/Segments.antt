@@ -3,36 +3,13 @@ use Rattle.std.specs.Prelude.{ℕ, ◌+◌, List, [], ◌∷◌, map}
 use Rattle.macho_fields.specs.Image.{commands_of}
 use Rattle.macho_fields.specs.Segment.{segments_of, vmaddr, vmsize, fileoff, filesize, initprot, nsects}
 use Rattle.macho_image.specs.Segment.{SegmentView, segment_at, segment_name, maxprot}
-use Rattle.macho_c.specs.Rows.{part_or_none}
+use Rattle.macho_c.specs.Rows.{part_or_none, placeless}
 use Rattle.macho_c.specs.declared.segments.KesvuotSegment.{KesvuotSegment}
 use Rattle.macho_c.specs.declared.segments.Numbered.{Numbered}
 
--- what a row of a segment shows
-pub record SegmentRow : Type 0 where
-  pub name : List ℕ
-  pub bytes : List ℕ
-  pub vmaddr : ℕ
-  pub vmsize : ℕ
-  pub fileoff : ℕ
-  pub filesize : ℕ
-  pub first_section : ℕ
-  pub section_count : ℕ
-  pub maxprot : ℕ
-  pub initprot : ℕ
-
-abbrev pub segment_shown : KesvuotSegment → SegmentRow
-segment_shown row = record {
-  name = row.name.now;
-  bytes = row.bytes.now;
-  vmaddr = row.vmaddr;
-  vmsize = row.vmsize;
-  fileoff = row.fileoff;
-  filesize = row.filesize;
-  first_section = row.first_section;
-  section_count = row.section_count;
-  maxprot = row.maxprot;
-  initprot = row.initprot;
-}
+-- a row of a segment shows all of it, but where its slices lie
+abbrev pub segment_shown : KesvuotSegment → KesvuotSegment
+segment_shown row = record row { name = placeless row.name.now; bytes = placeless row.bytes.now }
 
 -- the bytes that a segment has in the image
 abbrev pub segment_bytes : List ℕ → ℕ → List ℕ
@@ -40,11 +17,11 @@ segment_bytes image segment =
     part_or_none (fileoff image segment) (filesize image segment) image
 
 -- the row of a segment, with the number of the sections before its own
-abbrev pub segment_row : Numbered → SegmentRow
+abbrev pub segment_row : Numbered → KesvuotSegment
 segment_row n =
     let s = n.segment in record {
-      name = segment_name s.image s.place;
-      bytes = segment_bytes s.image s.place;
+      name = placeless (segment_name s.image s.place);
+      bytes = placeless (segment_bytes s.image s.place);
       vmaddr = vmaddr s.image s.place;
       vmsize = vmsize s.image s.place;
       fileoff = fileoff s.image s.place;
@@ -68,5 +45,5 @@ segments_seen image = map (segment_at image) (segments_of image (commands_of ima
 abbrev pub segments_in : List ℕ → List Numbered
 segments_in image = numbered 0 (segments_seen image)
 
-abbrev pub segment_rows : List ℕ → List SegmentRow
+abbrev pub segment_rows : List ℕ → List KesvuotSegment
 segment_rows image = map segment_row (segments_in image)

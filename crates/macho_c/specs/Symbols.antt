@@ -12,28 +12,13 @@ use Rattle.macho_image.specs.declared.indirect.Indirect.{Indirect}
 use Rattle.macho_image.specs.declared.symbol.Symbol.{Symbol}
 use Rattle.macho_image.specs.declared.symtab.Symtab.{Symtab}
 use Rattle.macho_c.specs.Image.{symtab_in, dysymtab_in, field_of}
-use Rattle.macho_c.specs.Rows.{IsFilled, part_or_none, ended_string}
+use Rattle.macho_c.specs.Rows.{IsFilled, part_or_none, ended_string, placeless}
 use Rattle.macho_c.specs.declared.image.KesvuotImage.{KesvuotImage}
 use Rattle.macho_c.specs.declared.symbols.KesvuotSymbol.{KesvuotSymbol}
 
--- what a row of a symbol shows
-pub record SymbolRow : Type 0 where
-  pub name : List ℕ
-  pub value : ℕ
-  pub strx : ℕ
-  pub desc : ℕ
-  pub kind : ℕ
-  pub sect : ℕ
-
-abbrev pub symbol_shown : KesvuotSymbol → SymbolRow
-symbol_shown row = record {
-  name = row.name.now;
-  value = row.value;
-  strx = row.strx;
-  desc = row.desc;
-  kind = row.kind;
-  sect = row.sect;
-}
+-- a row of a symbol shows all of it, but where its name lies
+abbrev pub symbol_shown : KesvuotSymbol → KesvuotSymbol
+symbol_shown row = record row { name = placeless row.name.now }
 
 -- the name at strx in the strings, none where strx is 0, where they do not lie inside the image, and
 -- where no zero byte of them ends it
@@ -43,9 +28,9 @@ name_at image strx =
     else ended_string (drop strx (part_or_none image.strings image.strings_size image.bytes.now))
 
 -- the row of a symbol
-abbrev pub symbol_row : KesvuotImage → Symbol → SymbolRow
+abbrev pub symbol_row : KesvuotImage → Symbol → KesvuotSymbol
 symbol_row image symbol = record {
-  name = name_at image symbol.strx;
+  name = placeless (name_at image symbol.strx);
   value = symbol.value;
   strx = symbol.strx;
   desc = symbol.desc;
@@ -59,7 +44,7 @@ symbols_in image =
     map (symbol_at image.bytes.now)
     (items_inside image.bytes.now image.symbols nlist.NLIST_64_SIZE image.symbol_count)
 
-abbrev pub symbol_rows : KesvuotImage → List SymbolRow
+abbrev pub symbol_rows : KesvuotImage → List KesvuotSymbol
 symbol_rows image = map (symbol_row image) (symbols_in image)
 
 -- the indirect entries, in the order of their table, and none where it does not lie inside the image
@@ -88,9 +73,9 @@ symbol_name image symbol =
     else string_from (strings + n_strx image symbol) image
 
 -- the row of the symbol at a place
-abbrev pub named_row : List ℕ → ℕ → SymbolRow
+abbrev pub named_row : List ℕ → ℕ → KesvuotSymbol
 named_row image symbol = record {
-  name = symbol_name image symbol;
+  name = placeless (symbol_name image symbol);
   value = n_value image symbol;
   strx = n_strx image symbol;
   desc = n_desc image symbol;
@@ -99,7 +84,7 @@ named_row image symbol = record {
 }
 
 -- those of all symbols, in the order of their table
-abbrev pub all_symbol_rows : List ℕ → List SymbolRow
+abbrev pub all_symbol_rows : List ℕ → List KesvuotSymbol
 all_symbol_rows image = map (named_row image) (symbols_of image (commands_of image))
 
 -- The table of the caller is filled with these rows. There are nsyms of them, and 0 where there is no

@@ -1,20 +1,12 @@
-use Rattle.std.proofs.Common.{◌∙◌, List, ap, inl, inr, refl, rules}
-use Rattle.std.proofs.lemmas.Iterator.Consumers.{YieldsList-from_first}
+use Rattle.std.proofs.Common.{List, inr, refl, rules}
 use Rattle.macho_image.specs.Segment.{SectionView}
 use Rattle.macho_c.specs.Sections.{section_shown, section_row, sections_in}
-use Rattle.macho_c.proofs.Filled.{filled_past, opened, refused}
+use Rattle.macho_c.proofs.Filled.{opened_table, refused}
 use Rattle.macho_c.proofs.sections.kesvuot_sections.Goals as goal
 
 pub returns-in-Ok : goal.returns-in-Ok
-returns-in-Ok c =
-    let all = sections_in c.args.image.now.bytes.now in
-    let given = c.sections.ensures.sections ∙ ap sections_in (c.in-Ok.ensures.image ∙ c.new.ensures) in
-    let source = YieldsList-from_first (λ (section : SectionView). section) (λ (left : List SectionView). left) all given in
-    inl (
-      opened _ _ c.new.ensures c.in-Ok.ensures.decides,
-      filled_past section_shown section_row all c.args.first c.fill.ensures source
-          c.skip.ensures.source c.skip.ensures.count c.map.ensures.source c.map.ensures.closure (λ x r q k. search rules),
-    )
+returns-in-Ok c = opened_table (λ (section : SectionView). section) (λ (left : List SectionView). left) section_shown section_row sections_in c.args.first c.in-Ok.ensures.decides c.in-Ok.ensures.image c.new.ensures c.sections.ensures.sections
+    c.fill.ensures c.skip.ensures.source c.skip.ensures.count c.map.ensures.source c.map.ensures.closure (λ x r q k. search rules)
 
 pub returns-in-Err : goal.returns-in-Err
 returns-in-Err c = inr (refused _ _ _ _ c.in-Err.is c.new.ensures c.open.ensures.decides c.open.ensures.stops, refl, refl)
