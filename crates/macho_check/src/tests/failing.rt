@@ -177,6 +177,12 @@ const WHERE_REFUSED: Ended = Ok(Found::Where(WhereOutcome::Refused));
 
 const TOO_LONG: Ended = Err(RunFault::TooLong);
 
+const READ: Ended = Err(RunFault::Read);
+
+const WRITE: Ended = Err(RunFault::Write);
+
+const MOST: u64 = u64::MAX;
+
 const NO_MAGIC: &str = "refused: magic at 0x0\n";
 
 const HEADER: &[u8] = BARE_HEADER;
@@ -184,58 +190,18 @@ const HEADER: &[u8] = BARE_HEADER;
 const ENDINGS: &[Ending] = &[
     (Call::Run, 32, HEADER, (0, 0), CHECKED, 33, BARE_LAYOUT),
     (Call::Run, 31, HEADER, (0, 0), TOO_LONG, 32, ""),
-    (Call::Run, 32, HEADER, (2, 0), Err(RunFault::Read), 2, ""),
-    (
-        Call::Run,
-        32,
-        HEADER,
-        (0, 11),
-        Err(RunFault::Write),
-        33,
-        "accepted, ",
-    ),
+    (Call::Run, 32, HEADER, (2, 0), READ, 2, ""),
+    (Call::Run, 32, HEADER, (0, 11), WRITE, 33, "accepted, "),
     (Call::Run, 0, b"", (0, 0), CHECK_REFUSED, 1, NO_MAGIC),
     (Call::Run, 0, b"a", (0, 0), TOO_LONG, 1, ""),
-    (
-        Call::Run,
-        u64::MAX,
-        HEADER,
-        (0, 0),
-        CHECKED,
-        33,
-        BARE_LAYOUT,
-    ),
+    (Call::Run, MOST, HEADER, (0, 0), CHECKED, 33, BARE_LAYOUT),
     (Call::RunWhere, 32, HEADER, (0, 0), TOLD, 33, "unmapped\n"),
     (Call::RunWhere, 31, HEADER, (0, 0), TOO_LONG, 32, ""),
-    (
-        Call::RunWhere,
-        32,
-        HEADER,
-        (2, 0),
-        Err(RunFault::Read),
-        2,
-        "",
-    ),
-    (
-        Call::RunWhere,
-        32,
-        HEADER,
-        (0, 9),
-        Err(RunFault::Write),
-        33,
-        "unmapped",
-    ),
+    (Call::RunWhere, 32, HEADER, (2, 0), READ, 2, ""),
+    (Call::RunWhere, 32, HEADER, (0, 9), WRITE, 33, "unmapped"),
     (Call::RunWhere, 0, b"", (0, 0), WHERE_REFUSED, 1, NO_MAGIC),
     (Call::RunWhere, 0, b"a", (0, 0), TOO_LONG, 1, ""),
-    (
-        Call::RunWhere,
-        u64::MAX,
-        HEADER,
-        (0, 0),
-        TOLD,
-        33,
-        "unmapped\n",
-    ),
+    (Call::RunWhere, MOST, HEADER, (0, 0), TOLD, 33, "unmapped\n"),
 ];
 
 #[test]
