@@ -10,3 +10,4 @@ pub mod Slices
 pub mod Where
 pub mod Faults
 pub mod Runs
+pub mod Room

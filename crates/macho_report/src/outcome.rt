@@ -15,6 +15,7 @@ use crate::stream::{Input, Output};
 use crate::transfer::{ReadFault, WriteFault, read_all};
 use macho_rules::{Refusal, Verified};
 use std::alloc::{AllocError, Global};
+use std::fmt;
 use thiserror::Error;
 
 /// What a run found of its input.
@@ -39,17 +40,19 @@ const OUT_OF_MEMORY: &str = "out of memory";
 #[derive(Clone, Copy, Debug, PartialEq, Eq, Error)]
 pub enum RunFault {
     /// A read failed.
-    #[error("macho-check: {reason}", reason = READ_FAILED)]
     Read,
     /// The input has more bytes than the limit.
-    #[error("macho-check: {reason}", reason = TOO_LONG)]
     TooLong,
     /// A write failed.
-    #[error("macho-check: {reason}", reason = WRITE_FAILED)]
     Write,
     /// There was no memory.
-    #[error("macho-check: {reason}", reason = OUT_OF_MEMORY)]
     Memory,
+}
+
+impl fmt::Display for RunFault {
+    fn fmt<W: fmt::Write>(&self, f: &mut fmt::Formatter<W>) -> fmt::Result {
+        write!(f, "macho-check: {}", self.reason())
+    }
 }
 
 impl RunFault {

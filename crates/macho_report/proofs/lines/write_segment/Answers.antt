@@ -1,7 +1,8 @@
-use Rattle.std.proofs.Common.{[], ◌∷◌}
+use Rattle.std.proofs.Common.{[], ◌∷◌, lit≤}
 use Rattle.std.specs.Prelude.{codes}
 use Rattle.macho_report.proofs.Puts.{from_start, put_next, put_many, put_last, ended}
 use Rattle.macho_report.proofs.Holding.{line_fails, line_written}
+use Rattle.macho_report.proofs.Room.{end_fits, extent_fits, fits, room_after_equal, room_after_extent, room_after_text}
 use Rattle.macho_report.proofs.lines.write_segment.Goals as goal
 
 pub returns-in_err-name : goal.returns-in_err-name
@@ -14,3 +15,24 @@ returns g c =
     (put_many _ _ _ _ _ (rw (c.vmaddr.ensures, c.vmsize.ensures) at c.extent.ensures.text)
     (put_many _ _ _ _ _ (rw (c.fileoff.ensures, c.filesize.ensures) at c.extent-2.ensures.text)
     (put_next _ _ _ _ _ c.text-2.ensures (put_next _ _ _ _ _ (rw c.initprot.ensures.number at c.protection.ensures.text) (ended _))))) c.write.ensures.text
+
+-- There is room for each part. By hand, since a search reads all that is known at each goal.
+pub extent-requires : goal.extent-requires
+extent-requires g c = record { room = extent_fits _ _ 160 c.in_ok-name.ensures.room (lit≤ tt) }
+
+pub extent-requires-2 : goal.extent-requires-2
+extent-requires-2 g c = record { room = extent_fits _ _ 104 (room_after_extent _ _ _ 160 104 c.in_ok-name.ensures.room c.extent.ensures.end (lit≤ tt)) (lit≤ tt) }
+
+pub text-requires-2 : goal.text-requires-2
+text-requires-2 g c =
+    record { room = fits _ _ 48 (room_after_extent _ _ _ 104 48 (room_after_extent _ _ _ 160 104 c.in_ok-name.ensures.room c.extent.ensures.end (lit≤ tt)) c.extent-2.ensures.end (lit≤ tt)) (lit≤ tt) }
+
+pub protection-requires : goal.protection-requires
+protection-requires g c =
+    let parts = room_after_extent _ _ _ 104 48 (room_after_extent _ _ _ 160 104 c.in_ok-name.ensures.room c.extent.ensures.end (lit≤ tt)) c.extent-2.ensures.end (lit≤ tt) in
+    record { room = fits _ 3 47 (room_after_text _ _ _ 48 47 parts c.text-2.ensures (lit≤ tt)) (lit≤ tt) }
+
+pub write-requires : goal.write-requires
+write-requires g c =
+    let parts = room_after_extent _ _ _ 104 48 (room_after_extent _ _ _ 160 104 c.in_ok-name.ensures.room c.extent.ensures.end (lit≤ tt)) c.extent-2.ensures.end (lit≤ tt) in
+    record { room = end_fits _ 44 (room_after_equal _ 3 _ 47 44 (room_after_text _ _ _ 48 47 parts c.text-2.ensures (lit≤ tt)) c.protection.ensures.end (lit≤ tt)) (lit≤ tt) }

@@ -1,5 +1,0 @@
-use Rattle.std.proofs.Common.{rules}
-use Rattle.macho_report.proofs.from_write.FromWrite.new.Goals as goal
-
-pub returns-clause-working : goal.returns-clause-working
-returns-clause-working g c = search rules
