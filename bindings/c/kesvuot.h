@@ -156,6 +156,7 @@ enum {
     KESVUOT_HAS_DYSYMTAB = 16
 };
 
+/* In C++ write `struct kesvuot_image`, or `using Image = struct kesvuot_image;` once: the call has the same name. */
 struct kesvuot_image {
     struct kesvuot_bytes bytes; /* the slice */
     uint64_t place;             /* where the slice begins in the file */
@@ -214,7 +215,7 @@ struct kesvuot_segment { /* LC_SEGMENT_64 */
     uint32_t initprot;
 };
 
-struct kesvuot_section { /* section_64. The section n_sect of a symbol has the index n_sect - 1. */
+struct kesvuot_section { /* section_64. Of a symbol see `sect` of kesvuot_symbol. */
     struct kesvuot_bytes name;
     struct kesvuot_bytes segment; /* the name of its segment, from LC_SEGMENT_64 */
     struct kesvuot_bytes bytes;   /* all size bytes from offset on, none if it is zero-fill */
@@ -259,7 +260,9 @@ struct kesvuot_symbol { /* nlist_64 */
     uint32_t strx;
     uint16_t desc;
     uint8_t type;
-    uint8_t sect;
+    uint8_t sect; /* n_sect. Its section has the index sect - 1 if 1 <= sect && sect <= section_count. Test both: it is
+                     0 if the symbol is in no section, and in an accepted file it may be past the last one, unless the
+                     type is N_SECT and the symbol is no debugging entry (N_STAB) */
 };
 
 size_t kesvuot_segments(const struct kesvuot_image *image, uint64_t first, struct kesvuot_segment *rows, size_t max);
