@@ -285,7 +285,7 @@ impl<'a> Image<'a> {
         let mut row = [T::Raw::default()];
         match T::Raw::fill(&self.raw, index, &mut row) {
             0 => None,
-            _ => Some(T::new(row[0])),
+            _ => Some(T::new(row[0], &self.raw)),
         }
     }
 

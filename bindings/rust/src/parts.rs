@@ -65,7 +65,7 @@ impl fmt::Debug for Segment<'_> {
 impl<'a> Row<'a> for Segment<'a> {
     type Raw = ffi::Segment<'a>;
 
-    fn new(raw: ffi::Segment<'a>) -> Self {
+    fn new(raw: ffi::Segment<'a>, _: &ffi::Image<'a>) -> Self {
         Segment {
             name: raw.name.get(),
             bytes: raw.bytes.get(),
@@ -127,7 +127,7 @@ impl fmt::Debug for Section<'_> {
 impl<'a> Row<'a> for Section<'a> {
     type Raw = ffi::Section<'a>;
 
-    fn new(raw: ffi::Section<'a>) -> Self {
+    fn new(raw: ffi::Section<'a>, _: &ffi::Image<'a>) -> Self {
         Section {
             name: raw.name.get(),
             segment: raw.segment.get(),
@@ -173,7 +173,7 @@ impl fmt::Debug for Library<'_> {
 impl<'a> Row<'a> for Library<'a> {
     type Raw = ffi::Library<'a>;
 
-    fn new(raw: ffi::Library<'a>) -> Self {
+    fn new(raw: ffi::Library<'a>, _: &ffi::Image<'a>) -> Self {
         Library {
             name: raw.name.get(),
             cmd: raw.cmd,
@@ -195,10 +195,10 @@ pub struct Build {
     pub sdk: u32,
 }
 
-impl Row<'_> for Build {
+impl<'a> Row<'a> for Build {
     type Raw = ffi::Build;
 
-    fn new(raw: ffi::Build) -> Self {
+    fn new(raw: ffi::Build, _: &ffi::Image<'a>) -> Self {
         Build {
             platform: raw.platform,
             minos: raw.minos,
@@ -238,7 +238,7 @@ impl fmt::Debug for Command<'_> {
 impl<'a> Row<'a> for Command<'a> {
     type Raw = ffi::Command<'a>;
 
-    fn new(raw: ffi::Command<'a>) -> Self {
+    fn new(raw: ffi::Command<'a>, _: &ffi::Image<'a>) -> Self {
         Command {
             bytes: raw.bytes.get(),
             name: raw.name.get(),
@@ -265,20 +265,26 @@ pub struct Symbol<'a> {
     pub desc: u16,
     /// `n_type`
     pub kind: u8,
-    /// `n_sect`: the number of the section that defines it, from 1 on.
+    /// `n_sect`: the number of a section, from 1 on. Do not subtract 1 from it: it is 0 (`NO_SECT`) if
+    /// the symbol is in no section, and may be past the last section, such as in a debugging entry
+    /// (`N_STAB`).
     pub sect: u8,
+    /// The index in [`Image::sections`](crate::Image::sections) of the section with the number `sect`.
+    /// `None` if the image has no such section.
+    pub section: Option<usize>,
 }
 
 impl Symbol<'_> {
     /// The index in [`Image::sections`](crate::Image::sections) of the section that defines the
-    /// symbol. `None` if the symbol is defined elsewhere or nowhere, or is a debugging entry.
+    /// symbol. `None` if the symbol is defined elsewhere or nowhere, or is a debugging entry, even if
+    /// that has a `section`.
     #[must_use]
     pub fn section_index(&self) -> Option<usize> {
         const N_STAB: u8 = 0xe0;
         const N_TYPE: u8 = 0x0e;
         const N_SECT: u8 = 0x0e;
         let is_defined = self.kind & N_STAB == 0 && self.kind & N_TYPE == N_SECT;
-        usize::from(self.sect).checked_sub(1).filter(|_| is_defined)
+        self.section.filter(|_| is_defined)
     }
 }
 
@@ -299,7 +305,7 @@ impl<'a> Row<'a> for Symbol<'a> {
 
     const BATCH: u64 = BATCH;
 
-    fn new(raw: ffi::Symbol<'a>) -> Self {
+    fn new(raw: ffi::Symbol<'a>, image: &ffi::Image<'a>) -> Self {
         Symbol {
             name: (raw.strx != 0).then(|| raw.name.get()),
             value: raw.value,
@@ -307,6 +313,9 @@ impl<'a> Row<'a> for Symbol<'a> {
             desc: raw.desc,
             kind: raw.r#type,
             sect: raw.sect,
+            section: usize::from(raw.sect)
+                .checked_sub(1)
+                .filter(|&index| (index as u64) < image.section_count),
         }
     }
 }
@@ -330,12 +339,12 @@ impl Indirect {
     }
 }
 
-impl Row<'_> for Indirect {
+impl<'a> Row<'a> for Indirect {
     type Raw = u32;
 
     const BATCH: u64 = BATCH;
 
-    fn new(value: u32) -> Self {
+    fn new(value: u32, _: &ffi::Image<'a>) -> Self {
         Indirect { value }
     }
 }

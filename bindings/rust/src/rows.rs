@@ -14,7 +14,8 @@ pub trait Row<'a> {
     /// rows.
     const BATCH: u64 = u64::MAX;
 
-    fn new(raw: Self::Raw) -> Self;
+    /// Makes the row. Some fields depend on the image that it is of.
+    fn new(raw: Self::Raw, image: &ffi::Image<'a>) -> Self;
 }
 
 /// Rows of a table of an image, in the order of the table.
@@ -42,7 +43,8 @@ impl<'a, T: Row<'a>> Rows<'a, T> {
         let mut rows = vec![T::Raw::default(); to_usize(count)];
         let written = T::Raw::fill(&self.image, self.left.start, &mut rows);
         rows.truncate(written);
-        self.held = rows.into_iter().map(T::new).collect::<Vec<_>>().into_iter();
+        let rows = rows.into_iter().map(|row| T::new(row, &self.image));
+        self.held = rows.collect::<Vec<_>>().into_iter();
         self.left.start += count;
     }
 }
@@ -120,7 +122,7 @@ mod tests {
 
         const BATCH: u64 = T::BATCH;
 
-        fn new(_: Noted) -> Self {
+        fn new(_: Noted, _: &ffi::Image<'a>) -> Self {
             Like(PhantomData)
         }
     }

@@ -98,7 +98,65 @@ fn what_is_read_outlives_the_verdict() {
         let mut symbols = image.symbols();
         symbols.next().unwrap()
     };
-    assert_eq!((symbol.name, symbol.section_index()), (None, None));
+    assert_eq!((symbol.name, symbol.section), (None, None));
+}
+
+/// An executable of a header, `LC_SEGMENT_64` with two empty sections, `LC_SYMTAB`, and symbols of
+/// these types and sections.
+fn with_sections(symbols: &[(u8, u8)]) -> Vec<u8> {
+    let (nsyms, place) = (u32::try_from(symbols.len()).unwrap(), 32 + 232 + 24);
+    let mut file: Vec<u8> = [0xfeed_facf, 0x0100_0007, 3, 2, 2, 232 + 24, 0, 0]
+        .into_iter()
+        .chain([0x19, 232].into_iter().chain([0; 14]).chain([2, 0]))
+        .chain([0; 40])
+        .chain([2, 24, place, nsyms, 0, 0])
+        .flat_map(u32::to_le_bytes)
+        .collect();
+    assert_eq!(file.len(), place as usize);
+    for &(kind, sect) in symbols {
+        file.extend([0, 0, 0, 0, kind, sect]);
+        file.extend([0; 10]);
+    }
+    file
+}
+
+#[test]
+fn sections_of_symbols_exist() {
+    // Types of <mach-o/nlist.h> and <mach-o/stab.h>, and the section that each symbol has, and is defined
+    // in.
+    const N_SECT: u8 = 0xe;
+    const N_UNDF: u8 = 0x0;
+    const N_ABS: u8 = 0x2;
+    const N_STSYM: u8 = 0x26;
+    const N_FUN: u8 = 0x24;
+    let wanted = [
+        (N_SECT, 1, Some(0), Some(0)),
+        (N_SECT, 2, Some(1), Some(1)),
+        (N_UNDF, 0, None, None),
+        (N_UNDF, 2, Some(1), None),
+        (N_UNDF, 3, None, None),
+        (N_ABS, 255, None, None),
+        (N_STSYM, 0, None, None),
+        (N_STSYM, 2, Some(1), None),
+        (N_FUN, 3, None, None),
+        (N_FUN, 200, None, None),
+    ];
+    let file = with_sections(&wanted.map(|(kind, sect, ..)| (kind, sect)));
+    let image = kesvuot::verify(&file).unwrap().image(0).unwrap();
+    assert_eq!(image.sections().len(), 2);
+    let found = image.symbols().map(|symbol| {
+        let Symbol {
+            kind,
+            sect,
+            section,
+            ..
+        } = symbol;
+        (kind, sect, section, symbol.section_index())
+    });
+    assert_eq!(found.collect::<Vec<_>>(), wanted);
+    let nameless = image.symbols_without_names();
+    assert!(nameless.eq(image.symbols()));
+    assert_eq!(image.symbol(3).unwrap().section, Some(1));
 }
 
 #[test]

@@ -229,8 +229,12 @@ fn compare_symbols(image: &Image, commands: &[Plain]) {
         assert_eq!(found.value, long(bytes, 8));
         // N_STAB, and N_SECT in N_TYPE
         let is_in_section = bytes[4] & 0xe0 == 0 && bytes[4] & 0x0e == 0x0e;
-        let section = is_in_section.then(|| usize::from(bytes[5]) - 1);
-        assert_eq!(found.section_index(), section);
+        let section = match usize::from(bytes[5]) {
+            0 => None,
+            number => (number <= image.sections().len()).then_some(number - 1),
+        };
+        assert_eq!(found.section, section);
+        assert_eq!(found.section_index(), section.filter(|_| is_in_section));
     }
     let last = nsyms.checked_sub(1);
     assert_eq!(
