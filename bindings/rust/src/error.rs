@@ -1,6 +1,6 @@
 //! Why a file is not accepted.
 
-use std::fmt;
+use core::fmt;
 
 use crate::Rule;
 
@@ -28,10 +28,13 @@ impl fmt::Display for Error {
     }
 }
 
+#[cfg(feature = "std")]
 impl std::error::Error for Error {}
 
 #[cfg(test)]
 mod tests {
+    use std::string::ToString;
+
     use super::*;
 
     #[test]

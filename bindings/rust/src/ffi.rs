@@ -3,10 +3,11 @@
 //! The library trusts no number in these structures, so any of them may be changed. Only pointers
 //! matter, and no other file can make one: each [`Bytes`] is empty, or was written by the library.
 
-use std::ffi::c_void;
-use std::marker::PhantomData;
-use std::os::raw::c_char;
-use std::{ptr, slice};
+use alloc::vec;
+use alloc::vec::Vec;
+use core::ffi::c_void;
+use core::marker::PhantomData;
+use core::{ptr, slice};
 
 /// What a call returns. `NO_MEMORY` and `NONE` are the remaining statuses.
 pub const OK: u32 = 0;
@@ -70,7 +71,8 @@ macro_rules! structures {
         /// The size of each structure, and the place and the size of each field, as conditions in
         /// C.
         #[cfg(test)]
-        fn conditions() -> Vec<String> {
+        fn conditions() -> Vec<std::string::String> {
+            use std::format;
             use std::mem::size_of_val;
             let mut conditions = Vec::new();
             $(
@@ -195,7 +197,7 @@ extern "C" {
     fn kesvuot_layout(
         file: *const c_void,
         size: usize,
-        text: *mut c_char,
+        text: *mut u8,
         max: usize,
         needed: *mut usize,
     ) -> u32;
@@ -255,7 +257,7 @@ pub fn layout(file: &[u8]) -> (u32, Vec<u8>) {
     let mut text = vec![0; LAYOUT_ROOM];
     loop {
         let (room, mut needed) = (text.len(), 0);
-        let at = text.as_mut_ptr().cast();
+        let at = text.as_mut_ptr();
         // SAFETY: the file may be read, and nobody changes it meanwhile. The text and the number may
         // be written.
         let status =
@@ -336,8 +338,11 @@ pub fn at<'a>(image: &Image<'a>, address: u64) -> (u32, Bytes<'a>) {
 
 #[cfg(test)]
 mod tests {
+    use std::borrow::ToOwned;
+    use std::format;
     use std::io::Write;
     use std::process::{Command, Stdio};
+    use std::string::String;
 
     use super::*;
     use crate::Rule;

@@ -1,6 +1,6 @@
 //! An image of an accepted file.
 
-use std::fmt;
+use core::fmt;
 
 use crate::ffi::{self, Raw};
 use crate::parts::{Build, Command, Indirect, Library, Section, Segment, Symbol};

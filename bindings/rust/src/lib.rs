@@ -34,9 +34,17 @@
 //!
 //! The crate is not published: depend on its folder, `kesvuot = { path = ".../bindings/rust" }`. It
 //! links `libkesvuot` from the folder `KESVUOT_LIB_DIR`, or else from where pkg-config finds it.
+//!
+//! Without the feature `std`, which is on by default, the crate uses only `core` and `alloc`, and its
+//! errors are no `std::error::Error`.
 
+#![no_std]
 #![deny(unsafe_code)]
 #![warn(missing_docs)]
+
+extern crate alloc;
+#[cfg(any(feature = "std", test))]
+extern crate std;
 
 mod error;
 #[allow(unsafe_code)]
@@ -51,8 +59,8 @@ pub use error::Error;
 pub use image::{Dysymtab, Image, Source, Symtab};
 pub use parts::{Build, Command, Indirect, Library, Section, Segment, Symbol};
 pub use rows::Rows;
-pub use rule::Rule;
-pub use verified::{Slice, Slices, Verified};
+pub use rule::{ParseRuleError, Rule};
+pub use verified::{Slice, Slices, Verified, VerifiedBuf};
 
 /// Judges a file by the rules of the layout.
 ///
@@ -91,6 +99,8 @@ pub fn version() -> (u32, u32, u32) {
 
 #[cfg(test)]
 mod tests {
+    use std::format;
+
     #[test]
     fn the_library_has_the_version_of_the_crate() {
         let (major, minor, patch) = super::version();

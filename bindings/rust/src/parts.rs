@@ -1,7 +1,7 @@
 //! What an image has in its tables: segments, sections and so on.
 
-use std::fmt;
-use std::ops::Range;
+use core::fmt;
+use core::ops::Range;
 
 use crate::ffi;
 use crate::rows::Row;

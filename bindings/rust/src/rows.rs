@@ -1,8 +1,10 @@
 //! The rows of a table, read from the library in batches.
 
-use std::iter::FusedIterator;
-use std::ops::Range;
-use std::{cmp, fmt, vec};
+use alloc::vec;
+use alloc::vec::Vec;
+use core::iter::FusedIterator;
+use core::ops::Range;
+use core::{cmp, fmt};
 
 use crate::ffi::{self, Raw};
 
@@ -95,6 +97,7 @@ impl<'a, T: Row<'a>> fmt::Debug for Rows<'a, T> {
 mod tests {
     use std::cell::RefCell;
     use std::marker::PhantomData;
+    use std::thread_local;
 
     use super::*;
     use crate::{Build, Command, Indirect, Library, Section, Segment, Symbol};

@@ -1,6 +1,7 @@
 //! The rules, by their numbers in `kesvuot.h`.
 
-use std::{fmt, str};
+use core::fmt;
+use core::str::{self, FromStr};
 
 use crate::ffi;
 
@@ -144,8 +145,40 @@ impl fmt::Display for Rule {
     }
 }
 
+/// A text is not the name of a rule.
+#[derive(Clone, Copy, Debug, PartialEq, Eq, Hash)]
+#[non_exhaustive]
+pub struct ParseRuleError;
+
+impl fmt::Display for ParseRuleError {
+    fn fmt(&self, f: &mut fmt::Formatter<'_>) -> fmt::Result {
+        f.write_str("not the name of a rule")
+    }
+}
+
+#[cfg(feature = "std")]
+impl std::error::Error for ParseRuleError {}
+
+/// The rule with this name, such as `section-file`. It is one of the rules of the library that is
+/// linked, which may be newer than this crate.
+impl FromStr for Rule {
+    type Err = ParseRuleError;
+
+    fn from_str(name: &str) -> Result<Self, ParseRuleError> {
+        // The numbers of the rules have no gaps.
+        (1..)
+            .map(Rule::from_number)
+            .take_while(|rule| !rule.name().is_empty())
+            .find(|rule| rule.name() == name)
+            .ok_or(ParseRuleError)
+    }
+}
+
 #[cfg(test)]
 mod tests {
+    use std::string::ToString;
+    use std::vec::Vec;
+
     use super::*;
 
     #[test]
@@ -163,6 +196,16 @@ mod tests {
     fn each_number_is_of_its_rule() {
         for &rule in Rule::ALL {
             assert_eq!(Rule::from_number(rule.number()), rule);
+        }
+    }
+
+    #[test]
+    fn each_name_is_read_as_its_rule() {
+        for &rule in Rule::ALL {
+            assert_eq!(rule.to_string().parse(), Ok(rule));
+        }
+        for name in ["", "Magic", "magic ", "section", "unknown"] {
+            assert_eq!(name.parse::<Rule>(), Err(ParseRuleError), "{name}");
         }
     }
 

@@ -1,8 +1,11 @@
 //! Files that were accepted, and their slices.
 
-use std::fmt;
-use std::iter::FusedIterator;
-use std::ops::Range;
+use alloc::borrow::ToOwned;
+use alloc::string::String;
+use alloc::vec::Vec;
+use core::fmt;
+use core::iter::FusedIterator;
+use core::ops::Range;
 
 use crate::{ffi, Error, Image, Rule};
 
@@ -99,6 +102,99 @@ impl<'a> Verified<'a> {
 impl fmt::Debug for Verified<'_> {
     fn fmt(&self, f: &mut fmt::Formatter<'_>) -> fmt::Result {
         f.debug_struct("Verified")
+            .field("size", &self.bytes.len())
+            .field("slice_count", &self.slice_count)
+            .finish()
+    }
+}
+
+/// An accepted file that owns its bytes. [`Verified`] borrows them.
+///
+/// ```
+/// use kesvuot::VerifiedBuf;
+///
+/// fn load(path: &str) -> Result<VerifiedBuf, Box<dyn std::error::Error>> {
+///     Ok(VerifiedBuf::verify(std::fs::read(path)?)?)
+/// }
+/// # let path = concat!(env!("CARGO_MANIFEST_DIR"), "/../../tests/real/program");
+/// let file = load(path)?;
+/// for image in file.as_verified().images() {
+///     println!("{image:?}");
+/// }
+/// # assert_eq!(file.as_verified().images().count(), 1);
+/// # Ok::<(), Box<dyn std::error::Error>>(())
+/// ```
+#[derive(Clone)]
+pub struct VerifiedBuf {
+    bytes: Vec<u8>,
+    slice_count: u64,
+}
+
+impl VerifiedBuf {
+    /// Judges a file as [`verify`](crate::verify) does, and keeps its bytes.
+    ///
+    /// # Errors
+    ///
+    /// The first broken rule, or that memory ran out. The bytes are dropped: to keep them, judge them
+    /// first, and then use [`From`].
+    ///
+    /// # Panics
+    ///
+    /// If the library that is linked is of another major version.
+    pub fn verify(bytes: impl Into<Vec<u8>>) -> Result<Self, Error> {
+        VerifiedBuf::judge(bytes.into(), crate::verify)
+    }
+
+    /// Judges a file as [`verify_strictly`](crate::verify_strictly) does, and keeps its bytes.
+    ///
+    /// # Errors
+    ///
+    /// As of [`verify`](VerifiedBuf::verify).
+    ///
+    /// # Panics
+    ///
+    /// If the library that is linked is of another major version.
+    pub fn verify_strictly(bytes: impl Into<Vec<u8>>) -> Result<Self, Error> {
+        VerifiedBuf::judge(bytes.into(), crate::verify_strictly)
+    }
+
+    fn judge(
+        bytes: Vec<u8>,
+        judge: impl FnOnce(&[u8]) -> Result<Verified<'_>, Error>,
+    ) -> Result<Self, Error> {
+        let slice_count = judge(&bytes)?.slice_count;
+        Ok(VerifiedBuf { bytes, slice_count })
+    }
+
+    /// The file, with its slices and images.
+    #[must_use]
+    pub fn as_verified(&self) -> Verified<'_> {
+        Verified {
+            bytes: &self.bytes,
+            slice_count: self.slice_count,
+        }
+    }
+
+    /// The bytes of the file.
+    #[must_use]
+    pub fn into_bytes(self) -> Vec<u8> {
+        self.bytes
+    }
+}
+
+/// A copy of the bytes. They are not judged again.
+impl From<Verified<'_>> for VerifiedBuf {
+    fn from(file: Verified<'_>) -> Self {
+        VerifiedBuf {
+            bytes: file.bytes.to_owned(),
+            slice_count: file.slice_count,
+        }
+    }
+}
+
+impl fmt::Debug for VerifiedBuf {
+    fn fmt(&self, f: &mut fmt::Formatter<'_>) -> fmt::Result {
+        f.debug_struct("VerifiedBuf")
             .field("size", &self.bytes.len())
             .field("slice_count", &self.slice_count)
             .finish()

@@ -9,7 +9,7 @@ mod plain;
 use std::path::Path;
 use std::{env, fs, thread};
 
-use kesvuot::{Error, Verified};
+use kesvuot::{Error, Rule, Verified, VerifiedBuf};
 
 /// What is wanted of each file of a list, and the file.
 fn trials(list: &str) -> Vec<(String, String)> {
@@ -112,6 +112,37 @@ fn slices() {
     assert_eq!(first.place_of(&file[start..=end]), None);
     assert_eq!(first.place_of(&file[start - 1..end]), None);
     assert_eq!(second.place_of(&second.bytes()[1..2]), Some(4241));
+}
+
+#[test]
+fn a_file_that_owns_its_bytes() {
+    let bytes = fs::read(path_of_real("library")).unwrap();
+    let file = VerifiedBuf::verify(bytes.clone()).unwrap();
+    assert_eq!(file.as_verified().bytes(), bytes);
+    assert_eq!(file.as_verified().slice_count(), 2);
+    file.as_verified()
+        .images()
+        .for_each(|image| plain::compare(&image));
+    // What was read of the file lives as long as it does, and moves with it.
+    let moved = Box::new(file);
+    let image = moved.as_verified().image(1).unwrap();
+    assert_eq!(image.place_of(image.bytes()), Some(4240));
+    let copy = VerifiedBuf::from(kesvuot::verify(&bytes).unwrap());
+    assert_eq!(
+        format!("{copy:?}"),
+        "VerifiedBuf { size: 21008, slice_count: 2 }"
+    );
+    assert_eq!(moved.into_bytes(), copy.into_bytes());
+
+    let cut = &fs::read(path_of_real("program")).unwrap()[..12000];
+    let (rule, place) = (Rule::SegmentFile, 0x198);
+    let refused = VerifiedBuf::verify(cut).unwrap_err();
+    assert_eq!(refused, Error::Refused { rule, place });
+    let longer = [&bytes[..], b"more"].concat();
+    assert!(VerifiedBuf::verify(&longer[..]).is_ok());
+    let (rule, place) = (Rule::FatStrayByte, 21008);
+    let refused = VerifiedBuf::verify_strictly(longer).unwrap_err();
+    assert_eq!(refused, Error::Refused { rule, place });
 }
 
 #[test]
