@@ -21,6 +21,15 @@ TO_MAN = "$(DESTDIR)$(MANDIR)"
 TO_DOC = "$(DESTDIR)$(DOCDIR)"
 TO_PYTHON = "$(DESTDIR)$(PYTHONDIR)"
 
+# What kesvuot.3 describes: each call is a name of the page.
+CALLS = $$(sed -n 's/^\.Nm \(kesvuot_[a-z_]*\).*/\1/p' man/kesvuot.3)
+# Writes the version and the folders into what tells pkg-config and CMake of the library. Whatever is below the prefix
+# moves with it, and CMake finds the header from the folder of its file.
+FILL = sed -e 's|@PREFIX@|$(PREFIX)|; s|@LIBDIR@|$(LIBDIR)|; s|@INCLUDEDIR@|$(INCLUDEDIR)|' \
+    -e 's|^\([a-z]*dir\)=$(PREFIX)/|\1=$${prefix}/|' \
+    -e "s|@INCLUDE_FROM_HERE@|$$(realpath -ms --relative-to='$(LIBDIR)/cmake/kesvuot' '$(INCLUDEDIR)')|" \
+    -e "s|@VERSION@|$$(cat VERSION)|; s|@NUMBERS@|$$(sed 's/-.*//' VERSION)|; s|@MAJOR@|$$(sed 's/[.].*//' VERSION)|"
+
 # On an empty input, each command builds its program, if it is not current, and the program refuses the input.
 all: lib
 	@for command in macho-check macho-strict; do \
@@ -36,27 +45,36 @@ check test:
 bench:
 	bench/speed
 
-install: built
-	install -d $(TO_BIN) $(TO_LIB)/pkgconfig $(TO_INCLUDE) $(TO_MAN)/man1 $(TO_MAN)/man3 $(TO_DOC) $(TO_PYTHON)
+install: install-programs install-lib
+
+install-programs: built
+	install -d $(TO_BIN) $(TO_MAN)/man1
 	install -m 755 crates/macho_check/out/macho_check $(TO_BIN)/macho-check
 	install -m 755 crates/macho_strict_check/out/macho_strict_check $(TO_BIN)/macho-strict
+	install -m 644 man/macho-check.1 man/macho-strict.1 $(TO_MAN)/man1
+
+# The library alone, which `make lib` builds.
+install-lib: built-lib
+	install -d $(TO_LIB)/pkgconfig $(TO_LIB)/cmake/kesvuot $(TO_INCLUDE) $(TO_MAN)/man3 $(TO_DOC) $(TO_PYTHON)
 	install -m 644 build/lib/libkesvuot.a build/lib/libkesvuot.so.0 $(TO_LIB)
 	ln -sf libkesvuot.so.0 $(TO_LIB)/libkesvuot.so
-	sed -e 's|@PREFIX@|$(PREFIX)|; s|@LIBDIR@|$(LIBDIR)|; s|@INCLUDEDIR@|$(INCLUDEDIR)|' \
-	    -e 's|^\([a-z]*dir\)=$(PREFIX)/|\1=$${prefix}/|' -e "s|@VERSION@|$$(cat VERSION)|" \
-	    packaging/kesvuot.pc.in >$(TO_LIB)/pkgconfig/kesvuot.pc
-	chmod 644 $(TO_LIB)/pkgconfig/kesvuot.pc
+	$(FILL) packaging/kesvuot.pc.in >$(TO_LIB)/pkgconfig/kesvuot.pc
+	$(FILL) packaging/kesvuotConfig.cmake.in >$(TO_LIB)/cmake/kesvuot/kesvuotConfig.cmake
+	$(FILL) packaging/kesvuotConfigVersion.cmake.in >$(TO_LIB)/cmake/kesvuot/kesvuotConfigVersion.cmake
+	chmod 644 $(TO_LIB)/pkgconfig/kesvuot.pc $(TO_LIB)/cmake/kesvuot/*
 	install -m 644 bindings/c/kesvuot.h $(TO_INCLUDE)
 	install -m 644 bindings/python/kesvuot.py $(TO_PYTHON)
-	install -m 644 man/macho-check.1 man/macho-strict.1 $(TO_MAN)/man1
 	install -m 644 man/kesvuot.3 $(TO_MAN)/man3
+	for call in $(CALLS); do ln -sf kesvuot.3 $(TO_MAN)/man3/$$call.3 || exit; done
 	install -m 644 docs/RULES.md $(TO_DOC)
 
 uninstall:
 	rm -f $(TO_BIN)/macho-check $(TO_BIN)/macho-strict
 	rm -f $(TO_LIB)/libkesvuot.a $(TO_LIB)/libkesvuot.so.0 $(TO_LIB)/libkesvuot.so $(TO_LIB)/pkgconfig/kesvuot.pc
 	rm -f $(TO_INCLUDE)/kesvuot.h $(TO_PYTHON)/kesvuot.py $(TO_PYTHON)/__pycache__/kesvuot.*.pyc
+	rm -rf $(TO_LIB)/cmake/kesvuot
 	rm -f $(TO_MAN)/man1/macho-check.1 $(TO_MAN)/man1/macho-strict.1 $(TO_MAN)/man3/kesvuot.3 $(TO_DOC)/RULES.md
+	for call in $(CALLS); do rm -f $(TO_MAN)/man3/$$call.3; done
 	rmdir $(TO_DOC) 2>/dev/null || :
 
 # A Debian package, and an archive for any other system.
@@ -68,6 +86,9 @@ dist: built
 	@packaging/pack dist "$(OUT)"
 
 built:
-	@packaging/built
+	@packaging/built macho-check macho-strict libkesvuot
 
-.PHONY: all lib check test bench install uninstall deb dist built
+built-lib:
+	@packaging/built libkesvuot
+
+.PHONY: all lib check test bench install install-programs install-lib uninstall deb dist built built-lib
