@@ -55,7 +55,7 @@ install-programs: built
 
 # The library alone, which `make lib` builds.
 install-lib: built-lib
-	install -d $(TO_LIB)/pkgconfig $(TO_LIB)/cmake/kesvuot $(TO_INCLUDE) $(TO_MAN)/man3 $(TO_DOC) $(TO_PYTHON)
+	install -d $(TO_LIB)/pkgconfig $(TO_LIB)/cmake/kesvuot $(TO_INCLUDE) $(TO_MAN)/man3 $(TO_DOC) $(TO_PYTHON)/kesvuot
 	install -m 644 build/lib/libkesvuot.a build/lib/libkesvuot.so.0 $(TO_LIB)
 	ln -sf libkesvuot.so.0 $(TO_LIB)/libkesvuot.so
 	$(FILL) packaging/kesvuot.pc.in >$(TO_LIB)/pkgconfig/kesvuot.pc
@@ -63,7 +63,7 @@ install-lib: built-lib
 	$(FILL) packaging/kesvuotConfigVersion.cmake.in >$(TO_LIB)/cmake/kesvuot/kesvuotConfigVersion.cmake
 	chmod 644 $(TO_LIB)/pkgconfig/kesvuot.pc $(TO_LIB)/cmake/kesvuot/*
 	install -m 644 bindings/c/kesvuot.h $(TO_INCLUDE)
-	install -m 644 bindings/python/kesvuot.py $(TO_PYTHON)
+	install -m 644 bindings/python/kesvuot/*.py bindings/python/kesvuot/py.typed $(TO_PYTHON)/kesvuot
 	install -m 644 man/kesvuot.3 $(TO_MAN)/man3
 	for call in $(CALLS); do ln -sf kesvuot.3 $(TO_MAN)/man3/$$call.3 || exit; done
 	install -m 644 docs/RULES.md $(TO_DOC)
@@ -71,8 +71,8 @@ install-lib: built-lib
 uninstall:
 	rm -f $(TO_BIN)/macho-check $(TO_BIN)/macho-strict
 	rm -f $(TO_LIB)/libkesvuot.a $(TO_LIB)/libkesvuot.so.0 $(TO_LIB)/libkesvuot.so $(TO_LIB)/pkgconfig/kesvuot.pc
-	rm -f $(TO_INCLUDE)/kesvuot.h $(TO_PYTHON)/kesvuot.py $(TO_PYTHON)/__pycache__/kesvuot.*.pyc
-	rm -rf $(TO_LIB)/cmake/kesvuot
+	rm -f $(TO_INCLUDE)/kesvuot.h
+	rm -rf $(TO_LIB)/cmake/kesvuot $(TO_PYTHON)/kesvuot
 	rm -f $(TO_MAN)/man1/macho-check.1 $(TO_MAN)/man1/macho-strict.1 $(TO_MAN)/man3/kesvuot.3 $(TO_DOC)/RULES.md
 	for call in $(CALLS); do rm -f $(TO_MAN)/man3/$$call.3; done
 	rmdir $(TO_DOC) 2>/dev/null || :

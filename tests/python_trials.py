@@ -1,5 +1,5 @@
 #!/usr/bin/env python3
-"""Compares what bindings/python/kesvuot.py gives with what others say. tests/python calls it, and says what of.
+"""Compares what bindings/python gives with what others say. tests/python calls it, and says what of.
 
     tests/python_trials.py ALL_KINDS MIXED [FOLDER..]
 
@@ -53,7 +53,7 @@ class Report:
     def differs(self, name, found, wanted):
         self.shown += 1
         if self.shown <= SHOWN:
-            print(f"{name}:\n  kesvuot.py: {found!r:.300}\n  wanted: {wanted!r:.300}", file=sys.stderr)
+            print(f"{name}:\n  kesvuot: {found!r:.300}\n  wanted: {wanted!r:.300}", file=sys.stderr)
 
     def alike(self, name, of_what, pairs):
         """A case: each of the triples has a name, and two values that are the same."""

@@ -30,20 +30,17 @@ judges files; `--help` shows how. With `--json` each file gives an object with "
 and if it is read also "filetype", "flags", "uuid", "base", "entry", "builds", "libraries", "segments", each with its
 "sections", and in "symbols" how many there are.
 
-The library comes from the folder KESVUOT_LIB_DIR if that is set, otherwise from the folder of this file or from where
-the system finds it. It is loaded by the first call, which raises ImportError where it is not found. The module needs
-CPython 3.8 or later.
+The library comes from the folder KESVUOT_LIB_DIR if that is set, otherwise from the folder of this package or from
+where the system finds it. It is loaded by the first call, which raises ImportError where it is not found. The package
+needs CPython 3.8 or later.
 """
 
 from __future__ import annotations
 
-import argparse
 import ctypes
-import json
 import mmap
 import os
 import struct
-import sys
 from functools import cached_property, lru_cache
 from typing import (
     Any, Callable, Dict, Iterator, List, NamedTuple, Optional, Sequence, Tuple, TypeVar, Union, overload)
@@ -67,6 +64,9 @@ BATCH = 4096
 LAYOUT_ROOM = 1 << 14
 
 CHANGED = "the bytes have changed after the verdict"
+
+ARCHITECTURES = {
+    (0x100_0007, 3): "x86_64", (0x100_0007, 8): "x86_64h", (0x100_000C, 0): "arm64", (0x100_000C, 2): "arm64e"}
 
 
 class Refused(Exception):
@@ -232,18 +232,18 @@ def _library() -> Any:
 def _declare(library: Any) -> None:
     """Gives each call its types, as in kesvuot.h."""
     pointer, size, u32, u64 = ctypes.c_void_p, ctypes.c_size_t, ctypes.c_uint32, ctypes.c_uint64
-    tables = [(kind.call, size, pointer, u64, pointer, size) for kind in (
-        SEGMENTS, SECTIONS, LIBRARIES, BUILDS, COMMANDS, SYMBOLS, INDIRECTS)]
-    for name, result, *arguments in (
-            ("kesvuot_rule", u32, u32, pointer),
-            ("kesvuot_verify", u32, pointer, size, pointer),
-            ("kesvuot_verify_strictly", u32, pointer, size, pointer),
-            ("kesvuot_layout", u32, pointer, size, pointer, size, pointer),
-            ("kesvuot_image", u32, pointer, size, u64, pointer),
-            ("kesvuot_linkedit", u32, pointer, u32, pointer),
-            ("kesvuot_at", u32, pointer, u64, pointer),
-            *tables):
-        call = getattr(library, name)
+    calls: Dict[str, Tuple[Any, List[Any]]] = {
+        "rule": (u32, [u32, pointer]),
+        "verify": (u32, [pointer, size, pointer]),
+        "verify_strictly": (u32, [pointer, size, pointer]),
+        "layout": (u32, [pointer, size, pointer, size, pointer]),
+        "image": (u32, [pointer, size, u64, pointer]),
+        "linkedit": (u32, [pointer, u32, pointer]),
+        "at": (u32, [pointer, u64, pointer])}
+    for table in ("segments", "sections", "libraries", "builds", "commands", "symbols", "indirects"):
+        calls[table] = (size, [pointer, u64, pointer, size])
+    for name, (result, arguments) in calls.items():
+        call = getattr(library, f"kesvuot_{name}")
         call.restype, call.argtypes = result, arguments
 
 
@@ -546,155 +546,3 @@ def _rule_name(rule: int) -> str:
     name = ctypes.create_string_buffer(PART.size)
     _library().kesvuot_rule(rule, name)
     return ctypes.string_at(*PART.unpack(name)).decode("ascii")
-
-
-# The layout for JSON
-
-ARCHITECTURES = {
-    (0x100_0007, 3): "x86_64", (0x100_0007, 8): "x86_64h", (0x100_000C, 0): "arm64", (0x100_000C, 2): "arm64e"}
-
-
-def _plain(name: memoryview) -> str:
-    """A name, with numbers for a quote, a backslash and all that is not printable ASCII."""
-    return "".join(chr(byte) if 0x20 <= byte <= 0x7E and byte not in b'"\\' else f"\\x{byte:02x}" for byte in name)
-
-
-def _row_object(row: Any) -> Dict[str, Any]:
-    """A row without its bytes, and with names as in the layout."""
-    fields = ((field, value) for field, value in row._asdict().items() if field != "bytes")
-    return {field: _plain(value) if isinstance(value, memoryview) else value for field, value in fields}
-
-
-def _slice_object(part: Slice) -> Dict[str, Any]:
-    whole = {"place": part.place, "size": len(part.bytes), "arch": part.arch, "is_read": isinstance(part, Image)}
-    return {**whole, **_image_object(part)} if isinstance(part, Image) else whole
-
-
-def _image_object(image: Image) -> Dict[str, Any]:
-    segments = [{**_row_object(segment), "sections": list(map(_row_object, image.sections_of(segment)))}
-                for segment in image.segments]
-    return {"filetype": image.filetype, "flags": image.flags, "uuid": image.uuid and str(image.uuid).upper(),
-            "base": image.base, "entry": image.entry, "symbols": image.symtab and image.symtab.nsyms,
-            "builds": list(map(_row_object, image.builds)), "segments": segments,
-            "libraries": list(map(_row_object, image.libraries))}
-
-
-# The command
-
-ACCEPTED_STATUS, REFUSED_STATUS, NO_VERDICT_STATUS = range(3)
-Outcome = Union[File, Refused, Exception]
-
-
-def _judge(path: str, strict: bool) -> Outcome:
-    try:
-        return verify(_contents(path), strict)
-    except (Refused, OSError, MemoryError) as error:
-        return error
-
-
-def _contents(path: str) -> bytes:
-    with open(0, "rb", closefd=False) if path == "-" else open(path, "rb") as stream:
-        return stream.read()
-
-
-def _status(outcome: Outcome) -> int:
-    if isinstance(outcome, File):
-        return ACCEPTED_STATUS
-    return REFUSED_STATUS if isinstance(outcome, Refused) else NO_VERDICT_STATUS
-
-
-def _reason(error: Exception) -> str:
-    """Why there is no verdict."""
-    return (isinstance(error, OSError) and error.strerror) or "out of memory"
-
-
-def _shown(path: str) -> str:
-    """A path on one line."""
-    return "".join(letter if letter.isprintable() else ascii(letter)[1:-1] for letter in path)
-
-
-def _line(path: str, outcome: Outcome) -> str:
-    verdict = "accepted" if isinstance(outcome, File) else f"refused: {outcome}"
-    return f"{_shown(path)}: {verdict}"
-
-
-def _text(path: str, outcome: Outcome) -> str:
-    return outcome.layout().rstrip("\n") if isinstance(outcome, File) else f"refused: {outcome}"
-
-
-def _json(path: str, outcome: Outcome) -> str:
-    answer: Dict[str, Any] = {"file": path}
-    if isinstance(outcome, File):
-        answer.update(verdict="accepted", slices=list(map(_slice_object, outcome.slices)))
-    elif isinstance(outcome, Refused):
-        answer.update(verdict="refused", rule=outcome.rule, place=outcome.place)
-    else:
-        answer.update(verdict=None, error=_reason(outcome))
-    return json.dumps(answer)
-
-
-def _words() -> argparse.ArgumentParser:
-    parser = argparse.ArgumentParser(
-        prog="python3 -m kesvuot", description="Judges the layout of Mach-O files, and prints a line for each.",
-        epilog="The status is 0 if all files are accepted, 1 if one is refused, and 2 if one has no verdict.")
-    parser.set_defaults(form=_line)
-    parser.add_argument("--strict", action="store_true", help="judge by the strict profile too")
-    form = parser.add_mutually_exclusive_group()
-    form.add_argument("--json", dest="form", action="store_const", const=_json, help="print an object for each file")
-    form.add_argument("--layout", dest="form", action="store_const", const=_text, help="print what macho-check does")
-    parser.add_argument("files", nargs="+", metavar="FILE", help="a file, or - for standard input")
-    return parser
-
-
-def _say(text: str) -> None:
-    """Writes a line to standard error, if it takes one: the status says the same."""
-    try:
-        if sys.stderr is not None:
-            print(f"kesvuot: {text}", file=sys.stderr, flush=True)
-    except OSError:
-        _discard(2)
-
-
-def _discard(descriptor: int) -> None:
-    """Whatever is not yet written goes nowhere when Python ends, instead of failing again."""
-    os.dup2(os.open(os.devnull, os.O_WRONLY), descriptor)
-
-
-def _report(path: str, words: argparse.Namespace) -> int:
-    """Judges a file, and prints what is asked for."""
-    outcome = _judge(path, words.strict)
-    status = _status(outcome)
-    if status == NO_VERDICT_STATUS:
-        _say(f"{_shown(path)}: {_reason(outcome)}")
-    if words.form is _text and len(words.files) > 1:
-        print(f"{_shown(path)}:")
-    if status != NO_VERDICT_STATUS or words.form is _json:
-        print(words.form(path, outcome))
-    return status
-
-
-def _report_all(words: argparse.Namespace) -> int:
-    if sys.stdout is None:
-        raise OSError("standard output is closed")
-    # A path may have letters that the output cannot show.
-    sys.stdout.reconfigure(errors="backslashreplace")
-    status = max([_report(path, words) for path in words.files])
-    sys.stdout.flush()
-    return status
-
-
-def main(words: Optional[List[str]] = None) -> int:
-    arguments = _words().parse_args(words)
-    try:
-        library_version()
-        return _report_all(arguments)
-    except OSError:
-        _say("write failed")
-        _discard(1)
-    except Exception as error:  # pylint: disable=broad-except # Python would end with 1, which is a refusal
-        _say(str(error) or "out of memory")
-    return NO_VERDICT_STATUS
-
-
-if __name__ == "__main__":
-    sys.exit(main())
