@@ -23,6 +23,7 @@ import sys
 import tempfile
 import threading
 import time
+import tracemalloc
 import weakref
 from pathlib import Path
 from types import SimpleNamespace
@@ -199,9 +200,7 @@ def reads_of_symbols(image):
     for index in range(len(image.symbols)):
         symbol = image.symbols[index]
         place = image.symtab.symoff + 16 * index
-        inside = ""
-        if 0 < symbol.sect <= len(image.sections):
-            inside = " in " + text_of(image.sections[symbol.sect - 1].name)
+        inside = "" if symbol.section is None else " in " + text_of(image.sections[symbol.section].name)
         yield (f"symbol {index} {name_of(symbol)} {symbol.value:#x} at {place:#x} strx {symbol.strx} "
                f"type {symbol.type:#x} sect {symbol.sect} desc {symbol.desc:#x}{inside}")
     groups = {"all": image.symbols, "local": image.local_symbols, "defined": image.defined_symbols,
@@ -215,10 +214,10 @@ def reads_of_symbols(image):
 
 
 def read_of_address(file, image, address):
-    found = image.at(address)
-    if found is None:
+    kind, found = image.at(address)
+    if kind is kesvuot.SourceKind.UNMAPPED:
         return f"address {address:#x} None"
-    if len(found) == 0:
+    if kind is kesvuot.SourceKind.ZERO:
         return f"address {address:#x} Some(Zero)"
     text = f"address {address:#x} Some(File({file.place(found) - image.place}))"
     return text + (shown(found[:4]) if len(found) >= 4 else "")
@@ -261,10 +260,9 @@ def compare_addresses(report):
 def place_text(file, index, address):
     if index >= file.slice_count:
         return "macho-check: no such image"
-    found = file.slices[index].at(address)
-    if found is None:
-        return "unmapped"
-    return f"file {file.place(found) - file.slices[index].place:#x}" if found else "zero"
+    kind, found = file.slices[index].at(address)
+    is_file = kind is kesvuot.SourceKind.FILE
+    return f"file {file.place(found) - file.slices[index].place:#x}" if is_file else kind.value
 
 
 # The views of all accepted files, and what tests/oracle.py reads there
@@ -324,7 +322,8 @@ def wanted_symbols(image):
         name = b""
         if it.n_strx:
             name = string_at(image.data, symtab.stroff + it.n_strx, symtab.stroff + symtab.strsize)
-        yield name, it.n_value, it.n_strx, it.n_desc, it.n_type, it.n_sect
+        has_section = 1 <= it.n_sect <= len(image.sections)
+        yield name, it.n_value, it.n_strx, it.n_desc, it.n_type, it.n_sect, it.n_sect - 1 if has_section else None
 
 
 def wanted_indirects(image):
@@ -350,12 +349,13 @@ def wanted_data(image, cmd):
 
 
 def wanted_at(image, address):
-    """The bytes from an address on."""
+    """The word for what is at an address, and the bytes from there on."""
     for it in image.segments:
         if it.vmaddr <= address < it.vmaddr + it.vmsize:
             past = address - it.vmaddr
-            return image.data[it.fileoff + past:it.fileoff + it.filesize] if past < it.filesize else b""
-    return None
+            part = image.data[it.fileoff + past:it.fileoff + it.filesize] if past < it.filesize else b""
+            return "file" if part else "zero", part
+    return "unmapped", b""
 
 
 def edges(image):
@@ -391,8 +391,8 @@ def compare_image(found, wanted):
         data = found.linkedit(cmd)
         yield f"linkedit {cmd:#x}", None if data is None else data.tobytes(), wanted_data(wanted, cmd)
     for address in edges(wanted):
-        part = found.at(address)
-        yield f"at {address:#x}", None if part is None else part.tobytes(), wanted_at(wanted, address)
+        kind, part = found.at(address)
+        yield f"at {address:#x}", (kind.value, part.tobytes()), wanted_at(wanted, address)
 
 
 def compare_groups(found, wanted):
@@ -551,7 +551,7 @@ def all_parts(file):
         for rows in (image.commands, image.segments, image.sections, image.libraries, image.symbols):
             yield from (value for row in rows for value in row if isinstance(value, memoryview))
         yield from filter(None, (image.linkedit(command.cmd) for command in image.commands))
-        yield from filter(None, (image.at(segment.vmaddr) for segment in image.segments))
+        yield from (image.at(segment.vmaddr).bytes for segment in image.segments)
 
 
 def judge_lives(report, data):
@@ -614,11 +614,86 @@ def judge_exceptions(report, data):
     file.data.release()
     with file.images[0].bytes:
         pass
-    report.case("an image after its views were released", file.images[0].at(0x100000440).tobytes(), data[0x440:0x1000])
+    report.case("an image after its views were released", file.images[0].at(0x100000440).bytes.tobytes(),
+                data[0x440:0x1000])
     report.case("a file whose view was released", repr(file), "<kesvuot.File of 12528 bytes, 1 slices>")
     file = kesvuot.verify(data)
     report.case("the names of a view", (file.images[0].segments[1].name == b"__TEXT", file.images[0].arch,
                                         {file.images[0].segments[1].name: 1}.get(b"__TEXT")), (True, "x86_64", 1))
+
+
+def with_sections(symbols):
+    """An executable of a header, LC_SEGMENT_64 with two empty sections, LC_SYMTAB, and symbols of these types and
+    sections."""
+    place = 32 + 232 + 24
+    words = [0xFEED_FACF, 0x0100_0007, 3, 2, 2, 232 + 24, 0, 0, 0x19, 232, *[0] * 14, 2, 0, *[0] * 40,
+             2, 24, place, len(symbols), 0, 0]
+    rows = b"".join(struct.pack("<IBBHQ", 0, kind, sect, 0, 0) for kind, sect in symbols)
+    return struct.pack(f"<{place // 4}I", *words) + rows
+
+
+def judge_sections_of_symbols(report):
+    """A section that a symbol has is one of the image, whatever the type: N_SECT, N_UNDF, N_ABS, N_STSYM, N_FUN."""
+    wanted = {(0xE, 1): 0, (0xE, 2): 1, (0x0, 0): None, (0x0, 2): 1, (0x0, 3): None, (0x2, 255): None,
+              (0x26, 0): None, (0x26, 2): 1, (0x24, 3): None, (0x24, 200): None}
+    image = kesvuot.verify(with_sections(list(wanted))).images[0]
+    report.case("how many sections there are", len(image.sections), 2)
+    for name, symbols in (("symbols", image.symbols), ("symbols without names", image.symbols_without_names)):
+        report.case(f"the sections of {name}", {(it.type, it.sect): it.section for it in symbols}, wanted)
+
+
+class Number:
+    """A number that is no int, as those of numpy are."""
+
+    def __init__(self, value):
+        self.value = value
+
+    def __index__(self):
+        return self.value
+
+
+def judge_numbers(report, data):
+    """Whatever has __index__ is a number."""
+    image = kesvuot.verify(data).images[0]
+    report.case("an address that is no int", image.at(Number(0x100000440)) == image.at(0x100000440), True)
+    report.case("a cmd that is no int", image.linkedit(Number(0x26)) == image.linkedit(0x26) is not None, True)
+    report.case("an index that is no int", image.segments[Number(1)] == image.segments[1], True)
+    report.case("a slice of such", [text_of(it.name) for it in image.segments[Number(1):Number(3)]],
+                ["__TEXT", "__DATA_CONST"])
+    for name, call in {"an address": image.at, "a cmd": image.linkedit, "an index": image.segments.__getitem__}.items():
+        report.case(f"a float is no number: {name}", raised(TypeError, lambda call=call: call(1.0)), True)
+
+
+def judge_sources(report, data):
+    """What is at an address is not mistaken for its truth."""
+    image = kesvuot.verify(data).images[0]
+    sources = [image.at(address) for address in (0x100000440, 0, 2 ** 63)]
+    report.case("what is at addresses", [source.kind for source in sources],
+                [kesvuot.SourceKind.FILE, kesvuot.SourceKind.ZERO, kesvuot.SourceKind.UNMAPPED])
+    report.case("how many bytes there are", [len(source.bytes) for source in sources], [3008, 0, 0])
+    report.case("none of them is true or false", [raised(TypeError, lambda it=it: bool(it)) for it in sources],
+                [True, True, True])
+    report.case("what is shown of them", list(map(str, sources)), [
+        "<kesvuot.Source file, 3008 bytes>", "<kesvuot.Source zero, 0 bytes>", "<kesvuot.Source unmapped, 0 bytes>"])
+
+
+def judge_texts_of_rows(report, data):
+    """What `print` shows of rows: names as they are, and of other bytes how many there are."""
+    image = kesvuot.verify(data).images[0]
+    report.case("a segment", str(image.segments[1]),
+                "Segment(name=b'__TEXT', bytes=<4096 bytes>, vmaddr=4294967296, vmsize=4096, fileoff=0, filesize=4096, "
+                "first_section=0, section_count=1, maxprot=5, initprot=5)")
+    report.case("a section", str(image.sections[0]),
+                "Section(name=b'__text', segment=b'__TEXT', bytes=<27 bytes>, addr=4294968384, size=27, offset=1088, "
+                "align=4, reloff=0, nreloc=0, flags=2147484672, reserved1=0, reserved2=0, zero_fill=False)")
+    report.case("a library", str(image.libraries[0]),
+                "Library(name=b'/usr/lib/libdemo.dylib', cmd=12, current=66051, compatible=66048)")
+    report.case("a build", str(image.builds[0]), "Build(platform=1, minos=720896, sdk=720896)")
+    command = next(command for command in image.commands if command.cmd == LC_LOAD_DYLINKER)
+    report.case("a command", str(command),
+                f"Command(bytes=<{len(command.bytes)} bytes>, name=b'/usr/lib/dyld', place={command.place}, cmd=14)")
+    report.case("a symbol", str(next(iter(image.symbols))).split(", value=")[0] + ")",
+                f"Symbol(name={image.symbols[0].name.tobytes()!r})")
 
 
 def made(name):
@@ -630,7 +705,8 @@ def made(name):
 
 def judge_tables(report):
     """A table longer than two batches, by its indexes and by its slices."""
-    count = 2 * kesvuot.BATCH + 5
+    batch = kesvuot._rows.BATCH  # pylint: disable=protected-access
+    count = 2 * batch + 5
     data = made(f"symbols-{count}")
     table = kesvuot.verify(data).images[0].symbols
     rows = list(wanted_symbols(oracle.File(data).slices[0]))
@@ -642,7 +718,6 @@ def judge_tables(report):
     report.case("a long table: its rows differ", len(set(rows)) > count // 2, True)
     report.case("a long table in a loop", read(table) == rows, True)
     report.case("a long table by indexes", read(table[index] for index in range(count)) == rows, True)
-    batch = kesvuot.BATCH
     for key in (slice(3, 5), slice(batch - 1, batch + 1), slice(1, 2 * batch + 2), slice(None, None, 1000),
                 slice(None, None, -999), slice(-3, None), slice(5, 5), slice(7, 3), slice(count, count + 9)):
         report.case(f"a long table: {key}", read(table[key]) == rows[key], True)
@@ -651,6 +726,28 @@ def judge_tables(report):
     report.case("a long table backwards", read(reversed(table)) == rows[::-1], True)
     for index in (count, -count - 1, 2 ** 64):
         report.case(f"no row {index}", raised(IndexError, lambda index=index: table[index]), True)
+
+
+def judge_walked_tables(report):
+    """A table for which the library walks over the commands, and what it takes: a row in the form of the library has 48
+    bytes, and as an object ten times as many."""
+    count = 20_000
+    data = made(f"commands-{count}-accepted")
+    image = kesvuot.verify(data).images[0]
+    rows = list(wanted_commands(oracle.File(data).slices[0]))
+    tracemalloc.start()
+    table = image.commands
+    report.case("a walked table: its length", len(table), len(rows))
+    report.case("it takes nothing before a row is asked for", tracemalloc.get_traced_memory()[1] < 10_000, True)
+    report.case("a walked table: its ends", (as_bytes(table[0]), as_bytes(table[-1])), (rows[0], rows[-1]))
+    report.case("a walked table in a loop", sum(1 for _ in table), len(rows))
+    report.case("it takes 48 bytes for each row", tracemalloc.get_traced_memory()[1] < 48 * len(rows) + 100_000, True)
+    tracemalloc.stop()
+    report.case("a walked table: its rows", list(map(as_bytes, table)) == rows, True)
+    report.case("a walked table by indexes", [as_bytes(table[index]) for index in range(len(rows))] == rows, True)
+    report.case("a walked table backwards", list(map(as_bytes, reversed(table))) == rows[::-1], True)
+    report.case("a part of a walked table", list(map(as_bytes, table[5:9000:7])) == rows[5:9000:7], True)
+    report.case("a table is read once", image.commands is table, True)
 
 
 def judge_threads(report):
@@ -747,7 +844,12 @@ def main(words):
     judge_buffers(report, program, layout.decode())
     judge_lives(report, program)
     judge_exceptions(report, program)
+    judge_sections_of_symbols(report)
+    judge_numbers(report, program)
+    judge_sources(report, program)
+    judge_texts_of_rows(report, program)
     judge_tables(report)
+    judge_walked_tables(report)
     judge_threads(report)
     judge_changes(report, program)
     judge_memory(report)

@@ -1,0 +1,308 @@
+"""Files that were judged: their slices and images."""
+
+from __future__ import annotations
+
+import ctypes
+import enum
+import operator
+from functools import cached_property
+from typing import Any, NamedTuple, Optional, SupportsIndex, Tuple
+from uuid import UUID
+
+from . import _library, _rows
+from ._library import CHANGED, IMAGE, PART, VERDICT, Bytes, Data, address_of, load
+from ._rows import Build, Command, Library, Reader, Section, Segment, Symbol, Table, WalkedReader
+
+# Room for the layout of most files. A longer one takes a second call.
+LAYOUT_ROOM = 1 << 14
+
+ARCHITECTURES = {
+    (0x100_0007, 3): "x86_64", (0x100_0007, 8): "x86_64h", (0x100_000C, 0): "arm64", (0x100_000C, 2): "arm64e"}
+
+
+class Refused(Exception):
+    """The file breaks a rule. `rule` is the name of the first broken one, and `place` the offset in the file where it
+    is broken. docs/RULES.md explains each rule under its name."""
+
+    def __init__(self, rule: str, place: int) -> None:
+        super().__init__(rule, place)
+        self.rule = rule
+        self.place = place
+
+    def __str__(self) -> str:
+        return f"{self.rule} at {self.place:#x}"
+
+
+class Symtab(NamedTuple):
+    """LC_SYMTAB."""
+
+    symoff: int
+    nsyms: int
+    stroff: int
+    strsize: int
+
+
+class Dysymtab(NamedTuple):
+    """LC_DYSYMTAB: the groups of symbols, and the table of indirect entries."""
+
+    ilocalsym: int
+    nlocalsym: int
+    iextdefsym: int
+    nextdefsym: int
+    iundefsym: int
+    nundefsym: int
+    indirectsymoff: int
+    nindirectsyms: int
+
+
+class SourceKind(enum.Enum):
+    """What is at an address, in the words of `macho-check where`."""
+
+    FILE = "file"
+    ZERO = "zero"
+    UNMAPPED = "unmapped"
+
+
+class Source(NamedTuple):
+    """What is at an address, by its `kind`. FILE: `bytes` are those from the address to the end of what its segment has
+    in the file. ZERO: a segment has the address, but the file has no byte for it, and a loader puts a zero there.
+    UNMAPPED: no segment has the address. `bytes` are empty except for FILE.
+
+    A source is neither true nor false: compare its kind."""
+
+    kind: SourceKind
+    bytes: memoryview
+
+    def __bool__(self) -> bool:
+        raise TypeError("a Source is neither true nor false: compare its kind")
+
+    def __repr__(self) -> str:
+        return f"<kesvuot.Source {self.kind.value}, {len(self.bytes)} bytes>"
+
+
+class Slice:
+    """A slice of a file, which begins at `place`. A 64-bit little-endian slice is an Image. What is in any other was
+    not judged, and it has no more than this. `cpusubtype` is without the capability byte."""
+
+    def __init__(self, data: Bytes, index: int, fields: Tuple[Any, ...]) -> None:
+        self.index = index
+        self.bytes = data.part(*fields[:2])
+        self.place: int = fields[2]
+        self.cputype: int
+        self.cpusubtype: int
+        self.cputype, self.cpusubtype = fields[16:18]
+
+    def __repr__(self) -> str:
+        return f"<kesvuot.{type(self).__name__} {self.index}, {self.arch}, {len(self.bytes)} bytes>"
+
+    @property
+    def arch(self) -> str:
+        """The name of the architecture, or its two numbers."""
+        other = f"{self.cputype:#x}/{self.cpusubtype:#x}"
+        return ARCHITECTURES.get((self.cputype, self.cpusubtype), other)
+
+
+class Image(Slice):
+    """A 64-bit image: the whole file, or a slice of it. Offsets count from its start, and addresses are those before
+    any slide. What the image does not have is None.
+
+    Each table is read when a row of it is first asked for. Symbols and indirect entries are found by their index. Any
+    other table is read in one walk over the load commands, and kept in the form of the library."""
+
+    def __init__(self, data: Bytes, index: int, written: Any, fields: Tuple[Any, ...]) -> None:
+        super().__init__(data, index, fields)
+        self._data = data
+        self._image = written
+        self._counts = fields[11:16]
+        has = fields[20]
+        self.filetype: int
+        self.flags: int
+        self.filetype, self.flags = fields[18:20]
+        self.base: Optional[int] = fields[3] if has & _library.HAS_BASE else None
+        self.entry: Optional[int] = fields[4] if has & _library.HAS_ENTRY else None
+        self.uuid = UUID(bytes=fields[27]) if has & _library.HAS_UUID else None
+        self.symtab = Symtab(*fields[5:9]) if has & _library.HAS_SYMTAB else None
+        self.dysymtab = Dysymtab(*fields[21:27], *fields[9:11]) if has & _library.HAS_DYSYMTAB else None
+
+    def _walked(self, kind: _rows.Kind, count: int) -> Table[Any]:
+        return Table(WalkedReader(self._data, self._image, kind, count).read, range(count))
+
+    @cached_property
+    def commands(self) -> Table[Command]:
+        """All load commands, in their order."""
+        return self._walked(_rows.COMMANDS, self._counts[0])
+
+    @cached_property
+    def segments(self) -> Table[Segment]:
+        """The segments, in the order of their commands."""
+        return self._walked(_rows.SEGMENTS, self._counts[1])
+
+    @cached_property
+    def sections(self) -> Table[Section]:
+        """The sections of all segments. `section` of a symbol is an index of it."""
+        return self._walked(_rows.SECTIONS, self._counts[2])
+
+    def sections_of(self, segment: Segment) -> Table[Section]:
+        """The sections of one of the segments."""
+        return self.sections[segment.first_section:segment.first_section + segment.section_count]
+
+    @cached_property
+    def libraries(self) -> Table[Library]:
+        """The libraries that it loads, and LC_ID_DYLIB, in the order of their commands."""
+        return self._walked(_rows.LIBRARIES, self._counts[3])
+
+    @cached_property
+    def builds(self) -> Table[Build]:
+        """Each LC_BUILD_VERSION."""
+        return self._walked(_rows.BUILDS, self._counts[4])
+
+    @cached_property
+    def symbols(self) -> Table[Symbol]:
+        """The symbols of LC_SYMTAB, none without it. In a hostile file many symbols can share a long name. To read all
+        names then takes time in proportion to nsyms * strsize."""
+        return self._symbols_of(self._image)
+
+    @cached_property
+    def symbols_without_names(self) -> Table[Symbol]:
+        """All symbols with empty names, without a search for the end of each name. `symbols[index]` is a symbol with
+        its name."""
+        fields = IMAGE.unpack(self._image)
+        # No strings, so no name.
+        nameless = ctypes.create_string_buffer(IMAGE.pack(*fields[:8], 0, *fields[9:]), IMAGE.size)
+        return self._symbols_of(nameless)
+
+    def _symbols_of(self, image: Any) -> Table[Symbol]:
+        count = self.symtab.nsyms if self.symtab else 0
+        return Table(Reader(self._data, image, _rows.symbols_of(self._counts[2])).read, range(count))
+
+    @cached_property
+    def local_symbols(self) -> Table[Symbol]:
+        """The group of local symbols of LC_DYSYMTAB, none without it."""
+        return self._group(0)
+
+    @cached_property
+    def defined_symbols(self) -> Table[Symbol]:
+        """The group of symbols that the image defines for others."""
+        return self._group(2)
+
+    @cached_property
+    def undefined_symbols(self) -> Table[Symbol]:
+        """The group of symbols that other images define."""
+        return self._group(4)
+
+    def _group(self, at: int) -> Table[Symbol]:
+        first, count = self.dysymtab[at:at + 2] if self.dysymtab else (0, 0)
+        return self.symbols[first:first + count]
+
+    @cached_property
+    def indirects(self) -> Table[int]:
+        """The indirect entries of LC_DYSYMTAB: the index of a symbol, or INDIRECT_SYMBOL_LOCAL (0x80000000),
+        INDIRECT_SYMBOL_ABS (0x40000000) or both."""
+        count = self.dysymtab.nindirectsyms if self.dysymtab else 0
+        return Table(Reader(self._data, self._image, _rows.INDIRECTS).read, range(count))
+
+    def linkedit(self, cmd: SupportsIndex) -> Optional[memoryview]:
+        """The data of the first linkedit_data_command with this `cmd`, such as LC_CODE_SIGNATURE (0x1d). None if there
+        is no such command, or RULES.md does not list `cmd` as a linkedit_data_command (for example LC_ATOM_INFO, 0x36).
+        Each call rescans the load commands."""
+        number = operator.index(cmd)
+        data = ctypes.create_string_buffer(PART.size)
+        if not 0 <= number < 1 << 32 or load().kesvuot_linkedit(self._image, number, data) != _library.OK:
+            return None
+        return self._data.part(*PART.unpack(data))
+
+    def at(self, address: SupportsIndex) -> Source:
+        """What is at an address. Each call rescans the load commands: for many addresses, look them up in
+        `segments`."""
+        number = operator.index(address)
+        found = ctypes.create_string_buffer(PART.size)
+        status = _library.NONE
+        if 0 <= number < 1 << 64:
+            status = load().kesvuot_at(self._image, number, found)
+        kinds = {_library.OK: SourceKind.FILE, _library.ZERO: SourceKind.ZERO}
+        return Source(kinds.get(status, SourceKind.UNMAPPED), self._data.part(*PART.unpack(found)))
+
+
+class File:
+    """A file that was accepted, as `verify` gives it. `data` is a read-only view of its bytes."""
+
+    def __init__(self, data: Bytes, slice_count: int) -> None:
+        # A view of its own: the images point into the bytes even where a caller has released it.
+        self.data = data.view[:]
+        self.slice_count = slice_count
+        self._data = data
+
+    def __repr__(self) -> str:
+        return f"<kesvuot.File of {len(self._data)} bytes, {self.slice_count} slices>"
+
+    @cached_property
+    def slices(self) -> Tuple[Slice, ...]:
+        """The slices, in the order of the universal table. Any other file is one slice."""
+        return tuple(map(self._slice, range(self.slice_count)))
+
+    @cached_property
+    def images(self) -> Tuple[Image, ...]:
+        """The slices that are 64-bit images. There is at least one."""
+        return tuple(part for part in self.slices if isinstance(part, Image))
+
+    def place(self, part: memoryview) -> int:
+        """Where a part of this file, such as a name, begins in it. An empty part begins nowhere."""
+        place = address_of(part) - self._data.address
+        if not part.nbytes or not 0 <= place <= len(self._data) - part.nbytes:
+            raise ValueError("these bytes are empty, or not of this file")
+        return place
+
+    def layout(self) -> str:
+        """The text that `macho-check` prints of the file. Each call judges the file anew. MemoryError means that memory
+        ran out."""
+        text, needed = ctypes.create_string_buffer(LAYOUT_ROOM), ctypes.c_size_t()
+        self._write_layout(text, needed)
+        while needed.value > len(text):
+            text = ctypes.create_string_buffer(needed.value)
+            self._write_layout(text, needed)
+        return ctypes.string_at(text, needed.value).decode("ascii")
+
+    def _write_layout(self, text: Any, needed: ctypes.c_size_t) -> None:
+        """Writes as much of the layout as there is room for, and how long it is."""
+        status = load().kesvuot_layout(self._data.address, len(self._data), text, len(text), ctypes.byref(needed))
+        if status == _library.NO_MEMORY:
+            raise MemoryError("no memory for the layout")
+        if status != _library.OK:
+            raise RuntimeError(CHANGED)
+
+    def _slice(self, index: int) -> Slice:
+        image = ctypes.create_string_buffer(IMAGE.size)
+        status = load().kesvuot_image(self._data.address, len(self._data), index, image)
+        fields = IMAGE.unpack(image)
+        if status == _library.OK:
+            return Image(self._data, index, image, fields)
+        if status == _library.UNREAD:
+            return Slice(self._data, index, fields)
+        raise RuntimeError(CHANGED)
+
+
+def library_version() -> Tuple[int, int, int]:
+    """The version of the library. Raises ImportError if it cannot be loaded."""
+    version = load().kesvuot_version()
+    return version >> 16, version >> 8 & 0xFF, version & 0xFF
+
+
+def verify(data: Data, strict: bool = False) -> File:
+    """Judges a file by the rules of docs/RULES.md, and if `strict` by those of the strict profile too. Raises Refused
+    if it breaks one. MemoryError means that there is no verdict."""
+    file = Bytes(data)
+    verdict = ctypes.create_string_buffer(VERDICT.size)
+    call = load().kesvuot_verify_strictly if strict else load().kesvuot_verify
+    status = call(file.address, len(file.view), verdict)
+    place, slices, rule = VERDICT.unpack(verdict)
+    if status == _library.REFUSED:
+        raise Refused(_rule_name(rule), place)
+    if status != _library.OK:
+        raise MemoryError("no memory to judge the file")
+    return File(file, slices)
+
+
+def _rule_name(rule: int) -> str:
+    name = ctypes.create_string_buffer(PART.size)
+    load().kesvuot_rule(rule, name)
+    return ctypes.string_at(*PART.unpack(name)).decode("ascii")

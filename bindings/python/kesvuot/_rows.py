@@ -1,0 +1,261 @@
+"""The rows of the tables of an image. Fields are named and numbered as in <mach-o/loader.h> and <mach-o/nlist.h>."""
+
+from __future__ import annotations
+
+import ctypes
+from itertools import chain
+from struct import Struct
+from typing import (
+    Any, Callable, Iterable, Iterator, NamedTuple, Optional, Sequence, SupportsIndex, Tuple, TypeVar, Union, overload)
+
+from ._library import CHANGED, Bytes, load
+
+Row = TypeVar("Row")
+Fields = Iterable[Tuple[Any, ...]]
+
+# How many rows a loop asks the library for at once.
+BATCH = 1024
+
+
+def _text(row: Any) -> str:
+    """A row as `print` shows it: a name as it is, and of other bytes how many there are."""
+    def shown(field: str, value: Any) -> str:
+        if not isinstance(value, memoryview):
+            return repr(value)
+        return f"<{len(value)} bytes>" if field == "bytes" else repr(value.tobytes())
+
+    fields = ", ".join(f"{field}={shown(field, value)}" for field, value in zip(row._fields, row))
+    return f"{type(row).__name__}({fields})"
+
+
+class Segment(NamedTuple):
+    """An LC_SEGMENT_64. `bytes` are all `filesize` bytes from `fileoff` on."""
+
+    name: memoryview
+    bytes: memoryview
+    vmaddr: int
+    vmsize: int
+    fileoff: int
+    filesize: int
+    first_section: int
+    section_count: int
+    maxprot: int
+    initprot: int
+
+    def __repr__(self) -> str:
+        return _text(self)
+
+
+class Section(NamedTuple):
+    """A section_64. `bytes` are all `size` bytes from `offset` on, and none if it is `zero_fill`. `segment` is the name
+    of its segment."""
+
+    name: memoryview
+    segment: memoryview
+    bytes: memoryview
+    addr: int
+    size: int
+    offset: int
+    align: int
+    reloff: int
+    nreloc: int
+    flags: int
+    reserved1: int
+    reserved2: int
+    zero_fill: bool
+
+    def __repr__(self) -> str:
+        return _text(self)
+
+
+class Library(NamedTuple):
+    """A dylib_command: LC_ID_DYLIB, the name of the image itself, or a library that it loads."""
+
+    name: memoryview
+    cmd: int
+    current: int
+    compatible: int
+
+    def __repr__(self) -> str:
+        return _text(self)
+
+
+class Build(NamedTuple):
+    """An LC_BUILD_VERSION."""
+
+    platform: int
+    minos: int
+    sdk: int
+
+
+class Command(NamedTuple):
+    """A load command, which begins at `place` in the image. `name` is that of a library, or a path, or empty."""
+
+    bytes: memoryview
+    name: memoryview
+    place: int
+    cmd: int
+
+    def __repr__(self) -> str:
+        return _text(self)
+
+
+class Symbol(NamedTuple):
+    """An nlist_64. `name` is empty where `strx` is 0.
+
+    `section` is the index in `Image.sections` of the section with the number `sect`, or None if there is none. Do not
+    subtract 1 from `sect`: it is 0 (NO_SECT) if the symbol is in no section, and may be past the last section, such as
+    in a debugging entry (N_STAB)."""
+
+    name: memoryview
+    value: int
+    strx: int
+    desc: int
+    type: int
+    sect: int
+    section: Optional[int]
+
+    def __repr__(self) -> str:
+        return _text(self)
+
+
+class Kind(NamedTuple):
+    """A kind of rows: the call that writes them, the form of one, and the function that makes rows of the fields."""
+
+    call: str
+    form: Struct
+    make: Callable[[Bytes, Fields], Iterator[Any]]
+
+
+def _segments(data: Bytes, rows: Fields) -> Iterator[Segment]:
+    part = data.part
+    return (Segment(part(name, length), part(at, size), *numbers) for name, length, at, size, *numbers in rows)
+
+
+def _sections(data: Bytes, rows: Fields) -> Iterator[Section]:
+    part = data.part
+    return (Section(part(name, length), part(segment, segment_length), part(at, size), *numbers)
+            for name, length, segment, segment_length, at, size, *numbers in rows)
+
+
+def _libraries(data: Bytes, rows: Fields) -> Iterator[Library]:
+    part = data.part
+    return (Library(part(name, length), *numbers) for name, length, *numbers in rows)
+
+
+def _builds(_data: Bytes, rows: Fields) -> Iterator[Build]:
+    return map(Build._make, rows)
+
+
+def _commands(data: Bytes, rows: Fields) -> Iterator[Command]:
+    part = data.part
+    return (Command(part(at, size), part(name, length), place, cmd) for at, size, name, length, place, cmd in rows)
+
+
+def _indirects(_data: Bytes, rows: Fields) -> Iterator[int]:
+    return (value for value, in rows)
+
+
+# In the forms of kesvuot.h, PN is a pointer and a length, x is reserved, and ?3x is a number that is 0 or 1.
+SEGMENTS = Kind("kesvuot_segments", Struct("@PNPN4Q4I"), _segments)
+SECTIONS = Kind("kesvuot_sections", Struct("@PNPNPN2Q7I?3x"), _sections)
+LIBRARIES = Kind("kesvuot_libraries", Struct("@PN3I4x"), _libraries)
+BUILDS = Kind("kesvuot_builds", Struct("@3I4x"), _builds)
+COMMANDS = Kind("kesvuot_commands", Struct("@PNPNQI4x"), _commands)
+INDIRECTS = Kind("kesvuot_indirects", Struct("@I"), _indirects)
+
+
+def symbols_of(section_count: int) -> Kind:
+    """The symbols of an image of so many sections."""
+    numbered = range(min(section_count, 255))
+    sections = [None, *numbered, *[None] * (255 - len(numbered))]
+
+    def make(data: Bytes, rows: Fields) -> Iterator[Symbol]:
+        # There may be millions: nothing is called for a row but what makes its objects.
+        view, base, new = data.view, data.address, tuple.__new__
+        return (new(Symbol, (view[at - base:at - base + length] if length else view[:0],
+                             value, strx, desc, kind, sect, sections[sect]))
+                for at, length, value, strx, desc, kind, sect in rows)
+
+    return Kind("kesvuot_symbols", Struct("@PNQIHBB"), make)
+
+
+class Reader:
+    """Reads rows of a table from the library, which finds each by its index."""
+
+    def __init__(self, data: Bytes, image: Any, kind: Kind) -> None:
+        self._data = data
+        self._image = image
+        self._kind = kind
+
+    def _write(self, first: int, count: int) -> memoryview:
+        """Rows as the library writes them, from an index on. There are fewer if the bytes have changed."""
+        size = self._kind.form.size
+        rows = ctypes.create_string_buffer(count * size)
+        written = getattr(load(), self._kind.call)(self._image, first, rows, count)
+        return memoryview(rows).cast("B")[:written * size]
+
+    def _make(self, rows: memoryview) -> Iterator[Any]:
+        return self._kind.make(self._data, self._kind.form.iter_unpack(rows))
+
+    def read(self, first: int, count: int) -> Iterator[Any]:
+        """Rows from an index on. Each is made when it is asked for."""
+        return self._make(self._write(first, count))
+
+
+class WalkedReader(Reader):
+    """Reads a table for which the library walks over the load commands: all rows in one walk, when one is first asked
+    for. They are kept as the library writes them, in 16 to 96 bytes each."""
+
+    def __init__(self, data: Bytes, image: Any, kind: Kind, count: int) -> None:
+        super().__init__(data, image, kind)
+        self._count = count
+        self._rows: Optional[memoryview] = None
+
+    def read(self, first: int, count: int) -> Iterator[Any]:
+        if self._rows is None:
+            self._rows = self._write(0, self._count)
+        size = self._kind.form.size
+        return self._make(self._rows[first * size:(first + count) * size])
+
+
+class Table(Sequence[Row]):
+    """The rows of a table that may be long. It makes a row when it is asked for, and keeps none. A slice of it is a
+    table too."""
+
+    def __init__(self, read: Callable[[int, int], Iterator[Row]], indices: range) -> None:
+        self._read = read
+        self._indices = indices
+
+    def __repr__(self) -> str:
+        return f"<kesvuot.Table of {len(self)} rows>"
+
+    def __len__(self) -> int:
+        return len(self._indices)
+
+    @overload
+    def __getitem__(self, key: SupportsIndex) -> Row: ...
+
+    @overload
+    def __getitem__(self, key: slice) -> Table[Row]: ...
+
+    def __getitem__(self, key: Union[SupportsIndex, slice]) -> Union[Row, Table[Row]]:
+        if isinstance(key, slice):
+            return Table(self._read, self._indices[key])
+        for row in self._read(self._indices[key], 1):
+            return row
+        raise IndexError(CHANGED)
+
+    def __iter__(self) -> Iterator[Row]:
+        return chain.from_iterable(self._batches())
+
+    def __reversed__(self) -> Iterator[Row]:
+        return iter(self[::-1])
+
+    def _batches(self) -> Iterator[Iterator[Row]]:
+        step = self._indices.step
+        size = BATCH if step in (1, -1) else 1
+        for first in range(0, len(self), size):
+            some = self._indices[first:first + size]
+            rows = self._read(min(some[0], some[-1]), len(some))
+            yield rows if step == 1 else reversed(list(rows))
