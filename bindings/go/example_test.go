@@ -1,0 +1,38 @@
+package kesvuot_test
+
+import (
+	"fmt"
+	"os"
+
+	"kesvuot"
+)
+
+func ExampleVerify() {
+	bytes, err := os.ReadFile("../../tests/real/program")
+	if err != nil {
+		fmt.Println(err)
+		return
+	}
+	file, err := kesvuot.Verify(bytes)
+	if err != nil {
+		fmt.Println(err)
+		return
+	}
+	for _, image := range file.Images() {
+		for _, segment := range image.Segments() {
+			fmt.Printf("%s has %d bytes\n", segment.Name, len(segment.Bytes))
+		}
+	}
+	// Output:
+	// __PAGEZERO has 0 bytes
+	// __TEXT has 4096 bytes
+	// __DATA_CONST has 4096 bytes
+	// __DATA has 4096 bytes
+	// __LINKEDIT has 240 bytes
+}
+
+func ExampleRefused() {
+	_, err := kesvuot.Verify([]byte("no image"))
+	fmt.Println(err)
+	// Output: refused: magic at 0x0
+}

@@ -1,0 +1,3 @@
+module kesvuot
+
+go 1.18

@@ -1,0 +1,154 @@
+package kesvuot
+
+import "fmt"
+
+// An Image is a 64-bit image of an accepted file. Offsets count from the start of the image, but Place from the start
+// of the file. Addresses are those before any slide.
+//
+// Symbols and indirect entries are found by their index. Each other table is read in one walk over the load commands by
+// each call: keep what it returns.
+type Image struct {
+	// Bytes are those of the image.
+	Bytes []byte
+	// Place is where the image begins in the file.
+	Place uint64
+	// CPUType and CPUSubtype are those of the header, the second without the capability byte (CPU_SUBTYPE_MASK).
+	CPUType, CPUSubtype uint32
+	// FileType and Flags are those of the header.
+	FileType, Flags uint32
+
+	numbers numbers
+}
+
+func newImage(slice Slice, numbers *numbers) *Image {
+	return &Image{
+		Bytes:      slice.Bytes,
+		Place:      slice.Place,
+		CPUType:    slice.CPUType,
+		CPUSubtype: slice.CPUSubtype,
+		FileType:   uint32(numbers.filetype),
+		Flags:      uint32(numbers.flags),
+		numbers:    *numbers,
+	}
+}
+
+func (image *Image) has(part uint32) bool { return uint32(image.numbers.has)&part != 0 }
+
+// A UUID is that of an LC_UUID.
+type UUID [16]byte
+
+// String returns the digits in groups, as in "4C4C4435-5555-3144-A1CE-E5F04E5E6C2C".
+func (uuid UUID) String() string {
+	return fmt.Sprintf("%X-%X-%X-%X-%X", uuid[:4], uuid[4:6], uuid[6:8], uuid[8:10], uuid[10:])
+}
+
+// UUID returns the UUID of LC_UUID, and whether there is one.
+func (image *Image) UUID() (uuid UUID, ok bool) {
+	for index, digits := range image.numbers.uuid {
+		uuid[index] = byte(digits)
+	}
+	return uuid, image.has(hasUUID)
+}
+
+// Base returns the address of the header, and whether a mapped segment has it.
+func (image *Image) Base() (address uint64, ok bool) {
+	return uint64(image.numbers.base), image.has(hasBase)
+}
+
+// Entry returns the address that LC_MAIN names, and whether there is an LC_MAIN.
+func (image *Image) Entry() (address uint64, ok bool) {
+	return uint64(image.numbers.entry), image.has(hasEntry)
+}
+
+// A Symtab is an LC_SYMTAB: where the symbols and their names are.
+type Symtab struct {
+	Symoff, Nsyms, Stroff, Strsize uint64
+}
+
+// Symtab returns the fields of LC_SYMTAB, or nil without one.
+func (image *Image) Symtab() *Symtab {
+	if !image.has(hasSymtab) {
+		return nil
+	}
+	return &Symtab{
+		Symoff:  uint64(image.numbers.symbols),
+		Nsyms:   uint64(image.numbers.symbol_count),
+		Stroff:  uint64(image.numbers.strings),
+		Strsize: uint64(image.numbers.strings_size),
+	}
+}
+
+// A Dysymtab is an LC_DYSYMTAB: the groups of symbols, and where the indirect entries are.
+type Dysymtab struct {
+	Ilocalsym, Nlocalsym, Iextdefsym, Nextdefsym, Iundefsym, Nundefsym uint32
+	Indirectsymoff, Nindirectsyms                                      uint64
+}
+
+// Dysymtab returns the fields of LC_DYSYMTAB, or nil without one.
+func (image *Image) Dysymtab() *Dysymtab {
+	if !image.has(hasDysymtab) {
+		return nil
+	}
+	groups := image.numbers.groups
+	return &Dysymtab{
+		Ilocalsym:      uint32(groups[0]),
+		Nlocalsym:      uint32(groups[1]),
+		Iextdefsym:     uint32(groups[2]),
+		Nextdefsym:     uint32(groups[3]),
+		Iundefsym:      uint32(groups[4]),
+		Nundefsym:      uint32(groups[5]),
+		Indirectsymoff: uint64(image.numbers.indirects),
+		Nindirectsyms:  uint64(image.numbers.indirect_count),
+	}
+}
+
+// A SourceKind says what is at an address.
+type SourceKind int
+
+const (
+	// Unmapped says that no segment has the address.
+	Unmapped SourceKind = iota
+	// Zero says that a segment has the address, but the file has no byte for it: a loader puts a zero there.
+	Zero
+	// FileBytes says that the file has a byte for the address.
+	FileBytes
+)
+
+// String returns the word of `macho-check where`.
+func (kind SourceKind) String() string {
+	switch kind {
+	case FileBytes:
+		return "file"
+	case Zero:
+		return "zero"
+	default:
+		return "unmapped"
+	}
+}
+
+// A Source is what is at an address. Bytes are those from the address to the end of what its segment has in the file,
+// and there are none unless Kind is FileBytes.
+type Source struct {
+	Kind  SourceKind
+	Bytes []byte
+}
+
+// At returns what is at an address. Each call rescans the load commands: for many addresses, look them up in the
+// segments.
+func (image *Image) At(address uint64) Source {
+	return readAt(image, address)
+}
+
+// Linkedit returns the data of the first linkedit_data_command with this cmd, such as LC_CODE_SIGNATURE (0x1d): all
+// datasize bytes from dataoff on. It is not ok if the image has no such command, or RULES.md does not list cmd as a
+// linkedit_data_command (for example LC_ATOM_INFO, 0x36). Each call rescans the load commands.
+func (image *Image) Linkedit(cmd uint32) (data []byte, ok bool) {
+	return readLinkedit(image, cmd)
+}
+
+// PlaceOf returns the offset in the file at which a part of the image begins, such as a name. It is not ok if the bytes
+// are from elsewhere, or there are none.
+func (image *Image) PlaceOf(part []byte) (place uint64, ok bool) {
+	place, ok = placeIn(image.Bytes, part)
+	return image.Place + place, ok
+}

@@ -1,0 +1,111 @@
+// Package kesvuot judges the layout of Mach-O files, and reads the parts of an accepted file.
+//
+//	file, err := kesvuot.Verify(bytes)
+//	if err != nil {
+//		return err // such as "refused: segment-file at 0x198"
+//	}
+//	for _, image := range file.Images() {
+//		for _, segment := range image.Segments() {
+//			fmt.Printf("%s has %d bytes\n", segment.Name, len(segment.Bytes))
+//		}
+//	}
+//
+// The verdict and all parts come from libkesvuot, whose calls are proved. All parts of an accepted file lie in the
+// bytes that were passed: there is no offset or count to test. They are slices of those bytes, and nothing is copied.
+// Numbers that RULES.md lists as not judged, and the fields of commands that it does not list, are whatever the file
+// says. Names and fields are those of <mach-o/loader.h> and <mach-o/nlist.h>. A name contains no zero byte.
+//
+// The bytes must not change while a call runs, or the process may crash: no goroutine may write to them, and a file may
+// be mapped only if nobody else can write to it or truncate it. If they change after the verdict, every call is still
+// safe, but the verdict says nothing about the new bytes. Any number of goroutines may call at once.
+//
+// The package is not published. A module that uses it has in its go.mod
+//
+//	require kesvuot v0.0.0
+//	replace kesvuot => FOLDER
+//
+// with the folder bindings/go. It needs cgo, and finds libkesvuot by pkg-config.
+package kesvuot
+
+import (
+	"errors"
+	"fmt"
+)
+
+// ErrMemory says that memory ran out. There is no verdict, and nothing is claimed about the file.
+var ErrMemory = errors.New("out of memory")
+
+// Refused says that a file breaks a rule.
+type Refused struct {
+	// Rule is the name of the first broken rule, such as "section-file". RULES.md explains each rule under its name.
+	Rule string
+	// Place is the least offset in the file at which the rule is broken.
+	Place uint64
+}
+
+func (refused *Refused) Error() string {
+	return fmt.Sprintf("refused: %s at %#x", refused.Rule, refused.Place)
+}
+
+// Verify judges a file by the rules of the layout. The error is a *Refused, or ErrMemory.
+func Verify(file []byte) (*File, error) {
+	return judge(file, false)
+}
+
+// VerifyStrictly judges a file by the rules of the strict profile too: every nonzero byte is accounted for, and no byte
+// belongs to two elements, such as the headers, a section or a table. RULES.md says what that means. Whatever is
+// accepted here is accepted by Verify. The error is a *Refused, or ErrMemory.
+func VerifyStrictly(file []byte) (*File, error) {
+	return judge(file, true)
+}
+
+// A File was accepted.
+type File struct {
+	bytes      []byte
+	sliceCount int
+}
+
+// Bytes returns the bytes of the file.
+func (file *File) Bytes() []byte { return file.bytes }
+
+// SliceCount returns how many slices the file has: 1 if it is not universal.
+func (file *File) SliceCount() int { return file.sliceCount }
+
+// A Slice is a part of a universal file, or a whole file that is not universal.
+type Slice struct {
+	// Bytes are those of the slice.
+	Bytes []byte
+	// Place is where the slice begins in the file.
+	Place uint64
+	// CPUType and CPUSubtype are those of the image, or of the universal table if the slice is not read. The second is
+	// without the capability byte (CPU_SUBTYPE_MASK).
+	CPUType, CPUSubtype uint32
+	// Image is the image of the slice. It is nil if the slice is of 32 bits or big-endian: what is in it was not judged.
+	Image *Image
+}
+
+// Slice returns the slice with this index, from 0 on, in the order of the universal table. The time does not depend on
+// the number of slices. It panics if there is no such slice.
+func (file *File) Slice(index int) Slice {
+	if index < 0 || index >= file.sliceCount {
+		panic(fmt.Sprintf("kesvuot: slice %d of %d", index, file.sliceCount))
+	}
+	return readSlice(file.bytes, uint64(index))
+}
+
+// Images returns the images of all slices that are read. There is at least one.
+func (file *File) Images() []*Image {
+	var images []*Image
+	for index := 0; index < file.sliceCount; index++ {
+		if image := file.Slice(index).Image; image != nil {
+			images = append(images, image)
+		}
+	}
+	return images
+}
+
+// Layout returns the layout of the file as text, as macho-check prints it. Each call judges the file anew. The error is
+// ErrMemory, or a *Refused if the bytes have changed.
+func (file *File) Layout() (string, error) {
+	return readLayout(file.bytes)
+}

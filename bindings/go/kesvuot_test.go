@@ -1,0 +1,499 @@
+package kesvuot
+
+import (
+	"bytes"
+	"debug/macho"
+	"encoding/binary"
+	"errors"
+	"fmt"
+	"os"
+	"path/filepath"
+	"reflect"
+	"strings"
+	"sync"
+	"testing"
+)
+
+const real = "../../tests/real"
+
+func readReal(t testing.TB, name string) []byte {
+	t.Helper()
+	file, err := os.ReadFile(filepath.Join(real, name))
+	if err != nil {
+		t.Fatal(err)
+	}
+	return file
+}
+
+func verified(t testing.TB, bytes []byte) *File {
+	t.Helper()
+	file, err := Verify(bytes)
+	if err != nil {
+		t.Fatal(err)
+	}
+	return file
+}
+
+// same compares what was found with what is wanted.
+func same(t testing.TB, what string, found, wanted any) {
+	t.Helper()
+	if !reflect.DeepEqual(found, wanted) {
+		t.Errorf("%s: found %v, wanted %v", what, found, wanted)
+	}
+}
+
+func TestVersion(t *testing.T) {
+	header, err := os.ReadFile("../c/kesvuot.h")
+	if err != nil {
+		t.Fatal(err)
+	}
+	major, minor, patch := LibraryVersion()
+	wanted := fmt.Sprintf("#define KESVUOT_VERSION 0x%02x%02x%02x\n", major, minor, patch)
+	if !bytes.Contains(header, []byte(wanted)) {
+		t.Errorf("kesvuot.h does not have %q", wanted)
+	}
+}
+
+func TestRefused(t *testing.T) {
+	_, err := Verify(readReal(t, "program")[:12000])
+	var refused *Refused
+	if !errors.As(err, &refused) {
+		t.Fatalf("found %v", err)
+	}
+	same(t, "a file that was cut", *refused, Refused{"segment-file", 0x198})
+	same(t, "its text", err.Error(), "refused: segment-file at 0x198")
+	for _, empty := range [][]byte{nil, {}} {
+		_, err = Verify(empty)
+		same(t, "no bytes", err, error(&Refused{"magic", 0}))
+	}
+	longer := append(readReal(t, "program"), "more"...)
+	verified(t, longer)
+	_, err = VerifyStrictly(longer)
+	same(t, "bytes after the end, strictly", err, error(&Refused{"stray-byte", 0x30f0}))
+	if _, err = VerifyStrictly(longer[:len(longer)-4]); err != nil {
+		t.Errorf("the program, strictly: %v", err)
+	}
+}
+
+func TestLayout(t *testing.T) {
+	for _, name := range []string{"program", "library"} {
+		layout, err := verified(t, readReal(t, name)).Layout()
+		same(t, name, layout, string(readReal(t, name+".layout")))
+		same(t, name, err, nil)
+	}
+}
+
+func TestLayoutOfChangedBytes(t *testing.T) {
+	file := verified(t, readReal(t, "program"))
+	file.Bytes()[0] = 0
+	layout, err := file.Layout()
+	same(t, "the layout", layout, "")
+	same(t, "the error", err, error(&Refused{"magic", 0}))
+}
+
+// What Go's own reader says of the real files.
+
+func TestParts(t *testing.T) {
+	program := readReal(t, "program")
+	plain, err := macho.NewFile(bytes.NewReader(program))
+	if err != nil {
+		t.Fatal(err)
+	}
+	images := verified(t, program).Images()
+	same(t, "the images of the program", len(images), 1)
+	compare(t, images[0], program, plain)
+
+	library := readReal(t, "library")
+	fat, err := macho.NewFatFile(bytes.NewReader(library))
+	if err != nil {
+		t.Fatal(err)
+	}
+	file := verified(t, library)
+	same(t, "the slices of the library", file.SliceCount(), len(fat.Arches))
+	for index, arch := range fat.Arches {
+		slice := file.Slice(index)
+		same(t, "its place", slice.Place, uint64(arch.Offset))
+		same(t, "its bytes", slice.Bytes, library[arch.Offset:arch.Offset+arch.Size])
+		compare(t, slice.Image, slice.Bytes, arch.File)
+	}
+}
+
+func compare(t *testing.T, image *Image, file []byte, plain *macho.File) {
+	t.Helper()
+	same(t, "the bytes", image.Bytes, file)
+	same(t, "the header", []uint32{image.CPUType, image.CPUSubtype, image.FileType, image.Flags},
+		[]uint32{uint32(plain.Cpu), plain.SubCpu & 0xffffff, uint32(plain.Type), plain.Flags})
+	compareCommands(t, image, plain)
+	compareSegments(t, image, plain)
+	compareSections(t, image, plain)
+	compareSymbols(t, image, plain)
+}
+
+func compareCommands(t *testing.T, image *Image, plain *macho.File) {
+	t.Helper()
+	commands := image.Commands()
+	same(t, "how many commands", len(commands), len(plain.Loads))
+	var imported []string
+	for index, command := range commands {
+		same(t, "the bytes of a command", command.Bytes, plain.Loads[index].Raw())
+		same(t, "its cmd", command.Cmd, binary.LittleEndian.Uint32(command.Bytes))
+		same(t, "its place", image.Bytes[command.Place:][:len(command.Bytes)], command.Bytes)
+	}
+	for _, library := range image.Libraries() {
+		if library.Cmd != 0xd {
+			imported = append(imported, string(library.Name))
+		}
+	}
+	wanted, err := plain.ImportedLibraries()
+	same(t, "the libraries", imported, wanted)
+	same(t, "of them", err, nil)
+}
+
+func compareSegments(t *testing.T, image *Image, plain *macho.File) {
+	t.Helper()
+	var found, wanted []macho.SegmentHeader
+	for _, segment := range image.Segments() {
+		found = append(found, macho.SegmentHeader{
+			Cmd: macho.LoadCmdSegment64, Len: 72 + 80*segment.SectionCount, Name: string(segment.Name),
+			Addr: segment.Vmaddr, Memsz: segment.Vmsize, Offset: segment.Fileoff, Filesz: segment.Filesize,
+			Maxprot: segment.Maxprot, Prot: segment.Initprot, Nsect: segment.SectionCount, Flag: 0,
+		})
+		same(t, "the bytes of a segment", segment.Bytes, image.Bytes[segment.Fileoff:segment.Fileoff+segment.Filesize])
+	}
+	for _, load := range plain.Loads {
+		if segment, ok := load.(*macho.Segment); ok {
+			header := segment.SegmentHeader
+			header.Flag = 0
+			wanted = append(wanted, header)
+		}
+	}
+	same(t, "the segments", found, wanted)
+}
+
+func compareSections(t *testing.T, image *Image, plain *macho.File) {
+	t.Helper()
+	sections := image.Sections()
+	same(t, "how many sections", len(sections), len(plain.Sections))
+	for index, section := range sections {
+		same(t, "a section", macho.SectionHeader{
+			Name: string(section.Name), Seg: string(section.Segment), Addr: section.Addr, Size: section.Size,
+			Offset: section.Offset, Align: section.Align, Reloff: section.Reloff, Nreloc: section.Nreloc, Flags: section.Flags,
+		}, plain.Sections[index].SectionHeader)
+		same(t, "whether it is zero-fill", section.ZeroFill, section.Flags&0xff == 1)
+		if !section.ZeroFill {
+			data, err := plain.Sections[index].Data()
+			same(t, "its bytes", section.Bytes, data)
+			same(t, "of them", err, nil)
+		}
+	}
+}
+
+func collect(symbols *Symbols) []Symbol {
+	found := []Symbol{}
+	for symbols.Next() {
+		found = append(found, symbols.Symbol())
+	}
+	return found
+}
+
+func compareSymbols(t *testing.T, image *Image, plain *macho.File) {
+	t.Helper()
+	symbols := collect(image.Symbols())
+	found := []macho.Symbol{}
+	for index, symbol := range symbols {
+		found = append(found, macho.Symbol{
+			Name: string(symbol.Name), Type: symbol.Type, Sect: symbol.Sect, Desc: symbol.Desc, Value: symbol.Value})
+		again, ok := image.Symbol(uint64(index))
+		same(t, "a symbol by its index", again, symbol)
+		same(t, "of it", ok, true)
+	}
+	same(t, "the symbols", found, plain.Symtab.Syms)
+	dysymtab := plain.Dysymtab
+	same(t, "the indirect entries",
+		append([]uint32{}, image.Indirects()...), append([]uint32{}, dysymtab.IndirectSyms...))
+	group := func(first, count uint32) []Symbol { return symbols[first:][:count] }
+	same(t, "local symbols", collect(image.LocalSymbols()), group(dysymtab.Ilocalsym, dysymtab.Nlocalsym))
+	same(t, "defined symbols", collect(image.DefinedSymbols()), group(dysymtab.Iextdefsym, dysymtab.Nextdefsym))
+	same(t, "undefined symbols", collect(image.UndefinedSymbols()), group(dysymtab.Iundefsym, dysymtab.Nundefsym))
+	for index, symbol := range collect(image.SymbolsWithoutNames()) {
+		same(t, "a symbol without its name", len(symbol.Name), 0)
+		symbol.Name = symbols[index].Name
+		same(t, "a symbol without its name", symbol, symbols[index])
+	}
+}
+
+// The header, by the texts beside the real program.
+
+func TestHeader(t *testing.T) {
+	image := verified(t, readReal(t, "program")).Images()[0]
+	uuid, ok := image.UUID()
+	same(t, "the UUID", fmt.Sprint(uuid, ok), "4C4C4435-5555-3144-A1CE-E5F04E5E6C2C true")
+	base, ok := image.Base()
+	same(t, "the base", fmt.Sprintf("%#x %v", base, ok), "0x100000000 true")
+	entry, ok := image.Entry()
+	same(t, "the entry", fmt.Sprintf("%#x %v", entry, ok), "0x100000440 true")
+	same(t, "the builds", image.Builds(), []Build{{1, 11 << 16, 11 << 16}})
+	same(t, "the libraries", image.Libraries(), []Library{{[]byte("/usr/lib/libdemo.dylib"), 0xc, 0x10203, 0x10200}})
+	same(t, "how many symbols", image.Symtab().Nsyms, uint64(5))
+}
+
+func TestAddresses(t *testing.T) {
+	file := readReal(t, "program")
+	image := verified(t, file).Images()[0]
+	for _, wanted := range []struct {
+		address uint64
+		kind    SourceKind
+		bytes   []byte
+	}{
+		{0x100000440, FileBytes, file[0x440:0x1000]},
+		{0x100000fff, FileBytes, file[0xfff:0x1000]},
+		{0x100002010, FileBytes, file[0x2010:0x3000]},
+		{0, Zero, nil},
+		{0xffffffff, Zero, nil},
+		{0x1000030f0, Unmapped, nil},
+		{1<<64 - 1, Unmapped, nil},
+	} {
+		same(t, fmt.Sprintf("%#x", wanted.address), image.At(wanted.address), Source{wanted.kind, wanted.bytes})
+	}
+	same(t, "the words", fmt.Sprint(FileBytes, Zero, Unmapped), "file zero unmapped")
+}
+
+func TestPlaces(t *testing.T) {
+	library := readReal(t, "library")
+	image := verified(t, library).Slice(1).Image
+	for _, segment := range image.Segments() {
+		place, ok := image.PlaceOf(segment.Name)
+		same(t, "the place of a name", library[place:][:len(segment.Name)], segment.Name)
+		same(t, "of it", ok, true)
+	}
+	place, ok := image.PlaceOf(image.Bytes[len(image.Bytes)-1:])
+	same(t, "the last byte", fmt.Sprint(place, ok), fmt.Sprint(image.Place+uint64(len(image.Bytes))-1, true))
+	for _, other := range [][]byte{nil, library[:1], library[image.Place-1:][:2], []byte("__TEXT"), image.Bytes[1:1]} {
+		_, ok = image.PlaceOf(other)
+		same(t, "other bytes", ok, false)
+	}
+}
+
+func TestLinkedit(t *testing.T) {
+	image := verified(t, readReal(t, "program")).Images()[0]
+	for _, command := range image.Commands() {
+		data, ok := image.Linkedit(command.Cmd)
+		switch command.Cmd {
+		case 0x1d, 0x26, 0x29, 0x80000033, 0x80000034:
+			place := binary.LittleEndian.Uint32(command.Bytes[8:])
+			size := binary.LittleEndian.Uint32(command.Bytes[12:])
+			same(t, "the data of a command", append([]byte{}, data...), append([]byte{}, image.Bytes[place:][:size]...))
+			same(t, "of it", ok, true)
+		default:
+			same(t, fmt.Sprintf("no data of %#x", command.Cmd), ok, false)
+		}
+	}
+}
+
+// words returns the bytes of 32-bit numbers.
+func words(numbers ...uint32) []byte {
+	var file bytes.Buffer
+	_ = binary.Write(&file, binary.LittleEndian, numbers)
+	return file.Bytes()
+}
+
+// An executable of LC_SEGMENT_64 with two empty sections, LC_SYMTAB, and symbols of these types and sections.
+func withSections(symbols ...[2]uint8) []byte {
+	file := words(0xfeedfacf, 0x01000007, 3, 2, 2, 232+24, 0, 0, 0x19, 232)
+	file = append(file, words(append(make([]uint32, 14), 2, 0)...)...)
+	file = append(file, make([]byte, 160)...)
+	file = append(file, words(2, 24, uint32(len(file))+24, uint32(len(symbols)), 0, 0)...)
+	for _, symbol := range symbols {
+		file = append(file, 0, 0, 0, 0, symbol[0], symbol[1])
+		file = append(file, make([]byte, 10)...)
+	}
+	return file
+}
+
+func TestSectionsOfSymbols(t *testing.T) {
+	// Types of <mach-o/nlist.h> and <mach-o/stab.h>.
+	const nUndf, nAbs, nSect, nFun, nStsym = 0x0, 0x2, 0xe, 0x24, 0x26
+	symbols := [][2]uint8{{nSect, 1}, {nSect, 2}, {nUndf, 0}, {nUndf, 2}, {nUndf, 3}, {nAbs, 255}, {nStsym, 0},
+		{nStsym, 2}, {nFun, 3}, {nFun, 200}}
+	wanted := []int{0, 1, -1, 1, -1, -1, -1, 1, -1, -1}
+	image := verified(t, withSections(symbols...)).Images()[0]
+	same(t, "how many sections", len(image.Sections()), 2)
+	var found []int
+	for index, symbol := range collect(image.Symbols()) {
+		same(t, "a symbol", [2]uint8{symbol.Type, symbol.Sect}, symbols[index])
+		found = append(found, symbol.Section)
+	}
+	same(t, "the sections", found, wanted)
+}
+
+func TestBatches(t *testing.T) {
+	for _, count := range []int{0, 1, batch - 1, batch, batch + 1, 3*batch + 5} {
+		var symbols [][2]uint8
+		for index := 0; index < count; index++ {
+			symbols = append(symbols, [2]uint8{0, uint8(index)})
+		}
+		image := verified(t, withSections(symbols...)).Images()[0]
+		left := image.Symbols()
+		for index := 0; index < count; index++ {
+			same(t, "how many are left", left.Len(), count-index)
+			same(t, "whether there is another", left.Next(), true)
+			same(t, "it", left.Symbol().Sect, uint8(index))
+		}
+		same(t, "the end", []bool{left.Next(), left.Next(), left.Len() == 0}, []bool{false, false, true})
+		_, ok := image.Symbol(uint64(count))
+		same(t, "a symbol past the last", ok, false)
+	}
+}
+
+func TestBareImage(t *testing.T) {
+	image := verified(t, words(0xfeedfacf, 0x01000007, 3, 2, 0, 0, 0, 0)).Images()[0]
+	_, hasUUID := image.UUID()
+	_, hasBase := image.Base()
+	_, hasEntry := image.Entry()
+	same(t, "what it has not",
+		[]bool{hasUUID, hasBase, hasEntry, image.Symtab() != nil, image.Dysymtab() != nil}, make([]bool, 5))
+	same(t, "its rows", len(image.Commands())+len(image.Segments())+len(image.Sections())+len(image.Libraries())+
+		len(image.Builds())+len(image.Indirects())+image.Symbols().Len()+image.LocalSymbols().Len(), 0)
+}
+
+// A universal file of a 32-bit image, which is not read, and of a header for x86_64.
+func TestUnreadSlice(t *testing.T) {
+	var file bytes.Buffer
+	_ = binary.Write(&file, binary.BigEndian, []uint32{0xcafebabe, 2, 7, 3, 64, 4, 0, 0x01000007, 3, 96, 32, 0})
+	file.Write(make([]byte, 16))
+	file.Write(words(0xfeedface, 0, 0, 0, 0, 0, 0, 0))
+	file.Write(words(0xfeedfacf, 0x01000007, 3, 2, 0, 0, 0, 0))
+	universal := verified(t, file.Bytes())
+	same(t, "the slices", universal.SliceCount(), 2)
+	same(t, "the images", len(universal.Images()), 1)
+	unread := universal.Slice(0)
+	same(t, "the image that is not read", unread.Image, (*Image)(nil))
+	same(t, "what it has", []any{unread.Place, unread.Bytes, unread.CPUType, unread.CPUSubtype},
+		[]any{uint64(64), words(0xfeedface), uint32(7), uint32(3)})
+	for _, index := range []int{-1, 2} {
+		func() {
+			defer func() { same(t, "no slice", recover() != nil, true) }()
+			universal.Slice(index)
+		}()
+	}
+}
+
+// Bytes that lie beside pointers of Go: C gets the bytes alone.
+func TestBytesBesidePointers(t *testing.T) {
+	type beside struct {
+		before *int
+		bytes  [12528]byte
+		after  *int
+	}
+	it := &beside{before: new(int), after: new(int)}
+	copy(it.bytes[:], readReal(t, "program"))
+	file := verified(t, it.bytes[:])
+	layout, err := file.Layout()
+	same(t, "the layout", layout, string(readReal(t, "program.layout")))
+	same(t, "of it", err, nil)
+	image := file.Images()[0]
+	same(t, "the rows", len(image.Commands())+len(collect(image.Symbols())), 15+5)
+	same(t, "an address", image.At(0x100000440).Kind, FileBytes)
+}
+
+// Bytes that change after the verdict: each call ends, and reads nothing past them.
+func TestChangedBytes(t *testing.T) {
+	program := readReal(t, "program")
+	for place := 0; place < 0x420; place += 4 {
+		file := append([]byte{}, program...)
+		image := verified(t, file).Images()[0]
+		copy(file[place:], "\xff\xff\xff\xff")
+		image.Segments()
+		image.Sections()
+		image.Libraries()
+		image.Builds()
+		image.Commands()
+		image.Indirects()
+		collect(image.Symbols())
+		image.At(0x100000440)
+		image.Linkedit(0x26)
+	}
+}
+
+func TestGoroutines(t *testing.T) {
+	program := readReal(t, "program")
+	wanted := string(readReal(t, "program.layout"))
+	var group sync.WaitGroup
+	for number := 0; number < 8; number++ {
+		group.Add(1)
+		go func() {
+			defer group.Done()
+			for round := 0; round < 50; round++ {
+				file, err := Verify(program)
+				if err != nil {
+					t.Error(err)
+					return
+				}
+				layout, _ := file.Layout()
+				same(t, "the layout", layout, wanted)
+				same(t, "the symbols", len(collect(file.Images()[0].Symbols())), 5)
+			}
+		}()
+	}
+	group.Wait()
+}
+
+// The files of the vectors, with their verdicts. tests/go makes them, and a list with a line for each: a verdict, a tab
+// and a path.
+func TestVectors(t *testing.T) {
+	list := os.Getenv("KESVUOT_TRIALS")
+	if list == "" {
+		t.Skip("it needs KESVUOT_TRIALS")
+	}
+	for name, judge := range map[string]func([]byte) (*File, error){"vectors": Verify, "strict-vectors": VerifyStrictly} {
+		lines, err := os.ReadFile(filepath.Join(list, name))
+		if err != nil {
+			t.Fatal(err)
+		}
+		accepted := 0
+		trials := strings.Split(strings.TrimSuffix(string(lines), "\n"), "\n")
+		for _, line := range trials {
+			wanted, path, _ := strings.Cut(line, "\t")
+			bytes, err := os.ReadFile(path)
+			if err != nil {
+				t.Fatal(err)
+			}
+			file, err := judge(bytes)
+			if err == nil {
+				accepted++
+				same(t, path, "accepted", wanted)
+				readAll(t, file)
+			} else {
+				same(t, path, err.Error(), wanted)
+			}
+		}
+		if accepted == 0 || accepted == len(trials) {
+			t.Errorf("%d of %d are accepted", accepted, len(trials))
+		}
+	}
+}
+
+// readAll reads all parts of a file. There are as many rows as the image says.
+func readAll(t *testing.T, file *File) {
+	t.Helper()
+	for _, image := range file.Images() {
+		symbols := collect(image.Symbols())
+		same(t, "how many symbols", len(symbols), int(image.numbers.symbol_count))
+		sections := image.Sections()
+		for _, symbol := range symbols {
+			if symbol.Section >= 0 {
+				same(t, "the section of a symbol", symbol.Section, int(symbol.Sect)-1)
+				_ = sections[symbol.Section]
+			} else {
+				same(t, "no section", symbol.Sect == 0 || int(symbol.Sect) > len(sections), true)
+			}
+		}
+		same(t, "how many rows", []int{
+			len(image.Commands()), len(image.Segments()), len(sections), len(image.Libraries()), len(image.Builds()),
+			len(image.Indirects()),
+		}, []int{
+			int(image.numbers.command_count), int(image.numbers.segment_count), int(image.numbers.section_count),
+			int(image.numbers.library_count), int(image.numbers.build_count), int(image.numbers.indirect_count),
+		})
+	}
+}
