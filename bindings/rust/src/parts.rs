@@ -305,6 +305,7 @@ impl<'a> Row<'a> for Symbol<'a> {
 
     const BATCH: u64 = BATCH;
 
+    #[inline]
     fn new(raw: ffi::Symbol<'a>, image: &ffi::Image<'a>) -> Self {
         Symbol {
             name: (raw.strx != 0).then(|| raw.name.get()),

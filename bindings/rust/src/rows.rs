@@ -22,10 +22,10 @@ pub trait Row<'a> {
 
 /// Rows of a table of an image, in the order of the table.
 #[derive(Clone)]
-pub struct Rows<'a, T> {
+pub struct Rows<'a, T: Row<'a>> {
     image: ffi::Image<'a>,
     /// Rows that were read and not yet returned.
-    held: vec::IntoIter<T>,
+    held: vec::IntoIter<T::Raw>,
     /// The indices of the rows after them. The start is at most the end.
     left: Range<u64>,
 }
@@ -45,8 +45,7 @@ impl<'a, T: Row<'a>> Rows<'a, T> {
         let mut rows = vec![T::Raw::default(); to_usize(count)];
         let written = T::Raw::fill(&self.image, self.left.start, &mut rows);
         rows.truncate(written);
-        let rows = rows.into_iter().map(|row| T::new(row, &self.image));
-        self.held = rows.collect::<Vec<_>>().into_iter();
+        self.held = rows.into_iter();
         self.left.start += count;
     }
 }
@@ -63,7 +62,7 @@ impl<'a, T: Row<'a>> Iterator for Rows<'a, T> {
         if self.held.len() == 0 && !self.left.is_empty() {
             self.ask();
         }
-        self.held.next()
+        Some(T::new(self.held.next()?, &self.image))
     }
 
     fn size_hint(&self) -> (usize, Option<usize>) {
@@ -74,7 +73,7 @@ impl<'a, T: Row<'a>> Iterator for Rows<'a, T> {
     /// Skips rows without reading them.
     fn nth(&mut self, n: usize) -> Option<T> {
         if n < self.held.len() {
-            return self.held.nth(n);
+            return Some(T::new(self.held.nth(n)?, &self.image));
         }
         let past = (n - self.held.len()) as u64;
         self.held = Vec::new().into_iter();
