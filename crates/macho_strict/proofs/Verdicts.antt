@@ -55,9 +55,9 @@ file_refused file refusal.Memory takes = (0, takes)
 -- a refusal by the layout is one of the strict verdict
 pub layout_refused : (file : List ℕ) (r : Refusal) → IsRefusal file r → IsStrictRefusal file r
 layout_refused file (refusal.Broken b) first = inl first
-layout_refused file refusal.Memory kept = kept
+layout_refused file refusal.Memory takes = inl takes
 
 -- and so is one by the strict rules, where the file breaks no other
 pub strictly_refused : (file : List ℕ) → IsUnbroken file → (r : Refusal) → IsStrictBreak file r → IsStrictRefusal file r
 strictly_refused file unbroken (refusal.Broken b) first = inr (unbroken, first)
-strictly_refused file unbroken refusal.Memory takes = λ r place early broken. unbroken (record { scope = 0; rule = r; place = place }) broken
+strictly_refused file unbroken refusal.Memory takes = inr (unbroken, takes)

@@ -7,7 +7,7 @@ use Rattle.macho_fields.specs.Segment.{fileoff, filesize}
 use Rattle.macho_fields.specs.Universal.{slices_of, slice_bytes}
 use Rattle.macho_fields.specs.declared.header.loader.TheConstants as loader
 use Rattle.macho_spans.specs.declared.span.Span.{Span}
-use Rattle.macho_rules.specs.Verdict.{IsRefusal}
+use Rattle.macho_rules.specs.Verdict.{FileTakesMemory}
 use Rattle.macho_rules.specs.declared.refusal.Refusal.{Refusal}
 use Rattle.macho_rules.specs.declared.refusal.Refusal.TheVariants as refusal
 use Rattle.macho_strict.specs.Elements.{elements_of}
@@ -53,18 +53,24 @@ TakesMemory image =
     (¬ IsAscending (file_parts image)) ⊎ (¬ IsAscending (element_spans image))
     ⊎ (HasEncrypted image ⊎ HasLooseNop image)
 
--- A refusal is the first broken rule of the layout, or where none of these is broken the first broken
--- strict rule, or that there was no memory, which says no more than it does of `verify`.
-abbrev pub IsStrictRefusal : List ℕ → Refusal → Type 0
-IsStrictRefusal file (refusal.Broken b) =
-    IsFirstBroken file b ⊎ (IsUnbroken file × IsFirstStrictlyBroken file b)
-IsStrictRefusal file refusal.Memory = IsRefusal file refusal.Memory
-
 -- the slices of a file do not ascend, or the image in a slice takes memory
 abbrev pub TakesMemoryIn : List ℕ → ℕ → Type 0
 TakesMemoryIn file zero = ¬ IsAscending (slice_spans file)
 TakesMemoryIn file (suc k) =
     IsSomeAnd (slice_get (slices_of file) k) (λ slice. TakesMemory (slice_bytes file slice))
+
+-- The strict verdict on a file takes memory: that by the rules of the layout does, or the file breaks
+-- none of these, and a scope takes some.
+abbrev pub StrictlyTakesMemory : List ℕ → Type 0
+StrictlyTakesMemory file =
+    FileTakesMemory file ⊎ (IsUnbroken file × ((scope : ℕ) × TakesMemoryIn file scope))
+
+-- A refusal is the first broken rule of the layout, or where none of these is broken the first broken
+-- strict rule, or that there was no memory, which is reported only if the verdict takes some.
+abbrev pub IsStrictRefusal : List ℕ → Refusal → Type 0
+IsStrictRefusal file (refusal.Broken b) =
+    IsFirstBroken file b ⊎ (IsUnbroken file × IsFirstStrictlyBroken file b)
+IsStrictRefusal file refusal.Memory = StrictlyTakesMemory file
 
 -- a strict refusal of a file is its first broken strict rule, or that there was no memory, where a
 -- scope takes some
