@@ -4,4 +4,5 @@ pub mod Counts
 pub mod Data
 pub mod Ended
 pub mod Filled
+pub mod Opened
 pub mod Supplied

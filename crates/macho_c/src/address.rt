@@ -12,7 +12,6 @@ use crate::image::KesvuotImage;
 use crate::parts::rest;
 use crate::segments::bytes_of;
 use crate::status::{NONE, OK, ZERO};
-use macho_fields::Bytes;
 use macho_image::{Image, Segment};
 
 /// Writes the bytes of the file from the address on, up to the last that the same segment has in
@@ -30,9 +29,9 @@ pub extern "C" fn kesvuot_at<'a>(
     ensures source { NothingBreaks (BreaksImage image.now.bytes.now None)
         → IsSourceAt image.now.bytes.now address result bytes.new.now }
 {
-    match Image::open(Bytes::new(image.bytes), None) {
-        Ok(image) => write_bytes_at(&image, address, bytes),
-        Err(_) => {
+    match image.open() {
+        Some(image) => write_bytes_at(&image, address, bytes),
+        None => {
             *bytes = &[];
             NONE
         }

@@ -6,8 +6,7 @@ ghost use Rattle.macho_c.specs.Rows.{IsTable};
 
 use crate::image::KesvuotImage;
 use crate::table::fill;
-use macho_fields::Bytes;
-use macho_image::{Build, Image};
+use macho_image::Build;
 
 /// A platform and its versions. (`build_version_command`)
 #[repr(C)]
@@ -31,9 +30,9 @@ pub extern "C" fn kesvuot_builds(
     ensures { IsTable image.now.bytes.now build_shown (build_rows image.now.bytes.now) first result
         rows.old rows.new }
 {
-    match Image::open(Bytes::new(image.bytes), None) {
-        Ok(image) => fill(image.builds().skip(first as usize).map(row_of), rows),
-        Err(_) => 0,
+    match image.open() {
+        Some(image) => fill(image.builds().skip(first as usize).map(row_of), rows),
+        None => 0,
     }
 }
 

@@ -12,7 +12,7 @@ use crate::parts::{ended_string, rest};
 use crate::table::fill;
 use macho_fields::header::loader::LC_STR_OFFSET;
 use macho_fields::{Bytes, Order, structure_of};
-use macho_image::{Command, Image};
+use macho_image::Command;
 
 /// A load command. (`load_command`)
 #[repr(C)]
@@ -40,9 +40,9 @@ pub extern "C" fn kesvuot_commands<'a>(
     ensures { IsTable image.now.bytes.now command_shown (command_rows image.now.bytes.now) first result
         rows.old rows.new }
 {
-    match Image::open(Bytes::new(image.bytes), None) {
-        Ok(image) => fill(image.commands().skip(first as usize).map(row_of), rows),
-        Err(_) => 0,
+    match image.open() {
+        Some(image) => fill(image.commands().skip(first as usize).map(row_of), rows),
+        None => 0,
     }
 }
 

@@ -1,6 +1,6 @@
 //! The image of a slice: what is there once, how many rows its tables have, and where they begin.
 
-ghost use Rattle.std.specs.Prelude.{◌≡◌, ◌+◌, ◌≤◌, ◌⊎◌, length, if◌then◌else◌};
+ghost use Rattle.std.specs.Prelude.{◌≡◌, ◌+◌, ◌≤◌, ◌⊎◌, length, if◌then◌else◌, MatchOption};
 ghost use Rattle.std.specs.Option.{option_map, unwrap_or};
 ghost use Rattle.macho_fields.specs.Bytes.{bytes_of};
 ghost use Rattle.macho_fields.specs.First.{IsUnbroken};
@@ -83,6 +83,16 @@ pub struct KesvuotImage<'a> {
     pub uuid: [u8; 16],
     /// Reserved: 0.
     pub reserved: [u32; 5],
+}
+
+impl<'a> KesvuotImage<'a> {
+    // The image in the bytes, or `None` where they break a rule of the headers.
+    pub(crate) fn open(&self) -> Option<Image<'a>>
+        ensures { MatchOption result (IsBrokenImage self.now.bytes.now None)
+            (λ image. HasHeaders self.now.bytes.now None × (image ≡ self.now.bytes.now)) }
+    {
+        Image::open(Bytes::new(self.bytes), None).ok()
+    }
 }
 
 /// Reads the image of the slice with this index, in a file that is accepted. The status is `OK`;

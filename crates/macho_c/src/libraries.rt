@@ -7,8 +7,7 @@ ghost use Rattle.macho_c.specs.Libraries.{library_shown, library_row, library_ro
 
 use crate::image::KesvuotImage;
 use crate::table::fill;
-use macho_fields::Bytes;
-use macho_image::{Dylib, Image};
+use macho_image::Dylib;
 
 /// A library: one that the image is linked with, or the image itself. (`dylib_command`)
 #[repr(C)]
@@ -34,9 +33,9 @@ pub extern "C" fn kesvuot_libraries<'a>(
     ensures { IsTable image.now.bytes.now library_shown (library_rows image.now.bytes.now) first result
         rows.old rows.new }
 {
-    match Image::open(Bytes::new(image.bytes), None) {
-        Ok(image) => fill(image.dylibs().skip(first as usize).map(row_of), rows),
-        Err(_) => 0,
+    match image.open() {
+        Some(image) => fill(image.dylibs().skip(first as usize).map(row_of), rows),
+        None => 0,
     }
 }
 

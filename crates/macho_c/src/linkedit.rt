@@ -26,9 +26,9 @@ pub extern "C" fn kesvuot_linkedit<'a>(
         × IsAnswer image.now.bytes.now cmd result bytes.new.now)
         ⊎ (IsBrokenImage image.now.bytes.now None × (result ≡ KESVUOT_NONE) × (bytes.new.now ≡ [])) }
 {
-    match Image::open(Bytes::new(image.bytes), None) {
-        Ok(image) => write_data(&image, cmd, bytes),
-        Err(_) => {
+    match image.open() {
+        Some(image) => write_data(&image, cmd, bytes),
+        None => {
             *bytes = &[];
             NONE
         }

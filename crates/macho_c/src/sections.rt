@@ -7,8 +7,7 @@ ghost use Rattle.macho_c.specs.Sections.{section_bytes, section_shown, section_r
 use crate::image::KesvuotImage;
 use crate::parts::part_or_none;
 use crate::table::fill;
-use macho_fields::Bytes;
-use macho_image::{Image, Section};
+use macho_image::Section;
 
 /// A section. (`section_64`)
 #[repr(C)]
@@ -44,9 +43,9 @@ pub extern "C" fn kesvuot_sections<'a>(
     ensures { IsTable image.now.bytes.now section_shown (section_rows image.now.bytes.now) first result
         rows.old rows.new }
 {
-    match Image::open(Bytes::new(image.bytes), None) {
-        Ok(image) => fill(image.sections().skip(first as usize).map(row_of), rows),
-        Err(_) => 0,
+    match image.open() {
+        Some(image) => fill(image.sections().skip(first as usize).map(row_of), rows),
+        None => 0,
     }
 }
 

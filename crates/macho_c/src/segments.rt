@@ -7,7 +7,6 @@ ghost use Rattle.macho_c.specs.Segments.{segment_bytes, segment_shown, segment_r
 use crate::image::KesvuotImage;
 use crate::parts::part_or_none;
 use crate::table::fill;
-use macho_fields::Bytes;
 use macho_image::{Image, Segment, Segments};
 use std::marker::Model;
 
@@ -40,12 +39,12 @@ pub extern "C" fn kesvuot_segments<'a>(
     ensures { IsTable image.now.bytes.now segment_shown (segment_rows image.now.bytes.now) first result
         rows.old rows.new }
 {
-    match Image::open(Bytes::new(image.bytes), None) {
-        Ok(image) => {
+    match image.open() {
+        Some(image) => {
             let segments = NumberedSegments::of(&image);
             fill(segments.skip(first as usize).map(row_of), rows)
         }
-        Err(_) => 0,
+        None => 0,
     }
 }
 

@@ -1,12 +1,9 @@
-use Rattle.std.proofs.Common.{List, inr, refl, rules}
+use Rattle.std.proofs.Common.{List, rules}
 use Rattle.macho_image.specs.Segment.{SectionView}
 use Rattle.macho_c.specs.Sections.{section_shown, section_row, sections_in}
-use Rattle.macho_c.proofs.Filled.{opened_table, refused}
+use Rattle.macho_c.proofs.Filled.{opened_table}
 use Rattle.macho_c.proofs.sections.kesvuot_sections.Goals as goal
 
-pub returns-in-Ok : goal.returns-in-Ok
-returns-in-Ok c = opened_table (λ (section : SectionView). section) (λ (left : List SectionView). left) section_shown section_row sections_in c.args.first c.in-Ok.ensures.decides c.in-Ok.ensures.image c.new.ensures c.sections.ensures.sections
+pub returns-in-Some : goal.returns-in-Some
+returns-in-Some c = opened_table (λ (section : SectionView). section) (λ (left : List SectionView). left) section_shown section_row sections_in c.args.first c.in-Some.ensures c.sections.ensures.sections
     c.fill.ensures c.skip.ensures.source c.skip.ensures.count c.map.ensures.source c.map.ensures.closure (λ x r q k. search rules)
-
-pub returns-in-Err : goal.returns-in-Err
-returns-in-Err c = inr (refused _ _ _ _ c.in-Err.is c.new.ensures c.open.ensures.decides c.open.ensures.stops, refl, refl)
