@@ -7,7 +7,7 @@ use Rattle.std.proofs.lemmas.List.{get_or_past, take-append-le}
 use Rattle.std.proofs.lemmas.Option.{slice_get-get_or, slice_get_within, get_or_from_slice_get}
 use Rattle.macho_spans.specs.Overlap.{SharesEarlier, IsLeastSharing, IsAscending, IsDescending, SharesWithNeighbour, AreMixed, span_at}
 use Rattle.macho_spans.specs.Span.{end_of, Shares}
-use Rattle.macho_spans.specs.SpanOrder.{Ascends, Descends, IsTrend}
+use Rattle.macho_spans.specs.SpanOrder.{RunsTo, Ascends, Descends, IsTrend}
 use Rattle.macho_spans.specs.declared.span.Span.{Span}
 use Rattle.macho_spans.specs.declared.span_order.Trend.{Trend}
 use Rattle.macho_spans.specs.declared.span_order.Trend.TheVariants as trend
@@ -53,6 +53,13 @@ module _ (spans : List Span) (x : Span) where
     | inr past ↦ let none : span_at spans k ≡ record { start = 0; len = 0 } = get_or_past spans k _ past in absurd (omega (arith, ap (λ s. s.len) none, filled))
   ]
 
+  -- what each old span has that is not empty, and the last one, each has
+  each_more : (Q : Span → Type 0) → ((i : ℕ) → IsFilled spans i → Q (span_at spans i)) → Q x → (i : ℕ) → IsFilled more i → Q (span_at more i)
+  each_more Q old last i filled = elim (which i filled) [
+    | inl (less, same) ↦ subst Q (sym same) (old i (omega (arith, ap (λ s. s.len) same, filled)))
+    | inr (here, same) ↦ subst Q (sym same) last
+  ]
+
   -- A relation of each span that is not empty to each later one
   module _ (R : Span → Span → Type 0) where
     abbrev EachPair : List Span → Type 0
@@ -86,28 +93,28 @@ module _ (spans : List Span) (x : Span) where
   abbrev Above : Span → Span → Type 0
   Above a b = end_of b ≤ a.start
 
+  -- the last reaches as far up, or down
+  abbrev IsUpTo : Span → Span → Type 0
+  IsUpTo a b = end_of a ≤ end_of b
+
+  abbrev IsDownTo : Span → Span → Type 0
+  IsDownTo a b = b.start ≤ a.start
+
+  -- one more that is not empty, before which each is, and which reaches as far
+  runs_on : (R Q : Span → Span → Type 0) → 0 < x.len → Q x x → EachPair R spans → ((i : ℕ) → IsFilled spans i → R (span_at spans i) x × Q (span_at spans i) x) → RunsTo R Q more x
+  runs_on R Q filled end each to_last = record {
+    each = pairs_more R each (λ some i one. (to_last i one).0);
+    among = (length spans, at_last);
+    filled = filled;
+    edge = each_more (λ s. Q s x) (λ i one. (to_last i one).1) end;
+  }
+
   -- The first span that is not empty
   module _ (none : (i : ℕ) → ¬ IsFilled spans i) (filled : 0 < x.len) where
     pub first_alone : Ascends more x × Descends more x
     first_alone = (
-      record {
-        ascending = pairs_more Below (λ i j less one other. absurd (none i one)) (λ some i one. absurd (none i one));
-        among = (length spans, at_last);
-        filled = filled;
-        most = λ i one. elim (which i one) [
-          | inl (less, same) ↦ absurd (none i (omega (arith, ap (λ s. s.len) same, one)))
-          | inr (here, same) ↦ omega (arith, ap (λ s. s.start) same, ap (λ s. s.len) same)
-        ];
-      },
-      record {
-        descending = pairs_more Above (λ i j less one other. absurd (none i one)) (λ some i one. absurd (none i one));
-        among = (length spans, at_last);
-        filled = filled;
-        least = λ i one. elim (which i one) [
-          | inl (less, same) ↦ absurd (none i (omega (arith, ap (λ s. s.len) same, one)))
-          | inr (here, same) ↦ omega (arith, ap (λ s. s.start) same)
-        ];
-      },
+      runs_on Below IsUpTo filled (omega arith) (λ i j less one other. absurd (none i one)) (λ i one. absurd (none i one)),
+      runs_on Above IsDownTo filled (omega arith) (λ i j less one other. absurd (none i one)) (λ i one. absurd (none i one)),
     )
 
   -- What was found of the old spans holds of all
@@ -175,6 +182,16 @@ module _ (spans : List Span) (x : Span) where
       filled_i : IsFilled spans i
       filled_i = let (place, (from, to), other) = both in omega (arith, from, to)
 
+  -- so it is the last one, where the spans run to it
+  shares_last : (R Q : Span → Span → Type 0) (last : Span) → RunsTo R Q spans last → ((s : Span) → 0 < s.len → R last s → ¬ Q s last) → SharesWithNeighbour more (length spans) → Shares last x
+  shares_last R Q last run past = at_neighbour last run.filled run.among.0 run.among.1 none_after
+    where
+      none_after : (i : ℕ) → IsFilled spans i → ¬ (run.among.0 < i)
+      none_after i filled less =
+          let (j, same) = run.among in
+          let at : IsFilled spans j = omega (arith, ap (λ s. s.len) same, run.filled) in
+          past (span_at spans i) filled (subst (λ a. R a (span_at spans i)) same (run.each j i less at filled)) (run.edge i filled)
+
   -- One more after others, of which the last that is not empty is known
   module _ (last : Span) (filled : 0 < x.len) where
     filled_last : 0 < last.len → (j : ℕ) × (span_at spans j ≡ last) → (j : ℕ) × (span_at spans j ≡ last) × IsFilled spans j
@@ -193,35 +210,15 @@ module _ (spans : List Span) (x : Span) where
         omega (arith, over, below, ap (λ s. s.start) same, ap (λ s. s.len) same, some)
 
     pub ascends_on : Ascends spans last → end_of last ≤ x.start → Ascends more x × (¬ IsDescending more)
-    ascends_on up above = (
-      record {
-        ascending = pairs_more Below up.ascending (λ some i one. let under = up.most i one in omega (arith, under, above));
-        among = (length spans, at_last);
-        filled = filled;
-        most = λ i one. elim (which i one) [
-          | inl (less, same) ↦ let under = up.most i (omega (arith, ap (λ s. s.len) same, one)) in omega (arith, under, above, ap (λ s. s.start) same, ap (λ s. s.len) same)
-          | inr (here, same) ↦ omega (arith, ap (λ s. s.start) same, ap (λ s. s.len) same)
-        ];
-      },
-      not_descending up.filled up.among above,
-    )
+    ascends_on up above =
+        (runs_on Below IsUpTo filled (omega arith) up.each (λ i one. let under = up.edge i one in (omega (arith, under, above), omega (arith, under, above))), not_descending up.filled up.among above)
 
     pub descends_on : Descends spans last → end_of x ≤ last.start → Descends more x × (¬ IsAscending more)
-    descends_on down below = (
-      record {
-        descending = pairs_more Above down.descending (λ some i one. let over = down.least i one in omega (arith, over, below));
-        among = (length spans, at_last);
-        filled = filled;
-        least = λ i one. elim (which i one) [
-          | inl (less, same) ↦ let over = down.least i (omega (arith, ap (λ s. s.len) same, one)) in omega (arith, over, below, ap (λ s. s.start) same)
-          | inr (here, same) ↦ omega (arith, ap (λ s. s.start) same)
-        ];
-      },
-      not_ascending down.filled down.among below,
-    )
+    descends_on down below =
+        (runs_on Above IsDownTo filled (omega arith) down.each (λ i one. let over = down.edge i one in (omega (arith, over, below), omega (arith, over, below))), not_ascending down.filled down.among below)
 
     pub turns_down : Ascends spans last → ¬ IsDescending spans → end_of x ≤ last.start → (¬ IsAscending more) × (¬ IsDescending more) × ((n : ℕ) × AreMixed more n)
-    turns_down up not below = (not_up, not_down, now_mixed not_up not_down (ascending_apart spans up.ascending) apart)
+    turns_down up not below = (not_up, not_down, now_mixed not_up not_down (ascending_apart spans up.each) apart)
       where
         not_up : ¬ IsAscending more
         not_up = not_ascending up.filled up.among below
@@ -229,19 +226,11 @@ module _ (spans : List Span) (x : Span) where
         not_down : ¬ IsDescending more
         not_down down = not (pairs_less Above down)
 
-        -- none after the last one ends past it
-        rest : (i : ℕ) → IsFilled spans i → ¬ (up.among.0 < i)
-        rest i filled_i less =
-            let (j, same) = up.among in
-            let at : IsFilled spans j = omega (arith, ap (λ s. s.len) same, up.filled) in
-            let over : end_of (span_at spans j) ≤ (span_at spans i).start = up.ascending j i less at filled_i in
-            let most = up.most i filled_i in omega (arith, over, most, filled_i, ap (λ s. s.start) same, ap (λ s. s.len) same)
-
         apart : ¬ SharesWithNeighbour more (length spans)
-        apart shares = let (place, (from, to), (first, until)) = at_neighbour last up.filled up.among.0 up.among.1 rest shares in omega (arith, from, until, below)
+        apart shares = let (place, (from, to), (first, until)) = shares_last Below IsUpTo last up (λ s some over within. omega (arith, some, over, within)) shares in omega (arith, from, until, below)
 
     pub turns_up : Descends spans last → ¬ IsAscending spans → end_of last ≤ x.start → (¬ IsAscending more) × (¬ IsDescending more) × ((n : ℕ) × AreMixed more n)
-    turns_up down not above = (not_up, not_down, now_mixed not_up not_down (descending_apart spans down.descending) apart)
+    turns_up down not above = (not_up, not_down, now_mixed not_up not_down (descending_apart spans down.each) apart)
       where
         not_up : ¬ IsAscending more
         not_up up = not (pairs_less Below up)
@@ -249,16 +238,8 @@ module _ (spans : List Span) (x : Span) where
         not_down : ¬ IsDescending more
         not_down = not_descending down.filled down.among above
 
-        -- none after the last one begins before it
-        rest : (i : ℕ) → IsFilled spans i → ¬ (down.among.0 < i)
-        rest i filled_i less =
-            let (j, same) = down.among in
-            let at : IsFilled spans j = omega (arith, ap (λ s. s.len) same, down.filled) in
-            let under : end_of (span_at spans i) ≤ (span_at spans j).start = down.descending j i less at filled_i in
-            let least = down.least i filled_i in omega (arith, under, least, filled_i, ap (λ s. s.start) same)
-
         apart : ¬ SharesWithNeighbour more (length spans)
-        apart shares = let (place, (from, to), (first, until)) = at_neighbour last down.filled down.among.0 down.among.1 rest shares in omega (arith, to, first, above)
+        apart shares = let (place, (from, to), (first, until)) = shares_last Above IsDownTo last down (λ s some under within. omega (arith, some, under, within)) shares in omega (arith, to, first, above)
 
   -- The last span shares a place with the one before it that is not empty
   pub last_shares : (last : Span) → 0 < x.len → 0 < last.len → (j : ℕ) × (span_at spans j ≡ last) → ¬ (end_of last ≤ x.start) → ¬ (end_of x ≤ last.start)
@@ -301,21 +282,19 @@ module _ (spans : List Span) (x : Span) where
     among_more : (last : Span) → 0 < last.len → (j : ℕ) × (span_at spans j ≡ last) → (j : ℕ) × (span_at more j ≡ last)
     among_more last some (j, same) = (j, at_old j (old_filled j (omega (arith, ap (λ s. s.len) same, some))).0 ∙ same)
 
-    still_ascends : (last : Span) → Ascends spans last → Ascends more last
-    still_ascends last up = record {
-      ascending = pairs_more Below up.ascending (λ some. absurd (none some));
-      among = among_more last up.filled up.among;
-      filled = up.filled;
-      most = λ i filled. let (same, old) = same_span i filled in let under = up.most i old in omega (arith, under, ap (λ s. s.start) same, ap (λ s. s.len) same);
+    still_runs : (R Q : Span → Span → Type 0) (last : Span) → RunsTo R Q spans last → RunsTo R Q more last
+    still_runs R Q last run = record {
+      each = pairs_more R run.each (λ some. absurd (none some));
+      among = among_more last run.filled run.among;
+      filled = run.filled;
+      edge = λ i filled. let (same, old) = same_span i filled in subst (λ s. Q s last) (sym same) (run.edge i old);
     }
 
+    still_ascends : (last : Span) → Ascends spans last → Ascends more last
+    still_ascends = still_runs Below IsUpTo
+
     still_descends : (last : Span) → Descends spans last → Descends more last
-    still_descends last down = record {
-      descending = pairs_more Above down.descending (λ some. absurd (none some));
-      among = among_more last down.filled down.among;
-      filled = down.filled;
-      least = λ i filled. let (same, old) = same_span i filled in let over = down.least i old in omega (arith, over, ap (λ s. s.start) same);
-    }
+    still_descends = still_runs Above IsDownTo
 
     pub same_trend : (tags : List ℕ) (tag : ℕ) (last : Span) (t : Trend) → IsTrend spans tags last t → IsTrend more (tags ++ tag ∷ []) last t
     same_trend tags tag last trend.Empty empty = λ i filled. empty i (same_span i filled).1

@@ -28,19 +28,22 @@ IsSharingOf pairs sharing.Unknown =
 
 -- What is kept while spans are noted
 
--- the spans ascend to the last one
-pub record Ascends (spans : List Span) (last : Span) : Type 0 where
-  pub ascending : IsAscending spans
+-- The spans run to the last one: of those that are not empty each is before each later one, and the
+-- last reaches as far as each
+pub record RunsTo (IsBefore IsWithin : Span → Span → Type 0) (spans : List Span) (last : Span)
+    : Type 0 where
+  pub each : (i j : ℕ) → i < j → 0 < (span_at spans i).len → 0 < (span_at spans j).len
+      → IsBefore (span_at spans i) (span_at spans j)
   pub among : (j : ℕ) × (span_at spans j ≡ last)
   pub filled : 0 < last.len
-  pub most : (i : ℕ) → 0 < (span_at spans i).len → end_of (span_at spans i) ≤ end_of last
+  pub edge : (i : ℕ) → 0 < (span_at spans i).len → IsWithin (span_at spans i) last
 
--- the spans descend to the last one
-pub record Descends (spans : List Span) (last : Span) : Type 0 where
-  pub descending : IsDescending spans
-  pub among : (j : ℕ) × (span_at spans j ≡ last)
-  pub filled : 0 < last.len
-  pub least : (i : ℕ) → 0 < (span_at spans i).len → last.start ≤ (span_at spans i).start
+-- up, or down
+abbrev pub Ascends : List Span → Span → Type 0
+Ascends spans last = RunsTo (λ a b. end_of a ≤ b.start) (λ a b. end_of a ≤ end_of b) spans last
+
+abbrev pub Descends : List Span → Span → Type 0
+Descends spans last = RunsTo (λ a b. end_of b ≤ a.start) (λ a b. b.start ≤ a.start) spans last
 
 abbrev pub IsTrend : List Span → List ℕ → Span → Trend → Type 0
 IsTrend spans tags last trend.Empty = (i : ℕ) → ¬ (0 < (span_at spans i).len)

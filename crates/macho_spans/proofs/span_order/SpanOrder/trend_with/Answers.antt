@@ -43,16 +43,16 @@ pub returns-in-Single-3 : goal.returns-in-Single-3
 returns-in-Single-3 c = λ spans tags same is.
     let (up, down) = subst (IsTrend spans tags c.args.self.now.last) c.in-Single-3.is is in
     now_sharing spans c.args.span tags c.args.tag same
-    (last_shares spans c.args.span c.args.self.now.last c.requires up.filled up.among (λ above. omega (arith, above)) (λ below. omega (arith, below)) (ascending_apart spans up.ascending))
+    (last_shares spans c.args.span c.args.self.now.last c.requires up.filled up.among (λ above. omega (arith, above)) (λ below. omega (arith, below)) (ascending_apart spans up.each))
 
 pub returns-in-Ascending-3 : goal.returns-in-Ascending-3
 returns-in-Ascending-3 c = λ spans tags same is.
     let (up, not) = subst (IsTrend spans tags c.args.self.now.last) c.in-Ascending-3.is is in
     now_sharing spans c.args.span tags c.args.tag same
-    (last_shares spans c.args.span c.args.self.now.last c.requires up.filled up.among (λ above. omega (arith, above)) (λ below. omega (arith, below)) (ascending_apart spans up.ascending))
+    (last_shares spans c.args.span c.args.self.now.last c.requires up.filled up.among (λ above. omega (arith, above)) (λ below. omega (arith, below)) (ascending_apart spans up.each))
 
 pub returns-in-Descending-3 : goal.returns-in-Descending-3
 returns-in-Descending-3 c = λ spans tags same is.
     let (down, not) = subst (IsTrend spans tags c.args.self.now.last) c.in-Descending-3.is is in
     now_sharing spans c.args.span tags c.args.tag same
-    (last_shares spans c.args.span c.args.self.now.last c.requires down.filled down.among (λ above. omega (arith, above)) (λ below. omega (arith, below)) (descending_apart spans down.descending))
+    (last_shares spans c.args.span c.args.self.now.last c.requires down.filled down.among (λ above. omega (arith, above)) (λ below. omega (arith, below)) (descending_apart spans down.each))
