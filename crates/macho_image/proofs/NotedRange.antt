@@ -13,7 +13,7 @@ use Rattle.macho_fields.specs.declared.header.loader.TheConstants as loader
 use Rattle.macho_fields.specs.declared.load_command.Structure.{Structure}
 use Rattle.macho_fields.specs.declared.load_command.TableFields.{TableFields}
 use Rattle.macho_fields.proofs.Parts.{command_good}
-use Rattle.macho_image.specs.Command.{command_at, commands_left}
+use Rattle.macho_image.specs.Command.{CommandView, command_at, commands_left}
 use Rattle.macho_image.specs.Opened.{IsOpened}
 use Rattle.macho_image.specs.Walk.{CanWalk, IsRange, Passes, first_commands, has_tables, is_segment, names_table}
 use Rattle.macho_image.specs.Views.{HaveSegments}
@@ -119,6 +119,14 @@ pub have_segments : (image : List ℕ) (opened : IsOpened image) (range : Comman
     → HaveSegments image (commands_left image range.place range.count)
 have_segments image opened range are =
     left_with_cmd-map image loader.LC_SEGMENT_64 (places_from image range.place range.count) ∙ ap (map (command_at image)) (kept image opened (is_segment image) range are)
+
+-- what the commands of a range are in the bytes of an image, they are in what the image is seen as
+pub can_walk_seen : {bytes image : List ℕ} {place left : ℕ} → bytes ≡ image → CanWalk bytes place left → CanWalk image place left
+can_walk_seen {bytes} {image} {place} {left} same walk = subst (λ seen. CanWalk seen place left) same walk
+
+pub as_seen : (P : List ℕ → List CommandView → Type 0) {bytes image : List ℕ} {these : List CommandView} (range : CommandRange) → bytes ≡ image → these ≡ commands_left image range.place range.count
+    → P bytes (commands_left bytes range.place range.count) → P image these
+as_seen P {bytes} {image} {these} range same are holds = subst (P image) (sym are) (subst (λ seen. P seen (commands_left seen range.place range.count)) same holds)
 
 -- the test for tables finds whether there are some
 

@@ -5,7 +5,7 @@ use Rattle.std.specs.List.{range_with_len}
 use Rattle.std.specs.Option.{MatchOption}
 use Rattle.std.proofs.lemmas.List.{drop-map, take-map}
 use Rattle.std.proofs.lemmas.Bool.{le-leb}
-use Rattle.std.proofs.lemmas.List.Elements.{All-nil, All-take, All-drop}
+use Rattle.std.proofs.lemmas.List.Elements.{All-nil}
 use Rattle.macho_image.specs.Symbol.{items_inside, items_from}
 use Rattle.macho_image.specs.Views.{HoldItems}
 
@@ -58,11 +58,6 @@ pub items-range : (each place left first count f m : ℕ) → f ≡ min first le
 items-range each place left first count f m first_is count_is =
     items-take each (place + each * f) (left - f) count m count_is ∙ ap (take count) (items-drop each place left first f first_is)
 
--- those of a range lie inside the image where all do
-pub range_held : (image : List ℕ) (each : ℕ) (items ranged : List ℕ) (first count : ℕ) → ranged ≡ take count (drop first items) → HoldItems image each items → HoldItems image each ranged
-range_held image each items ranged first count is held =
-    let Held = λ (place : ℕ). place + each ≤ length image in subst (HoldItems image each) (sym is) (All-take Held count (drop first items) (All-drop Held first items held))
-
 -- if there are none, all do
 pub none_held : (image : List ℕ) (each : ℕ) (items : List ℕ) → items ≡ [] → HoldItems image each items
 none_held image each items none = subst (HoldItems image each) (sym none) (All-nil (λ place. place + each ≤ length image))
@@ -72,12 +67,6 @@ none_held image each items none = subst (HoldItems image each) (sym none) (All-n
 -- what f reads of a range of them
 pub range-map : {X Y : Type 0} (f : X → Y) (xs : List X) (first count : ℕ) → take count (drop first (map f xs)) ≡ map f (take count (drop first xs))
 range-map f xs first count = ap (take count) (drop-map f first xs) ∙ take-map f count (drop first xs)
-
--- a range of what is read of the items is what is read of a range of all
-pub range_read : {X Y : Type 0} (f g : X → Y) (items ranged all : List X) (first count : ℕ) → ranged ≡ take count (drop first items) → map f items ≡ map g all
-    → map f ranged ≡ map g (take count (drop first all))
-range_read f g items ranged all first count is same =
-    ap (map f) is ∙ (sym (range-map f items first count) ∙ (ap (λ ys. take count (drop first ys)) same ∙ range-map g all first count))
 
 -- the first of a range
 head_of_range : {X : Type 0} (xs : List X) (i : ℕ) → slice_get (take 1 (drop i xs)) 0 ≡ slice_get xs i

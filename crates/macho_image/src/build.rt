@@ -1,7 +1,9 @@
 //! The platforms that an image is built for. (`mach-o/loader.h`: `build_version_command`)
 
-ghost use Rattle.std.specs.Prelude.{◌≡◌, ◌+◌, ◌≤◌, length};
+ghost use Rattle.std.specs.Prelude.{◌≡◌, ◌+◌, ◌≤◌, length, map};
+ghost use Rattle.std.specs.Iterator.{YieldsFirst, item_count};
 ghost use Rattle.macho_fields.specs.Bytes.{bytes_of};
+ghost use Rattle.macho_fields.specs.Image.{commands_of, with_cmd};
 ghost use Rattle.macho_fields.specs.LoadCommands.{structure_size};
 ghost use Rattle.macho_fields.specs.declared.load_command.Structure.TheVariants.{BuildVersionCommand};
 ghost use Rattle.macho_image.specs.Build.{build_at};
@@ -49,8 +51,6 @@ impl<'a> Model for Builds<'a> {
 }
 
 impl<'a> Iterator for Builds<'a> {
-    ghost use Rattle.std.specs.Iterator.{YieldsFirst, item_count};
-
     type Item = Build;
 
     ghost next_gives = { YieldsFirst (λ left. left) };
@@ -64,10 +64,6 @@ impl<'a> Iterator for Builds<'a> {
 }
 
 impl<'a> Image<'a> {
-    ghost use Rattle.std.specs.Prelude.{◌≡◌, map};
-    ghost use Rattle.macho_fields.specs.Image.{commands_of, with_cmd};
-    ghost use Rattle.macho_image.specs.Build.{build_at};
-
     /// The `LC_BUILD_VERSION` commands, in the order of the commands.
     pub fn builds(&self) -> Builds<'a>
         ensures { result ≡ map (build_at self.now)

@@ -1,9 +1,10 @@
 //! The load commands of an opened image, one after another. (`mach-o/loader.h`: `load_command`)
 
 ghost use Rattle.std.specs.Prelude.{◌≡◌, ◌+◌, ◌≤◌, length};
+ghost use Rattle.std.specs.Iterator.{YieldsFirstBy, item_count};
 ghost use Rattle.macho_fields.specs.Bytes.{bytes_of};
 ghost use Rattle.macho_fields.specs.Image.{word, long, commands_end, IsGood};
-ghost use Rattle.macho_image.specs.Command.{command_of, command_at, command_name};
+ghost use Rattle.macho_image.specs.Command.{command_of, command_at, command_name, left_with_cmd};
 ghost use Rattle.macho_image.specs.Views.{HoldsName};
 
 use macho_fields::header::loader::LC_STR_OFFSET;
@@ -45,9 +46,6 @@ impl<'a> Model for Commands<'a> {
 }
 
 impl<'a> Iterator for Commands<'a> {
-    ghost use Rattle.std.specs.Iterator.{YieldsFirstBy, item_count};
-    ghost use Rattle.macho_image.specs.Command.{command_of};
-
     type Item = Command<'a>;
 
     ghost next_gives = { YieldsFirstBy command_of (λ left. left) };
@@ -66,9 +64,6 @@ impl<'a> Iterator for Commands<'a> {
 }
 
 impl<'a> Commands<'a> {
-    ghost use Rattle.std.specs.Iterator.{YieldsFirstBy};
-    ghost use Rattle.macho_image.specs.Command.{command_of, left_with_cmd};
-
     // The next command whose `cmd` is `wanted`. The commands before it are skipped.
     pub(crate) fn next_with_cmd(&mut self, wanted: u32) -> Option<Command<'a>>
         ensures { YieldsFirstBy command_of (left_with_cmd wanted) self.old result self.new }

@@ -1,15 +1,15 @@
 //! The dynamic linker that an image asks for. (`mach-o/loader.h`: `dylinker_command`)
 
+ghost use Rattle.std.specs.Prelude.{◌≡◌};
+ghost use Rattle.std.specs.Option.{option_map};
+ghost use Rattle.macho_fields.specs.Image.{commands_of};
+ghost use Rattle.macho_image.specs.Command.{command_name, first_with_cmd};
+
 use crate::command::name_of;
 use crate::image::Image;
 use macho_fields::header::loader::LC_LOAD_DYLINKER;
 
 impl<'a> Image<'a> {
-    ghost use Rattle.std.specs.Prelude.{◌≡◌};
-    ghost use Rattle.std.specs.Option.{option_map};
-    ghost use Rattle.macho_fields.specs.Image.{commands_of};
-    ghost use Rattle.macho_image.specs.Command.{command_name, first_with_cmd};
-
     /// The path of the dynamic linker: the name of the first `LC_LOAD_DYLINKER`, borrowed from the
     /// image, without the zero byte that ends it. `None` if the image has no such command. It may
     /// have several: no rule forbids that.

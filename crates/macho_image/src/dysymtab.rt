@@ -2,10 +2,12 @@
 //! `dysymtab_command`)
 
 ghost use Rattle.std.specs.Prelude.{◌≡◌, ◌+◌, ◌≤◌, length};
+ghost use Rattle.std.specs.Option.{option_map};
 ghost use Rattle.macho_fields.specs.Bytes.{bytes_of};
-ghost use Rattle.macho_fields.specs.Image.{word};
+ghost use Rattle.macho_fields.specs.Image.{word, commands_of};
 ghost use Rattle.macho_fields.specs.LoadCommands.{structure_size};
 ghost use Rattle.macho_fields.specs.declared.load_command.Structure.TheVariants.{DysymtabCommand};
+ghost use Rattle.macho_image.specs.Command.{first_with_cmd};
 ghost use Rattle.macho_image.specs.Symbol.{dysymtab_at};
 
 use crate::command::word_in;
@@ -64,12 +66,6 @@ pub struct Dysymtab {
 }
 
 impl<'a> Image<'a> {
-    ghost use Rattle.std.specs.Prelude.{◌≡◌};
-    ghost use Rattle.std.specs.Option.{option_map};
-    ghost use Rattle.macho_fields.specs.Image.{commands_of};
-    ghost use Rattle.macho_image.specs.Command.{first_with_cmd};
-    ghost use Rattle.macho_image.specs.Symbol.{dysymtab_at};
-
     /// The `LC_DYSYMTAB` command, or `None` if the image has none.
     pub fn dysymtab(&self) -> Option<Dysymtab>
         ensures { result ≡ option_map (dysymtab_at self.now)

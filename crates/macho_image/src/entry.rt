@@ -1,14 +1,14 @@
 //! The base address of an image and the address of its entry point. (`mach-o/loader.h`:
 //! `segment_command_64`, `entry_point_command`)
 
+ghost use Rattle.std.specs.Prelude.{◌≡◌};
+ghost use Rattle.macho_fields.specs.Image.{commands_of};
+ghost use Rattle.macho_fields.specs.Segment.{base_of};
+ghost use Rattle.macho_image.specs.Entry.{entry_of};
+
 use crate::image::Image;
 
 impl<'a> Image<'a> {
-    ghost use Rattle.std.specs.Prelude.{◌≡◌};
-    ghost use Rattle.macho_fields.specs.Segment.{base_of};
-    ghost use Rattle.macho_fields.specs.Image.{commands_of};
-    ghost use Rattle.macho_image.specs.Entry.{entry_of};
-
     /// The base address of the image: the `vmaddr` of the first segment with a `fileoff` of 0 whose
     /// `filesize` and `vmsize` are not 0. `None` if there is no such segment.
     pub fn base(&self) -> Option<u64>

@@ -1,7 +1,24 @@
 //! An opened image. (`mach-o/loader.h`: `mach_header_64`)
 
+ghost use Rattle.std.specs.Prelude.{◌≡◌, ◌+◌, ◌^◌, ◌≤◌, ◌<◌, length, IfOk, IfSome, Some, map};
+ghost use Rattle.std.specs.Option.{option_map, option_map_or};
+ghost use Rattle.macho_fields.specs.Bytes.{bytes_of};
+ghost use Rattle.macho_fields.specs.FileTypes.{file_type_of, file_type_view};
+ghost use Rattle.macho_fields.specs.Image.{cpu_type, cpu_subtype, file_type, commands_end, commands_of};
+ghost use Rattle.macho_fields.specs.Layers.{Continues, StopsAt};
+ghost use Rattle.macho_fields.specs.LoadCommands.{structure_of, structure_size, IsUnique};
+ghost use Rattle.macho_fields.specs.Rules.{BreaksImage};
+ghost use Rattle.macho_fields.specs.Universal.{masked};
+ghost use Rattle.macho_fields.specs.declared.rule.Rule.{Rule};
+ghost use Rattle.macho_image.specs.Command.{command_of, command_at, commands_left, first_with_cmd};
+ghost use Rattle.macho_image.specs.Header.{IsKind};
+ghost use Rattle.macho_image.specs.Opened.{IsOpened};
+ghost use Rattle.macho_image.specs.Table.{HaveTables};
+ghost use Rattle.macho_image.specs.Views.{HaveSegments};
+ghost use Rattle.macho_image.specs.Walk.{CanWalk};
+
 use crate::command::{Command, Commands};
-use crate::landmarks::Landmarks;
+use crate::landmarks::{CommandRange, Landmarks};
 use crate::rules::dylib_id;
 use crate::survey::Survey;
 use crate::walk::{
@@ -32,23 +49,6 @@ impl<'a> Model for Image<'a> {
 }
 
 impl<'a> Image<'a> {
-    ghost use Rattle.std.specs.Prelude.{◌≡◌, ◌+◌, ◌^◌, ◌≤◌, ◌<◌, length, IfOk, IfSome, Some, map};
-    ghost use Rattle.std.specs.Option.{option_map, option_map_or};
-    ghost use Rattle.macho_fields.specs.Bytes.{bytes_of};
-    ghost use Rattle.macho_fields.specs.FileTypes.{file_type_of, file_type_view};
-    ghost use Rattle.macho_fields.specs.LoadCommands.{structure_of, structure_size, IsUnique};
-    ghost use Rattle.macho_fields.specs.Rules.{BreaksImage};
-    ghost use Rattle.macho_fields.specs.Layers.{Continues, StopsAt};
-    ghost use Rattle.macho_fields.specs.Image.{cpu_type, cpu_subtype, file_type};
-    ghost use Rattle.macho_fields.specs.Image.{commands_end, commands_of};
-    ghost use Rattle.macho_fields.specs.Universal.{masked};
-    ghost use Rattle.macho_fields.specs.declared.rule.Rule.{Rule};
-    ghost use Rattle.macho_image.specs.Command.{command_of, command_at, first_with_cmd};
-    ghost use Rattle.macho_image.specs.Header.{IsKind};
-    ghost use Rattle.macho_image.specs.Opened.{IsOpened};
-    ghost use Rattle.macho_image.specs.Views.{HaveSegments};
-    ghost use Rattle.macho_image.specs.Table.{HaveTables};
-
     /// Opens `bytes` as a 64-bit image. `arch` is the `cputype` and the `cpusubtype` that a
     /// universal file gives for it, or `None` if the image is a separate file. The magic number is
     /// not checked: any bytes are judged as a 64-bit image.
@@ -158,12 +158,7 @@ impl<'a> Image<'a> {
         ensures tables { HaveTables self.now result }
         ensures opened { IsOpened self.now }
     {
-        let range = self.landmarks.tables;
-        Commands {
-            image: self.bytes,
-            place: range.place,
-            left: range.count,
-        }
+        self.commands_in(self.landmarks.tables)
     }
 
     // The commands from the first segment to the last. Searches for segments are limited to these.
@@ -171,7 +166,15 @@ impl<'a> Image<'a> {
         ensures segments { HaveSegments self.now result }
         ensures opened { IsOpened self.now }
     {
-        let range = self.landmarks.segments;
+        self.commands_in(self.landmarks.segments)
+    }
+
+    // The commands of a range, which follow one another in the image.
+    fn commands_in(&self, range: CommandRange) -> Commands<'a>
+        requires { CanWalk self.now range.place range.count }
+        ensures commands { result ≡ commands_left self.now range.place range.count }
+        ensures opened { IsOpened self.now }
+    {
         Commands {
             image: self.bytes,
             place: range.place,

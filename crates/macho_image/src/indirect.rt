@@ -1,5 +1,12 @@
 //! The indirect symbol table of an opened image. (`mach-o/loader.h`: `dysymtab_command`)
 
+ghost use Rattle.std.specs.Prelude.{◌↔◌, IsTrue, ◌≡◌, map, take, drop, slice_get};
+ghost use Rattle.std.specs.Iterator.{YieldsFirst, item_count};
+ghost use Rattle.macho_fields.specs.Bytes.{bytes_of};
+ghost use Rattle.macho_fields.specs.Image.{commands_of};
+ghost use Rattle.macho_fields.specs.Symbol.{IsSymbolIndex};
+ghost use Rattle.macho_image.specs.Symbol.{indirect_at, items_inside, indirects_of};
+
 use crate::command::word_at;
 use crate::image::Image;
 use crate::items::Items;
@@ -20,9 +27,6 @@ pub struct Indirect {
 }
 
 impl Indirect {
-    ghost use Rattle.std.specs.Prelude.{◌↔◌, IsTrue};
-    ghost use Rattle.macho_fields.specs.Symbol.{IsSymbolIndex};
-
     /// Whether the entry is the index of a symbol: it is marked neither local nor absolute.
     pub fn is_symbol_index(self) -> bool
         ensures { IsTrue result ↔ IsSymbolIndex self.value }
@@ -55,8 +59,6 @@ impl<'a> Model for Indirects<'a> {
 }
 
 impl<'a> Iterator for Indirects<'a> {
-    ghost use Rattle.std.specs.Iterator.{YieldsFirst, item_count};
-
     type Item = Indirect;
 
     ghost next_gives = { YieldsFirst (λ left. left) };
@@ -71,10 +73,6 @@ impl<'a> Iterator for Indirects<'a> {
 }
 
 impl<'a> Indirects<'a> {
-    ghost use Rattle.std.specs.Prelude.{◌≡◌, map, take, drop};
-    ghost use Rattle.macho_fields.specs.Bytes.{bytes_of};
-    ghost use Rattle.macho_image.specs.Symbol.{indirect_at, items_inside};
-
     /// The `count` entries of the table that begins at `place`, in its order. Empty if the table
     /// does not lie inside the image.
     pub fn in_table(image: Bytes<'a>, place: u64, count: u64) -> Indirects<'a>
@@ -99,10 +97,6 @@ impl<'a> Indirects<'a> {
 }
 
 impl<'a> Image<'a> {
-    ghost use Rattle.std.specs.Prelude.{◌≡◌, map, slice_get};
-    ghost use Rattle.macho_fields.specs.Image.{commands_of};
-    ghost use Rattle.macho_image.specs.Symbol.{indirects_of, indirect_at};
-
     /// The `nindirectsyms` entries of the indirect symbol table, in its order. Empty if the table
     /// does not lie inside the image, or the image has no `LC_DYSYMTAB`.
     pub fn indirects(&self) -> Indirects<'a>
@@ -126,11 +120,6 @@ impl<'a> Image<'a> {
         ensures { result ≡ slice_get (map (indirect_at self.now)
             (indirects_of self.now (commands_of self.now))) index }
     {
-        let all = self.indirects();
-        let mut one = Indirects {
-            image: all.image,
-            items: all.items.range(index, 1),
-        };
-        one.next()
+        self.indirects().range(index, 1).next()
     }
 }

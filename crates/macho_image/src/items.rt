@@ -1,5 +1,11 @@
 //! The items of a table, one after another.
 
+ghost use Rattle.std.specs.Prelude.{◌≡◌, ◌+◌, ◌*◌, ◌^◌, ◌<◌, [], take, drop};
+ghost use Rattle.std.specs.Iterator.{YieldsFirst, item_count};
+ghost use Rattle.macho_fields.specs.Bytes.{bytes_of};
+ghost use Rattle.macho_image.specs.Symbol.{items_from, items_inside};
+ghost use Rattle.macho_image.specs.Views.{HoldItems};
+
 use macho_fields::Bytes;
 use std::marker::Model;
 
@@ -23,8 +29,6 @@ impl Model for Items {
 }
 
 impl Iterator for Items {
-    ghost use Rattle.std.specs.Iterator.{YieldsFirst, item_count};
-
     type Item = u64;
 
     ghost next_gives = { YieldsFirst (λ left. left) };
@@ -43,11 +47,6 @@ impl Iterator for Items {
 }
 
 impl Items {
-    ghost use Rattle.std.specs.Prelude.{◌≡◌, ◌+◌, ◌*◌, ◌^◌, ◌<◌, [], take, drop};
-    ghost use Rattle.macho_fields.specs.Bytes.{bytes_of};
-    ghost use Rattle.macho_image.specs.Symbol.{items_from, items_inside};
-    ghost use Rattle.macho_image.specs.Views.{HoldItems};
-
     // The `count` items of `each` bytes from `place` on.
     pub(crate) fn new(place: u64, count: u64, each: u64) -> Items
         requires { place + count * each < 2 ^ 64 }

@@ -1,10 +1,12 @@
 //! The dynamic libraries that an image names. (`mach-o/loader.h`: `dylib_command`)
 
-ghost use Rattle.std.specs.Prelude.{◌≡◌};
-ghost use Rattle.std.specs.Iterator.{YieldsFirstBy};
+ghost use Rattle.std.specs.Prelude.{◌≡◌, map};
+ghost use Rattle.std.specs.Iterator.{YieldsFirstBy, item_count};
+ghost use Rattle.std.specs.Option.{option_map};
 ghost use Rattle.macho_fields.specs.Bytes.{bytes_of};
-ghost use Rattle.macho_image.specs.Command.{command_of};
-ghost use Rattle.macho_image.specs.Library.{dylib_of, dylib_at, libraries_left};
+ghost use Rattle.macho_fields.specs.Image.{commands_of};
+ghost use Rattle.macho_image.specs.Command.{command_of, first_with_cmd};
+ghost use Rattle.macho_image.specs.Library.{dylib_of, dylib_at, libraries_left, libraries};
 ghost use Rattle.macho_image.specs.Views.{HoldsLibrary};
 
 use crate::command::{Command, Commands, name_of, word_at, word_in};
@@ -51,9 +53,6 @@ impl<'a> Model for Dylibs<'a> {
 }
 
 impl<'a> Iterator for Dylibs<'a> {
-    ghost use Rattle.std.specs.Iterator.{YieldsFirstBy, item_count};
-    ghost use Rattle.macho_image.specs.Library.{dylib_of};
-
     type Item = Dylib<'a>;
 
     ghost next_gives = { YieldsFirstBy dylib_of (λ left. left) };
@@ -67,12 +66,6 @@ impl<'a> Iterator for Dylibs<'a> {
 }
 
 impl<'a> Image<'a> {
-    ghost use Rattle.std.specs.Prelude.{◌≡◌, map};
-    ghost use Rattle.macho_fields.specs.Image.{commands_of};
-    ghost use Rattle.std.specs.Option.{option_map};
-    ghost use Rattle.macho_image.specs.Command.{first_with_cmd};
-    ghost use Rattle.macho_image.specs.Library.{libraries, dylib_of, dylib_at};
-
     /// The libraries that the image names, in the order of the commands. The `LC_ID_DYLIB` of a
     /// library is one of them.
     pub fn dylibs(&self) -> Dylibs<'a>

@@ -1,9 +1,12 @@
 //! The entry point of a program. (`mach-o/loader.h`: `entry_point_command`)
 
 ghost use Rattle.std.specs.Prelude.{◌≡◌, ◌+◌, ◌≤◌, length};
+ghost use Rattle.std.specs.Option.{option_map};
 ghost use Rattle.macho_fields.specs.Bytes.{bytes_of};
+ghost use Rattle.macho_fields.specs.Image.{commands_of};
 ghost use Rattle.macho_fields.specs.LoadCommands.{structure_size};
 ghost use Rattle.macho_fields.specs.declared.load_command.Structure.TheVariants.{EntryPointCommand};
+ghost use Rattle.macho_image.specs.Command.{first_with_cmd};
 ghost use Rattle.macho_image.specs.Single.{main_command_at};
 
 use crate::command::long_in;
@@ -23,12 +26,6 @@ pub struct MainCommand {
 }
 
 impl<'a> Image<'a> {
-    ghost use Rattle.std.specs.Prelude.{◌≡◌};
-    ghost use Rattle.std.specs.Option.{option_map};
-    ghost use Rattle.macho_fields.specs.Image.{commands_of};
-    ghost use Rattle.macho_image.specs.Command.{first_with_cmd};
-    ghost use Rattle.macho_image.specs.Single.{main_command_at};
-
     /// The `LC_MAIN` command, or `None` if the image has none.
     pub fn main_command(&self) -> Option<MainCommand>
         ensures { result ≡ option_map (main_command_at self.now)

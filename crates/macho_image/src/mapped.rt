@@ -1,6 +1,12 @@
 //! The mapped segments of an opened image: those that have addresses. (`mach-o/loader.h`:
 //! `segment_command_64`)
 
+ghost use Rattle.std.specs.Prelude.{◌≡◌, map};
+ghost use Rattle.std.specs.Iterator.{YieldsFirst, item_count};
+ghost use Rattle.macho_image.specs.Mapped.{mapped_segments};
+ghost use Rattle.macho_image.specs.Opened.{IsOpened};
+ghost use Rattle.macho_image.specs.Segment.{segment_at};
+
 use crate::image::Image;
 use crate::segment::{Segment, Segments};
 use std::marker::Model;
@@ -22,8 +28,6 @@ impl<'a> Model for MappedSegments<'a> {
 }
 
 impl<'a> Iterator for MappedSegments<'a> {
-    ghost use Rattle.std.specs.Iterator.{YieldsFirst, item_count};
-
     type Item = Segment<'a>;
 
     ghost next_gives = { YieldsFirst (λ left. left) };
@@ -41,11 +45,6 @@ impl<'a> Iterator for MappedSegments<'a> {
 }
 
 impl<'a> Image<'a> {
-    ghost use Rattle.std.specs.Prelude.{◌≡◌, map};
-    ghost use Rattle.macho_image.specs.Mapped.{mapped_segments};
-    ghost use Rattle.macho_image.specs.Opened.{IsOpened};
-    ghost use Rattle.macho_image.specs.Segment.{segment_at};
-
     /// The mapped segments of the image, those whose `vmsize` is not 0, in the order of the commands.
     pub fn mapped_segments(&self) -> MappedSegments<'a>
         ensures segments { result ≡ map (segment_at self.now) (mapped_segments self.now) }

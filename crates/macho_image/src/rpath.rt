@@ -1,6 +1,11 @@
 //! The run paths of an image, where the libraries that it names with `@rpath` are looked for.
 //! (`mach-o/loader.h`: `rpath_command`)
 
+ghost use Rattle.std.specs.Prelude.{◌≡◌};
+ghost use Rattle.std.specs.Iterator.{YieldsFirstBy, item_count};
+ghost use Rattle.macho_fields.specs.Image.{commands_of};
+ghost use Rattle.macho_image.specs.Rpath.{rpaths_of};
+
 use crate::command::{Commands, name_of};
 use crate::image::Image;
 use macho_fields::Bytes;
@@ -29,8 +34,6 @@ impl<'a> Model for Rpaths<'a> {
 }
 
 impl<'a> Iterator for Rpaths<'a> {
-    ghost use Rattle.std.specs.Iterator.{YieldsFirstBy, item_count};
-
     type Item = &'a [u8];
 
     ghost next_gives = { YieldsFirstBy (λ path. path.now) (λ left. left) };
@@ -44,10 +47,6 @@ impl<'a> Iterator for Rpaths<'a> {
 }
 
 impl<'a> Image<'a> {
-    ghost use Rattle.std.specs.Prelude.{◌≡◌};
-    ghost use Rattle.macho_fields.specs.Image.{commands_of};
-    ghost use Rattle.macho_image.specs.Rpath.{rpaths_of};
-
     /// The run paths: those of the `LC_RPATH` commands, in the order of the commands. Each is
     /// borrowed from the image, without the zero byte that ends it.
     pub fn rpaths(&self) -> Rpaths<'a>

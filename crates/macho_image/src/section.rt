@@ -1,5 +1,12 @@
 //! The sections of a segment. (`mach-o/loader.h`: `section_64`)
 
+ghost use Rattle.std.specs.Prelude.{◌≡◌, ◌%◌, ◌^◌, ◌<◌, map};
+ghost use Rattle.std.specs.Iterator.{YieldsFirst, item_count};
+ghost use Rattle.macho_fields.specs.Image.{commands_of};
+ghost use Rattle.macho_fields.specs.Segment.{section_address, section_size, section_offset, reloff, nreloc, section_flags, is_zero_fill};
+ghost use Rattle.macho_image.specs.Opened.{IsOpened};
+ghost use Rattle.macho_image.specs.Segment.{segment_at, section_name, section_align, reserved1, reserved2, section_at, sections_of};
+
 use crate::command::{long_in, word_in};
 use crate::image::Image;
 use crate::items::Items;
@@ -33,12 +40,6 @@ impl<'a> Model for Section<'a> {
 }
 
 impl<'a> Section<'a> {
-    ghost use Rattle.std.specs.Prelude.{◌≡◌, ◌%◌, ◌^◌, ◌<◌};
-    ghost use Rattle.macho_fields.specs.Segment.{section_address, section_size, section_offset};
-    ghost use Rattle.macho_fields.specs.Segment.{reloff, nreloc, section_flags, is_zero_fill};
-    ghost use Rattle.macho_image.specs.Segment.{segment_at, section_name, section_align};
-    ghost use Rattle.macho_image.specs.Segment.{reserved1, reserved2};
-
     /// The segment that it belongs to.
     pub fn segment(&self) -> Segment<'a>
         ensures { result ≡ segment_at self.now.image self.now.segment }
@@ -200,8 +201,6 @@ impl<'a> Model for Sections<'a> {
 }
 
 impl<'a> Iterator for Sections<'a> {
-    ghost use Rattle.std.specs.Iterator.{YieldsFirst, item_count};
-
     type Item = Section<'a>;
 
     ghost next_gives = { YieldsFirst (λ left. left) };
@@ -237,8 +236,6 @@ impl<'a> Model for AllSections<'a> {
 }
 
 impl<'a> Iterator for AllSections<'a> {
-    ghost use Rattle.std.specs.Iterator.{YieldsFirst, item_count};
-
     type Item = Section<'a>;
 
     ghost next_gives = { YieldsFirst (λ left. left) };
@@ -257,11 +254,6 @@ impl<'a> Iterator for AllSections<'a> {
 }
 
 impl<'a> Image<'a> {
-    ghost use Rattle.std.specs.Prelude.{◌≡◌, map};
-    ghost use Rattle.macho_fields.specs.Image.{commands_of};
-    ghost use Rattle.macho_image.specs.Opened.{IsOpened};
-    ghost use Rattle.macho_image.specs.Segment.{section_at, sections_of};
-
     /// The sections of all segments, in the order of the commands.
     pub fn sections(&self) -> AllSections<'a>
         ensures sections { result ≡ map (section_at self.now)

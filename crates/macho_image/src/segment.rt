@@ -1,8 +1,12 @@
 //! The segments of an opened image. (`mach-o/loader.h`: `segment_command_64`)
 
-ghost use Rattle.std.specs.Prelude.{◌≡◌, ◌+◌, ◌≤◌, length};
+ghost use Rattle.std.specs.Prelude.{◌≡◌, ◌+◌, ◌≤◌, length, ◌^◌, ◌<◌, map};
+ghost use Rattle.std.specs.Iterator.{YieldsFirst, item_count};
 ghost use Rattle.macho_fields.specs.Bytes.{bytes_of};
-ghost use Rattle.macho_image.specs.Segment.{short_name};
+ghost use Rattle.macho_fields.specs.Image.{commands_of};
+ghost use Rattle.macho_fields.specs.Segment.{vmaddr, vmsize, fileoff, filesize, initprot, nsects, shows_start, segments_of, section_count};
+ghost use Rattle.macho_image.specs.Opened.{IsOpened};
+ghost use Rattle.macho_image.specs.Segment.{short_name, maxprot, section_at, sections_with, segment_name, segment_at};
 
 use crate::command::{Commands, long_in, word_in};
 use crate::image::Image;
@@ -33,12 +37,6 @@ impl<'a> Model for Segment<'a> {
 }
 
 impl<'a> Segment<'a> {
-    ghost use Rattle.std.specs.Prelude.{◌≡◌, ◌^◌, ◌<◌, map};
-    ghost use Rattle.macho_fields.specs.Bytes.{bytes_of};
-    ghost use Rattle.macho_fields.specs.Segment.{vmaddr, vmsize, fileoff, filesize, initprot, nsects};
-    ghost use Rattle.macho_fields.specs.Segment.{shows_start};
-    ghost use Rattle.macho_image.specs.Segment.{maxprot, section_at, sections_with, segment_name};
-
     /// All bytes of the image that it is a segment of.
     pub fn image(&self) -> Bytes<'a>
         ensures { bytes_of result ≡ self.now.image }
@@ -177,8 +175,6 @@ impl<'a> Model for Segments<'a> {
 }
 
 impl<'a> Iterator for Segments<'a> {
-    ghost use Rattle.std.specs.Iterator.{YieldsFirst, item_count};
-
     type Item = Segment<'a>;
 
     ghost next_gives = { YieldsFirst (λ left. left) };
@@ -195,12 +191,6 @@ impl<'a> Iterator for Segments<'a> {
 }
 
 impl<'a> Image<'a> {
-    ghost use Rattle.std.specs.Prelude.{◌≡◌, ◌<◌, ◌^◌, length, map};
-    ghost use Rattle.macho_fields.specs.Segment.{segments_of, section_count};
-    ghost use Rattle.macho_fields.specs.Image.{commands_of};
-    ghost use Rattle.macho_image.specs.Opened.{IsOpened};
-    ghost use Rattle.macho_image.specs.Segment.{segment_at};
-
     /// The segments of the image, one for each `LC_SEGMENT_64`, in the order of the commands.
     pub fn segments(&self) -> Segments<'a>
         ensures segments { result ≡ map (segment_at self.now)

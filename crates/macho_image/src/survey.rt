@@ -1,5 +1,11 @@
 //! What one walk over the load commands of an image finds. (`mach-o/loader.h`: `load_command`)
 
+ghost use Rattle.std.specs.Prelude.{◌≡◌, ◌+◌, ◌^◌, ◌<◌, OnOk};
+ghost use Rattle.macho_fields.specs.First.{rank};
+ghost use Rattle.macho_fields.specs.Layers.{KeptBelow, Continues, StopsAt};
+ghost use Rattle.macho_fields.specs.declared.rule.Rule.{Rule};
+ghost use Rattle.macho_image.specs.Walk.{breaks_of, CanPass, HasPassed, HasPassedAll};
+
 use crate::command::{command_from, word_at};
 use crate::landmarks::Landmarks;
 use crate::rules::{has_bad_name, is_short};
@@ -20,12 +26,6 @@ pub(crate) struct Survey<'a> {
 }
 
 impl<'a> Survey<'a> {
-    ghost use Rattle.std.specs.Prelude.{◌≡◌, ◌+◌, ◌^◌, ◌<◌, OnOk};
-    ghost use Rattle.macho_fields.specs.First.{rank};
-    ghost use Rattle.macho_fields.specs.Layers.{KeptBelow, Continues, StopsAt};
-    ghost use Rattle.macho_fields.specs.declared.rule.Rule.{Rule};
-    ghost use Rattle.macho_image.specs.Walk.{breaks_of, CanPass, HasPassed, HasPassedAll};
-
     // No command is passed.
     pub(crate) fn new(candidate: Candidate<'a>) -> Survey<'a>
         ensures candidate { result.candidate ≡ candidate.entry }

@@ -1,8 +1,11 @@
 //! The symbols of an opened image. (`mach-o/nlist.h`: `nlist_64`)
 
-ghost use Rattle.std.specs.Prelude.{◌≡◌, ◌+◌, ◌≤◌, length};
+ghost use Rattle.std.specs.Prelude.{◌≡◌, ◌+◌, ◌≤◌, length, ◌↔◌, IsTrue, map, take, drop, slice_get};
+ghost use Rattle.std.specs.Iterator.{YieldsFirst, item_count};
 ghost use Rattle.macho_fields.specs.Bytes.{bytes_of};
-ghost use Rattle.macho_image.specs.Symbol.{symbol_at};
+ghost use Rattle.macho_fields.specs.Image.{commands_of};
+ghost use Rattle.macho_fields.specs.Symbol.{IsSectionType};
+ghost use Rattle.macho_image.specs.Symbol.{symbol_at, items_inside, symbols_of};
 
 use crate::command::{long_at, word_at};
 use crate::image::Image;
@@ -29,9 +32,6 @@ pub struct Symbol {
 }
 
 impl Symbol {
-    ghost use Rattle.std.specs.Prelude.{◌↔◌, IsTrue};
-    ghost use Rattle.macho_fields.specs.Symbol.{IsSectionType};
-
     /// Whether `sect` must be the number of a section: the symbol is defined in one, and is not a
     /// debugging entry.
     pub fn names_section(&self) -> bool
@@ -64,8 +64,6 @@ impl<'a> Model for Symbols<'a> {
 }
 
 impl<'a> Iterator for Symbols<'a> {
-    ghost use Rattle.std.specs.Iterator.{YieldsFirst, item_count};
-
     type Item = Symbol;
 
     ghost next_gives = { YieldsFirst (λ left. left) };
@@ -79,10 +77,6 @@ impl<'a> Iterator for Symbols<'a> {
 }
 
 impl<'a> Symbols<'a> {
-    ghost use Rattle.std.specs.Prelude.{◌≡◌, map, take, drop};
-    ghost use Rattle.macho_fields.specs.Bytes.{bytes_of};
-    ghost use Rattle.macho_image.specs.Symbol.{symbol_at, items_inside};
-
     /// The `count` symbols of the table that begins at `place`, in its order. Empty if the table
     /// does not lie inside the image.
     pub fn in_table(image: Bytes<'a>, place: u64, count: u64) -> Symbols<'a>
@@ -107,10 +101,6 @@ impl<'a> Symbols<'a> {
 }
 
 impl<'a> Image<'a> {
-    ghost use Rattle.std.specs.Prelude.{◌≡◌, map, take, drop, slice_get};
-    ghost use Rattle.macho_fields.specs.Image.{commands_of};
-    ghost use Rattle.macho_image.specs.Symbol.{symbols_of, symbol_at};
-
     /// The `nsyms` symbols of `LC_SYMTAB`, in the order of the table. Empty if the table does not
     /// lie inside the image, or the image has no `LC_SYMTAB`.
     pub fn symbols(&self) -> Symbols<'a>

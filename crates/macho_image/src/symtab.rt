@@ -1,11 +1,14 @@
 //! The symbol table of an opened image. (`mach-o/loader.h`: `symtab_command`)
 
 ghost use Rattle.std.specs.Prelude.{◌≡◌, ◌+◌, ◌≤◌, ◌↔◌, length, IsSome, IfSome};
+ghost use Rattle.std.specs.Option.{option_map};
 ghost use Rattle.macho_fields.specs.Bytes.{bytes_of};
 ghost use Rattle.macho_fields.specs.Field.{string_from};
+ghost use Rattle.macho_fields.specs.Image.{commands_of};
 ghost use Rattle.macho_fields.specs.LoadCommands.{structure_size};
 ghost use Rattle.macho_fields.specs.declared.load_command.Structure.TheVariants.{SymtabCommand};
-ghost use Rattle.macho_image.specs.Symbol.{symtab_at, EndsInStrings};
+ghost use Rattle.macho_image.specs.Command.{first_with_cmd};
+ghost use Rattle.macho_image.specs.Symbol.{symtab_at, EndsInStrings, HasName, IsNameAt};
 
 use crate::command::word_in;
 use crate::image::Image;
@@ -29,12 +32,6 @@ pub struct Symtab {
 }
 
 impl<'a> Image<'a> {
-    ghost use Rattle.std.specs.Prelude.{◌≡◌, ◌↔◌, IsSome, IfSome};
-    ghost use Rattle.std.specs.Option.{option_map};
-    ghost use Rattle.macho_fields.specs.Image.{commands_of};
-    ghost use Rattle.macho_image.specs.Command.{first_with_cmd};
-    ghost use Rattle.macho_image.specs.Symbol.{symtab_at, HasName, IsNameAt};
-
     /// The `LC_SYMTAB` command, or `None` if the image has none.
     pub fn symtab(&self) -> Option<Symtab>
         ensures { result ≡ option_map (symtab_at self.now)

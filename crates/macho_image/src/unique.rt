@@ -1,5 +1,11 @@
 //! The commands of which an image has at most one. (`mach-o/loader.h`: `load_command`)
 
+ghost use Rattle.std.specs.Prelude.{◌≡◌, ◌∷◌, ◌++◌, ◌↔◌, [], ℕ, List, None, IsTrue, IsSome};
+ghost use Rattle.macho_fields.specs.Image.{command_cmd};
+ghost use Rattle.macho_fields.specs.LoadCommands.{IsUnique};
+ghost use Rattle.macho_image.specs.Command.{first_with_cmd};
+ghost use Rattle.macho_image.specs.Walk.{AreFirst};
+
 use crate::command::Command;
 use macho_fields::{UNIQUE_COUNT, unique_index};
 
@@ -11,12 +17,6 @@ pub(crate) struct UniquePlaces {
 }
 
 impl UniquePlaces {
-    ghost use Rattle.std.specs.Prelude.{◌≡◌, ◌∷◌, ◌++◌, ◌↔◌, [], ℕ, List, None, IsTrue, IsSome};
-    ghost use Rattle.macho_fields.specs.Image.{command_cmd};
-    ghost use Rattle.macho_fields.specs.LoadCommands.{IsUnique};
-    ghost use Rattle.macho_image.specs.Command.{first_with_cmd};
-    ghost use Rattle.macho_image.specs.Walk.{AreFirst};
-
     // The places where no command was noted.
     pub(crate) fn new() -> UniquePlaces
         ensures { (image : List ℕ) → AreFirst image [] result }

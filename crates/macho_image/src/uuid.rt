@@ -1,9 +1,12 @@
 //! The UUID of a build. (`mach-o/loader.h`: `uuid_command`)
 
 ghost use Rattle.std.specs.Prelude.{◌≡◌, ◌+◌, ◌≤◌, length};
+ghost use Rattle.std.specs.Option.{option_map};
 ghost use Rattle.macho_fields.specs.Bytes.{bytes_of};
+ghost use Rattle.macho_fields.specs.Image.{commands_of};
 ghost use Rattle.macho_fields.specs.LoadCommands.{structure_size};
 ghost use Rattle.macho_fields.specs.declared.load_command.Structure.TheVariants.{UuidCommand};
+ghost use Rattle.macho_image.specs.Command.{first_with_cmd};
 ghost use Rattle.macho_image.specs.Single.{uuid_at};
 
 use crate::image::Image;
@@ -11,12 +14,6 @@ use macho_fields::header::loader::LC_UUID;
 use macho_fields::{Bytes, Span};
 
 impl<'a> Image<'a> {
-    ghost use Rattle.std.specs.Prelude.{◌≡◌};
-    ghost use Rattle.std.specs.Option.{option_map};
-    ghost use Rattle.macho_fields.specs.Image.{commands_of};
-    ghost use Rattle.macho_image.specs.Command.{first_with_cmd};
-    ghost use Rattle.macho_image.specs.Single.{uuid_at};
-
     /// The 16 bytes of the UUID of the build, or `None` if the image has no `LC_UUID`.
     /// (`uuid_command`)
     pub fn uuid(&self) -> Option<[u8; 16]>

@@ -1,14 +1,15 @@
 //! The rules of the header of an image, and a step of the walk over its load commands.
 //! (`mach-o/loader.h`: `mach_header_64`, `load_command`)
 
-ghost use Rattle.std.specs.Prelude.{◌≡◌, ◌+◌, ◌^◌, ◌≤◌, ◌<◌, ◌↔◌, length, IsTrue, Some, IsSome, IfSome};
+ghost use Rattle.std.specs.Prelude.{◌≡◌, ◌+◌, ◌^◌, ◌≤◌, ◌<◌, ◌↔◌, length, IsTrue, Some, IsSome, IfSome, map};
 ghost use Rattle.macho_fields.specs.Bytes.{bytes_of};
 ghost use Rattle.macho_fields.specs.FileTypes.{file_type_of, file_type_view};
 ghost use Rattle.macho_fields.specs.First.{rank};
-ghost use Rattle.macho_fields.specs.Image.{file_type as header_file_type, cpu_type, cpu_subtype, commands_end, command_size, IsGood};
+ghost use Rattle.macho_fields.specs.Image.{file_type as header_file_type, cpu_type, cpu_subtype, commands_end, command_size, IsGood, commands_of};
 ghost use Rattle.macho_fields.specs.Layers.{KeptBelow, Continues, StopsAt};
 ghost use Rattle.macho_fields.specs.Universal.{masked};
 ghost use Rattle.macho_fields.specs.declared.rule.Rule.{Rule};
+ghost use Rattle.macho_image.specs.Command.{command_at};
 ghost use Rattle.macho_image.specs.Walk.{breaks_of};
 
 use crate::command::{CMDSIZE, Commands, word_at};
@@ -36,15 +37,6 @@ pub(crate) struct Candidate<'a> {
 }
 
 impl<'a> Candidate<'a> {
-    ghost use Rattle.std.specs.Prelude.{◌≡◌, map};
-    ghost use Rattle.macho_fields.specs.Bytes.{bytes_of};
-    ghost use Rattle.macho_fields.specs.First.{rank};
-    ghost use Rattle.macho_fields.specs.Image.{commands_of};
-    ghost use Rattle.macho_fields.specs.Layers.{KeptBelow};
-    ghost use Rattle.macho_fields.specs.declared.rule.Rule.{Rule};
-    ghost use Rattle.macho_image.specs.Command.{command_at};
-    ghost use Rattle.macho_image.specs.Walk.{breaks_of};
-
     // The load commands, in the order of the file.
     pub(crate) fn commands(self) -> Commands<'a>
         requires { KeptBelow (breaks_of self) (rank Rule.CommandShort) }
