@@ -1,3 +1,4 @@
+-- Found without this answer; with it a wrong body fails at once.
 use Rattle.std.proofs.Common.{rules}
 use Rattle.macho_program.proofs.status.check_status.Goals as goal
 
