@@ -12,8 +12,8 @@
  *
  * Every call is safe on any bytes, and on any numbers in the structures below. It does not rely on earlier calls:
  * neither that kesvuot_verify accepted the file, nor that a structure is still as kesvuot_image wrote it. A part that
- * would lie outside the bytes is left empty. In an accepted file no part is empty for that reason, and each part is as
- * RULES.md says.
+ * would lie outside the bytes is left empty. In an accepted file no part is empty for that reason, which is proved, and
+ * each part is as RULES.md says.
  *
  * You must ensure:
  * - Each pointer is valid for as many bytes or rows as you pass. It may be null only if the size or count is 0.
@@ -54,7 +54,7 @@ struct kesvuot_bytes {
 enum {
     KESVUOT_OK = 0,
     KESVUOT_REFUSED = 1,   /* the bytes break a rule */
-    KESVUOT_NO_MEMORY = 2, /* memory ran out: there is no verdict */
+    KESVUOT_NO_MEMORY = 2, /* memory ran out: there is no verdict, and nothing is claimed about the file */
     KESVUOT_NONE = 3,      /* there is no such rule, slice, command or address */
     KESVUOT_UNREAD = 4,    /* the slice is 32-bit or big-endian: nothing in it is judged */
     KESVUOT_ZERO = 5       /* the address is mapped, but to no byte of the file: a loader puts a zero there */
@@ -119,12 +119,17 @@ struct kesvuot_verdict {
 
 /* Judges a file by the rules of the file and of an image.
  * OK: no rule is broken, and `slices` is set. REFUSED: `rule` is the first broken rule, and the file breaks it at
- * `place`. NO_MEMORY: there is no verdict. All other fields are 0. */
+ * `place`. NO_MEMORY: there is no verdict. All other fields are 0.
+ * Memory can run out only for a universal file, or for one whose mapped segments neither ascend nor descend by address.
+ * For every other file there is a verdict, however little memory is left. */
 uint32_t kesvuot_verify(const void *file, size_t size, struct kesvuot_verdict *verdict);
 
 /* Judges a file as kesvuot_verify does, and then by the rules of the strict profile: every nonzero byte is accounted
  * for, and no byte belongs to two elements, such as the headers, a section or a table. RULES.md says what that means.
- * Every file that is OK here is also OK for kesvuot_verify. */
+ * Every file that is OK here is also OK for kesvuot_verify.
+ * Memory can run out wherever it can for kesvuot_verify. Otherwise it can run out only in a file that breaks no rule of
+ * kesvuot_verify, and only if the slices do not ascend, or if in some slice the segments do not ascend by file offset,
+ * or the elements do not, or a range is encrypted, or a byte 0x90 (a NOP) is in no element. */
 uint32_t kesvuot_verify_strictly(const void *file, size_t size, struct kesvuot_verdict *verdict);
 
 /* Writes the layout of an accepted file as text, as macho-check prints it: up to `max` bytes, from its first byte on.
@@ -144,8 +149,11 @@ uint32_t kesvuot_rule(uint32_t rule, struct kesvuot_bytes *name);
  * <mach-o/loader.h> and <mach-o/nlist.h> explain the fields. Offsets count from the start of the slice, except that
  * `place` of an image counts from the start of the file. Reserved fields are 0.
  *
- * A name contains no zero byte. One follows the name of a command, library or symbol, but not always that of a segment
- * or section, which can fill all its 16 bytes: use len. */
+ * A name contains no zero byte, and may be empty. After one that is not empty a zero byte follows in a command, library
+ * or symbol, but not always in a segment or section, where a name can fill all 16 bytes: use len.
+ *
+ * The comments of the fields say what holds of them in an accepted file. "Any number" is not judged: test such a field
+ * before you use it as an index, an offset or a shift. */
 
 /* Which parts an image has: bits of `has`. */
 enum {
@@ -161,25 +169,26 @@ struct kesvuot_image {
     struct kesvuot_bytes bytes; /* the slice */
     uint64_t place;             /* where the slice begins in the file */
     uint64_t base;              /* HAS_BASE: the address of the header, before any slide */
-    uint64_t entry;             /* HAS_ENTRY: base + entryoff of LC_MAIN */
-    uint64_t symbols;           /* HAS_SYMTAB: symoff, nsyms, stroff, strsize of LC_SYMTAB */
-    uint64_t symbol_count;
-    uint64_t strings;
-    uint64_t strings_size;
-    uint64_t indirects; /* HAS_DYSYMTAB: indirectsymoff, nindirectsyms of LC_DYSYMTAB */
-    uint64_t indirect_count;
-    uint64_t command_count; /* how many rows each table below has */
+    uint64_t entry;             /* HAS_ENTRY: base + entryoff of LC_MAIN, in an executable segment, and in the file */
+    uint64_t symbols;           /* HAS_SYMTAB: symoff of LC_SYMTAB. Any number if symbol_count is 0 */
+    uint64_t symbol_count;      /* nsyms: the table lies in the slice */
+    uint64_t strings;           /* stroff. Any number if strings_size is 0 */
+    uint64_t strings_size;      /* strsize: the strings lie in the slice */
+    uint64_t indirects;         /* HAS_DYSYMTAB: indirectsymoff of LC_DYSYMTAB. Any number if indirect_count is 0 */
+    uint64_t indirect_count;    /* nindirectsyms: the table lies in the slice */
+    uint64_t command_count;     /* how many rows each table below has */
     uint64_t segment_count;
     uint64_t section_count;
     uint64_t library_count;
     uint64_t build_count;
-    uint32_t cputype;
-    uint32_t cpusubtype; /* without the capability byte, CPU_SUBTYPE_MASK */
-    uint32_t filetype;
-    uint32_t flags;
+    uint32_t cputype;     /* any number. In a universal file the table has the same, and so for cpusubtype */
+    uint32_t cpusubtype;  /* without the capability byte, CPU_SUBTYPE_MASK. Any number */
+    uint32_t filetype;    /* one that RULES.md lists: MH_EXECUTE, MH_DYLIB or MH_BUNDLE */
+    uint32_t flags;       /* any number */
     uint32_t has;         /* KESVUOT_HAS_.. */
-    uint32_t groups[6];   /* HAS_DYSYMTAB: ilocalsym, nlocalsym, iextdefsym, nextdefsym, iundefsym, nundefsym */
-    uint8_t uuid[16];     /* HAS_UUID */
+    uint32_t groups[6];   /* HAS_DYSYMTAB: ilocalsym, nlocalsym, iextdefsym, nextdefsym, iundefsym, nundefsym. An index
+                             is any number if its count is 0. Otherwise index + count is at most symbol_count */
+    uint8_t uuid[16];     /* HAS_UUID: any bytes */
     uint32_t reserved[5]; /* 0 */
 };
 
@@ -202,64 +211,67 @@ uint32_t kesvuot_image(const void *file, size_t size, uint64_t slice, struct kes
  * names then takes time in proportion to symbol_count * strings_size. To avoid that, set strings_size to 0 in a copy of
  * the image: its rows have no names. Then read the few rows whose names you need with the image itself. */
 
-struct kesvuot_segment { /* LC_SEGMENT_64 */
-    struct kesvuot_bytes name;
+struct kesvuot_segment {        /* LC_SEGMENT_64. No address is in two segments */
+    struct kesvuot_bytes name;  /* any bytes. Two segments can have one name */
     struct kesvuot_bytes bytes; /* all filesize bytes from fileoff on */
-    uint64_t vmaddr;
-    uint64_t vmsize;
-    uint64_t fileoff;
-    uint64_t filesize;
-    uint32_t first_section; /* the index of its first section in the table of sections */
-    uint32_t section_count; /* nsects */
-    uint32_t maxprot;
-    uint32_t initprot;
+    uint64_t vmaddr;            /* vmaddr + vmsize is at most 2^64. At 2^64 the sum wraps to 0 */
+    uint64_t vmsize;            /* 0: the segment is not mapped, and no address is in it */
+    uint64_t fileoff;           /* any number if filesize is 0 */
+    uint64_t filesize;          /* at most vmsize, unless vmsize is 0 */
+    uint32_t first_section;     /* the index of its first section in the table of sections, if it has one */
+    uint32_t section_count;     /* nsects */
+    uint32_t maxprot;           /* any number */
+    uint32_t initprot;          /* any number. VM_PROT_EXECUTE is set in the segment with the entry */
 };
 
-struct kesvuot_section { /* section_64. Of a symbol see `sect` of kesvuot_symbol. */
-    struct kesvuot_bytes name;
-    struct kesvuot_bytes segment; /* the name of its segment, from LC_SEGMENT_64 */
+struct kesvuot_section {          /* section_64. Of a symbol see `sect` of kesvuot_symbol. */
+    struct kesvuot_bytes name;    /* any bytes */
+    struct kesvuot_bytes segment; /* the name of its segment, from LC_SEGMENT_64. segname itself is not judged */
     struct kesvuot_bytes bytes;   /* all size bytes from offset on, none if it is zero-fill */
-    uint64_t addr;
-    uint64_t size;
-    uint32_t offset;
-    uint32_t align; /* the exponent of a power of 2 */
-    uint32_t reloff;
-    uint32_t nreloc;
-    uint32_t flags;
-    uint32_t reserved1;
-    uint32_t reserved2;
-    uint32_t zero_fill; /* 1: a loader fills it with zeros. 0: it has bytes in the file */
+    uint64_t addr;                /* any number if size is 0 or the segment is not mapped. Otherwise all size addresses
+                                     from addr on are in the segment */
+    uint64_t size;                /* any number if it is zero-fill and the segment is not mapped */
+    uint32_t offset;              /* any number if size is 0 or it is zero-fill */
+    uint32_t align;               /* the exponent of a power of 2. Any number: if it is large, 1 << align is undefined */
+    uint32_t reloff;              /* any number if nreloc is 0 */
+    uint32_t nreloc;              /* all 8 * nreloc bytes from reloff on lie in the slice */
+    uint32_t flags;               /* any number. The low byte is the type, on which zero_fill depends */
+    uint32_t reserved1;           /* any number, also where it is the index of an indirect symbol */
+    uint32_t reserved2;           /* any number */
+    uint32_t zero_fill;           /* 1: a loader fills it with zeros. 0: it has bytes in the file */
 };
 
-struct kesvuot_library { /* dylib_command. LC_ID_DYLIB is the image itself. */
-    struct kesvuot_bytes name;
-    uint32_t cmd;
-    uint32_t current; /* x << 16 | y << 8 | z */
-    uint32_t compatible;
+struct kesvuot_library {       /* dylib_command */
+    struct kesvuot_bytes name; /* any bytes, all in its command */
+    uint32_t cmd;              /* LC_ID_DYLIB (0xd): the image itself. An MH_DYLIB has one, and other images none. All
+                                  others are libraries that it loads */
+    uint32_t current;          /* x << 16 | y << 8 | z. Any number */
+    uint32_t compatible;       /* any number */
     uint32_t reserved;
 };
 
-struct kesvuot_build { /* build_version_command */
-    uint32_t platform;
-    uint32_t minos; /* x << 16 | y << 8 | z */
-    uint32_t sdk;
+struct kesvuot_build { /* build_version_command. An image can have several */
+    uint32_t platform; /* any number */
+    uint32_t minos;    /* x << 16 | y << 8 | z. Any number */
+    uint32_t sdk;      /* any number */
     uint32_t reserved;
 };
 
-struct kesvuot_command { /* load_command */
-    struct kesvuot_bytes bytes; /* all cmdsize bytes */
-    struct kesvuot_bytes name;  /* of a dylib_command, dylinker_command or rpath_command, otherwise none */
-    uint64_t place;             /* where it begins in the slice */
-    uint32_t cmd;
+struct kesvuot_command {        /* load_command */
+    struct kesvuot_bytes bytes; /* all cmdsize bytes, at least 8. If RULES.md lists cmd, its structure and records are
+                                   among them. Otherwise nothing past the first 8 is judged */
+    struct kesvuot_bytes name;  /* of a listed dylib_command, dylinker_command or rpath_command, otherwise none */
+    uint64_t place;             /* where it begins in the slice, a multiple of 8 */
+    uint32_t cmd;               /* any number */
     uint32_t reserved;
 };
 
-struct kesvuot_symbol { /* nlist_64 */
+struct kesvuot_symbol {        /* nlist_64 */
     struct kesvuot_bytes name; /* none if strx is 0 */
-    uint64_t value;
-    uint32_t strx;
-    uint16_t desc;
-    uint8_t type;
+    uint64_t value;            /* any number */
+    uint32_t strx;             /* 0, or less than strings_size */
+    uint16_t desc;             /* any number */
+    uint8_t type;              /* any number */
     uint8_t sect; /* n_sect. Its section has the index sect - 1 if 1 <= sect && sect <= section_count. Test both: it is
                      0 if the symbol is in no section, and in an accepted file it may be past the last one, unless the
                      type is N_SECT and the symbol is no debugging entry (N_STAB) */
@@ -272,8 +284,8 @@ size_t kesvuot_builds(const struct kesvuot_image *image, uint64_t first, struct 
 size_t kesvuot_commands(const struct kesvuot_image *image, uint64_t first, struct kesvuot_command *rows, size_t max);
 size_t kesvuot_symbols(const struct kesvuot_image *image, uint64_t first, struct kesvuot_symbol *rows, size_t max);
 
-/* The indirect symbol table. Each row is the index of a symbol, or INDIRECT_SYMBOL_LOCAL or INDIRECT_SYMBOL_ABS or
- * both. */
+/* The indirect symbol table. Each row is the index of a symbol, below symbol_count, or has the bit
+ * INDIRECT_SYMBOL_LOCAL or INDIRECT_SYMBOL_ABS or both. With one of these, the other bits are any number. */
 size_t kesvuot_indirects(const struct kesvuot_image *image, uint64_t first, uint32_t *rows, size_t max);
 
 /* The data of the first linkedit_data_command with this cmd, such as LC_CODE_SIGNATURE (0x1d) or LC_FUNCTION_STARTS
