@@ -54,7 +54,7 @@ struct kesvuot_bytes {
 enum {
     KESVUOT_OK = 0,
     KESVUOT_REFUSED = 1,   /* the bytes break a rule */
-    KESVUOT_NO_MEMORY = 2, /* memory ran out: there is no verdict, and nothing is claimed about the file */
+    KESVUOT_NO_MEMORY = 2, /* memory ran out: there is no verdict. kesvuot_verify says for which files this can be */
     KESVUOT_NONE = 3,      /* there is no such rule, slice, command or address */
     KESVUOT_UNREAD = 4,    /* the slice is 32-bit or big-endian: nothing in it is judged */
     KESVUOT_ZERO = 5       /* the address is mapped, but to no byte of the file: a loader puts a zero there */
@@ -232,7 +232,7 @@ struct kesvuot_section {          /* section_64. Of a symbol see `sect` of kesvu
                                      from addr on are in the segment */
     uint64_t size;                /* any number if it is zero-fill and the segment is not mapped */
     uint32_t offset;              /* any number if size is 0 or it is zero-fill */
-    uint32_t align;               /* the exponent of a power of 2. Any number: if it is large, 1 << align is undefined */
+    uint32_t align;               /* the exponent of a power of 2. Any number: 1 << align can be undefined */
     uint32_t reloff;              /* any number if nreloc is 0 */
     uint32_t nreloc;              /* all 8 * nreloc bytes from reloff on lie in the slice */
     uint32_t flags;               /* any number. The low byte is the type, on which zero_fill depends */
@@ -272,9 +272,10 @@ struct kesvuot_symbol {        /* nlist_64 */
     uint32_t strx;             /* 0, or less than strings_size */
     uint16_t desc;             /* any number */
     uint8_t type;              /* any number */
-    uint8_t sect; /* n_sect. Its section has the index sect - 1 if 1 <= sect && sect <= section_count. Test both: it is
-                     0 if the symbol is in no section, and in an accepted file it may be past the last one, unless the
-                     type is N_SECT and the symbol is no debugging entry (N_STAB) */
+    uint8_t sect;              /* n_sect. Its section has the index sect - 1 if 1 <= sect && sect <= section_count.
+                                  Test both: it is 0 if the symbol is in no section, and in an accepted file it may be
+                                  past the last one, unless the type is N_SECT and the symbol is no debugging entry
+                                  (N_STAB) */
 };
 
 size_t kesvuot_segments(const struct kesvuot_image *image, uint64_t first, struct kesvuot_segment *rows, size_t max);
