@@ -149,8 +149,8 @@ uint32_t kesvuot_rule(uint32_t rule, struct kesvuot_bytes *name);
  * <mach-o/loader.h> and <mach-o/nlist.h> explain the fields. Offsets count from the start of the slice, except that
  * `place` of an image counts from the start of the file. Reserved fields are 0.
  *
- * A name contains no zero byte, and may be empty. After one that is not empty a zero byte follows in a command, library
- * or symbol, but not always in a segment or section, where a name can fill all 16 bytes: use len.
+ * A name contains no zero byte, and can be empty. A zero byte follows a nonempty name of a command, library or symbol,
+ * but not always that of a segment or section, which can fill all its 16 bytes: use len.
  *
  * The comments of the fields say what holds of them in an accepted file. "Any number" is not judged: test such a field
  * before you use it as an index, an offset or a shift. */
@@ -243,8 +243,8 @@ struct kesvuot_section {          /* section_64. Of a symbol see `sect` of kesvu
 
 struct kesvuot_library {       /* dylib_command */
     struct kesvuot_bytes name; /* any bytes, all in its command */
-    uint32_t cmd;              /* LC_ID_DYLIB (0xd): the image itself. An MH_DYLIB has one, and other images none. All
-                                  others are libraries that it loads */
+    uint32_t cmd;              /* LC_ID_DYLIB (0xd): the image itself. An MH_DYLIB has one such row, and
+                                  other images none. All other rows are libraries that the image loads */
     uint32_t current;          /* x << 16 | y << 8 | z. Any number */
     uint32_t compatible;       /* any number */
     uint32_t reserved;
