@@ -5,7 +5,7 @@ use Rattle.std.specs.List.{list_all}
 use Rattle.std.specs.Option.{option_map_or}
 use Rattle.std.proofs.Math.Nat.{mul-le-mul_right}
 use Rattle.std.proofs.lemmas.Bool.{cases_Bool, ltb-true, ltb-false, eqb-true, eq-eqb, ne_eqb}
-use Rattle.std.proofs.lemmas.List.{append-nil}
+use Rattle.std.proofs.lemmas.List.{append-nil, append_assoc}
 use Rattle.std.proofs.lemmas.List.Elements.{All-nil, All-map, All-tail, All-contains_itself}
 use Rattle.std.proofs.lemmas.List.Folds.{flat_map-map}
 use Rattle.std.proofs.lemmas.List.Sums.{AllPass-from_list_all}
@@ -23,7 +23,7 @@ use Rattle.macho_image.specs.Opened.{IsOpened}
 use Rattle.macho_image.specs.Segment.{SegmentView, SectionView, segment_at, section_at, sections_with, segments_left}
 use Rattle.macho_rules.proofs.Judged.{opened_facts, opened_commands}
 use Rattle.macho_strict.specs.Elements.{headers, section_elements, described_tables, command_elements, elements_of}
-use Rattle.macho_strict.specs.ElementWalk.{tables_left, sections_left, commands_left, all_of, HoldsTable, CanDescribe}
+use Rattle.macho_strict.specs.ElementWalk.{tables_left, sections_left, commands_left, all_commands, all_of, HoldsTable, CanDescribe}
 use Rattle.macho_strict.specs.declared.elements.Element.{Element}
 
 -- Tables
@@ -185,9 +185,17 @@ can_begin image commands segments opened all some = record {
   among = some ∙ (segments_seen image (commands_of image) ∙ ap (segments_left image) (sym all));
 }
 
-pub all_described : (image : List ℕ) (commands : List CommandView) → commands ≡ map (command_at image) (commands_of image) → headers image ∷ all_of (commands_left image commands) ≡ elements_of image
-all_described image commands all =
-    ap (λ rest. headers image ∷ rest)
-    (ap (λ cs. all_of (commands_left image cs)) all
-    ∙ (flat_map-map (λ (list : List Element). list) (λ (c : CommandView). command_elements image c.place) (map (command_at image) (commands_of image))
-    ∙ flat_map-map (λ (c : CommandView). command_elements image c.place) (command_at image) (commands_of image)))
+pub all_begun : (image : List ℕ) (commands : List CommandView) → commands ≡ map (command_at image) (commands_of image) → commands_left image commands ≡ all_commands image
+all_begun image commands all = ap (commands_left image) all ∙ mapped (commands_of image)
+  where
+    mapped : (places : List ℕ) → commands_left image (map (command_at image) places) ≡ map (command_elements image) places
+    mapped [] = refl
+    mapped (p ∷ ps) = ap (λ rest. command_elements image p ∷ rest) (mapped ps)
+
+pub all_described : (image : List ℕ) → headers image ∷ all_of (all_commands image) ≡ elements_of image
+all_described image = ap (λ rest. headers image ∷ rest) (flat_map-map (λ (list : List Element). list) (command_elements image) (commands_of image))
+
+-- what one command more describes
+pub all_more : (lists : List (List Element)) (list : List Element) → all_of (lists ++ list ∷ []) ≡ all_of lists ++ list
+all_more [] list = append-nil list
+all_more (l ∷ ls) list = ap (λ rest. l ++ rest) (all_more ls list) ∙ sym (append_assoc l (all_of ls) list)

@@ -45,21 +45,21 @@ tag_found (Some e) (Some tag) is = ap Some is
 
 -- An iterator that has all of them left
 
-module _ (all given : List Element) (is : given ≡ all) where
-  road : YieldsList (YieldsFirst (λ (left : List Element). left)) (λ (e : Element). e) given all
-  road = YieldsList-from_first (λ (e : Element). e) (λ (left : List Element). left) all is
+module _ {X : Type 0} (all given : List X) (is : given ≡ all) where
+  road : YieldsList (YieldsFirst (λ (left : List X). left)) (λ (x : X). x) given all
+  road = YieldsList-from_first (λ (x : X). x) (λ (left : List X). left) all is
 
-  drained : (xs : List Element) → Drains (YieldsFirst (λ (left : List Element). left)) given xs → xs ≡ all
+  drained : (xs : List X) → Drains (YieldsFirst (λ (left : List X). left)) given xs → xs ≡ all
   drained xs (u, (t, yielded, ended)) = let (same, _) = YieldsList-end road xs t yielded None u refl ended in sym (map-id xs) ∙ same
 
   -- in a loop over them that has ended
-  pub all_yielded : (yielded left rest : List Element) (next : Option Element) → Yields (YieldsFirst (λ (these : List Element). these)) given yielded left
-      → YieldsFirst (λ (these : List Element). these) left next rest → next ≡ None → yielded ≡ all
+  pub all_yielded : (yielded left rest : List X) (next : Option X) → Yields (YieldsFirst (λ (these : List X). these)) given yielded left
+      → YieldsFirst (λ (these : List X). these) left next rest → next ≡ None → yielded ≡ all
   all_yielded yielded left rest next came steps ended = let (same, _) = YieldsList-end road yielded left came next rest ended steps in sym (map-id yielded) ∙ same
 
-  -- the spans of those that were drained are those of all
-  pub drained_spans : (spans : List Span) (xs : List Element) → Drains (YieldsFirst (λ (left : List Element). left)) given xs → spans ≡ map span_of xs → spans ≡ map span_of all
-  drained_spans spans xs ran are = are ∙ ap (map span_of) (drained xs ran)
+-- the spans of those that were drained are those of all
+pub drained_spans : (all given : List Element) → given ≡ all → (spans : List Span) (xs : List Element) → Drains (YieldsFirst (λ (left : List Element). left)) given xs → spans ≡ map span_of xs → spans ≡ map span_of all
+drained_spans all given is spans xs ran are = are ∙ ap (map span_of) (drained all given is xs ran)
 
 -- The spans of all of them
 

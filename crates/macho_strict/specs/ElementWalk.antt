@@ -29,6 +29,10 @@ described_left pending sections tables =
 abbrev pub commands_left : List ℕ → List CommandView → List (List Element)
 commands_left image commands = map (λ c. command_elements image c.place) commands
 
+-- what each command of an image describes
+abbrev pub all_commands : List ℕ → List (List Element)
+all_commands image = map (command_elements image) (commands_of image)
+
 -- one list after the other
 abbrev pub all_of : List (List Element) → List Element
 all_of lists = flat_map (λ list. list) lists

@@ -15,7 +15,7 @@ ghost use Rattle.macho_strict.specs.Sharing.{IsFirstSharing, tagged_elements};
 ghost use Rattle.macho_strict.specs.Verdict.{element_spans};
 ghost use Rattle.macho_strict.specs.declared.gaps.Wanted.{Wanted};
 
-use crate::elements::{Element, Elements};
+use crate::elements::{Described, Describing, Element, Elements, headers};
 use crate::gaps::{Gaps, Wanted, stray_in};
 use crate::overlap::{count_of, span_list};
 use macho_fields::{Break, Bytes, Rule, Sharing, Span, SpanList, SpanOrder, SpansByStart};
@@ -23,11 +23,9 @@ use macho_image::Image;
 use std::alloc::{AllocError, Global};
 use std::marker::Model;
 
-// The elements are few if the commands end by this place.
+// The elements are few if the commands end by this place. Then a walk keeps their bytes, so that they can
+// be sorted without another walk: at most 1,703 are described there, in 41 KB.
 const FEW_END: u64 = 16_384;
-
-// The most elements of which a walk keeps the bytes, so that they can be sorted without another walk.
-const KEPT: usize = 256;
 
 // For how many elements there is room at first.
 const ROOM: usize = 32;
@@ -60,8 +58,9 @@ impl<'a> Noted<'a> {
     {
         let bytes = image.bytes();
         let mut noted = Noted::new(alloc, bytes, image.commands_end() <= FEW_END);
-        for element in Elements::of(image) {
-            noted.note(bytes, element);
+        noted.note(bytes, headers(image));
+        for described in Describing::of(image) {
+            noted.note_each(bytes, described);
         }
         noted
     }
@@ -84,6 +83,16 @@ impl<'a> Noted<'a> {
         }
     }
 
+    // Notes what one more command of an image that has these bytes describes.
+    fn note_each(&mut self, bytes: Bytes, described: Described)
+        ensures { (elements : List Element) → AreNoted (bytes_of bytes.entry) elements self.old
+            → AreNoted (bytes_of bytes.entry) (elements ++ described.entry) self.new }
+    {
+        for element in described {
+            self.note(bytes, element);
+        }
+    }
+
     // Notes one more element of an image that has these bytes.
     fn note(&mut self, bytes: Bytes, element: Element)
         ensures { (elements : List Element) → AreNoted (bytes_of bytes.entry) elements self.old
@@ -95,7 +104,7 @@ impl<'a> Noted<'a> {
             return;
         }
         self.outside = outside_with(self.outside, bytes, element);
-        self.list = list_with(self.list.take(), self.count, element.span);
+        self.list = list_with(self.list.take(), element.span);
         pass_between(&mut self.gaps, element.span);
     }
 }
@@ -124,15 +133,12 @@ fn pass_between(gaps: &mut Option<Gaps>, span: Span)
     }
 }
 
-// The list with one more span, if there are no more than `KEPT` elements with it, and there is room.
-fn list_with(list: Option<SpanList>, count: usize, span: Span) -> Option<SpanList>
+// The list with one more span, if there is one, and there is memory.
+fn list_with(list: Option<SpanList>, span: Span) -> Option<SpanList>
     ensures { IfSome result (λ new. IfNone list ⊥
         × IfSome list (λ old. new.spans ≡ old.spans ++ span ∷ [])) }
 {
     let mut list = list?;
-    if count > KEPT {
-        return None;
-    }
     list.push(span).ok()?;
     Some(list)
 }

@@ -23,7 +23,7 @@ pub struct Element {
 }
 
 // The header and the bytes that it reserves for the load commands.
-fn headers(image: &Image) -> Element
+pub(crate) fn headers(image: &Image) -> Element
     ensures { result ≡ headers_of image.now }
 {
     Element {
@@ -127,7 +127,7 @@ impl<'a> Iterator for Tables<'a> {
 
 // What a command describes that remains.
 #[derive(Drop)]
-struct Described<'a> {
+pub(crate) struct Described<'a> {
     // What is next: the headers, or the relocations of the section that came last.
     pending: Option<Element>,
     // The sections of the command, where it is a segment.
@@ -171,7 +171,7 @@ impl<'a> Iterator for Described<'a> {
 
 // The commands that remain, each as what it describes.
 #[derive(Drop)]
-struct Describing<'a> {
+pub(crate) struct Describing<'a> {
     image: Bytes<'a>,
     commands: Commands<'a>,
     // The segments among them.
@@ -192,30 +192,48 @@ impl<'a> Model for Describing<'a> {
         CanDescribe (bytes_of left.image) left.commands left.segments };
 }
 
-impl<'a> Describing<'a> {
-    ghost use Rattle.std.specs.Prelude.{◌≡◌, [], ◌∷◌, OnSome, IfNone};
+impl<'a> Iterator for Describing<'a> {
+    ghost use Rattle.std.specs.Iterator.{YieldsFirstBy, item_count};
 
-    // Sets `described` to what the next command describes, or returns `None` after the last. It is
-    // written in place, since a walk over small commands would spend most of its time on the copies.
-    fn reach(&mut self, described: &mut Described<'a>) -> Option<()>
-        ensures next { OnSome result (self.old ≡ described.new ∷ self.new) }
-        ensures ended { IfNone result
-            ((self.old ≡ []) × (self.new ≡ []) × (described.new ≡ described.old)) }
-    {
+    type Item = Described<'a>;
+
+    ghost next_gives = { YieldsFirstBy (λ described. described) (λ left. left) };
+
+    ghost remaining = { item_count (λ left. left) };
+
+    fn next(&mut self) -> Option<Described<'a>> {
         let command = self.commands.next()?;
         let sections = if command.cmd == LC_SEGMENT_64 {
             Some(self.segments.next()?.sections())
         } else {
             None
         };
-        described.pending = None;
-        described.sections = sections;
-        described.tables = Tables {
+        let tables = Tables {
             image: self.image,
             command: command.place,
             fields: described_tables(command.cmd, command.size),
         };
-        Some(())
+        Some(Described {
+            pending: None,
+            sections,
+            tables,
+        })
+    }
+}
+
+impl<'a> Describing<'a> {
+    ghost use Rattle.std.specs.Prelude.{◌≡◌};
+    ghost use Rattle.macho_strict.specs.ElementWalk.{all_commands};
+
+    // All commands of the image, each as what it describes.
+    pub(crate) fn of(image: &Image<'a>) -> Describing<'a>
+        ensures { result ≡ all_commands image.now }
+    {
+        Describing {
+            image: image.bytes(),
+            commands: image.commands(),
+            segments: image.segments(),
+        }
     }
 }
 
@@ -252,7 +270,7 @@ impl<'a> Iterator for Elements<'a> {
             if let Some(element) = self.described.next() {
                 return Some(element);
             }
-            self.commands.reach(&mut self.described)?;
+            self.described = self.commands.next()?;
         }
     }
 }
@@ -279,11 +297,7 @@ impl<'a> Elements<'a> {
                     fields: &[],
                 },
             },
-            commands: Describing {
-                image: bytes,
-                commands: image.commands(),
-                segments: image.segments(),
-            },
+            commands: Describing::of(image),
         }
     }
 }

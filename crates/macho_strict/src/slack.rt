@@ -88,6 +88,10 @@ fn nonzero_within(image: Bytes, start: u64, end: u64) -> Option<u64>
     requires { start ≤ end }
     ensures { IsLeastPlace (IsNonZeroWithin (bytes_of image.entry) start end) result }
 {
+    // Most commands have no such bytes.
+    if start == end {
+        return None;
+    }
     image.first_nonzero(Span {
         start,
         len: end - start,

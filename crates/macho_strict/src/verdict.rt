@@ -22,7 +22,7 @@ use std::alloc::Global;
 /// those that are not in the order of their bytes. If a NOP lies in no element, it takes 24 bytes for
 /// each element and each segment of the slice, even if it holds the elements sorted already. For an
 /// image with an encrypted range it takes 56 bytes for each segment. If the commands end within the first
-/// 16 KiB of an image, the bytes of up to 256 elements are kept in any case, if there is memory.
+/// 16 KiB of an image, the elements are kept in any case, if there is memory.
 pub fn verify_strictly<'a>(alloc: Global, file: &'a [u8]) -> Result<Verified<'a>, Refusal>
     // It accepts only a file that breaks no rule and no strict rule, and refuses only one that breaks
     // one of them, unless there is no memory.

@@ -1,6 +1,9 @@
+use Rattle.std.proofs.Common.{◌∷◌}
 use Rattle.macho_strict.specs.Claims.{AreNoted}
+use Rattle.macho_strict.specs.ElementWalk.{all_of}
+use Rattle.macho_strict.specs.Elements.{headers}
 use Rattle.macho_strict.proofs.claims.Noted.of.Given as goal
 
--- the elements that were yielded are noted
-abbrev pub invariant-loop-element : goal.invariant-loop-element
-invariant-loop-element l = AreNoted l.image l.yielded l.noted
+-- the headers are noted, and what the commands that were yielded describe
+abbrev pub invariant-loop-described : goal.invariant-loop-described
+invariant-loop-described l = AreNoted l.image (headers l.image ∷ all_of l.yielded) l.noted

@@ -2,11 +2,11 @@ use Rattle.std.proofs.Common.{sym, ◌∙◌}
 use Rattle.macho_fields.specs.Bytes.{bytes_of}
 use Rattle.macho_image.specs.Command.{command_of}
 use Rattle.macho_strict.proofs.ElementWalks.{is_listed, has_cmd, has_size, tables_hold, past_other, past_segment, other_described, segment_described}
-use Rattle.macho_strict.proofs.elements.Describing.reach.Goals as goal
-use Rattle.macho_strict.proofs.elements.Describing.reach.Goals.{then-command-eq-LC_SEGMENT_64+in_ok-next, else-command-eq-LC_SEGMENT_64}
+use Rattle.macho_strict.proofs.elements.DescribingIterator.next.Goals as goal
+use Rattle.macho_strict.proofs.elements.DescribingIterator.next.Goals.{then-command-eq-LC_SEGMENT_64+in_ok-next, else-command-eq-LC_SEGMENT_64}
 
-pub invariant_of-described : goal.invariant_of-described
-invariant_of-described c =
+pub invariant_of-tables : goal.invariant_of-tables
+invariant_of-tables c =
     let image = bytes_of c.self.inside.image in
     let next = c.in_ok-command.ensures.steps in
     let listed = is_listed image c.self.inside.commands c.next.new.self (command_of c.in_ok-command.command) next c.self.inside.segments c.self.invariant in
@@ -30,8 +30,8 @@ invariant_of-self-2 c =
           (past_other image c.self.inside.commands c.next.new.self (command_of c.in_ok-command.command) next c.self.inside.segments c.self.invariant w.if-command-eq-LC_SEGMENT_64.false)
     ]
 
-pub returns-clause-next : goal.returns-clause-next
-returns-clause-next c =
+pub returns-clause-steps : goal.returns-clause-steps
+returns-clause-steps c =
     let image = bytes_of c.self.inside.image in
     let next = c.in_ok-command.ensures.steps in
     elim c.if-command-eq-LC_SEGMENT_64.branch [
