@@ -515,6 +515,8 @@ class Vector(NamedTuple):
     wanted: str
     # Whether the verdict is that of the strict profile.
     is_strict: bool = False
+    # Whether it is that of the linked profile.
+    is_linked: bool = False
     # The lines `cut` and `field ..` after it.
     mutations: tuple[str, ...] = ()
 
@@ -558,10 +560,12 @@ def read_vectors(path: Path) -> list[Vector]:
     pieces: dict[str, bytes] = {}
     vectors: list[Vector] = []
     chosen: list[Vector] = []
-    is_strict = False
+    is_strict = is_linked = False
     for line in map(str.rstrip, text.split("\n")):
         if line == "strictly":
             is_strict = True
+        elif line == "linked":
+            is_linked = True
         elif line.startswith("let "):
             name, words = line[4:].split("=", 1)
             pieces[name.strip()] = all_bytes(words, pieces)
@@ -571,7 +575,7 @@ def read_vectors(path: Path) -> list[Vector]:
             vectors += chosen
             # A name may have colons, but none with a space before and after it.
             name, words, verdict = line.split(" : ", 2)
-            chosen = [Vector(name, all_bytes(choice, pieces), verdict, is_strict) for choice in choices(words)]
+            chosen = [Vector(name, all_bytes(choice, pieces), verdict, is_strict, is_linked) for choice in choices(words)]
     return vectors + chosen
 
 

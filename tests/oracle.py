@@ -1,11 +1,13 @@
 #!/usr/bin/env python3
 """A second verifier of the layout of Mach-O files. It was written from docs/RULES.md, and from docs/COMMAND.md for what is
 printed. It reads the filetypes and the listed commands in the tables of docs/RULES.md. Nothing was taken from the
-sources of the first one. tests/oracle compares the two.
+sources of the first one. tests/oracle compares the two. It also judges the rules of docs/LINKED.md, which no program
+judges yet; tests/dyld tests that.
 
     tests/oracle.py FILE                        prints what `macho-check check FILE` prints, and ends with its status
     tests/oracle.py where FILE SLICE ADDRESS    the same of `macho-check where FILE SLICE ADDRESS`
     tests/oracle.py --strict FILE               the same of `macho-strict check FILE`
+    tests/oracle.py --linked FILE               prints the same by the linked profile as well
 
 It is written to be read beside docs/RULES.md, and has the same order. A rule is a function with its name. It yields
 each place at which the rule is broken. `first_broken` takes the rules one after the other, and of the first one that
@@ -91,14 +93,18 @@ LC_SYMTAB, LC_DYSYMTAB, LC_ID_DYLIB, LC_SEGMENT_64 = 0x2, 0xb, 0xd, 0x19
 LC_UUID, LC_ENCRYPTION_INFO_64, LC_BUILD_VERSION, LC_MAIN = 0x1b, 0x2c, 0x32, 0x80000028
 LC_TWOLEVEL_HINTS, LC_ATOM_INFO, LC_FUNCTION_VARIANTS, LC_FUNCTION_VARIANT_FIXUPS = 0x16, 0x36, 0x37, 0x38
 
+# Of the opcodes of LC_DYLD_INFO: the types that are judged.
+REBASE_TYPE_POINTER, BIND_TYPE_POINTER = 1, 1
+BIND_SPECIAL_DYLIB_WEAK_LOOKUP = -3
+
 # The byte that Apple's linker fills the gaps of code with.
 NOP = b"\x90"
 
-def rows_of(row):
-    """The cells of the rows of docs/RULES.md that have this form."""
+def rows_of(row, page="RULES.md"):
+    """The cells of the rows of a page of docs/ that have this form."""
     top = os.path.dirname(os.path.dirname(os.path.realpath(__file__)))
-    with open(os.path.join(top, "docs", "RULES.md"), encoding="utf-8") as page:
-        return re.findall(row, page.read(), re.MULTILINE)
+    with open(os.path.join(top, "docs", page), encoding="utf-8") as text:
+        return re.findall(row, text.read(), re.MULTILINE)
 
 # The filetypes, by `filetype`: whether an image names itself, and the word of the layout.
 FILETYPES = {
@@ -120,6 +126,21 @@ BOUNDED_TABLES = {
     structure: [(start, count, int(width)) for owner, start, count, width in TABLE_ROWS if owner == structure]
     for structure, *_ in TABLE_ROWS
 }
+
+# The tables of linked data, by the command: the start, the size, the kind, and the name of the stream, if it is one.
+LINKED_TABLES = {
+    COMMANDS[command][0]: [row[1:] for row in rows if "`%s`" % command in row[0]]
+    for rows in [rows_of(r"^\| (`LC_\w+`(?:, `LC_\w+`)?) \| `(\w+)` \| `(\w+)` \| ([a-z ]+) \| ?(\w*) ?\|$",
+                         "LINKED.md")]
+    for command in re.findall(r"LC_\w+", " ".join(row[0] for row in rows))
+}
+
+# The opcodes of the rebase stream and those of the others, by their bytes: the name, and the operands.
+REBASE_OPCODES, BIND_OPCODES = [
+    {int(byte, 16): (opcode, operands.replace(",", "").split())
+     for opcode, byte, operands in rows_of(r"^\| `(%s_OPCODE_\w+)` \| (0x\w0) \|([a-z, ]*)\|" % family, "LINKED.md")}
+    for family in ("REBASE", "BIND")
+]
 
 # The data of the commands that have some but are not listed: the structure, the start, the count, the bytes per entry.
 UNLISTED_DATA = {
@@ -193,6 +214,8 @@ class Image:
         self.start = start
         self.entry = entry
         self.is_64_bit = data[:4] == MH_MAGIC_64
+        # What `decode` has found, by the start of a stream. No two streams share a byte.
+        self.decoded = {}
 
     @cached_property
     def header(self):
@@ -250,12 +273,16 @@ class Image:
         return [read(self.data, symtab.symoff + 16 * k, "nlist_64") for k in range(self.symbol_count)]
 
     @cached_property
-    def base(self):
-        """The `vmaddr` of the first segment with `fileoff` 0, `filesize` > 0 and `vmsize` > 0, or None."""
+    def base_segment(self):
+        """The first segment with `fileoff` 0, `filesize` > 0 and `vmsize` > 0, or None."""
         for segment in self.segments:
             if segment.fileoff == 0 and segment.filesize > 0 and segment.vmsize > 0:
-                return segment.vmaddr
+                return segment
         return None
+
+    @cached_property
+    def base(self):
+        return None if self.base_segment is None else self.base_segment.vmaddr
 
 def masked(cpusubtype):
     """The cpusubtype without the capability byte."""
@@ -664,6 +691,237 @@ def unclaimed_byte(image):
                 break
             at += 1
 
+# The linked profile of docs/LINKED.md. Its rules may take for granted that all above are unbroken as well.
+
+def is_writable(segment):
+    return is_mapped(segment) and segment.initprot & VM_PROT_WRITE != 0
+
+def linked_tables(image):
+    """The tables of linked data, in command order: of each its command, kind, stream, start and end."""
+    for command in image.listed:
+        for start, size, kind, stream in LINKED_TABLES.get(command.cmd, []):
+            first, length = getattr(command, start), getattr(command, size)
+            if length > 0:
+                yield SimpleNamespace(command=command.place, kind=kind, stream=stream, start=first, end=first + length)
+
+def home(image, table):
+    """The mapped segment in whose file bytes the whole table lies, or None."""
+    for segment in image.segments:
+        if is_mapped(segment):
+            if segment.fileoff <= table.start and table.end <= segment.fileoff + segment.filesize:
+                return segment
+    return None
+
+def budget(image):
+    return sum(segment.filesize // 8 for segment in image.segments if is_writable(segment))
+
+def library_count(image):
+    return sum(command.cmd in LIBRARIES for command in image.commands)
+
+def table_repeated(image):
+    """The command names a table, and some earlier command names one of the same kind."""
+    first = {}
+    for table in linked_tables(image):
+        if first.setdefault(table.kind, table.command) != table.command:
+            yield table.command
+
+def table_home(image):
+    """The command names a table that has no home, or whose home is writable."""
+    for table in linked_tables(image):
+        segment = home(image, table)
+        if segment is None or is_writable(segment):
+            yield table.command
+
+def header_home(image):
+    """There is a table, and no base, or the base's segment is writable."""
+    if any(linked_tables(image)) and (image.base_segment is None or is_writable(image.base_segment)):
+        yield 0
+
+# Streams. An opcode is read with its operands, and nothing of the image but the stream's bytes decides about it.
+
+class Malformed(Exception):
+    """An operand that is no number or no name."""
+
+def operand(data, place, end, kind):
+    """The operand that begins at a place of a stream, and where it ends. A name is its place."""
+    if kind == "name":
+        zero = data.find(0, place, end)
+        if zero < 0:
+            raise Malformed
+        return place, zero + 1
+    number_of = 0
+    for k in range(10):
+        if place + k >= end:
+            raise Malformed
+        byte = data[place + k]
+        number_of += (byte & 0x7f) * 2 ** (7 * k)
+        if byte & 0x80 == 0:
+            if kind == "addend":
+                number_of -= 2 ** (7 * (k + 1)) if byte & 0x40 else 0
+                is_number = -2 ** 63 <= number_of < 2 ** 63
+            else:
+                is_number = number_of < 2 ** 64
+            if not is_number:
+                raise Malformed
+            return number_of, place + k + 1
+    raise Malformed
+
+def decode(image, table):
+    """The opcodes of a stream, and the place of the first one that is broken, or None."""
+    if table.start not in image.decoded:
+        image.decoded[table.start] = decode_once(image, table)
+    return image.decoded[table.start]
+
+def decode_once(image, table):
+    known = REBASE_OPCODES if table.stream == "rebase" else BIND_OPCODES
+    opcodes = []
+    place = table.start
+    while place < table.end:
+        if image.data[place] & 0xf0 not in known:
+            return opcodes, place
+        name_of, operands = known[image.data[place] & 0xf0]
+        opcode = SimpleNamespace(place=place, name=name_of, imm=image.data[place] & 0x0f)
+        place += 1
+        try:
+            for kind in operands:
+                value, place = operand(image.data, place, table.end, kind)
+                setattr(opcode, kind if kind != "name" else "symbol", value)
+        except Malformed:
+            return opcodes, opcode.place
+        if name_of == "REBASE_OPCODE_SET_TYPE_IMM" and opcode.imm != REBASE_TYPE_POINTER:
+            return opcodes, opcode.place
+        if name_of == "BIND_OPCODE_SET_TYPE_IMM" and opcode.imm != BIND_TYPE_POINTER:
+            return opcodes, opcode.place
+        opcodes.append(opcode)
+        if name_of.endswith("_OPCODE_DONE") and table.stream != "lazy":
+            return opcodes, opcode.place if any(image.data[place:table.end]) else None
+    return opcodes, None
+
+def streams(image, *names):
+    """The streams of these names. (There is at most one of each after `table-repeated`.)"""
+    return [table for table in linked_tables(image) if table.stream in names]
+
+REBASE_STREAMS = ("rebase",)
+BIND_STREAMS = ("bind", "weak", "lazy")
+
+def broken_opcodes(image, names):
+    for table in streams(image, *names):
+        _, broken = decode(image, table)
+        if broken is not None:
+            yield broken
+
+def ordinal_of(opcode):
+    """The ordinal that an opcode sets, or None."""
+    if opcode.name == "BIND_OPCODE_SET_DYLIB_ORDINAL_IMM":
+        return opcode.imm
+    if opcode.name == "BIND_OPCODE_SET_DYLIB_ORDINAL_ULEB":
+        return opcode.ordinal
+    if opcode.name == "BIND_OPCODE_SET_DYLIB_SPECIAL_IMM":
+        return 0 if opcode.imm == 0 else opcode.imm - 16
+    return None
+
+def count_and_skip(opcode):
+    """The count and the skip of an opcode that has them, or None."""
+    if opcode.name == "REBASE_OPCODE_DO_REBASE_IMM_TIMES":
+        return opcode.imm, 0
+    if opcode.name == "REBASE_OPCODE_DO_REBASE_ULEB_TIMES":
+        return opcode.count, 0
+    if opcode.name in ("REBASE_OPCODE_DO_REBASE_ADD_ADDR_ULEB", "BIND_OPCODE_DO_BIND_ADD_ADDR_ULEB"):
+        return 1, opcode.skip
+    if opcode.name in ("REBASE_OPCODE_DO_REBASE_ULEB_TIMES_SKIPPING_ULEB",
+                       "BIND_OPCODE_DO_BIND_ULEB_TIMES_SKIPPING_ULEB"):
+        return opcode.count, opcode.skip
+    if opcode.name == "BIND_OPCODE_DO_BIND":
+        return 1, 0
+    if opcode.name == "BIND_OPCODE_DO_BIND_ADD_ADDR_IMM_SCALED":
+        return 1, 8 * opcode.imm
+    return None
+
+def runs(image, table):
+    """Each opcode of a stream with a count: its place, count and skip, and the state before it but for the ordinal,
+    which is judged where it is set."""
+    start = dict(segment=None, cursor=0, symbol=None)
+    state = dict(start)
+    for opcode in decode(image, table)[0]:
+        if opcode.name == "BIND_OPCODE_DONE":
+            state = dict(start)
+        elif opcode.name.endswith("_SET_SEGMENT_AND_OFFSET_ULEB"):
+            state.update(segment=opcode.imm, cursor=opcode.offset)
+        elif opcode.name.endswith("_ADD_ADDR_ULEB") and "_DO_" not in opcode.name:
+            state["cursor"] += opcode.distance
+        elif opcode.name == "REBASE_OPCODE_ADD_ADDR_IMM_SCALED":
+            state["cursor"] += 8 * opcode.imm
+        elif opcode.name == "BIND_OPCODE_SET_SYMBOL_TRAILING_FLAGS_IMM":
+            state["symbol"] = opcode.symbol
+        elif count_and_skip(opcode) is not None:
+            count, skip = count_and_skip(opcode)
+            yield SimpleNamespace(place=opcode.place, count=count, skip=skip, **state)
+            state["cursor"] += count * (8 + skip)
+        state["cursor"] %= 2 ** 64
+
+def bad_slots(image, names):
+    for table in streams(image, *names):
+        for run in runs(image, table):
+            if run.count > 0 and not has_good_slots(image, run):
+                yield run.place
+
+def has_good_slots(image, run):
+    """The segment is set, is there and is writable, and the last slot ends among its file bytes."""
+    if run.segment is None or run.segment >= len(image.segments):
+        return False
+    segment = image.segments[run.segment]
+    return is_writable(segment) and run.cursor + (run.count - 1) * (8 + run.skip) + 8 <= segment.filesize
+
+def above_budget(image, names):
+    most = budget(image)
+    for table in streams(image, *names):
+        total = 0
+        for run in runs(image, table):
+            total += run.count
+            if total > most:
+                yield run.place
+                break
+
+def rebase_opcode(image):
+    """The opcode is not known, or its type is no pointer, an operand is no number, or a byte after DONE is not 0."""
+    return broken_opcodes(image, REBASE_STREAMS)
+
+def rebase_slot(image):
+    """A slot of the opcode is in no segment that is writable, or ends past the bytes of it."""
+    return bad_slots(image, REBASE_STREAMS)
+
+def rebase_total(image):
+    """The counts of the stream up to and with this opcode have a sum above the budget."""
+    return above_budget(image, REBASE_STREAMS)
+
+def bind_opcode(image):
+    """The same as `rebase_opcode`; or a name does not end."""
+    return broken_opcodes(image, BIND_STREAMS)
+
+def bind_library(image):
+    """The opcode sets an ordinal above the number of libraries, or below -3."""
+    count = library_count(image)
+    for table in streams(image, *BIND_STREAMS):
+        for opcode in decode(image, table)[0]:
+            ordinal = ordinal_of(opcode)
+            if ordinal is not None and (ordinal > count or ordinal < BIND_SPECIAL_DYLIB_WEAK_LOOKUP):
+                yield opcode.place
+
+def bind_symbol(image):
+    """The opcode has a count above 0, and no name is set."""
+    for table in streams(image, *BIND_STREAMS):
+        for run in runs(image, table):
+            if run.count > 0 and run.symbol is None:
+                yield run.place
+
+def bind_slot(image):
+    """The same as `rebase_slot`."""
+    return bad_slots(image, BIND_STREAMS)
+
+def bind_total(image):
+    """The same as `rebase_total`, of each stream by itself."""
+    return above_budget(image, BIND_STREAMS)
+
 # Order of judgment
 
 RULES_OF_THE_FILE = [
@@ -679,6 +937,10 @@ STRICT_RULES_OF_THE_FILE = [fat_stray_byte]
 STRICT_RULES_OF_AN_IMAGE = [
     commands_end, header_segment, segment_file_overlap, element_overlap, stray_byte, encrypted_range, command_slack,
     unclaimed_byte,
+]
+LINKED_RULES_OF_AN_IMAGE = [
+    table_repeated, table_home, header_home, rebase_opcode, rebase_slot, rebase_total, bind_opcode, bind_library,
+    bind_symbol, bind_slot, bind_total,
 ]
 
 def first_of(file, rules_of_the_file, rules_of_an_image):
@@ -702,6 +964,13 @@ def first_strictly_broken(file):
     """The same with the strict profile, which is judged where no other rule is broken."""
     return first_broken(file) or first_of(
         file, STRICT_RULES_OF_THE_FILE if file.is_universal else [], STRICT_RULES_OF_AN_IMAGE)
+
+def first_linked_broken(file):
+    """The same with the linked profile, which is judged where no rule of the other two is broken."""
+    return first_strictly_broken(file) or first_of(file, [], LINKED_RULES_OF_AN_IMAGE)
+
+# What is judged by each profile: it too, and all before it.
+PROFILES = {"layout": first_broken, "strict": first_strictly_broken, "linked": first_linked_broken}
 
 # The layout, as docs/COMMAND.md has its lines
 
@@ -785,9 +1054,9 @@ def layout(file):
 
 # The answers: a status, what is written to standard output, and what is written to standard error
 
-def check(data, is_strict=False):
+def check(data, profile="layout"):
     file = File(data)
-    broken = first_strictly_broken(file) if is_strict else first_broken(file)
+    broken = PROFILES[profile](file)
     if broken is not None:
         return 1, "refused: %s at 0x%x\n" % broken, ""
     return 0, "".join(line + "\n" for line in layout(file)), ""
@@ -818,15 +1087,16 @@ def number(word):
     return None
 
 def answer(words):
-    """The answer to the words of a call: FILE, `--strict` FILE, or `where` FILE SLICE ADDRESS."""
+    """The answer to the words of a call: FILE, `--strict` or `--linked` FILE, or `where` FILE SLICE ADDRESS."""
     is_where = len(words) == 4 and words[0] == "where"
-    is_strict = len(words) == 2 and words[0] == "--strict"
-    if not is_where and not is_strict and len(words) != 1:
-        return 2, "", "usage: oracle.py FILE | --strict FILE | where FILE SLICE ADDRESS\n"
+    is_further = len(words) == 2 and words[0] in ("--strict", "--linked")
+    if not is_where and not is_further and len(words) != 1:
+        return 2, "", "usage: oracle.py FILE | --strict FILE | --linked FILE | where FILE SLICE ADDRESS\n"
     if is_where and (number(words[2]) is None or number(words[3]) is None):
         return 2, "", "macho-check: bad number\n"
     path = words[0] if len(words) == 1 else words[1]
-    program = "macho-strict" if is_strict else "macho-check"
+    profile = words[0].replace("--", "") if is_further else "layout"
+    program = {"layout": "macho-check", "strict": "macho-strict", "linked": "oracle.py"}[profile]
     try:
         with sys.stdin.buffer if path == "-" else open(path, "rb") as stream:
             data = stream.read()
@@ -834,7 +1104,7 @@ def answer(words):
         return 3, "", program + ": read failed\n"
     if len(data) > 2 ** 32:
         return 3, "", program + ": more than 4294967296 bytes\n"
-    return where(data, number(words[2]), number(words[3])) if is_where else check(data, is_strict)
+    return where(data, number(words[2]), number(words[3])) if is_where else check(data, profile)
 
 def main():
     status, out, err = answer(sys.argv[1:])

@@ -299,7 +299,7 @@ def load(path, is_strict):
     sys.dont_write_bytecode = True
     spec.loader.exec_module(module)
     if is_strict:
-        module.check = functools.partial(module.check, is_strict=True)
+        module.check = functools.partial(module.check, profile="strict")
     return module
 
 def oracle_answer(oracle, question):

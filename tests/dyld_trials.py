@@ -1,0 +1,228 @@
+#!/usr/bin/env python3
+"""Loads images by the plain dyld of tests/plain_dyld.py, under watch. tests/dyld calls it, and says how.
+
+It judges the vectors of tests/linked.txt by hand and by tests/oracle.py --linked, and then files and mutants of their
+tables by the oracle alone. Each image that the oracle accepts is loaded, and the promise of docs/LINKED.md has to hold.
+Mutant N of a seed is always the same. For each case it prints a line of three texts with tabs between them: the case,
+what was found, and what is wanted.
+"""
+
+import argparse
+import importlib.util
+import multiprocessing
+import os
+import random
+import re
+import sys
+import tempfile
+import time
+from collections import Counter, namedtuple
+from pathlib import Path
+
+sys.dont_write_bytecode = True
+import plain_dyld
+import table_mutants
+
+TOP = Path(__file__).resolve().parent.parent
+sys.path.insert(0, os.path.join(TOP, "bench"))
+from images import read_count, read_vectors  # pylint: disable=wrong-import-position
+
+VECTORS = TOP / "tests" / "linked.txt"
+REAL = TOP / "tests" / "real"
+BATCH = 200
+SHOWN = 20
+# A file is mutated up to this length: of a longer one most of the time is the layout's.
+MOST_BYTES = 200_000
+
+# The oracle, which is loaded first.
+oracle = None
+
+# Of a file: its verdict, how many writes there were to each stream, and the breach, or None.
+Loaded = namedtuple("Loaded", "verdict writes breach")
+
+def load_module(path):
+    spec = importlib.util.spec_from_file_location("oracle", path)
+    module = importlib.util.module_from_spec(spec)
+    spec.loader.exec_module(module)
+    return module
+
+def verdict_on(data):
+    status, out, _ = oracle.check(data, "linked")
+    return "accepted" if status == 0 else out.rstrip("\n")
+
+def load(data):
+    """The verdict on a file, and what happens where it is loaded, accepted or not."""
+    verdict = verdict_on(data)
+    return load_judged(data, verdict) if verdict == "accepted" else Loaded(verdict, Counter(), None)
+
+def load_judged(data, verdict):
+    """Loads all images of a file that breaks no rule of the strict profile."""
+    writes = Counter()
+    try:
+        for image in oracle.File(data).slices:
+            if image.is_64_bit:
+                writes.update(write.stream for write in plain_dyld.load(image))
+    except plain_dyld.Breach as breach:
+        return Loaded(verdict, writes, str(breach))
+    return Loaded(verdict, writes, None)
+
+def rule_of(verdict):
+    return re.sub("refused: | at .*", "", verdict)
+
+class Report:
+    """Prints the cases, and keeps the files that break the promise."""
+
+    def __init__(self, keep):
+        self.keep = keep
+        self.shown = 0
+
+    @staticmethod
+    def case(name, found, wanted):
+        print("%s\t%s\t%s" % (name, found, wanted), flush=True)
+
+    def breach(self, name, data, loaded):
+        self.shown += 1
+        if self.shown <= SHOWN:
+            os.makedirs(self.keep, exist_ok=True)
+            path = os.path.join(self.keep, re.sub("[^A-Za-z0-9.]+", "-", name))
+            Path(path).write_bytes(data)
+            print("%s: %s, but %s" % (path, loaded.verdict, loaded.breach), file=sys.stderr)
+
+def names_of(rules):
+    return [rule.__name__.replace("_", "-") for rule in rules]
+
+def judge_vectors(report):
+    """Each has its verdict by hand. Where it is accepted, the promise holds. Each rule is the first broken one of
+    some; and of each rule but those that say what a number means, there is one on which the loader goes astray."""
+    vectors = read_vectors(VECTORS)
+    report.case("how many vectors there are", sum(vector.is_linked for vector in vectors), read_count(VECTORS)[0])
+    rules, astray = Counter(), Counter()
+    right = breaches = 0
+    for vector in vectors:
+        verdict = verdict_on(vector.data)
+        if verdict == vector.wanted:
+            right += 1
+        else:
+            print("%s: %s, not %s" % (vector.name, verdict, vector.wanted), file=sys.stderr)
+        rules[rule_of(verdict)] += 1
+        if verdict != "accepted" and rule_of(verdict) not in names_of(oracle.LINKED_RULES_OF_AN_IMAGE):
+            continue
+        loaded = load_judged(vector.data, verdict)
+        astray[rule_of(verdict)] += loaded.breach is not None
+        if verdict == "accepted" and loaded.breach is not None:
+            breaches += 1
+            report.breach(vector.name, vector.data, loaded)
+    report.case("vectors with the verdict by hand", right, len(vectors))
+    report.case("accepted vectors that break the promise", breaches, 0)
+    linked = names_of(oracle.LINKED_RULES_OF_AN_IMAGE)
+    report.case("rules that no vector breaks first", [rule for rule in linked if not rules[rule]], [])
+    report.case("rules without which no vector breaks the promise", [rule for rule in linked if not astray[rule]],
+                ["table-repeated"])
+
+def read_files(folders):
+    paths = [REAL / "program", REAL / "library"]
+    for folder in folders:
+        paths += sorted(path for path in Path(folder).iterdir() if path.is_file())
+    return [(path.name, path.read_bytes()) for path in paths]
+
+def judge_files(report, files):
+    """Each file that breaks no rule of the strict profile is loaded, or its fault is said."""
+    kinds, writes, faults = Counter(), Counter(), []
+    breaches = 0
+    for name, data in files:
+        if oracle.check(data, "strict")[0] != 0:
+            continue
+        loaded = load(data)
+        kinds[rule_of(loaded.verdict)] += 1
+        writes += loaded.writes
+        if loaded.verdict != "accepted":
+            faults.append("%s: %s" % (name, loaded.verdict))
+        if loaded.breach is not None:
+            breaches += 1
+            report.breach(name, data, loaded)
+    for fault in faults:
+        print(fault, file=sys.stderr)
+    print("of %d files: %s. Writes: %s" % (sum(kinds.values()), listed(kinds), listed(writes)), file=sys.stderr)
+    report.case("accepted files that break the promise", breaches, 0)
+
+def listed(counts):
+    return ", ".join("%d %s" % (number, kind) for kind, number in counts.most_common()) or "none"
+
+def mutant(seed, number, corpus):
+    """Mutant NUMBER of a seed: a file of the corpus with up to five changes, and whether it has changed."""
+    rng = random.Random("%d %d" % (seed, number))
+    before = data = rng.choice(corpus)
+    for _ in range(rng.choice((1, 1, 1, 1, 2, 2, 3, 5))):
+        data = table_mutants.change(rng, data)
+    return data, data != before
+
+# What is set before the processes begin, and is the same in all of them.
+work = None
+
+def batch(bounds):
+    kinds, writes, breaches = Counter(), Counter(), []
+    for number in range(*bounds):
+        data, is_changed = mutant(work.seed, number, work.corpus)
+        loaded = load(data)
+        kinds[rule_of(loaded.verdict) if is_changed else "the same"] += 1
+        writes += loaded.writes
+        if loaded.breach is not None:
+            breaches.append((number, data, loaded))
+    return kinds, writes, breaches
+
+def judge_mutants(report, count, jobs):
+    kinds, writes = Counter(), Counter()
+    breaches = 0
+    bounds = [(first, min(first + BATCH, count)) for first in range(0, count, BATCH)]
+    with multiprocessing.get_context("fork").Pool(jobs) as pool:
+        for some, written, astray in pool.imap_unordered(batch, bounds):
+            kinds += some
+            writes += written
+            for number, data, loaded in astray:
+                breaches += 1
+                report.breach("mutant %d of seed %d" % (number, work.seed), data, loaded)
+    print("%d mutants of %d files: %s. Writes: %s" % (count, len(work.corpus), listed(kinds), listed(writes)),
+          file=sys.stderr)
+    report.case("accepted mutants that break the promise", breaches, 0)
+    report.case("some mutants are accepted, and are not the same", kinds["accepted"] > count // 50, True)
+
+def find_breach(count):
+    """Loads the accepted vectors and then the mutants, up to the first one that breaks the promise."""
+    for vector in read_vectors(VECTORS):
+        if load(vector.data).breach is not None:
+            return "the vector '%s'" % vector.name
+    for number in range(count):
+        if load(mutant(work.seed, number, work.corpus)[0]).breach is not None:
+            return "mutant %d of seed %d" % (number, work.seed)
+    return None
+
+def main():
+    global oracle, work  # pylint: disable=global-statement
+    parser = argparse.ArgumentParser(prog="tests/dyld")
+    parser.add_argument("--seed", type=int, default=1, help="of the mutants; 1 otherwise")
+    parser.add_argument("--count", type=int, default=3000, help="of the mutants; 3000 otherwise")
+    parser.add_argument("--jobs", type=int, default=2, help="how many processes; 2 otherwise")
+    parser.add_argument("--keep", default=os.path.join(tempfile.gettempdir(), "macho-dyld-breaches"),
+                        help="the folder for files that break the promise")
+    parser.add_argument("--oracle", default=os.path.join(TOP, "tests", "oracle.py"), help="another oracle")
+    parser.add_argument("--first", action="store_true", help="only the first breach is looked for")
+    parser.add_argument("folders", nargs="*", help="folders of other files, which are judged and mutated as well")
+    words = parser.parse_args()
+    began = time.monotonic()
+    oracle = load_module(words.oracle)
+    report = Report(words.keep)
+    files = read_files(words.folders)
+    corpus = [data for _, data in files if len(data) <= MOST_BYTES] + [v.data for v in read_vectors(VECTORS)]
+    work = argparse.Namespace(
+        seed=words.seed, corpus=[data for data in corpus if table_mutants.streams(data)
+                                 and rule_of(verdict_on(data)) in ("accepted", "rebase-total", "bind-total")])
+    if words.first:
+        print("the first breach: %s" % find_breach(words.count), file=sys.stderr)
+        return
+    judge_vectors(report)
+    judge_files(report, files)
+    judge_mutants(report, words.count, words.jobs)
+    print("%d s" % (time.monotonic() - began), file=sys.stderr)
+
+if __name__ == "__main__":
+    main()

@@ -1,0 +1,312 @@
+"""The plain dyld of docs/LINKED.md, under watch: it follows the opcodes of an image, checks nothing, and really writes.
+
+Its memory is a copy of the file bytes of the mapped segments, with zeros after them. What it does is compared with what
+the linked profile promises, and the first thing that breaks the promise raises `Breach`: a byte of a stream or of the
+headers that is read outside of them, or that is no longer the file's; a write that is no whole pointer in the file
+bytes of one writable segment; a segment or a library that is not there; more writes of a stream than the budget, or
+more steps than its bytes and writes explain. So it ends on all files, and on one that breaks the rules it says how.
+
+Of tests/oracle.py it takes the commands of an image, and nothing that decodes a stream.
+"""
+
+import bisect
+from collections import namedtuple
+
+# mach-o/loader.h
+REBASE_OPCODE_DONE = 0x00
+REBASE_OPCODE_SET_TYPE_IMM = 0x10
+REBASE_OPCODE_SET_SEGMENT_AND_OFFSET_ULEB = 0x20
+REBASE_OPCODE_ADD_ADDR_ULEB = 0x30
+REBASE_OPCODE_ADD_ADDR_IMM_SCALED = 0x40
+REBASE_OPCODE_DO_REBASE_IMM_TIMES = 0x50
+REBASE_OPCODE_DO_REBASE_ULEB_TIMES = 0x60
+REBASE_OPCODE_DO_REBASE_ADD_ADDR_ULEB = 0x70
+REBASE_OPCODE_DO_REBASE_ULEB_TIMES_SKIPPING_ULEB = 0x80
+BIND_OPCODE_DONE = 0x00
+BIND_OPCODE_SET_DYLIB_ORDINAL_IMM = 0x10
+BIND_OPCODE_SET_DYLIB_ORDINAL_ULEB = 0x20
+BIND_OPCODE_SET_DYLIB_SPECIAL_IMM = 0x30
+BIND_OPCODE_SET_SYMBOL_TRAILING_FLAGS_IMM = 0x40
+BIND_OPCODE_SET_TYPE_IMM = 0x50
+BIND_OPCODE_SET_ADDEND_SLEB = 0x60
+BIND_OPCODE_SET_SEGMENT_AND_OFFSET_ULEB = 0x70
+BIND_OPCODE_ADD_ADDR_ULEB = 0x80
+BIND_OPCODE_DO_BIND = 0x90
+BIND_OPCODE_DO_BIND_ADD_ADDR_ULEB = 0xa0
+BIND_OPCODE_DO_BIND_ADD_ADDR_IMM_SCALED = 0xb0
+BIND_OPCODE_DO_BIND_ULEB_TIMES_SKIPPING_ULEB = 0xc0
+LC_DYLD_INFO, LC_DYLD_INFO_ONLY = 0x22, 0x80000022
+LOADS = (0xc, 0x80000018, 0x8000001f, 0x20, 0x80000023)
+VM_PROT_WRITE = 2
+
+POINTER = 8
+WORD = 2 ** 64
+SLIDE = 0x12345678000
+# What a look-up finds: an address whose bytes are all opcodes that no stream may have.
+FOUND = 0xf1f2f3f4f5f6f7f8
+# Names are looked at again at each opcode that binds, but no more bytes of them than this.
+MOST_OF_NAMES = 100_000
+
+# A write: the stream, the address, and of a bind the ordinal, the name, the addend and the flags.
+Write = namedtuple("Write", "stream address ordinal name addend flags")
+
+class Breach(Exception):
+    """The promise is broken."""
+
+class Memory:
+    """The mapped segments, by their addresses: of each its address, its file bytes, its end and its command."""
+
+    def __init__(self, image):
+        mapped = sorted((segment for segment in image.segments if segment.vmsize > 0), key=lambda s: s.vmaddr)
+        self.starts = [segment.vmaddr for segment in mapped]
+        self.parts = [(segment, bytearray(image.data[segment.fileoff:segment.fileoff + segment.filesize]))
+                      for segment in mapped]
+
+    def part_of(self, address, size):
+        """The segment that has all these addresses, its file bytes, and the offset in it."""
+        at = bisect.bisect(self.starts, address) - 1
+        if at >= 0:
+            segment, content = self.parts[at]
+            offset = address - segment.vmaddr
+            if offset + size <= segment.vmsize:
+                return segment, content, offset
+        raise Breach("0x%x is not mapped, or not all of %d bytes" % (address, size))
+
+    def read(self, address, size):
+        _, content, offset = self.part_of(address, size)
+        return bytes(content[offset:offset + size]).ljust(size, b"\0")
+
+    def write(self, address, pointer):
+        segment, content, offset = self.part_of(address, POINTER)
+        if segment.initprot & VM_PROT_WRITE == 0:
+            raise Breach("0x%x is written, which is not writable" % address)
+        if offset + POINTER > len(content):
+            raise Breach("0x%x is written, which is no whole pointer in the file" % address)
+        content[offset:offset + POINTER] = pointer.to_bytes(POINTER, "little")
+
+class Dyld:
+    """A loader of one image. `writes` has what it has written."""
+
+    def __init__(self, image):
+        self.image = image
+        self.memory = Memory(image)
+        self.writes = []
+        self.steps = 0
+        self.of_names = 0
+        # What is promised: no more writes to a stream than this.
+        self.budget = sum(segment.filesize // POINTER for segment in image.segments
+                          if segment.vmsize > 0 and segment.initprot & VM_PROT_WRITE)
+        self.segments = [segment.place for segment in image.segments]
+        self.libraries = [command.place for command in image.commands if command.cmd in LOADS]
+
+    # The headers, in memory
+
+    def header(self, place, width):
+        """A number of the headers in memory, which is still the file's."""
+        if self.image.base is None:
+            raise Breach("there are no headers in memory")
+        found = self.memory.read(self.image.base + place, width)
+        if found != self.image.data[place:place + width]:
+            raise Breach("the header at 0x%x has changed" % place)
+        return int.from_bytes(found, "little")
+
+    def address_of(self, segment, cursor):
+        if segment is None or segment >= len(self.segments):
+            raise Breach("segment %s is not there" % segment)
+        return (self.header(self.segments[segment] + 24, 8) + cursor) % WORD
+
+    def look_up(self, ordinal, name):
+        """Finds the library and the name, and then some address."""
+        if ordinal > 0:
+            if ordinal > len(self.libraries):
+                raise Breach("library %d is not there" % ordinal)
+            place = self.libraries[ordinal - 1]
+            self.header(place + self.header(place + 8, 4), 1)
+        elif ordinal < -3:
+            raise Breach("library %d is not there" % ordinal)
+        if name is None:
+            raise Breach("there is no name")
+        return FOUND
+
+    # A stream, in memory. It is where its home has it.
+
+    def begin(self, start, size):
+        for segment in self.image.segments:
+            if segment.vmsize > 0 and segment.fileoff <= start < segment.fileoff + segment.filesize:
+                self.place = start
+                self.start, self.end = start, start + size
+                self.to_address = segment.vmaddr - segment.fileoff
+                return
+        raise Breach("the stream at 0x%x is not mapped" % start)
+
+    def stream_byte(self, place):
+        if not self.start <= place < self.end:
+            raise Breach("0x%x is read, which is not in the stream" % place)
+        byte = self.memory.read(place + self.to_address, 1)[0]
+        if byte != self.image.data[place]:
+            raise Breach("the opcode at 0x%x has changed" % place)
+        return byte
+
+    def next_byte(self):
+        self.steps += 1
+        self.place += 1
+        return self.stream_byte(self.place - 1)
+
+    def number(self):
+        number, shift = 0, 0
+        while True:
+            byte = self.next_byte()
+            number |= (byte & 0x7f) << shift
+            shift += 7
+            if byte < 0x80:
+                return number % WORD
+
+    def signed_number(self):
+        number, shift = 0, 0
+        while True:
+            byte = self.next_byte()
+            number |= (byte & 0x7f) << shift
+            shift += 7
+            if byte < 0x80:
+                return number - (1 << shift) if byte & 0x40 else number
+
+    def name(self):
+        """The place of a name, which is left behind."""
+        place = self.place
+        while self.next_byte() != 0:
+            pass
+        return place
+
+    def name_at(self, place):
+        """The name is read again where it is looked up."""
+        name = bytearray()
+        while self.of_names < MOST_OF_NAMES:
+            byte = self.stream_byte(place + len(name))
+            if byte == 0:
+                break
+            name.append(byte)
+            self.of_names += 1
+        return bytes(name)
+
+    # What is written
+
+    def write(self, stream, address, pointer, *of_bind):
+        self.steps += 1
+        self.memory.write(address, pointer % WORD)
+        self.writes.append(Write(stream, address, *of_bind))
+        self.written += 1
+        if self.written > self.budget:
+            raise Breach("the %s stream has more than %d writes" % (stream, self.budget))
+
+    def rebase_slots(self, segment, cursor, count, skip):
+        for _ in range(count):
+            address = self.address_of(segment, cursor)
+            value = int.from_bytes(self.memory.read(address, POINTER), "little")
+            self.write("rebase", address, value + SLIDE, None, None, None, None)
+            cursor = (cursor + POINTER + skip) % WORD
+        return cursor
+
+    def follow_rebases(self):
+        segment, cursor = None, 0
+        while self.place < self.end:
+            byte = self.next_byte()
+            opcode, imm = byte & 0xf0, byte & 0x0f
+            if opcode == REBASE_OPCODE_DONE:
+                return
+            if opcode == REBASE_OPCODE_SET_TYPE_IMM:
+                pass
+            elif opcode == REBASE_OPCODE_SET_SEGMENT_AND_OFFSET_ULEB:
+                segment, cursor = imm, self.number()
+            elif opcode == REBASE_OPCODE_ADD_ADDR_ULEB:
+                cursor = (cursor + self.number()) % WORD
+            elif opcode == REBASE_OPCODE_ADD_ADDR_IMM_SCALED:
+                cursor = (cursor + imm * POINTER) % WORD
+            elif opcode == REBASE_OPCODE_DO_REBASE_IMM_TIMES:
+                cursor = self.rebase_slots(segment, cursor, imm, 0)
+            elif opcode == REBASE_OPCODE_DO_REBASE_ULEB_TIMES:
+                cursor = self.rebase_slots(segment, cursor, self.number(), 0)
+            elif opcode == REBASE_OPCODE_DO_REBASE_ADD_ADDR_ULEB:
+                # The slot is written before the number is read, as a loader may do it.
+                cursor = self.rebase_slots(segment, cursor, 1, 0)
+                cursor = (cursor + self.number()) % WORD
+            elif opcode == REBASE_OPCODE_DO_REBASE_ULEB_TIMES_SKIPPING_ULEB:
+                count = self.number()
+                cursor = self.rebase_slots(segment, cursor, count, self.number())
+            else:
+                raise Breach("0x%02x is no opcode" % byte)
+
+    def bind_slots(self, stream, state, count, skip):
+        for k in range(count):
+            if k == 0:
+                pointer = self.look_up(state["ordinal"], state["name"])
+                name = self.name_at(state["name"])
+            address = self.address_of(state["segment"], state["cursor"])
+            self.write(stream, address, pointer + state["addend"],
+                       state["ordinal"], name, state["addend"], state["flags"])
+            state["cursor"] = (state["cursor"] + POINTER + skip) % WORD
+
+    def follow_binds(self, stream):
+        first = {"segment": None, "cursor": 0, "ordinal": 0, "name": None, "addend": 0, "flags": 0}
+        state = dict(first)
+        while self.place < self.end:
+            byte = self.next_byte()
+            opcode, imm = byte & 0xf0, byte & 0x0f
+            if opcode == BIND_OPCODE_DONE:
+                if stream != "lazy":
+                    return
+                state = dict(first)
+            elif opcode == BIND_OPCODE_SET_DYLIB_ORDINAL_IMM:
+                state["ordinal"] = imm
+            elif opcode == BIND_OPCODE_SET_DYLIB_ORDINAL_ULEB:
+                state["ordinal"] = self.number()
+            elif opcode == BIND_OPCODE_SET_DYLIB_SPECIAL_IMM:
+                state["ordinal"] = imm - 16 if imm else 0
+            elif opcode == BIND_OPCODE_SET_SYMBOL_TRAILING_FLAGS_IMM:
+                state["flags"], state["name"] = imm, self.name()
+            elif opcode == BIND_OPCODE_SET_TYPE_IMM:
+                pass
+            elif opcode == BIND_OPCODE_SET_ADDEND_SLEB:
+                state["addend"] = self.signed_number()
+            elif opcode == BIND_OPCODE_SET_SEGMENT_AND_OFFSET_ULEB:
+                state["segment"], state["cursor"] = imm, self.number()
+            elif opcode == BIND_OPCODE_ADD_ADDR_ULEB:
+                state["cursor"] = (state["cursor"] + self.number()) % WORD
+            elif opcode == BIND_OPCODE_DO_BIND:
+                self.bind_slots(stream, state, 1, 0)
+            elif opcode == BIND_OPCODE_DO_BIND_ADD_ADDR_ULEB:
+                self.bind_slots(stream, state, 1, 0)
+                state["cursor"] = (state["cursor"] + self.number()) % WORD
+            elif opcode == BIND_OPCODE_DO_BIND_ADD_ADDR_IMM_SCALED:
+                self.bind_slots(stream, state, 1, imm * POINTER)
+            elif opcode == BIND_OPCODE_DO_BIND_ULEB_TIMES_SKIPPING_ULEB:
+                count = self.number()
+                self.bind_slots(stream, state, count, self.number())
+            else:
+                raise Breach("0x%02x is no opcode" % byte)
+
+    def load(self):
+        """Follows the streams of each command that names some."""
+        for command in self.image.listed:
+            if command.cmd in (LC_DYLD_INFO, LC_DYLD_INFO_ONLY):
+                self.follow("rebase", command.rebase_off, command.rebase_size)
+                self.follow("bind", command.bind_off, command.bind_size)
+                self.follow("weak", command.weak_bind_off, command.weak_bind_size)
+                self.follow("lazy", command.lazy_bind_off, command.lazy_bind_size)
+
+    def follow(self, stream, start, size):
+        if size == 0:
+            return
+        self.begin(start, size)
+        self.steps = self.written = 0
+        if stream == "rebase":
+            self.follow_rebases()
+        else:
+            self.follow_binds(stream)
+        if self.steps > size + self.written:
+            raise Breach("the %s stream took %d steps" % (stream, self.steps))
+
+def load(image):
+    """Loads an image that has been opened, and returns what was written."""
+    dyld = Dyld(image)
+    dyld.load()
+    return dyld.writes

@@ -1,0 +1,241 @@
+"""Mutants of tables: of the streams of opcodes that LC_DYLD_INFO names, and of what they depend on. Each way changes a
+file and keeps its length, so most mutants break no rule of the layout or of the strict profile.
+
+tests/dyld_trials.py uses them. Nothing of the oracle is used here, so that a mistake in it does not hide itself.
+"""
+
+from collections import namedtuple
+
+MAGIC_64 = bytes.fromhex("cffaedfe")
+LC_SEGMENT_64, LC_DYLD_INFO, LC_DYLD_INFO_ONLY = 0x19, 0x22, 0x80000022
+LOADS = (0xc, 0x80000018, 0x8000001f, 0x20, 0x80000023)
+STREAMS = ("rebase", "bind", "weak", "lazy")
+WORD = 2 ** 64
+
+# A stream: its name, the place of its start in the command, and where its bytes are in the file.
+Stream = namedtuple("Stream", "name field start end")
+
+# The operands of an opcode, by its upper four bits: `n` is a number, `s` a number with a sign, `t` a text.
+REBASE_OPERANDS = {0x20: "n", 0x30: "n", 0x60: "n", 0x70: "n", 0x80: "nn"}
+BIND_OPERANDS = {0x20: "n", 0x40: "t", 0x60: "s", 0x70: "n", 0x80: "n", 0xa0: "n", 0xc0: "nn"}
+
+def word(data, place, width=4):
+    return int.from_bytes(data[place:place + width], "little")
+
+def commands(data, start):
+    """The place of each command of an image, up to the first impossible one."""
+    place = start + 32
+    for _ in range(min(word(data, start + 16), 2000)):
+        size = word(data, place + 4)
+        if size < 8 or place + size > len(data):
+            return
+        yield place
+        place += size
+
+def starts_of_images(data):
+    starts = []
+    at = data.find(MAGIC_64)
+    while at >= 0 and len(starts) < 8:
+        starts.append(at)
+        at = data.find(MAGIC_64, at + 1)
+    return starts
+
+def streams(data):
+    """The streams of a file that have bytes."""
+    found = []
+    for image in starts_of_images(data):
+        for place in commands(data, image):
+            if word(data, place) in (LC_DYLD_INFO, LC_DYLD_INFO_ONLY) and word(data, place + 4) >= 48:
+                for index, name in enumerate(STREAMS):
+                    field = place + 8 + 8 * index
+                    start, size = image + word(data, field), word(data, field + 4)
+                    if 0 < size and start + size <= len(data):
+                        found.append(Stream(name, field, start, start + size))
+    return found
+
+def number_end(data, place, end):
+    """Where a number ends, if it does before the end."""
+    while place < end and data[place] >= 0x80:
+        place += 1
+    return min(place + 1, end)
+
+def opcodes(data, stream):
+    """The opcodes of a stream, roughly: of each its place, its end, and its operands with their places and ends."""
+    found = []
+    place = stream.start
+    operands_of = REBASE_OPERANDS if stream.name == "rebase" else BIND_OPERANDS
+    while place < stream.end:
+        first, place = place, place + 1
+        operands = []
+        for kind in operands_of.get(data[first] & 0xf0, ""):
+            start = place
+            if kind == "t":
+                zero = data.find(0, place, stream.end)
+                place = zero + 1 if zero >= 0 else stream.end
+            else:
+                place = number_end(data, place, stream.end)
+            operands.append((kind, start, place))
+        found.append((first, place, operands))
+    return found
+
+def uleb(number, spare=0):
+    """The bytes of a number, with so many zeros at its end."""
+    content = bytearray()
+    while number >= 0x80:
+        content.append(number & 0x7f | 0x80)
+        number >>= 7
+    content.append(number)
+    for _ in range(spare):
+        content[-1] |= 0x80
+        content.append(0)
+    return bytes(content)
+
+def sleb(number):
+    content = bytearray()
+    while not -0x40 <= number < 0x40:
+        content.append(number & 0x7f | 0x80)
+        number >>= 7
+    content.append(number & 0x7f)
+    return bytes(content)
+
+def replace(data, stream, start, end, content):
+    """The bytes of a stream from start up to end are others. What follows moves, and the stream keeps its length."""
+    table = data[stream.start:start] + content + data[end:stream.end]
+    size = stream.end - stream.start
+    return data[:stream.start] + table[:size].ljust(size, b"\0") + data[stream.end:]
+
+def segments(data):
+    """The commands of segments of all images."""
+    return [place for image in starts_of_images(data) for place in commands(data, image)
+            if word(data, place) == LC_SEGMENT_64]
+
+def some_number(rng, data, before):
+    """A number that a rule may turn on: near what was there, near the bytes of a segment, near a power of two."""
+    near = rng.choice((0, 0, -8, 8, -1, 1, -7, -16, 16, rng.randrange(-64, 64)))
+    way = rng.randrange(6)
+    if way == 0:
+        return before + near
+    if way == 1:
+        return rng.randrange(40)
+    if way == 2:
+        return 2 ** rng.choice((3, 7, 8, 31, 32, 61, 63, 64)) + near
+    if way == 3:
+        return -rng.choice((8, 16, 24, 32, before, rng.randrange(1, 4096)))
+    size = word(data, rng.choice(segments(data) or [0]) + 48, 8)
+    return (size if rng.random() < 0.7 else size // 8) + near
+
+# The ways
+
+def set_number(rng, data, stream):
+    """A number of an opcode is another one, sometimes with spare zeros, and sometimes of too many bytes."""
+    numbers = [operand for *_, operands in opcodes(data, stream) for operand in operands if operand[0] != "t"]
+    if not numbers:
+        return set_byte(rng, data, stream)
+    kind, start, end = rng.choice(numbers)
+    before = sum((byte & 0x7f) << 7 * k for k, byte in enumerate(data[start:end]))
+    if kind == "s":
+        content = sleb(rng.choice((0, 1, -1, 2 ** 63 - 1, 2 ** 63, -2 ** 63, -2 ** 63 - 1, rng.randrange(-999, 999))))
+    else:
+        number = some_number(rng, data, before)
+        number = number % WORD if rng.random() < 0.95 else abs(number) % 2 ** 70
+        content = uleb(number, rng.choice((0, 0, 0, 0, 1, 2, 9, 10)))
+    return replace(data, stream, start, end, content)
+
+def flip_bit(rng, data, stream):
+    place = rng.randrange(stream.start, stream.end)
+    return data[:place] + bytes((data[place] ^ 1 << rng.randrange(8),)) + data[place + 1:]
+
+def set_byte(rng, data, stream):
+    place = rng.randrange(stream.start, stream.end)
+    byte = rng.choice((0, 1, 8, 0x11, 0x51, 0x7f, 0x80, 0x90, 0xff, rng.randrange(256), data[place] + 1 & 0xff))
+    return data[:place] + bytes((byte,)) + data[place + 1:]
+
+def some_opcode(rng, data, stream):
+    """An opcode with operands."""
+    if stream.name == "rebase":
+        opcode = rng.choice((0x00, 0x10, 0x20, 0x20, 0x30, 0x40, 0x50, 0x50, 0x60, 0x70, 0x80, 0x90))
+        operands = REBASE_OPERANDS.get(opcode, "")
+    else:
+        opcode = rng.choice((0x00, 0x10, 0x20, 0x30, 0x40, 0x50, 0x60, 0x70, 0x70, 0x80, 0x90, 0x90, 0xa0, 0xb0, 0xc0,
+                             0xd0))
+        operands = BIND_OPERANDS.get(opcode, "")
+    content = bytearray((opcode | rng.choice((0, 1, 1, 2, 3, rng.randrange(16))),))
+    for kind in operands:
+        if kind == "t":
+            content += b"_" + b"x" * rng.randrange(3) + b"\0"
+        elif kind == "s":
+            content += sleb(rng.randrange(-300, 300))
+        else:
+            content += uleb(some_number(rng, data, 8) % WORD)
+    return bytes(content)
+
+def add_opcode(rng, data, stream):
+    """Opcodes are added before one."""
+    place = rng.choice(opcodes(data, stream))[0]
+    content = b"".join(some_opcode(rng, data, stream) for _ in range(rng.choice((1, 1, 2, 3))))
+    return replace(data, stream, place, place, content)
+
+def set_opcode(rng, data, stream):
+    first, end, _ = rng.choice(opcodes(data, stream))
+    return replace(data, stream, first, end, some_opcode(rng, data, stream))
+
+def remove_opcodes(rng, data, stream):
+    found = opcodes(data, stream)
+    at = rng.randrange(len(found))
+    last = min(at + rng.choice((0, 0, 0, 1, 5)), len(found) - 1)
+    return replace(data, stream, found[at][0], found[last][1], b"")
+
+def repeat_opcodes(rng, data, stream):
+    """Some opcodes are there again, once or often."""
+    found = opcodes(data, stream)
+    at = rng.randrange(len(found))
+    last = min(at + rng.randrange(6), len(found) - 1)
+    content = data[found[at][0]:found[last][1]] * rng.choice((1, 1, 2, 4, 50))
+    place = rng.choice(found)[0]
+    return replace(data, stream, place, place, content)
+
+def move_table(rng, data, stream):
+    """The command has another start or size of the stream."""
+    width = 4
+    field = stream.field + rng.choice((0, 4, 4))
+    value = word(data, field) + rng.choice((-8, -4, -2, -1, 1, 2, 4, 8, 64))
+    if rng.random() < 0.2:
+        value = word(data, rng.choice(segments(data) or [stream.field]) + rng.choice((40, 48)))
+    return data[:field] + (value % 2 ** 32).to_bytes(width, "little") + data[field + width:]
+
+def move_tables(_, data, stream):
+    """The starts and sizes of two streams are exchanged."""
+    field = stream.field
+    return data[:field] + data[field + 8:field + 16] + data[field:field + 8] + data[field + 16:]
+
+def set_protection(rng, data, _):
+    place = rng.choice(segments(data)) + rng.choice((56, 60, 60))
+    return data[:place] + bytes((rng.randrange(8),)) + data[place + 1:]
+
+def set_size(rng, data, _):
+    """A segment has fewer or more bytes in the file, or no addresses."""
+    place = rng.choice(segments(data))
+    field = place + rng.choice((32, 40, 48, 48))
+    value = rng.choice((0, 7, 8, word(data, field, 8) + rng.choice((-16, -8, -1, 1, 8)), word(data, place + 48, 8)))
+    return data[:field] + (value % WORD).to_bytes(8, "little") + data[field + 8:]
+
+def set_library(rng, data, _):
+    """A command that loads a library is of another kind, or is one no longer."""
+    places = [place for image in starts_of_images(data) for place in commands(data, image)
+              if word(data, place) in LOADS]
+    if not places:
+        return data
+    place = rng.choice(places)
+    return data[:place] + rng.choice((*LOADS, 0x7fffffff)).to_bytes(4, "little") + data[place + 4:]
+
+# With how often each is taken.
+WAYS = {set_number: 40, flip_bit: 20, set_byte: 15, add_opcode: 20, set_opcode: 20, remove_opcodes: 8,
+        repeat_opcodes: 12, move_table: 4, move_tables: 2, set_protection: 3, set_size: 3, set_library: 1}
+
+def change(rng, data):
+    """The file with one change of a table, or of what it depends on."""
+    found = streams(data)
+    if not found:
+        return data
+    way = rng.choices(list(WAYS), list(WAYS.values()))[0]
+    return way(rng, data, rng.choice(found))
