@@ -1,0 +1,5 @@
+#![tactic(auto)]
+//! The linked profile, of a file that breaks no rule of the layout and no strict rule: what a dynamic
+//! loader reads next cannot lead it astray.
+
+pub mod numbers;
