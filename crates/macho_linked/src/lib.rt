@@ -3,3 +3,5 @@
 //! loader reads next cannot lead it astray.
 
 pub mod numbers;
+pub mod opcode;
+pub mod step;

@@ -1,0 +1,72 @@
+-- The operands of an opcode: names, and the zeros after the last opcode.
+use Rattle.std.proofs.Common.{◌≡◌, ℕ, suc, ◌+◌, ◌-◌, ◌≤◌, ◌<◌, ◌==◌, Bool, true, false, List, [], ◌∷◌, length, drop, get_or, slice_index, slice_get, Some, None, inl, inr, refl, sym, ap, ◌∙◌, arith, length-drop}
+use Rattle.std.specs.List.{list_all, position_or_len}
+use Rattle.std.proofs.lemmas.Bool.{cases_eq, eq-eqb, ne_eqb, lt-ltb, le-ltb}
+use Rattle.std.proofs.lemmas.List.{get_or-drop, length-take, length-take-le}
+use Rattle.std.proofs.lemmas.List.Folds.{list_all_at}
+use Rattle.std.proofs.lemmas.List.Sums.{position_or_len_is}
+use Rattle.std.proofs.lemmas.Option.{slice_get_within}
+use Rattle.macho_fields.specs.Field.{part, string_from, HasZero}
+use Rattle.macho_fields.specs.NonZero.{IsNonZero, HasNonZero}
+use Rattle.macho_fields.proofs.Strings.{string_ends}
+use Rattle.macho_linked.specs.Steps.{with_name, last_step}
+use Rattle.macho_linked.specs.declared.step.Step.TheVariants as step
+
+abbrev is_zero : ℕ → Bool
+is_zero byte = byte == 0
+
+all_zero : (bytes : List ℕ) → ((k : ℕ) → k < length bytes → get_or bytes k 0 ≡ 0) → list_all is_zero bytes ≡ true
+all_zero [] zeros = refl
+all_zero (byte ∷ bytes) zeros =
+    let first : is_zero byte ≡ true = eq-eqb byte 0 (zeros 0 (omega arith)) in
+    let others = all_zero bytes (λ k below. zeros (suc k) (omega arith)) in rw (first, others) refl
+
+-- nothing but zeros follows
+pub last_ends : (stream : List ℕ) (next : ℕ) → (HasNonZero stream next (next + length stream) → ⊥)
+    → last_step stream next ≡ Some (step.Done, length stream)
+last_ends stream next none =
+    let size = length-drop next stream in
+    let all : list_all is_zero (drop next stream) ≡ true =
+    all_zero (drop next stream) (λ k below. get_or-drop next stream k 0 ∙ zero_at (next + k) (omega arith) (omega arith) (omega arith)) in
+    rw all refl
+  where
+    zero_at : (place : ℕ) → next ≤ place → place < next + length stream → place < length stream → get_or stream place 0 ≡ 0
+    zero_at place from before inside =
+        elim (cases_eq (get_or stream place 0) 0) [
+          | inl is ↦ is
+          | inr more ↦ absurd (none (place, from, before, (inside, more)))
+        ]
+
+-- a byte that is not zero follows
+pub last_fails : (stream : List ℕ) (next place : ℕ) → next ≤ place → IsNonZero stream place → last_step stream next ≡ None
+last_fails stream next place from there =
+    let size = length-drop next stream in
+    let k = place - next in
+    let same : next + (place - next) ≡ place = omega arith in
+    let here : is_zero (get_or (drop next stream) (place - next) 0) ≡ false =
+    ne_eqb _ 0 (λ is. there.1 (ap (slice_index stream) (sym same) ∙ (sym (get_or-drop next stream (place - next) 0) ∙ is))) in
+    let all = list_all_at is_zero (drop next stream) (place - next) 0 (omega arith) here in rw all refl
+
+-- a name ends at its first zero byte
+pub name_ends : (flags : ℕ) (stream : List ℕ) (name z : ℕ) → name ≤ z → slice_get stream z ≡ Some 0 → (HasZero stream name z → ⊥)
+    → with_name flags stream name ≡ Some (step.SetSymbol name flags, z + 1)
+name_ends flags stream name z from there first =
+    let inside = slice_get_within stream z 0 there in
+    let is = string_ends stream name z from there first in
+    let size : length (part name (z - name) stream) ≡ z - name = length-take-le (z - name) (drop name stream) (rw (length-drop name stream) (omega arith)) in
+    let end : name + length (string_from name stream) ≡ z = rw (← is, size) (omega arith) in
+    rw (end, lt-ltb z (length stream) inside) refl
+
+-- a name without a zero byte does not end
+pub name_fails : (flags : ℕ) (stream : List ℕ) (name : ℕ) → (HasZero stream name (name + length stream) → ⊥)
+    → with_name flags stream name ≡ None
+name_fails flags stream name none =
+    let rest = drop name stream in
+    let size = length-drop name stream in
+    let len : position_or_len is_zero (drop name stream) ≡ length (drop name stream) =
+    position_or_len_is is_zero (drop name stream) (length (drop name stream)) 0 (omega arith)
+    (λ k below. ne_eqb _ 0 (λ is. none (name + k, omega arith, omega arith, omega arith, sym (get_or-drop name stream k 0) ∙ is)))
+    (λ past. absurd (omega arith)) in
+    let count = length-take (position_or_len is_zero (drop name stream)) (drop name stream) in
+    let past : length stream ≤ name + length (string_from name stream) = omega (arith, count) in
+    rw (le-ltb _ _ past) refl
