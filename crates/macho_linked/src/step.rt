@@ -63,6 +63,21 @@ pub enum Step {
     },
 }
 
+impl Step {
+    ghost use Rattle.std.specs.Prelude.{◌≡◌};
+    ghost use Rattle.macho_linked.specs.Streams.{writes};
+
+    /// How many pointers the step writes.
+    pub fn writes(self) -> u64
+        ensures { result ≡ writes self }
+    {
+        match self {
+            Step::Write { count, .. } => count,
+            _ => 0,
+        }
+    }
+}
+
 /// What the opcode at `place` says, and the first place past it and its operands. It is `None` past the
 /// end, or if the opcode is not known, its type is no pointer, an operand does not end or is out of its
 /// range, or the opcode ends the stream and a byte that is not zero follows.

@@ -1,0 +1,216 @@
+-- A walk over the steps of a stream: what it has noted of each rule before a place.
+use Rattle.std.proofs.Common.{◌≡◌, ℕ, ◌+◌, ◌-◌, ◌*◌, ◌^◌, ◌≤◌, ◌<◌, List, [], ◌∷◌, ◌++◌, length, Option, Some, None, MatchOption, inl, inr, refl, sym, ap, ◌∙◌, subst, arith}
+use Rattle.std.specs.List.{sum_by}
+use Rattle.std.proofs.lemmas.Bool.{cases_lt, cases_eq}
+use Rattle.std.proofs.lemmas.List.{append-nil}
+use Rattle.std.proofs.lemmas.List.Sums.{fold_push, sum_by-append, sum_by-cons}
+use Rattle.macho_fields.specs.FirstPlace.{IsNoted, IsLeastPlace}
+use Rattle.macho_linked.specs.Cursor.{start, moved, cursor_after}
+use Rattle.macho_linked.specs.Steps.{step_at, Follow, AreSteps}
+use Rattle.macho_linked.specs.Streams.{At, IsUndecoded, NamesNoLibrary, LacksName, WritesOutside, PassesBudget, writes, IsSurveyOf}
+use Rattle.macho_linked.specs.declared.cursor.Cursor.{Cursor}
+use Rattle.macho_linked.specs.declared.step.Opcodes.{Opcodes}
+use Rattle.macho_linked.specs.declared.step.Step.{Step}
+use Rattle.macho_linked.specs.declared.stream.Limits.{Limits}
+use Rattle.macho_linked.specs.declared.stream.StreamSurvey.{StreamSurvey}
+use Rattle.macho_linked.proofs.StepChains.{same_step, follow_rises, follow_more, follow_on}
+use Rattle.macho_linked.proofs.Within.{step_within}
+
+-- what is found is the least place with P below an end, and so of all
+abbrev pub IsLeastBelow : (ℕ → Type 0) → ℕ → Option ℕ → Type 0
+IsLeastBelow P end found =
+    MatchOption found ((place : ℕ) → place < end → P place → ⊥)
+    (λ least. P least × ((place : ℕ) → P place → least ≤ place))
+
+module _ (P : ℕ → Type 0) where
+  -- one place is passed, with P or without, and those between it and the next one have not P
+  pub below_more : (place next : ℕ) (broken : Type 0) (old new : Option ℕ) → IsLeastBelow P place old → IsNoted broken place old new
+      → (broken → P place) → (P place → broken) → ((between : ℕ) → place < between → between < next → P between → ⊥)
+      → IsLeastBelow P next new
+  below_more place next broken (Some least) new found (inl (here, is)) to from none = subst (IsLeastBelow P next) (sym is) found
+  below_more place next broken (Some least) new found (inr (kept, is)) to from none = subst (IsLeastBelow P next) (sym is) found
+  below_more place next broken None new early (inl (here, is)) to from none =
+      let found : IsLeastBelow P next (Some place) =
+      (to here, λ other has. elim (cases_lt other place) [ inl less ↦ absurd (early other less has) | inr more ↦ more ]) in
+      subst (IsLeastBelow P next) (sym is) found
+  below_more place next broken None new early (inr (kept, is)) to from none =
+      let found : IsLeastBelow P next None =
+      (λ other less has. elim (cases_lt other place) [
+        | inl before ↦ early other before has
+        | inr more ↦ elim (cases_eq other place) [
+          | inl same ↦ kept (from (subst P same has))
+          | inr apart ↦ none other (omega (arith, more, apart)) less has
+        ]
+      ]) in
+      subst (IsLeastBelow P next) (sym is) found
+
+  -- none is left
+  pub below_all : (end : ℕ) (found : Option ℕ) → IsLeastBelow P end found → ((place : ℕ) → end ≤ place → P place → ⊥) → IsLeastPlace P found
+  below_all end None none past = λ place broken. elim (cases_lt place end) [ inl early ↦ none place early broken | inr late ↦ past place late broken ]
+  below_all end (Some least) found past = found
+
+-- where a walk has come
+pub record IsWalked (of : Opcodes) (stream : List ℕ) (limits : Limits) (place : ℕ) (cursor : Cursor) (written : ℕ) (survey : StreamSurvey) : Type 0 where
+  pub inside : place ≤ length stream
+  pub few : written ≤ place * (2 ^ 64 - 1)
+  pub steps : (before : List Step) × AreSteps of stream before place × (cursor ≡ cursor_after before) × (written ≡ sum_by writes before)
+  pub opcode : survey.opcode ≡ None
+  pub library : IsLeastBelow (At (NamesNoLibrary limits.libraries) of stream) place survey.library
+  pub symbol : IsLeastBelow (At LacksName of stream) place survey.symbol
+  pub slot : IsLeastBelow (At (WritesOutside limits.rooms) of stream) place survey.slot
+  pub total : IsLeastBelow (At (PassesBudget limits.budget) of stream) place survey.total
+
+module _ (P : Cursor → ℕ → Step → Type 0) (of : Opcodes) (stream : List ℕ) (place : ℕ) (before : List Step) (are : AreSteps of stream before place) where
+  -- no step goes past a place without one
+  pub none_past : step_at of stream place ≡ None → (late : ℕ) → place ≤ late → At P of stream late → ⊥
+  none_past none late less (others, next, after, chain, at, has) =
+      let (rest, on, is) = follow_on of stream before others 0 place late are chain less in
+      nothing rest on
+    where
+      nothing : (rest : List Step) → Follow of stream place rest late → ⊥
+      nothing [] same = let at_place : step_at of stream place ≡ Some (next, after) = rw same at in cc
+      nothing (first ∷ rest) (end, here, on) = cc
+
+  -- nor past the end of the stream
+  pub none_outside : length stream ≤ place → (late : ℕ) → place ≤ late → At P of stream late → ⊥
+  none_outside past late less (others, next, after, chain, at, has) =
+      let within = step_within of stream late next after at in omega arith
+
+  module _ (here : Step) (after : ℕ) (at : step_at of stream place ≡ Some (here, after)) where
+    -- the step at the place is the only one there
+    pub at_here : At P of stream place → P (cursor_after before) (sum_by writes before) here
+    at_here (others, next, end, chain, there, has) =
+        let same = (same_step _ here next after end at there).0 in
+        let (rest, on, is) = follow_on of stream before others 0 place place are chain (omega arith) in
+        all_same rest on is same
+      where
+        all_same : (rest : List Step) → Follow of stream place rest place → others ≡ before ++ rest → here ≡ next → P (cursor_after before) (sum_by writes before) here
+        all_same [] on is same =
+            subst (λ (steps : List Step). P (cursor_after steps) (sum_by writes steps) here) (is ∙ append-nil before)
+            (subst (P (cursor_after others) (sum_by writes others)) (sym same) has)
+        all_same (first ∷ rest) (end_of, begins, on) is same =
+            let within = step_within of stream place first end_of begins in
+            let more = follow_rises of stream rest end_of place on in absurd (omega arith)
+
+    -- and there is none up to its end
+    pub none_between : (between : ℕ) → place < between → between < after → At P of stream between → ⊥
+    none_between between past less (others, next, end, chain, there, has) =
+        let (rest, on, is) = follow_on of stream before others 0 place between are chain (omega arith) in
+        nothing rest on
+      where
+        nothing : (rest : List Step) → Follow of stream place rest between → ⊥
+        nothing [] same = omega arith
+        nothing (first ∷ rest) (end_of, begins, on) =
+            let same = (same_step _ here first after end_of at begins).1 in
+            let more = follow_rises of stream rest end_of between on in omega arith
+
+-- Where a walk begins, goes on and ends
+
+pub walk_start : (of : Opcodes) (stream : List ℕ) (limits : Limits) (cursor : Cursor) (survey : StreamSurvey) → cursor ≡ start
+    → survey.opcode ≡ None → survey.library ≡ None → survey.symbol ≡ None → survey.slot ≡ None → survey.total ≡ None
+    → IsWalked of stream limits 0 cursor 0 survey
+walk_start of stream limits cursor survey begins opcode library symbol slot total = record {
+  inside = omega arith;
+  few = omega arith;
+  steps = ([], refl, begins, refl);
+  opcode = opcode;
+  library = none_below _ library;
+  symbol = none_below _ symbol;
+  slot = none_below _ slot;
+  total = none_below _ total;
+}
+  where
+    none_below : (P : ℕ → Type 0) {found : Option ℕ} → found ≡ None → IsLeastBelow P 0 found
+    none_below P is = let none : IsLeastBelow P 0 None = (λ place below. absurd (omega arith)) in subst (IsLeastBelow P 0) (sym is) none
+
+module _ (of : Opcodes) (stream : List ℕ) (limits : Limits) (place : ℕ) (cursor : Cursor) (written : ℕ) (survey : StreamSurvey)
+    (walked : IsWalked of stream limits place cursor written survey) where
+  -- one step more
+  pub walk_more : (here : Step) (after : ℕ) (noted : StreamSurvey) (next : Cursor) (total : ℕ) → step_at of stream place ≡ Some (here, after)
+      → writes here < 2 ^ 64 → next ≡ moved cursor here → total ≡ written + writes here → noted.opcode ≡ survey.opcode
+      → IsNoted (NamesNoLibrary limits.libraries cursor written here) place survey.library noted.library
+      → IsNoted (LacksName cursor written here) place survey.symbol noted.symbol
+      → IsNoted (WritesOutside limits.rooms cursor written here) place survey.slot noted.slot
+      → IsNoted (PassesBudget limits.budget cursor written here) place survey.total noted.total
+      → IsWalked of stream limits after next total noted
+  walk_more here after noted next total at fits moves counts opcode library symbol slot budget =
+      let (before, are, cursor_is, written_is) = walked.steps in
+      let within = step_within of stream place here after at in record {
+        inside = within.1;
+        few = few_more within.0;
+        steps = (before ++ here ∷ [], follow_more of stream before 0 place here after are at, moves ∙ (ap (λ c. moved c here) cursor_is ∙ sym (fold_push moved start before here)), counts ∙ more before written_is);
+        opcode = opcode ∙ walked.opcode;
+        library = passed (NamesNoLibrary limits.libraries) before are cursor_is written_is _ _ walked.library library;
+        symbol = passed LacksName before are cursor_is written_is _ _ walked.symbol symbol;
+        slot = passed (WritesOutside limits.rooms) before are cursor_is written_is _ _ walked.slot slot;
+        total = passed (PassesBudget limits.budget) before are cursor_is written_is _ _ walked.total budget;
+      }
+    where
+      few_more : place < after → total ≤ after * (2 ^ 64 - 1)
+      few_more past = let few = walked.few in omega (arith, few, counts, fits)
+
+      more : (before : List Step) → written ≡ sum_by writes before → written + writes here ≡ sum_by writes (before ++ here ∷ [])
+      more before is =
+          let sum = sum_by-append writes before (here ∷ []) in
+          let single = sum_by-cons writes here [] in omega (arith, is, sum, single)
+
+      passed : (P : Cursor → ℕ → Step → Type 0) (before : List Step) → AreSteps of stream before place → cursor ≡ cursor_after before → written ≡ sum_by writes before
+          → (old new : Option ℕ) → IsLeastBelow (At P of stream) place old → IsNoted (P cursor written here) place old new → IsLeastBelow (At P of stream) after new
+      passed P before are cursor_is written_is old new found note =
+          let there : P cursor written here → P (cursor_after before) (sum_by writes before) here =
+          (λ has. subst (λ c. P c (sum_by writes before) here) cursor_is (subst (λ n. P cursor n here) written_is has)) in
+          let back : P (cursor_after before) (sum_by writes before) here → P cursor written here =
+          (λ has. subst (λ n. P cursor n here) (sym written_is) (subst (λ c. P c (sum_by writes before) here) (sym cursor_is) has)) in
+          below_more (At P of stream) place after (P cursor written here) old new found note
+          (λ has. (before, here, after, are, at, there has))
+          (λ has. back (at_here P of stream place before are here after at has))
+          (none_between P of stream place before are here after at)
+
+  -- each opcode before the place says something
+  decoded : (early : ℕ) → early < place → IsUndecoded of stream early → ⊥
+  decoded early less ((others, chain), inside, none) =
+      let (before, are, cursor_is, written_is) = walked.steps in
+      let (rest, on, is) = follow_on of stream others before 0 early place chain are (omega arith) in
+      nothing rest on
+    where
+      nothing : (rest : List Step) → Follow of stream early rest place → ⊥
+      nothing [] same = omega arith
+      nothing (first ∷ rest) (end, here, on) = cc
+
+  -- what is found of a rule where no step follows
+  found_all : (P : Cursor → ℕ → Step → Type 0) (old found : Option ℕ) → found ≡ old → IsLeastBelow (At P of stream) place old
+      → ((late : ℕ) → place ≤ late → At P of stream late → ⊥) → IsLeastPlace (At P of stream) found
+  found_all P old found is below past = subst (IsLeastPlace (At P of stream)) (sym is) (below_all (At P of stream) place old below past)
+
+  -- the stream ends at the place
+  pub walk_ended : length stream ≤ place → IsSurveyOf of stream limits survey
+  walk_ended end =
+      let (before, are, cursor_is, written_is) = walked.steps in record {
+        opcode = subst (IsLeastPlace (IsUndecoded of stream)) (sym walked.opcode) all_decoded;
+        library = found_all (NamesNoLibrary limits.libraries) _ _ refl walked.library (none_outside (NamesNoLibrary limits.libraries) of stream place before are end);
+        symbol = found_all LacksName _ _ refl walked.symbol (none_outside LacksName of stream place before are end);
+        slot = found_all (WritesOutside limits.rooms) _ _ refl walked.slot (none_outside (WritesOutside limits.rooms) of stream place before are end);
+        total = found_all (PassesBudget limits.budget) _ _ refl walked.total (none_outside (PassesBudget limits.budget) of stream place before are end);
+      }
+    where
+      all_decoded : IsLeastPlace (IsUndecoded of stream) None
+      all_decoded = λ other undecoded. elim (cases_lt other place) [
+        | inl early ↦ decoded other early undecoded
+        | inr late ↦ let inside : other < length stream = undecoded.1 in absurd (omega arith)
+      ]
+
+  -- the opcode at the place says nothing
+  pub walk_stuck : place < length stream → step_at of stream place ≡ None → (found : StreamSurvey) → found.opcode ≡ Some place
+      → found.library ≡ survey.library → found.symbol ≡ survey.symbol → found.slot ≡ survey.slot → found.total ≡ survey.total
+      → IsSurveyOf of stream limits found
+  walk_stuck inside none found opcode library symbol slot total =
+      let (before, are, cursor_is, written_is) = walked.steps in record {
+        opcode = subst (IsLeastPlace (IsUndecoded of stream)) (sym opcode) (((before, are), inside, none), no_earlier);
+        library = found_all (NamesNoLibrary limits.libraries) _ _ library walked.library (none_past (NamesNoLibrary limits.libraries) of stream place before are none);
+        symbol = found_all LacksName _ _ symbol walked.symbol (none_past LacksName of stream place before are none);
+        slot = found_all (WritesOutside limits.rooms) _ _ slot walked.slot (none_past (WritesOutside limits.rooms) of stream place before are none);
+        total = found_all (PassesBudget limits.budget) _ _ total walked.total (none_past (PassesBudget limits.budget) of stream place before are none);
+      }
+    where
+      no_earlier : (other : ℕ) → IsUndecoded of stream other → place ≤ other
+      no_earlier other undecoded = elim (cases_lt other place) [ inl early ↦ absurd (decoded other early undecoded) | inr late ↦ late ]
