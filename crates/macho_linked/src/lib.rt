@@ -3,6 +3,8 @@
 //! loader reads next cannot lead it astray.
 
 pub mod cursor;
+pub mod homes;
+pub mod limits;
 pub mod numbers;
 pub mod opcode;
 pub mod step;

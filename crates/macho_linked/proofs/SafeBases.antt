@@ -1,0 +1,60 @@
+-- The segment that has the base of an image, and whether it is writable.
+use Rattle.std.proofs.Common.{◌≡◌, ◌↔◌, ℕ, List, [], ◌∷◌, map, IsTrue, Bool, true, false, Option, Some, None, refl, sym, ap, ◌∙◌, inl, inr}
+use Rattle.std.specs.Prelude.{not, IsSomeAnd}
+use Rattle.std.specs.List.{find}
+use Rattle.std.specs.Option.{option_map}
+use Rattle.std.proofs.lemmas.Bool.{cases_Bool, false≢true}
+use Rattle.macho_fields.specs.Segment.{shows_start}
+use Rattle.macho_image.specs.Segment.{SegmentView, segment_at}
+use Rattle.macho_linked.specs.Homes.{all_segments, is_writable, HasSafeBase}
+
+abbrev pub shows : SegmentView → Bool
+shows s = shows_start s.image s.place
+
+-- no segment that was passed has the base
+pub record NonePassed (all left : List SegmentView) : Type 0 where
+  pub same : find shows all ≡ find shows left
+
+pub none_passed : (all : List SegmentView) → NonePassed all all
+none_passed all = record { same = refl }
+
+pub pass_one : (all left rest : List SegmentView) (s : SegmentView) → left ≡ s ∷ rest → shows s ≡ false → NonePassed all left → NonePassed all rest
+pass_one all left rest s is shows_not passed =
+    let skipped : find shows (s ∷ rest) ≡ find shows rest = rw shows_not refl in
+    record { same = passed.same ∙ (ap (find shows) is ∙ skipped) }
+
+find_mapped : (image places : List ℕ) → find shows (map (segment_at image) places) ≡ option_map (segment_at image) (find (shows_start image) places)
+find_mapped image [] = refl
+find_mapped image (place ∷ places) = elim (cases_Bool (shows_start image place)) [ inl t ↦ rw t refl | inr f ↦ rw f (find_mapped image places) ]
+
+readonly : (w b : Bool) → w ≡ b → IsTrue (not w) ↔ (b ≡ false)
+readonly true true same = (λ wrong. absurd (false≢true wrong), λ wrong. absurd (false≢true (sym wrong)))
+readonly true false same = absurd (false≢true (sym same))
+readonly false true same = absurd (false≢true same)
+readonly false false same = (λ _. refl, λ _. refl)
+
+module _ (image : List ℕ) (all left rest : List SegmentView) (are : all ≡ map (segment_at image) (all_segments image)) (passed : NonePassed all left) where
+  found : find shows left ≡ option_map (segment_at image) (find (shows_start image) (all_segments image))
+  found = sym passed.same ∙ (ap (find shows) are ∙ find_mapped image (all_segments image))
+
+  -- a segment with the base is the next one
+  pub base_found : (s : SegmentView) (writable : Bool) → left ≡ s ∷ rest → shows s ≡ true → writable ≡ is_writable s.image s.place
+      → IsTrue (not writable) ↔ HasSafeBase image
+  base_found s writable is here same =
+      let first : find shows left ≡ Some s = ap (find shows) is ∙ rw here refl in
+      judged (find (shows_start image) (all_segments image)) (sym found ∙ first)
+    where
+      judged : (base : Option ℕ) → option_map (segment_at image) base ≡ Some s
+          → IsTrue (not writable) ↔ IsSomeAnd base (λ place. is_writable image place ≡ false)
+      judged None wrong = absurd (cc)
+      judged (Some place) at =
+          let segment : segment_at image place ≡ s = cc in
+          readonly writable (is_writable image place) (same ∙ sym (ap (λ (t : SegmentView). is_writable t.image t.place) segment))
+
+  -- no segment is left
+  pub base_missing : left ≡ [] → HasSafeBase image → ⊥
+  base_missing none = missing (find (shows_start image) (all_segments image)) (sym found ∙ ap (find shows) none)
+    where
+      missing : (base : Option ℕ) → option_map (segment_at image) base ≡ None → IsSomeAnd base (λ place. is_writable image place ≡ false) → ⊥
+      missing None is safe = safe
+      missing (Some place) is safe = cc

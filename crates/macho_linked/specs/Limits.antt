@@ -1,0 +1,24 @@
+-- What an image gives the rules of its streams to compare their steps with.
+use Rattle.std.specs.Prelude.{◌≡◌, ℕ, ◌/◌, ◌<◌, List, map, slice_index, if◌then◌else◌}
+use Rattle.std.specs.List.{sum_by}
+use Rattle.macho_fields.specs.Segment.{filesize}
+use Rattle.macho_linked.specs.Homes.{all_segments, is_writable}
+use Rattle.macho_linked.specs.declared.step.TheConstants as size
+use Rattle.macho_linked.specs.declared.stream.TheConstants as stream
+
+-- how many bytes of a segment can be written, from its start on: those that it has in the file, if it is
+-- writable
+abbrev pub room : List ℕ → ℕ → ℕ
+room image segment = if is_writable image segment then filesize image segment else 0
+
+-- those of all segments, in the order of the commands
+abbrev pub rooms_of : List ℕ → List ℕ
+rooms_of image = map (room image) (all_segments image)
+
+-- how many pointers fit into the rooms
+abbrev pub budget_of : List ℕ → ℕ
+budget_of image = sum_by (λ segment. room image segment / size.POINTER_SIZE) (all_segments image)
+
+-- the rooms of the segments that a step can name
+abbrev pub AreRooms : List ℕ → List ℕ → Type 0
+AreRooms rooms found = (k : ℕ) → k < stream.SEGMENTS → slice_index found k ≡ slice_index rooms k

@@ -1,0 +1,48 @@
+//! What an image gives the rules of its streams to compare their steps with.
+
+ghost use Rattle.std.specs.Prelude.{◌≡◌};
+ghost use Rattle.macho_linked.specs.Limits.{AreRooms, rooms_of as all_rooms, budget_of, room as room_of};
+
+use crate::homes::is_writable;
+use crate::step::POINTER_SIZE;
+use crate::stream::SEGMENTS;
+use macho_image::{Image, Segment};
+
+/// What can be written of the segments of an image.
+#[derive(Clone, Copy, Debug, PartialEq, Eq)]
+pub struct Rooms {
+    /// How many bytes of each of the first segments can be written, from its start on.
+    pub sizes: [u64; SEGMENTS],
+    /// How many pointers fit into what can be written of all segments.
+    pub budget: u128,
+}
+
+/// Goes over the segments of the image, once.
+pub fn rooms_of(image: &Image) -> Rooms
+    ensures sizes { AreRooms (all_rooms image.now) result.sizes }
+    ensures budget { result.budget ≡ budget_of image.now }
+{
+    let mut sizes = [0; SEGMENTS];
+    let mut index = 0;
+    let mut budget: u128 = 0;
+    for segment in image.segments() {
+        let room = room(&segment);
+        budget += u128::from(room / POINTER_SIZE);
+        if index < SEGMENTS {
+            sizes[index] = room;
+            index += 1;
+        }
+    }
+    Rooms { sizes, budget }
+}
+
+// How many bytes of the segment can be written: those that it has in the file, if it is writable.
+fn room(segment: &Segment) -> u64
+    ensures { result ≡ room_of segment.now.image segment.now.place }
+{
+    if is_writable(segment) {
+        segment.filesize()
+    } else {
+        0
+    }
+}
