@@ -110,7 +110,7 @@ module _ (seen : List SegmentView) (sizes : List ℕ) (index budget : ℕ) (s : 
 
 -- There are not so many segments that their sum does not fit
 
-commands_fit : (image : List ℕ) (start : ℕ) (xs : List ℕ) (next : ℕ) → Follow image start xs next → start ≤ commands_end image
+pub commands_fit : (image : List ℕ) (start : ℕ) (xs : List ℕ) (next : ℕ) → Follow image start xs next → start ≤ commands_end image
     → start + 8 * length xs ≤ commands_end image
 commands_fit image start [] next chain within = omega arith
 commands_fit image start (x ∷ xs) next (first, good, rest) within =

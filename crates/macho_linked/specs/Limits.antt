@@ -1,7 +1,10 @@
 -- What an image gives the rules of its streams to compare their steps with.
-use Rattle.std.specs.Prelude.{◌≡◌, ℕ, ◌/◌, ◌<◌, List, map, slice_index, if◌then◌else◌}
+use Rattle.std.specs.Prelude.{◌≡◌, ℕ, ◌/◌, ◌<◌, ◌==◌, ◌&&◌, not, Bool, List, length, map, filter, slice_index, if◌then◌else◌}
 use Rattle.std.specs.List.{sum_by}
+use Rattle.macho_fields.specs.Image.{command_cmd, commands_of}
+use Rattle.macho_fields.specs.LoadCommands.{names_library}
 use Rattle.macho_fields.specs.Segment.{filesize}
+use Rattle.macho_fields.specs.declared.header.loader.TheConstants as loader
 use Rattle.macho_linked.specs.Homes.{all_segments, is_writable}
 use Rattle.macho_linked.specs.declared.step.TheConstants as size
 use Rattle.macho_linked.specs.declared.stream.TheConstants as stream
@@ -22,3 +25,13 @@ budget_of image = sum_by (λ segment. room image segment / size.POINTER_SIZE) (a
 -- the rooms of the segments that a step can name
 abbrev pub AreRooms : List ℕ → List ℕ → Type 0
 AreRooms rooms found = (k : ℕ) → k < stream.SEGMENTS → slice_index found k ≡ slice_index rooms k
+
+-- a command with this cmd names a library that is loaded: dylib_command, but for the name of the image
+-- itself
+unfoldable pub loads_library : ℕ → Bool
+loads_library cmd = names_library cmd && not (cmd == loader.LC_ID_DYLIB)
+
+-- how many there are
+abbrev pub library_count : List ℕ → ℕ
+library_count image =
+    length (filter (λ command. loads_library (command_cmd image command)) (commands_of image))

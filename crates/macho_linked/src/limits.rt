@@ -1,11 +1,13 @@
 //! What an image gives the rules of its streams to compare their steps with.
 
 ghost use Rattle.std.specs.Prelude.{◌≡◌};
-ghost use Rattle.macho_linked.specs.Limits.{AreRooms, rooms_of as all_rooms, budget_of, room as room_of};
+ghost use Rattle.macho_linked.specs.Limits.{AreRooms, rooms_of as all_rooms, budget_of, room as room_of, library_count as library_count_of, loads_library as loads_library_of};
 
 use crate::homes::is_writable;
 use crate::step::POINTER_SIZE;
-use crate::stream::SEGMENTS;
+use crate::stream::{Limits, SEGMENTS};
+use macho_fields::header::loader::LC_ID_DYLIB;
+use macho_fields::names_library;
 use macho_image::{Image, Segment};
 
 /// What can be written of the segments of an image.
@@ -15,6 +17,48 @@ pub struct Rooms {
     pub sizes: [u64; SEGMENTS],
     /// How many pointers fit into what can be written of all segments.
     pub budget: u128,
+}
+
+impl Limits {
+    ghost use Rattle.std.specs.Prelude.{◌≡◌};
+    ghost use Rattle.macho_linked.specs.Limits.{AreRooms, rooms_of, budget_of, library_count};
+
+    /// The limits of the streams of the image.
+    pub fn of(image: &Image) -> Limits
+        ensures rooms { AreRooms (rooms_of image.now) result.rooms }
+        ensures libraries { result.libraries ≡ library_count image.now }
+        ensures budget { result.budget ≡ budget_of image.now }
+    {
+        let Rooms { sizes, budget } = rooms_of(image);
+        Limits {
+            rooms: sizes,
+            libraries: library_count(image),
+            budget,
+        }
+    }
+}
+
+// How many libraries the image loads.
+fn library_count(image: &Image) -> u64
+    ensures { result ≡ library_count_of image.now }
+{
+    // The commands lie in the image, so their number is below 2^64.
+    prove!(image.bytes().len() <= u64::MAX);
+    let mut count = 0;
+    for command in image.commands() {
+        if loads_library(command.cmd) {
+            count += 1;
+        }
+    }
+    count
+}
+
+// Whether a command with this `cmd` names a library that is loaded.
+#[tactic(auto, unfolding(crate::specs::Limits::loads_library))]
+fn loads_library(cmd: u32) -> bool
+    ensures { result ≡ loads_library_of cmd }
+{
+    names_library(cmd) && cmd != LC_ID_DYLIB
 }
 
 /// Goes over the segments of the image, once.
