@@ -1,0 +1,37 @@
+"""The layout of an accepted file as plain objects, for JSON."""
+
+from __future__ import annotations
+
+from typing import Any, Dict, List
+
+from ._files import File, Image, Slice
+
+
+def plain(name: memoryview) -> str:
+    """A name, with numbers for a quote, a backslash and all that is not printable ASCII."""
+    return "".join(chr(byte) if 0x20 <= byte <= 0x7E and byte not in b'"\\' else f"\\x{byte:02x}" for byte in name)
+
+
+def _row_object(row: Any) -> Dict[str, Any]:
+    """A row without its bytes, and with names as in the layout."""
+    fields = ((field, value) for field, value in row._asdict().items() if field != "bytes")
+    return {field: plain(value) if isinstance(value, memoryview) else value for field, value in fields}
+
+
+def _slice_object(part: Slice) -> Dict[str, Any]:
+    whole = {"place": part.place, "size": len(part.bytes), "arch": part.arch, "is_read": isinstance(part, Image)}
+    return {**whole, **_image_object(part)} if isinstance(part, Image) else whole
+
+
+def _image_object(image: Image) -> Dict[str, Any]:
+    segments = [{**_row_object(segment), "sections": list(map(_row_object, image.sections_of(segment)))}
+                for segment in image.segments]
+    return {"filetype": image.filetype, "flags": image.flags, "uuid": image.uuid and str(image.uuid).upper(),
+            "base": image.base, "entry": image.entry, "symbols": image.symtab and image.symtab.nsyms,
+            "builds": list(map(_row_object, image.builds)), "segments": segments,
+            "libraries": list(map(_row_object, image.libraries))}
+
+
+def slice_objects(file: File) -> List[Dict[str, Any]]:
+    """An object for each slice, as in 1.0.0."""
+    return list(map(_slice_object, file.slices))

@@ -1,0 +1,87 @@
+"""Standard output and standard error, either of which may be closed, full or a terminal."""
+
+from __future__ import annotations
+
+import io
+import os
+import signal
+import sys
+from typing import Callable
+
+from ._progress import is_terminal
+
+# What a terminal shows in which colour (ECMA-48).
+GREEN, RED, YELLOW, PLAIN = "\033[32m", "\033[31m", "\033[33m", "\033[0m"
+
+
+class WriteFailed(Exception):
+    """Standard output is closed, or takes no more."""
+
+    def __init__(self) -> None:
+        super().__init__("write failed")
+
+
+class Output:
+    """Standard output. Before each text, the last line of the terminal is cleared."""
+
+    def __init__(self, encoding: str = "", errors: str = "backslashreplace") -> None:
+        if not isinstance(sys.stdout, io.TextIOWrapper):
+            raise WriteFailed
+        try:
+            # A path may have letters that the encoding does not. What was written before goes out first.
+            sys.stdout.reconfigure(encoding=encoding or None, errors=errors)
+        except OSError as error:
+            raise WriteFailed from error
+        self.stream = sys.stdout
+        self.clear: Callable[[], None] = lambda: None
+
+    def write(self, text: str) -> None:
+        self.clear()
+        try:
+            self.stream.write(text)
+        except OSError as error:
+            raise WriteFailed from error
+
+    def flush(self) -> None:
+        try:
+            self.stream.flush()
+        except OSError as error:
+            raise WriteFailed from error
+
+
+def has_colours(stream: object) -> bool:
+    """Whether what a stream shows may have colours (no-color.org)."""
+    return is_terminal(stream) and not os.environ.get("NO_COLOR") and os.environ.get("TERM") != "dumb"
+
+
+def coloured(text: str, colour: str, stream: object) -> str:
+    return f"{colour}{text}{PLAIN}" if has_colours(stream) else text
+
+
+def open_errors() -> None:
+    """Standard error, which argparse needs, goes nowhere if it is closed."""
+    if sys.stderr is None:
+        sys.stderr = open(os.devnull, "w", encoding="ascii")  # pylint: disable=consider-using-with
+
+
+def say(text: str) -> None:
+    """Writes a line to standard error, if it takes one: the status says the same."""
+    try:
+        if sys.stderr is not None:
+            print(f"kesvuot: {text}", file=sys.stderr, flush=True)
+    except OSError:
+        discard(2)
+
+
+def discard(descriptor: int) -> None:
+    """Whatever is not yet written goes nowhere when Python ends, instead of failing again."""
+    null = os.open(os.devnull, os.O_WRONLY)
+    if null != descriptor:
+        os.dup2(null, descriptor)
+
+
+def end_at_interrupts() -> None:
+    """Control-C ends the process at once and without a traceback, also in the middle of a call: with the status 130 in a
+    shell. It is ignored where whoever has started the process wants it so."""
+    if signal.getsignal(signal.SIGINT) is signal.default_int_handler:
+        signal.signal(signal.SIGINT, signal.SIG_DFL)

@@ -1,0 +1,203 @@
+"""Does something to many items in processes, and gives the results in the order of the items.
+
+No more items are taken than the processes soon need, so memory does not grow with their number. A process that is
+killed costs the one item on which it ended. It ends when the process that has started it does, whatever it does then.
+"""
+
+from __future__ import annotations
+
+import ctypes
+import os
+import signal
+from collections import deque
+from itertools import islice
+from multiprocessing.connection import Connection, Pipe, wait
+from typing import Any, Callable, Deque, Dict, Iterator, List, NamedTuple, Optional, TypeVar
+
+Item = TypeVar("Item")
+Result = TypeVar("Result")
+
+# <linux/prctl.h>: a process gets a signal when the one that has started it ends.
+PR_SET_PDEATHSIG = 1
+# How many items a process gets at once. The first ones get one each: there may be few, and large.
+BATCH = 16
+# So many tasks each process has: one that it does, and one that waits.
+TASKS_EACH = 2
+# So many tasks for each process may be done or under way after the first one that is not done.
+WINDOW_EACH = 8
+
+
+class Task:
+    """Some items, with their results once they are there."""
+
+    def __init__(self, items: List[Any]) -> None:
+        self.items = items
+        self.results: Optional[List[Any]] = None
+
+
+class Worker(NamedTuple):
+    """A process, the connection with it, and the tasks that it has."""
+
+    process: int
+    connection: Connection
+    tasks: Deque[Task]
+
+
+def map_in_processes(do: Callable[[Item], Result], items: Iterator[Item], jobs: int, ended: Callable[[Item], Result],
+                     is_here: Callable[[Item], bool]) -> Iterator[Result]:
+    """The results of `do` for the items. `ended` makes the result of an item whose process has ended. An item that
+    `is_here` is done in this process."""
+    first = list(islice(items, 2))
+    if jobs == 1 or len(first) < 2:
+        yield from map(do, first)
+        yield from map(do, items)
+        return
+    pool = _Pool(do, jobs, ended)
+    try:
+        for task in pool.run(_tasks(do, first, items, jobs, is_here)):
+            yield from task.results or ()
+    finally:
+        pool.close()
+
+
+def _tasks(do: Callable[[Item], Result], first: List[Item], items: Iterator[Item], jobs: int,
+           is_here: Callable[[Item], bool]) -> Iterator[Task]:
+    singles = 4 * jobs
+    batch: List[Item] = []
+    for source in (first, items):
+        for item in source:
+            here = is_here(item)
+            if batch and (here or singles > 0 or len(batch) == BATCH):
+                yield Task(batch)
+                batch, singles = [], singles - 1
+            if here:
+                task = Task([item])
+                task.results = [do(item)]
+                yield task
+            else:
+                batch.append(item)
+    if batch:
+        yield Task(batch)
+
+
+class _Pool:
+    def __init__(self, do: Callable[[Any], Any], jobs: int, ended: Callable[[Any], Any]) -> None:
+        self.do = do
+        self.jobs = jobs
+        self.ended = ended
+        self.workers: Dict[Connection, Worker] = {}
+
+    def run(self, tasks: Iterator[Task]) -> Iterator[Task]:
+        """The tasks, in their order, each when it is done."""
+        under_way: Deque[Task] = deque()
+        again: Deque[Task] = deque()
+        is_over = False
+        while under_way or not is_over:
+            while not is_over and len(under_way) < self.jobs * WINDOW_EACH and self._has_room():
+                task = next(tasks, None)
+                is_over = task is None
+                if task:
+                    under_way.append(task)
+                    if task.results is None:
+                        self._give(task, again)
+            while under_way and under_way[0].results is not None:
+                yield under_way.popleft()
+            if under_way and not again:
+                self._receive(again)
+            while again:
+                self._retry(again.popleft())
+
+    def _has_room(self) -> bool:
+        return len(self.workers) < self.jobs or any(len(it.tasks) < TASKS_EACH for it in self.workers.values())
+
+    def _give(self, task: Task, again: Deque[Task]) -> None:
+        """Gives a task to the process that has fewest, or to a new one."""
+        idle = min(self.workers.values(), key=lambda it: len(it.tasks), default=None)
+        if (idle is None or idle.tasks) and len(self.workers) < self.jobs:
+            idle = self._start() or idle
+        if idle is None:
+            task.results = list(map(self.do, task.items))
+            return
+        idle.tasks.append(task)
+        try:
+            idle.connection.send(task.items)
+        except OSError:
+            self._bury(idle, again)
+
+    def _receive(self, again: Deque[Task]) -> None:
+        """Waits for results."""
+        for connection in wait([it.connection for it in self.workers.values() if it.tasks]):
+            worker = self.workers[connection]  # type: ignore[index]
+            try:
+                worker.tasks[0].results = worker.connection.recv()
+                worker.tasks.popleft()
+            except (EOFError, OSError):
+                self._bury(worker, again)
+
+    def _bury(self, worker: Worker, again: Deque[Task]) -> None:
+        """A process has ended. Its tasks are done again."""
+        del self.workers[worker.connection]
+        worker.connection.close()
+        os.waitpid(worker.process, 0)
+        if worker.tasks and len(worker.tasks[0].items) == 1:
+            task = worker.tasks.popleft()
+            task.results = list(map(self.ended, task.items))
+        again.extend(worker.tasks)
+
+    def _retry(self, task: Task) -> None:
+        """Does a task item by item, each in a process of its own, of which it may be the end."""
+        results: List[Any] = []
+        for item in task.items:
+            worker, result = self._start(), None
+            if worker is None:
+                result = self.do(item)
+            else:
+                try:
+                    worker.connection.send([item])
+                    result = worker.connection.recv()[0]
+                except (EOFError, OSError):
+                    result = self.ended(item)
+                self._end(worker)
+            results.append(result)
+        task.results = results
+
+    def _start(self) -> Optional[Worker]:
+        """Starts a process, if there can be one more."""
+        here, there = Pipe()
+        starter = os.getpid()
+        try:
+            process = os.fork()
+        except OSError:
+            here.close()
+            there.close()
+            return None
+        if process == 0:
+            self._work(starter, here, there)
+        there.close()
+        worker = Worker(process, here, deque())
+        self.workers[here] = worker
+        return worker
+
+    def _work(self, starter: int, here: Connection, there: Connection) -> None:
+        """What the started process does, until there is nobody to tell."""
+        try:
+            ctypes.CDLL(None).prctl(PR_SET_PDEATHSIG, signal.SIGKILL)
+            if os.getppid() != starter:
+                return
+            for other in (here, *self.workers):
+                other.close()
+            while True:
+                there.send(list(map(self.do, there.recv())))
+        finally:
+            os._exit(0)
+
+    def _end(self, worker: Worker) -> None:
+        """Ends a process, which has nothing to do, or nothing that anybody waits for."""
+        self.workers.pop(worker.connection, None)
+        worker.connection.close()
+        os.kill(worker.process, signal.SIGKILL)
+        os.waitpid(worker.process, 0)
+
+    def close(self) -> None:
+        for worker in list(self.workers.values()):
+            self._end(worker)

@@ -1,0 +1,98 @@
+"""Reads a file into memory, as much of it as a verdict needs, and no more than the limit."""
+
+from __future__ import annotations
+
+import os
+import stat
+from typing import Union
+
+# The most bytes of a file that is judged. macho-check has the same limit.
+LIMIT = 1 << 32
+# Most files that are no image end here, or are told by these bytes.
+HEAD_SIZE = 1 << 14
+PIECE_SIZE = 1 << 22
+
+# fat.h and loader.h: universal files, and 64-bit little-endian images. A file that begins with none of these is refused
+# by `magic`, whatever follows.
+JUDGED_MAGICS = frozenset(map(bytes.fromhex, ("cafebabe", "cafebabf", "cffaedfe")))
+# These, and images of 32 bits or in the other byte order.
+MACH_O_MAGICS = JUDGED_MAGICS | frozenset(map(bytes.fromhex, ("feedfacf", "cefaedfe", "feedface")))
+
+Contents = Union[bytes, bytearray]
+
+
+class Unread(Exception):
+    """A file is not read, for this reason."""
+
+
+class NotMachO(Exception):
+    """What was found in a folder is no file of Mach-O, by its kind or its first bytes."""
+
+
+def read_given(path: str) -> Contents:
+    """The bytes of a file that the user has named; `-` is standard input. Of a file that is refused by its first bytes
+    they may be no more than these. Raises OSError, MemoryError or Unread."""
+    if path == "-":
+        return _read(0, os.fstat(0))
+    # Opening a device may do something.
+    mode = os.stat(path).st_mode
+    if stat.S_ISCHR(mode) or stat.S_ISBLK(mode):
+        raise Unread("a device is not read")
+    return _open_and_read(path, 0)
+
+
+def read_found(path: str) -> Contents:
+    """The bytes of what was found in a folder. A link is not followed, and no pipe waited for. Raises NotMachO too."""
+    return _open_and_read(path, os.O_NOFOLLOW | os.O_NONBLOCK, is_found=True)
+
+
+def _open_and_read(path: str, flags: int, is_found: bool = False) -> Contents:
+    descriptor = os.open(path, os.O_RDONLY | os.O_CLOEXEC | os.O_NOCTTY | flags)
+    try:
+        return _read(descriptor, os.fstat(descriptor), is_found)
+    finally:
+        os.close(descriptor)
+
+
+def _read(descriptor: int, known: os.stat_result, is_found: bool = False) -> Contents:
+    """The bytes up to the end, or the first of them if they decide."""
+    is_regular = stat.S_ISREG(known.st_mode)
+    if is_found and not is_regular:
+        raise NotMachO
+    head = _read_head(descriptor)
+    if is_found and head[:4] not in MACH_O_MAGICS:
+        raise NotMachO
+    if is_regular and known.st_size > LIMIT:
+        raise _too_long()
+    if head[:4] not in JUDGED_MAGICS:
+        return head
+    # A file whose read is short has ended.
+    if is_regular and len(head) < HEAD_SIZE and len(head) == known.st_size:
+        return head
+    return _read_on(descriptor, bytearray(head))
+
+
+def _read_head(descriptor: int) -> bytes:
+    """The first bytes. There are fewer than 4 only in a file that is as short."""
+    head = os.read(descriptor, HEAD_SIZE)
+    while 0 < len(head) < 4:
+        more = os.read(descriptor, HEAD_SIZE)
+        if not more:
+            break
+        head += more
+    return head
+
+
+def _read_on(descriptor: int, data: bytearray) -> bytearray:
+    """Reads to the end. In pieces, so that a signal can come between two."""
+    while True:
+        piece = os.read(descriptor, PIECE_SIZE)
+        if not piece:
+            return data
+        data += piece
+        if len(data) > LIMIT:
+            raise _too_long()
+
+
+def _too_long() -> Unread:
+    return Unread(f"more than {LIMIT} bytes")
