@@ -6,7 +6,6 @@ import sys
 from typing import List, Optional
 
 from ._output import Output, discard, say
-from ._words import run
 
 NO_VERDICT_STATUS = 2
 
@@ -16,6 +15,8 @@ def main(words: Optional[List[str]] = None) -> int:
     left, and that is a refusal."""
     try:
         try:
+            # What is not there, or cannot be loaded, is no refusal either.
+            from ._words import run  # pylint: disable=import-outside-toplevel
             return run(sys.argv[1:] if words is None else words)
         except SystemExit as ended:
             # argparse has printed something, perhaps into a full disk.
