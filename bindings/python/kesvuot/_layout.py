@@ -35,3 +35,14 @@ def _image_object(image: Image) -> Dict[str, Any]:
 def slice_objects(file: File) -> List[Dict[str, Any]]:
     """An object for each slice, as in 1.0.0."""
     return list(map(_slice_object, file.slices))
+
+
+def layout_objects(file: File) -> List[Dict[str, Any]]:
+    """An object for each slice, with all but the symbols and the indirect entries."""
+    return [{"index": part.index, "cputype": part.cputype, "cpusubtype": part.cpusubtype, **_slice_object(part),
+             **(_tables(part) if isinstance(part, Image) else {})} for part in file.slices]
+
+
+def _tables(image: Image) -> Dict[str, Any]:
+    return {"symtab": image.symtab and image.symtab._asdict(), "dysymtab": image.dysymtab and image.dysymtab._asdict(),
+            "commands": [{**_row_object(command), "size": len(command.bytes)} for command in image.commands]}

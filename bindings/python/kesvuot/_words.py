@@ -15,6 +15,7 @@ from ._layout import slice_objects
 from ._output import GREEN, RED, YELLOW, Output, WriteFailed, coloured, end_at_interrupts, open_errors, say
 from ._progress import Progress, is_terminal
 from ._reports import REPORTS, Report, Write, reason_text, shown
+from ._show import show
 
 # The version of the package (VERSION).
 VERSION = "1.1.0"
@@ -33,6 +34,7 @@ examples:
   kesvuot check --exclude '*.class' -q build     only those that are not accepted
   kesvuot check --format sarif dist >kesvuot.sarif
   curl -s URL | kesvuot check -                  standard input
+  kesvuot show program                           the layout of an accepted file
 """
 
 
@@ -208,9 +210,24 @@ judges those files that begin with a magic number of Mach-O, and follows no link
     parser.add_argument("--no-progress", action="store_true", help="show no bar on a terminal")
 
 
+# show
+
+
+def _show(words: argparse.Namespace) -> int:
+    return show(words.file, words.profile, words.json)
+
+
+def _add_show(commands: Any) -> None:
+    parser = _add_command(commands, "show", _show, "show the layout of a file", """\
+Shows the layout of an accepted file: its slices, and of each 64-bit image its platform, segments, sections and
+libraries. Of a refused file it prints the rule.""")
+    parser.add_argument("--json", action="store_true", help="print an object with all fields and load commands")
+    parser.add_argument("file", metavar="FILE", help="a file, or - for standard input")
+
+
 # All commands
 
-COMMANDS: Dict[str, Callable[[Any], None]] = {"check": _add_check}
+COMMANDS: Dict[str, Callable[[Any], None]] = {"check": _add_check, "show": _add_show}
 
 
 class _Version(argparse.Action):

@@ -1,0 +1,114 @@
+"""The layout of one file, for people and for JSON."""
+
+from __future__ import annotations
+
+import json
+from functools import partial
+from typing import Any, Callable, Dict, Iterator, List, Tuple
+
+from ._check import ACCEPTED, NO_VERDICT, Choice, Outcome, Target, judge
+from ._files import File, Image, Slice
+from ._layout import layout_objects, plain
+from ._names import (
+    FILETYPES, LC_LOAD_DYLINKER, LC_RPATH, LIBRARIES, platform_name, protection_text, size_text, version_text)
+from ._output import Output, say
+from ._reports import check_object, reason_text, shown
+
+# The form of the object of JSON (docs/layout.schema.json). A field may be added without a new version.
+LAYOUT_VERSION = 1
+
+Cells = Tuple[str, ...]
+
+
+def show(path: str, profile: str, as_json: bool) -> int:
+    """Prints the layout of a file, or why it has none, and returns the status."""
+    output = Output()
+    extra = layout_objects if as_json else _lines
+    outcome = judge(Target(path), Choice(profile == "strict", walks=False, extra=lambda file: extra(file)))
+    if as_json:
+        output.write(json.dumps(_object(outcome, profile), indent=1) + "\n")
+    elif outcome.word == ACCEPTED:
+        output.write(f"{shown(path)}: accepted, {size_text(outcome.size)}, {_count(outcome.slices, 'slice')}\n")
+        for line in outcome.extra:
+            output.write(f"{line}\n".replace(" \n", "\n"))
+    elif outcome.word == NO_VERDICT:
+        say(f"{shown(path)}: {outcome.reason}")
+    else:
+        output.write(f"{shown(path)}: {reason_text(outcome)}\n")
+    output.flush()
+    return outcome.status
+
+
+def _object(outcome: Outcome, profile: str) -> Dict[str, Any]:
+    whole = {"schema": "kesvuot-layout", "version": LAYOUT_VERSION, "profile": profile, **check_object(outcome)}
+    if outcome.word == ACCEPTED:
+        whole["slices"] = outcome.extra
+    return whole
+
+
+def _count(number: int, word: str) -> str:
+    return f"{number} {word}{'' if number == 1 else 's'}"
+
+
+def _lines(file: File) -> Iterator[str]:
+    for part in file.slices:
+        yield ""
+        yield from _slice_lines(part)
+
+
+def _slice_lines(part: Slice) -> Iterator[str]:
+    kind = FILETYPES.get(part.filetype, "") if isinstance(part, Image) else "image that is not judged"
+    yield f"slice {part.index}: {part.arch} {kind}, {size_text(len(part.bytes))} at {part.place:#x}"
+    if isinstance(part, Image):
+        yield from _table(partial(_properties, part))
+        if len(part.segments):
+            yield ""
+            yield from _table(partial(_segments, part))
+        if len(part.libraries):
+            yield ""
+            yield from _table(partial(_libraries, part))
+
+
+def _table(rows: Callable[[], Iterator[Cells]]) -> Iterator[str]:
+    """Rows with columns of one width. They are read twice, because there may be millions."""
+    widths: List[int] = []
+    for row in rows():
+        widths += [0] * (len(row) - len(widths))
+        for number, cell in enumerate(row):
+            widths[number] = max(widths[number], len(cell))
+    for row in rows():
+        yield ("  " + "  ".join(cell.ljust(width) for cell, width in zip(row, widths))).rstrip()
+
+
+def _properties(image: Image) -> Iterator[Cells]:
+    if image.uuid:
+        yield "uuid", str(image.uuid).upper()
+    for build in image.builds:
+        yield "platform", (f"{platform_name(build.platform)} {version_text(build.minos)} or later, "
+                           f"SDK {version_text(build.sdk)}")
+    for command in image.commands:
+        if command.cmd == LC_LOAD_DYLINKER:
+            yield "linker", plain(command.name)
+        elif command.cmd == LC_RPATH:
+            yield "run path", plain(command.name)
+    if image.symtab:
+        yield "symbols", str(image.symtab.nsyms)
+    yield "entry", "none" if image.entry is None else f"{image.entry:#x}"
+
+
+def _segments(image: Image) -> Iterator[Cells]:
+    yield "segment", "address", "size", "in the file", "size there", "protection"
+    for segment in image.segments:
+        source = (f"{segment.fileoff:#x}", size_text(segment.filesize)) if segment.filesize else ("nothing", "")
+        yield (plain(segment.name), f"{segment.vmaddr:#x}", size_text(segment.vmsize), *source,
+               protection_text(segment.initprot))
+        for section in image.sections_of(segment):
+            place = "zeros" if section.zero_fill else f"{section.offset:#x}"
+            yield f"  {plain(section.name)}", f"{section.addr:#x}", size_text(section.size), place
+
+
+def _libraries(image: Image) -> Iterator[Cells]:
+    yield "library", "version", "compatible", "how"
+    for library in image.libraries:
+        yield (plain(library.name), version_text(library.current), version_text(library.compatible),
+               LIBRARIES.get(library.cmd, f"{library.cmd:#x}"))
