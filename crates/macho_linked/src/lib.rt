@@ -1,6 +1,6 @@
 #![tactic(auto)]
-//! The linked profile, of a file that breaks no rule of the layout and no strict rule: what a dynamic
-//! loader reads next cannot lead it astray.
+//! Parts of the linked profile, which is in preparation: the numbers and steps of the streams that a
+//! dynamic loader follows, where each rule of a stream is first broken, and where linked data lies.
 
 pub mod cursor;
 pub mod homes;
