@@ -10,6 +10,7 @@ from typing import Any, Callable, Dict, List
 
 from . import _check, library_version
 from ._check import ACCEPTED, NO_VERDICT, REFUSED, Choice, Outcome, Summary, judge_all
+from ._diff import diff
 from ._files import File
 from ._layout import slice_objects
 from ._output import GREEN, RED, YELLOW, Output, WriteFailed, coloured, end_at_interrupts, open_errors, say
@@ -22,9 +23,10 @@ VERSION = "1.1.0"
 
 STATUSES = """\
 statuses:
-  0    all files are accepted
-  1    a file is refused, and none is without a verdict
-  2    a file has no verdict, for example because it cannot be read; the words are wrong; or nothing could be written
+  0    all files are accepted; of diff, the layouts are the same
+  1    a file is refused, and none is without a verdict; of diff, the layouts differ
+  2    a file has no verdict, for example because it cannot be read; of diff, a file is not accepted; the words are
+       wrong; or nothing could be written
   130  Control-C
 """
 EXAMPLES = """\
@@ -35,6 +37,7 @@ examples:
   kesvuot check --format sarif dist >kesvuot.sarif
   curl -s URL | kesvuot check -                  standard input
   kesvuot show program                           the layout of an accepted file
+  kesvuot diff program program.stripped          what strip has changed
 """
 
 
@@ -210,11 +213,15 @@ judges those files that begin with a magic number of Mach-O, and follows no link
     parser.add_argument("--no-progress", action="store_true", help="show no bar on a terminal")
 
 
-# show
+# show and diff
 
 
 def _show(words: argparse.Namespace) -> int:
     return show(words.file, words.profile, words.json)
+
+
+def _diff(words: argparse.Namespace) -> int:
+    return diff(words.one, words.other, words.profile)
 
 
 def _add_show(commands: Any) -> None:
@@ -225,9 +232,17 @@ libraries. Of a refused file it prints the rule.""")
     parser.add_argument("file", metavar="FILE", help="a file, or - for standard input")
 
 
+def _add_diff(commands: Any) -> None:
+    parser = _add_command(commands, "diff", _diff, "compare the layouts of two files", """\
+Prints what of the layouts of two accepted files differs, slice by slice: lines with - are of the first file, and lines
+with + of the second one.""")
+    parser.add_argument("one", metavar="FILE", help="a file, or - for standard input")
+    parser.add_argument("other", metavar="FILE")
+
+
 # All commands
 
-COMMANDS: Dict[str, Callable[[Any], None]] = {"check": _add_check, "show": _add_show}
+COMMANDS: Dict[str, Callable[[Any], None]] = {"check": _add_check, "show": _add_show, "diff": _add_diff}
 
 
 class _Version(argparse.Action):
