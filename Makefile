@@ -8,6 +8,12 @@ LIBDIR = $(PREFIX)/lib
 INCLUDEDIR = $(PREFIX)/include
 MANDIR = $(PREFIX)/share/man
 DOCDIR = $(PREFIX)/share/doc/kesvuot
+# Where the shells find their completions.
+BASHDIR = $(PREFIX)/share/bash-completion/completions
+ZSHDIR = $(PREFIX)/share/zsh/site-functions
+FISHDIR = $(PREFIX)/share/fish/vendor_completions.d
+# What runs the command kesvuot.
+PYTHON = /usr/bin/env python3
 # A folder from which python3 imports.
 PYTHONDIR = $$(packaging/python-folder "$(PREFIX)")
 DESTDIR =
@@ -20,6 +26,9 @@ TO_INCLUDE = "$(DESTDIR)$(INCLUDEDIR)"
 TO_MAN = "$(DESTDIR)$(MANDIR)"
 TO_DOC = "$(DESTDIR)$(DOCDIR)"
 TO_PYTHON = "$(DESTDIR)$(PYTHONDIR)"
+TO_BASH = "$(DESTDIR)$(BASHDIR)"
+TO_ZSH = "$(DESTDIR)$(ZSHDIR)"
+TO_FISH = "$(DESTDIR)$(FISHDIR)"
 
 # What kesvuot.3 describes: each call is a name of the page.
 CALLS = $$(sed -n 's/^\.Nm \(kesvuot_[a-z_]*\).*/\1/p' man/kesvuot.3)
@@ -29,6 +38,9 @@ FILL = sed -e 's|@PREFIX@|$(PREFIX)|; s|@LIBDIR@|$(LIBDIR)|; s|@INCLUDEDIR@|$(IN
     -e 's|^\([a-z]*dir\)=$(PREFIX)/|\1=$${prefix}/|' \
     -e "s|@INCLUDE_FROM_HERE@|$$(realpath -ms --relative-to='$(LIBDIR)/cmake/kesvuot' '$(INCLUDEDIR)')|" \
     -e "s|@VERSION@|$$(cat VERSION)|; s|@NUMBERS@|$$(sed 's/-.*//' VERSION)|; s|@MAJOR@|$$(sed 's/[.].*//' VERSION)|"
+# The same for the command kesvuot, which finds the package and the library from the folder of its file.
+FILL_TOOL = sed -e "1s|@PYTHON@|$(PYTHON)|; s|@LIB_FROM_HERE@|$$(realpath -ms --relative-to='$(BINDIR)' '$(LIBDIR)')|" \
+    -e "s|@PACKAGE_FROM_HERE@|$$(realpath -ms --relative-to='$(BINDIR)' "$(PYTHONDIR)")|"
 
 # On an empty input, each command builds its program, if it is not current, and the program refuses the input.
 all: lib
@@ -53,9 +65,10 @@ install-programs: built
 	install -m 755 crates/macho_strict_check/out/macho_strict_check $(TO_BIN)/macho-strict
 	install -m 644 man/macho-check.1 man/macho-strict.1 $(TO_MAN)/man1
 
-# The library alone, which `make lib` builds.
+# The library alone, which `make lib` builds, with the command kesvuot.
 install-lib: built-lib
 	install -d $(TO_LIB)/pkgconfig $(TO_LIB)/cmake/kesvuot $(TO_INCLUDE) $(TO_MAN)/man3 $(TO_DOC) $(TO_PYTHON)/kesvuot
+	install -d $(TO_BIN) $(TO_MAN)/man1 $(TO_BASH) $(TO_ZSH) $(TO_FISH)
 	install -m 644 build/lib/libkesvuot.a build/lib/libkesvuot.so.0 $(TO_LIB)
 	ln -sf libkesvuot.so.0 $(TO_LIB)/libkesvuot.so
 	$(FILL) packaging/kesvuot.pc.in >$(TO_LIB)/pkgconfig/kesvuot.pc
@@ -67,9 +80,16 @@ install-lib: built-lib
 	install -m 644 man/kesvuot.3 $(TO_MAN)/man3
 	for call in $(CALLS); do ln -sf kesvuot.3 $(TO_MAN)/man3/$$call.3 || exit; done
 	install -m 644 docs/RULES.md $(TO_DOC)
+	$(FILL_TOOL) packaging/kesvuot.in >$(TO_BIN)/kesvuot
+	chmod 755 $(TO_BIN)/kesvuot
+	install -m 644 man/kesvuot.1 $(TO_MAN)/man1
+	install -m 644 packaging/completions/kesvuot.bash $(TO_BASH)/kesvuot
+	install -m 644 packaging/completions/_kesvuot $(TO_ZSH)
+	install -m 644 packaging/completions/kesvuot.fish $(TO_FISH)
 
 uninstall:
-	rm -f $(TO_BIN)/macho-check $(TO_BIN)/macho-strict
+	rm -f $(TO_BIN)/macho-check $(TO_BIN)/macho-strict $(TO_BIN)/kesvuot $(TO_MAN)/man1/kesvuot.1
+	rm -f $(TO_BASH)/kesvuot $(TO_ZSH)/_kesvuot $(TO_FISH)/kesvuot.fish
 	rm -f $(TO_LIB)/libkesvuot.a $(TO_LIB)/libkesvuot.so.0 $(TO_LIB)/libkesvuot.so $(TO_LIB)/pkgconfig/kesvuot.pc
 	rm -f $(TO_INCLUDE)/kesvuot.h
 	rm -rf $(TO_LIB)/cmake/kesvuot $(TO_PYTHON)/kesvuot

@@ -14,6 +14,8 @@ from typing import Any, Dict, Optional
 
 METADATA = Path("METADATA")
 PACKAGE = sorted(path for pattern in ("*.py", "py.typed") for path in Path("kesvuot").glob(pattern))
+# The command that pip installs.
+ENTRY_POINTS = b"[console_scripts]\nkesvuot = kesvuot.__main__:main\n"
 # The least time of a file in a zip archive. The same sources give the same wheel.
 TIME = (1980, 1, 1, 0, 0, 0)
 
@@ -37,6 +39,7 @@ def build_wheel(wheel_directory: str, config_settings: Optional[Dict[str, Any]] 
     files = {path.as_posix(): path.read_bytes() for path in PACKAGE}
     files[f"{info}/METADATA"] = METADATA.read_bytes()
     files[f"{info}/WHEEL"] = b"Wheel-Version: 1.0\nGenerator: kesvuot\nRoot-Is-Purelib: true\nTag: py3-none-any\n"
+    files[f"{info}/entry_points.txt"] = ENTRY_POINTS
     record = f"{info}/RECORD"
     files[record] = ("".join(map(_line_of_record, files, files.values())) + f"{record},,\n").encode()
     with zipfile.ZipFile(os.path.join(wheel_directory, name), "w") as wheel:

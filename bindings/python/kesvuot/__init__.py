@@ -31,9 +31,9 @@ judges files alone. With `--json` each of them gives an object with "file" and "
 is read also "filetype", "flags", "uuid", "base", "entry", "builds", "libraries", "segments", each with its "sections",
 and in "symbols" how many there are.
 
-The library comes from the folder KESVUOT_LIB_DIR if that is set, otherwise from the folder of this package or from
-where the system finds it. It is loaded by the first call, which raises ImportError where it is not found. The package
-needs CPython 3.8 or later.
+The library comes from the folder KESVUOT_LIB_DIR if that is set, otherwise from the folder of this package, from `lib`
+of the archive that the package is in, or from where the system finds it. It is loaded by the first call, which raises
+ImportError where it is not found. The package needs CPython 3.8 or later.
 """
 
 from ._files import (

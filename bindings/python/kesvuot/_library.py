@@ -12,6 +12,8 @@ from typing import Any, Dict, List, Tuple, Union
 Data = Union[bytes, bytearray, memoryview, mmap.mmap]
 
 SONAME, MAJOR = "libkesvuot.so.0", 1
+# Where the archive of `make dist` has this package, below the folder that has `lib`.
+ARCHIVED = "/share/kesvuot/python/kesvuot"
 OK, REFUSED, NO_MEMORY, NONE, UNREAD, ZERO = range(6)
 HAS_UUID, HAS_BASE, HAS_ENTRY, HAS_SYMTAB, HAS_DYSYMTAB = 1, 2, 4, 8, 16
 
@@ -28,8 +30,11 @@ def _find() -> str:
     folder = os.environ.get("KESVUOT_LIB_DIR")
     if folder:
         return os.path.join(os.path.abspath(folder), SONAME)
-    beside = os.path.join(os.path.dirname(os.path.realpath(__file__)), SONAME)
-    return beside if os.path.exists(beside) else SONAME
+    package = os.path.dirname(os.path.realpath(__file__))
+    found = [os.path.join(package, SONAME)]
+    if package.endswith(ARCHIVED):
+        found.append(os.path.join(package[:-len(ARCHIVED)], "lib", SONAME))
+    return next(filter(os.path.exists, found), SONAME)
 
 
 @lru_cache(maxsize=None)
