@@ -81,7 +81,7 @@ def discard(descriptor: int) -> None:
 
 
 def end_at_interrupts() -> None:
-    """Control-C ends the process at once and without a traceback, also in the middle of a call: with the status 130 in a
-    shell. It is ignored where whoever has started the process wants it so."""
+    """Control-C ends the process at once and without a traceback, also in the middle of a call: with the status 130 in
+    a shell. It is ignored where whoever has started the process wants it so."""
     if signal.getsignal(signal.SIGINT) is signal.default_int_handler:
         signal.signal(signal.SIGINT, signal.SIG_DFL)

@@ -145,21 +145,23 @@ class _Pool:
         again.extend(worker.tasks)
 
     def _retry(self, task: Task) -> None:
-        """Does a task item by item, each in a process of its own, of which it may be the end."""
-        results: List[Any] = []
+        """Does a task item by item, in a process of which one item may be the end."""
+        worker: Optional[Worker] = None
+        task.results = []
         for item in task.items:
-            worker, result = self._start(), None
+            worker = worker or self._start()
             if worker is None:
-                result = self.do(item)
-            else:
-                try:
-                    worker.connection.send([item])
-                    result = worker.connection.recv()[0]
-                except (EOFError, OSError):
-                    result = self.ended(item)
+                task.results.append(self.do(item))
+                continue
+            try:
+                worker.connection.send([item])
+                task.results += worker.connection.recv()
+            except (EOFError, OSError):
                 self._end(worker)
-            results.append(result)
-        task.results = results
+                worker = None
+                task.results.append(self.ended(item))
+        if worker:
+            self._end(worker)
 
     def _start(self) -> Optional[Worker]:
         """Starts a process, if there can be one more."""

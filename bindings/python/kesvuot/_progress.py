@@ -46,9 +46,9 @@ class Progress:
     def _line(self, files: int, size: int, seconds: float) -> str:
         # Files may come while it runs.
         done = min(files / self.total, 1)
-        bar = "#" * int(BAR_WIDTH * done)
+        filled = "#" * int(BAR_WIDTH * done)
         left = seconds * (1 - done) / done if done else 0
-        return (f"[{bar:.<{BAR_WIDTH}}] {files}/{max(self.total, files)} files, {size / seconds / 1e6:.1f} MB/s, "
+        return (f"[{filled:.<{BAR_WIDTH}}] {files}/{max(self.total, files)} files, {size / seconds / 1e6:.1f} MB/s, "
                 f"{_clock(left)} left")
 
     def clear(self) -> None:
