@@ -37,8 +37,8 @@ whose LC_MAIN names an address of no segment. That breaks the last rule, so all 
                                     of it in none. That breaks the last rule of the strict profile, as it does below
     gaps-N, gaps-N-nops             the same, ascending, with 16 zeros or NOPs after each section, but for a last byte
     gaps-N-shuffled                 the same with NOPs, of N segments in no order, each with one section
-    parts-N-overlap                 N segments of 16 bytes each, by their bytes in the file, of which the last overlap.
-                                    That breaks a rule of the strict profile that the survey of segments decides
+    parts-N                         N segments of 16 bytes each, by their bytes in the file, and a last byte in none. That
+                                    breaks a rule of the strict profile that the survey of segments decides
     encrypted-N-ascending, -descending, -shuffled
                                     N segments of 16 zeros, but for a last byte, and N LC_ENCRYPTION_INFO_64 of their
                                     bytes, which begin with those of the last segment
@@ -340,13 +340,12 @@ def gapped_segments(out: BinaryIO, count: int, order: str) -> str:
     return refused("unclaimed-byte", start + 32 * count - 1)
 
 
-def overlapping_parts(out: BinaryIO, count: int) -> str:
+def parts(out: BinaryIO, count: int) -> str:
     start = HEADER_SIZE + SEGMENT_SIZE * (1 + count) + MAIN_SIZE
     commands = [segment(b"__TEXT", BASE, start, 0, start)]
-    offsets = [*range(start, start + 16 * (count - 1), 16), start + 16 * (count - 2) + 15]
-    commands += [segment(b"__DATA", FAR + 2 * PAGE * number, PAGE, at, 16) for number, at in enumerate(offsets)]
-    image(out, b"".join(commands), 1 + count, filler(16 * count), accepted=True)
-    return refused("segment-file-overlap", HEADER_SIZE + SEGMENT_SIZE * count)
+    commands += [segment(b"__DATA", FAR + 2 * PAGE * number, PAGE, start + 16 * number, 16) for number in range(count)]
+    image(out, b"".join(commands), 1 + count, [bytes(16 * count), b"\1"], accepted=True)
+    return refused("stray-byte", start + 16 * count)
 
 
 def encrypted(out: BinaryIO, count: int, order: str) -> str:
@@ -451,6 +450,7 @@ SIZED = {
     "sections": empty_sections,
     "gap": gap,
     "padding": padding,
+    "parts": parts,
     "slack": slack,
     "indirect": indirect,
     "string": one_string,
@@ -482,8 +482,6 @@ def maker(name: str) -> Callable[[BinaryIO], str]:
         return partial(gapped_segments, count=size, order=order)
     if kind == "gaps":
         return partial(gapped_sections, count=size, between=NOP if order == "nops" else 0)
-    if kind == "parts":
-        return partial(overlapping_parts, count=size)
     if kind == "encrypted":
         return partial(encrypted, count=size, order=order)
     return lambda out: SIZED[kind](out, size)
