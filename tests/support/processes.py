@@ -53,11 +53,19 @@ def end_by(number: int) -> NoReturn:
     raise SystemExit(128 + number)
 
 
-def end_with_children(run: Callable[[], int]) -> NoReturn:
+def end_at_once(number: int, _frame: object) -> NoReturn:
+    """For what runs threads and keeps nothing to clear: an exception could be lost in a callback of the interpreter."""
+    for other in SIGNALS:
+        signal.signal(other, signal.SIG_IGN)
+    end_all()
+    end_by(number)
+
+
+def end_with_children(run: Callable[[], int], end: Callable[[int, object], NoReturn] = raise_ended) -> NoReturn:
     """Runs the function, and ends with the status that it returns. By a signal, or where nobody reads what it prints, it
     ends with all that was started."""
     for number in SIGNALS:
-        signal.signal(number, raise_ended)
+        signal.signal(number, end)
     try:
         status = run()
     except Ended as ended:

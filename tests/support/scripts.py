@@ -14,7 +14,7 @@ from dataclasses import dataclass
 from typing import Callable, NoReturn, Sequence
 
 from .calling import TOP, Word, has_tool
-from .processes import end_with_children
+from .processes import end_at_once, end_with_children
 from .programs import build_trials
 
 # What takes long comes first. Those of the library wait until it is built. The others run the programs, but
@@ -226,4 +226,4 @@ def main(words: Sequence[str], description: str) -> NoReturn:
     if unknown:
         parser.error(f"no script of the gate: {', '.join(sorted(unknown))}")
     names = [name for name in SCRIPTS if not chosen.names or name in chosen.names]
-    end_with_children(lambda: Gate(names, chosen.gate).run())
+    end_with_children(lambda: Gate(names, chosen.gate).run(), end_at_once)
