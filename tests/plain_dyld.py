@@ -152,23 +152,22 @@ class Dyld:
         self.place += 1
         return self.stream_byte(self.place - 1)
 
-    def number(self):
-        number, shift = 0, 0
+    def digits(self):
+        """The low seven bits of each byte of a number, the first the lowest, and how many bits these are."""
+        digits, bits = 0, 0
         while True:
             byte = self.next_byte()
-            number |= (byte & 0x7f) << shift
-            shift += 7
+            digits |= (byte & 0x7f) << bits
+            bits += 7
             if byte < 0x80:
-                return number % WORD
+                return digits, bits
+
+    def number(self):
+        return self.digits()[0] % WORD
 
     def signed_number(self):
-        number, shift = 0, 0
-        while True:
-            byte = self.next_byte()
-            number |= (byte & 0x7f) << shift
-            shift += 7
-            if byte < 0x80:
-                return number - (1 << shift) if byte & 0x40 else number
+        digits, bits = self.digits()
+        return digits - (1 << bits) if digits >> (bits - 1) else digits
 
     def name(self):
         """The place of a name, which is left behind."""
