@@ -31,9 +31,13 @@ def started_by(process: int) -> Iterator[int]:
             yield from started_by(child)
 
 
+def handle(handler: Callable[[int, object], NoReturn] | signal.Handlers) -> None:
+    for number in SIGNALS:
+        signal.signal(number, handler)
+
+
 def raise_ended(number: int, _frame: object) -> NoReturn:
-    for other in SIGNALS:
-        signal.signal(other, signal.SIG_IGN)
+    handle(signal.SIG_IGN)
     raise Ended(number)
 
 
@@ -55,8 +59,7 @@ def end_by(number: int) -> NoReturn:
 
 def end_at_once(number: int, _frame: object) -> NoReturn:
     """For what runs threads and keeps nothing to clear: an exception could be lost in a callback of the interpreter."""
-    for other in SIGNALS:
-        signal.signal(other, signal.SIG_IGN)
+    handle(signal.SIG_IGN)
     end_all()
     end_by(number)
 
@@ -64,8 +67,7 @@ def end_at_once(number: int, _frame: object) -> NoReturn:
 def end_with_children(run: Callable[[], int], end: Callable[[int, object], NoReturn] = raise_ended) -> NoReturn:
     """Runs the function, and ends with the status that it returns. By a signal, or where nobody reads what it prints, it
     ends with all that was started."""
-    for number in SIGNALS:
-        signal.signal(number, end)
+    handle(end)
     try:
         status = run()
     except Ended as ended:
