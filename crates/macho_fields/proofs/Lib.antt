@@ -16,6 +16,7 @@ pub mod ExampleImages
 pub mod ExampleNoSlices
 pub mod ExampleTwins
 pub mod Layers
+pub mod ClippedParts
 pub mod Zeros
 pub mod NonZeros
 pub mod Strings

@@ -4,12 +4,12 @@ use Rattle.std.specs.Prelude.{◌≢◌}
 use Rattle.std.specs.Int.Bits.{bit_or}
 use Rattle.std.proofs.lemmas.Bool.{cases_lt}
 use Rattle.std.proofs.lemmas.Nat.{le_or_l, le_or_r}
-use Rattle.std.proofs.lemmas.List.{get_or-take, get_or-drop}
 use Rattle.byteorder.specs.Endian.{little_from}
 use Rattle.macho_fields.specs.Field.{part, number}
 use Rattle.macho_spans.specs.Span.{Covers}
 use Rattle.macho_fields.specs.NonZero.{IsNonZero, HasNonZero}
 use Rattle.macho_fields.specs.declared.bytes.Order.TheVariants.{Little}
+use Rattle.macho_fields.proofs.ClippedParts.{inside_part, in_part, read_part}
 
 zero_or_more : (n : ℕ) → (n ≡ 0) ⊎ (0 < n)
 zero_or_more n = elim (cases_lt 0 n) [ inl more ↦ inr more | inr none ↦ inl (omega arith) ]
@@ -45,21 +45,11 @@ none_of_four a b c d none =
     (omega (arith, le_or_l a b), omega (arith, le_or_r a b), omega (arith, le_or_l c d), omega (arith, le_or_r c d))
 
 module _ (bytes within : List ℕ) (start len : ℕ) (are : within ≡ part start len bytes) where
-  inside_part : (k : ℕ) → k < length within → (k < len) × (start + k < length bytes)
-  inside_part k h =
-      let size = ap length are in (omega (arith, size, length-take len (drop start bytes)), omega (arith, size, length-take len (drop start bytes), length-drop start bytes))
-
-  in_part : (z : ℕ) → start ≤ z → z < start + len → z < length bytes → z - start < length within
-  in_part z low high inside = omega (arith, ap length are, length-take len (drop start bytes), length-drop start bytes)
-
-  read_part : (k : ℕ) → k < length within → slice_index within k ≡ slice_index bytes (start + k)
-  read_part k h = ap (λ xs. slice_index xs k) are ∙ (get_or-take len (drop start bytes) k 0 (inside_part k h).0 ∙ get_or-drop start bytes k 0)
-
   -- a byte of the part that is not zero is one of the bytes
   pub nonzero_in_part : (k : ℕ) → IsNonZero within k → Covers start len (start + k) × IsNonZero bytes (start + k)
   nonzero_in_part k (inside, is) =
-      let (below, held) = inside_part k inside in
-      ((omega arith, omega arith), (held, λ e. is (read_part k inside ∙ e)))
+      let (below, held) = inside_part bytes within start len are k inside in
+      ((omega arith, omega arith), (held, λ e. is (read_part bytes within start len are k inside ∙ e)))
 
   -- a word of the part that is not zero has such a byte
   pub nonzero_in_word : 8 ≤ length within → number Little 8 within 0 ≢ 0 → HasNonZero bytes start (start + 8)
@@ -72,12 +62,12 @@ module _ (bytes within : List ℕ) (start len : ℕ) (are : within ≡ part star
   none_in_part k fits none (z, low, high, (inside, is)) =
       let here : z - start < length within = omega arith in
       let at : start + (z - start) ≡ z = omega arith in
-      none (z - start, omega arith, omega arith, (here, λ e. is (ap (slice_index bytes) (sym at) ∙ (sym (read_part (z - start) here) ∙ e))))
+      none (z - start, omega arith, omega arith, (here, λ e. is (ap (slice_index bytes) (sym at) ∙ (sym (read_part bytes within start len are (z - start) here) ∙ e))))
 
   -- where none of the part is, none of the span is
   pub none_in_span : ¬ HasNonZero within 0 (length within) → ¬ HasNonZero bytes start (start + len)
   none_in_span none (z, low, high, (inside, is)) =
-      let here = in_part z low high inside in
+      let here = in_part bytes within start len are z low high inside in
       none_in_part (length within) (omega arith) none (z, low, omega arith, (inside, is))
 
   -- a word of the part that is zero has none
@@ -89,3 +79,7 @@ pub none_in_rest : (bytes : List ℕ) (place size : ℕ) → place + size ≤ le
 none_in_rest bytes place size inside none =
     let left = length bytes - place in
     none_in_part bytes (part place left bytes) place left refl size (omega (arith, length-take left (drop place bytes), length-drop place bytes)) none
+
+-- and at one block more, where the first ones and the next one have no byte but zeros
+pub block_more : (bytes : List ℕ) (index size : ℕ) → index + size ≤ length bytes → ¬ HasNonZero bytes 0 index → ¬ HasNonZero (part index (length bytes - index) bytes) 0 size → ¬ HasNonZero bytes 0 (index + size)
+block_more bytes index size inside before next = none_joined bytes 0 index (index + size) before (none_in_rest bytes index size inside next)

@@ -1,5 +1,5 @@
 -- Each part that a structure of a sound image names lies inside it.
-use Rattle.std.proofs.Common.{◌≡◌, ◌⊎◌, ℕ, ◌+◌, ◌-◌, ◌≤◌, ◌<◌, List, length, drop, Any, sym, subst, arith, inl, inr, length-drop, length-take}
+use Rattle.std.proofs.Common.{◌≡◌, ℕ, ◌+◌, ◌-◌, List, length, drop, arith, inl, inr, length-drop, length-take}
 use Rattle.std.proofs.lemmas.Bool.{cases_lt}
 use Rattle.macho_spans.specs.Span.{Covers}
 use Rattle.macho_fields.specs.Field.{part}

@@ -1,10 +1,8 @@
-use Rattle.std.proofs.Common.{◌+◌, arith}
-use Rattle.macho_fields.proofs.NonZeros.{none_in_rest, none_joined}
+use Rattle.std.proofs.Common.{arith}
+use Rattle.macho_fields.proofs.NonZeros.{block_more}
 use Rattle.macho_fields.proofs.bytes.zeros_by_blocks.Goals as goal
 
 pub loop-index-preserved : goal.loop-index-preserved
 loop-index-preserved c =
-    let bytes = c.args.bytes.now in
-    let index = c.loop-index.index in
-    let here = none_in_rest bytes index 64 (omega arith) (c.block_from.ensures c.if-block_from-eq0.true) in
-    record { within = omega arith; zero = none_joined bytes 0 index (index + 64) c.loop-index.invariant.zero here }
+    let zero = block_more c.args.bytes.now c.loop-index.index 64 (omega arith) c.loop-index.invariant.zero (c.block_from.ensures c.if-block_from-eq0.true) in
+    record { within = omega arith; zero = zero }
