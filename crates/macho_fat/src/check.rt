@@ -17,6 +17,7 @@ use std::alloc::Global;
 // Decides the rules of a file, from `magic` to `fat-empty`, and returns the first broken one,
 // otherwise the table of a universal file. A file that is one image has none. Memory is taken only
 // for `fat-overlap` and `fat-duplicate`, if the entries are unordered.
+#[tactic(auto, using(crate::proofs::Faults::break_passed))]
 pub(crate) fn check_file<'a>(alloc: Global, file: Bytes<'a>) -> Result<Option<Table<'a>>, FatFault>
     ensures unbroken { OnOk result (NothingBreaks (BreaksFile (bytes_of file.entry))) }
     ensures refused { IfErr result (IsFatFault (bytes_of file.entry)) }

@@ -9,8 +9,9 @@ use Rattle.std.specs.Option.{is_some}
 use Rattle.macho_fields.specs.Universal.{FileSlice, slices_of, slice_bytes, IsImage}
 use Rattle.macho_fields.specs.First.{rank, IsUnbroken}
 use Rattle.macho_fields.specs.Rules.{BreaksFile, BreaksImage}
-use Rattle.macho_fields.specs.Layers.{KeptBelow, NothingBreaks}
+use Rattle.macho_fields.specs.Layers.{IsLeast, KeptBelow, NothingBreaks}
 use Rattle.macho_fields.specs.declared.rule.Rule.{Rule}
+use Rattle.macho_fields.specs.declared.rule.Break.{Break}
 use Rattle.macho_fields.specs.declared.rule.Rule.TheVariants as rule
 use Rattle.macho_fields.specs.Image.{commands_of}
 use Rattle.macho_fields.specs.Loader.{IsSoundImage}
@@ -24,6 +25,7 @@ use Rattle.macho_fat.specs.declared.fault.FatFault.{FatFault}
 use Rattle.macho_fat.specs.declared.fault.FatFault.TheVariants as fault
 use Rattle.macho_fat.specs.declared.slice.Slice.{Slice}
 use Rattle.macho_image.specs.Opened.{IsOpened}
+use Rattle.macho_rules.specs.Check.{KeptBefore}
 use Rattle.macho_rules.specs.Verdict.{IsVerified, IsRefusal, IsImageRefusal, IsSliceRefusal, refusal_of}
 use Rattle.macho_rules.proofs.KeptSlices.{KeptSlices, file_first, slice_first}
 use Rattle.macho_rules.proofs.FileMemory.{slice_takes}
@@ -34,6 +36,15 @@ use Rattle.macho_rules.specs.declared.refusal.Refusal.TheVariants as refusal
 pub passed_on : {T E : Type 0} (P : E → Type 0) (answer : Result T E) (r : E) → IsErrAnd answer (λ given. given ≡ r) → P r → IfErr answer P
 passed_on P (Ok x) r is p = absurd is
 passed_on P (Err given) r is p = subst P (sym is) p
+
+-- the first break of what was surveyed, which is the image
+pub refused_by : {T : Type 0} {image surveyed : List ℕ} → surveyed ≡ image → (b : Break) → IsLeast (BreaksImage surveyed None) b → (answer : Result T Refusal) → IsErrAnd answer (λ given. given ≡ refusal.Broken b)
+    → IfErr answer (IsImageRefusal image None)
+refused_by {image = image} {surveyed = surveyed} same b least answer is = passed_on (IsImageRefusal image None) answer (refusal.Broken b) is (subst (λ (bytes : List ℕ). IsLeast (BreaksImage bytes None) b) same least)
+
+-- what the one keeps the other keeps
+pub kept_by : {image surveyed : List ℕ} → surveyed ≡ image → (r : Rule) → KeptBefore surveyed r → KeptBefore image r
+kept_by same r = subst (λ (bytes : List ℕ). KeptBefore bytes r) same
 
 -- A break of an image is one of its opening, or one that needs no architecture.
 module _ (image : List ℕ) (arch : Option (ℕ × ℕ)) (opening : KeptBelow (BreaksImage image arch) (rank rule.SegmentAddress)) where
