@@ -12,7 +12,7 @@ use Rattle.macho_fields.specs.declared.rule.Break.{Break}
 use Rattle.macho_fat.specs.declared.fault.FatFault.{FatFault}
 use Rattle.macho_fat.specs.declared.fault.FatFault.TheVariants as fault
 use Rattle.macho_fields.proofs.Layers.{kept_more, least_at}
-use Rattle.macho_fat.specs.TableWalk.{IsRuleFault, ContinuesWithMemory, IsJudged}
+use Rattle.macho_fat.specs.TableWalk.{IsRuleFault, ContinuesOrFaults, AnswersByFound}
 use Rattle.macho_fat.specs.Slices.{IsFatFault, SortsEntries, slice_span, arch_span}
 
 -- a fault of the table is passed on as one of the file
@@ -39,7 +39,7 @@ sorting_passed {table = table} {file = file} {P = P} r answer found same univers
 
 -- what is found of a rule is its answer, and so is want of memory where memory is asked for
 pub found_judged : {T E : Type 0} (breaks : Rule → ℕ → Type 0) (r : Rule) (P : Type 0) (found : Result (Option ℕ) E) (answer : Result T FatFault) → KeptBelow breaks (rank r)
-    → MatchResult found (IsLeastPlace (breaks r)) (λ _. P) → IsJudged r found answer → ContinuesWithMemory breaks r P answer
+    → MatchResult found (IsLeastPlace (breaks r)) (λ _. P) → AnswersByFound r found answer → ContinuesOrFaults breaks r P answer
 found_judged breaks r P (Ok None) (Ok x) kept none is = kept_more breaks r kept none
 found_judged breaks r P (Ok None) (Err given) kept none is = absurd (false≢true is)
 found_judged breaks r P (Ok (Some place)) (Ok x) kept first is = absurd is

@@ -7,7 +7,7 @@ use Rattle.std.proofs.lemmas.Option.{slice_get-get_or}
 use Rattle.std.proofs.lemmas.Simd.{map-map}
 use Rattle.macho_fields.specs.Field.{number}
 use Rattle.macho_fields.specs.declared.bytes.Order.TheVariants.{Big}
-use Rattle.macho_spans.specs.Overlap.{span_at, SharesEarlier, IsLeastSharing}
+use Rattle.macho_spans.specs.Overlap.{span_at, SharesEarlier, IsLeastSharing, IsUnordered}
 use Rattle.macho_fields.specs.First.{rank}
 use Rattle.macho_fields.specs.Layers.{KeptBelow}
 use Rattle.macho_fields.specs.Rules.{BreaksFile}
@@ -22,8 +22,8 @@ use Rattle.macho_spans.specs.declared.span_order.Sharing.{Sharing}
 use Rattle.macho_spans.specs.declared.span_order.Sharing.TheVariants as sharing
 use Rattle.macho_fields.proofs.Entries.{Breaks, place_rises}
 use Rattle.macho_fields.specs.FirstPlace.{IsLeastPlace}
-use Rattle.macho_fat.specs.Slices.{entry_spans, slice_span, arch_span, IsUnordered}
-use Rattle.macho_fat.specs.TableWalk.{IsEntry, placed_spans, ReturnsSpans, FindsFirstSharing, IsJudged, ContinuesWithMemory}
+use Rattle.macho_fat.specs.Slices.{entry_spans, slice_span, arch_span}
+use Rattle.macho_fat.specs.TableWalk.{IsEntry, placed_spans, ReturnsSpans, FindsFirstSharing, AnswersByFound, ContinuesOrFaults}
 use Rattle.macho_fat.specs.declared.fault.FatFault.{FatFault}
 use Rattle.macho_fat.proofs.Faults.{found_judged}
 use Rattle.macho_fat.specs.declared.table.Entry.{Entry}
@@ -114,8 +114,8 @@ module _ (file : List ℕ) (span : ℕ → Span) (R : ℕ → ℕ → Type 0) (e
 pub sharing_judged : {T E : Type 0} (table file : List ℕ) (span : List ℕ → ℕ → Span) (r : Rule) (shown : Sharing) (found : Result (Option ℕ) E) (answer : Result T FatFault)
     → table ≡ file → KeptBelow (BreaksFile file) (rank r) → IsSharingOf (placed_spans table (span table) (entry_count table)) shown
     → ((first : Option ℕ) → FindsFirstSharing table (span table) first → IsLeastPlace (BreaksFile table r) first)
-    → IfOk found (FindsFirstSharing table (span table)) → OnErr found (shown ≡ sharing.Unknown) → IsJudged r found answer
-    → ContinuesWithMemory (BreaksFile file) r (IsUnordered (entry_spans file (span file))) answer
+    → IfOk found (FindsFirstSharing table (span table)) → OnErr found (shown ≡ sharing.Unknown) → AnswersByFound r found answer
+    → ContinuesOrFaults (BreaksFile file) r (IsUnordered (entry_spans file (span file))) answer
 sharing_judged {E = E} table file span r shown found answer same kept order least first asked judged =
     found_judged (BreaksFile file) r _ found answer kept (subst (λ (f : List ℕ). MatchResult found (IsLeastPlace (BreaksFile f r)) (λ _. IsUnordered (entry_spans f (span f)))) same (known found first asked)) judged
   where

@@ -4,7 +4,7 @@ use Rattle.std.specs.Prelude.{◌≡◌, ◌↔◌, ◌⊎◌, ℕ, ◌+◌, ◌
 use Rattle.std.specs.List.{range_with_len}
 use Rattle.std.specs.Vec.{vec_capacity}
 use Rattle.macho_fields.specs.Field.{number, part}
-use Rattle.macho_spans.specs.Overlap.{IsAscending, IsDescending}
+use Rattle.macho_spans.specs.Overlap.{IsUnordered}
 use Rattle.macho_spans.specs.Span.{end_of}
 use Rattle.macho_spans.specs.declared.span.Span.{Span}
 use Rattle.macho_fields.specs.Universal.{FileSlice, slices_of, slice_bytes, IsImage, IsUniversal, is_universal, masked, entry_count, entry_place, entry_slice}
@@ -72,10 +72,6 @@ arch_span file k =
 -- the spans of the entries, in order
 abbrev pub entry_spans : List ℕ → (ℕ → Span) → List Span
 entry_spans file span = map span (range_with_len 0 (entry_count file))
-
--- the spans neither ascend nor descend
-abbrev pub IsUnordered : List Span → Type 0
-IsUnordered spans = (¬ IsAscending spans) × (¬ IsDescending spans)
 
 -- rule r sorts the entries by their spans: the rules before it are unbroken, and the spans neither
 -- ascend nor descend

@@ -26,7 +26,7 @@ IsFormat file format.Image = IsImage file × (is_universal file ≡ false)
 IsFormat file format.Universal = IsUniversal file
 
 -- the file is universal, and its table lies inside it
-pub record HasTable (file : List ℕ) : Type 0 where
+pub record HasWholeTable (file : List ℕ) : Type 0 where
   pub universal : IsUniversal file
   pub inside : table_end file ≤ length file
 
@@ -80,7 +80,7 @@ pub record AreNotes (file : List ℕ) (n : ℕ) (notes : Notes) : Type 0 where
 
 -- the notes are those of a whole table
 pub record IsSurvey (file : List ℕ) (notes : Notes) : Type 0 where
-  pub table : HasTable file
+  pub table : HasWholeTable file
   pub whole : AreNotes file (entry_count file) notes
 
 -- one of the first n entries has a 64-bit little-endian image
@@ -101,13 +101,13 @@ IsRuleFault breaks r P (fault.Broken b) = IsLeast breaks b
 IsRuleFault breaks r P fault.Memory = KeptBelow breaks (rank r) × P
 
 -- an answer reports that the rules up to r are unbroken, and otherwise a fault of r
-abbrev pub ContinuesWithMemory : {T : Type 0} → (Rule → ℕ → Type 0) → Rule → Type 0 → Result T FatFault → Type 0
-ContinuesWithMemory breaks r P answer =
+abbrev pub ContinuesOrFaults : {T : Type 0} → (Rule → ℕ → Type 0) → Rule → Type 0 → Result T FatFault → Type 0
+ContinuesOrFaults breaks r P answer =
     MatchResult answer (λ _. KeptBelow breaks (rank r + 1)) (IsRuleFault breaks r P)
 
 -- the answer of rule r by what was found: its break at the place, or that memory ran out
-abbrev pub IsJudged : {T E : Type 0} → Rule → Result (Option ℕ) E → Result T FatFault → Type 0
-IsJudged r found answer =
+abbrev pub AnswersByFound : {T E : Type 0} → Rule → Result (Option ℕ) E → Result T FatFault → Type 0
+AnswersByFound r found answer =
     MatchResult found
     (λ first. MatchOption first (IsOk answer)
     (λ place. IsErrAnd answer (λ given. given ≡ fault.Broken (record { rule = r; place = place }))))

@@ -7,7 +7,7 @@ ghost use Rattle.macho_spans.specs.declared.span.Span.{Span};
 ghost use Rattle.macho_spans.specs.declared.span_order.Sharing.{Sharing};
 ghost use Rattle.macho_fat.specs.Slices.{entry_spans};
 ghost use Rattle.macho_fat.specs.TableWalk.{ReturnsSpans, placed_spans};
-ghost use Rattle.macho_fat.specs.TableWalk.{FindsFirstSharing, IsJudged};
+ghost use Rattle.macho_fat.specs.TableWalk.{FindsFirstSharing, AnswersByFound};
 
 use crate::fault::FatFault;
 use crate::table::{Entry, Table};
@@ -38,7 +38,7 @@ pub(crate) fn first_sharing<F: Fn(Entry) -> Span>(
 
 // The result of the rule, if the search for its first place found this one, or ran out of memory.
 pub(crate) fn judge(rule: Rule, found: Result<Option<u64>, AllocError>) -> Result<(), FatFault>
-    ensures { IsJudged rule found result }
+    ensures { AnswersByFound rule found result }
 {
     Ok(FirstPlace::of(found?).judge(rule)?)
 }

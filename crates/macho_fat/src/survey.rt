@@ -36,8 +36,9 @@ impl<'t, 'a> Survey<'t, 'a> {
     ghost use Rattle.macho_fields.specs.Layers.{KeptBelow, Continues};
     ghost use Rattle.macho_fields.specs.Rules.{BreaksFile};
     ghost use Rattle.macho_fields.specs.declared.rule.Rule.{Rule};
-    ghost use Rattle.macho_fat.specs.Slices.{entry_spans, slice_span, arch_span, IsUnordered};
-    ghost use Rattle.macho_fat.specs.TableWalk.{ContinuesWithMemory};
+    ghost use Rattle.macho_fat.specs.Slices.{entry_spans, slice_span, arch_span};
+    ghost use Rattle.macho_spans.specs.Overlap.{IsUnordered};
+    ghost use Rattle.macho_fat.specs.TableWalk.{ContinuesOrFaults};
 
     // Scans the entries of a table once.
     pub(crate) fn of(table: &'t Table<'a>) -> Survey<'t, 'a>
@@ -78,7 +79,7 @@ impl<'t, 'a> Survey<'t, 'a> {
     // ascend nor descend.
     pub(crate) fn fat_overlap(&self, alloc: Global) -> Result<(), FatFault>
         requires { KeptBelow (BreaksFile self.now) (rank Rule.FatOverlap) }
-        ensures { ContinuesWithMemory (BreaksFile self.now) Rule.FatOverlap
+        ensures { ContinuesOrFaults (BreaksFile self.now) Rule.FatOverlap
             (IsUnordered (entry_spans self.now (slice_span self.now))) result }
     {
         let sharing = self.notes.spans.sharing();
@@ -90,7 +91,7 @@ impl<'t, 'a> Survey<'t, 'a> {
     // architectures neither ascend nor descend.
     pub(crate) fn fat_duplicate(&self, alloc: Global) -> Result<(), FatFault>
         requires { KeptBelow (BreaksFile self.now) (rank Rule.FatDuplicate) }
-        ensures { ContinuesWithMemory (BreaksFile self.now) Rule.FatDuplicate
+        ensures { ContinuesOrFaults (BreaksFile self.now) Rule.FatDuplicate
             (IsUnordered (entry_spans self.now (arch_span self.now))) result }
     {
         let sharing = self.notes.archs.sharing();

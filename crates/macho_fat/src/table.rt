@@ -62,13 +62,13 @@ impl<'a> Model for Table<'a> {
     ghost use Rattle.std.specs.Prelude.{List, ℕ, ◌≡◌};
     ghost use Rattle.macho_fields.specs.Bytes.{bytes_of};
     ghost use Rattle.macho_fields.specs.Universal.{has_wide_entries, entry_count};
-    ghost use Rattle.macho_fat.specs.TableWalk.{HasTable};
+    ghost use Rattle.macho_fat.specs.TableWalk.{HasWholeTable};
 
     ghost Value = { List ℕ };
 
     ghost view = { λ table. bytes_of table.file };
 
-    ghost invariant = { λ table. HasTable (bytes_of table.file)
+    ghost invariant = { λ table. HasWholeTable (bytes_of table.file)
         × (table.wide ≡ has_wide_entries (bytes_of table.file))
         × (table.count ≡ entry_count (bytes_of table.file)) };
 }
@@ -112,12 +112,12 @@ impl<'a> Table<'a> {
     ghost use Rattle.macho_fields.specs.Rules.{BreaksFile};
     ghost use Rattle.macho_spans.specs.Span.{end_of};
     ghost use Rattle.macho_fields.specs.Universal.{has_wide_entries, entry_count, entry_slice, table_end, slice_bytes};
-    ghost use Rattle.macho_fat.specs.TableWalk.{HasTable, IsEntry};
+    ghost use Rattle.macho_fat.specs.TableWalk.{HasWholeTable, IsEntry};
 
     // The table of a universal file. Its entries are `fat_arch_64` where they are wide, otherwise
     // `fat_arch`.
     pub(crate) fn new(file: Bytes<'a>, wide: bool, count: u32) -> Table<'a>
-        requires table { HasTable (bytes_of file) }
+        requires table { HasWholeTable (bytes_of file) }
         requires wide { wide ≡ has_wide_entries (bytes_of file) }
         requires count { count ≡ entry_count (bytes_of file) }
         ensures { result ≡ bytes_of file.entry }
@@ -128,7 +128,7 @@ impl<'a> Table<'a> {
     // How many entries there are.
     pub(crate) fn count(&self) -> u32
         ensures count { result ≡ entry_count self.now }
-        ensures table { HasTable self.now }
+        ensures table { HasWholeTable self.now }
     {
         self.count
     }

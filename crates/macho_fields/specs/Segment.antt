@@ -9,9 +9,12 @@ use Rattle.macho_fields.specs.LoadCommands.{section_records}
 use Rattle.macho_fields.specs.declared.header.loader.TheConstants as loader
 use Rattle.macho_fields.specs.declared.header.vm_prot.TheConstants as vm_prot
 
--- the segments of an image, in order
+-- the segments of an image, in order: those among some of its commands, and all
 abbrev pub segments_of : List ℕ → List ℕ → List ℕ
 segments_of image commands = with_cmd image loader.LC_SEGMENT_64 commands
+
+abbrev pub all_segments : List ℕ → List ℕ
+all_segments image = segments_of image (commands_of image)
 
 -- segment_command_64: vmaddr at 24, vmsize 32, fileoff 40, filesize 48, initprot 60, and nsects
 abbrev pub vmaddr : List ℕ → ℕ → ℕ
@@ -95,9 +98,9 @@ source image segment address =
 -- segment supplies it
 abbrev pub IsAtAddress : List ℕ → ℕ → Option Source → Type 0
 IsAtAddress image address given =
-    ((segment : ℕ) → Contains (segments_of image (commands_of image)) segment
+    ((segment : ℕ) → Contains (all_segments image) segment
     → Supplies image segment address → given ≡ Some (source image segment address))
-    × (((segment : ℕ) → Contains (segments_of image (commands_of image)) segment
+    × (((segment : ℕ) → Contains (all_segments image) segment
     → ¬ Supplies image segment address) → given ≡ None)
 
 -- The bytes of a section of a mapped segment are where its addresses say, among those that the

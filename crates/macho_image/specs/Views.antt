@@ -3,9 +3,8 @@ use Rattle.std.specs.Prelude.{◌≡◌, ℕ, ◌+◌, ◌*◌, ◌≤◌, List}
 use Rattle.std.specs.Prelude.{length, map, All}
 use Rattle.macho_fields.specs.Command.{name_start}
 use Rattle.macho_fields.specs.Field.{HasZero}
-use Rattle.macho_fields.specs.Image.{commands_of}
 use Rattle.macho_fields.specs.LoadCommands.{structure_size}
-use Rattle.macho_fields.specs.Segment.{nsects, segments_of}
+use Rattle.macho_fields.specs.Segment.{nsects, all_segments}
 use Rattle.macho_fields.specs.declared.header.loader.TheConstants as loader
 use Rattle.macho_fields.specs.declared.load_command.Structure.TheVariants.{DylibCommand}
 use Rattle.macho_fields.specs.declared.load_command.Structure.TheVariants.{BuildVersionCommand}
@@ -22,7 +21,7 @@ HoldsSegment image segment =
 abbrev pub HaveSegments : List ℕ → List CommandView → Type 0
 HaveSegments image commands =
     left_with_cmd loader.LC_SEGMENT_64 commands
-    ≡ map (command_at image) (segments_of image (commands_of image))
+    ≡ map (command_at image) (all_segments image)
 
 -- the segments among the commands that remain lie inside the image
 abbrev pub HoldSegments : List ℕ → List CommandView → Type 0

@@ -5,7 +5,7 @@ use Rattle.std.proofs.lemmas.List.{get_or_default, get_or-map, length-map}
 use Rattle.std.proofs.lemmas.List.Elements.{Contains-get_or}
 use Rattle.std.proofs.lemmas.Option.{get_or_from_slice_get}
 use Rattle.macho_fields.specs.Image.{commands_of}
-use Rattle.macho_spans.specs.Overlap.{SharesEarlier, IsLeastSharing, span_at, IsAscending, IsDescending}
+use Rattle.macho_spans.specs.Overlap.{SharesEarlier, IsLeastSharing, span_at, IsAscending, IsDescending, IsUnordered}
 use Rattle.macho_fields.specs.Segment.{segments_of, Supplies, OverlapsEarlier}
 use Rattle.macho_spans.specs.Span.{Shares}
 use Rattle.macho_spans.specs.SpanOrder.{IsSharingOf, spans_in, tags_in}
@@ -14,7 +14,7 @@ use Rattle.macho_fields.specs.declared.rule.Rule.TheVariants as rule
 use Rattle.macho_spans.specs.declared.span.Span.{Span}
 use Rattle.macho_image.specs.Opened.{IsOpened}
 use Rattle.macho_rules.specs.Check.{KeptBefore, RefusesUpTo}
-use Rattle.macho_rules.specs.Mapped.{mapped_segments, memory_at, mapped_memory, tagged_memory, IsUnordered}
+use Rattle.macho_rules.specs.Mapped.{mapped_segments, memory_at, mapped_memory, tagged_memory}
 use Rattle.macho_rules.specs.Verdict.{HasMapped, IsImageRefusal}
 use Rattle.macho_rules.specs.declared.refusal.Refusal.{Refusal}
 use Rattle.macho_rules.specs.declared.refusal.Refusal.TheVariants as refusal
@@ -139,11 +139,11 @@ module _ (image : List ℕ) (opened : IsOpened image) where
   pub first_shown : (place : ℕ) → IsSharingOf (tagged_memory image) (sharing.First place) → IsOverlapping place × ((q : ℕ) → IsOverlapping q → place ≤ q)
   first_shown place (j, least, at) = least_overlapping j place (subst (λ ps. slice_get ps j ≡ Some place) tags_tagged at) (spans_in (tagged_memory image)) spans_tagged least
 
-  pub unordered_shown : IsSharingOf (tagged_memory image) sharing.Unknown → IsUnordered image
+  pub unordered_shown : IsSharingOf (tagged_memory image) sharing.Unknown → IsUnordered (mapped_memory image)
   unordered_shown (up, down, mixed) = subst (λ all. (¬ IsAscending all) × (¬ IsDescending all)) spans_tagged (up, down)
 
 -- no spans ascend, so some segment is mapped where the mapped ones do not
-unordered_some : (image : List ℕ) → IsUnordered image → HasMapped image
+unordered_some : (image : List ℕ) → IsUnordered (mapped_memory image) → HasMapped image
 unordered_some image (not_ascending, _) = elim (cases_lt 0 (length (mapped_segments image))) [
   | inl more ↦ mapped_some image more
   | inr none ↦ absurd (not_ascending (ascend_none (mapped_memory image) (omega (arith, none, length-map (mapped_segments image) (memory_at image)))))
@@ -154,7 +154,7 @@ unordered_some image (not_ascending, _) = elim (cases_lt 0 (length (mapped_segme
     ascend_none (span ∷ all) none = absurd (omega arith)
 
 -- an answer that there is no memory, if the mapped segments are unordered
-pub without_memory : {T : Type 0} (image : List ℕ) → KeptBefore image rule.SegmentOverlap → IsUnordered image → (answer : Result T Refusal) → IsErrAnd answer (λ given. given ≡ refusal.Memory)
+pub without_memory : {T : Type 0} (image : List ℕ) → KeptBefore image rule.SegmentOverlap → IsUnordered (mapped_memory image) → (answer : Result T Refusal) → IsErrAnd answer (λ given. given ≡ refusal.Memory)
     → RefusesUpTo image rule.SegmentOverlap answer
 without_memory image kept unordered (Ok x) is = absurd is
 without_memory image kept unordered (Err given) is = subst (IsImageRefusal image None) (sym is) (kept, unordered_some image unordered, unordered)

@@ -24,9 +24,9 @@ use Rattle.macho_fields.proofs.Lists.{none_in_nil, contains_first, contains_late
 use Rattle.macho_fields.proofs.Opened.{sections_inside, command_inside}
 use Rattle.macho_fields.proofs.Parts.{with_cmd_is, with_cmd_among}
 use Rattle.macho_image.specs.Opened.{IsOpened}
-use Rattle.macho_image.specs.Segment.{SegmentView, SectionView, segment_at, section_at, sections_with}
+use Rattle.macho_image.specs.Segment.{SegmentView, SectionView, segment_at, section_at, sections_with, sections_among}
 use Rattle.macho_rules.specs.Mapped.{memory_at, mapped_segments, tagged_memory}
-use Rattle.macho_rules.specs.Survey.{Notes, AreNoted, AreFirst, AreLeast, BreaksSegment, BreaksSection, segment_notes, section_notes, EndBy, sections_among, mapped_among, base_among, AreFirstSegments, AreFirstSections, AreMapped, IsSurveyOf}
+use Rattle.macho_rules.specs.Survey.{Notes, AreNotedByRule, AreFirstByRule, AreLeastByRule, BreaksSegment, BreaksSection, segment_notes, section_notes, EndBy, memory_among, base_among, AreFirstSegments, AreFirstSections, AreMapped, IsImageSurvey}
 use Rattle.macho_rules.specs.declared.survey.Mapped.{Mapped}
 use Rattle.macho_rules.specs.declared.survey.SectionBreaks.{SectionBreaks}
 use Rattle.macho_rules.specs.declared.survey.SegmentBreaks.{SegmentBreaks}
@@ -76,7 +76,7 @@ first_noted place P items x old new after (inr (kept, is)) first = subst (IsFirs
 
 -- and so of each rule that is noted
 pub noted_more : {X B : Type 0} (place : X → ℕ) (Breaks : Rule → X → Type 0) (notes : Notes B) (items : List X) (x : X) (old new : B) → EndBy place items (place x)
-    → AreNoted place Breaks notes x old new → AreFirst place Breaks notes items old → AreFirst place Breaks notes (items ++ x ∷ []) new
+    → AreNotedByRule place Breaks notes x old new → AreFirstByRule place Breaks notes items old → AreFirstByRule place Breaks notes (items ++ x ∷ []) new
 noted_more place Breaks [] items x old new after noted first = tt
 noted_more place Breaks ((r, field) ∷ notes) items x old new after (noted, others) (first, rest) =
     (first_noted place (Breaks r) items x (field old) (field new) after noted first, noted_more place Breaks notes items x old new after others rest)
@@ -84,7 +84,7 @@ noted_more place Breaks ((r, field) ∷ notes) items x old new after (noted, oth
 -- One segment more
 
 module _ (passed : List SegmentView) (s : SegmentView) where
-  mapped_append : mapped_among (passed ++ s ∷ []) ≡ mapped_among passed ++ mapped_among (s ∷ [])
+  mapped_append : memory_among (passed ++ s ∷ []) ≡ memory_among passed ++ memory_among (s ∷ [])
   mapped_append =
       ap (map (λ t. (memory_at t.image t.place, t.place))) (filter-append (λ t. nat_lt 0 (vmsize t.image t.place)) passed (s ∷ []))
       ∙ map-append (λ (t : SegmentView). (memory_at t.image t.place, t.place)) (filter (λ t. nat_lt 0 (vmsize t.image t.place)) passed) (filter (λ t. nat_lt 0 (vmsize t.image t.place)) (s ∷ []))
@@ -111,8 +111,8 @@ module _ (passed : List SegmentView) (s : SegmentView) where
     base = are.base ∙ sym (base_append ∙ based);
   }
     where
-      same : mapped_among (passed ++ s ∷ []) ≡ mapped_among passed
-      same = mapped_append ∙ rw none (append-nil (mapped_among passed))
+      same : memory_among (passed ++ s ∷ []) ≡ memory_among passed
+      same = mapped_append ∙ rw none (append-nil (memory_among passed))
 
       or_none : (first : Option ℕ) → option_or first None ≡ first
       or_none None = refl
@@ -131,12 +131,12 @@ module _ (passed : List SegmentView) (s : SegmentView) where
   pub mapped_more : (old new : Mapped) → 0 < vmsize s.image s.place → ((pairs : List (Span × ℕ)) → IsOrderOf pairs old.order → IsOrderOf (pairs ++ (memory_at s.image s.place, s.place) ∷ []) new.order)
       → new.count ≡ min (old.count + 1) (2 ^ 64 - 1) → new.base ≡ option_or old.base (base_among (s ∷ [])) → AreMapped passed old → AreMapped (passed ++ s ∷ []) new
   mapped_more old new more order count base are = record {
-    order = subst (λ pairs. IsOrderOf pairs new.order) (sym same) (order (mapped_among passed) are.order);
-    count = let longer = ap length same ∙ length-append (mapped_among passed) ((memory_at s.image s.place, s.place) ∷ []) in omega (arith, count, are.count, longer);
+    order = subst (λ pairs. IsOrderOf pairs new.order) (sym same) (order (memory_among passed) are.order);
+    count = let longer = ap length same ∙ length-append (memory_among passed) ((memory_at s.image s.place, s.place) ∷ []) in omega (arith, count, are.count, longer);
     base = base ∙ (ap (λ first. option_or first (base_among (s ∷ []))) are.base ∙ sym base_append);
   }
     where
-      same : mapped_among (passed ++ s ∷ []) ≡ mapped_among passed ++ (memory_at s.image s.place, s.place) ∷ []
+      same : memory_among (passed ++ s ∷ []) ≡ memory_among passed ++ (memory_at s.image s.place, s.place) ∷ []
       same = mapped_append ∙ (let t = lt-ltb 0 (vmsize s.image s.place) more in rw t refl)
 
 pub counted_more : (passed : List SegmentView) (s : SegmentView) (old count new : ℕ) → new ≡ min (old + count) (2 ^ 64 - 1) → count ≡ nsects s.image s.place
@@ -172,7 +172,7 @@ module _ (s : SegmentView) (all : List SectionView) (are : all ≡ map (section_
 -- of each rule that was noted of all items, the image breaks it first where it is noted
 least_places : {X B : Type 0} (image : List ℕ) (opened : IsOpened image) (place : X → ℕ) (Breaks : Rule → X → Type 0) (all : List X) (notes : Notes B) (breaks : B)
     → AllByRecursion (λ note. (rank rule.SegmentAddress ≤ rank note.0) × AreBreaks (BreaksCommands image (commands_of image) note.0) place (Breaks note.0) all) notes
-    → AreFirst place Breaks notes all breaks → AreLeast image notes breaks
+    → AreFirstByRule place Breaks notes all breaks → AreLeastByRule image notes breaks
 least_places image opened place Breaks all [] breaks are first = tt
 least_places image opened place Breaks all ((r, field) ∷ notes) breaks ((late, breaking), others) (first, rest) =
     (least_place image opened r late place (Breaks r) all breaking (field breaks) first, least_places image opened place Breaks all notes breaks others rest)
@@ -218,7 +218,7 @@ module _ (image : List ℕ) where
   sections_all (p ∷ ps) =
       ap (λ rest. map (section_at image) (sections_with image p) ++ rest) (sections_all ps) ∙ sym (map-append (section_at image) (sections_with image p) (flat_map (sections_with image) ps))
 
-  mapped_all : (ps : List ℕ) → mapped_among (map (segment_at image) ps) ≡ map (λ p. (memory_at image p, p)) (filter (λ p. nat_lt 0 (vmsize image p)) ps)
+  mapped_all : (ps : List ℕ) → memory_among (map (segment_at image) ps) ≡ map (λ p. (memory_at image p, p)) (filter (λ p. nat_lt 0 (vmsize image p)) ps)
   mapped_all [] = refl
   mapped_all (p ∷ ps) =
       let rest = mapped_all ps in
@@ -254,7 +254,7 @@ module _ (image : List ℕ) where
 
   pub survey_found : (opened : IsOpened image) (all : List SegmentView) → AreSegments image all → (segments : SegmentBreaks) (sections : SectionBreaks) (mapped : Mapped) (count : ℕ)
       → length image < 2 ^ 64 → AreFirstSegments all segments → AreFirstSections (sections_among all) sections → AreMapped all mapped
-      → count ≡ min (sum_by (λ s. nsects s.image s.place) all) (2 ^ 64 - 1) → IsSurveyOf image segments sections mapped count
+      → count ≡ min (sum_by (λ s. nsects s.image s.place) all) (2 ^ 64 - 1) → IsImageSurvey image segments sections mapped count
   survey_found opened all are segments sections mapped count short first_segments first_sections are_mapped counted = record {
     opened = opened;
     segment_rules = least_places image opened (λ s. s.place) BreaksSegment all segment_notes segments (search (rules, tests, segment_rule_breaks image all are)) first_segments;
@@ -271,5 +271,5 @@ module _ (image : List ℕ) where
       are_sections : sections_among all ≡ map (section_at image) (flat_map (sections_with image) (segments_of image (commands_of image)))
       are_sections = ap sections_among are ∙ sections_all (segments_of image (commands_of image))
 
-      pairs : mapped_among all ≡ tagged_memory image
-      pairs = ap mapped_among are ∙ mapped_all (segments_of image (commands_of image))
+      pairs : memory_among all ≡ tagged_memory image
+      pairs = ap memory_among are ∙ mapped_all (segments_of image (commands_of image))

@@ -1,6 +1,5 @@
 -- The mapped segments of an image, and their addresses.
 use Rattle.std.specs.Prelude.{ℕ, ◌+◌, List, [], ◌∷◌, map}
-use Rattle.macho_spans.specs.Overlap.{IsAscending, IsDescending}
 use Rattle.macho_fields.specs.Segment.{vmaddr, vmsize}
 use Rattle.macho_spans.specs.declared.span.Span.{Span}
 pub use Rattle.macho_image.specs.Mapped.{mapped_segments}
@@ -22,8 +21,3 @@ abbrev pub numbered_memory : List ℕ → ℕ → List ℕ → List (Span × ℕ
 numbered_memory image k [] = []
 numbered_memory image k (segment ∷ segments) =
     (memory_at image segment, k) ∷ numbered_memory image (k + 1) segments
-
--- their addresses neither ascend nor descend from one to the next
-abbrev pub IsUnordered : List ℕ → Type 0
-IsUnordered image =
-    (¬ IsAscending (mapped_memory image)) × (¬ IsDescending (mapped_memory image))

@@ -1,12 +1,12 @@
 -- What one walk over the segments of an image and their sections finds, and one over its symbols.
-use Rattle.std.specs.Prelude.{◌≡◌, ◌≢◌, ℕ, ◌+◌, ◌-◌, ◌^◌, ◌≤◌, ◌<◌, ◌⊎◌, ◌↔◌, min, nat_lt, List, length, map, filter, find, flat_map, [], ◌∷◌, Contains, Option, None, Some}
+use Rattle.std.specs.Prelude.{◌≡◌, ◌≢◌, ℕ, ◌+◌, ◌-◌, ◌^◌, ◌≤◌, ◌<◌, ◌⊎◌, ◌↔◌, min, List, length, map, find, [], ◌∷◌, Contains, Option, None, Some}
 use Rattle.std.specs.List.{AllByRecursion}
 use Rattle.std.specs.Option.{option_map}
 use Rattle.macho_fields.specs.Field.{HasZero}
 use Rattle.macho_fields.specs.FirstPlace.{IsFirstOf, IsNoted, IsLeastPlace}
 use Rattle.macho_fields.specs.Image.{commands_of}
 use Rattle.macho_fields.specs.Rules.{BreaksCommands, BreaksImage}
-use Rattle.macho_fields.specs.Segment.{segments_of, vmaddr, vmsize, shows_start, base_of, section_count, PassesLastAddress, IsLongerInFile, PassesImage, OverlapsEarlier, IsOutsideMemory, IsMisplaced, HasRelocsOutside, AtSection}
+use Rattle.macho_fields.specs.Segment.{all_segments, vmaddr, shows_start, base_of, section_count, PassesLastAddress, IsLongerInFile, PassesImage, OverlapsEarlier, IsOutsideMemory, IsMisplaced, HasRelocsOutside, AtSection}
 use Rattle.macho_spans.specs.SpanOrder.{IsOrderOf}
 use Rattle.macho_fields.specs.Symbol.{stroff, strsize, IsSectionType}
 use Rattle.macho_fields.specs.declared.header.loader.TheConstants as loader
@@ -15,8 +15,9 @@ use Rattle.macho_fields.specs.declared.rule.Rule.TheVariants as rule
 use Rattle.macho_spans.specs.declared.span.Span.{Span}
 use Rattle.macho_image.specs.Command.{first_with_cmd}
 use Rattle.macho_image.specs.Opened.{IsOpened}
-use Rattle.macho_image.specs.Segment.{SegmentView, SectionView, segment_at, section_at, sections_with}
+use Rattle.macho_image.specs.Segment.{SegmentView, SectionView, segment_at, section_at}
 use Rattle.macho_image.specs.declared.symbol.Symbol.{Symbol}
+use Rattle.macho_image.specs.Mapped.{mapped_among}
 use Rattle.macho_rules.specs.Mapped.{memory_at, mapped_segments, tagged_memory}
 use Rattle.macho_rules.specs.declared.survey.SegmentBreaks.{SegmentBreaks}
 use Rattle.macho_rules.specs.declared.survey.SectionBreaks.{SectionBreaks}
@@ -26,16 +27,10 @@ use Rattle.macho_rules.specs.declared.survey.Mapped.{Mapped}
 abbrev pub EndBy : {X : Type 0} → (X → ℕ) → List X → ℕ → Type 0
 EndBy {X = X} place items p = (x : X) → Contains items x → place x ≤ p
 
--- the sections of the segments, in their order
-abbrev pub sections_among : List SegmentView → List SectionView
-sections_among segments =
-    flat_map (λ s. map (section_at s.image) (sections_with s.image s.place)) segments
-
 -- the addresses of the mapped segments, each with the place of its command
-abbrev pub mapped_among : List SegmentView → List (Span × ℕ)
-mapped_among segments =
-    map (λ s. (memory_at s.image s.place, s.place))
-    (filter (λ s. nat_lt 0 (vmsize s.image s.place)) segments)
+abbrev pub memory_among : List SegmentView → List (Span × ℕ)
+memory_among segments =
+    map (λ s. (memory_at s.image s.place, s.place)) (mapped_among segments)
 
 -- the segment breaks the rule, which is one of segments
 abbrev pub BreaksSegment : Rule → SegmentView → Type 0
@@ -56,7 +51,7 @@ BreaksSection _ s = ⊥
 abbrev pub IsSegmentRule : List ℕ → Rule → Type 0
 IsSegmentRule image r =
     (place : ℕ) → BreaksCommands image (commands_of image) r place
-    ↔ (Contains (segments_of image (commands_of image)) place × BreaksSegment r (segment_at image place))
+    ↔ (Contains (all_segments image) place × BreaksSegment r (segment_at image place))
 
 abbrev pub IsSectionRule : List ℕ → Rule → Type 0
 IsSectionRule image r =
@@ -79,35 +74,35 @@ section_notes =
     ∷ (rule.SectionRelocs, λ breaks. breaks.relocs) ∷ []
 
 -- where the items first break each of these rules
-abbrev pub AreFirst : {X B : Type 0} → (X → ℕ) → (Rule → X → Type 0) → Notes B → List X → B → Type 0
-AreFirst place Breaks notes items breaks =
+abbrev pub AreFirstByRule : {X B : Type 0} → (X → ℕ) → (Rule → X → Type 0) → Notes B → List X → B → Type 0
+AreFirstByRule place Breaks notes items breaks =
     AllByRecursion (λ note. IsFirstOf place (Breaks note.0) items (note.1 breaks)) notes
 
 -- what is noted of an item, of each rule
-abbrev pub AreNoted : {X B : Type 0} → (X → ℕ) → (Rule → X → Type 0) → Notes B → X → B → B → Type 0
-AreNoted place Breaks notes item old new =
+abbrev pub AreNotedByRule : {X B : Type 0} → (X → ℕ) → (Rule → X → Type 0) → Notes B → X → B → B → Type 0
+AreNotedByRule place Breaks notes item old new =
     AllByRecursion (λ note. IsNoted (Breaks note.0 item) (place item) (note.1 old) (note.1 new)) notes
 
 -- where the image breaks each of the rules for the first time
-abbrev pub AreLeast : {B : Type 0} → List ℕ → Notes B → B → Type 0
-AreLeast image notes breaks =
+abbrev pub AreLeastByRule : {B : Type 0} → List ℕ → Notes B → B → Type 0
+AreLeastByRule image notes breaks =
     AllByRecursion (λ note. IsLeastPlace (BreaksImage image None note.0) (note.1 breaks)) notes
 
 abbrev pub AreFirstSegments : List SegmentView → SegmentBreaks → Type 0
 AreFirstSegments segments breaks =
-    AreFirst (λ s. s.place) BreaksSegment segment_notes segments breaks
+    AreFirstByRule (λ s. s.place) BreaksSegment segment_notes segments breaks
 
 abbrev pub NotesSegment : SegmentView → SegmentBreaks → SegmentBreaks → Type 0
 NotesSegment segment old new =
-    AreNoted (λ s. s.place) BreaksSegment segment_notes segment old new
+    AreNotedByRule (λ s. s.place) BreaksSegment segment_notes segment old new
 
 abbrev pub AreFirstSections : List SectionView → SectionBreaks → Type 0
 AreFirstSections sections breaks =
-    AreFirst (λ s. s.place) BreaksSection section_notes sections breaks
+    AreFirstByRule (λ s. s.place) BreaksSection section_notes sections breaks
 
 abbrev pub NotesSection : SectionView → SectionBreaks → SectionBreaks → Type 0
 NotesSection section old new =
-    AreNoted (λ s. s.place) BreaksSection section_notes section old new
+    AreNotedByRule (λ s. s.place) BreaksSection section_notes section old new
 
 -- the address of the first segment that shows the start of the file
 abbrev pub base_among : List SegmentView → Option ℕ
@@ -116,15 +111,15 @@ base_among segments =
 
 -- what is found of those segments that are mapped
 pub record AreMapped (segments : List SegmentView) (mapped : Mapped) : Type 0 where
-  pub order : IsOrderOf (mapped_among segments) mapped.order
-  pub count : mapped.count ≡ min (length (mapped_among segments)) (2 ^ 64 - 1)
+  pub order : IsOrderOf (memory_among segments) mapped.order
+  pub count : mapped.count ≡ min (length (memory_among segments)) (2 ^ 64 - 1)
   pub base : mapped.base ≡ base_among segments
 
 -- of what image a survey is, and what it found
-pub record IsSurveyOf (image : List ℕ) (segments : SegmentBreaks) (sections : SectionBreaks) (mapped : Mapped) (count : ℕ) : Type 0 where
+pub record IsImageSurvey (image : List ℕ) (segments : SegmentBreaks) (sections : SectionBreaks) (mapped : Mapped) (count : ℕ) : Type 0 where
   pub opened : IsOpened image
-  pub segment_rules : AreLeast image segment_notes segments
-  pub section_rules : AreLeast image section_notes sections
+  pub segment_rules : AreLeastByRule image segment_notes segments
+  pub section_rules : AreLeastByRule image section_notes sections
   pub section_count : count ≡ section_count image (commands_of image)
   pub order : IsOrderOf (tagged_memory image) mapped.order
   pub mapped_count : mapped.count ≡ min (length (mapped_segments image)) (2 ^ 64 - 1)

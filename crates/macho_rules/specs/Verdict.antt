@@ -3,9 +3,8 @@ use Rattle.std.specs.Prelude.{◌≡◌, ◌⊎◌, ℕ, ◌+◌, ◌<◌, List,
 use Rattle.macho_fields.specs.Universal.{FileSlice, slice_bytes, IsImage}
 use Rattle.macho_fields.specs.Rules.{BreaksImage}
 use Rattle.macho_fields.specs.First.{rank, IsFirstBroken, IsUnbroken}
-use Rattle.macho_fields.specs.Image.{commands_of}
 use Rattle.macho_fields.specs.Layers.{IsLeast, KeptBelow}
-use Rattle.macho_fields.specs.Segment.{segments_of, vmsize}
+use Rattle.macho_fields.specs.Segment.{all_segments, vmsize}
 use Rattle.macho_fields.specs.declared.rule.Rule.{Rule}
 use Rattle.macho_fields.specs.declared.rule.Rule.TheVariants as rule
 use Rattle.macho_fields.specs.declared.rule.Break.{Break}
@@ -13,14 +12,15 @@ use Rattle.macho_fat.specs.Slices.{AreSlices, SlicesTakeMemory}
 use Rattle.macho_fat.specs.declared.slice.Slice.{Slice}
 use Rattle.macho_fat.specs.declared.fault.FatFault.{FatFault}
 use Rattle.macho_fat.specs.declared.fault.FatFault.TheVariants as fault
-use Rattle.macho_rules.specs.Mapped.{IsUnordered}
+use Rattle.macho_spans.specs.Overlap.{IsUnordered}
+use Rattle.macho_rules.specs.Mapped.{mapped_memory}
 use Rattle.macho_rules.specs.declared.refusal.Refusal.{Refusal}
 use Rattle.macho_rules.specs.declared.refusal.Refusal.TheVariants as refusal
 
 -- the image has a mapped segment
 abbrev pub HasMapped : List ℕ → Type 0
 HasMapped image =
-    Any (λ segment. 0 < vmsize image segment) (segments_of image (commands_of image))
+    Any (λ segment. 0 < vmsize image segment) (all_segments image)
 
 -- a refusal is the first of what is broken, or that there was no memory, which is returned only if
 -- CanRunOut holds
@@ -33,7 +33,7 @@ IsRefusalOf breaks CanRunOut refusal.Memory = CanRunOut
 abbrev pub ImageTakesMemory : List ℕ → Option (ℕ × ℕ) → Type 0
 ImageTakesMemory image arch =
     KeptBelow (BreaksImage image arch) (rank rule.SegmentOverlap) × HasMapped image
-    × IsUnordered image
+    × IsUnordered (mapped_memory image)
 
 -- The verdict on a file takes memory: the file is universal, and its slices take memory; or it is one
 -- image, and the verdict on that does. The images of a universal file are judged when its slices are

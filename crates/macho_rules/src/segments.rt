@@ -6,7 +6,8 @@ ghost use Rattle.macho_fields.specs.Segment.{vmaddr, vmsize, fileoff, filesize};
 ghost use Rattle.macho_fields.specs.Segment.{PassesLastAddress, IsLongerInFile, PassesImage};
 ghost use Rattle.macho_fields.specs.declared.rule.Rule.{Rule};
 ghost use Rattle.macho_rules.specs.Check.{KeptBefore, RefusesUpTo};
-ghost use Rattle.macho_rules.specs.Mapped.{mapped_segments, memory_at, IsUnordered};
+ghost use Rattle.macho_rules.specs.Mapped.{mapped_segments, memory_at, mapped_memory};
+ghost use Rattle.macho_spans.specs.Overlap.{IsUnordered};
 
 use crate::refusal::Refusal;
 use crate::survey::Survey;
@@ -58,7 +59,7 @@ pub(crate) fn segment_overlap(alloc: Global, image: &Image, survey: &Survey) -> 
 fn sorted_overlap(alloc: Global, image: &Image, count: usize) -> Result<(), Refusal>
     requires count { count ≡ min (length (mapped_segments image.now)) (2 ^ 64 - 1) }
     requires kept { KeptBefore image.now Rule.SegmentOverlap }
-    requires unordered { IsUnordered image.now }
+    requires unordered { IsUnordered (mapped_memory image.now) }
     ensures { RefusesUpTo image.now Rule.SegmentOverlap result }
 {
     let spans = mapped_memory(alloc, image, count)?;

@@ -26,13 +26,13 @@ pub(crate) struct Survey<'a> {
 impl<'a> Model for Survey<'a> {
     ghost use Rattle.std.specs.Prelude.{List, ℕ};
     ghost use Rattle.macho_fields.specs.Bytes.{bytes_of};
-    ghost use Rattle.macho_rules.specs.Survey.{IsSurveyOf};
+    ghost use Rattle.macho_rules.specs.Survey.{IsImageSurvey};
 
     ghost Value = { List ℕ };
 
     ghost view = { λ survey. bytes_of survey.image };
 
-    ghost invariant = { λ survey. IsSurveyOf (bytes_of survey.image) survey.segments
+    ghost invariant = { λ survey. IsImageSurvey (bytes_of survey.image) survey.segments
         survey.sections survey.mapped survey.section_count };
 }
 

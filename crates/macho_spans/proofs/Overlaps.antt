@@ -7,8 +7,8 @@ use Rattle.std.proofs.lemmas.Bool.Decides.{nat_tests}
 use Rattle.std.proofs.lemmas.List.{get_or_default, get_or-map, length-map}
 use Rattle.std.proofs.lemmas.List.Sorted.{IsPermutation-sym, IsPermutation-map, Contains-permutation, length_permutation}
 use Rattle.std.proofs.lemmas.Map.Keys.{IsDistinct-IsPermutation, IsDistinct-from_apart, apart_from_distinct}
-use Rattle.macho_spans.specs.Overlap.{SharesEarlier, IsLeastSharing, span_at}
-use Rattle.macho_spans.specs.SearchSteps.{AreNumbered, PairBelow, item_at}
+use Rattle.macho_spans.specs.Overlap.{SharesEarlier, IsLeastSharing, span_at, AreNumbered, item_at}
+use Rattle.macho_spans.specs.SearchSteps.{PairBelow}
 use Rattle.macho_spans.specs.Span.{Shares}
 use Rattle.macho_spans.specs.declared.span.Span.{Span}
 use Rattle.macho_spans.specs.declared.overlap.Numbered.{Numbered}

@@ -1,6 +1,7 @@
 -- Which of many spans shares a place with an earlier one.
-use Rattle.std.specs.Prelude.{ℕ, ◌≤◌, ◌<◌, List, length, take, slice_index_or}
+use Rattle.std.specs.Prelude.{◌≡◌, ℕ, ◌≤◌, ◌<◌, List, length, map, take, slice_index_or, IsPermutation}
 use Rattle.macho_spans.specs.Span.{end_of, Shares}
+use Rattle.macho_spans.specs.declared.overlap.Numbered.{Numbered}
 use Rattle.macho_spans.specs.declared.span.Span.{Span}
 
 -- the spans of a list in order, and for how many there is room
@@ -33,6 +34,10 @@ IsDescending spans =
     (i j : ℕ) → i < j → 0 < (span_at spans i).len → 0 < (span_at spans j).len
     → end_of (span_at spans j) ≤ (span_at spans i).start
 
+-- the spans neither ascend nor descend
+abbrev pub IsUnordered : List Span → Type 0
+IsUnordered spans = (¬ IsAscending spans) × (¬ IsDescending spans)
+
 -- The span with the index j shares a place with its neighbour, the last one before it that is not empty
 abbrev pub SharesWithNeighbour : List Span → ℕ → Type 0
 SharesWithNeighbour spans j =
@@ -45,3 +50,24 @@ pub record AreMixed (spans : List Span) (n : ℕ) : Type 0 where
   pub up : ¬ IsAscending (take n spans)
   pub down : ¬ IsDescending (take n spans)
   pub apart : (j : ℕ) → j < n → ¬ SharesWithNeighbour spans j
+
+-- Spans that are sorted, each with the index that it had
+
+-- the item at the place in a list
+abbrev pub item_at : List Numbered → ℕ → Numbered
+item_at items p =
+    slice_index_or items p (record { span = record { start = 0; len = 0 }; index = 0 })
+
+-- each item has its own place as its index
+abbrev pub AreNumbered : List Numbered → Type 0
+AreNumbered items = (p : ℕ) → p < length items → (item_at items p).index ≡ p
+
+-- the items are those of a list that has these spans, in which each had its own place as its index
+abbrev pub WereAdded : List Span → List Numbered → Type 0
+WereAdded spans items =
+    (added : List Numbered) × (map (λ item. item.span) added ≡ spans) × AreNumbered added
+    × IsPermutation added items
+
+-- the spans of the items
+abbrev pub sorted_spans : List Numbered → List Span
+sorted_spans items = map (λ item. item.span) items

@@ -1,5 +1,6 @@
 -- What only the contracts of private functions and proofs need.
-use Rattle.std.specs.Prelude.{◌≡◌, ℕ, ◌+◌, ◌≤◌, ◌<◌, List, length, map, slice_index_or, IsPermutation}
+use Rattle.std.specs.Prelude.{◌≡◌, ℕ, ◌+◌, ◌≤◌, ◌<◌, List, length, slice_index_or}
+use Rattle.macho_spans.specs.Overlap.{item_at}
 use Rattle.macho_spans.specs.Span.{end_of, Shares}
 use Rattle.macho_spans.specs.declared.span.Span.{Span}
 use Rattle.macho_spans.specs.Spans.{IsProbeCount, RoseBy}
@@ -33,25 +34,6 @@ pub record IsOneSearch (before after : CountedPairs) (most_tests : ℕ) : Type 0
   pub tests : after.tests.call ≤ most_tests
   pub all_tests : RoseBy before.tests.all after.tests.call after.tests.all
 
--- the item at the place in a list
-abbrev pub item_at : List Numbered → ℕ → Numbered
-item_at items p =
-    slice_index_or items p (record { span = record { start = 0; len = 0 }; index = 0 })
-
--- each item has its own place as its index
-abbrev pub AreNumbered : List Numbered → Type 0
-AreNumbered items = (p : ℕ) → p < length items → (item_at items p).index ≡ p
-
--- the items are those of a list that has these spans, in which each had its own place as its index
-abbrev pub WereAdded : List Span → List Numbered → Type 0
-WereAdded spans items =
-    (added : List Numbered) × (map (λ item. item.span) added ≡ spans) × AreNumbered added
-    × IsPermutation added items
-
--- the spans of the items
-abbrev pub sorted_spans : List Numbered → List Span
-sorted_spans items = map (λ item. item.span) items
-
 -- two of the first high items share a place, and their indices are below count
 abbrev pub PairBelow : List Numbered → ℕ → ℕ → Type 0
 PairBelow items high count =
@@ -61,7 +43,7 @@ PairBelow items high count =
 
 -- Of the first high items, those that have a place and an index below count are passed. They share
 -- nothing, and the last place of any of them is below end, which is 0 if there are none.
-pub record ArePassed (items : List Numbered) (high count end : ℕ) : Type 0 where
+pub record ArePassedBelow (items : List Numbered) (high count end : ℕ) : Type 0 where
   pub ends : (p : ℕ) → p < high → (item_at items p).index < count → 0 < (item_at items p).span.len
       → end_of (item_at items p).span ≤ end
   pub last : 0 < end

@@ -25,8 +25,7 @@ struct Numbered {
 impl Model for SpanList {
     ghost use Rattle.std.specs.Prelude.{map};
     ghost use Rattle.std.specs.Vec.{vec_capacity};
-    ghost use Rattle.macho_spans.specs.Overlap.{SpanListView};
-    ghost use Rattle.macho_spans.specs.SearchSteps.{AreNumbered};
+    ghost use Rattle.macho_spans.specs.Overlap.{SpanListView, AreNumbered};
 
     ghost Value = { SpanListView };
 
@@ -42,8 +41,7 @@ impl SpanList {
     ghost use Rattle.std.specs.Prelude.{◌≡◌, ◌+◌, ◌<◌, ◌≤◌, [], ◌∷◌, ◌++◌, ℕ, max, length};
     ghost use Rattle.std.specs.Prelude.{IfOk, OnOk, OnErr, MatchOption, IsPermutation};
     ghost use Rattle.std.specs.List.Sorted.{IsNonDecreasingBy};
-    ghost use Rattle.macho_spans.specs.Overlap.{SharesEarlier, IsLeastSharing};
-    ghost use Rattle.macho_spans.specs.SearchSteps.{WereAdded, sorted_spans};
+    ghost use Rattle.macho_spans.specs.Overlap.{SharesEarlier, IsLeastSharing, WereAdded, sorted_spans};
 
     /// No spans. The capacity is exactly `count`. It allocates nothing if `count` is 0.
     pub fn with_capacity(alloc: Global, count: usize) -> Result<SpanList, AllocError>
@@ -119,8 +117,7 @@ impl Model for SpansByStart {
 
 impl SpansByStart {
     ghost use Rattle.std.specs.Prelude.{◌≡◌, ◌<◌, ◌↔◌, [], ℕ, List, length, IsTrue, MatchOption};
-    ghost use Rattle.macho_spans.specs.Overlap.{SharesEarlier, IsLeastSharing, span_at};
-    ghost use Rattle.macho_spans.specs.SearchSteps.{WereAdded, sorted_spans};
+    ghost use Rattle.macho_spans.specs.Overlap.{SharesEarlier, IsLeastSharing, span_at, WereAdded, sorted_spans};
     ghost use Rattle.macho_spans.specs.declared.span.Span.{Span};
 
     /// How many spans there are.

@@ -4,7 +4,7 @@ use Rattle.std.proofs.lemmas.Bool.{both_ways, cases_lt}
 use Rattle.std.proofs.lemmas.List.{map_push}
 use Rattle.std.proofs.lemmas.List.Elements.{Contains-append_cases, Contains-append_left, Contains-append_right}
 use Rattle.std.specs.Prelude.{IfNone, IfSome, IsPermutation, IsTrue}
-use Rattle.macho_spans.specs.Overlap.{SpanListView, SharesEarlier}
+use Rattle.macho_spans.specs.Overlap.{SpanListView, SharesEarlier, sorted_spans}
 use Rattle.macho_spans.specs.Span.{end_of}
 use Rattle.macho_spans.specs.declared.span.Span.{Span}
 use Rattle.macho_fields.specs.FirstPlace.{IsLeastPlace}
@@ -12,7 +12,6 @@ use Rattle.macho_fields.specs.declared.rule.Rule.TheVariants as rule
 use Rattle.macho_fields.proofs.Lists.{any_of, contains_first, only_one}
 use Rattle.macho_image.specs.Opened.{IsOpened}
 use Rattle.macho_spans.specs.SpanOrder.{IsOrderOf}
-use Rattle.macho_spans.specs.SearchSteps.{sorted_spans}
 use Rattle.macho_spans.specs.declared.overlap.Numbered.{Numbered}
 use Rattle.macho_strict.specs.Claims.{least_option, occupied, PassesAt, AreNoted, CoverSame}
 use Rattle.macho_strict.specs.Elements.{elements_of}

@@ -10,7 +10,7 @@ use Rattle.std.proofs.lemmas.Bool.{cases_order}
 use Rattle.std.proofs.lemmas.List.{get_or-map, length-map, map-append, map-id}
 use Rattle.std.proofs.lemmas.Option.{slice_get-get_or, slice_get-map, slice_get_within, get_or_from_slice_get, none-some, same_Some}
 use Rattle.macho_fields.specs.FirstPlace.{IsLeastPlace}
-use Rattle.macho_spans.specs.Overlap.{span_at, SharesEarlier, IsLeastSharing}
+use Rattle.macho_spans.specs.Overlap.{span_at, SharesEarlier, IsLeastSharing, IsUnordered}
 use Rattle.macho_spans.specs.SpanOrder.{spans_in, tags_in, IsOrderOf, IsSharingOf}
 use Rattle.macho_spans.specs.declared.span.Span.{Span}
 use Rattle.macho_spans.specs.declared.span_order.Sharing.TheVariants as sharing
@@ -18,7 +18,6 @@ use Rattle.macho_spans.specs.declared.span_order.SpanOrder.{SpanOrder}
 use Rattle.macho_rules.proofs.Searches.{Rising, ordered_at}
 use Rattle.macho_strict.specs.Rules.{SharesEarlierElement}
 use Rattle.macho_strict.specs.Sharing.{tagged, IsFirstSharing}
-use Rattle.macho_strict.specs.Verdict.{IsUnordered}
 use Rattle.macho_strict.specs.declared.elements.Element.{Element}
 
 -- What is read of each element

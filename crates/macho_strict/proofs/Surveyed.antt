@@ -6,7 +6,7 @@ use Rattle.std.proofs.lemmas.Option.{get_or_from_slice_get}
 use Rattle.std.proofs.lemmas.Simd.{map-map}
 use Rattle.macho_fields.specs.FirstPlace.{IsLeastPlace}
 use Rattle.macho_fields.specs.Image.{commands_of, command_size}
-use Rattle.macho_spans.specs.Overlap.{span_at, SharesEarlier, IsLeastSharing}
+use Rattle.macho_spans.specs.Overlap.{span_at, SharesEarlier, IsLeastSharing, IsUnordered}
 use Rattle.macho_spans.specs.Span.{Holds}
 use Rattle.macho_spans.specs.SpanOrder.{IsOrderOf, IsSharingOf, spans_in, tags_in}
 use Rattle.macho_spans.specs.declared.span.Span.{Span}
@@ -22,7 +22,7 @@ use Rattle.macho_strict.specs.FileParts.{AreSurveyed}
 use Rattle.macho_strict.specs.Gaps.{IsStray, ArePassed}
 use Rattle.macho_strict.specs.Rules.{BreaksImage, SharesFilePart, all_segments}
 use Rattle.macho_strict.specs.Sharing.{file_part, all_parts, tagged, tagged_parts, IsFirstSharing}
-use Rattle.macho_strict.specs.Verdict.{file_parts, IsUnordered}
+use Rattle.macho_strict.specs.Verdict.{file_parts}
 use Rattle.macho_strict.specs.declared.elements.Element.{Element}
 use Rattle.macho_strict.specs.declared.gaps.Gaps.{Gaps}
 use Rattle.macho_strict.specs.declared.gaps.Wanted.TheVariants as wanted

@@ -4,7 +4,7 @@ use Rattle.std.specs.List.Sorted.{IsNonDecreasingBy}
 use Rattle.macho_fields.specs.FirstPlace.{IsLeastPlace}
 use Rattle.macho_fields.specs.declared.rule.Rule.TheVariants as rule
 use Rattle.macho_image.specs.Opened.{IsOpened}
-use Rattle.macho_spans.specs.SearchSteps.{sorted_spans}
+use Rattle.macho_spans.specs.Overlap.{sorted_spans}
 use Rattle.macho_spans.specs.SpanOrder.{IsOrderOf}
 use Rattle.macho_spans.specs.declared.overlap.Numbered.{Numbered}
 use Rattle.macho_spans.specs.declared.span.Span.{Span}

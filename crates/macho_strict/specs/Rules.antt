@@ -7,7 +7,8 @@ use Rattle.macho_fields.specs.Field.{HasZero}
 use Rattle.macho_fields.specs.Image.{command_size, commands_of, commands_end, with_cmd, IsChain}
 use Rattle.macho_fields.specs.LoadCommands.{has_name, encrypted_table}
 use Rattle.macho_fields.specs.NonZero.{IsNonZero}
-use Rattle.macho_fields.specs.Segment.{segments_of, fileoff, filesize, vmsize, initprot}
+use Rattle.macho_fields.specs.Segment.{fileoff, filesize, vmsize, initprot}
+pub use Rattle.macho_fields.specs.Segment.{all_segments}
 use Rattle.macho_fields.specs.Symbol.{table_place, item_count}
 use Rattle.macho_fields.specs.Universal.{IsUniversal, table_end, slices_of, HasPlace}
 use Rattle.macho_strict.specs.Elements.{elements_of}
@@ -24,10 +25,6 @@ BreaksFile file rule.FatStrayByte place =
     IsUniversal file × IsNonZero file place × (table_end file ≤ place)
     × All (λ slice. ¬ HasPlace slice place) (slices_of file)
 BreaksFile file other place = ⊥
-
--- the segments of an image
-abbrev pub all_segments : List ℕ → List ℕ
-all_segments image = segments_of image (commands_of image)
 
 -- segment_command_64: the place is one of the filesize places from fileoff on
 abbrev pub IsInFilePart : List ℕ → ℕ → ℕ → Type 0

@@ -1,7 +1,7 @@
 -- The strict verdict on a file, and where it takes memory.
 use Rattle.std.specs.Prelude.{◌≡◌, ℕ, suc, zero, ◌+◌, ◌<◌, ◌⊎◌, List, map, slice_get, slice_index, Any, IsSomeAnd}
 use Rattle.macho_fields.specs.First.{IsUnbroken, IsFirstBroken, scope_start}
-use Rattle.macho_spans.specs.Overlap.{IsAscending, IsDescending}
+use Rattle.macho_spans.specs.Overlap.{IsAscending}
 use Rattle.macho_fields.specs.Image.{commands_of, with_cmd}
 use Rattle.macho_fields.specs.Segment.{fileoff, filesize}
 use Rattle.macho_fields.specs.Universal.{slices_of, slice_bytes}
@@ -30,10 +30,6 @@ file_parts image =
 -- the places of the elements of an image, in their order
 abbrev pub element_spans : List ℕ → List Span
 element_spans image = map (λ element. element.span) (elements_of image)
-
--- the spans neither ascend nor descend
-abbrev pub IsUnordered : List Span → Type 0
-IsUnordered spans = (¬ IsAscending spans) × (¬ IsDescending spans)
 
 -- some command has a range that is encrypted
 abbrev pub HasEncrypted : List ℕ → Type 0

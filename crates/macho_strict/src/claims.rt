@@ -4,8 +4,7 @@
 ghost use Rattle.std.specs.Prelude.{◌≡◌, ◌<◌, ◌++◌, ◌∷◌, [], ℕ, List, IfOk, IfSome, IfNone, IsPermutation};
 ghost use Rattle.macho_fields.specs.FirstPlace.{IsLeastPlace};
 ghost use Rattle.std.specs.List.Sorted.{IsNonDecreasingBy};
-ghost use Rattle.macho_spans.specs.Overlap.{SharesEarlier};
-ghost use Rattle.macho_spans.specs.SearchSteps.{WereAdded, sorted_spans};
+ghost use Rattle.macho_spans.specs.Overlap.{SharesEarlier, WereAdded, sorted_spans};
 ghost use Rattle.macho_fields.specs.Bytes.{bytes_of};
 ghost use Rattle.macho_spans.specs.declared.span.Span.{Span};
 ghost use Rattle.macho_strict.specs.Claims.{least_option, PassesAt};

@@ -5,7 +5,7 @@ ghost use Rattle.std.specs.List.Sorted.{IsNonDecreasingBy};
 ghost use Rattle.macho_fields.specs.Bytes.{bytes_of};
 ghost use Rattle.macho_fields.specs.FirstPlace.{IsLeastPlace};
 ghost use Rattle.macho_spans.specs.Span.{end_of};
-ghost use Rattle.macho_spans.specs.SearchSteps.{sorted_spans};
+ghost use Rattle.macho_spans.specs.Overlap.{sorted_spans};
 ghost use Rattle.macho_strict.specs.Gaps.{IsStray, IsLeastWithin};
 ghost use Rattle.macho_strict.specs.declared.gaps.Wanted.{Wanted};
 

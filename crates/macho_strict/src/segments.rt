@@ -82,12 +82,12 @@ impl<'a> Model for Survey<'a> {
 
 impl<'a> Survey<'a> {
     ghost use Rattle.std.specs.Prelude.{◌≡◌};
-    ghost use Rattle.macho_spans.specs.Overlap.{IsAscending};
+    ghost use Rattle.macho_spans.specs.Overlap.{IsAscending, IsUnordered};
     ghost use Rattle.macho_fields.specs.Layers.{KeptBelow};
     ghost use Rattle.macho_rules.specs.Check.{ContinuesWithMemory};
     ghost use Rattle.macho_fields.specs.RuleList.{rank};
     ghost use Rattle.macho_strict.specs.Rules.{BreaksImage};
-    ghost use Rattle.macho_strict.specs.Verdict.{file_parts, IsUnordered};
+    ghost use Rattle.macho_strict.specs.Verdict.{file_parts};
     ghost use Rattle.macho_fields.specs.declared.rule.Rule.{Rule};
 
     // Scans the segments of the image.

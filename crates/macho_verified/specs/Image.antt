@@ -43,8 +43,8 @@ HasBytesAt image address len segment =
     × (address + len ≤ vmaddr image segment + filesize image segment)
 
 -- the bytes that the segment has at so many addresses from this one on
-abbrev pub bytes_from : List ℕ → ℕ → ℕ → ℕ → List ℕ
-bytes_from image address len segment =
+abbrev pub bytes_in_segment : List ℕ → ℕ → ℕ → ℕ → List ℕ
+bytes_in_segment image address len segment =
     part (fileoff image segment + (address - vmaddr image segment)) len image
 
 -- linkedit_data_command

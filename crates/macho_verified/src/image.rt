@@ -37,7 +37,7 @@ impl<'a> VerifiedImage<'a> {
     ghost use Rattle.macho_image.specs.Command.{first_with_cmd};
     ghost use Rattle.macho_image.specs.Segment.{segment_at, section_at, sections_of};
     ghost use Rattle.macho_image.specs.Symbol.{symbols_of};
-    ghost use Rattle.macho_verified.specs.Image.{symbol_view, HasBytesAt, bytes_from};
+    ghost use Rattle.macho_verified.specs.Image.{symbol_view, HasBytesAt, bytes_in_segment};
 
     /// The image in the slice with this index, or `None` if the slice is of another kind, or there
     /// is none. It rescans the commands of the image, and judges nothing.
@@ -90,7 +90,7 @@ impl<'a> VerifiedImage<'a> {
             (segments_of self.now (commands_of self.now)) }
         ensures bytes { IfSome result (λ bytes. Any
             (λ segment. HasBytesAt self.now address len segment
-            × (bytes.now ≡ bytes_from self.now address len segment))
+            × (bytes.now ≡ bytes_in_segment self.now address len segment))
             (segments_of self.now (commands_of self.now))) }
         ensures whole { IfSome result (λ bytes. length bytes.now ≡ len) }
     {

@@ -28,7 +28,7 @@ impl<'a> VerifiedSegment<'a> {
     ghost use Rattle.macho_fields.specs.Field.{part};
     ghost use Rattle.macho_fields.specs.Segment.{fileoff, filesize};
     ghost use Rattle.macho_image.specs.Segment.{section_at, sections_with};
-    ghost use Rattle.macho_verified.specs.Image.{HasBytesAt, bytes_from};
+    ghost use Rattle.macho_verified.specs.Image.{HasBytesAt, bytes_in_segment};
 
     /// The segment, with the fields of its command.
     pub fn segment(&self) -> &Segment<'a>
@@ -52,7 +52,7 @@ impl<'a> VerifiedSegment<'a> {
     pub fn bytes_at(&self, address: u64, len: u64) -> Option<&'a [u8]>
         ensures held { IsSome result ↔ HasBytesAt self.now.image address len self.now.place }
         ensures bytes { IfSome result (λ bytes.
-            bytes.now ≡ bytes_from self.now.image address len self.now.place) }
+            bytes.now ≡ bytes_in_segment self.now.image address len self.now.place) }
         ensures whole { IfSome result (λ bytes. length bytes.now ≡ len) }
     {
         if self.segment.vmsize() == 0 {

@@ -1,6 +1,6 @@
 use Rattle.std.proofs.Common.{◌<◌, refl, rules, arith}
 use Rattle.macho_spans.specs.Span.{end_of, Shares}
-use Rattle.macho_spans.specs.SearchSteps.{item_at}
+use Rattle.macho_spans.specs.Overlap.{item_at}
 use Rattle.macho_spans.proofs.overlap.shares_below.Goals as goal
 
 -- the item starts before the end of one that was passed, and no earlier than that one starts

@@ -1,7 +1,7 @@
 use Rattle.std.proofs.Common.{◌⊎◌, inl, inr}
 use Rattle.macho_rules.specs.declared.refusal.Refusal.TheVariants as refusal
-use Rattle.macho_spans.specs.Overlap.{IsAscending}
-use Rattle.macho_strict.specs.Verdict.{IsUnordered, file_parts, element_spans, HasEncrypted, HasLooseNop}
+use Rattle.macho_spans.specs.Overlap.{IsAscending, IsUnordered}
+use Rattle.macho_strict.specs.Verdict.{file_parts, element_spans, HasEncrypted, HasLooseNop}
 use Rattle.macho_strict.proofs.Verdicts.{passed_of, all_unbroken}
 use Rattle.macho_strict.proofs.check.check_image.Goals as goal
 

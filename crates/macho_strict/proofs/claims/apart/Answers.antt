@@ -1,7 +1,6 @@
 use Rattle.std.proofs.Common.{◌≡◌, ℕ, List, Option, None, Some, MatchOption, subst}
 use Rattle.std.specs.Prelude.{IfNone, IfSome, IsPermutation}
-use Rattle.macho_spans.specs.Overlap.{SpanListView, SharesEarlier, IsLeastSharing}
-use Rattle.macho_spans.specs.SearchSteps.{WereAdded, sorted_spans}
+use Rattle.macho_spans.specs.Overlap.{SpanListView, SharesEarlier, IsLeastSharing, WereAdded, sorted_spans}
 use Rattle.macho_spans.specs.declared.overlap.Numbered.{Numbered}
 use Rattle.macho_spans.specs.declared.span.Span.{Span}
 use Rattle.macho_strict.proofs.claims.apart.Goals as goal

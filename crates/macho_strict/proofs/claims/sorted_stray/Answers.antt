@@ -1,5 +1,5 @@
 use Rattle.macho_fields.specs.Bytes.{bytes_of}
-use Rattle.macho_spans.specs.SearchSteps.{sorted_spans}
+use Rattle.macho_spans.specs.Overlap.{sorted_spans}
 use Rattle.macho_strict.specs.Verdict.{element_spans}
 use Rattle.macho_strict.proofs.Passed.{least_moved}
 use Rattle.macho_strict.proofs.Sharings.{drained_spans}

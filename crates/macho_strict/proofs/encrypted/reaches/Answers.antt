@@ -1,7 +1,6 @@
 use Rattle.std.proofs.Common.{◌≡◌, List, length, max, refl, sym, ap, ◌∙◌, subst, arith}
 use Rattle.std.specs.Prelude.{IsPermutation}
-use Rattle.macho_spans.specs.Overlap.{span_at}
-use Rattle.macho_spans.specs.SearchSteps.{sorted_spans}
+use Rattle.macho_spans.specs.Overlap.{span_at, sorted_spans}
 use Rattle.macho_spans.specs.Span.{end_of}
 use Rattle.macho_spans.specs.declared.overlap.Numbered.{Numbered}
 use Rattle.macho_spans.specs.declared.span.Span.{Span}

@@ -1,4 +1,4 @@
-use Rattle.macho_spans.specs.SearchSteps.{sorted_spans}
+use Rattle.macho_spans.specs.Overlap.{sorted_spans}
 use Rattle.macho_strict.proofs.Reaches.{ReachSoFar}
 use Rattle.macho_strict.proofs.encrypted.reaches.Given as goal
 

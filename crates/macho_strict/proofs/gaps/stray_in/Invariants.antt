@@ -1,6 +1,6 @@
 use Rattle.std.proofs.Common.{take}
 use Rattle.macho_fields.specs.Bytes.{bytes_of}
-use Rattle.macho_spans.specs.SearchSteps.{sorted_spans}
+use Rattle.macho_spans.specs.Overlap.{sorted_spans}
 use Rattle.macho_strict.specs.Gaps.{ArePassed}
 use Rattle.macho_strict.proofs.gaps.stray_in.Given as goal
 

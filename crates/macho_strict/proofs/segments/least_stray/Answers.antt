@@ -1,6 +1,6 @@
 use Rattle.std.proofs.Common.{◌∙◌}
 use Rattle.macho_fields.specs.Bytes.{bytes_of}
-use Rattle.macho_spans.specs.SearchSteps.{sorted_spans}
+use Rattle.macho_spans.specs.Overlap.{sorted_spans}
 use Rattle.macho_strict.specs.Verdict.{file_parts}
 use Rattle.macho_strict.specs.declared.gaps.Wanted.TheVariants as wanted
 use Rattle.macho_strict.proofs.Passed.{least_moved}

@@ -1,6 +1,6 @@
 use Rattle.std.proofs.Common.{◌++◌, ◌∙◌, ap, List}
 use Rattle.macho_fields.specs.Bytes.{bytes_of}
-use Rattle.macho_spans.specs.SearchSteps.{sorted_spans}
+use Rattle.macho_spans.specs.Overlap.{sorted_spans}
 use Rattle.macho_spans.specs.declared.span.Span.{Span}
 use Rattle.macho_strict.specs.Unclaimed.{code_parts}
 use Rattle.macho_strict.specs.Verdict.{element_spans}

@@ -1,6 +1,6 @@
 use Rattle.std.proofs.Common.{◌++◌, [], ◌∷◌, ◌<◌, ◌^◌, List, ℕ, length, sym, ◌∙◌, subst, arith}
-use Rattle.macho_image.specs.Segment.{SegmentView}
-use Rattle.macho_rules.specs.Survey.{AreFirstSections, BreaksSegment, segment_notes, IsSurveyOf, sections_among}
+use Rattle.macho_image.specs.Segment.{SegmentView, sections_among}
+use Rattle.macho_rules.specs.Survey.{AreFirstSections, BreaksSegment, segment_notes, IsImageSurvey}
 use Rattle.macho_rules.proofs.Surveys.{walked, walked_on, walked_all, segments_end_by, all_end_by, noted_more, sections_append, counted_more, survey_found}
 use Rattle.macho_rules.proofs.survey.Survey.of.Goals as goal
 
@@ -28,5 +28,5 @@ invariant_of-result c =
     let (seen, reached, segments, sections, mapped, count) = c.loop-segment.invariant in
     let all = sym (walked_all _ seen _ reached c.in-None.ensures.steps.0) ∙ are in
     let short : length image < 2 ^ 64 = c.bytes-bytes.ensures.fits in
-    subst (λ (bytes : List ℕ). IsSurveyOf bytes c.loop-segment.segments c.loop-segment.sections c.loop-segment.mapped c.loop-segment.section_count) (sym c.bytes-bytes.ensures.bytes)
+    subst (λ (bytes : List ℕ). IsImageSurvey bytes c.loop-segment.segments c.loop-segment.sections c.loop-segment.mapped c.loop-segment.section_count) (sym c.bytes-bytes.ensures.bytes)
     (survey_found image opened seen all c.loop-segment.segments c.loop-segment.sections c.loop-segment.mapped c.loop-segment.section_count short segments sections mapped count)

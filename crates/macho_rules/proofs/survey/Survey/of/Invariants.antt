@@ -1,8 +1,8 @@
 use Rattle.std.proofs.Common.{◌≡◌, ◌++◌, ◌-◌, ◌^◌, min, List}
 use Rattle.std.specs.Prelude.{sum_by}
 use Rattle.macho_fields.specs.Segment.{nsects}
-use Rattle.macho_image.specs.Segment.{SegmentView}
-use Rattle.macho_rules.specs.Survey.{AreFirstSegments, AreFirstSections, AreMapped, sections_among}
+use Rattle.macho_image.specs.Segment.{SegmentView, sections_among}
+use Rattle.macho_rules.specs.Survey.{AreFirstSegments, AreFirstSections, AreMapped}
 use Rattle.macho_rules.proofs.survey.Survey.of.Given as goal
 
 -- these segments were noted, and their sections

@@ -3,8 +3,7 @@ use Rattle.std.specs.Prelude.{IsPermutation}
 use Rattle.std.proofs.lemmas.List.{get_or-map, length-map}
 use Rattle.std.proofs.lemmas.List.Sorted.{IsNonDecreasingBy-from_sort_by_key, IsPermutation-map}
 use Rattle.std.specs.List.Sorted.{IsNonDecreasingBy}
-use Rattle.macho_spans.specs.Overlap.{SpanListView}
-use Rattle.macho_spans.specs.SearchSteps.{sorted_spans}
+use Rattle.macho_spans.specs.Overlap.{SpanListView, sorted_spans}
 use Rattle.macho_spans.specs.declared.overlap.Numbered.{Numbered}
 use Rattle.macho_spans.proofs.overlap.SpanList.sorted.Goals as goal
 

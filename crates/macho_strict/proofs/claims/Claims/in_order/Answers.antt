@@ -1,7 +1,7 @@
 use Rattle.std.proofs.Common.{ℕ, List, sym, subst}
 use Rattle.macho_fields.specs.FirstPlace.{IsLeastPlace}
 use Rattle.macho_fields.specs.declared.rule.Rule.TheVariants as rule
-use Rattle.macho_spans.specs.SearchSteps.{WereAdded}
+use Rattle.macho_spans.specs.Overlap.{WereAdded}
 use Rattle.macho_strict.specs.Claims.{AreClaims}
 use Rattle.macho_strict.specs.Rules.{BreaksImage}
 use Rattle.macho_strict.specs.Verdict.{element_spans}

@@ -2,8 +2,7 @@ use Rattle.std.proofs.Common.{ℕ, List, Some, None, sym, subst}
 use Rattle.std.proofs.Common.{IsPermutation}
 use Rattle.macho_fields.specs.FirstPlace.{IsLeastPlace}
 use Rattle.macho_fields.specs.declared.rule.Rule.TheVariants as rule
-use Rattle.macho_spans.specs.Overlap.{SharesEarlier}
-use Rattle.macho_spans.specs.SearchSteps.{WereAdded, sorted_spans}
+use Rattle.macho_spans.specs.Overlap.{SharesEarlier, WereAdded, sorted_spans}
 use Rattle.macho_spans.specs.declared.span.Span.{Span}
 use Rattle.macho_strict.specs.Claims.{AreClaims}
 use Rattle.macho_strict.specs.Elements.{elements_of}

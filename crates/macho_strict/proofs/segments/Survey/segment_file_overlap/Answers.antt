@@ -5,7 +5,8 @@ use Rattle.macho_image.specs.Opened.{IsOpened}
 use Rattle.macho_fields.specs.Layers.{IsLeast}
 use Rattle.macho_strict.specs.Rules.{BreaksImage}
 use Rattle.macho_strict.specs.Sharing.{tagged_parts, IsFirstSharing}
-use Rattle.macho_strict.specs.Verdict.{file_parts, IsUnordered}
+use Rattle.macho_spans.specs.Overlap.{IsUnordered}
+use Rattle.macho_strict.specs.Verdict.{file_parts}
 use Rattle.macho_fields.specs.declared.rule.Rule.TheVariants as rule
 use Rattle.macho_fields.proofs.FirstPlaces.{first_judged}
 use Rattle.macho_strict.proofs.Judged.{without_memory, refused}

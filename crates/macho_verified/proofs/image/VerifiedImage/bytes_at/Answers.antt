@@ -2,7 +2,7 @@ use Rattle.std.proofs.Common.{◌≡◌, ◌∙◌, refl, rules}
 use Rattle.std.proofs.lemmas.Bool.{false≢true}
 use Rattle.macho_rules.proofs.Searches.{search_all, first_among, search_next, none_left}
 use Rattle.macho_rules.proofs.SegmentItems.{some_segment, of_segment}
-use Rattle.macho_verified.specs.Image.{HasBytesAt, bytes_from}
+use Rattle.macho_verified.specs.Image.{HasBytesAt, bytes_in_segment}
 use Rattle.macho_verified.proofs.Accepted.{all_level}
 use Rattle.macho_verified.proofs.image.VerifiedImage.bytes_at.Goals as goal
 
@@ -18,7 +18,7 @@ returns-in-Some-bytes_at-clause-held c =
 pub returns-in-Some-bytes_at-clause-bytes : goal.returns-in-Some-bytes_at-clause-bytes
 returns-in-Some-bytes_at-clause-bytes c =
     some_segment c.args.self.now _ (c.into_iter-segment-iterator.ensures.into_iter_gives ∙ c.segments-segment-items.ensures)
-    (λ image segment. HasBytesAt image c.args.address c.args.len segment × (c.in-Some-bytes_at.bytes.now ≡ bytes_from image c.args.address c.args.len segment))
+    (λ image segment. HasBytesAt image c.args.address c.args.len segment × (c.in-Some-bytes_at.bytes.now ≡ bytes_in_segment image c.args.address c.args.len segment))
     c.in-Some.segment (first_among _ _ _ _ _ c.in-Some.segment c.in-Some.ensures.steps c.loop-segment.invariant) (c.in-Some-bytes_at.ensures.held.0 refl, c.in-Some-bytes_at.ensures.bytes)
 
 pub loop-segment-preserved : goal.loop-segment-preserved
