@@ -23,24 +23,14 @@ overflow_add-place c =
     omega (arith, counted)
 
 pub returns-in-Ok-clause-unbroken : goal.returns-in-Ok-clause-unbroken
-returns-in-Ok-clause-unbroken c =
-    let file = bytes_of c.args.file in
-    let slice = slice_of c.args.slice.now in
-    let same : bytes_of c.slice-bytes.result ≡ slice_bytes file slice = c.slice-bytes.ensures in
-    subst (λ (bytes : List ℕ). NothingBreaks (BreaksImage bytes c.args.slice.now.arch)) same c.in-Ok.ensures.unbroken
+returns-in-Ok-clause-unbroken c = subst (λ (bytes : List ℕ). NothingBreaks (BreaksImage bytes c.args.slice.now.arch)) c.slice-bytes.ensures c.in-Ok.ensures.unbroken
 
 pub returns-in-Err-Broken-clause-refused : goal.returns-in-Err-Broken-clause-refused
 returns-in-Err-Broken-clause-refused c =
-    let file = bytes_of c.args.file in
-    let slice = slice_of c.args.slice.now in
-    let same : bytes_of c.slice-bytes.result ≡ slice_bytes file slice = c.slice-bytes.ensures in
     let found = rw c.in-Err-Broken.field-0-is at c.in-Err-Broken.ensures.refused in
-    (c.in-Err-Broken.broken, subst (λ (bytes : List ℕ). IsLeast (BreaksImage bytes c.args.slice.now.arch) c.in-Err-Broken.broken) same found, c.at.ensures.rule, c.at.ensures.place)
+    let least = subst (λ (bytes : List ℕ). IsLeast (BreaksImage bytes c.args.slice.now.arch) c.in-Err-Broken.broken) c.slice-bytes.ensures found in
+    (c.in-Err-Broken.broken, least, c.at.ensures.rule, c.at.ensures.place)
 
 pub returns-in-Err-Memory-clause-refused : goal.returns-in-Err-Memory-clause-refused
 returns-in-Err-Memory-clause-refused c =
-    let file = bytes_of c.args.file in
-    let slice = slice_of c.args.slice.now in
-    let same : bytes_of c.slice-bytes.result ≡ slice_bytes file slice = c.slice-bytes.ensures in
-    let found = rw c.in-Err-Memory.field-0-is at c.in-Err-Memory.ensures.refused in
-    subst (λ (bytes : List ℕ). IsImageRefusal bytes c.args.slice.now.arch refusal.Memory) same found
+    subst (λ (bytes : List ℕ). IsImageRefusal bytes c.args.slice.now.arch refusal.Memory) c.slice-bytes.ensures (rw c.in-Err-Memory.field-0-is at c.in-Err-Memory.ensures.refused)
