@@ -235,17 +235,3 @@ pub free_of_all : {X : Type 0} (span : X → Span) (items : List X) (x : X) (p :
 free_of_all span items x p none i held =
     let less : i < length items = omega (arith, among (map span items) i (omega (arith, held.0, held.1)), length-map items span) in
     none i x less (subst (λ s. Holds s p) (get_or-map span items i x no_span less) held)
-
--- the order of the spans does not matter
-pub least_sorted : (wanted : Wanted) (bytes : List ℕ) (spans sorted : List Span) → IsPermutation spans sorted → (found : Option ℕ) → IsLeastPlace (IsStray wanted bytes sorted) found → IsLeastPlace (IsStray wanted bytes spans) found
-least_sorted wanted bytes spans sorted moved found least =
-    least_same (IsStray wanted bytes sorted) (IsStray wanted bytes spans)
-    (λ p is. (is.0, free_among sorted spans p (λ x. Contains-permutation spans sorted x moved) is.1))
-    (λ p is. (is.0, free_among spans sorted p (λ x. Contains-permutation sorted spans x (IsPermutation-sym spans sorted moved)) is.1)) found least
-
--- the least place that was found between the sorted spans is that of all, of whatever bytes they are
-pub least_moved : (wanted : Wanted) (bytes own : List ℕ) (spans list sorted : List Span) (found : Option ℕ) → own ≡ bytes → list ≡ spans → IsPermutation list sorted
-    → IsLeastPlace (IsStray wanted own sorted) found → IsLeastPlace (IsStray wanted bytes spans) found
-least_moved wanted bytes own spans list sorted found same are moved least =
-    subst (λ (all : List Span). IsLeastPlace (IsStray wanted bytes all) found) are
-    (subst (λ (bs : List ℕ). IsLeastPlace (IsStray wanted bs list) found) same (least_sorted wanted own list sorted moved found least))

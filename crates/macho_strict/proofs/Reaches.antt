@@ -1,10 +1,8 @@
 -- How far the segments reach that begin by a place, and whether one of them has a range.
 use Rattle.std.proofs.Common.{◌≡◌, ℕ, ◌+◌, ◌≤◌, ◌<◌, List, [], ◌∷◌, ◌++◌, length, map, get_or, max, Bool, None, true, false, Any, leb, leb-true, refl, sym, ap, ◌∙◌, subst, arith, inl, inr, length-append}
 use Rattle.std.specs.Prelude.{IsPermutation}
-use Rattle.std.specs.Iterator.{Drains, YieldsFirst}
 use Rattle.std.specs.List.Sorted.{IsNonDecreasingBy, IsPartitionPoint}
 use Rattle.std.proofs.lemmas.Bool.{cases_lt, cases_eq, leb-false}
-use Rattle.std.proofs.lemmas.Iterator.Consumers.{YieldsList-from_first, YieldsList-end}
 use Rattle.std.proofs.lemmas.List.{get_or_append_left, get_or_default, map-id}
 use Rattle.std.proofs.lemmas.List.Elements.{Contains-get_or}
 use Rattle.std.proofs.lemmas.List.Sorted.{Contains-permutation, IsPermutation-sym}
@@ -14,10 +12,6 @@ use Rattle.macho_spans.specs.Overlap.{span_at}
 use Rattle.macho_spans.specs.Span.{end_of, IsInside}
 use Rattle.macho_spans.specs.declared.span.Span.{Span}
 use Rattle.macho_strict.specs.Encrypted.{AreReaches, reach_at}
-use Rattle.macho_strict.specs.Rules.{all_segments}
-use Rattle.macho_strict.specs.Sharing.{file_part, all_parts}
-use Rattle.macho_strict.specs.Verdict.{file_parts}
-use Rattle.macho_strict.specs.declared.elements.Element.{Element}
 use Rattle.macho_strict.specs.declared.encrypted.Reach.{Reach}
 
 -- Whether a span has a range, where so many of the reaches start by it
@@ -146,15 +140,3 @@ are_reaches spans sorted reaches end moved rising all = record {
         λ k by less. subst (λ (s : Span). end_of s ≤ (reach_at reaches k).end) same (all.ends k i (omega (arith, all.counted)) by),
       );
 }
-
--- The spans of a list that an iterator over the file parts gave
-
-spans_of : (image segments : List ℕ) → map (λ (e : Element). e.span) (map (file_part image) segments) ≡ map (λ segment. (file_part image segment).span) segments
-spans_of image [] = refl
-spans_of image (s ∷ ss) = ap (λ rest. (file_part image s).span ∷ rest) (spans_of image ss)
-
-pub parts_listed : (image : List ℕ) (given xs : List Element) (spans : List Span) → given ≡ all_parts image → Drains (YieldsFirst (λ (left : List Element). left)) given xs
-    → spans ≡ map (λ (e : Element). e.span) xs → spans ≡ file_parts image
-parts_listed image given xs spans is (u, (t, yielded, ended)) are =
-    let (same, _) = YieldsList-end (YieldsList-from_first (λ (e : Element). e) (λ (left : List Element). left) (all_parts image) is) xs t yielded None u refl ended in
-    are ∙ (ap (map (λ (e : Element). e.span)) (sym (map-id xs) ∙ same) ∙ spans_of image (all_segments image))

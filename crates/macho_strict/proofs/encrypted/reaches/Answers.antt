@@ -5,7 +5,9 @@ use Rattle.macho_spans.specs.Span.{end_of}
 use Rattle.macho_spans.specs.declared.overlap.Numbered.{Numbered}
 use Rattle.macho_spans.specs.declared.span.Span.{Span}
 use Rattle.macho_strict.specs.Verdict.{file_parts}
-use Rattle.macho_strict.proofs.Reaches.{ReachSoFar, none_so_far, so_far_more, are_reaches, parts_listed}
+use Rattle.macho_strict.proofs.Reaches.{ReachSoFar, none_so_far, so_far_more, are_reaches}
+use Rattle.macho_strict.proofs.Sharings.{drained_spans}
+use Rattle.macho_strict.proofs.Surveyed.{parts_are}
 use Rattle.macho_strict.proofs.encrypted.reaches.Goals as goal
 
 pub loop-index-init : goal.loop-index-init
@@ -24,7 +26,7 @@ returns c =
     let image = c.args.image.now in
     let items = c.parts.inside.items.items in
     let reaches = c.loop-index.reaches.items in
-    let are = parts_listed image c.of-2.result c.in_ok-span_list.ensures.0 c.in_ok-span_list.field-0.spans c.of-2.ensures c.in_ok-span_list.ensures.1 c.in_ok-span_list.ensures.2 in
+    let are = drained_spans _ c.of-2.result c.of-2.ensures c.in_ok-span_list.field-0.spans c.in_ok-span_list.ensures.0 c.in_ok-span_list.ensures.1 c.in_ok-span_list.ensures.2 ∙ parts_are image in
     let moved : IsPermutation (file_parts image) (sorted_spans c.sorted-parts.result) = subst (λ (spans : List Span). IsPermutation spans (sorted_spans c.sorted-parts.result)) are c.sorted-parts.ensures.permutation in
     let count : c.loop-index.index ≡ length (sorted_spans c.sorted-parts.result) = omega (arith, c.len-index-end.ensures, c.loop-index-test.false, c.loop-index.auto.index-end) in
     let all = subst (λ (these : List Numbered). ReachSoFar (sorted_spans these) reaches c.loop-index.index c.loop-index.end) c.parts.view_is c.loop-index.invariant in

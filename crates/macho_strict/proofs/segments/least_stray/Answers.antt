@@ -3,7 +3,7 @@ use Rattle.macho_fields.specs.Bytes.{bytes_of}
 use Rattle.macho_spans.specs.Overlap.{sorted_spans}
 use Rattle.macho_strict.specs.Verdict.{file_parts}
 use Rattle.macho_strict.specs.declared.gaps.Wanted.TheVariants as wanted
-use Rattle.macho_strict.proofs.Passed.{least_moved}
+use Rattle.macho_strict.proofs.Occupied.{cover_moved, least_covered}
 use Rattle.macho_strict.proofs.Sharings.{drained_spans}
 use Rattle.macho_strict.proofs.Surveyed.{parts_are}
 use Rattle.macho_strict.proofs.segments.least_stray.Goals as goal
@@ -12,4 +12,4 @@ pub returns-clause-found : goal.returns-clause-found
 returns-clause-found c =
     let image = c.args.image.now in
     let are = drained_spans _ c.of-2.result c.of-2.ensures c.in_ok-list.list.spans c.in_ok-list.ensures.0 c.in_ok-list.ensures.1 c.in_ok-list.ensures.2 ∙ parts_are image in
-    least_moved wanted.NonZero image (bytes_of c.bytes.result) (file_parts image) c.in_ok-list.list.spans (sorted_spans c.sorted.result) c.stray_in-2.result c.bytes.ensures.bytes are c.sorted.ensures.permutation c.stray_in-2.ensures
+    least_covered wanted.NonZero image (bytes_of c.bytes.result) (file_parts image) c.in_ok-list.list.spans (sorted_spans c.sorted.result) c.stray_in-2.result c.bytes.ensures.bytes are (cover_moved c.in_ok-list.list.spans (sorted_spans c.sorted.result) c.sorted.ensures.permutation) c.stray_in-2.ensures
