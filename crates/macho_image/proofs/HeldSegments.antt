@@ -20,18 +20,22 @@ use Rattle.macho_image.proofs.Opened.{opened_keeps}
 use Rattle.macho_image.proofs.OpenedWalk.{opened_commands}
 use Rattle.macho_image.proofs.Ranges.{items_are, items_held}
 
-held_segment : (image commands : List ℕ) (segment : ℕ) → OpenedFacts image → AreCommands image commands → Contains (segments_of image commands) segment → HoldsSegment image segment
-held_segment image commands segment opened are has =
-    let among = with_cmd_among image commands loader.LC_SEGMENT_64 segment has in
-    let holds : 72 + 80 * nsects image segment ≤ command_size image segment = sections_inside image commands opened are segment among (with_cmd_is image commands loader.LC_SEGMENT_64 segment has) in
-    let inside : segment + command_size image segment ≤ length image = command_inside image commands opened are segment among in omega arith
+-- a segment among the commands of an opened image lies inside it
+pub held_segment : (image : List ℕ) (segment : ℕ) → IsOpened image → Contains (commands_of image) segment → command_cmd image segment ≡ loader.LC_SEGMENT_64 → HoldsSegment image segment
+held_segment image segment opened among is =
+    let facts = opened_keeps image opened in
+    let are = opened_commands image opened in
+    let holds : 72 + 80 * nsects image segment ≤ command_size image segment = sections_inside image (commands_of image) facts are segment among is in
+    let inside : segment + command_size image segment ≤ length image = command_inside image (commands_of image) facts are segment among in omega arith
 
 -- the segments of an opened image lie inside it
 pub all_segments_hold : (image : List ℕ) (all : List CommandView) → IsOpened image → HaveSegments image all → HoldSegments image all
 all_segments_hold image all opened have =
     let segments = segments_of image (commands_of image) in
     subst (All (λ c. HoldsSegment image c.place)) (sym have) (All-map (λ c. HoldsSegment image c.place) (command_at image) segments
-    (λ k d less. held_segment image (commands_of image) _ (opened_keeps image opened) (opened_commands image opened) (All-contains_itself segments k d less)))
+    (λ k d less.
+    let has = All-contains_itself segments k d less in
+    held_segment image _ opened (with_cmd_among image (commands_of image) loader.LC_SEGMENT_64 _ has) (with_cmd_is image (commands_of image) loader.LC_SEGMENT_64 _ has)))
 
 -- Sections
 

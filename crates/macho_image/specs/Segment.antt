@@ -1,6 +1,6 @@
 -- The segments of an opened image, and their sections. (mach-o/loader.h: segment_command_64,
 -- section_64)
-use Rattle.std.specs.Prelude.{ℕ, ◌+◌, ◌==◌, List, map, flat_map}
+use Rattle.std.specs.Prelude.{ℕ, ◌+◌, ◌==◌, List, Option, None, Some, map, flat_map, if◌then◌else◌}
 use Rattle.std.specs.List.{before_first}
 use Rattle.macho_fields.specs.Field.{part}
 use Rattle.macho_fields.specs.Image.{word}
@@ -15,6 +15,11 @@ pub record SegmentView : Type 0 where
 
 abbrev pub segment_at : List ℕ → ℕ → SegmentView
 segment_at image place = record { image = image; place = place }
+
+-- a command of an image as a segment, if it is one
+abbrev pub segment_of : List ℕ → CommandView → Option SegmentView
+segment_of image command =
+    if command.cmd == loader.LC_SEGMENT_64 then Some (segment_at image command.place) else None
 
 -- a section of an image, by the place of its segment and its own
 pub record SectionView : Type 0 where

@@ -5,10 +5,11 @@ ghost use Rattle.std.specs.Iterator.{YieldsFirst, item_count};
 ghost use Rattle.macho_fields.specs.Bytes.{bytes_of};
 ghost use Rattle.macho_fields.specs.Image.{commands_of};
 ghost use Rattle.macho_fields.specs.Segment.{vmaddr, vmsize, fileoff, filesize, initprot, nsects, shows_start, segments_of, section_count};
-ghost use Rattle.macho_image.specs.Opened.{IsOpened};
-ghost use Rattle.macho_image.specs.Segment.{short_name, maxprot, section_at, sections_with, segment_name, segment_at};
+ghost use Rattle.macho_image.specs.Command.{command_of};
+ghost use Rattle.macho_image.specs.Opened.{IsOpened, IsCommandOf};
+ghost use Rattle.macho_image.specs.Segment.{short_name, maxprot, section_at, sections_with, segment_name, segment_at, segment_of};
 
-use crate::command::{Commands, long_in, word_in};
+use crate::command::{Command, Commands, long_in, word_in};
 use crate::image::Image;
 use crate::items::Items;
 use crate::section::Sections;
@@ -37,6 +38,20 @@ impl<'a> Model for Segment<'a> {
 }
 
 impl<'a> Segment<'a> {
+    /// A command of the image as a segment, or `None` if it is another command.
+    pub fn of(image: Bytes<'a>, command: &Command) -> Option<Segment<'a>>
+        requires { IsCommandOf (bytes_of image) (command_of command.now) }
+        ensures { result ≡ segment_of (bytes_of image.entry) (command_of command.now) }
+    {
+        if command.cmd != LC_SEGMENT_64 {
+            return None;
+        }
+        Some(Segment {
+            image,
+            place: command.place,
+        })
+    }
+
     /// All bytes of the image that it is a segment of.
     pub fn image(&self) -> Bytes<'a>
         ensures { bytes_of result ≡ self.now.image }

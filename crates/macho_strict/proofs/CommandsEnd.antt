@@ -40,21 +40,26 @@ module _ (image : List ℕ) (end : ℕ) (left : List CommandView) (are : AreLeft
     pub left_inside : AreCommands image (commands_of image) → x.place + x.size ≤ commands_end image
     left_inside (count, next, chain) = (first are.places are.are are.chain).1 next chain
 
-  module _ (none : left ≡ []) where
-    -- where none is left, all commands end there
-    ends : (next : ℕ) → IsChain image (commands_of image) next → end ≡ next
-    ends next chain = last are.places (none_left are.places are.are) (are.chain next chain)
-      where
-        none_left : (places : List ℕ) → left ≡ map (command_at image) places → places ≡ []
-        none_left [] same = refl
-        none_left (p ∷ ps) same = cc
+  -- where none is left, all commands end there
+  pub ends : left ≡ [] → AreCommands image (commands_of image) → IsChain image (commands_of image) end
+  ends none (count, next, chain) = subst (IsChain image (commands_of image)) (sym (last are.places (none_left are.places are.are) (are.chain next chain))) chain
+    where
+      none_left : (places : List ℕ) → left ≡ map (command_at image) places → places ≡ []
+      none_left [] same = refl
+      none_left (p ∷ ps) same = cc
 
-        last : (places : List ℕ) → places ≡ [] → Follow image end places next → end ≡ next
-        last [] same at = at
-        last (p ∷ ps) same at = cc
+      last : (places : List ℕ) → places ≡ [] → Follow image end places next → end ≡ next
+      last [] same at = at
+      last (p ∷ ps) same at = cc
 
-    pub ends_right : AreCommands image (commands_of image) → end ≡ commands_end image → (place : ℕ) → ¬ BreaksImage image rule.CommandsEnd place
-    ends_right (count, next, chain) same place (at, wrong) = wrong (subst (IsChain image (commands_of image)) (sym (ends next chain) ∙ same) chain)
+-- they end at one place
+one_end : (image : List ℕ) (start : ℕ) (places : List ℕ) (a b : ℕ) → Follow image start places a → Follow image start places b → a ≡ b
+one_end image start [] a b first second = sym first ∙ second
+one_end image start (p ∷ ps) a b first second = one_end image (p + command_size image p) ps a b first.2 second.2
 
-    pub ends_wrong : end ≢ commands_end image → ¬ IsChain image (commands_of image) (commands_end image)
-    ends_wrong other chain = other (ends (commands_end image) chain)
+module _ (image : List ℕ) (end : ℕ) (chain : IsChain image (commands_of image) end) where
+  pub ends_right : end ≡ commands_end image → (place : ℕ) → ¬ BreaksImage image rule.CommandsEnd place
+  ends_right same place (at, wrong) = wrong (subst (IsChain image (commands_of image)) same chain)
+
+  pub ends_wrong : end ≢ commands_end image → ¬ IsChain image (commands_of image) (commands_end image)
+  ends_wrong other all = other (one_end image 32 (commands_of image) end (commands_end image) chain all)

@@ -2,7 +2,7 @@
 use Rattle.std.proofs.Common.{◌≡◌, ℕ, ◌-◌, ◌*◌, ◌^◌, ◌≤◌, ◌<◌, ◌==◌, List, [], ◌∷◌, ◌++◌, map, filter, Bool, true, false, All, Contains, get_or, Option, Some, None, Fits, w64, refl, sym, ap, ap₂, ◌∙◌, subst, arith, inl, inr}
 use Rattle.std.specs.Prelude.{nat_lt, flat_map, if◌then◌else◌}
 use Rattle.std.specs.List.{list_all}
-use Rattle.std.specs.Option.{option_map_or}
+use Rattle.std.specs.Option.{option_map, option_map_or}
 use Rattle.std.proofs.Math.Nat.{mul-le-mul_right}
 use Rattle.std.proofs.lemmas.Bool.{cases_Bool, ltb-true, ltb-false, eqb-true, eq-eqb, ne_eqb}
 use Rattle.std.proofs.lemmas.List.{append-nil, append_assoc}
@@ -19,11 +19,11 @@ use Rattle.macho_fields.specs.declared.load_command.TableFields.{TableFields}
 use Rattle.macho_fields.proofs.LoadCommands.{unlisted_each, unlisted_inside}
 use Rattle.macho_fields.proofs.Opened.{command_inside, table_fields_inside}
 use Rattle.macho_image.specs.Command.{CommandView, command_at}
-use Rattle.macho_image.specs.Opened.{IsOpened}
-use Rattle.macho_image.specs.Segment.{SegmentView, SectionView, segment_at, section_at, sections_with, segments_left}
+use Rattle.macho_image.specs.Opened.{IsOpened, IsCommandOf}
+use Rattle.macho_image.specs.Segment.{SectionView, segment_at, section_at, sections_with, segment_of}
 use Rattle.macho_rules.proofs.Judged.{opened_facts, opened_commands}
 use Rattle.macho_strict.specs.Elements.{headers, section_elements, described_tables, command_elements, elements_of}
-use Rattle.macho_strict.specs.ElementWalk.{tables_left, sections_left, commands_left, all_commands, all_of, HoldsTable, CanDescribe}
+use Rattle.macho_strict.specs.ElementWalk.{tables_left, sections_left, commands_left, described_left, all_commands, all_of, HoldsTable}
 use Rattle.macho_strict.specs.declared.elements.Element.{Element}
 
 -- Tables
@@ -100,90 +100,44 @@ segment_elements image command is =
     ∙ ap (λ cmd. sections_left (map (section_at image) (sections_with image command)) ++ tables_left image command (described_tables cmd (command_size image command)))
     (sym (eqb-true (command_cmd image command) loader.LC_SEGMENT_64 is))))
 
-module _ (image : List ℕ) (all rest : List CommandView) (c : CommandView) (next : all ≡ c ∷ rest) (segments : List SegmentView) (can : CanDescribe image all segments) where
-  here : Contains (commands_of image) c.place × (c ≡ command_at image c.place)
-  here = subst (All (λ v. Contains (commands_of image) v.place × (v ≡ command_at image v.place))) next can.listed 0 c (omega arith)
+module _ (image : List ℕ) (c : CommandView) (of : IsCommandOf image c) where
+  has_cmd : c.cmd ≡ command_cmd image c.place
+  has_cmd = ap (λ (v : CommandView). v.cmd) of.same
 
-  pub is_listed : Contains (commands_of image) c.place
-  is_listed = here.0
+  has_size : c.size ≡ command_size image c.place
+  has_size = ap (λ (v : CommandView). v.size) of.same
 
-  pub has_cmd : c.cmd ≡ command_cmd image c.place
-  has_cmd = ap (λ (v : CommandView). v.cmd) here.1
+  -- its tables can be read
+  pub described_hold : All (HoldsTable image c.place) (described_tables c.cmd c.size)
+  described_hold = tables_hold image of.opened c.place of.listed c.cmd c.size has_cmd has_size
 
-  pub has_size : c.size ≡ command_size image c.place
-  has_size = ap (λ (v : CommandView). v.size) here.1
+  -- what it describes, as a segment or as another command
+  pub as_described : (sections : Option (List SectionView)) (tables : List TableFields) → sections ≡ option_map (λ s. map (section_at s.image) (sections_with s.image s.place)) (segment_of image c)
+      → tables ≡ described_tables c.cmd c.size → described_left None sections (tables_left image c.place tables) ≡ command_elements image c.place
+  as_described sections tables have are = elim (cases_Bool (c.cmd == loader.LC_SEGMENT_64)) [
+    | inl t ↦
+        ap₂ (λ ss ts. described_left None ss (tables_left image c.place ts)) (have ∙ ap (option_map (λ s. map (section_at s.image) (sections_with s.image s.place))) (is_segment t)) (are ∙ tables_same)
+        ∙ sym (segment_elements image c.place (subst (λ cmd. (cmd == loader.LC_SEGMENT_64) ≡ true) has_cmd t))
+    | inr f ↦
+        ap₂ (λ ss ts. described_left None ss (tables_left image c.place ts)) (have ∙ ap (option_map (λ s. map (section_at s.image) (sections_with s.image s.place))) (is_other f)) (are ∙ tables_same)
+        ∙ sym (other_elements image c.place (subst (λ cmd. (cmd == loader.LC_SEGMENT_64) ≡ false) has_cmd f))
+  ]
+    where
+      tables_same : described_tables c.cmd c.size ≡ described_tables (command_cmd image c.place) (command_size image c.place)
+      tables_same = ap₂ described_tables has_cmd has_size
 
-  later : All (λ (v : CommandView). Contains (commands_of image) v.place × (v ≡ command_at image v.place)) rest
-  later = All-tail (λ (v : CommandView). Contains (commands_of image) v.place × (v ≡ command_at image v.place)) c rest (subst (All (λ v. Contains (commands_of image) v.place × (v ≡ command_at image v.place))) next can.listed)
+      is_segment : (c.cmd == loader.LC_SEGMENT_64) ≡ true → segment_of image c ≡ Some (segment_at image c.place)
+      is_segment t = rw t refl
 
-  at_first : commands_left image all ≡ command_elements image c.place ∷ commands_left image rest
-  at_first = ap (commands_left image) next
-
-  -- the command is no segment
-  module _ (other : c.cmd ≡ loader.LC_SEGMENT_64 → ⊥) where
-    not_segment : (c.cmd == loader.LC_SEGMENT_64) ≡ false
-    not_segment = ne_eqb c.cmd loader.LC_SEGMENT_64 other
-
-    pub past_other : CanDescribe image rest segments
-    past_other = record {
-      opened = can.opened;
-      listed = later;
-      among = can.among ∙ (ap (segments_left image) next ∙ rw not_segment refl);
-    }
-
-    pub other_described : (tables : List TableFields) → tables ≡ described_tables c.cmd c.size → commands_left image all ≡ tables_left image c.place tables ∷ commands_left image rest
-    other_described tables are =
-        at_first
-        ∙ ap (λ list. list ∷ commands_left image rest)
-        (other_elements image c.place (subst (λ cmd. (cmd == loader.LC_SEGMENT_64) ≡ false) has_cmd not_segment)
-        ∙ ap (tables_left image c.place) (ap₂ described_tables (sym has_cmd) (sym has_size) ∙ sym are))
-
-  -- it is a segment
-  module _ (is : c.cmd ≡ loader.LC_SEGMENT_64) where
-    segment : (c.cmd == loader.LC_SEGMENT_64) ≡ true
-    segment = eq-eqb c.cmd loader.LC_SEGMENT_64 is
-
-    left_here : segments ≡ segment_at image c.place ∷ segments_left image rest
-    left_here = can.among ∙ (ap (segments_left image) next ∙ rw segment refl)
-
-    module _ (s : SegmentView) (more : List SegmentView) (first : segments ≡ s ∷ more) where
-      segment_is : s ≡ segment_at image c.place
-      segment_is = let both = sym first ∙ left_here in cc
-
-      pub past_segment : CanDescribe image rest more
-      past_segment = record {
-        opened = can.opened;
-        listed = later;
-        among = let both = sym first ∙ left_here in cc;
-      }
-
-      pub segment_described : (sections : List SectionView) (tables : List TableFields) → sections ≡ map (section_at s.image) (sections_with s.image s.place) → tables ≡ described_tables c.cmd c.size
-          → commands_left image all ≡ (sections_left sections ++ tables_left image c.place tables) ∷ commands_left image rest
-      segment_described sections tables have are =
-          at_first
-          ∙ ap (λ list. list ∷ commands_left image rest)
-          (segment_elements image c.place (subst (λ cmd. (cmd == loader.LC_SEGMENT_64) ≡ true) has_cmd segment)
-          ∙ ap₂ (λ ss ts. sections_left ss ++ tables_left image c.place ts)
-          (sym (have ∙ ap (λ (t : SegmentView). map (section_at t.image) (sections_with t.image t.place)) segment_is)) (ap₂ described_tables (sym has_cmd) (sym has_size) ∙ sym are))
+      is_other : (c.cmd == loader.LC_SEGMENT_64) ≡ false → segment_of image c ≡ None
+      is_other f = rw f refl
 
 -- The walk begins
 
-segments_seen : (image commands : List ℕ) → map (segment_at image) (filter (λ p. command_cmd image p == loader.LC_SEGMENT_64) commands) ≡ segments_left image (map (command_at image) commands)
-segments_seen image [] = refl
-segments_seen image (p ∷ ps) = elim (cases_Bool (command_cmd image p == loader.LC_SEGMENT_64)) [
-  | inl t ↦ rw t (ap (λ more. segment_at image p ∷ more) (segments_seen image ps))
-  | inr f ↦ rw f (segments_seen image ps)
-]
-
-pub can_begin : (image : List ℕ) (commands : List CommandView) (segments : List SegmentView) → IsOpened image → commands ≡ map (command_at image) (commands_of image)
-    → segments ≡ map (segment_at image) (filter (λ p. command_cmd image p == loader.LC_SEGMENT_64) (commands_of image)) → CanDescribe image commands segments
-can_begin image commands segments opened all some = record {
-  opened = opened;
-  listed = subst (All (λ c. Contains (commands_of image) c.place × (c ≡ command_at image c.place))) (sym all)
-      (All-map (λ (c : CommandView). Contains (commands_of image) c.place × (c ≡ command_at image c.place)) (command_at image) (commands_of image)
-      (λ k d less. (All-contains_itself (commands_of image) k d less, refl)));
-  among = some ∙ (segments_seen image (commands_of image) ∙ ap (segments_left image) (sym all));
-}
+pub commands_of_image : (image : List ℕ) (commands : List CommandView) → IsOpened image → commands ≡ map (command_at image) (commands_of image) → All (IsCommandOf image) commands
+commands_of_image image commands opened all =
+    subst (All (IsCommandOf image)) (sym all)
+    (All-map (IsCommandOf image) (command_at image) (commands_of image) (λ k d less. record { opened = opened; listed = All-contains_itself (commands_of image) k d less; same = refl }))
 
 pub all_begun : (image : List ℕ) (commands : List CommandView) → commands ≡ map (command_at image) (commands_of image) → commands_left image commands ≡ all_commands image
 all_begun image commands all = ap (commands_left image) all ∙ mapped (commands_of image)

@@ -13,7 +13,7 @@ use Rattle.macho_fields.proofs.LoadCommands.{structure_by_cmd}
 use Rattle.macho_fields.proofs.Opened.{command_inside, structure_inside}
 use Rattle.macho_fields.proofs.Parts.{with_cmd_is, with_cmd_among}
 use Rattle.macho_image.specs.Command.{CommandView, command_at}
-use Rattle.macho_image.specs.Opened.{IsOpened}
+use Rattle.macho_image.specs.Opened.{IsOpened, IsCommandOf}
 use Rattle.macho_rules.proofs.Judged.{opened_facts, opened_commands}
 use Rattle.macho_rules.proofs.Mapped.{filtered}
 use Rattle.macho_rules.proofs.Searches.{mapped_has, any_of, one_of, ordered_map, Rising, Searching, search_all, first_among, are_breaks_at}
@@ -22,11 +22,10 @@ use Rattle.macho_spans.specs.Span.{IsInside}
 use Rattle.macho_spans.specs.declared.span.Span.{Span}
 use Rattle.macho_strict.specs.Encrypted.{IsEncrypted, encrypted_span}
 use Rattle.macho_strict.specs.Rules.{all_segments, cryptsize, HasBytes, IsMisplaced, BreaksImage}
-use Rattle.macho_strict.specs.Slack.{IsJudged}
 use Rattle.macho_strict.specs.Verdict.{file_parts, HasEncrypted}
 
 -- the structure of such a command lies in the image
-pub encryption_inside : (image : List ℕ) (command : CommandView) → IsJudged image command → command.cmd ≡ loader.LC_ENCRYPTION_INFO_64 → command.place + 24 ≤ length image
+pub encryption_inside : (image : List ℕ) (command : CommandView) → IsCommandOf image command → command.cmd ≡ loader.LC_ENCRYPTION_INFO_64 → command.place + 24 ≤ length image
 encryption_inside image command judged is =
     let same : command_cmd image command.place ≡ loader.LC_ENCRYPTION_INFO_64 = sym (ap (λ (c : CommandView). c.cmd) judged.same) ∙ is in
     let listed = structure_by_cmd image command.place loader.LC_ENCRYPTION_INFO_64 (Some EncryptionInfoCommand64) same refl in
@@ -45,13 +44,13 @@ module _ (image : List ℕ) (all : List CommandView) (opened : IsOpened image) (
   commands_search P =
       search_all (λ v. v.place) P all (subst (Rising (λ v. v.place)) (sym are) (ordered_map (λ (v w : CommandView). v.place ≤ w.place) (command_at image) (commands_of image) (commands_rise image opened)))
 
-  judged : (v : CommandView) → Contains all v → IsJudged image v
+  judged : (v : CommandView) → Contains all v → IsCommandOf image v
   judged v has =
       let (p, among, at) = mapped_has (command_at image) (commands_of image) v (subst (λ these. Contains these v) are has) in
-      subst (IsJudged image) at (record { opened = opened; listed = among; same = refl })
+      subst (IsCommandOf image) at (record { opened = opened; listed = among; same = refl })
 
   -- a command that is left is one of the image
-  pub judged_left : (P : CommandView → Type 0) (left rest : List CommandView) (v : CommandView) → left ≡ v ∷ rest → Searching (λ w. w.place) P all left → IsJudged image v
+  pub judged_left : (P : CommandView → Type 0) (left rest : List CommandView) (v : CommandView) → left ≡ v ∷ rest → Searching (λ w. w.place) P all left → IsCommandOf image v
   judged_left P left rest v is search = judged v (first_among (λ w. w.place) P all left rest v is search)
 
   abbrev encryptions : List ℕ
@@ -61,7 +60,7 @@ module _ (image : List ℕ) (all : List CommandView) (opened : IsOpened image) (
   listed_at p has is = filtered (λ c. command_cmd image c == loader.LC_ENCRYPTION_INFO_64) (commands_of image) p has (eq-eqb (command_cmd image p) loader.LC_ENCRYPTION_INFO_64 is)
 
   -- whether some command has an encrypted range
-  pub some_encrypted : (v : CommandView) → IsJudged image v → IsEncrypted image v → HasEncrypted image
+  pub some_encrypted : (v : CommandView) → IsCommandOf image v → IsEncrypted image v → HasEncrypted image
   some_encrypted v from (is, more) =
       any_of (λ command. 0 < cryptsize image command) encryptions v.place (listed_at v.place from.listed (sym (ap (λ (c : CommandView). c.cmd) from.same) ∙ is)) more
 

@@ -12,6 +12,7 @@ pub mod Reaches
 pub mod Encryptions
 pub mod SliceSpans
 pub mod CommandsEnd
+pub mod CommandWalks
 pub mod Verdicts
 pub mod InImage
 pub mod InFile

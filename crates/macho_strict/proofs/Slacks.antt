@@ -20,13 +20,13 @@ use Rattle.macho_fields.proofs.Lists.{any_of, none_in_nil, contains_mapped, firs
 use Rattle.macho_fields.proofs.Opened.{command_inside, structure_inside, name_ended}
 use Rattle.macho_fields.proofs.Options.{of_some}
 use Rattle.macho_image.specs.Command.{CommandView, command_at}
-use Rattle.macho_image.specs.Opened.{IsOpened}
+use Rattle.macho_image.specs.Opened.{IsOpened, IsCommandOf}
 use Rattle.macho_image.proofs.Opened.{opened_keeps}
 use Rattle.macho_image.proofs.OpenedWalk.{opened_commands}
 use Rattle.macho_rules.proofs.Searches.{Rising, Searching, search_all, first_among, not_before, none_left, mapped_has, ordered_map, one_of}
 use Rattle.macho_rules.proofs.SegmentItems.{commands_rise}
 use Rattle.macho_strict.specs.Rules.{BreaksImage, IsSlack, IsInName}
-use Rattle.macho_strict.specs.Slack.{IsNonZeroSlack, IsNonZeroWithin, IsNonZeroAround, IsJudged, IsCounted}
+use Rattle.macho_strict.specs.Slack.{IsNonZeroSlack, IsNonZeroWithin, IsNonZeroAround, IsCounted}
 use Rattle.macho_strict.proofs.Passed.{least_same}
 
 -- Around a name
@@ -76,7 +76,7 @@ count_within size structure.SegmentCommand64 whole = omega arith
 count_within size structure.BuildVersionCommand whole = omega arith
 count_within size other whole = tt
 
-module _ (image : List ℕ) (command : CommandView) (judged : IsJudged image command) (s : Structure) (known : structure_of command.cmd ≡ Some s) where
+module _ (image : List ℕ) (command : CommandView) (judged : IsCommandOf image command) (s : Structure) (known : structure_of command.cmd ≡ Some s) where
   is_size : command_size image command.place ≡ command.size
   is_size = sym (ap (λ (v : CommandView). v.size) judged.same)
 
@@ -180,10 +180,10 @@ module _ (image : List ℕ) (opened : IsOpened image) (all : List CommandView) (
 
   module _ (left rest : List CommandView) (v : CommandView) (is : left ≡ v ∷ rest) (search : Searching (λ w. w.place) (HasSlack image) all left) where
     -- a command that is left is one of the image
-    pub is_judged : IsJudged image v
+    pub is_judged : IsCommandOf image v
     is_judged =
         let (p, has, at) = mapped_has (command_at image) (commands_of image) v (subst (λ these. Contains these v) are (first_among (λ w. w.place) (HasSlack image) all left rest v is search)) in
-        subst (IsJudged image) at (record { opened = opened; listed = has; same = refl })
+        subst (IsCommandOf image) at (record { opened = opened; listed = has; same = refl })
 
     -- the first byte of slack of the first command that has one is the first of all
     pub slack_found : (place : ℕ) → IsLeastPlace (IsNonZeroSlack image v.place) (Some place)

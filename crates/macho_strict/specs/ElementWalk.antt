@@ -1,13 +1,12 @@
 -- A walk over the elements of an image: what is left of them.
-use Rattle.std.specs.Prelude.{◌≡◌, ℕ, ◌+◌, ◌-◌, ◌*◌, ◌^◌, ◌≤◌, ◌<◌, List, [], ◌++◌, length, map, flat_map, All, Contains, Option, option_to_list}
+use Rattle.std.specs.Prelude.{ℕ, ◌+◌, ◌-◌, ◌*◌, ◌^◌, ◌≤◌, ◌<◌, List, [], ◌++◌, length, map, flat_map, Option, option_to_list}
 use Rattle.std.specs.Option.{option_map_or}
 use Rattle.macho_fields.specs.Image.{commands_of}
 use Rattle.macho_fields.specs.LoadCommands.{width_size}
 use Rattle.macho_fields.specs.Symbol.{table_at}
 use Rattle.macho_fields.specs.declared.load_command.TableFields.{TableFields}
-use Rattle.macho_image.specs.Command.{CommandView, command_at}
-use Rattle.macho_image.specs.Opened.{IsOpened}
-use Rattle.macho_image.specs.Segment.{SegmentView, SectionView, segments_left}
+use Rattle.macho_image.specs.Command.{CommandView}
+use Rattle.macho_image.specs.Segment.{SectionView}
 use Rattle.macho_strict.specs.Elements.{section_elements, table_element, command_elements}
 use Rattle.macho_strict.specs.declared.elements.Element.{Element}
 
@@ -42,10 +41,3 @@ pub record HoldsTable (image : List ℕ) (command : ℕ) (fields : TableFields) 
   pub place : command + fields.place + width_size fields.width ≤ length image
   pub count : command + fields.count + width_size fields.width ≤ length image
   pub near : (2 ^ (8 * width_size fields.width) - 1) * fields.item_size < 2 ^ 64
-
--- the commands that remain are of an opened image, and the segments are those among them
-pub record CanDescribe (image : List ℕ) (commands : List CommandView) (segments : List SegmentView)
-    : Type 0 where
-  pub opened : IsOpened image
-  pub listed : All (λ c. Contains (commands_of image) c.place × (c ≡ command_at image c.place)) commands
-  pub among : segments ≡ segments_left image commands

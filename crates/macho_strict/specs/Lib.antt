@@ -11,4 +11,5 @@ pub mod FileParts
 pub mod Claims
 pub mod Encrypted
 pub mod Slack
+pub mod Commands
 pub mod Unclaimed

@@ -10,12 +10,6 @@ use Rattle.macho_image.specs.Command.{CommandView, command_at}
 use Rattle.macho_image.specs.Opened.{IsOpened}
 use Rattle.macho_strict.specs.Rules.{IsSlack}
 
--- the command is one of an opened image
-pub record IsJudged (image : List ℕ) (command : CommandView) : Type 0 where
-  pub opened : IsOpened image
-  pub listed : Contains (commands_of image) command.place
-  pub same : command ≡ command_at image command.place
-
 -- a byte of the command that is not zero, and that nothing in it describes, is at the place
 abbrev pub IsNonZeroSlack : List ℕ → ℕ → ℕ → Type 0
 IsNonZeroSlack image command place = IsNonZero image place × IsSlack image place command

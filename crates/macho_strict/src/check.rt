@@ -2,6 +2,7 @@
 
 ghost use Rattle.std.specs.Prelude.{OnOk, IfErr, None};
 ghost use Rattle.macho_fields.specs.Rules.{BreaksImage as Breaks};
+ghost use Rattle.macho_fields.specs.Image.{commands_of, IsChain};
 ghost use Rattle.macho_fields.specs.Layers.{NothingBreaks, Continues};
 ghost use Rattle.macho_rules.specs.Verdict.{IsRefusalOf};
 ghost use Rattle.macho_strict.specs.Rules.{BreaksImage};
@@ -9,11 +10,10 @@ ghost use Rattle.macho_strict.specs.Verdict.{TakesMemory};
 ghost use Rattle.macho_fields.specs.declared.rule.Rule.{Rule};
 
 use crate::claims::Claims;
+use crate::commands::NotedCommands;
 use crate::encrypted::encrypted_range;
 use crate::segments::{SIZEOFCMDS, Survey, header_segment};
-use crate::slack::command_slack;
 use crate::unclaimed::unclaimed_byte;
-use macho_fields::header::loader::MACH_HEADER_64_SIZE;
 use macho_fields::{Break, Rule};
 use macho_image::Image;
 use macho_rules::Refusal;
@@ -26,29 +26,27 @@ pub(crate) fn check_image(alloc: Global, image: &Image) -> Result<(), Refusal>
     ensures unbroken { OnOk result (NothingBreaks (BreaksImage image.now)) }
     ensures refused { IfErr result (IsRefusalOf (BreaksImage image.now) (TakesMemory image.now)) }
 {
-    commands_end(image)?;
+    let noted = NotedCommands::of(alloc, image);
+    commands_end(image, noted.end)?;
     header_segment(image)?;
     let survey = Survey::of(image);
     survey.segment_file_overlap(alloc, image)?;
-    let claims = Claims::of(alloc, image)?;
+    let claims = Claims::of(alloc, image, noted.elements)?;
     claims.element_overlap()?;
     survey.stray_byte(alloc, image)?;
-    encrypted_range(alloc, image)?;
-    command_slack(image)?;
+    encrypted_range(alloc, image, noted.encrypted)?;
+    Rule::CommandSlack.judge(noted.slack)?;
     unclaimed_byte(alloc, image, &claims)?;
     Ok(())
 }
 
-// The rule `commands-end`: the last command ends where the header says that the commands end.
-fn commands_end(image: &Image) -> Result<(), Break>
+// The rule `commands-end`: the commands end where the header says that they end. The last one ends at
+// `end`.
+fn commands_end(image: &Image, end: u64) -> Result<(), Break>
+    requires { IsChain image.now (commands_of image.now) end }
     ensures { Continues (BreaksImage image.now) Rule.CommandsEnd result }
 {
-    let commands_end = image.commands_end();
-    let mut end = MACH_HEADER_64_SIZE;
-    for command in image.commands() {
-        end = command.place + u64::from(command.size);
-    }
-    if end != commands_end {
+    if end != image.commands_end() {
         return Err(Break::at(Rule::CommandsEnd, SIZEOFCMDS));
     }
     Ok(())

@@ -14,11 +14,11 @@ ghost use Rattle.macho_strict.specs.Sharing.{IsFirstSharing, tagged_elements};
 ghost use Rattle.macho_strict.specs.Verdict.{element_spans};
 ghost use Rattle.macho_strict.specs.declared.gaps.Wanted.{Wanted};
 
-use crate::elements::{Described, Describing, Element, Elements, headers};
+use crate::elements::{Element, Elements, describe, headers};
 use crate::gaps::{Gaps, Wanted, stray_in};
 use crate::overlap::{count_of, span_list};
 use macho_fields::{Break, Bytes, Rule, Sharing, Span, SpanList, SpanOrder, SpansByStart};
-use macho_image::Image;
+use macho_image::{Command, Image};
 use std::alloc::{AllocError, Global};
 use std::marker::Model;
 
@@ -31,7 +31,7 @@ const ROOM: usize = 32;
 
 // What one walk over the elements of an image notes.
 #[derive(Drop)]
-struct Noted<'a> {
+pub(crate) struct Noted<'a> {
     // How many there are, or the largest `usize` where there are more.
     count: usize,
     // Where the first is described that ends past the image.
@@ -47,20 +47,19 @@ struct Noted<'a> {
 impl<'a> Noted<'a> {
     ghost use Rattle.std.specs.Prelude.{◌≡◌, ◌∷◌, ◌++◌, [], List};
     ghost use Rattle.macho_fields.specs.Bytes.{bytes_of};
+    ghost use Rattle.macho_image.specs.Command.{command_of};
+    ghost use Rattle.macho_image.specs.Opened.{IsCommandOf};
     ghost use Rattle.macho_strict.specs.Claims.{AreNoted};
-    ghost use Rattle.macho_strict.specs.Elements.{elements_of};
+    ghost use Rattle.macho_strict.specs.Elements.{command_elements, headers as headers_of};
     ghost use Rattle.macho_strict.specs.declared.elements.Element.{Element};
 
-    // Goes over all elements of the image.
-    fn of(alloc: Global, image: &Image<'a>) -> Noted<'a>
-        ensures { AreNoted image.now (elements_of image.now) result }
+    // Notes the headers of the image.
+    pub(crate) fn of_headers(alloc: Global, image: &Image<'a>) -> Noted<'a>
+        ensures { AreNoted image.now (headers_of image.now ∷ []) result }
     {
         let bytes = image.bytes();
         let mut noted = Noted::new(alloc, bytes, image.commands_end() <= FEW_END);
         noted.note(bytes, headers(image));
-        for described in Describing::of(image) {
-            noted.note_each(bytes, described);
-        }
         noted
     }
 
@@ -83,11 +82,13 @@ impl<'a> Noted<'a> {
     }
 
     // Notes what one more command of an image that has these bytes describes.
-    fn note_each(&mut self, bytes: Bytes, described: Described)
+    pub(crate) fn note_command(&mut self, bytes: Bytes<'a>, command: &Command)
+        requires { IsCommandOf (bytes_of bytes) (command_of command.now) }
         ensures { (elements : List Element) → AreNoted (bytes_of bytes.entry) elements self.old
-            → AreNoted (bytes_of bytes.entry) (elements ++ described.entry) self.new }
+            → AreNoted (bytes_of bytes.entry)
+            (elements ++ command_elements (bytes_of bytes.entry) command.now.place) self.new }
     {
-        for element in described {
+        for element in describe(bytes, command) {
             self.note(bytes, element);
         }
     }
@@ -194,13 +195,17 @@ impl<'a> Claims<'a> {
     ghost use Rattle.macho_strict.specs.Verdict.{element_spans};
     ghost use Rattle.macho_strict.specs.declared.gaps.Wanted.{Wanted};
 
-    // Goes over the elements of the image. It needs memory only if they neither ascend nor descend: 24
-    // bytes for each, to sort them. If they are few, it takes that memory in any case.
-    pub(crate) fn of(alloc: Global, image: &Image<'a>) -> Result<Claims<'a>, AllocError>
+    // The claims of the elements of the image, which were noted. It needs memory only if they neither
+    // ascend nor descend: 24 bytes for each, to sort them.
+    pub(crate) fn of(
+        alloc: Global,
+        image: &Image<'a>,
+        noted: Noted<'a>,
+    ) -> Result<Claims<'a>, AllocError>
+        requires { AreNoted image.now (elements_of image.now) noted }
         ensures claims { IfOk result (λ claims. claims ≡ image.now) }
         ensures memory { OnErr result (¬ IsAscending (element_spans image.now)) }
     {
-        let noted = Noted::of(alloc, image);
         match noted.order.sharing() {
             Sharing::None => Ok(Claims::in_order(image, noted, None)),
             Sharing::First(place) => Ok(Claims::in_order(image, noted, Some(place))),

@@ -1,15 +1,16 @@
 //! The elements of an image: the parts of it that its structures describe. (`mach-o/loader.h`)
 
 ghost use Rattle.std.specs.Prelude.{◌≡◌};
+ghost use Rattle.macho_fields.specs.Bytes.{bytes_of};
+ghost use Rattle.macho_image.specs.Command.{command_of};
+ghost use Rattle.macho_image.specs.Opened.{IsCommandOf};
 ghost use Rattle.macho_strict.specs.Elements.{contents as contents_of, relocations as relocations_of};
-ghost use Rattle.macho_strict.specs.Elements.{described_tables, headers as headers_of};
+ghost use Rattle.macho_strict.specs.Elements.{command_elements, described_tables, headers as headers_of};
 
-use macho_fields::header::loader::{
-    LC_ENCRYPTION_INFO_64, LC_SEGMENT_64, LINKEDIT_DATA_COMMAND_SIZE,
-};
+use macho_fields::header::loader::{LC_ENCRYPTION_INFO_64, LINKEDIT_DATA_COMMAND_SIZE};
 use macho_fields::header::reloc::RELOCATION_INFO_SIZE;
 use macho_fields::{Bytes, Span, TableFields, structure_of, unlisted_tables};
-use macho_image::{Commands, Image, Section, Sections, Segments};
+use macho_image::{Command, Commands, Image, Section, Sections, Segment};
 use std::marker::Model;
 
 /// A part of an image that a structure describes.
@@ -169,27 +170,46 @@ impl<'a> Iterator for Described<'a> {
     }
 }
 
+// What a command of an image describes.
+pub(crate) fn describe<'a>(image: Bytes<'a>, command: &Command) -> Described<'a>
+    requires { IsCommandOf (bytes_of image) (command_of command.now) }
+    ensures { result ≡ command_elements (bytes_of image.entry) command.now.place }
+{
+    let sections = match Segment::of(image, command) {
+        Some(segment) => Some(segment.sections()),
+        None => None,
+    };
+    let tables = Tables {
+        image,
+        command: command.place,
+        fields: described_tables(command.cmd, command.size),
+    };
+    Described {
+        pending: None,
+        sections,
+        tables,
+    }
+}
+
 // The commands that remain, each as what it describes.
 #[derive(Drop)]
 pub(crate) struct Describing<'a> {
     image: Bytes<'a>,
     commands: Commands<'a>,
-    // The segments among them.
-    segments: Segments<'a>,
 }
 
 impl<'a> Model for Describing<'a> {
-    ghost use Rattle.std.specs.Prelude.{List};
+    ghost use Rattle.std.specs.Prelude.{List, All};
     ghost use Rattle.macho_fields.specs.Bytes.{bytes_of};
-    ghost use Rattle.macho_strict.specs.ElementWalk.{commands_left, CanDescribe};
+    ghost use Rattle.macho_image.specs.Opened.{IsCommandOf};
+    ghost use Rattle.macho_strict.specs.ElementWalk.{commands_left};
     ghost use Rattle.macho_strict.specs.declared.elements.Element.{Element};
 
     ghost Value = { List (List Element) };
 
     ghost view = { λ left. commands_left (bytes_of left.image) left.commands };
 
-    ghost invariant = { λ left.
-        CanDescribe (bytes_of left.image) left.commands left.segments };
+    ghost invariant = { λ left. All (IsCommandOf (bytes_of left.image)) left.commands };
 }
 
 impl<'a> Iterator for Describing<'a> {
@@ -203,21 +223,7 @@ impl<'a> Iterator for Describing<'a> {
 
     fn next(&mut self) -> Option<Described<'a>> {
         let command = self.commands.next()?;
-        let sections = if command.cmd == LC_SEGMENT_64 {
-            Some(self.segments.next()?.sections())
-        } else {
-            None
-        };
-        let tables = Tables {
-            image: self.image,
-            command: command.place,
-            fields: described_tables(command.cmd, command.size),
-        };
-        Some(Described {
-            pending: None,
-            sections,
-            tables,
-        })
+        Some(describe(self.image, &command))
     }
 }
 
@@ -232,7 +238,6 @@ impl<'a> Describing<'a> {
         Describing {
             image: image.bytes(),
             commands: image.commands(),
-            segments: image.segments(),
         }
     }
 }

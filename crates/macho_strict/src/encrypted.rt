@@ -7,12 +7,12 @@ ghost use Rattle.macho_fields.specs.Layers.{KeptBelow};
 ghost use Rattle.macho_fields.specs.RuleList.{rank};
 ghost use Rattle.macho_fields.specs.declared.rule.Rule.{Rule};
 ghost use Rattle.macho_image.specs.Command.{command_of};
+ghost use Rattle.macho_image.specs.Opened.{IsCommandOf};
 ghost use Rattle.macho_rules.specs.Check.{ContinuesWithMemory};
 ghost use Rattle.macho_spans.specs.Span.{IsInside};
 ghost use Rattle.macho_spans.specs.declared.span.Span.{Span};
 ghost use Rattle.macho_strict.specs.Encrypted.{AreReaches, IsEncrypted, encrypted_span};
 ghost use Rattle.macho_strict.specs.Rules.{BreaksImage};
-ghost use Rattle.macho_strict.specs.Slack.{IsJudged};
 ghost use Rattle.macho_strict.specs.Verdict.{file_parts, HasEncrypted};
 
 use crate::overlap::{FileParts, count_of, span_list};
@@ -33,30 +33,18 @@ struct Reach {
 // What is encrypted is bytes of one segment, past the headers.
 //
 // It takes memory only if something is encrypted: 56 bytes for each segment.
-pub(crate) fn encrypted_range(alloc: Global, image: &Image) -> Result<(), Refusal>
-    requires { KeptBelow (BreaksImage image.now) (rank Rule.EncryptedRange) }
+pub(crate) fn encrypted_range(alloc: Global, image: &Image, encrypted: bool) -> Result<(), Refusal>
+    requires has { IsTrue encrypted ↔ HasEncrypted image.now }
+    requires kept { KeptBelow (BreaksImage image.now) (rank Rule.EncryptedRange) }
     ensures { ContinuesWithMemory (BreaksImage image.now) Rule.EncryptedRange
         (HasEncrypted image.now) result }
 {
-    if !has_encrypted(image) {
+    if !encrypted {
         return Ok(());
     }
     let reaches = reaches(alloc, image)?;
     Rule::EncryptedRange.judge(first_misplaced(image, &reaches))?;
     Ok(())
-}
-
-// Whether a command has an encrypted range.
-fn has_encrypted(image: &Image) -> bool
-    ensures { IsTrue result ↔ HasEncrypted image.now }
-{
-    let bytes = image.bytes();
-    for command in image.commands() {
-        if encrypted(bytes, &command).is_some() {
-            return true;
-        }
-    }
-    false
 }
 
 // The place of the first command whose encrypted range begins in the headers, or is not bytes of one
@@ -78,8 +66,8 @@ fn first_misplaced(image: &Image, reaches: &[Reach]) -> Option<u64>
 }
 
 // The encrypted range of the command, or `None` if it has none.
-fn encrypted(image: Bytes, command: &Command) -> Option<Span>
-    requires { IsJudged (bytes_of image) (command_of command.now) }
+pub(crate) fn encrypted(image: Bytes, command: &Command) -> Option<Span>
+    requires { IsCommandOf (bytes_of image) (command_of command.now) }
     ensures { MatchOption result (¬ IsEncrypted (bytes_of image.entry) (command_of command.now))
         (λ range. IsEncrypted (bytes_of image.entry) (command_of command.now)
         × (range ≡ encrypted_span (bytes_of image.entry) command.now.place)) }

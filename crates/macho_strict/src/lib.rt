@@ -4,6 +4,7 @@
 
 mod check;
 mod claims;
+mod commands;
 pub mod elements;
 mod encrypted;
 mod gaps;

@@ -5,34 +5,18 @@ ghost use Rattle.macho_fields.specs.Bytes.{bytes_of};
 ghost use Rattle.macho_fields.specs.Command.{least_size, name_start};
 ghost use Rattle.macho_fields.specs.Field.{HasZero};
 ghost use Rattle.macho_fields.specs.FirstPlace.{IsLeastPlace};
-ghost use Rattle.macho_fields.specs.Layers.{KeptBelow, Continues};
-ghost use Rattle.macho_fields.specs.RuleList.{rank};
-ghost use Rattle.macho_fields.specs.declared.rule.Rule.{Rule};
 ghost use Rattle.macho_image.specs.Command.{command_of};
-ghost use Rattle.macho_strict.specs.Rules.{BreaksImage};
-ghost use Rattle.macho_strict.specs.Slack.{IsNonZeroSlack, IsNonZeroWithin, IsNonZeroAround, IsJudged, IsCounted};
+ghost use Rattle.macho_image.specs.Opened.{IsCommandOf};
+ghost use Rattle.macho_strict.specs.Slack.{IsNonZeroSlack, IsNonZeroWithin, IsNonZeroAround, IsCounted};
 
 use macho_fields::header::loader::LC_STR_OFFSET;
-use macho_fields::{Break, Bytes, Order, Rule, Span, Structure, structure_of};
-use macho_image::{Command, Image};
+use macho_fields::{Bytes, Order, Span, Structure, structure_of};
+use macho_image::Command;
 
-// Each byte of a listed command is zero, or lies in its structure, its records or its name.
-pub(crate) fn command_slack(image: &Image) -> Result<(), Break>
-    requires { KeptBelow (BreaksImage image.now) (rank Rule.CommandSlack) }
-    ensures { Continues (BreaksImage image.now) Rule.CommandSlack result }
-{
-    let bytes = image.bytes();
-    for command in image.commands() {
-        if let Some(place) = first_slack(bytes, &command) {
-            return Err(Break::at(Rule::CommandSlack, place));
-        }
-    }
-    Ok(())
-}
-
-// The least place of a byte of the command that is not zero, and lies in none of these.
-fn first_slack(image: Bytes, command: &Command) -> Option<u64>
-    requires judged { IsJudged (bytes_of image) (command_of command.now) }
+// The least place of a byte of the command that is not zero, and lies in none of its structure, its records
+// and its name, if it is a listed one.
+pub(crate) fn first_slack(image: Bytes, command: &Command) -> Option<u64>
+    requires judged { IsCommandOf (bytes_of image) (command_of command.now) }
     requires fits { length (bytes_of image) < 2 ^ 64 }
     ensures { IsLeastPlace (IsNonZeroSlack (bytes_of image.entry) command.now.place) result }
 {

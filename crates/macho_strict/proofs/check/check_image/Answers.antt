@@ -1,6 +1,10 @@
-use Rattle.std.proofs.Common.{◌⊎◌, inl, inr}
+use Rattle.std.proofs.Common.{◌⊎◌, Ok, Err, inl, inr}
+use Rattle.macho_fields.specs.Layers.{IsLeast}
+use Rattle.macho_fields.specs.declared.rule.Rule.TheVariants as rule
+use Rattle.macho_fields.proofs.FirstPlaces.{first_judged}
 use Rattle.macho_rules.specs.declared.refusal.Refusal.TheVariants as refusal
 use Rattle.macho_spans.specs.Overlap.{IsAscending, IsUnordered}
+use Rattle.macho_strict.specs.Rules.{BreaksImage}
 use Rattle.macho_strict.specs.Verdict.{file_parts, element_spans, HasEncrypted, HasLooseNop}
 use Rattle.macho_strict.proofs.Verdicts.{passed_of, all_unbroken}
 use Rattle.macho_strict.proofs.check.check_image.Goals as goal
@@ -23,6 +27,17 @@ pub returns-in_err-encrypted_range-clause-refused : goal.returns-in_err-encrypte
 returns-in_err-encrypted_range-clause-refused c =
     passed_of c.args.image.now (HasEncrypted c.args.image.now) (λ has. inr (inr (inl has))) c.in_err-encrypted_range.field-0.0 c.in_err-encrypted_range.ensures
     c.from_residual-in_err-encrypted_range.result c.from_residual-in_err-encrypted_range.ensures.1
+
+pub returns-in_err-judge-clause-refused : goal.returns-in_err-judge-clause-refused
+returns-in_err-judge-clause-refused c =
+    let image = c.args.image.now in
+    let b = c.in_err-judge.field-0.0 in
+    let least : IsLeast (BreaksImage image) b = first_judged {T = Unit {0}} (BreaksImage image) rule.CommandSlack c.of-noted.result.slack (Err b) c.in_ok-encrypted_range.ensures c.of-noted.ensures.slack c.in_err-judge.ensures in
+    passed_of image ⊥ (λ none. absurd none) (refusal.Broken b) least c.from_residual-in_err-judge.result c.from_residual-in_err-judge.ensures.1
+
+pub unclaimed_byte-requires-clause-kept : goal.unclaimed_byte-requires-clause-kept
+unclaimed_byte-requires-clause-kept c =
+    first_judged {T = Unit {0}} (BreaksImage c.args.image.now) rule.CommandSlack c.of-noted.result.slack (Ok c.in_ok-judge.field-0) c.in_ok-encrypted_range.ensures c.of-noted.ensures.slack c.in_ok-judge.ensures
 
 pub returns-in_err-unclaimed_byte-clause-refused : goal.returns-in_err-unclaimed_byte-clause-refused
 returns-in_err-unclaimed_byte-clause-refused c =

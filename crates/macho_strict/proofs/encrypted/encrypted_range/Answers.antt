@@ -12,5 +12,5 @@ returns-in_err-judge c =
     let image = c.args.image.now in
     let b = c.in_err-judge.field-0.0 in
     let least : IsLeast (BreaksImage image) b =
-    first_judged {T = Unit {0}} (BreaksImage image) rule.EncryptedRange c.first_misplaced.result (Err b) c.requires c.first_misplaced.ensures c.in_err-judge.ensures in
+    first_judged {T = Unit {0}} (BreaksImage image) rule.EncryptedRange c.first_misplaced.result (Err b) c.requires.kept c.first_misplaced.ensures c.in_err-judge.ensures in
     refused (BreaksImage image) rule.EncryptedRange (HasEncrypted image) b least c.from_residual-in_err-judge.result c.from_residual-in_err-judge.ensures.1

@@ -5,11 +5,11 @@ use Rattle.std.proofs.lemmas.Bool.{cases_Bool, false≢true, lt-ltb}
 use Rattle.macho_fields.specs.Image.{commands_end}
 use Rattle.macho_fields.specs.declared.rule.Rule.TheVariants as rule
 use Rattle.macho_image.specs.Command.{command_of}
+use Rattle.macho_image.specs.Opened.{IsCommandOf}
 use Rattle.macho_rules.proofs.Searches.{search_next, search_found, search_ended}
 use Rattle.macho_spans.specs.Span.{IsInside}
 use Rattle.macho_strict.specs.Encrypted.{IsEncrypted, encrypted_span}
 use Rattle.macho_strict.specs.Rules.{BreaksImage}
-use Rattle.macho_strict.specs.Slack.{IsJudged}
 use Rattle.macho_strict.specs.Verdict.{file_parts}
 use Rattle.macho_strict.proofs.Encryptions.{commands_search, judged_left, encryptions_break, LiesOutside, is_misplaced, not_misplaced, none_has}
 use Rattle.macho_strict.proofs.encrypted.first_misplaced.Goals as goal
@@ -23,7 +23,7 @@ loop-command-init c =
 pub encrypted-requires : goal.encrypted-requires
 encrypted-requires c =
     let are = c.into_iter-command-iterator.ensures.into_iter_gives ∙ c.commands-command-items.ensures.commands in
-    subst (λ (bytes : List ℕ). IsJudged bytes (command_of c.in-Some.command)) (sym c.bytes-bytes.ensures.bytes)
+    subst (λ (bytes : List ℕ). IsCommandOf bytes (command_of c.in-Some.command)) (sym c.bytes-bytes.ensures.bytes)
     (judged_left c.args.image.now _ c.bytes-bytes.ensures.opened are _ _ _ (command_of c.in-Some.command) c.in-Some.ensures.steps c.loop-command.invariant.2)
 
 pub returns-in-loop-command : goal.returns-in-loop-command

@@ -5,7 +5,7 @@ use Rattle.macho_strict.proofs.Sharings.{unordered_shown}
 use Rattle.macho_strict.proofs.claims.Claims.of.Goals as goal
 
 pub in_order-requires-in-First-clause-shared : goal.in_order-requires-in-First-clause-shared
-in_order-requires-in-First-clause-shared c = c.in-First.ensures (tagged_elements c.args.image.now) c.of-noted.ensures.order
+in_order-requires-in-First-clause-shared c = c.in-First.ensures (tagged_elements c.args.image.now) c.requires.order
 
 pub returns-in-Unknown-clause-memory : goal.returns-in-Unknown-clause-memory
-returns-in-Unknown-clause-memory c = on_err c.sorting.result (unordered_shown (elements_of c.args.image.now) (c.in-Unknown.ensures (tagged_elements c.args.image.now) c.of-noted.ensures.order)).0
+returns-in-Unknown-clause-memory c = on_err c.sorting.result (unordered_shown (elements_of c.args.image.now) (c.in-Unknown.ensures (tagged_elements c.args.image.now) c.requires.order)).0

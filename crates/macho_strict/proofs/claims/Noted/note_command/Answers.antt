@@ -1,10 +1,10 @@
-use Rattle.std.proofs.Common.{◌++◌, ◌∷◌, [], List, subst, sym}
+use Rattle.std.proofs.Common.{◌++◌, ◌∷◌, ◌∙◌, [], List, subst, sym}
 use Rattle.std.proofs.lemmas.List.{append-nil, append_assoc}
 use Rattle.macho_fields.specs.Bytes.{bytes_of}
 use Rattle.macho_strict.specs.Claims.{AreNoted}
 use Rattle.macho_strict.specs.declared.elements.Element.{Element}
 use Rattle.macho_strict.proofs.Sharings.{all_yielded}
-use Rattle.macho_strict.proofs.claims.Noted.note_each.Goals as goal
+use Rattle.macho_strict.proofs.claims.Noted.note_command.Goals as goal
 
 pub loop-element-init : goal.loop-element-init
 loop-element-init c = λ elements are. subst (λ (es : List Element). AreNoted (bytes_of c.args.bytes) es c.args.self.now) (sym (append-nil elements)) are
@@ -17,6 +17,6 @@ loop-element-preserved c = λ elements are.
 
 pub returns : goal.returns
 returns c = λ elements are.
-    let all = all_yielded c.args.described c.into_iter-element-iterator.result c.into_iter-element-iterator.ensures.into_iter_gives
+    let all = all_yielded _ c.into_iter-element-iterator.result (c.into_iter-element-iterator.ensures.into_iter_gives ∙ c.describe-element-items.ensures)
     c.loop-element.yielded _ _ c.next.result c.loop-element.yielded_by c.next.ensures.steps c.in-None.is in
     subst (λ (es : List Element). AreNoted (bytes_of c.args.bytes) (elements ++ es) c.loop-element.self) all (c.loop-element.invariant elements are)
