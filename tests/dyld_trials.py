@@ -117,7 +117,7 @@ def judge_vectors(report):
     linked = names_of(oracle.LINKED_RULES_OF_AN_IMAGE)
     report.case("rules that no vector breaks first", [rule for rule in linked if not rules[rule]], [])
     report.case("rules without which no vector breaks the promise", [rule for rule in linked if not astray[rule]],
-                ["table-repeated"])
+                ["table-repeated", "function-variants"])
 
 def read_files(folders):
     paths = [REAL / "program", REAL / "library"]

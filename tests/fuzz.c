@@ -588,7 +588,7 @@ static void check_constants(void) {
     for (; kesvuot_rule(rule, &name) == KESVUOT_OK; rule++) {
         CHECK(name.len > 0 && name.len == strlen((const char *)name.at));
     }
-    CHECK(rule > KESVUOT_UNCLAIMED_BYTE && is_empty(name));
+    CHECK(rule > KESVUOT_BIND_NAMES && is_empty(name));
     CHECK(kesvuot_rule(0, &name) == KESVUOT_NONE && is_empty(name));
     CHECK(kesvuot_rule(UINT32_MAX, &name) == KESVUOT_NONE && is_empty(name));
     CHECK(kesvuot_version() == KESVUOT_VERSION);

@@ -82,6 +82,7 @@ ARCHITECTURES = {
 # mach-o/loader.h
 SECTION_TYPE = 0x000000ff
 S_ZEROFILL, S_GB_ZEROFILL, S_THREAD_LOCAL_ZEROFILL = 0x1, 0xc, 0x12
+SG_PROTECTED_VERSION_1 = 0x8
 INDIRECT_SYMBOL_LOCAL, INDIRECT_SYMBOL_ABS = 0x80000000, 0x40000000
 # mach-o/nlist.h
 N_STAB, N_TYPE, N_SECT = 0xe0, 0x0e, 0x0e
@@ -704,13 +705,22 @@ def linked_tables(image):
             if length > 0:
                 yield SimpleNamespace(command=command.place, kind=kind, stream=stream, start=first, end=first + length)
 
-def home(image, table):
-    """The mapped segment in whose file bytes the whole table lies, or None."""
-    for segment in image.segments:
-        if is_mapped(segment):
-            if segment.fileoff <= table.start and table.end <= segment.fileoff + segment.filesize:
-                return segment
-    return None
+def is_readable(segment):
+    return segment.initprot & VM_PROT_READ != 0
+
+def is_home(segment, table):
+    """The whole table lies in the bytes of the segment, which a loader reads as the file has them."""
+    return (is_mapped(segment) and is_readable(segment) and not is_writable(segment)
+            and segment.flags & SG_PROTECTED_VERSION_1 == 0
+            and segment.fileoff <= table.start and table.end <= segment.fileoff + segment.filesize)
+
+def linkedit_segments(image):
+    return [segment for segment in image.segments if up_to_zero(segment.segname) == b"__LINKEDIT"]
+
+def is_encrypted(image, table):
+    """The table shares a byte with an encrypted range."""
+    return any(max(table.start, command.cryptoff) < min(table.end, command.cryptoff + command.cryptsize)
+               for command in image.listed if command.cmd == LC_ENCRYPTION_INFO_64)
 
 def budget(image):
     return sum(segment.filesize // 8 for segment in image.segments if is_writable(segment))
@@ -719,22 +729,31 @@ def library_count(image):
     return sum(command.cmd in LIBRARIES for command in image.commands)
 
 def table_repeated(image):
-    """The command names a table, and some earlier command names one of the same kind."""
-    first = {}
-    for table in linked_tables(image):
-        if first.setdefault(table.kind, table.command) != table.command:
-            yield table.command
+    """The command is of a kind of some earlier command."""
+    earlier = set()
+    for command in image.commands:
+        kinds = {kind for _, _, kind, _ in LINKED_TABLES.get(command.cmd, [])}
+        if kinds & earlier:
+            yield command.place
+        earlier |= kinds
+
+def function_variants(image):
+    """The command is one by which newer loaders write."""
+    for command in image.commands:
+        if command.cmd in (LC_FUNCTION_VARIANTS, LC_FUNCTION_VARIANT_FIXUPS):
+            yield command.place
 
 def table_home(image):
-    """The command names a table that has no home, or whose home is writable."""
+    """The command names a table of which some linkedit segment is no home, or without such a segment, or encrypted."""
+    named = linkedit_segments(image)
     for table in linked_tables(image):
-        segment = home(image, table)
-        if segment is None or is_writable(segment):
+        if not named or not all(is_home(segment, table) for segment in named) or is_encrypted(image, table):
             yield table.command
 
 def header_home(image):
-    """There is a table, and no base, or the base's segment is writable."""
-    if any(linked_tables(image)) and (image.base_segment is None or is_writable(image.base_segment)):
+    """There is a table, and no base, or the base's segment is writable or cannot be read."""
+    base = image.base_segment
+    if any(linked_tables(image)) and (base is None or is_writable(base) or not is_readable(base)):
         yield 0
 
 # Streams. An opcode is read with its operands, and nothing of the image but the stream's bytes decides about it.
@@ -840,11 +859,13 @@ def count_and_skip(opcode):
 def runs(image, table):
     """Each opcode of a stream with a count: its place, count and skip, and the state before it but for the ordinal,
     which is judged where it is set."""
-    start = dict(segment=None, cursor=0, symbol=None)
+    start = dict(segment=None, cursor=0, symbol=None, is_new=False)
     state = dict(start)
     for opcode in decode(image, table)[0]:
         if opcode.name == "BIND_OPCODE_DONE":
             state = dict(start)
+        elif ordinal_of(opcode) is not None:
+            state["is_new"] = True
         elif opcode.name.endswith("_SET_SEGMENT_AND_OFFSET_ULEB"):
             state.update(segment=opcode.imm, cursor=opcode.offset)
         elif opcode.name.endswith("_ADD_ADDR_ULEB") and "_DO_" not in opcode.name:
@@ -852,11 +873,12 @@ def runs(image, table):
         elif opcode.name == "REBASE_OPCODE_ADD_ADDR_IMM_SCALED":
             state["cursor"] += 8 * opcode.imm
         elif opcode.name == "BIND_OPCODE_SET_SYMBOL_TRAILING_FLAGS_IMM":
-            state["symbol"] = opcode.symbol
+            state.update(symbol=opcode.symbol, is_new=True)
         elif count_and_skip(opcode) is not None:
             count, skip = count_and_skip(opcode)
             yield SimpleNamespace(place=opcode.place, count=count, skip=skip, **state)
             state["cursor"] += count * (8 + skip)
+            state["is_new"] = state["is_new"] and count == 0
         state["cursor"] %= 2 ** 64
 
 def bad_slots(image, names):
@@ -922,6 +944,17 @@ def bind_total(image):
     """The same as `rebase_total`, of each stream by itself."""
     return above_budget(image, BIND_STREAMS)
 
+def bind_names(image):
+    """The names that were new up to and with this opcode, each with its zero byte, have more bytes than the stream."""
+    for table in streams(image, *BIND_STREAMS):
+        total = 0
+        for run in runs(image, table):
+            if run.count > 0 and run.is_new:
+                total += image.data.index(0, run.symbol) + 1 - run.symbol
+                if total > table.end - table.start:
+                    yield run.place
+                    break
+
 # Order of judgment
 
 RULES_OF_THE_FILE = [
@@ -939,8 +972,8 @@ STRICT_RULES_OF_AN_IMAGE = [
     unclaimed_byte,
 ]
 LINKED_RULES_OF_AN_IMAGE = [
-    table_repeated, table_home, header_home, rebase_opcode, rebase_slot, rebase_total, bind_opcode, bind_library,
-    bind_symbol, bind_slot, bind_total,
+    table_repeated, function_variants, table_home, header_home, rebase_opcode, rebase_slot, rebase_total, bind_opcode,
+    bind_library, bind_symbol, bind_slot, bind_total, bind_names,
 ]
 
 def first_of(file, rules_of_the_file, rules_of_an_image):

@@ -1,10 +1,11 @@
 """The plain dyld of docs/LINKED.md, under watch: it follows the opcodes of an image, checks nothing, and really writes.
 
-Its memory is a copy of the file bytes of the mapped segments, with zeros after them. What it does is compared with what
-the linked profile promises, and the first thing that breaks the promise raises `Breach`: a byte of a stream or of the
-headers that is read outside of them, or that is no longer the file's; a write that is no whole pointer in the file
-bytes of one writable segment; a segment or a library that is not there; more writes of a stream than the budget, or
-more steps than its bytes and writes explain. So it ends on all files, and on one that breaks the rules it says how.
+Its memory is a copy of the file bytes of the mapped segments, with zeros after them, and with other bytes where a
+kernel decrypts some. What it does is compared with what the linked profile promises, and the first thing that breaks
+the promise raises `Breach`: a byte of a stream or of the headers that is read outside of them, that cannot be read, or
+that is no longer the file's; a write that is no whole pointer in the file bytes of one writable segment; a segment or a
+library that is not there; more writes of a stream than the budget, or more steps than its bytes and writes explain. So
+it ends on all files, and on one that breaks the rules it says how.
 
 Of tests/oracle.py it takes the commands of an image, and nothing that decodes a stream.
 """
@@ -37,15 +38,15 @@ BIND_OPCODE_DO_BIND_ADD_ADDR_IMM_SCALED = 0xb0
 BIND_OPCODE_DO_BIND_ULEB_TIMES_SKIPPING_ULEB = 0xc0
 LC_DYLD_INFO, LC_DYLD_INFO_ONLY = 0x22, 0x80000022
 LOADS = (0xc, 0x80000018, 0x8000001f, 0x20, 0x80000023)
-VM_PROT_WRITE = 2
+LC_ENCRYPTION_INFO_64 = 0x2c
+VM_PROT_READ, VM_PROT_WRITE = 1, 2
+SG_PROTECTED_VERSION_1 = 8
 
 POINTER = 8
 WORD = 2 ** 64
 SLIDE = 0x12345678000
 # What a look-up finds: an address whose bytes are all opcodes that no stream may have.
 FOUND = 0xf1f2f3f4f5f6f7f8
-# Names are looked at again at each opcode that binds, but no more bytes of them than this.
-MOST_OF_NAMES = 100_000
 
 # A write: the stream, the address, and of a bind the ordinal, the name, the addend and the flags.
 Write = namedtuple("Write", "stream address ordinal name addend flags")
@@ -53,13 +54,24 @@ Write = namedtuple("Write", "stream address ordinal name addend flags")
 class Breach(Exception):
     """The promise is broken."""
 
+def decrypted(image):
+    """The bytes of the image as a kernel decrypts them: those that are encrypted have other values."""
+    content = bytearray(image.data)
+    ranges = [(command.cryptoff, command.cryptsize) for command in image.listed if command.cmd == LC_ENCRYPTION_INFO_64]
+    ranges += [(segment.fileoff, segment.filesize) for segment in image.segments
+               if segment.flags & SG_PROTECTED_VERSION_1 and segment is not image.base_segment]
+    for start, size in ranges:
+        content[start:start + size] = bytes(byte ^ 0xff for byte in content[start:start + size])
+    return content
+
 class Memory:
     """The mapped segments, by their addresses: of each its address, its file bytes, its end and its command."""
 
     def __init__(self, image):
         mapped = sorted((segment for segment in image.segments if segment.vmsize > 0), key=lambda s: s.vmaddr)
         self.starts = [segment.vmaddr for segment in mapped]
-        self.parts = [(segment, bytearray(image.data[segment.fileoff:segment.fileoff + segment.filesize]))
+        content = decrypted(image)
+        self.parts = [(segment, bytearray(content[segment.fileoff:segment.fileoff + segment.filesize]))
                       for segment in mapped]
 
     def part_of(self, address, size):
@@ -75,6 +87,12 @@ class Memory:
     def read(self, address, size):
         _, content, offset = self.part_of(address, size)
         return bytes(content[offset:offset + size]).ljust(size, b"\0")
+
+    def read_judged(self, address, size):
+        """The same of the headers and of a stream, which are in a segment that can be read."""
+        if self.part_of(address, size)[0].initprot & VM_PROT_READ == 0:
+            raise Breach("0x%x is read, which cannot be" % address)
+        return self.read(address, size)
 
     def write(self, address, pointer):
         segment, content, offset = self.part_of(address, POINTER)
@@ -92,7 +110,6 @@ class Dyld:
         self.memory = Memory(image)
         self.writes = []
         self.steps = 0
-        self.of_names = 0
         # What is promised: no more writes to a stream than this.
         self.budget = sum(segment.filesize // POINTER for segment in image.segments
                           if segment.vmsize > 0 and segment.initprot & VM_PROT_WRITE)
@@ -105,7 +122,7 @@ class Dyld:
         """A number of the headers in memory, which is still the file's."""
         if self.image.base is None:
             raise Breach("there are no headers in memory")
-        found = self.memory.read(self.image.base + place, width)
+        found = self.memory.read_judged(self.image.base + place, width)
         if found != self.image.data[place:place + width]:
             raise Breach("the header at 0x%x has changed" % place)
         return int.from_bytes(found, "little")
@@ -116,7 +133,7 @@ class Dyld:
         return (self.header(self.segments[segment] + 24, 8) + cursor) % WORD
 
     def look_up(self, ordinal, name):
-        """Finds the library and the name, and then some address."""
+        """Finds the library, and then the name, which it returns."""
         if ordinal > 0:
             if ordinal > len(self.libraries):
                 raise Breach("library %d is not there" % ordinal)
@@ -126,29 +143,34 @@ class Dyld:
             raise Breach("library %d is not there" % ordinal)
         if name is None:
             raise Breach("there is no name")
-        return FOUND
+        return self.name_at(name)
 
-    # A stream, in memory. It is where its home has it.
+    # A stream, in memory. It is where the last segment named __LINKEDIT has it.
 
     def begin(self, start, size):
-        for segment in self.image.segments:
-            if segment.vmsize > 0 and segment.fileoff <= start < segment.fileoff + segment.filesize:
-                self.place = start
-                self.start, self.end = start, start + size
-                self.to_address = segment.vmaddr - segment.fileoff
-                return
-        raise Breach("the stream at 0x%x is not mapped" % start)
+        named = [segment for segment in self.image.segments if segment.segname.split(b"\0")[0] == b"__LINKEDIT"]
+        if not named:
+            raise Breach("the stream at 0x%x is not found" % start)
+        self.place = start
+        self.start, self.end = start, start + size
+        self.to_address = named[-1].vmaddr - named[-1].fileoff
 
     def stream_byte(self, place):
         if not self.start <= place < self.end:
             raise Breach("0x%x is read, which is not in the stream" % place)
-        byte = self.memory.read(place + self.to_address, 1)[0]
+        byte = self.memory.read_judged((place + self.to_address) % WORD, 1)[0]
         if byte != self.image.data[place]:
             raise Breach("the opcode at 0x%x has changed" % place)
         return byte
 
-    def next_byte(self):
+    def step(self):
+        """A step more: of the bytes of the stream and of its names, and of the writes."""
         self.steps += 1
+        if self.steps > 2 * (self.end - self.start) + self.written + 1:
+            raise Breach("%d bytes and %d writes took more steps" % (self.end - self.start, self.written))
+
+    def next_byte(self):
+        self.step()
         self.place += 1
         return self.stream_byte(self.place - 1)
 
@@ -179,18 +201,17 @@ class Dyld:
     def name_at(self, place):
         """The name is read again where it is looked up."""
         name = bytearray()
-        while self.of_names < MOST_OF_NAMES:
+        while True:
+            self.step()
             byte = self.stream_byte(place + len(name))
             if byte == 0:
-                break
+                return bytes(name)
             name.append(byte)
-            self.of_names += 1
-        return bytes(name)
 
     # What is written
 
     def write(self, stream, address, pointer, *of_bind):
-        self.steps += 1
+        self.step()
         self.memory.write(address, pointer % WORD)
         self.writes.append(Write(stream, address, *of_bind))
         self.written += 1
@@ -235,17 +256,17 @@ class Dyld:
                 raise Breach("0x%02x is no opcode" % byte)
 
     def bind_slots(self, stream, state, count, skip):
-        for k in range(count):
-            if k == 0:
-                pointer = self.look_up(state["ordinal"], state["name"])
-                name = self.name_at(state["name"])
+        for _ in range(count):
+            if state["found"] is None:
+                state["found"] = self.look_up(state["ordinal"], state["name"])
             address = self.address_of(state["segment"], state["cursor"])
-            self.write(stream, address, pointer + state["addend"],
-                       state["ordinal"], name, state["addend"], state["flags"])
+            self.write(stream, address, FOUND + state["addend"],
+                       state["ordinal"], state["found"], state["addend"], state["flags"])
             state["cursor"] = (state["cursor"] + POINTER + skip) % WORD
 
     def follow_binds(self, stream):
-        first = {"segment": None, "cursor": 0, "ordinal": 0, "name": None, "addend": 0, "flags": 0}
+        # The name is found again after it or the ordinal was set.
+        first = {"segment": None, "cursor": 0, "ordinal": 0, "name": None, "addend": 0, "flags": 0, "found": None}
         state = dict(first)
         while self.place < self.end:
             byte = self.next_byte()
@@ -255,13 +276,13 @@ class Dyld:
                     return
                 state = dict(first)
             elif opcode == BIND_OPCODE_SET_DYLIB_ORDINAL_IMM:
-                state["ordinal"] = imm
+                state["ordinal"], state["found"] = imm, None
             elif opcode == BIND_OPCODE_SET_DYLIB_ORDINAL_ULEB:
-                state["ordinal"] = self.number()
+                state["ordinal"], state["found"] = self.number(), None
             elif opcode == BIND_OPCODE_SET_DYLIB_SPECIAL_IMM:
-                state["ordinal"] = imm - 16 if imm else 0
+                state["ordinal"], state["found"] = imm - 16 if imm else 0, None
             elif opcode == BIND_OPCODE_SET_SYMBOL_TRAILING_FLAGS_IMM:
-                state["flags"], state["name"] = imm, self.name()
+                state["flags"], state["name"], state["found"] = imm, self.name(), None
             elif opcode == BIND_OPCODE_SET_TYPE_IMM:
                 pass
             elif opcode == BIND_OPCODE_SET_ADDEND_SLEB:
@@ -301,8 +322,6 @@ class Dyld:
             self.follow_rebases()
         else:
             self.follow_binds(stream)
-        if self.steps > size + self.written:
-            raise Breach("the %s stream took %d steps" % (stream, self.steps))
 
 def load(image):
     """Loads an image that has been opened, and returns what was written."""

@@ -36,7 +36,7 @@ static void try_version_and_rules(void) {
     for (; kesvuot_rule(rule, &name) == KESVUOT_OK; rule++) {
         CHECK(name.len == strlen((const char *)name.at) && name.len > 0);
     }
-    CHECK(rule > KESVUOT_UNCLAIMED_BYTE && name.len == 0);
+    CHECK(rule > KESVUOT_BIND_NAMES && name.len == 0);
     CHECK(kesvuot_rule(0, &name) == KESVUOT_NONE && name.len == 0);
     CHECK(kesvuot_rule(UINT32_MAX, &name) == KESVUOT_NONE && name.len == 0);
 }

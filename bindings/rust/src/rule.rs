@@ -7,9 +7,11 @@ use crate::ffi;
 
 macro_rules! rules {
     ($($(#[$doc:meta])* $name:ident = $number:literal,)*) => {
-        /// A rule of the layout, or of the strict profile. They are in the order of judgment.
+        /// A rule of the layout, of the strict profile or of the linked one. They are in the order of
+        /// judgment.
         ///
-        /// `docs/RULES.md` says when each is broken, what usually breaks it, and what to do.
+        /// `docs/RULES.md` says when each is broken, what usually breaks it, and what to do. For the
+        /// linked profile, which no call judges yet, `docs/LINKED.md` does.
         #[derive(Clone, Copy, Debug, PartialEq, Eq, PartialOrd, Ord, Hash)]
         #[non_exhaustive]
         pub enum Rule {
@@ -127,6 +129,32 @@ rules! {
     /// Strictly: a byte of a segment that is neither zero nor a NOP of code is in no element: not in the
     /// headers, a section, its relocations or a table.
     UnclaimedByte = 40,
+    /// Linked: a command for linked data is of a kind of an earlier one.
+    TableRepeated = 41,
+    /// Linked: a command has variants of functions, or their fixups.
+    FunctionVariants = 42,
+    /// Linked: a table is not in a `__LINKEDIT` that can be read and not written, or is encrypted.
+    TableHome = 43,
+    /// Linked: there is a table, and the headers cannot be read in memory, or can be written.
+    HeaderHome = 44,
+    /// Linked: an opcode of the rebase stream is not known, or an operand of it is wrong.
+    RebaseOpcode = 45,
+    /// Linked: a rebase is not in the file bytes of a writable segment.
+    RebaseSlot = 46,
+    /// Linked: there are more rebases than pointers in the writable segments.
+    RebaseTotal = 47,
+    /// Linked: an opcode of a bind stream is not known, or an operand of it is wrong.
+    BindOpcode = 48,
+    /// Linked: an opcode of a bind stream names a library that is not there.
+    BindLibrary = 49,
+    /// Linked: a bind has no name.
+    BindSymbol = 50,
+    /// Linked: a bind is not in the file bytes of a writable segment.
+    BindSlot = 51,
+    /// Linked: a bind stream has more binds than there are pointers in the writable segments.
+    BindTotal = 52,
+    /// Linked: the names that a bind stream looks up have more bytes than the stream.
+    BindNames = 53,
 }
 
 impl Rule {
@@ -182,11 +210,13 @@ mod tests {
     use super::*;
 
     #[test]
-    fn names_are_the_headings_of_the_document() {
-        let path = concat!(env!("CARGO_MANIFEST_DIR"), "/../../docs/RULES.md");
-        let document = std::fs::read_to_string(path).unwrap();
-        let headings = document
-            .lines()
+    fn names_are_the_headings_of_the_documents() {
+        let folder = concat!(env!("CARGO_MANIFEST_DIR"), "/../../docs");
+        let documents = ["RULES.md", "LINKED.md"]
+            .map(|name| std::fs::read_to_string(std::path::Path::new(folder).join(name)).unwrap());
+        let headings = documents
+            .iter()
+            .flat_map(|document| document.lines())
             .filter_map(|line| line.strip_prefix("### `")?.strip_suffix('`'));
         let names = Rule::ALL.iter().map(|rule| rule.name());
         assert_eq!(names.collect::<Vec<_>>(), headings.collect::<Vec<_>>());

@@ -3,7 +3,7 @@
 use Rattle.std.specs.Prelude.{ℕ, List, ◌++◌, codes, false}
 use Rattle.std.specs.Fmt.{digits}
 use Rattle.macho_fields.specs.declared.rule.Profile.{Profile}
-use Rattle.macho_fields.specs.declared.rule.Profile.TheVariants.{Layout, Strict}
+use Rattle.macho_fields.specs.declared.rule.Profile.TheVariants.{Layout, Strict, Linked}
 use Rattle.macho_fields.specs.declared.rule.Rule.{Rule}
 use Rattle.macho_fields.specs.declared.rule.Rule.TheVariants as rule
 use Rattle.macho_fields.specs.declared.rule.Break.{Break}
@@ -50,6 +50,19 @@ rank rule.StrayByte = 37
 rank rule.EncryptedRange = 38
 rank rule.CommandSlack = 39
 rank rule.UnclaimedByte = 40
+rank rule.TableRepeated = 41
+rank rule.FunctionVariants = 42
+rank rule.TableHome = 43
+rank rule.HeaderHome = 44
+rank rule.RebaseOpcode = 45
+rank rule.RebaseSlot = 46
+rank rule.RebaseTotal = 47
+rank rule.BindOpcode = 48
+rank rule.BindLibrary = 49
+rank rule.BindSymbol = 50
+rank rule.BindSlot = 51
+rank rule.BindTotal = 52
+rank rule.BindNames = 53
 
 -- the number by which programs know a rule. It never changes: a rule that is added takes the next free
 -- one, wherever it stands
@@ -94,6 +107,19 @@ rule_number rule.StrayByte = 37
 rule_number rule.EncryptedRange = 38
 rule_number rule.CommandSlack = 39
 rule_number rule.UnclaimedByte = 40
+rule_number rule.TableRepeated = 41
+rule_number rule.FunctionVariants = 42
+rule_number rule.TableHome = 43
+rule_number rule.HeaderHome = 44
+rule_number rule.RebaseOpcode = 45
+rule_number rule.RebaseSlot = 46
+rule_number rule.RebaseTotal = 47
+rule_number rule.BindOpcode = 48
+rule_number rule.BindLibrary = 49
+rule_number rule.BindSymbol = 50
+rule_number rule.BindSlot = 51
+rule_number rule.BindTotal = 52
+rule_number rule.BindNames = 53
 
 -- the profile that a rule belongs to
 abbrev pub profile_of : Rule → Profile
@@ -106,6 +132,19 @@ profile_of rule.StrayByte = Strict
 profile_of rule.EncryptedRange = Strict
 profile_of rule.CommandSlack = Strict
 profile_of rule.UnclaimedByte = Strict
+profile_of rule.TableRepeated = Linked
+profile_of rule.FunctionVariants = Linked
+profile_of rule.TableHome = Linked
+profile_of rule.HeaderHome = Linked
+profile_of rule.RebaseOpcode = Linked
+profile_of rule.RebaseSlot = Linked
+profile_of rule.RebaseTotal = Linked
+profile_of rule.BindOpcode = Linked
+profile_of rule.BindLibrary = Linked
+profile_of rule.BindSymbol = Linked
+profile_of rule.BindSlot = Linked
+profile_of rule.BindTotal = Linked
+profile_of rule.BindNames = Linked
 profile_of other = Layout
 
 -- the name of a rule, as ASCII text
@@ -150,6 +189,19 @@ name_of rule.StrayByte = codes "stray-byte"
 name_of rule.EncryptedRange = codes "encrypted-range"
 name_of rule.CommandSlack = codes "command-slack"
 name_of rule.UnclaimedByte = codes "unclaimed-byte"
+name_of rule.TableRepeated = codes "table-repeated"
+name_of rule.FunctionVariants = codes "function-variants"
+name_of rule.TableHome = codes "table-home"
+name_of rule.HeaderHome = codes "header-home"
+name_of rule.RebaseOpcode = codes "rebase-opcode"
+name_of rule.RebaseSlot = codes "rebase-slot"
+name_of rule.RebaseTotal = codes "rebase-total"
+name_of rule.BindOpcode = codes "bind-opcode"
+name_of rule.BindLibrary = codes "bind-library"
+name_of rule.BindSymbol = codes "bind-symbol"
+name_of rule.BindSlot = codes "bind-slot"
+name_of rule.BindTotal = codes "bind-total"
+name_of rule.BindNames = codes "bind-names"
 
 -- the text of a break: the name of its rule, and its place in lower-case hexadecimal
 abbrev pub text_of : Break → List ℕ

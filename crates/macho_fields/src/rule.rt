@@ -16,6 +16,9 @@ pub enum Profile {
     Layout,
     /// What `macho_strict::verify_strictly` judges besides: every byte is accounted for.
     Strict,
+    /// The linked profile of docs/LINKED.md, which says what judges it: a loader that follows the opcodes of
+    /// `LC_DYLD_INFO` stays in the segments that it can write.
+    Linked,
 }
 
 /// A rule, in the order of judgment: profile after profile, and in each the rules of the file before
@@ -106,6 +109,32 @@ pub enum Rule {
     /// A byte of a segment that is neither zero nor padding of code lies in no part that a structure
     /// describes.
     UnclaimedByte = 40,
+    /// A command for linked data is of a kind of an earlier one.
+    TableRepeated = 41,
+    /// A command has variants of functions, by which loaders write, and which no rule reads.
+    FunctionVariants = 42,
+    /// A table of linked data is not where a loader finds it, or can change in memory.
+    TableHome = 43,
+    /// There is linked data, and the header cannot be read in memory, or can be written.
+    HeaderHome = 44,
+    /// An opcode of the rebases is not known, or its operands do not end.
+    RebaseOpcode = 45,
+    /// A rebase is not in the bytes of a segment that can be written.
+    RebaseSlot = 46,
+    /// There are more rebases than pointers that can be written.
+    RebaseTotal = 47,
+    /// An opcode of the binds is not known, or its operands do not end.
+    BindOpcode = 48,
+    /// A bind is to a library that the image does not load.
+    BindLibrary = 49,
+    /// A bind has no name.
+    BindSymbol = 50,
+    /// A bind is not in the bytes of a segment that can be written.
+    BindSlot = 51,
+    /// A stream has more binds than there are pointers that can be written.
+    BindTotal = 52,
+    /// The names that the binds of a stream look up have more bytes than the stream.
+    BindNames = 53,
 }
 
 // The name of a rule with what comes after it, so that one list serves every reader of names.
@@ -152,6 +181,19 @@ macro_rules! name_before {
             Rule::EncryptedRange => concat!("encrypted-range", $end),
             Rule::CommandSlack => concat!("command-slack", $end),
             Rule::UnclaimedByte => concat!("unclaimed-byte", $end),
+            Rule::TableRepeated => concat!("table-repeated", $end),
+            Rule::FunctionVariants => concat!("function-variants", $end),
+            Rule::TableHome => concat!("table-home", $end),
+            Rule::HeaderHome => concat!("header-home", $end),
+            Rule::RebaseOpcode => concat!("rebase-opcode", $end),
+            Rule::RebaseSlot => concat!("rebase-slot", $end),
+            Rule::RebaseTotal => concat!("rebase-total", $end),
+            Rule::BindOpcode => concat!("bind-opcode", $end),
+            Rule::BindLibrary => concat!("bind-library", $end),
+            Rule::BindSymbol => concat!("bind-symbol", $end),
+            Rule::BindSlot => concat!("bind-slot", $end),
+            Rule::BindTotal => concat!("bind-total", $end),
+            Rule::BindNames => concat!("bind-names", $end),
         }
     };
 }
@@ -199,6 +241,19 @@ impl Rule {
         Rule::EncryptedRange,
         Rule::CommandSlack,
         Rule::UnclaimedByte,
+        Rule::TableRepeated,
+        Rule::FunctionVariants,
+        Rule::TableHome,
+        Rule::HeaderHome,
+        Rule::RebaseOpcode,
+        Rule::RebaseSlot,
+        Rule::RebaseTotal,
+        Rule::BindOpcode,
+        Rule::BindLibrary,
+        Rule::BindSymbol,
+        Rule::BindSlot,
+        Rule::BindTotal,
+        Rule::BindNames,
     ];
 
     /// The name of the rule in reports, in lower case.
@@ -254,6 +309,19 @@ impl Rule {
             | Rule::EncryptedRange
             | Rule::CommandSlack
             | Rule::UnclaimedByte => Profile::Strict,
+            Rule::TableRepeated
+            | Rule::FunctionVariants
+            | Rule::TableHome
+            | Rule::HeaderHome
+            | Rule::RebaseOpcode
+            | Rule::RebaseSlot
+            | Rule::RebaseTotal
+            | Rule::BindOpcode
+            | Rule::BindLibrary
+            | Rule::BindSymbol
+            | Rule::BindSlot
+            | Rule::BindTotal
+            | Rule::BindNames => Profile::Linked,
             _ => Profile::Layout,
         }
     }
