@@ -10,6 +10,7 @@ use Rattle.macho_fields.specs.declared.load_command.Structure.{Structure}
 use Rattle.macho_fields.specs.Symbol.{IsOutside, tables_of}
 use Rattle.macho_fields.specs.Rules.{BreaksImage, BreaksCommands}
 use Rattle.macho_fields.specs.First.{IsUnbroken}
+use Rattle.macho_fields.specs.Universal.{is_universal, IsImage}
 use Rattle.macho_fields.specs.declared.rule.Rule.{Rule}
 use Rattle.macho_fields.specs.declared.rule.Rule.TheVariants as rule
 use Rattle.macho_fields.proofs.Plain.{unbroken_image}
@@ -32,31 +33,23 @@ pub nothing_commanded : (image : List ℕ) → file_type image ≡ 2 → (r : Ru
 nothing_commanded image kind rule.DylibId place h = any_nil _ (executable_names image [] kind h.1)
 nothing_commanded image kind other place h = search rules
 
+-- nor does one that is all header, and what its header does not count
+plain_executable : (image : List ℕ) → is_universal image ≡ false → IsImage image → IsHeader image → file_type image ≡ 2 → AreCommands image [] → IsUnbroken image
+plain_executable image one is good kind no_commands = unbroken_image image one is (λ r place b. nothing_commanded image kind r place (breaks_by_commands image [] good no_commands r place b))
+
 abbrev bare : List ℕ
 bare = header 2 0 0
 
 -- a header alone, with no command
 pub bare_header : IsUnbroken bare
-bare_header = unbroken_image bare refl (lit≤ tt, refl) none
-  where
-    good : IsHeader bare
-    good = record { long_enough = lit≤ tt; kind = refl; commands_inside = lit≤ tt }
-
-    none : (r : Rule) (place : ℕ) → ¬ BreaksImage bare None r place
-    none r place b = nothing_commanded bare refl r place (breaks_by_commands bare [] good (refl, 32, refl) r place b)
+bare_header = plain_executable bare refl (lit≤ tt, refl) (record { long_enough = lit≤ tt; kind = refl; commands_inside = lit≤ tt }) refl (refl, 32, refl)
 
 -- a header that counts no command, and eight bytes after it
 abbrev left_over : List ℕ
 left_over = header 2 0 8 ++ four 0x99 ++ four 8
 
 pub bytes_left_over : IsUnbroken left_over
-bytes_left_over = unbroken_image left_over refl (lit≤ tt, refl) none
-  where
-    good : IsHeader left_over
-    good = record { long_enough = lit≤ tt; kind = refl; commands_inside = lit≤ tt }
-
-    none : (r : Rule) (place : ℕ) → ¬ BreaksImage left_over None r place
-    none r place b = nothing_commanded left_over refl r place (breaks_by_commands left_over [] good (refl, 32, refl) r place b)
+bytes_left_over = plain_executable left_over refl (lit≤ tt, refl) (record { long_enough = lit≤ tt; kind = refl; commands_inside = lit≤ tt }) refl (refl, 32, refl)
 
 -- What one command of a kind without name, library or repetition cannot break.
 module _ (image : List ℕ) (at : ℕ) where
