@@ -5,15 +5,6 @@ use Rattle.macho_fields.specs.Universal.{entry_slice}
 use Rattle.macho_fields.proofs.Entries.{none_more}
 use Rattle.macho_rules.proofs.slow.file.repeats_earlier.Goals as goal
 
-pub arch-arch-requires : goal.arch-arch-requires
-arch-arch-requires c = c.requires
-
-pub loop-k-init : goal.loop-k-init
-loop-k-init c = λ i less h. absurd (omega arith)
-
-pub arch-requires : goal.arch-requires
-arch-requires c = omega (arith, c.requires)
-
 pub returns-then-eq : goal.returns-then-eq
 returns-then-eq c = (λ h. (c.loop-k.k, c.loop-k-test.true, search rules), λ h. refl)
 

@@ -5,15 +5,6 @@ use Rattle.macho_fields.specs.Universal.{SharePlace, entry_slice}
 use Rattle.macho_fields.proofs.Entries.{none_more, sharing_entries}
 use Rattle.macho_rules.proofs.slow.file.shares_with_earlier.Goals as goal
 
-pub span-span-requires : goal.span-span-requires
-span-span-requires c = c.requires
-
-pub loop-k-init : goal.loop-k-init
-loop-k-init c = λ i less h. absurd (omega arith)
-
-pub span-requires : goal.span-requires
-span-requires c = omega (arith, c.requires)
-
 pub returns-then-shares : goal.returns-then-shares
 returns-then-shares c =
     let (place, (first, within), (second, inside)) = c.shares.ensures.0 c.if-shares.true in (
