@@ -1,10 +1,10 @@
 -- What one walk over the elements of an image finds.
-use Rattle.std.specs.Prelude.{◌≡◌, ◌↔◌, ℕ, ◌-◌, ◌^◌, min, nat_lt, List, length, map, filter, Any, Option, Some, None, IfSome}
+use Rattle.std.specs.Prelude.{◌≡◌, ◌↔◌, ℕ, ◌-◌, ◌^◌, min, nat_lt, List, [], ◌∷◌, ◌++◌, length, map, filter, Any, Option, Some, None, IfSome, IfNone}
 use Rattle.std.specs.List.Sorted.{IsNonDecreasingBy}
 use Rattle.macho_fields.specs.FirstPlace.{IsLeastPlace}
 use Rattle.macho_fields.specs.declared.rule.Rule.TheVariants as rule
 use Rattle.macho_image.specs.Opened.{IsOpened}
-use Rattle.macho_spans.specs.Overlap.{sorted_spans}
+use Rattle.macho_spans.specs.Overlap.{SpanListView, sorted_spans}
 use Rattle.macho_spans.specs.SpanOrder.{IsOrderOf}
 use Rattle.macho_spans.specs.declared.overlap.Numbered.{Numbered}
 use Rattle.macho_spans.specs.declared.span.Span.{Span}
@@ -32,6 +32,11 @@ PassesAt image elements place =
 -- the spans that have a place
 abbrev pub occupied : List Span → List Span
 occupied spans = filter (λ span. nat_lt 0 span.len) spans
+
+-- the list has one more span, unless none is kept
+abbrev pub IsPushed : Option SpanListView → Span → Option SpanListView → Type 0
+IsPushed old span new =
+    IfSome new (λ list. IfNone old ⊥ × IfSome old (λ was. list.spans ≡ was.spans ++ span ∷ []))
 
 -- what was noted of these elements
 pub record AreNoted (image : List ℕ) (elements : List Element) (noted : Noted) : Type 0 where

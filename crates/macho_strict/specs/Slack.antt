@@ -1,13 +1,11 @@
 -- What the bytes of a load command are that nothing in it describes.
-use Rattle.std.specs.Prelude.{◌≡◌, ℕ, ◌+◌, ◌≤◌, ◌<◌, List, Contains, IfSome}
+use Rattle.std.specs.Prelude.{ℕ, ◌+◌, ◌≤◌, ◌<◌, List, IfSome}
 use Rattle.macho_fields.specs.Command.{name_start}
 use Rattle.macho_fields.specs.Field.{HasZero}
-use Rattle.macho_fields.specs.Image.{commands_of, command_size}
+use Rattle.macho_fields.specs.Image.{command_size}
 use Rattle.macho_fields.specs.LoadCommands.{records_of}
 use Rattle.macho_fields.specs.NonZero.{IsNonZero}
 use Rattle.macho_fields.specs.declared.load_command.Structure.{Structure}
-use Rattle.macho_image.specs.Command.{CommandView, command_at}
-use Rattle.macho_image.specs.Opened.{IsOpened}
 use Rattle.macho_strict.specs.Rules.{IsSlack}
 
 -- a byte of the command that is not zero, and that nothing in it describes, is at the place

@@ -7,7 +7,7 @@ ghost use Rattle.std.specs.List.Sorted.{IsNonDecreasingBy};
 ghost use Rattle.macho_spans.specs.Overlap.{SharesEarlier, WereAdded, sorted_spans};
 ghost use Rattle.macho_fields.specs.Bytes.{bytes_of};
 ghost use Rattle.macho_spans.specs.declared.span.Span.{Span};
-ghost use Rattle.macho_strict.specs.Claims.{least_option, PassesAt};
+ghost use Rattle.macho_strict.specs.Claims.{least_option, PassesAt, IsPushed};
 ghost use Rattle.macho_strict.specs.declared.elements.Element.{Element};
 ghost use Rattle.macho_strict.specs.Gaps.{ArePassed, IsStray};
 ghost use Rattle.macho_strict.specs.Sharing.{IsFirstSharing, tagged_elements};
@@ -45,12 +45,16 @@ pub(crate) struct Noted<'a> {
 }
 
 impl<'a> Noted<'a> {
-    ghost use Rattle.std.specs.Prelude.{◌≡◌, ◌∷◌, ◌++◌, [], List};
+    ghost use Rattle.std.specs.Prelude.{◌≡◌, ◌<◌, ◌∷◌, ◌++◌, [], List, ℕ, IfSome};
     ghost use Rattle.macho_fields.specs.Bytes.{bytes_of};
     ghost use Rattle.macho_image.specs.Command.{command_of};
     ghost use Rattle.macho_image.specs.Opened.{IsCommandOf};
-    ghost use Rattle.macho_strict.specs.Claims.{AreNoted};
+    ghost use Rattle.macho_fields.specs.FirstPlace.{IsLeastPlace};
+    ghost use Rattle.macho_spans.specs.declared.span.Span.{Span};
+    ghost use Rattle.macho_strict.specs.Claims.{AreNoted, PassesAt, IsPushed};
     ghost use Rattle.macho_strict.specs.Elements.{command_elements, headers as headers_of};
+    ghost use Rattle.macho_strict.specs.Gaps.{ArePassed};
+    ghost use Rattle.macho_strict.specs.declared.gaps.Wanted.{Wanted};
     ghost use Rattle.macho_strict.specs.declared.elements.Element.{Element};
 
     // Notes the headers of the image.
@@ -100,11 +104,27 @@ impl<'a> Noted<'a> {
     {
         self.count = self.count.saturating_add(1);
         self.order.note(element.span, element.described);
-        if element.span.len == 0 {
-            return;
+        if element.span.len > 0 {
+            self.note_bytes(bytes, element);
         }
+    }
+
+    // Notes the bytes of an element that has some.
+    fn note_bytes(&mut self, bytes: Bytes, element: Element)
+        requires { 0 < element.span.len }
+        ensures count { self.new.count ≡ self.old.count }
+        ensures order { self.new.order ≡ self.old.order }
+        ensures outside { (elements : List Element)
+            → IsLeastPlace (PassesAt (bytes_of bytes.entry) elements) self.old.outside
+            → IsLeastPlace (PassesAt (bytes_of bytes.entry) (elements ++ element ∷ []))
+            self.new.outside }
+        ensures list { IsPushed self.old.list element.span self.new.list }
+        ensures gaps { (bytes : List ℕ) (spans : List Span)
+            → IfSome self.old.gaps (ArePassed Wanted.NonZero bytes spans)
+            → IfSome self.new.gaps (ArePassed Wanted.NonZero bytes (spans ++ element.span ∷ [])) }
+    {
         self.outside = outside_with(self.outside, bytes, element);
-        self.list = list_with(self.list.take(), element.span);
+        push_kept(&mut self.list, element.span);
         pass_between(&mut self.gaps, element.span);
     }
 }
@@ -133,14 +153,16 @@ fn pass_between(gaps: &mut Option<Gaps>, span: Span)
     }
 }
 
-// The list with one more span, if there is one, and there is memory.
-fn list_with(list: Option<SpanList>, span: Span) -> Option<SpanList>
-    ensures { IfSome result (λ new. IfNone list ⊥
-        × IfSome list (λ old. new.spans ≡ old.spans ++ span ∷ [])) }
+// Adds one more span to the list, if there is one. Without memory the list is given up.
+fn push_kept(list: &mut Option<SpanList>, span: Span)
+    ensures { IsPushed list.old span list.new }
 {
-    let mut list = list?;
-    list.push(span).ok()?;
-    Some(list)
+    let Some(kept) = list else {
+        return;
+    };
+    if kept.push(span).is_err() {
+        *list = None;
+    }
 }
 
 // The lesser of two places, of which either may be missing.

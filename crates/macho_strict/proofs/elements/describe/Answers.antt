@@ -1,4 +1,4 @@
-use Rattle.std.proofs.Common.{◌≡◌, ◌∙◌, List, Option, Some, map, sym, ap}
+use Rattle.std.proofs.Common.{◌≡◌, ◌∙◌, List, Some, map, sym, ap}
 use Rattle.std.specs.Option.{option_map}
 use Rattle.macho_fields.specs.Bytes.{bytes_of}
 use Rattle.macho_image.specs.Command.{command_of}

@@ -1,4 +1,4 @@
-use Rattle.std.proofs.Common.{◌⊎◌, ◌↔◌, ◌∙◌, inl, inr, refl, sym, arith}
+use Rattle.std.proofs.Common.{◌⊎◌, ◌↔◌, ◌∙◌, inl, inr, sym, arith}
 use Rattle.std.specs.Prelude.{IsTrue}
 use Rattle.std.proofs.lemmas.Bool.{cases_Bool, false≢true}
 use Rattle.macho_fields.specs.Bytes.{bytes_of}
@@ -19,16 +19,16 @@ returns c =
     let encrypted : IsTrue c.if-self.self ↔ (IsTrue c.args.self.now.encrypted ⊎ IsEncrypted image v) = elim c.if-self.branch [
       | then-self w ↦ (λ _. inl w.if-self.true, λ _. w.self-is ∙ w.if-self.true)
       | else-self w ↦ (
-          λ is. inr (found_has _ _ w.encrypted.result w.encrypted.ensures (sym w.is_some-self.ensures ∙ (sym w.self-is ∙ is))),
-          λ either. elim (cases_Bool c.if-self.self) [
-            | inl is ↦ is
-            | inr not ↦
-                elim either [
-                  | inl before ↦ absurd (false≢true (sym w.if-self.false ∙ before))
-                  | inr here ↦ absurd (none_has _ _ w.encrypted.result w.encrypted.ensures (sym w.is_some-self.ensures ∙ (sym w.self-is ∙ not)) here)
-                ]
-          ],
-        )
+        λ is. inr (found_has _ _ w.encrypted.result w.encrypted.ensures (sym w.is_some-self.ensures ∙ (sym w.self-is ∙ is))),
+        λ either. elim (cases_Bool c.if-self.self) [
+          | inl is ↦ is
+          | inr not ↦
+              elim either [
+                | inl before ↦ absurd (false≢true (sym w.if-self.false ∙ before))
+                | inr here ↦ absurd (none_has _ _ w.encrypted.result w.encrypted.ensures (sym w.is_some-self.ensures ∙ (sym w.self-is ∙ not)) here)
+              ]
+        ],
+      )
     ] in
     record {
       end = omega (arith, c.from.ensures);
