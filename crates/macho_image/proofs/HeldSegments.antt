@@ -6,10 +6,10 @@ use Rattle.std.proofs.lemmas.Simd.{map-map}
 use Rattle.std.proofs.lemmas.Bool.{eqb-true}
 use Rattle.std.proofs.lemmas.List.Elements.{All-contains_itself, All-map, All-tail}
 use Rattle.std.proofs.lemmas.List.Sums.{sum_by-cons}
-use Rattle.macho_fields.specs.Image.{command_cmd, command_size, commands_end, commands_of, Follow, AreCommands}
+use Rattle.macho_fields.specs.Image.{command_cmd, command_size, commands_end, commands_of, Follow}
 use Rattle.macho_fields.specs.Segment.{nsects, segments_of, sections_in, section_count}
 use Rattle.macho_fields.specs.declared.header.loader.TheConstants as loader
-use Rattle.macho_fields.proofs.Opened.{OpenedFacts, sections_inside, command_inside}
+use Rattle.macho_fields.proofs.Opened.{sections_inside, command_inside}
 use Rattle.macho_fields.proofs.Parts.{with_cmd_is, with_cmd_among}
 use Rattle.macho_image.specs.Opened.{IsOpened}
 use Rattle.macho_image.specs.Command.{CommandView, command_at}

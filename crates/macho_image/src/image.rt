@@ -15,7 +15,7 @@ ghost use Rattle.macho_image.specs.Header.{IsKind};
 ghost use Rattle.macho_image.specs.Opened.{IsOpened};
 ghost use Rattle.macho_image.specs.Table.{HaveTables};
 ghost use Rattle.macho_image.specs.Views.{HaveSegments};
-ghost use Rattle.macho_image.specs.Walk.{CanWalk};
+ghost use Rattle.macho_image.specs.Walk.{CanWalk, HasLandmarks};
 
 use crate::command::{Command, Commands};
 use crate::landmarks::{CommandRange, Landmarks};
@@ -87,6 +87,21 @@ impl<'a> Image<'a> {
             bytes,
             landmarks: Landmarks::of(bytes),
         }
+    }
+
+    /// The image of bytes with these landmarks, which were found before. The bytes are not scanned.
+    pub fn with_landmarks(bytes: Bytes<'a>, landmarks: Landmarks) -> Image<'a>
+        requires { HasLandmarks (bytes_of bytes) landmarks }
+        ensures { result ≡ bytes_of bytes.entry }
+    {
+        Image { bytes, landmarks }
+    }
+
+    /// Where the image has the commands that its views look for.
+    pub fn landmarks(&self) -> Landmarks
+        ensures { HasLandmarks self.now result }
+    {
+        self.landmarks
     }
 
     /// All bytes of the image.

@@ -53,10 +53,10 @@ impl CommandRange {
     }
 }
 
-// Where an image has the commands of which there is at most one, its segments, and the commands that
-// name a table.
+/// Where an image has the commands of which there is at most one, its segments, and the commands that
+/// name a table. With them an image is opened again without another scan.
 #[derive(Clone, Copy)]
-pub(crate) struct Landmarks {
+pub struct Landmarks {
     pub(crate) unique: UniquePlaces,
     pub(crate) segments: CommandRange,
     pub(crate) tables: CommandRange,

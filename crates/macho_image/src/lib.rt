@@ -31,6 +31,7 @@ pub use command::{Command, Commands};
 pub use dysymtab::Dysymtab;
 pub use image::{FileType, Image, Kind};
 pub use indirect::{Indirect, Indirects};
+pub use landmarks::Landmarks;
 pub use library::{Dylib, Dylibs};
 pub use main_command::MainCommand;
 pub use mapped::MappedSegments;

@@ -26,10 +26,11 @@ use Rattle.macho_fat.specs.declared.fault.FatFault.TheVariants as fault
 use Rattle.macho_fat.specs.declared.slice.Slice.{Slice}
 use Rattle.macho_image.specs.Opened.{IsOpened}
 use Rattle.macho_rules.specs.Check.{KeptBefore}
-use Rattle.macho_rules.specs.Verdict.{IsVerified, IsRefusal, IsImageRefusal, IsSliceRefusal, refusal_of}
+use Rattle.macho_rules.specs.Verdict.{WasFound, IsVerified, IsRefusal, IsImageRefusal, IsSliceRefusal, refusal_of}
 use Rattle.macho_rules.proofs.KeptSlices.{KeptSlices, file_first, slice_first}
 use Rattle.macho_rules.proofs.FileMemory.{slice_takes}
 use Rattle.macho_rules.specs.declared.refusal.Refusal.{Refusal}
+use Rattle.macho_rules.specs.declared.verdict.Found.{Found}
 use Rattle.macho_rules.specs.declared.refusal.Refusal.TheVariants as refusal
 
 -- a broken rule that is passed on
@@ -96,17 +97,22 @@ fat_refused file fault.Memory takes = inl takes
 
 -- What a verified file keeps
 
-pub verified : (file : List ℕ) (slices : List Slice) → IsUnbroken file → AreSlices file slices → IsVerified file slices
+pub verified : (file : List ℕ) (slices : List Slice) (found : Option Found) → IsUnbroken file → AreSlices file slices → IfSome found (WasFound file) → IsVerified file slices found
 unfolding IsVerified
-verified file slices unbroken are = record { unbroken = unbroken; all = are }
+verified file slices found unbroken all was = record { unbroken = unbroken; all = all; last = was }
 
-pub verified_unbroken : (file : List ℕ) (slices : List Slice) → IsVerified file slices → IsUnbroken file
-unfolding IsVerified
-verified_unbroken file slices keeps = keeps.unbroken
+module _ (file : List ℕ) (slices : List Slice) (found : Option Found) (keeps : IsVerified file slices found) where
+  pub verified_unbroken : IsUnbroken file
+  unfolding IsVerified
+  verified_unbroken = keeps.unbroken
 
-pub verified_slices : (file : List ℕ) (slices : List Slice) → IsVerified file slices → AreSlices file slices
-unfolding IsVerified
-verified_slices file slices keeps = keeps.all
+  pub verified_slices : AreSlices file slices
+  unfolding IsVerified
+  verified_slices = keeps.all
+
+  pub verified_found : IfSome found (WasFound file)
+  unfolding IsVerified
+  verified_found = keeps.last
 
 -- a slice of an unbroken file lies in it
 pub file_inside : (file : List ℕ) → IsUnbroken file → (k : ℕ) (slice : FileSlice) → Some slice ≡ slice_get (slices_of file) k → slice.start + slice.size ≤ length file

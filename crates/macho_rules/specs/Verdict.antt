@@ -1,7 +1,8 @@
 -- The verdict on a file, on a slice of it and on an image, and where it takes memory.
-use Rattle.std.specs.Prelude.{◌≡◌, ◌⊎◌, ℕ, ◌+◌, ◌<◌, List, Any, Option, None}
+use Rattle.std.specs.Prelude.{◌≡◌, ◌⊎◌, ℕ, ◌+◌, ◌<◌, List, Any, Option, None, IfSome}
 use Rattle.macho_fields.specs.Universal.{FileSlice, slice_bytes, IsImage}
 use Rattle.macho_fields.specs.Rules.{BreaksImage}
+use Rattle.macho_fields.specs.Field.{part}
 use Rattle.macho_fields.specs.First.{rank, IsFirstBroken, IsUnbroken}
 use Rattle.macho_fields.specs.Layers.{IsLeast, KeptBelow}
 use Rattle.macho_fields.specs.Segment.{all_segments, vmsize}
@@ -14,8 +15,10 @@ use Rattle.macho_fat.specs.declared.fault.FatFault.{FatFault}
 use Rattle.macho_fat.specs.declared.fault.FatFault.TheVariants as fault
 use Rattle.macho_spans.specs.Overlap.{IsUnordered}
 use Rattle.macho_rules.specs.Mapped.{mapped_memory}
+use Rattle.macho_image.specs.Walk.{HasLandmarks}
 use Rattle.macho_rules.specs.declared.refusal.Refusal.{Refusal}
 use Rattle.macho_rules.specs.declared.refusal.Refusal.TheVariants as refusal
+use Rattle.macho_rules.specs.declared.verdict.Found.{Found}
 
 -- the image has a mapped segment
 abbrev pub HasMapped : List ℕ → Type 0
@@ -70,10 +73,15 @@ abbrev pub refusal_of : FatFault → Refusal
 refusal_of (fault.Broken b) = refusal.Broken b
 refusal_of fault.Memory = refusal.Memory
 
--- the file breaks no rule, and these are its slices
-pub record HasNoBreak (file : List ℕ) (slices : List Slice) : Type 0 where
+-- the landmarks are those of the image in the span
+abbrev pub WasFound : List ℕ → Found → Type 0
+WasFound file found = HasLandmarks (part found.span.start found.span.len file) found.landmarks
+
+-- the file breaks no rule, these are its slices, and this was found of one of its images
+pub record HasNoBreak (file : List ℕ) (slices : List Slice) (found : Option Found) : Type 0 where
   pub unbroken : IsUnbroken file
   pub all : AreSlices file slices
+  pub last : IfSome found (WasFound file)
 
-unfoldable pub IsVerified : List ℕ → List Slice → Type 0
-IsVerified file slices = HasNoBreak file slices
+unfoldable pub IsVerified : List ℕ → List Slice → Option Found → Type 0
+IsVerified file slices found = HasNoBreak file slices found

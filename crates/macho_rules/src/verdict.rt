@@ -3,6 +3,7 @@
 ghost use Rattle.std.specs.Prelude.{◌≡◌, ◌+◌, ◌≤◌, ◌<◌, ◌^◌, ◌↔◌, OnOk, IfOk, IfErr, IfSome, IsSome, IsSomeAnd, IsTrue, length, slice_get, None};
 ghost use Rattle.std.specs.Option.{option_map};
 ghost use Rattle.macho_fields.specs.Bytes.{bytes_of};
+ghost use Rattle.macho_fields.specs.Field.{part};
 ghost use Rattle.macho_fields.specs.First.{IsUnbroken};
 ghost use Rattle.macho_fields.specs.Layers.{NothingBreaks};
 ghost use Rattle.macho_fields.specs.Loader.{IsSound, IsSoundImage};
@@ -10,21 +11,31 @@ ghost use Rattle.macho_fields.specs.Rules.{BreaksFile, BreaksImage};
 ghost use Rattle.macho_fields.specs.Universal.{slice_bytes, IsImage, slices_of, HasImage};
 ghost use Rattle.macho_fields.specs.Image.{commands_of};
 ghost use Rattle.macho_fat.specs.Slices.{slice_of, AreSlices};
-ghost use Rattle.macho_rules.specs.Verdict.{IsRefusal, IsImageRefusal, IsSliceRefusal};
+ghost use Rattle.macho_image.specs.Walk.{HasLandmarks};
+ghost use Rattle.macho_rules.specs.Verdict.{IsRefusal, IsImageRefusal, IsSliceRefusal, WasFound};
 
 use crate::check::check_image;
 use crate::refusal::Refusal;
 use macho_fat::{Slice, SliceList, slices};
-use macho_fields::{Break, Bytes};
-use macho_image::Image;
+use macho_fields::{Break, Bytes, Span};
+use macho_image::{Image, Landmarks};
 use std::alloc::Global;
 use std::marker::Model;
+
+// The landmarks of the image in a span of a file.
+#[derive(Clone, Copy)]
+struct Found {
+    span: Span,
+    landmarks: Landmarks,
+}
 
 /// A file that breaks no rule, with its slices.
 #[derive(Drop)]
 pub struct Verified<'a> {
     file: Bytes<'a>,
     slices: SliceList,
+    // What was found of the last image, which need not be scanned again.
+    found: Option<Found>,
 }
 
 impl<'a> Model for Verified<'a> {
@@ -38,7 +49,7 @@ impl<'a> Model for Verified<'a> {
     ghost view = { λ verified. bytes_of verified.file };
 
     ghost invariant = { λ verified.
-        IsVerified (bytes_of verified.file) (slices_in verified.slices) };
+        IsVerified (bytes_of verified.file) (slices_in verified.slices) verified.found };
 }
 
 /// Decides the rules of a file, in their order: accepts it, or returns the first broken one, with
@@ -60,35 +71,47 @@ pub fn verify<'a>(alloc: Global, file: &'a [u8]) -> Result<Verified<'a>, Refusal
 {
     let file = Bytes::new(file);
     let slices = slices(alloc, file)?;
-    check_slices(alloc, file, slices.as_slice())?;
-    Ok(Verified { file, slices })
+    let found = check_slices(alloc, file, slices.as_slice())?;
+    Ok(Verified {
+        file,
+        slices,
+        found,
+    })
 }
 
-// Decides the rules of each 64-bit slice, one slice after the other.
-fn check_slices(alloc: Global, file: Bytes, slices: &[Slice]) -> Result<(), Refusal>
+// Decides the rules of each 64-bit slice, one slice after the other. It returns what was found of the
+// last one.
+fn check_slices(alloc: Global, file: Bytes, slices: &[Slice]) -> Result<Option<Found>, Refusal>
     requires slices { AreSlices (bytes_of file) slices.now }
     requires file_rules { NothingBreaks (BreaksFile (bytes_of file)) }
     ensures unbroken { OnOk result (IsUnbroken (bytes_of file.entry)) }
+    ensures found { IfOk result (λ found. IfSome found (WasFound (bytes_of file.entry))) }
     ensures refused { IfErr result (IsRefusal (bytes_of file.entry)) }
 {
+    let mut found = None;
     for slice in slices {
         if slice.read {
-            check_slice(alloc, file, slice)?;
+            found = Some(check_slice(alloc, file, slice)?);
         }
     }
-    Ok(())
+    Ok(found)
 }
 
-// Decides the rules of one slice. The place of a break is its offset in the file.
-fn check_slice(alloc: Global, file: Bytes, slice: &Slice) -> Result<(), Refusal>
+// Decides the rules of one slice, and returns what was found of its image. The place of a break is its
+// offset in the file.
+fn check_slice(alloc: Global, file: Bytes, slice: &Slice) -> Result<Found, Refusal>
     requires { (slice_of slice.now).start + (slice_of slice.now).size ≤ length (bytes_of file) }
     ensures unbroken { OnOk result (NothingBreaks
         (BreaksImage (slice_bytes (bytes_of file.entry) (slice_of slice.now)) slice.now.arch)) }
+    ensures found { IfOk result (WasFound (bytes_of file.entry)) }
     ensures refused { IfErr result (IsSliceRefusal (bytes_of file.entry) (slice_of slice.now)) }
 {
     let bytes = file.slice(slice.span);
     match check_bytes(alloc, bytes, slice.arch) {
-        Ok(()) => Ok(()),
+        Ok(landmarks) => Ok(Found {
+            span: slice.span,
+            landmarks,
+        }),
         Err(Refusal::Broken(broken)) => {
             let place = slice.span.start + broken.place;
             Err(Refusal::Broken(Break::at(broken.rule, place)))
@@ -97,13 +120,16 @@ fn check_slice(alloc: Global, file: Bytes, slice: &Slice) -> Result<(), Refusal>
     }
 }
 
-// Decides the rules of an image, which a universal file may name for an architecture.
-fn check_bytes(alloc: Global, bytes: Bytes, arch: Option<(u32, u32)>) -> Result<(), Refusal>
+// Decides the rules of an image, which a universal file may name for an architecture. It returns the
+// landmarks of the image.
+fn check_bytes(alloc: Global, bytes: Bytes, arch: Option<(u32, u32)>) -> Result<Landmarks, Refusal>
     ensures unbroken { OnOk result (NothingBreaks (BreaksImage (bytes_of bytes.entry) arch)) }
+    ensures landmarks { IfOk result (HasLandmarks (bytes_of bytes.entry)) }
     ensures refused { IfErr result (IsImageRefusal (bytes_of bytes.entry) arch) }
 {
     let image = Image::open(bytes, arch)?;
-    check_image(alloc, &image)
+    check_image(alloc, &image)?;
+    Ok(image.landmarks())
 }
 
 impl<'a> Verified<'a> {
@@ -137,7 +163,7 @@ impl<'a> Verified<'a> {
     }
 
     /// The image in the slice with this index, or `None` if the slice is of another kind, or there
-    /// is none. It rescans the commands of the image, and judges nothing.
+    /// is none. It judges nothing. It rescans the commands of the image, unless this is the last one.
     pub fn image(&self, index: u64) -> Option<Image<'a>>
         ensures is_image { IsSome result ↔ HasImage self.now index }
         ensures image { IfSome result (λ image. IsSomeAnd (slice_get (slices_of self.now) index)
@@ -145,24 +171,40 @@ impl<'a> Verified<'a> {
         ensures unbroken { IfSome result (λ image. NothingBreaks (BreaksImage image None)) }
         ensures sound { IfSome result (λ image. IsSoundImage image (commands_of image)) }
     {
-        let bytes = self.image_bytes(index)?;
-        Some(Image::reopen(bytes))
+        let (span, bytes) = self.image_bytes(index)?;
+        Some(self.reopen(span, bytes))
     }
 
-    // The bytes of the image in the slice with this index, or `None` if the slice is of another
-    // kind, or there is none.
-    fn image_bytes(&self, index: u64) -> Option<Bytes<'a>>
+    // The image of these bytes, which lie in the span of the file.
+    fn reopen(&self, span: Span, bytes: Bytes<'a>) -> Image<'a>
+        requires bytes { bytes_of bytes ≡ part span.start span.len self.now }
+        requires unbroken { NothingBreaks (BreaksImage (bytes_of bytes) None) }
+        ensures { result ≡ bytes_of bytes.entry }
+    {
+        if let Some(found) = self.found
+            && found.span == span
+        {
+            return Image::with_landmarks(bytes, found.landmarks);
+        }
+        Image::reopen(bytes)
+    }
+
+    // Where the image in the slice with this index lies in the file, and its bytes, or `None` if the
+    // slice is of another kind, or there is none.
+    fn image_bytes(&self, index: u64) -> Option<(Span, Bytes<'a>)>
         ensures is_image { IsSome result ↔ HasImage self.now index }
-        ensures bytes { IfSome result (λ bytes. IsSomeAnd (slice_get (slices_of self.now) index)
-            (λ slice. bytes_of bytes ≡ slice_bytes self.now slice)) }
-        ensures unbroken { IfSome result (λ bytes.
-            NothingBreaks (BreaksImage (bytes_of bytes) None)) }
+        ensures bytes { IfSome result (λ image. IsSomeAnd (slice_get (slices_of self.now) index)
+            (λ slice. bytes_of image.1 ≡ slice_bytes self.now slice)) }
+        ensures span { IfSome result (λ image.
+            bytes_of image.1 ≡ part image.0.start image.0.len self.now) }
+        ensures unbroken { IfSome result (λ image.
+            NothingBreaks (BreaksImage (bytes_of image.1) None)) }
     {
         let slice = self.slice(index)?;
         if !slice.read {
             return None;
         }
         let bytes = self.bytes().slice(slice.span);
-        Some(bytes)
+        Some((slice.span, bytes))
     }
 }

@@ -15,11 +15,11 @@ returns-in_err-slices-clause-refused c =
 
 pub invariant_of-result : goal.invariant_of-result
 invariant_of-result c =
-    verified (bytes_of c.new-file.result) (slices_in c.in_ok-slices.slices) c.in_ok-check_slices.ensures.unbroken
-    (record { all = c.in_ok-slices.ensures.slices; read = c.in_ok-slices.ensures.read })
+    verified (bytes_of c.new-file.result) (slices_in c.in_ok-slices.slices) c.in_ok-found.found c.in_ok-found.ensures.unbroken
+    (record { all = c.in_ok-slices.ensures.slices; read = c.in_ok-slices.ensures.read }) c.in_ok-found.ensures.found
 
 pub returns-clause-sound : goal.returns-clause-sound
-returns-clause-sound c = unbroken_is_sound c.args.file.now (subst IsUnbroken c.new-file.ensures c.in_ok-check_slices.ensures.unbroken)
+returns-clause-sound c = unbroken_is_sound c.args.file.now (subst IsUnbroken c.new-file.ensures c.in_ok-found.ensures.unbroken)
 
 pub returns-clause-refused : goal.returns-clause-refused
 returns-clause-refused c = tt

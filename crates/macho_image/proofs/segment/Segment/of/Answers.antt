@@ -1,6 +1,6 @@
 use Rattle.std.proofs.Common.{◌∙◌, sym, ap}
 use Rattle.macho_fields.specs.Bytes.{bytes_of}
-use Rattle.macho_image.specs.Command.{CommandView, command_of}
+use Rattle.macho_image.specs.Command.{CommandView}
 use Rattle.macho_image.proofs.HeldSegments.{held_segment}
 use Rattle.macho_image.proofs.segment.Segment.of.Goals as goal
 

@@ -30,3 +30,6 @@ returns-clause-unbroken c =
     let same : bytes_of c.slice-bytes.result ≡ slice_bytes c.args.self.now slice = c.slice-bytes.ensures ∙ ap (λ (bytes : List ℕ). slice_bytes bytes slice) c.bytes.ensures.bytes in
     subst (λ (bytes : List ℕ). NothingBreaks (BreaksImage bytes None)) (sym same)
     (file_keeps c.args.self.now c.bytes.ensures.unbroken c.args.index slice c.in_ok-slice.ensures.slice image)
+
+pub returns-clause-span : goal.returns-clause-span
+returns-clause-span c = c.slice-bytes.ensures ∙ ap (λ (bytes : List ℕ). slice_bytes bytes (slice_of c.in_ok-slice.slice.now)) c.bytes.ensures.bytes

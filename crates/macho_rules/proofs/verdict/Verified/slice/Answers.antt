@@ -13,7 +13,7 @@ returns-clause-slice c =
     let slices = slices_in c.self.inside.slices in
     let found = rw c.as_slice.ensures at c.get.ensures.lookup in
     subst (λ (bytes : List ℕ). option_map (λ s. slice_of s.now) c.get.result ≡ slice_get (slices_of bytes) c.args.index) c.self.view_is
-    (slice_given file slices (verified_slices file slices c.self.invariant) c.args.index c.get.result found.0 found.1)
+    (slice_given file slices (verified_slices file slices c.self.inside.found c.self.invariant) c.args.index c.get.result found.0 found.1)
 
 pub returns-clause-read : goal.returns-clause-read
 returns-clause-read c =
@@ -21,4 +21,4 @@ returns-clause-read c =
     let slices = slices_in c.self.inside.slices in
     let found = rw c.as_slice.ensures at c.get.ensures.lookup in
     subst (λ (bytes : List ℕ). IfSome c.get.result (λ s. IsTrue s.now.read ↔ IsImage (slice_bytes bytes (slice_of s.now)))) c.self.view_is
-    (read_given file slices (verified_slices file slices c.self.invariant) c.args.index c.get.result found.0 found.1)
+    (read_given file slices (verified_slices file slices c.self.inside.found c.self.invariant) c.args.index c.get.result found.0 found.1)

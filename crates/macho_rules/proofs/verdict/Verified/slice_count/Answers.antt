@@ -7,5 +7,5 @@ use Rattle.macho_rules.proofs.verdict.Verified.slice_count.Goals as goal
 
 pub returns : goal.returns
 returns c =
-    let counted = slices_counted _ _ (verified_slices (bytes_of c.self.inside.file) (slices_in c.self.inside.slices) c.self.invariant) in
+    let counted = slices_counted _ _ (verified_slices (bytes_of c.self.inside.file) (slices_in c.self.inside.slices) c.self.inside.found c.self.invariant) in
     ap length c.as_slice.ensures ∙ (counted ∙ ap (λ file. length (slices_of file)) c.self.view_is)
