@@ -17,7 +17,9 @@ ghost use Rattle.macho_strict.specs.declared.gaps.Wanted.{Wanted};
 use crate::elements::{Element, Elements, describe, headers};
 use crate::gaps::{Gaps, Wanted, stray_in};
 use crate::overlap::{count_of, span_list};
-use macho_fields::{Break, Bytes, Rule, Sharing, Span, SpanList, SpanOrder, SpansByStart};
+use macho_fields::{
+    Break, Bytes, Rule, Sharing, Span, SpanList, SpanOrder, SpansByStart, Structure,
+};
 use macho_image::{Command, Image};
 use std::alloc::{AllocError, Global};
 use std::marker::Model;
@@ -47,6 +49,7 @@ pub(crate) struct Noted<'a> {
 impl<'a> Noted<'a> {
     ghost use Rattle.std.specs.Prelude.{◌≡◌, ◌<◌, ◌∷◌, ◌++◌, [], List, ℕ, IfSome};
     ghost use Rattle.macho_fields.specs.Bytes.{bytes_of};
+    ghost use Rattle.macho_fields.specs.LoadCommands.{structure_of};
     ghost use Rattle.macho_image.specs.Command.{command_of};
     ghost use Rattle.macho_image.specs.Opened.{IsCommandOf};
     ghost use Rattle.macho_fields.specs.FirstPlace.{IsLeastPlace};
@@ -85,14 +88,20 @@ impl<'a> Noted<'a> {
         }
     }
 
-    // Notes what one more command of an image that has these bytes describes.
-    pub(crate) fn note_command(&mut self, bytes: Bytes<'a>, command: &Command)
-        requires { IsCommandOf (bytes_of bytes) (command_of command.now) }
+    // Notes what one more command of an image that has these bytes describes, by its structure.
+    pub(crate) fn note_command(
+        &mut self,
+        bytes: Bytes<'a>,
+        command: &Command,
+        structure: Option<Structure>,
+    )
+        requires structure { structure ≡ structure_of command.now.cmd }
+        requires listed { IsCommandOf (bytes_of bytes) (command_of command.now) }
         ensures { (elements : List Element) → AreNoted (bytes_of bytes.entry) elements self.old
             → AreNoted (bytes_of bytes.entry)
             (elements ++ command_elements (bytes_of bytes.entry) command.now.place) self.new }
     {
-        for element in describe(bytes, command) {
+        for element in describe(bytes, command, structure) {
             self.note(bytes, element);
         }
     }

@@ -4,6 +4,7 @@
 ghost use Rattle.std.specs.Prelude.{◌≡◌, Some, MatchOption};
 ghost use Rattle.macho_fields.specs.Bytes.{bytes_of};
 ghost use Rattle.macho_fields.specs.FirstPlace.{IsLeastPlace};
+ghost use Rattle.macho_fields.specs.LoadCommands.{structure_of};
 ghost use Rattle.macho_image.specs.Command.{command_of};
 ghost use Rattle.macho_image.specs.Opened.{IsCommandOf};
 ghost use Rattle.macho_strict.specs.Commands.{NotesOne, IsNotedOf};
@@ -12,8 +13,8 @@ ghost use Rattle.macho_strict.specs.Slack.{IsNonZeroSlack};
 use crate::claims::Noted;
 use crate::encrypted::encrypted;
 use crate::slack::first_slack;
-use macho_fields::Bytes;
 use macho_fields::header::loader::MACH_HEADER_64_SIZE;
+use macho_fields::{Bytes, Structure, structure_of};
 use macho_image::{Command, Image};
 use std::alloc::Global;
 
@@ -53,16 +54,23 @@ impl<'a> NotedCommands<'a> {
         requires { IsCommandOf (bytes_of bytes) (command_of command.now) }
         ensures { NotesOne (bytes_of bytes.entry) (command_of command.now) self.old self.new }
     {
+        let structure = structure_of(command.cmd);
         self.end = command.place + u64::from(command.size);
-        self.slack = slack_with(self.slack, bytes, command);
+        self.slack = slack_with(self.slack, bytes, command, structure);
         self.encrypted = self.encrypted || encrypted(bytes, command).is_some();
-        self.elements.note_command(bytes, command);
+        self.elements.note_command(bytes, command, structure);
     }
 }
 
 // The least place of slack of some commands, with one more, which comes after them.
-fn slack_with(slack: Option<u64>, bytes: Bytes, command: &Command) -> Option<u64>
-    requires { IsCommandOf (bytes_of bytes) (command_of command.now) }
+fn slack_with(
+    slack: Option<u64>,
+    bytes: Bytes,
+    command: &Command,
+    structure: Option<Structure>,
+) -> Option<u64>
+    requires structure { structure ≡ structure_of command.now.cmd }
+    requires listed { IsCommandOf (bytes_of bytes) (command_of command.now) }
     ensures { MatchOption slack
         (IsLeastPlace (IsNonZeroSlack (bytes_of bytes.entry) command.now.place) result)
         (λ place. result ≡ Some place) }
@@ -70,5 +78,5 @@ fn slack_with(slack: Option<u64>, bytes: Bytes, command: &Command) -> Option<u64
     if slack.is_some() {
         return slack;
     }
-    first_slack(bytes, command)
+    first_slack(bytes, command, structure)
 }

@@ -2,6 +2,7 @@
 
 ghost use Rattle.std.specs.Prelude.{◌≡◌};
 ghost use Rattle.macho_fields.specs.Bytes.{bytes_of};
+ghost use Rattle.macho_fields.specs.LoadCommands.{structure_of};
 ghost use Rattle.macho_image.specs.Command.{command_of};
 ghost use Rattle.macho_image.specs.Opened.{IsCommandOf};
 ghost use Rattle.macho_strict.specs.Elements.{contents as contents_of, relocations as relocations_of};
@@ -9,7 +10,7 @@ ghost use Rattle.macho_strict.specs.Elements.{command_elements, described_tables
 
 use macho_fields::header::loader::{LC_ENCRYPTION_INFO_64, LINKEDIT_DATA_COMMAND_SIZE};
 use macho_fields::header::reloc::RELOCATION_INFO_SIZE;
-use macho_fields::{Bytes, Span, TableFields, structure_of, unlisted_tables};
+use macho_fields::{Bytes, Span, Structure, TableFields, structure_of, unlisted_tables};
 use macho_image::{Command, Commands, Image, Section, Sections, Segment};
 use std::marker::Model;
 
@@ -67,15 +68,16 @@ fn relocations(section: &Section) -> Element
     }
 }
 
-// The tables of a command with this `cmd` and of this size that are elements. The encrypted range is
-// not an element: it covers sections.
-fn described_tables(cmd: u32, size: u32) -> &'static [TableFields]
+// The tables of a command with this `cmd`, of this size and structure, that are elements. The encrypted
+// range is not an element: it covers sections.
+fn described_tables(cmd: u32, size: u32, structure: Option<Structure>) -> &'static [TableFields]
+    requires { structure ≡ structure_of cmd }
     ensures { result.now ≡ described_tables cmd size }
 {
     if cmd == LC_ENCRYPTION_INFO_64 {
         return &[];
     }
-    match structure_of(cmd) {
+    match structure {
         Some(structure) => structure.tables(),
         None if u64::from(size) < LINKEDIT_DATA_COMMAND_SIZE => &[],
         None => unlisted_tables(cmd),
@@ -170,9 +172,14 @@ impl<'a> Iterator for Described<'a> {
     }
 }
 
-// What a command of an image describes.
-pub(crate) fn describe<'a>(image: Bytes<'a>, command: &Command) -> Described<'a>
-    requires { IsCommandOf (bytes_of image) (command_of command.now) }
+// What a command of an image, of this structure, describes.
+pub(crate) fn describe<'a>(
+    image: Bytes<'a>,
+    command: &Command,
+    structure: Option<Structure>,
+) -> Described<'a>
+    requires structure { structure ≡ structure_of command.now.cmd }
+    requires listed { IsCommandOf (bytes_of image) (command_of command.now) }
     ensures { result ≡ command_elements (bytes_of image.entry) command.now.place }
 {
     let sections = match Segment::of(image, command) {
@@ -182,7 +189,7 @@ pub(crate) fn describe<'a>(image: Bytes<'a>, command: &Command) -> Described<'a>
     let tables = Tables {
         image,
         command: command.place,
-        fields: described_tables(command.cmd, command.size),
+        fields: described_tables(command.cmd, command.size, structure),
     };
     Described {
         pending: None,
@@ -223,7 +230,7 @@ impl<'a> Iterator for Describing<'a> {
 
     fn next(&mut self) -> Option<Described<'a>> {
         let command = self.commands.next()?;
-        Some(describe(self.image, &command))
+        Some(describe(self.image, &command, structure_of(command.cmd)))
     }
 }
 

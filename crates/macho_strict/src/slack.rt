@@ -5,22 +5,28 @@ ghost use Rattle.macho_fields.specs.Bytes.{bytes_of};
 ghost use Rattle.macho_fields.specs.Command.{least_size, name_start};
 ghost use Rattle.macho_fields.specs.Field.{HasZero};
 ghost use Rattle.macho_fields.specs.FirstPlace.{IsLeastPlace};
+ghost use Rattle.macho_fields.specs.LoadCommands.{structure_of};
 ghost use Rattle.macho_image.specs.Command.{command_of};
 ghost use Rattle.macho_image.specs.Opened.{IsCommandOf};
 ghost use Rattle.macho_strict.specs.Slack.{IsNonZeroSlack, IsNonZeroWithin, IsNonZeroAround, IsCounted};
 
 use macho_fields::header::loader::LC_STR_OFFSET;
-use macho_fields::{Bytes, Order, Span, Structure, structure_of};
+use macho_fields::{Bytes, Order, Span, Structure};
 use macho_image::Command;
 
 // The least place of a byte of the command that is not zero, and lies in none of its structure, its records
-// and its name, if it is a listed one.
-pub(crate) fn first_slack(image: Bytes, command: &Command) -> Option<u64>
+// and its name, if it has a listed structure.
+pub(crate) fn first_slack(
+    image: Bytes,
+    command: &Command,
+    structure: Option<Structure>,
+) -> Option<u64>
+    requires structure { structure ≡ structure_of command.now.cmd }
     requires judged { IsCommandOf (bytes_of image) (command_of command.now) }
     requires fits { length (bytes_of image) < 2 ^ 64 }
     ensures { IsLeastPlace (IsNonZeroSlack (bytes_of image.entry) command.now.place) result }
 {
-    let structure = structure_of(command.cmd)?;
+    let structure = structure?;
     let end = command.place + u64::from(command.size);
     let described = described_end(image, command.place, structure);
     if structure.has_name() {

@@ -8,45 +8,45 @@ use Rattle.macho_strict.proofs.slack.first_slack.Goals as goal
 
 pub described_end-described-requires-clause-inside : goal.described_end-described-requires-clause-inside
 described_end-described-requires-clause-inside c =
-    let within = command_within (bytes_of c.args.image) (command_of c.args.command.now) c.requires.judged c.in_ok-structure.structure (sym c.in_ok-structure.ensures) in
-    let least = least_within (bytes_of c.args.image) (command_of c.args.command.now) c.requires.judged c.in_ok-structure.structure (sym c.in_ok-structure.ensures) in
+    let within = command_within (bytes_of c.args.image) (command_of c.args.command.now) c.requires.judged c.in_ok-structure.structure (sym c.requires.structure ∙ c.in_ok-structure.was) in
+    let least = least_within (bytes_of c.args.image) (command_of c.args.command.now) c.requires.judged c.in_ok-structure.structure (sym c.requires.structure ∙ c.in_ok-structure.was) in
     omega (arith, within, least)
 
 pub described_end-described-requires-clause-counted : goal.described_end-described-requires-clause-counted
 described_end-described-requires-clause-counted c =
-    counted (bytes_of c.args.image) (command_of c.args.command.now) c.requires.judged c.in_ok-structure.structure (sym c.in_ok-structure.ensures)
+    counted (bytes_of c.args.image) (command_of c.args.command.now) c.requires.judged c.in_ok-structure.structure (sym c.requires.structure ∙ c.in_ok-structure.was)
 
 pub nonzero_around_name-requires-clause-head : goal.nonzero_around_name-requires-clause-head
 nonzero_around_name-requires-clause-head c =
-    let within = offset_within (bytes_of c.args.image) (command_of c.args.command.now) c.requires.judged c.in_ok-structure.structure (sym c.in_ok-structure.ensures) (sym c.has_name.ensures.name ∙ c.if-has_name.true) in
+    let within = offset_within (bytes_of c.args.image) (command_of c.args.command.now) c.requires.judged c.in_ok-structure.structure (sym c.requires.structure ∙ c.in_ok-structure.was) (sym c.has_name.ensures.name ∙ c.if-has_name.true) in
     omega (arith, within, c.described_end-described.ensures)
 
 pub nonzero_around_name-requires-clause-name : goal.nonzero_around_name-requires-clause-name
 nonzero_around_name-requires-clause-name c =
     subst (λ size. HasZero (bytes_of c.args.image) (name_start (bytes_of c.args.image) c.args.command.now.place) (c.args.command.now.place + size)) (sym c.from.ensures)
-    (name_ends (bytes_of c.args.image) (command_of c.args.command.now) c.requires.judged c.in_ok-structure.structure (sym c.in_ok-structure.ensures) (sym c.has_name.ensures.name ∙ c.if-has_name.true))
+    (name_ends (bytes_of c.args.image) (command_of c.args.command.now) c.requires.judged c.in_ok-structure.structure (sym c.requires.structure ∙ c.in_ok-structure.was) (sym c.has_name.ensures.name ∙ c.if-has_name.true))
 
 pub nonzero_around_name-requires-clause-after : goal.nonzero_around_name-requires-clause-after
 nonzero_around_name-requires-clause-after c =
-    let after = name_after (bytes_of c.args.image) (command_of c.args.command.now) c.requires.judged c.in_ok-structure.structure (sym c.in_ok-structure.ensures) (sym c.has_name.ensures.name ∙ c.if-has_name.true) in
+    let after = name_after (bytes_of c.args.image) (command_of c.args.command.now) c.requires.judged c.in_ok-structure.structure (sym c.requires.structure ∙ c.in_ok-structure.was) (sym c.has_name.ensures.name ∙ c.if-has_name.true) in
     omega (arith, after, c.described_end-described.ensures)
 
 pub nonzero_around_name-requires-clause-inside : goal.nonzero_around_name-requires-clause-inside
 nonzero_around_name-requires-clause-inside c =
-    let within = command_within (bytes_of c.args.image) (command_of c.args.command.now) c.requires.judged c.in_ok-structure.structure (sym c.in_ok-structure.ensures) in
+    let within = command_within (bytes_of c.args.image) (command_of c.args.command.now) c.requires.judged c.in_ok-structure.structure (sym c.requires.structure ∙ c.in_ok-structure.was) in
     omega (arith, within, c.from.ensures)
 
 pub nonzero_within-requires : goal.nonzero_within-requires
 nonzero_within-requires c =
-    let least = least_within (bytes_of c.args.image) (command_of c.args.command.now) c.requires.judged c.in_ok-structure.structure (sym c.in_ok-structure.ensures) in
+    let least = least_within (bytes_of c.args.image) (command_of c.args.command.now) c.requires.judged c.in_ok-structure.structure (sym c.requires.structure ∙ c.in_ok-structure.was) in
     omega (arith, least, c.described_end-described.ensures, c.from.ensures)
 
 pub returns-then-has_name : goal.returns-then-has_name
 returns-then-has_name c =
-    least_named (bytes_of c.args.image) (command_of c.args.command.now) c.requires.judged c.in_ok-structure.structure (sym c.in_ok-structure.ensures) c.described_end-described.result (c.args.command.now.place + c.from.result) c.nonzero_around_name.result (sym c.has_name.ensures.name ∙ c.if-has_name.true)
+    least_named (bytes_of c.args.image) (command_of c.args.command.now) c.requires.judged c.in_ok-structure.structure (sym c.requires.structure ∙ c.in_ok-structure.was) c.described_end-described.result (c.args.command.now.place + c.from.result) c.nonzero_around_name.result (sym c.has_name.ensures.name ∙ c.if-has_name.true)
     c.described_end-described.ensures (omega (arith, c.from.ensures)) c.nonzero_around_name.ensures
 
 pub returns-else-has_name : goal.returns-else-has_name
 returns-else-has_name c =
-    least_unnamed (bytes_of c.args.image) (command_of c.args.command.now) c.requires.judged c.in_ok-structure.structure (sym c.in_ok-structure.ensures) c.described_end-described.result (c.args.command.now.place + c.from.result) c.nonzero_within.result (sym c.has_name.ensures.name ∙ c.if-has_name.false)
+    least_unnamed (bytes_of c.args.image) (command_of c.args.command.now) c.requires.judged c.in_ok-structure.structure (sym c.requires.structure ∙ c.in_ok-structure.was) c.described_end-described.result (c.args.command.now.place + c.from.result) c.nonzero_within.result (sym c.has_name.ensures.name ∙ c.if-has_name.false)
     c.described_end-described.ensures (omega (arith, c.from.ensures)) c.nonzero_within.ensures
