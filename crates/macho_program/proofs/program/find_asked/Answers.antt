@@ -1,6 +1,7 @@
 use Rattle.std.proofs.Common.{◌≡◌, ◌∙◌, ℕ, List, Bool, true, false, Option, Some, None, Result, Ok, Err, IfOk, IfSome, length, codes, refl, ap, sym, ◌<◌, ◌^◌, rules}
 use Rattle.std.specs.Prelude.{⊤}
 use Rattle.std.specs.Str.{bytes_eq}
+use Rattle.std.proofs.lemmas.Slice.Eq.{bytes_eq-Decides}
 use Rattle.macho_report.specs.declared.judge.Judge as judge
 use Rattle.macho_report.specs.declared.stream.Input as input
 use Rattle.macho_report.specs.declared.stream.Output as output
@@ -11,6 +12,35 @@ use Rattle.macho_program.specs.declared.program.Found.{Found}
 use Rattle.macho_program.specs.declared.program.Found.TheVariants as kind
 use Rattle.macho_program.specs.declared.program.ProgramFault.{ProgramFault}
 use Rattle.macho_program.proofs.program.find_asked.Goals as goal
+
+-- a run over standard input, whose bytes are those asked about
+in_standard : {R W : Type 0} {i : input.Ghosts R} {o : output.Ghosts W} {f : flush.Ghosts W} {J : Type 0} (j : judge.Ghosts J) (asked : Asked) (words : Result Asked ProgramFault)
+    (bytes : Asked → Option (List ℕ)) (standard standard' : R) (writer writer' : W) (end : Result Found ProgramFault)
+    → words ≡ Ok asked → IsOfStandardInput asked → bytes asked ≡ i.remaining standard
+    → EndsRight j i o f (Ok asked) (λ _. i.remaining standard) (λ _. ⊤) standard standard' writer writer' end
+    → EndsRight j i o f words bytes IsOfStandardInput standard standard' writer writer' end
+in_standard j asked words bytes standard standard' writer writer' end is named known h = rw is record {
+  found = rw known h.found;
+  at_end = λ _. h.at_end tt;
+  flushed = h.flushed;
+  no_image = h.no_image;
+  faults = h.faults;
+  read = λ _. h.read tt;
+  memory = λ _. h.memory tt;
+  one_too_many = λ _. h.one_too_many tt;
+  few_reads = λ _. h.few_reads tt;
+  too_long = λ e. rw known (h.too_long e);
+  write = h.write;
+  prefix = λ e. rw known (h.prefix e);
+  unwritten = h.unwritten;
+  unread = λ other. absurd (other named);
+}
+
+is_standard : (name file : List ℕ) (eq : Bool) → name ≡ file → eq ≡ bytes_eq name (codes "-") → eq ≡ true → bytes_eq file (codes "-") ≡ true
+is_standard name file eq name_is eq_is holds = ap (λ (n : List ℕ). bytes_eq n (codes "-")) (sym name_is) ∙ (sym eq_is ∙ holds)
+
+is_named : (name : List ℕ) → bytes_eq name (codes "-") ≡ true → name ≡ codes "-"
+is_named name = (bytes_eq-Decides name (codes "-")).0
 
 -- what is found of the bytes that a file gives, where those of its name are known
 found_in : {J : Type 0} (j : judge.Ghosts J) (asked : Asked) (known given old new : Option (List ℕ)) (end : Result Found ProgramFault) → IfSome known (λ all. given ≡ Some all)
@@ -63,3 +93,8 @@ returns-in-Ok g c =
     let other = not_standard _ _ _ c.file.ensures c.eq.ensures c.if-eq.false in
     in_file _ _ _ _ _ _ _ _ _ _ c.in_ok-request.ensures (λ is. let bad : true ≡ false = ap (λ (n : List ℕ). bytes_eq n (codes "-")) (sym is) ∙ other in cc)
     (rw other (search rules)) c.find_in-in-Ok.ensures
+
+pub returns-then-eq : goal.returns-then-eq
+returns-then-eq g c =
+    let same = is_standard _ _ _ c.file.ensures c.eq.ensures c.if-eq.true in
+    in_standard _ _ _ _ _ _ _ _ _ c.in_ok-request.ensures (is_named _ same) (rw same refl) c.find_in.ensures
