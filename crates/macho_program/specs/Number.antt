@@ -18,6 +18,6 @@ number_in base most digits =
     if is_numeral base most digits then Some (digits_value base digits) else None
 
 -- the number of a word, in hexadecimal digits after `0x`, and otherwise in decimal digits
-abbrev pub number_of : List ℕ → Option ℕ
-number_of word = if starts_with nat_eq word (codes "0x") then number_in 16 16 (drop 2 word)
+abbrev pub word_number : List ℕ → Option ℕ
+word_number word = if starts_with nat_eq word (codes "0x") then number_in 16 16 (drop 2 word)
     else number_in 10 20 word

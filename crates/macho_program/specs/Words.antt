@@ -6,7 +6,7 @@ use Rattle.clap.specs.Words.{App, Kinds, Row, Rule, Text, fault_of, first_of, ne
 use Rattle.clap.specs.Simple.{on_top}
 use Rattle.clap.specs.declared.error.kind.ErrorKind.{ErrorKind}
 use Rattle.clap.specs.declared.error.kind.ErrorKind.TheVariants.{OutOfMemory}
-use Rattle.macho_program.specs.Number.{number_of}
+use Rattle.macho_program.specs.Number.{word_number}
 use Rattle.macho_program.specs.Tool.{ProgramView}
 use Rattle.macho_program.specs.declared.words.Request.{Request}
 use Rattle.macho_program.specs.declared.words.Request.TheVariants.{Check, Where}
@@ -75,7 +75,7 @@ place_numbered file _ _ = Err BadNumber
 -- the same, by the three texts
 abbrev pub place_asked : Option Text → Option Text → Option Text → Result Asked WordFault
 place_asked (Some file) (Some slice) (Some address) =
-    place_numbered file (number_of slice) (number_of address)
+    place_numbered file (word_number slice) (word_number address)
 place_asked _ _ _ = Err Usage
 
 abbrev pub where_asked : List Row → Result Asked WordFault

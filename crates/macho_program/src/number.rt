@@ -1,7 +1,7 @@
 //! The numbers among the words.
 
 ghost use Rattle.std.specs.Prelude.{◌≡◌, ◌≤◌};
-ghost use Rattle.macho_program.specs.Number.{number_in, number_of};
+ghost use Rattle.macho_program.specs.Number.{number_in, word_number};
 
 // How many hexadecimal digits a number has at most.
 const HEXADECIMAL_DIGITS: usize = 16;
@@ -11,7 +11,7 @@ const DECIMAL_DIGITS: usize = 20;
 /// The number of a text: `0x` and 1 to 16 hexadecimal digits of either case, or 1 to 20 decimal
 /// digits, below 2^64. Every other text is `None`.
 pub fn read_number(text: &str) -> Option<u64>
-    ensures { result ≡ number_of text.now }
+    ensures { result ≡ word_number text.now }
 {
     match text.strip_prefix("0x") {
         Some(digits) => digits_in(16, HEXADECIMAL_DIGITS, digits),

@@ -11,16 +11,16 @@ pub record NamedArch : Type 0 where
   pub cpu_subtype : ℕ
   pub name : List ℕ
 
-abbrev pub named : ℕ → ℕ → List ℕ → NamedArch
-named cpu_type cpu_subtype name =
+abbrev pub arch_entry : ℕ → ℕ → List ℕ → NamedArch
+arch_entry cpu_type cpu_subtype name =
     record { cpu_type = cpu_type; cpu_subtype = cpu_subtype; name = name }
 
 abbrev pub named_archs : List NamedArch
 named_archs =
-    named machine.CPU_TYPE_X86_64 machine.CPU_SUBTYPE_X86_64_ALL (codes "x86_64")
-    ∷ named machine.CPU_TYPE_X86_64 machine.CPU_SUBTYPE_X86_64_H (codes "x86_64h")
-    ∷ named machine.CPU_TYPE_ARM64 machine.CPU_SUBTYPE_ARM64_ALL (codes "arm64")
-    ∷ named machine.CPU_TYPE_ARM64 machine.CPU_SUBTYPE_ARM64E (codes "arm64e")
+    arch_entry machine.CPU_TYPE_X86_64 machine.CPU_SUBTYPE_X86_64_ALL (codes "x86_64")
+    ∷ arch_entry machine.CPU_TYPE_X86_64 machine.CPU_SUBTYPE_X86_64_H (codes "x86_64h")
+    ∷ arch_entry machine.CPU_TYPE_ARM64 machine.CPU_SUBTYPE_ARM64_ALL (codes "arm64")
+    ∷ arch_entry machine.CPU_TYPE_ARM64 machine.CPU_SUBTYPE_ARM64E (codes "arm64e")
     ∷ []
 
 -- the entry of the table with a cputype and a masked cpusubtype

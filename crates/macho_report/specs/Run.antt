@@ -16,19 +16,19 @@ use Rattle.macho_report.specs.declared.outcome.RunFault.{RunFault}
 use Rattle.macho_report.specs.declared.outcome.RunFault.TheVariants as fault
 
 -- by the judge, the outcome is right for the file, and this is its text
-abbrev pub IsVerdict : {J : Type 0} → judge.Ghosts J → List ℕ → Outcome → List ℕ → Type 0
-IsVerdict j file Accepted text = j.accepts file × (text ≡ layout_text file)
-IsVerdict j file Refused text = (b : Break) × j.refuses file b × (text ≡ break_text b)
+abbrev pub IsReport : {J : Type 0} → judge.Ghosts J → List ℕ → Outcome → List ℕ → Type 0
+IsReport j file Accepted text = j.accepts file × (text ≡ layout_text file)
+IsReport j file Refused text = (b : Break) × j.refuses file b × (text ≡ break_text b)
 
 -- the input is within the limit, and the text of the outcome, which is right for it, was written
 abbrev pub WroteVerdict : {J : Type 0} → judge.Ghosts J → Option (List ℕ) → ℕ → Outcome → Option (List ℕ) → Option (List ℕ) → Type 0
 WroteVerdict j input limit outcome old new =
-    IfSome input (λ file. (length file ≤ limit) × ((text : List ℕ) × IsVerdict j file outcome text × Wrote old new text))
+    IfSome input (λ file. (length file ≤ limit) × ((text : List ℕ) × IsReport j file outcome text × Wrote old new text))
 
 -- the same of a prefix of the text
 abbrev pub WroteVerdictPrefix : {J : Type 0} → judge.Ghosts J → Option (List ℕ) → ℕ → Option (List ℕ) → Option (List ℕ) → Type 0
 WroteVerdictPrefix j input limit old new =
-    IfSome input (λ file. (length file ≤ limit) × ((outcome : Outcome) × (text : List ℕ) × IsVerdict j file outcome text × WrotePrefix old new text))
+    IfSome input (λ file. (length file ≤ limit) × ((outcome : Outcome) × (text : List ℕ) × IsReport j file outcome text × WrotePrefix old new text))
 
 -- A run that reads an input of at most `limit` bytes whole: when each fault of reading comes, and what was taken.
 pub record ReadsRight {R T : Type 0} (i : input.Ghosts R) (limit : ℕ) (old new : R) (end : Result T RunFault) : Type 0 where

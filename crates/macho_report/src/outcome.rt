@@ -4,7 +4,7 @@ ghost use Rattle.std.specs.Prelude.{◌≡◌, List, ℕ, IfOk, IfNone, IfSome};
 ghost use Rattle.macho_fields.specs.declared.rule.Break.{Break};
 ghost use Rattle.macho_report.specs.Stream.{Wrote, WrotePrefix};
 ghost use Rattle.macho_report.specs.Text.{break_text, run_fault_reason};
-ghost use Rattle.macho_report.specs.Run.{FailsRight, IsVerdict, RunsRight, run_fault_of};
+ghost use Rattle.macho_report.specs.Run.{FailsRight, IsReport, RunsRight, run_fault_of};
 ghost use Rattle.macho_report.specs.declared.outcome.Outcome.{Outcome};
 ghost use Rattle.macho_report.specs.declared.outcome.RunFault.TheVariants as fault;
 
@@ -135,10 +135,10 @@ fn write_verdict<J: Judge, W: Output>(
     writer: &mut W,
 ) -> Result<Outcome, RunFault>
     ensures verdict { IfOk result (λ outcome. (text : List ℕ)
-        × IsVerdict J.Judge file.now outcome text
+        × IsReport J.Judge file.now outcome text
         × Wrote (W.contents writer.old) (W.contents writer.new) text) }
     ensures fails { FailsRight result (W.has_failed writer.new)
-        ((outcome : Outcome) × (text : List ℕ) × IsVerdict J.Judge file.now outcome text
+        ((outcome : Outcome) × (text : List ℕ) × IsReport J.Judge file.now outcome text
         × WrotePrefix (W.contents writer.old) (W.contents writer.new) text)
         (writer.new ≡ writer.old) }
 {
