@@ -76,7 +76,8 @@ install-lib: built-lib
 	$(FILL) packaging/kesvuotConfigVersion.cmake.in >$(TO_LIB)/cmake/kesvuot/kesvuotConfigVersion.cmake
 	chmod 644 $(TO_LIB)/pkgconfig/kesvuot.pc $(TO_LIB)/cmake/kesvuot/*
 	install -m 644 bindings/c/kesvuot.h $(TO_INCLUDE)
-	install -m 644 bindings/python/kesvuot/*.py bindings/python/kesvuot/py.typed $(TO_PYTHON)/kesvuot
+	install -m 644 bindings/python/kesvuot/*.py bindings/python/kesvuot/map.html bindings/python/kesvuot/py.typed \
+	    $(TO_PYTHON)/kesvuot
 	install -m 644 man/kesvuot.3 $(TO_MAN)/man3
 	for call in $(CALLS); do ln -sf kesvuot.3 $(TO_MAN)/man3/$$call.3 || exit; done
 	install -m 644 docs/RULES.md $(TO_DOC)

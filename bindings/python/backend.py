@@ -13,7 +13,7 @@ from pathlib import Path
 from typing import Any, Dict, Optional
 
 METADATA = Path("METADATA")
-PACKAGE = sorted(path for pattern in ("*.py", "py.typed") for path in Path("kesvuot").glob(pattern))
+PACKAGE = sorted(path for pattern in ("*.py", "map.html", "py.typed") for path in Path("kesvuot").glob(pattern))
 # The command that pip installs.
 ENTRY_POINTS = b"[console_scripts]\nkesvuot = kesvuot.__main__:main\n"
 # The least time of a file in a zip archive. The same sources give the same wheel.

@@ -11,13 +11,14 @@ _kesvuot() {
         --include | --exclude | --jobs) return ;;
         *)
             if ((COMP_CWORD == 1)) && [[ $current != */* ]]; then
-                words="check show diff --help --version"
+                words="check show diff map --help --version"
             elif [[ $current == -* ]]; then
                 case ${COMP_WORDS[1]} in
                     check) words="--exclude --format --help --include --jobs --no-progress --profile --quiet
                         --skip-other-kinds" ;;
                     show) words="--help --json --profile" ;;
                     diff) words="--help --profile" ;;
+                    map) words="--help --output --profile" ;;
                 esac
             fi
             ;;

@@ -1,11 +1,12 @@
 # Completion of kesvuot(1) for fish.
 
-set -l commands check show diff
+set -l commands check show diff map
 set -l none "not __fish_seen_subcommand_from $commands"
 
 complete -c kesvuot -n $none -a check -d 'Judge files and folders'
 complete -c kesvuot -n $none -a show -d 'Show the layout of a file'
 complete -c kesvuot -n $none -a diff -d 'Compare the layouts of two files'
+complete -c kesvuot -n $none -a map -d 'Draw a file and its address space'
 complete -c kesvuot -n $none -l version -d 'Print the versions'
 complete -c kesvuot -s h -l help -d 'Show the words'
 complete -c kesvuot -n "__fish_seen_subcommand_from $commands" -l profile -x -a 'layout strict' -d 'The rules'
@@ -20,3 +21,5 @@ complete -c kesvuot -n '__fish_seen_subcommand_from check' -s q -l quiet -d 'Pri
 complete -c kesvuot -n '__fish_seen_subcommand_from check' -l no-progress -d 'Show no bar'
 
 complete -c kesvuot -n '__fish_seen_subcommand_from show' -l json -d 'Print an object with all fields'
+
+complete -c kesvuot -n '__fish_seen_subcommand_from map' -s o -l output -r -F -d 'The file to write'

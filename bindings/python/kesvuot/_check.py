@@ -10,18 +10,21 @@ from typing import Any, Callable, Counter, Dict, Iterator, List, NamedTuple, Opt
 from ._files import File, Refused, verify
 from ._kinds import other_kind
 from ._pool import map_in_processes
-from ._reading import NotMachO, read_found, read_given
+from ._reading import Contents, NotMachO, read_found, read_given
 
 ACCEPTED, REFUSED, NO_VERDICT, SKIPPED = "accepted", "refused", "no verdict", "skipped"
 STATUSES = {ACCEPTED: 0, SKIPPED: 0, REFUSED: 1, NO_VERDICT: 2}
 PROFILES = ("layout", "strict")
-# What is asked of an accepted file, besides the verdict: nothing, its text, or its slices as objects.
+# What is asked of an accepted file, besides the verdict: nothing, its text, or its slices as objects. And of the bytes
+# of a refused one.
 Extra = Optional[Callable[[File], Any]]
+ExtraOfRefused = Optional[Callable[[Contents], Any]]
 
 
 class Outcome(NamedTuple):
     """What is said of a file. A refused one has a rule, a place, and perhaps the kind that is not judged; an accepted
-    one has slices; and one without a verdict a reason. `size` is how many bytes were read."""
+    one has slices; and one without a verdict a reason. `size` is how many bytes were read. `extra` is what was asked of
+    the file besides."""
 
     path: str
     word: str
@@ -61,6 +64,7 @@ class Choice(NamedTuple):
     exclude: Tuple[str, ...] = ()
     skips_other_kinds: bool = False
     extra: Extra = None
+    of_refused: ExtraOfRefused = None
 
 
 # Finding
@@ -137,7 +141,8 @@ def judge(target: Target, choice: Choice) -> Outcome:
     except Refused as refused:
         kind = other_kind(refused.rule, refused.place, data)
         word = SKIPPED if kind and choice.skips_other_kinds else REFUSED
-        return Outcome(path, word, size, rule=refused.rule, place=refused.place, kind=kind)
+        return Outcome(path, word, size, rule=refused.rule, place=refused.place, kind=kind,
+                       extra=choice.of_refused and choice.of_refused(data))
     except NotMachO:
         return Outcome(path, SKIPPED)
     except Exception as error:  # pylint: disable=broad-except # one file without a verdict is not all of them

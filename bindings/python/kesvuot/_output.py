@@ -15,10 +15,10 @@ GREEN, RED, YELLOW, PLAIN = "\033[32m", "\033[31m", "\033[33m", "\033[0m"
 
 
 class WriteFailed(Exception):
-    """Standard output is closed, or takes no more."""
+    """Standard output, or a file that was asked for, is closed, or takes no more."""
 
-    def __init__(self) -> None:
-        super().__init__("write failed")
+    def __init__(self, reason: str = "write failed") -> None:
+        super().__init__(reason)
 
 
 class Output:

@@ -13,6 +13,7 @@ from ._check import ACCEPTED, NO_VERDICT, REFUSED, Choice, Outcome, Summary, jud
 from ._diff import diff
 from ._files import File
 from ._layout import slice_objects
+from ._map import STANDARD_OUTPUT, map_file
 from ._output import GREEN, RED, YELLOW, Output, WriteFailed, coloured, end_at_interrupts, open_errors, say
 from ._progress import Progress, is_terminal
 from ._reports import REPORTS, Report, Write, reason_text, shown
@@ -38,6 +39,7 @@ examples:
   curl -s URL | kesvuot check -                  standard input
   kesvuot show program                           the layout of an accepted file
   kesvuot diff program program.stripped          what strip has changed
+  kesvuot map program -o map.html                a page that shows where everything is
 """
 
 
@@ -213,7 +215,7 @@ judges those files that begin with a magic number of Mach-O, and follows no link
     parser.add_argument("--no-progress", action="store_true", help="show no bar on a terminal")
 
 
-# show and diff
+# show, diff and map
 
 
 def _show(words: argparse.Namespace) -> int:
@@ -222,6 +224,10 @@ def _show(words: argparse.Namespace) -> int:
 
 def _diff(words: argparse.Namespace) -> int:
     return diff(words.one, words.other, words.profile)
+
+
+def _map(words: argparse.Namespace) -> int:
+    return map_file(words.file, words.profile, words.output)
 
 
 def _add_show(commands: Any) -> None:
@@ -240,9 +246,19 @@ with + of the second one.""")
     parser.add_argument("other", metavar="FILE")
 
 
+def _add_map(commands: Any) -> None:
+    parser = _add_command(commands, "map", _map, "draw a file and its address space", """\
+Writes a page of HTML that shows the parts of a file to scale, beside the address space. It needs no network. Of a
+refused file it shows where the rule is broken, and the parts as far as the headers can be followed.""")
+    parser.add_argument("-o", "--output", default=STANDARD_OUTPUT, metavar="PAGE",
+                        help="the file to write, such as map.html; otherwise standard output")
+    parser.add_argument("file", metavar="FILE", help="a file, or - for standard input")
+
+
 # All commands
 
-COMMANDS: Dict[str, Callable[[Any], None]] = {"check": _add_check, "show": _add_show, "diff": _add_diff}
+COMMANDS: Dict[str, Callable[[Any], None]] = {
+    "check": _add_check, "show": _add_show, "diff": _add_diff, "map": _add_map}
 
 
 class _Version(argparse.Action):

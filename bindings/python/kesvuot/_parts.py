@@ -1,0 +1,341 @@
+"""The parts of a file that its headers describe, and the bytes that none of them has. Of a refused file they are as far
+as its headers can be followed: nothing is trusted, and each read stays in the file."""
+
+from __future__ import annotations
+
+import re
+from bisect import bisect_right
+from itertools import chain
+from struct import Struct
+from typing import Any, Dict, Iterable, Iterator, List, NamedTuple, Optional, Sequence, Tuple
+
+from ._files import ARCHITECTURES, File, Image
+from ._layout import plain
+from ._names import FILETYPES, LC_ID_DYLIB, LC_LOAD_DYLINKER, LC_RPATH, LIBRARIES, command_name, protection_text
+
+# fat.h: an entry of a universal file, by its magic number: cputype, cpusubtype, offset, size, align.
+FAT_ENTRIES = {b"\xca\xfe\xba\xbe": Struct(">5I"), b"\xca\xfe\xba\xbf": Struct(">2I2Q2I")}
+MH_MAGIC_64 = b"\xcf\xfa\xed\xfe"
+# loader.h: mach_header_64, load_command, segment_command_64 and section_64.
+HEADER, COMMAND = Struct("<8I"), Struct("<2I")
+SEGMENT, SECTION = Struct("<2I16s4Q4I"), Struct("<16s16s2Q8I")
+LC_SEGMENT_64, LC_ENCRYPTION_INFO_64, LC_NOTE = 0x19, 0x2C, 0x31
+ZERO_FILL_TYPES = {0x1, 0xC, 0x12}
+EXECUTE = 4
+RELOCATION_SIZE = 8
+# Which commands have a name, whose offset is the word after cmdsize.
+NAMED = {*LIBRARIES, LC_LOAD_DYLINKER, 0xF, LC_RPATH, 0x27}
+
+# The tables of a command, as in RULES.md: a name, where in the command the offset and the count are, and the bytes of
+# an entry.
+Tables = Tuple[Tuple[str, int, int, int], ...]
+DYLD_INFO: Tables = (("rebase opcodes", 8, 12, 1), ("bind opcodes", 16, 20, 1), ("weak bind opcodes", 24, 28, 1),
+                     ("lazy bind opcodes", 32, 36, 1), ("export trie", 40, 44, 1))
+LINKEDIT_DATA = {
+    0x1D: "code signature", 0x1E: "segment split info", 0x26: "function starts", 0x29: "data in code",
+    0x2B: "code signing requirements", 0x2E: "optimization hints", 0x36: "atom info", 0x37: "function variants",
+    0x38: "function variant fixups", 0x8000_0033: "exports trie", 0x8000_0034: "chained fixups"}
+TABLES: Dict[int, Tables] = {
+    0x2: (("symbols", 8, 12, 16), ("strings", 16, 20, 1)),
+    0xB: (("table of contents", 32, 36, 8), ("modules", 40, 44, 56), ("external references", 48, 52, 4),
+          ("indirect symbols", 56, 60, 4), ("external relocations", 64, 68, 8), ("local relocations", 72, 76, 8)),
+    0x16: (("two-level hints", 8, 12, 4),), 0x22: DYLD_INFO, 0x8000_0022: DYLD_INFO,
+    **{cmd: ((name, 8, 12, 1),) for cmd, name in LINKEDIT_DATA.items()}}
+
+# Between runs of nonzero bytes that are drawn as one there are fewer zeros than this, or than one in so many of a gap.
+NEAR, RUNS = 16, 256
+PIECE = 1 << 20
+ZEROS = bytes(PIECE)
+
+
+class Part(NamedTuple):
+    """`size` bytes of the file from `start` on, or as many of them as the file has; in the column of the map that has
+    what it is a part of at its left. `described` is where in the file the structure that describes it begins, and
+    `address` and `memory` are what it has of the address space."""
+
+    kind: str
+    name: str
+    column: int
+    start: int
+    size: int
+    slice: Optional[int] = None
+    described: Optional[int] = None
+    address: int = 0
+    memory: int = 0
+    note: str = ""
+    initprot: int = 0
+
+
+# Which parts have bytes of their own: those that macho-strict calls elements, and those that the headers consist of.
+ELEMENTS = frozenset(("universal header", "headers", "section", "relocations", "table", "slice not read"))
+
+
+def parts_of(data: memoryview, file: Optional[File] = None) -> List[Part]:
+    """The parts of a file, which is given if it was accepted: then its load commands are those that the library
+    reads."""
+    parts = list(_slices(data))
+    for part in parts[:]:
+        if part.kind == "slice" and part.slice is not None:
+            image = file.slices[part.slice] if file else None
+            parts += _image_parts(data, part, image if isinstance(image, Image) else None)
+    return parts + list(_rest(data, parts))
+
+
+# Slices
+
+
+def _slices(data: memoryview) -> Iterator[Part]:
+    entry = FAT_ENTRIES.get(bytes(data[:4]))
+    if entry is None:
+        yield _slice(data, 0, 0, len(data), None)
+        return
+    count = int.from_bytes(data[4:8], "big")
+    yield Part("universal header", "fat_header", 0, 0, 8 + entry.size * count, note=f"{count} entries")
+    for index in range(min(count, max(len(data) - 8, 0) // entry.size)):
+        place = 8 + entry.size * index
+        cputype, cpusubtype, start, size, align = entry.unpack_from(data, place)[:5]
+        arch = arch_name(cputype, cpusubtype)
+        yield Part("entry", f"entry {index}: {arch}", 3, place, entry.size, index, place, note=f"align 2^{align}")
+        yield _slice(data, index, start, size, place)._replace(name=f"slice {index}: {arch}")
+
+
+def _slice(data: memoryview, index: int, start: int, size: int, described: Optional[int]) -> Part:
+    image = data[start:start + size]
+    if image[:4] != MH_MAGIC_64:
+        return Part("slice not read", f"slice {index}", 0, start, size, index, described)
+    if len(image) < HEADER.size:
+        return Part("slice", f"slice {index}", 0, start, size, index, described)
+    _, cputype, cpusubtype, filetype, *_ = HEADER.unpack_from(image)
+    return Part("slice", arch_name(cputype, cpusubtype), 0, start, size, index, described,
+                note=FILETYPES.get(filetype, f"filetype {filetype}"))
+
+
+def arch_name(cputype: int, cpusubtype: int) -> str:
+    """The name of an architecture, or its numbers, without the capability byte."""
+    arch = cputype, cpusubtype & 0xFF_FFFF
+    return ARCHITECTURES.get(arch, f"{arch[0]:#x}/{arch[1]:#x}")
+
+
+# Images
+
+
+class Step(NamedTuple):
+    """A load command, with the fields of a Command of the library."""
+
+    bytes: memoryview
+    name: memoryview
+    place: int
+    cmd: int
+
+
+class Walk(NamedTuple):
+    """The load commands of an image, and whether they are all there."""
+
+    commands: Sequence[Any]
+    is_whole: bool
+
+
+def _image_parts(data: memoryview, part: Part, accepted: Optional[Image]) -> Iterator[Part]:
+    image = data[part.start:part.start + part.size]
+    if len(image) < HEADER.size:
+        return
+    ncmds, sizeofcmds = HEADER.unpack_from(image)[4:6]
+    walk = Walk(accepted.commands, True) if accepted else _walk(image, ncmds, HEADER.size + sizeofcmds)
+    yield Part("headers", "headers", 2, part.start, HEADER.size + sizeofcmds, part.slice, part.start)
+    yield Part("header", "mach_header_64", 3, part.start, HEADER.size, part.slice, part.start)
+    end = HEADER.size
+    for command in walk.commands:
+        yield _command_part(part, command)
+        yield from _described(part, command)
+        end = command.place + len(command.bytes)
+    if not walk.is_whole:
+        size = int.from_bytes(image[end + 4:end + 8], "little")
+        yield Part("broken walk", "where the load commands cannot be followed", 3, part.start + end, size, part.slice,
+                   part.start + end)
+    elif end < HEADER.size + sizeofcmds:
+        yield Part("gap", "after the last command", 3, part.start + end, HEADER.size + sizeofcmds - end, part.slice)
+
+
+def _walk(image: memoryview, ncmds: int, end: int) -> Walk:
+    """The commands as far as each lies among the commands, and in the image."""
+    commands: List[Step] = []
+    place, end = HEADER.size, min(end, len(image))
+    while len(commands) < ncmds:
+        if place + COMMAND.size > end:
+            return Walk(commands, False)
+        cmd, size = COMMAND.unpack_from(image, place)
+        if size < COMMAND.size or place + size > end:
+            return Walk(commands, False)
+        command = image[place:place + size]
+        commands.append(Step(command, _name_of(cmd, command), place, cmd))
+        place += size
+    return Walk(commands, True)
+
+
+def _name_of(cmd: int, command: memoryview) -> memoryview:
+    """The name that a command has, up to its first zero, or to the end of the command."""
+    if cmd not in NAMED or len(command) < 12:
+        return command[:0]
+    start = int.from_bytes(command[8:12], "little")
+    end = bytes(command).find(0, start)
+    return command[start:end if end >= 0 else len(command)]
+
+
+def _command_part(part: Part, command: Any) -> Part:
+    name = command_name(command.cmd)
+    if command.cmd == LC_SEGMENT_64 and len(command.bytes) >= SEGMENT.size:
+        name += f" {_text(command.bytes[8:24])}"
+    elif command.name:
+        name += f" {plain(command.name)}"
+    place = part.start + command.place
+    return Part("command", name, 3, place, len(command.bytes), part.slice, place,
+                note="the image's own name" if command.cmd == LC_ID_DYLIB else "")
+
+
+def _text(name: memoryview) -> str:
+    """A name of 16 bytes, or fewer with zeros after them."""
+    return plain(memoryview(bytes(name).partition(b"\0")[0]))
+
+
+def _described(part: Part, command: Any) -> Iterator[Part]:
+    """The parts that a command describes."""
+    if command.cmd == LC_SEGMENT_64:
+        if len(command.bytes) >= SEGMENT.size:
+            yield from _segment_parts(part, command)
+        return
+    for name, at, count_at, size in TABLES.get(command.cmd, ()):
+        if len(command.bytes) >= count_at + 4:
+            count = int.from_bytes(command.bytes[count_at:count_at + 4], "little")
+            start = int.from_bytes(command.bytes[at:at + 4], "little")
+            note = f"{count} entries of {size} bytes" if size > 1 else ""
+            yield from _table(part, command, "table", name, start, count * size, note)
+    if command.cmd == LC_ENCRYPTION_INFO_64 and len(command.bytes) >= 16:
+        start, size = COMMAND.unpack_from(command.bytes, 8)
+        yield from _table(part, command, "encrypted range", "encrypted range", start, size)
+    elif command.cmd == LC_NOTE and len(command.bytes) >= 40:
+        start, size = Struct("<2Q").unpack_from(command.bytes, 24)
+        yield from _table(part, command, "table", f"note of {_text(command.bytes[8:24])}", start, size)
+
+
+def _table(part: Part, command: Any, kind: str, name: str, start: int, size: int,
+           note: str = "") -> Iterator[Part]:
+    if size:
+        yield Part(kind, name, 2 if kind == "table" else 3, part.start + start, size, part.slice,
+                   part.start + command.place, note=note)
+
+
+def _segment_parts(part: Part, command: Any) -> Iterator[Part]:
+    """A segment, its sections, and their relocations."""
+    place = part.start + command.place
+    _, _, _, vmaddr, vmsize, fileoff, filesize, maxprot, initprot, nsects, _ = SEGMENT.unpack_from(command.bytes)
+    name = _text(command.bytes[8:24])
+    yield Part("segment", name, 1, part.start + fileoff, filesize, part.slice, place, vmaddr, vmsize,
+               f"{protection_text(initprot)}; at most {protection_text(maxprot)}", initprot)
+    for number in range(min(nsects, (len(command.bytes) - SEGMENT.size) // SECTION.size)):
+        at = SEGMENT.size + SECTION.size * number
+        _, _, addr, size, offset, align, reloff, nreloc, flags, *_ = SECTION.unpack_from(command.bytes, at)
+        is_zero_fill = flags & 0xFF in ZERO_FILL_TYPES
+        section = f"{name},{_text(command.bytes[at:at + 16])}"
+        yield Part("section", section, 2, part.start + offset, 0 if is_zero_fill else size, part.slice, place + at,
+                   addr, size if vmsize else 0, "zero-fill" if is_zero_fill else f"align 2^{align}")
+        if nreloc:
+            yield Part("relocations", f"relocations of {section}", 2, part.start + reloff, RELOCATION_SIZE * nreloc,
+                       part.slice, place + at, note=f"{nreloc} entries of {RELOCATION_SIZE} bytes")
+
+
+# What no element has
+
+Range = Tuple[int, int]
+
+
+def merged(ranges: Iterable[Range]) -> List[Range]:
+    """The ranges in order, with one for those that overlap or touch."""
+    whole: List[Range] = []
+    for start, end in sorted(ranges):
+        if whole and start <= whole[-1][1]:
+            whole[-1] = whole[-1][0], max(whole[-1][1], end)
+        elif start < end:
+            whole.append((start, end))
+    return whole
+
+
+def _rest(data: memoryview, parts: List[Part]) -> Iterator[Part]:
+    """The gaps between all elements, and their nonzero bytes. Of an image whose commands cannot be followed nobody
+    knows which these are."""
+    unknown = {part.slice for part in parts if part.kind == "broken walk"}
+    claimed = merged(_range(part, data) for part in parts
+                     if part.kind in ELEMENTS or (part.kind == "slice" and _is_unknown(part, unknown)))
+    code = merged(_range(part, data) for part in parts if part.initprot & EXECUTE)
+    slices = sorted((part.start, part.start + part.size, part.slice) for part in parts if part.kind == "slice")
+    cuts = sorted({edge for part in parts if part.kind in ("slice", "segment") for edge in _range(part, data)})
+    edges = [0, *chain.from_iterable(claimed), len(data)]
+    for start, end in zip(edges[::2], edges[1::2]):
+        for piece in _pieces(start, end, cuts):
+            yield from _gap(data, piece, _holder(piece[0], slices), _holds(piece[0], code))
+    for part in parts:
+        if part.kind == "gap":
+            start, end = _range(part, data)
+            yield from _runs(data, (start, end), part.slice, False)
+
+
+def _is_unknown(part: Part, unknown: Iterable[Optional[int]]) -> bool:
+    return part.slice in unknown or part.size < HEADER.size
+
+
+def _range(part: Part, data: memoryview) -> Range:
+    """The bytes of a part that are in the file."""
+    return min(part.start, len(data)), min(part.start + part.size, len(data))
+
+
+def _pieces(start: int, end: int, cuts: List[int]) -> Iterator[Range]:
+    """A range in pieces that end at each of the places in it."""
+    number = bisect_right(cuts, start)
+    while start < end:
+        stop = min(cuts[number], end) if number < len(cuts) else end
+        yield start, stop
+        start, number = stop, number + 1
+
+
+def _holds(place: int, ranges: List[Range]) -> bool:
+    number = bisect_right(ranges, (place, 1 << 64)) - 1
+    return number >= 0 and ranges[number][0] <= place < ranges[number][1]
+
+
+def _holder(place: int, slices: List[Tuple[int, int, Optional[int]]]) -> Optional[int]:
+    """The slice of a place."""
+    number = bisect_right(slices, (place, 1 << 64, 0)) - 1
+    return slices[number][2] if number >= 0 and place < slices[number][1] else None
+
+
+def _gap(data: memoryview, piece: Range, holder: Optional[int], is_code: bool) -> Iterator[Part]:
+    runs = list(_runs(data, piece, holder, is_code))
+    name = "gap with unclaimed bytes" if runs else "gap of zeros or NOPs" if is_code else "gap of zeros"
+    yield Part("gap", name, 0 if holder is None else 2, piece[0], piece[1] - piece[0], holder)
+    yield from runs
+
+
+def _runs(data: memoryview, piece: Range, holder: Optional[int], is_code: bool) -> Iterator[Part]:
+    """Runs of bytes that are not zero, nor NOPs if they are executable."""
+    least = max(NEAR, (piece[1] - piece[0]) // RUNS)
+    wanted = re.compile(rb"[^\0\x90]+" if is_code else rb"[^\0]+")
+    start = end = count = 0
+    for first, last in _matches(wanted, data, piece):
+        if count and first - end >= least:
+            yield _run(start, end, count, holder)
+            count = 0
+        start, end, count = start if count else first, last, count + last - first
+    if count:
+        yield _run(start, end, count, holder)
+
+
+def _run(start: int, end: int, count: int, holder: Optional[int]) -> Part:
+    return Part("unclaimed", f"{count} nonzero byte{'' if count == 1 else 's'} that nothing claims", 3, start,
+                end - start, holder)
+
+
+def _matches(wanted: re.Pattern[bytes], data: memoryview, piece: Range) -> Iterator[Range]:
+    """Where a pattern of nonzero bytes matches. Zeros are passed over fast."""
+    for start in range(piece[0], piece[1], PIECE):
+        some = bytes(data[start:min(start + PIECE, piece[1])])
+        if some != ZEROS[:len(some)]:
+            yield from ((start + match.start(), start + match.end()) for match in wanted.finditer(some))
