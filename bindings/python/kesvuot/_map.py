@@ -5,9 +5,10 @@ from __future__ import annotations
 import json
 import os
 import pkgutil
-from typing import Any, Callable, Dict, Iterable, Iterator, List, NamedTuple, Optional
+from typing import Any, Callable, Dict, FrozenSet, Iterable, Iterator, List, NamedTuple
 
-from ._check import ACCEPTED, NO_VERDICT, REFUSED, Choice, Outcome, Target, judge
+from ._check import NO_VERDICT, REFUSED, Choice, Outcome, Target, judge
+from ._files import File
 from ._names import size_text
 from ._output import Output, WriteFailed, say
 from ._parts import Part, parts_of
@@ -33,7 +34,7 @@ def map_file(path: str, profile: str, target: str) -> int:
     if _is_same(path, target):
         say(f"{shown(target)}: the map would replace the file")
         return Outcome(path, NO_VERDICT).status
-    choice = Choice(profile == "strict", walks=False, extra=lambda file: Mapped(parts_of(file.data, file), len(file.data)),
+    choice = Choice(profile == "strict", walks=False, extra=_mapped,
                     of_refused=lambda data: Mapped(parts_of(memoryview(data)), len(data)))
     outcome = judge(Target(path), choice)
     if outcome.word == NO_VERDICT:
@@ -41,6 +42,10 @@ def map_file(path: str, profile: str, target: str) -> int:
     else:
         _write(target, page_of(outcome, profile))
     return outcome.status
+
+
+def _mapped(file: File) -> Mapped:
+    return Mapped(parts_of(file.data, file), len(file.data))
 
 
 def _is_same(path: str, target: str) -> bool:
@@ -82,6 +87,7 @@ def _json(whole: Dict[str, Any], parts: List[Part]) -> Iterator[str]:
 
 
 def escaped(text: str) -> str:
+    """A text of JSON, with another spelling of each `<`."""
     return text.replace("<", "\\u003c")
 
 
@@ -155,7 +161,7 @@ Find = Callable[[int, List[Part]], Iterator[int]]
 ELEMENT_KINDS = frozenset(("section", "relocations", "table"))
 SEGMENT_KINDS, SECTION_KINDS = frozenset(("segment",)), frozenset(("section",))
 SLICE_KINDS = frozenset(("slice", "slice not read"))
-DESCRIBED: Dict[str, frozenset] = {
+DESCRIBED: Dict[str, FrozenSet[str]] = {
     **dict.fromkeys(("segment-address", "segment-size", "segment-file", "segment-overlap", "segment-file-overlap"),
                     SEGMENT_KINDS),
     **dict.fromkeys(("section-address", "section-file"), SECTION_KINDS), "section-relocs": frozenset(("relocations",)),
@@ -165,7 +171,7 @@ DESCRIBED: Dict[str, frozenset] = {
     "encrypted-range": frozenset(("encrypted range",))}
 
 
-def _shares_bytes(kinds: frozenset) -> Find:
+def _shares_bytes(kinds: FrozenSet[str]) -> Find:
     """Finds earlier parts of these kinds that share a byte of the file."""
     def find(number: int, parts: List[Part]) -> Iterator[int]:
         part = parts[number]

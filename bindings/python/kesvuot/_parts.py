@@ -16,9 +16,12 @@ from ._names import FILETYPES, LC_ID_DYLIB, LC_LOAD_DYLINKER, LC_RPATH, LIBRARIE
 # fat.h: an entry of a universal file, by its magic number: cputype, cpusubtype, offset, size, align.
 FAT_ENTRIES = {b"\xca\xfe\xba\xbe": Struct(">5I"), b"\xca\xfe\xba\xbf": Struct(">2I2Q2I")}
 MH_MAGIC_64 = b"\xcf\xfa\xed\xfe"
-# loader.h: mach_header_64, load_command, segment_command_64 and section_64.
+# loader.h: mach_header_64; load_command; of segment_command_64 vmaddr, vmsize, fileoff, filesize, maxprot, initprot and
+# nsects; of section_64 addr, size, offset, align, reloff, nreloc and flags.
 HEADER, COMMAND = Struct("<8I"), Struct("<2I")
-SEGMENT, SECTION = Struct("<2I16s4Q4I"), Struct("<16s16s2Q8I")
+SEGMENT, SECTION = Struct("<24x4Q3I4x"), Struct("<32x2Q5I12x")
+# The offset and the size of a note_command.
+NOTE = Struct("<2Q")
 LC_SEGMENT_64, LC_ENCRYPTION_INFO_64, LC_NOTE = 0x19, 0x2C, 0x31
 ZERO_FILL_TYPES = {0x1, 0xC, 0x12}
 EXECUTE = 4
@@ -203,44 +206,50 @@ def _described(part: Part, command: Any) -> Iterator[Part]:
         if len(command.bytes) >= SEGMENT.size:
             yield from _segment_parts(part, command)
         return
-    for name, at, count_at, size in TABLES.get(command.cmd, ()):
+    described = part._replace(described=part.start + command.place)
+    for name, start_at, count_at, size in TABLES.get(command.cmd, ()):
         if len(command.bytes) >= count_at + 4:
             count = int.from_bytes(command.bytes[count_at:count_at + 4], "little")
-            start = int.from_bytes(command.bytes[at:at + 4], "little")
+            start = int.from_bytes(command.bytes[start_at:start_at + 4], "little")
             note = f"{count} entries of {size} bytes" if size > 1 else ""
-            yield from _table(part, command, "table", name, start, count * size, note)
+            yield from _table(described, name, start, count * size, note)
     if command.cmd == LC_ENCRYPTION_INFO_64 and len(command.bytes) >= 16:
-        start, size = COMMAND.unpack_from(command.bytes, 8)
-        yield from _table(part, command, "encrypted range", "encrypted range", start, size)
+        range_of = _table(described, "encrypted range", *COMMAND.unpack_from(command.bytes, 8))
+        yield from (it._replace(kind="encrypted range", column=3) for it in range_of)
     elif command.cmd == LC_NOTE and len(command.bytes) >= 40:
-        start, size = Struct("<2Q").unpack_from(command.bytes, 24)
-        yield from _table(part, command, "table", f"note of {_text(command.bytes[8:24])}", start, size)
+        yield from _table(described, f"note of {_text(command.bytes[8:24])}", *NOTE.unpack_from(command.bytes, 24))
 
 
-def _table(part: Part, command: Any, kind: str, name: str, start: int, size: int,
-           note: str = "") -> Iterator[Part]:
+def _table(part: Part, name: str, start: int, size: int, note: str = "") -> Iterator[Part]:
+    """A table of a slice, unless it is empty."""
     if size:
-        yield Part(kind, name, 2 if kind == "table" else 3, part.start + start, size, part.slice,
-                   part.start + command.place, note=note)
+        yield Part("table", name, 2, part.start + start, size, part.slice, part.described, note=note)
 
 
 def _segment_parts(part: Part, command: Any) -> Iterator[Part]:
     """A segment, its sections, and their relocations."""
+    vmaddr, vmsize, fileoff, filesize, maxprot, initprot, nsects = SEGMENT.unpack_from(command.bytes)
     place = part.start + command.place
-    _, _, _, vmaddr, vmsize, fileoff, filesize, maxprot, initprot, nsects, _ = SEGMENT.unpack_from(command.bytes)
-    name = _text(command.bytes[8:24])
-    yield Part("segment", name, 1, part.start + fileoff, filesize, part.slice, place, vmaddr, vmsize,
-               f"{protection_text(initprot)}; at most {protection_text(maxprot)}", initprot)
+    protections = f"{protection_text(initprot)}; at most {protection_text(maxprot)}"
+    segment = Part("segment", _text(command.bytes[8:24]), 1, part.start + fileoff, filesize, part.slice, place, vmaddr,
+                   vmsize, protections, initprot)
+    yield segment
     for number in range(min(nsects, (len(command.bytes) - SEGMENT.size) // SECTION.size)):
-        at = SEGMENT.size + SECTION.size * number
-        _, _, addr, size, offset, align, reloff, nreloc, flags, *_ = SECTION.unpack_from(command.bytes, at)
-        is_zero_fill = flags & 0xFF in ZERO_FILL_TYPES
-        section = f"{name},{_text(command.bytes[at:at + 16])}"
-        yield Part("section", section, 2, part.start + offset, 0 if is_zero_fill else size, part.slice, place + at,
-                   addr, size if vmsize else 0, "zero-fill" if is_zero_fill else f"align 2^{align}")
-        if nreloc:
-            yield Part("relocations", f"relocations of {section}", 2, part.start + reloff, RELOCATION_SIZE * nreloc,
-                       part.slice, place + at, note=f"{nreloc} entries of {RELOCATION_SIZE} bytes")
+        start = SEGMENT.size + SECTION.size * number
+        yield from _section_parts(part, segment, place + start, command.bytes[start:start + SECTION.size])
+
+
+def _section_parts(part: Part, segment: Part, place: int, record: memoryview) -> Iterator[Part]:
+    """A section of a segment, by its section_64, and its relocations."""
+    addr, size, offset, align, reloff, nreloc, flags = SECTION.unpack(record)
+    name = f"{segment.name},{_text(record[:16])}"
+    is_zero_fill = flags & 0xFF in ZERO_FILL_TYPES
+    yield Part("section", name, 2, part.start + offset, 0 if is_zero_fill else size, part.slice, place,
+               addr, size if segment.memory else 0,
+               "zero-fill" if is_zero_fill else f"align 2^{align}")
+    relocations = _table(part._replace(described=place), f"relocations of {name}", reloff,
+                         RELOCATION_SIZE * nreloc, f"{nreloc} entries of {RELOCATION_SIZE} bytes")
+    yield from (it._replace(kind="relocations") for it in relocations)
 
 
 # What no element has
