@@ -14,7 +14,7 @@ _kesvuot() {
                 words="check show diff map --help --version"
             elif [[ $current == -* ]]; then
                 case ${COMP_WORDS[1]} in
-                    check) words="--exclude --format --help --include --jobs --no-progress --profile --quiet
+                    check) words="--exclude --format --help --include --jobs --mmap --no-progress --profile --quiet
                         --skip-other-kinds" ;;
                     show) words="--help --json --profile" ;;
                     diff) words="--help --profile" ;;

@@ -102,7 +102,9 @@ class Browser:
             self.faults.append(given["entry"]["text"])
 
     def open(self, page: Path) -> None:
-        self.ask("Page.navigate", url=page.as_uri())
+        fault = self.ask("Page.navigate", url=page.as_uri()).get("errorText")
+        if fault:
+            raise AssertionError(f"{page}: {fault}")
         self.wait_for(lambda it: it.get("method") == "Page.loadEventFired", f"{page}")
 
     def value(self, script: str) -> Any:

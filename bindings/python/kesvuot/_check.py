@@ -63,6 +63,7 @@ class Choice(NamedTuple):
     include: Tuple[str, ...] = ()
     exclude: Tuple[str, ...] = ()
     skips_other_kinds: bool = False
+    maps: bool = False
     extra: Extra = None
     of_refused: ExtraOfRefused = None
 
@@ -129,12 +130,13 @@ def _matches(entry: Any, pattern: str) -> bool:
 
 
 def judge(target: Target, choice: Choice) -> Outcome:
-    """Judges a file. It is read into memory, so nobody can change it meanwhile."""
+    """Judges a file. It is read into memory, so nobody can change it meanwhile; unless the choice is that it is mapped,
+    and then whoever can write to it can change it, and end this process by cutting it."""
     if target.outcome:
         return target.outcome
     path, size = target.path, 0
     try:
-        data = read_found(path) if target.is_found else read_given(path)
+        data = (read_found if target.is_found else read_given)(path, choice.maps)
         size = len(data)
         file = verify(data, choice.is_strict)
         return Outcome(path, ACCEPTED, size, file.slice_count, extra=choice.extra and choice.extra(file))

@@ -3,7 +3,7 @@ that is not judged."""
 
 from __future__ import annotations
 
-from typing import Optional
+from typing import Optional, Union
 
 from ._reading import MACH_O_MAGICS, Contents
 
@@ -40,7 +40,7 @@ def other_kind(rule: str, place: int, data: Contents) -> Optional[str]:
     return None
 
 
-def _kind_of_beginning(first: Contents) -> Optional[str]:
+def _kind_of_beginning(first: Union[bytes, bytearray]) -> Optional[str]:
     if not first:
         return "empty file"
     return next((kind for beginning, kind in BEGINNINGS.items() if first.startswith(beginning)), None)

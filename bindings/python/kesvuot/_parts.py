@@ -231,7 +231,7 @@ def _segment_parts(part: Part, command: Any) -> Iterator[Part]:
     vmaddr, vmsize, fileoff, filesize, maxprot, initprot, nsects = SEGMENT.unpack_from(command.bytes)
     place = part.start + command.place
     protections = f"{protection_text(initprot)}; at most {protection_text(maxprot)}"
-    segment = Part("segment", _text(command.bytes[8:24]), 1, part.start + fileoff, filesize, part.slice, place, vmaddr,
+    segment = Part("segment", _text(command.bytes[8:24]) or "(no name)", 1, part.start + fileoff, filesize, part.slice, place, vmaddr,
                    vmsize, protections, initprot)
     yield segment
     for number in range(min(nsects, (len(command.bytes) - SEGMENT.size) // SECTION.size)):
@@ -242,7 +242,7 @@ def _segment_parts(part: Part, command: Any) -> Iterator[Part]:
 def _section_parts(part: Part, segment: Part, place: int, record: memoryview) -> Iterator[Part]:
     """A section of a segment, by its section_64, and its relocations."""
     addr, size, offset, align, reloff, nreloc, flags = SECTION.unpack(record)
-    name = f"{segment.name},{_text(record[:16])}"
+    name = f"{_text(record[16:32])},{_text(record[:16])}"
     is_zero_fill = flags & 0xFF in ZERO_FILL_TYPES
     yield Part("section", name, 2, part.start + offset, 0 if is_zero_fill else size, part.slice, place,
                addr, size if segment.memory else 0,

@@ -1,7 +1,9 @@
-"""Reads a file into memory, as much of it as a verdict needs, and no more than the limit."""
+"""Reads a file into memory, as much of it as a verdict needs, and no more than the limit; or maps it, where the user
+says that nobody else can write to it."""
 
 from __future__ import annotations
 
+import mmap
 import os
 import stat
 from typing import Union
@@ -18,7 +20,7 @@ JUDGED_MAGICS = frozenset(map(bytes.fromhex, ("cafebabe", "cafebabf", "cffaedfe"
 # These, and images of 32 bits or in the other byte order.
 MACH_O_MAGICS = JUDGED_MAGICS | frozenset(map(bytes.fromhex, ("feedfacf", "cefaedfe", "feedface")))
 
-Contents = Union[bytes, bytearray]
+Contents = Union[bytes, bytearray, mmap.mmap]
 
 
 class Unread(Exception):
@@ -29,32 +31,33 @@ class NotMachO(Exception):
     """What was found in a folder is no file of Mach-O, by its kind or its first bytes."""
 
 
-def read_given(path: str) -> Contents:
+def read_given(path: str, maps: bool = False) -> Contents:
     """The bytes of a file that the user has named; `-` is standard input. Of a file that is refused by its first bytes
-    they may be no more than these. Raises OSError, MemoryError or Unread."""
+    they may be no more than these. A regular file that has to be read whole is mapped if `maps`, but standard input is
+    read. Raises OSError, MemoryError or Unread."""
     if path == "-":
         return _read(0, os.fstat(0))
     # Opening a device may do something.
     mode = os.stat(path).st_mode
     if stat.S_ISCHR(mode) or stat.S_ISBLK(mode):
         raise Unread("a device is not read")
-    return _open_and_read(path, 0)
+    return _open_and_read(path, 0, maps)
 
 
-def read_found(path: str) -> Contents:
+def read_found(path: str, maps: bool = False) -> Contents:
     """The bytes of what was found in a folder. A link is not followed, and no pipe waited for. Raises NotMachO too."""
-    return _open_and_read(path, os.O_NOFOLLOW | os.O_NONBLOCK, is_found=True)
+    return _open_and_read(path, os.O_NOFOLLOW | os.O_NONBLOCK, maps, is_found=True)
 
 
-def _open_and_read(path: str, flags: int, is_found: bool = False) -> Contents:
+def _open_and_read(path: str, flags: int, maps: bool, is_found: bool = False) -> Contents:
     descriptor = os.open(path, os.O_RDONLY | os.O_CLOEXEC | os.O_NOCTTY | flags)
     try:
-        return _read(descriptor, os.fstat(descriptor), is_found)
+        return _read(descriptor, os.fstat(descriptor), maps, is_found)
     finally:
         os.close(descriptor)
 
 
-def _read(descriptor: int, known: os.stat_result, is_found: bool = False) -> Contents:
+def _read(descriptor: int, known: os.stat_result, maps: bool = False, is_found: bool = False) -> Contents:
     """The bytes up to the end, or the first of them if they decide."""
     is_regular = stat.S_ISREG(known.st_mode)
     if is_found and not is_regular:
@@ -69,6 +72,8 @@ def _read(descriptor: int, known: os.stat_result, is_found: bool = False) -> Con
     # A file whose read is short has ended.
     if is_regular and len(head) < HEAD_SIZE and len(head) == known.st_size:
         return head
+    if is_regular and maps:
+        return mmap.mmap(descriptor, 0, access=mmap.ACCESS_READ)
     return _read_on(descriptor, bytearray(head))
 
 
