@@ -98,10 +98,10 @@ uninstall:
 	for call in $(CALLS); do rm -f $(TO_MAN)/man3/$$call.3; done
 	rmdir $(TO_DOC) 2>/dev/null || :
 
-# A Debian package, and an archive for any other system.
+# Two Debian packages, and an archive for any other system.
 deb: built
-	@package=$$(packaging/pack deb "$(OUT)") && echo "$$package" && \
-	    { ! command -v lintian >/dev/null || lintian --fail-on error "$$package"; }
+	@packages=$$(packaging/pack deb "$(OUT)") && echo "$$packages" && \
+	    { ! command -v lintian >/dev/null || echo "$$packages" | tr '\n' '\0' | xargs -0 lintian --fail-on error; }
 
 dist: built
 	@packaging/pack dist "$(OUT)"
