@@ -17,9 +17,18 @@ from ._rules import RULES, link
 
 # The page, and where in it the map is put.
 PAGE, PLACE = "map.html", "@MAP@"
-# A page with more parts than this would keep a browser busy. Those that the list has first are drawn.
+# A page with more parts than this would keep a browser busy. Those of these kinds are drawn first.
 PART_LIMIT = 100_000
+FIRST_KINDS = frozenset(("slice", "slice not read", "segment", "headers", "unclaimed", "broken walk"))
 STANDARD_OUTPUT = "-"
+
+
+class Marks(NamedTuple):
+    """The indices of the parts that a refusal is about, and of those with which they conflict, as far as the rule says
+    which they are."""
+
+    broken: List[int]
+    others: List[int]
 
 
 class Mapped(NamedTuple):
@@ -73,9 +82,22 @@ def _write(target: str, text: Iterable[str]) -> None:
 def page_of(outcome: Outcome, profile: str) -> Iterator[str]:
     """The page, in pieces."""
     before, _, after = (pkgutil.get_data(__package__, PAGE) or b"").decode("utf-8").partition(PLACE)
+    parts: List[Part] = outcome.extra.parts
+    marks = marks_of(outcome.rule, outcome.place, parts) if outcome.word == REFUSED else Marks([], [])
+    kept = _kept(parts, marks)
     yield before
-    yield from _json(_object(outcome, profile), outcome.extra.parts[:PART_LIMIT])
+    yield from _json(_object(outcome, profile, marks, kept), [parts[number] for number in kept])
     yield after
+
+
+def _kept(parts: List[Part], marks: Marks) -> List[int]:
+    """The indices of the parts that are drawn."""
+    if len(parts) <= PART_LIMIT:
+        return list(range(len(parts)))
+    marked = {*marks.broken, *marks.others}
+    ranked = sorted(range(len(parts)), key=lambda number: 0 if number in marked else
+                    1 if parts[number].kind in FIRST_KINDS else 2)
+    return sorted(ranked[:PART_LIMIT])
 
 
 def _json(whole: Dict[str, Any], parts: List[Part]) -> Iterator[str]:
@@ -91,16 +113,16 @@ def escaped(text: str) -> str:
     return text.replace("<", "\\u003c")
 
 
-def _object(outcome: Outcome, profile: str) -> Dict[str, Any]:
-    parts = outcome.extra.parts[:PART_LIMIT]
+def _object(outcome: Outcome, profile: str, marks: Marks, kept: List[int]) -> Dict[str, Any]:
     whole = {"file": shown(outcome.path), "size": outcome.extra.size, "size_text": size_text(outcome.extra.size),
-             "profile": profile, "verdict": outcome.word, "left_out": len(outcome.extra.parts) - len(parts)}
+             "profile": profile, "verdict": outcome.word, "left_out": len(outcome.extra.parts) - len(kept)}
     if outcome.word == REFUSED:
         rule = RULES[outcome.rule]
-        marks = marks_of(outcome.rule, outcome.place, parts)
+        places = {number: place for place, number in enumerate(kept)}
+        broken, others = ([places[number] for number in some if number in places] for some in marks)
         whole.update(verdict=reason_text(outcome), rule=outcome.rule, place=outcome.place, text=rule_text(outcome.rule),
-                     why=rule.why, cause=rule.cause, remedy=rule.remedy, link=link(outcome.rule), broken=marks.broken,
-                     others=marks.others)
+                     why=rule.why, cause=rule.cause, remedy=rule.remedy, link=link(outcome.rule), broken=broken,
+                     others=others)
     return whole
 
 
@@ -123,14 +145,6 @@ def _part_object(part: Part, size: int) -> Dict[str, Any]:
 
 
 # The parts that conflict
-
-
-class Marks(NamedTuple):
-    """The indices of the parts that a refusal is about, and of those with which they conflict, as far as the rule says
-    which they are."""
-
-    broken: List[int]
-    others: List[int]
 
 
 def marks_of(rule: str, place: int, parts: List[Part]) -> Marks:

@@ -231,8 +231,8 @@ def _segment_parts(part: Part, command: Any) -> Iterator[Part]:
     vmaddr, vmsize, fileoff, filesize, maxprot, initprot, nsects = SEGMENT.unpack_from(command.bytes)
     place = part.start + command.place
     protections = f"{protection_text(initprot)}; at most {protection_text(maxprot)}"
-    segment = Part("segment", _text(command.bytes[8:24]) or "(no name)", 1, part.start + fileoff, filesize, part.slice, place, vmaddr,
-                   vmsize, protections, initprot)
+    segment = Part("segment", _text(command.bytes[8:24]) or "(no name)", 1, part.start + fileoff, filesize, part.slice,
+                   place, vmaddr, vmsize, protections, initprot)
     yield segment
     for number in range(min(nsects, (len(command.bytes) - SEGMENT.size) // SECTION.size)):
         start = SEGMENT.size + SECTION.size * number
