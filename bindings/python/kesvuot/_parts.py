@@ -19,6 +19,7 @@ MH_MAGIC_64 = b"\xcf\xfa\xed\xfe"
 # loader.h: mach_header_64; load_command; of segment_command_64 vmaddr, vmsize, fileoff, filesize, maxprot, initprot and
 # nsects; of section_64 addr, size, offset, align, reloff, nreloc and flags.
 HEADER, COMMAND = Struct("<8I"), Struct("<2I")
+COMMAND_ALIGN = 8
 SEGMENT, SECTION = Struct("<24x4Q3I4x"), Struct("<32x2Q5I12x")
 # The offset and the size of a note_command.
 NOTE = Struct("<2Q")
@@ -160,14 +161,14 @@ def _image_parts(data: memoryview, part: Part, accepted: Optional[Image]) -> Ite
 
 
 def _walk(image: memoryview, ncmds: int, end: int) -> Walk:
-    """The commands as far as each lies among the commands, and in the image."""
+    """The commands as far as each has a cmdsize that can be, and lies among the commands and in the image."""
     commands: List[Step] = []
     place, end = HEADER.size, min(end, len(image))
     while len(commands) < ncmds:
         if place + COMMAND.size > end:
             return Walk(commands, False)
         cmd, size = COMMAND.unpack_from(image, place)
-        if size < COMMAND.size or place + size > end:
+        if size < COMMAND.size or size % COMMAND_ALIGN or place + size > end:
             return Walk(commands, False)
         command = image[place:place + size]
         commands.append(Step(command, _name_of(cmd, command), place, cmd))
