@@ -211,8 +211,8 @@ judges those files that begin with a magic number of Mach-O, and follows no link
                         help="skip the refused files that are of another kind, such as object files")
     parser.add_argument("--jobs", type=_positive, default=len(os.sched_getaffinity(0)), metavar="N",
                         help="how many processes judge (one for each processor)")
-    parser.add_argument("--mmap", action="store_true", help="map files, and do not read them. ONLY FOR FILES TO WHICH "
-                        "NOBODY ELSE CAN WRITE: the verdict on one that changes is worth nothing, or the command ends")
+    parser.add_argument("--mmap", action="store_true", help="map files instead of reading them. ONLY FOR FILES THAT "
+                        "NOBODY ELSE CAN WRITE TO: if one changes, its verdict means nothing, or the command is killed")
     parser.add_argument("-q", "--quiet", action="store_true", help="print only files that are not accepted")
     parser.add_argument("--no-progress", action="store_true", help="show no bar on a terminal")
 
