@@ -23,12 +23,14 @@ COMMAND_ALIGN = 8
 SEGMENT, SECTION = Struct("<24x4Q3I4x"), Struct("<32x2Q5I12x")
 # The offset and the size of a note_command.
 NOTE = Struct("<2Q")
-LC_SEGMENT_64, LC_ENCRYPTION_INFO_64, LC_NOTE = 0x19, 0x2C, 0x31
+LC_SEGMENT_64, LC_ENCRYPTION_INFO_64, LC_NOTE, LC_BUILD_VERSION = 0x19, 0x2C, 0x31, 0x32
 ZERO_FILL_TYPES = {0x1, 0xC, 0x12}
 EXECUTE = 4
 RELOCATION_SIZE = 8
 # Which commands have a name, whose offset is the word after cmdsize.
 NAMED = {*LIBRARIES, LC_LOAD_DYLINKER, 0xF, LC_RPATH, 0x27}
+
+Range = Tuple[int, int]
 
 # The tables of a command, as in RULES.md: a name, where in the command the offset and the count are, and the bytes of
 # an entry.
@@ -45,6 +47,14 @@ TABLES: Dict[int, Tables] = {
           ("indirect symbols", 56, 60, 4), ("external relocations", 64, 68, 8), ("local relocations", 72, 76, 8)),
     0x16: (("two-level hints", 8, 12, 4),), 0x22: DYLD_INFO, 0x8000_0022: DYLD_INFO,
     **{cmd: ((name, 8, 12, 1),) for cmd, name in LINKEDIT_DATA.items()}}
+
+# The size of the structure of each listed command; and of those with records, where their count is, and their size.
+STRUCTURE_SIZES: Dict[int, int] = {
+    **dict.fromkeys(LIBRARIES, 24), **dict.fromkeys((LC_LOAD_DYLINKER, 0xF, LC_RPATH, 0x27), 12),
+    **dict.fromkeys((0x1D, 0x1E, 0x26, 0x29, 0x2B, 0x2E, 0x8000_0033, 0x8000_0034), 16), 0x2: 24, 0xB: 80,
+    LC_SEGMENT_64: 72, 0x1B: 24, 0x22: 48, 0x8000_0022: 48, LC_ENCRYPTION_INFO_64: 24, LC_NOTE: 40,
+    LC_BUILD_VERSION: 24, 0x8000_0028: 24}
+RECORDS = {LC_SEGMENT_64: (64, SECTION.size), LC_BUILD_VERSION: (20, 8)}
 
 # Between runs of nonzero bytes that are drawn as one there are fewer zeros than this, or than one in so many of a gap.
 NEAR, RUNS = 16, 256
@@ -151,6 +161,9 @@ def _image_parts(data: memoryview, part: Part, accepted: Optional[Image]) -> Ite
     for command in walk.commands:
         yield _command_part(part, command)
         yield from _described(part, command)
+        for start, stop in _slack(command):
+            place = part.start + command.place
+            yield from _runs(data, (place + start, place + stop), part.slice, False)
         end = command.place + len(command.bytes)
     if not walk.is_whole:
         size = int.from_bytes(image[end + 4:end + 8], "little")
@@ -194,6 +207,22 @@ def _command_part(part: Part, command: Any) -> Part:
     place = part.start + command.place
     return Part("command", name, 3, place, len(command.bytes), part.slice, place,
                 note="the image's own name" if command.cmd == LC_ID_DYLIB else "")
+
+
+def _slack(command: Any) -> Iterator[Range]:
+    """The ranges of a listed command that are past its structure and its records, and outside its name."""
+    data = command.bytes
+    if command.cmd not in STRUCTURE_SIZES or len(data) <= STRUCTURE_SIZES[command.cmd]:
+        return
+    end = STRUCTURE_SIZES[command.cmd]
+    if command.cmd in RECORDS:
+        count_at, size = RECORDS[command.cmd]
+        end += size * int.from_bytes(data[count_at:count_at + 4], "little")
+    if command.cmd in NAMED:
+        start = int.from_bytes(data[8:12], "little")
+        yield min(end, len(data)), min(max(start, end), len(data))
+        end = max(end, start + len(command.name) + 1)
+    yield min(end, len(data)), len(data)
 
 
 def _text(name: memoryview) -> str:
@@ -254,8 +283,6 @@ def _section_parts(part: Part, segment: Part, place: int, record: memoryview) ->
 
 
 # What no element has
-
-Range = Tuple[int, int]
 
 
 def merged(ranges: Iterable[Range]) -> List[Range]:
