@@ -69,8 +69,8 @@ install-programs: built
 install-lib: built-lib
 	install -d $(TO_LIB)/pkgconfig $(TO_LIB)/cmake/kesvuot $(TO_INCLUDE) $(TO_MAN)/man3 $(TO_DOC) $(TO_PYTHON)/kesvuot
 	install -d $(TO_BIN) $(TO_MAN)/man1 $(TO_BASH) $(TO_ZSH) $(TO_FISH)
-	install -m 644 build/lib/libkesvuot.a build/lib/libkesvuot.so.0 $(TO_LIB)
-	ln -sf libkesvuot.so.0 $(TO_LIB)/libkesvuot.so
+	install -m 644 build/lib/libkesvuot.a build/lib/libkesvuot.so.2 $(TO_LIB)
+	ln -sf libkesvuot.so.2 $(TO_LIB)/libkesvuot.so
 	$(FILL) packaging/kesvuot.pc.in >$(TO_LIB)/pkgconfig/kesvuot.pc
 	$(FILL) packaging/kesvuotConfig.cmake.in >$(TO_LIB)/cmake/kesvuot/kesvuotConfig.cmake
 	$(FILL) packaging/kesvuotConfigVersion.cmake.in >$(TO_LIB)/cmake/kesvuot/kesvuotConfigVersion.cmake
@@ -91,7 +91,7 @@ install-lib: built-lib
 uninstall:
 	rm -f $(TO_BIN)/macho-check $(TO_BIN)/macho-strict $(TO_BIN)/kesvuot $(TO_MAN)/man1/kesvuot.1
 	rm -f $(TO_BASH)/kesvuot $(TO_ZSH)/_kesvuot $(TO_FISH)/kesvuot.fish
-	rm -f $(TO_LIB)/libkesvuot.a $(TO_LIB)/libkesvuot.so.0 $(TO_LIB)/libkesvuot.so $(TO_LIB)/pkgconfig/kesvuot.pc
+	rm -f $(TO_LIB)/libkesvuot.a $(TO_LIB)/libkesvuot.so.2 $(TO_LIB)/libkesvuot.so $(TO_LIB)/pkgconfig/kesvuot.pc
 	rm -f $(TO_INCLUDE)/kesvuot.h
 	rm -rf $(TO_LIB)/cmake/kesvuot $(TO_PYTHON)/kesvuot
 	rm -f $(TO_MAN)/man1/macho-check.1 $(TO_MAN)/man1/macho-strict.1 $(TO_MAN)/man3/kesvuot.3 $(TO_DOC)/RULES.md

@@ -3,23 +3,29 @@
  *     struct kesvuot_verdict verdict;
  *     struct kesvuot_image image;
  *     struct kesvuot_segment rows[16];
- *     if (kesvuot_verify(file, size, &verdict) == KESVUOT_OK && kesvuot_image(file, size, 0, &image) == KESVUOT_OK)
- *         for (uint64_t first = 0, n; (n = kesvuot_segments(&image, first, rows, 16)) > 0; first += n)
- *             ; // rows[0].bytes to rows[n - 1].bytes are all that the segments have in the file: test no offset.
+ *     if (kesvuot_verify(file, size, &verdict) == KESVUOT_OK &&
+ *         kesvuot_read_image(file, size, 0, &image) == KESVUOT_OK) {
+ *         struct kesvuot_cursor cursor = {0};
+ *         size_t count;
+ *         while ((count = kesvuot_read_segments(file, size, &image, &cursor, rows, 16)) > 0)
+ *             ; // the bytes of a segment: rows[0].bytes.size from (const char *)file + rows[0].bytes.offset on
+ *     }
  *
  * THE BYTES MUST NOT CHANGE WHILE A CALL RUNS. A call that reads a byte twice and finds two values may crash. Map a
  * file only if nobody else can write to it or truncate it. Read any other file into memory first.
  *
+ * Pass the same file and size to every call. The structs have plain numbers and no pointers: a `struct kesvuot_span`
+ * says where bytes lie in the file, by their offset from its start. So a struct can be copied, stored and sent, and it
+ * still serves if the file has moved in memory.
+ *
  * Every call is safe on any bytes, and on any numbers in the structures below. It does not rely on earlier calls:
- * neither that kesvuot_verify accepted the file, nor that a structure is still as kesvuot_image wrote it. A part that
- * would lie outside the bytes is left empty. In an accepted file no part is empty for that reason, which is proved, and
- * each part is as RULES.md says.
+ * neither that kesvuot_verify accepted the file, nor that a structure is still as a call wrote it. Every span that it
+ * writes lies in the file that it got. A part that would lie outside is left empty. In an accepted file no part is
+ * empty for that reason, which is proved, and each part is as RULES.md says.
  *
  * You must ensure:
  * - Each pointer is valid for as many bytes or rows as you pass. It may be null only if the size or count is 0.
  * - The memory that a call writes does not overlap the memory that it reads.
- * - The bytes of the file stay valid while you use what was read from them: every `struct kesvuot_bytes` that a call
- *   writes points into the file, or to a constant of the library. Nothing is copied, and there is nothing to free.
  *
  * A program works with every library that has the soname it was linked against. The number of a rule never changes: a
  * version that adds a rule gives it the next free number, wherever it is judged.
@@ -39,15 +45,15 @@ extern "C" {
 #endif
 
 /* The version of this header: major << 16 | minor << 8 | patch. */
-#define KESVUOT_VERSION 0x010100
+#define KESVUOT_VERSION 0x020000
 
 /* The version of the linked library: major << 16 | minor << 8 | patch. */
 uint32_t kesvuot_version(void);
 
-/* Some bytes of the file. If len is 0, `at` can be any pointer: do not read through it. */
-struct kesvuot_bytes {
-    const uint8_t *at;
-    size_t len;
+/* Some bytes of the file: `size` bytes, of which the first is at `offset`. An empty span has the offset 0. */
+struct kesvuot_span {
+    uint64_t offset;
+    uint64_t size;
 };
 
 /* What a call returns. Each call says which of these it can return. */
@@ -154,17 +160,30 @@ uint32_t kesvuot_verify_strictly(const void *file, size_t size, struct kesvuot_v
  * out for the verdict or the layout. After REFUSED and NO_MEMORY `needed` is 0, and `text` is unchanged. */
 uint32_t kesvuot_layout(const void *file, size_t size, char *text, size_t max, size_t *needed);
 
-/* The name of a rule, such as "section-file". A zero byte, which len does not count, follows it in memory.
- * OK: the name is written. NONE: no rule has this number, and the name is empty. */
-uint32_t kesvuot_rule(uint32_t rule, struct kesvuot_bytes *name);
+/* A constant text of the library. A zero byte, which size does not count, follows it. */
+struct kesvuot_text {
+    const char *at;
+    size_t size;
+};
+
+/* The name of a rule, such as "section-file".
+ * OK: the name is written. NONE: no rule has this number, and the name is empty: do not read through `at`. */
+uint32_t kesvuot_find_rule(uint32_t rule, struct kesvuot_text *name);
+
+/* The same as a string, or a null pointer if no rule has this number. */
+static inline const char *kesvuot_rule_name(uint32_t rule) {
+    struct kesvuot_text name;
+    return kesvuot_find_rule(rule, &name) == KESVUOT_OK ? name.at : NULL;
+}
 
 /* An image
  *
- * <mach-o/loader.h> and <mach-o/nlist.h> explain the fields. Offsets count from the start of the slice, except that
- * `place` of an image counts from the start of the file. Reserved fields are 0.
+ * <mach-o/loader.h> and <mach-o/nlist.h> explain the fields. The offset of a span counts from the start of the file.
+ * All other offsets, such as `fileoff`, are fields of the format and count from the start of the slice: in the file the
+ * byte is at image.slice.offset + fileoff. Reserved fields are 0.
  *
  * A name contains no zero byte, and can be empty. A zero byte follows a nonempty name of a command, library or symbol,
- * but not always that of a segment or section, which can fill all its 16 bytes: use len.
+ * but not always that of a segment or section, which can fill all its 16 bytes: use size.
  *
  * The comments of the fields say what holds of them in an accepted file. "Any number" is not judged: test such a field
  * before you use it as an index, an offset or a shift. */
@@ -175,93 +194,98 @@ enum {
     KESVUOT_HAS_BASE = 2,
     KESVUOT_HAS_ENTRY = 4,
     KESVUOT_HAS_SYMTAB = 8,
-    KESVUOT_HAS_DYSYMTAB = 16
+    KESVUOT_HAS_DYSYMTAB = 16,
+    KESVUOT_HAS_ID = 32
 };
 
-/* In C++ write `struct kesvuot_image`, or `using Image = struct kesvuot_image;` once: the call has the same name. */
+struct kesvuot_library {      /* dylib_command */
+    struct kesvuot_span name; /* any bytes, all in its command */
+    uint32_t cmd;             /* LC_LOAD_DYLIB (0xc), LC_LOAD_WEAK_DYLIB and so on; of `id` LC_ID_DYLIB (0xd) */
+    uint32_t current;         /* x << 16 | y << 8 | z. Any number */
+    uint32_t compatible;      /* any number */
+    uint32_t reserved;
+};
+
 struct kesvuot_image {
-    struct kesvuot_bytes bytes; /* the slice */
-    uint64_t place;             /* where the slice begins in the file */
-    uint64_t base;              /* HAS_BASE: the address of the header, before any slide */
-    uint64_t entry;             /* HAS_ENTRY: base + entryoff of LC_MAIN, in an executable segment, and in the file */
-    uint64_t symbols;           /* HAS_SYMTAB: symoff of LC_SYMTAB. Any number if symbol_count is 0 */
-    uint64_t symbol_count;      /* nsyms: the table lies in the slice */
-    uint64_t strings;           /* stroff. Any number if strings_size is 0 */
-    uint64_t strings_size;      /* strsize: the strings lie in the slice */
-    uint64_t indirects;         /* HAS_DYSYMTAB: indirectsymoff of LC_DYSYMTAB. Any number if indirect_count is 0 */
-    uint64_t indirect_count;    /* nindirectsyms: the table lies in the slice */
-    uint64_t command_count;     /* how many rows each table below has */
+    struct kesvuot_span slice; /* the slice, in the file */
+    uint64_t base;             /* HAS_BASE: the address of the header, before any slide */
+    uint64_t entry;            /* HAS_ENTRY: base + entryoff of LC_MAIN, in an executable segment, and in the file */
+    uint64_t symbols;          /* HAS_SYMTAB: symoff of LC_SYMTAB. Any number if symbol_count is 0 */
+    uint64_t symbol_count;     /* nsyms: the table lies in the slice */
+    uint64_t strings;          /* stroff. Any number if strings_size is 0 */
+    uint64_t strings_size;     /* strsize: the strings lie in the slice */
+    uint64_t indirects;        /* HAS_DYSYMTAB: indirectsymoff of LC_DYSYMTAB. Any number if indirect_count is 0 */
+    uint64_t indirect_count;   /* nindirectsyms: the table lies in the slice */
+    uint64_t command_count;    /* how many rows each table below has */
     uint64_t segment_count;
     uint64_t section_count;
     uint64_t library_count;
     uint64_t build_count;
-    uint32_t cputype;     /* any number. In a universal file the table has the same, and so for cpusubtype */
-    uint32_t cpusubtype;  /* without the capability byte, CPU_SUBTYPE_MASK. Any number */
-    uint32_t filetype;    /* one that RULES.md lists: MH_EXECUTE, MH_DYLIB or MH_BUNDLE */
-    uint32_t flags;       /* any number */
-    uint32_t has;         /* KESVUOT_HAS_.. */
-    uint32_t groups[6];   /* HAS_DYSYMTAB: ilocalsym, nlocalsym, iextdefsym, nextdefsym, iundefsym, nundefsym. An index
-                             is any number if its count is 0. Otherwise index + count is at most symbol_count */
-    uint8_t uuid[16];     /* HAS_UUID: any bytes */
-    uint32_t reserved[5]; /* 0 */
+    struct kesvuot_library id; /* HAS_ID: what the image is as a library. An MH_DYLIB has it, and other images do not */
+    uint32_t cputype;          /* any number. In a universal file the table has the same, and so for cpusubtype */
+    uint32_t cpusubtype;       /* without the high byte, CPU_SUBTYPE_MASK. Any number */
+    uint32_t capabilities;     /* that byte, such as the version of arm64e's ABI. Any number below 256 */
+    uint32_t filetype;         /* one that RULES.md lists: MH_EXECUTE, MH_DYLIB or MH_BUNDLE */
+    uint32_t flags;            /* any number */
+    uint32_t has;              /* KESVUOT_HAS_.. */
+    uint32_t groups[6];        /* HAS_DYSYMTAB: ilocalsym, nlocalsym, iextdefsym, nextdefsym, iundefsym, nundefsym. An
+                                  index is any number if its count is 0. Else index + count is at most symbol_count */
+    uint8_t uuid[16];          /* HAS_UUID: any bytes */
+    uint32_t reserved[4];      /* 0 */
 };
 
 /* The image of a slice, counted from 0. Only the load commands of that slice are read, so the number of slices does not
  * matter.
  * OK: all fields are written. Those of parts that the image does not have are 0. This is no verdict on the file.
- * UNREAD: the slice is 32-bit or big-endian. bytes, place, and cputype and cpusubtype of the universal table are
- * written; all other fields are 0.
- * NONE: the file has no such slice. REFUSED: no accepted file has such bytes there. In both cases `bytes` is empty, and
- * all other fields are 0. */
-uint32_t kesvuot_image(const void *file, size_t size, uint64_t slice, struct kesvuot_image *image);
+ * UNREAD: the slice is 32-bit or big-endian. slice, and cputype and cpusubtype of the universal table are written; all
+ * other fields are 0.
+ * NONE: the file has no such slice. REFUSED: no accepted file has such bytes there. In both cases all fields are 0. */
+uint32_t kesvuot_read_image(const void *file, size_t size, uint64_t slice, struct kesvuot_image *image);
 
 /* Tables of an image
  *
- * Each call writes up to `max` rows, starting at index `first`, and returns how many it wrote. It does not change the
- * rows after those. kesvuot_symbols and kesvuot_indirects go straight to the first row, so batches of any size cost the
- * same. Every other call rescans the load commands: ask for all rows, or for many, at a time.
- *
- * kesvuot_symbols searches for the end of each name. In a hostile file many symbols can share a long name. To read all
- * names then takes time in proportion to symbol_count * strings_size. To avoid that, set strings_size to 0 in a copy of
- * the image: its rows have no names. Then read the few rows whose names you need with the image itself. */
+ * Each call writes the next rows, up to `max`, moves the cursor past them, and returns how many it wrote. It does not
+ * change the rows after those. If it wrote fewer than max, there are no more. A cursor of zeros is before the first row
+ * of any table; use it for one table of one image. Batches of any size cost the same. */
 
-struct kesvuot_segment {        /* LC_SEGMENT_64. No address is in two segments */
-    struct kesvuot_bytes name;  /* any bytes. Two segments can have one name */
-    struct kesvuot_bytes bytes; /* all filesize bytes from fileoff on */
-    uint64_t vmaddr;            /* vmaddr + vmsize is at most 2^64. At 2^64 the sum wraps to 0 */
-    uint64_t vmsize;            /* 0: the segment is not mapped, and no address is in it */
-    uint64_t fileoff;           /* any number if filesize is 0 */
-    uint64_t filesize;          /* at most vmsize, unless vmsize is 0 */
-    uint32_t first_section;     /* the index of its first section in the table of sections, if it has one */
-    uint32_t section_count;     /* nsects */
-    uint32_t maxprot;           /* any number */
-    uint32_t initprot;          /* any number. VM_PROT_EXECUTE is set in the segment with the entry */
+struct kesvuot_cursor {  /* the numbers are the library's own, and any are safe */
+    uint64_t place;      /* where the next load command begins in the slice */
+    uint64_t commands;   /* how many load commands are before it */
+    uint64_t segment;    /* where the LC_SEGMENT_64 of the next section begins in the slice */
+    uint64_t items;      /* of kesvuot_read_symbols and kesvuot_read_indirects the index of the next row, which you can
+                            also set; otherwise a count of sections */
 };
 
-struct kesvuot_section {          /* section_64. Of a symbol see `sect` of kesvuot_symbol. */
-    struct kesvuot_bytes name;    /* any bytes */
-    struct kesvuot_bytes segment; /* the name of its segment, from LC_SEGMENT_64. segname itself is not judged */
-    struct kesvuot_bytes bytes;   /* all size bytes from offset on, none if it is zero-fill */
-    uint64_t addr;                /* any number if size is 0 or the segment is not mapped. Otherwise all size addresses
-                                     from addr on are in the segment */
-    uint64_t size;                /* any number if it is zero-fill and the segment is not mapped */
-    uint32_t offset;              /* any number if size is 0 or it is zero-fill */
-    uint32_t align;               /* the exponent of a power of 2. Any number: 1 << align can be undefined */
-    uint32_t reloff;              /* any number if nreloc is 0 */
-    uint32_t nreloc;              /* all 8 * nreloc bytes from reloff on lie in the slice */
-    uint32_t flags;               /* any number. The low byte is the type, on which zero_fill depends */
-    uint32_t reserved1;           /* any number, also where it is the index of an indirect symbol */
-    uint32_t reserved2;           /* any number */
-    uint32_t zero_fill;           /* 1: a loader fills it with zeros. 0: it has bytes in the file */
-};
-
-struct kesvuot_library {       /* dylib_command */
-    struct kesvuot_bytes name; /* any bytes, all in its command */
-    uint32_t cmd;              /* LC_ID_DYLIB (0xd): the image itself. An MH_DYLIB has one such row, and
-                                  other images none. All other rows are libraries that the image loads */
-    uint32_t current;          /* x << 16 | y << 8 | z. Any number */
-    uint32_t compatible;       /* any number */
+struct kesvuot_segment {       /* LC_SEGMENT_64. No address is in two segments */
+    struct kesvuot_span name;  /* any bytes. Two segments can have one name */
+    struct kesvuot_span bytes; /* all filesize bytes from fileoff on */
+    uint64_t vmaddr;
+    uint64_t vmsize;           /* 0: the segment is not mapped, and no address is in it */
+    uint64_t last;             /* its last address, vmaddr + vmsize - 1: the sum alone can be 2^64. 0 if vmsize is 0 */
+    uint64_t fileoff;          /* any number if filesize is 0 */
+    uint64_t filesize;         /* at most vmsize, unless vmsize is 0 */
+    uint64_t first_section;    /* the index of its first section in the table of sections, if it has one */
+    uint32_t section_count;    /* nsects */
+    uint32_t maxprot;          /* any number */
+    uint32_t initprot;         /* any number. VM_PROT_EXECUTE is set in the segment with the entry */
     uint32_t reserved;
+};
+
+struct kesvuot_section {         /* section_64 */
+    struct kesvuot_span name;    /* any bytes */
+    struct kesvuot_span segment; /* the name of its segment, from LC_SEGMENT_64. segname itself is not judged */
+    struct kesvuot_span bytes;   /* all size bytes from offset on, none if it is zero-fill */
+    uint64_t addr;               /* any number if size is 0 or the segment is not mapped. Otherwise all size addresses
+                                    from addr on are in the segment */
+    uint64_t size;               /* any number if it is zero-fill and the segment is not mapped */
+    uint32_t offset;             /* any number if size is 0 or it is zero-fill */
+    uint32_t align;              /* the exponent of a power of 2. Any number: 1 << align can be undefined */
+    uint32_t reloff;             /* any number if nreloc is 0 */
+    uint32_t nreloc;             /* all 8 * nreloc bytes from reloff on lie in the slice */
+    uint32_t flags;              /* any number. The low byte is the type, on which zero_fill depends */
+    uint32_t reserved1;          /* any number, also where it is the index of an indirect symbol */
+    uint32_t reserved2;          /* any number */
+    uint32_t zero_fill;          /* 1: a loader fills it with zeros. 0: it has bytes in the file */
 };
 
 struct kesvuot_build { /* build_version_command. An image can have several */
@@ -271,65 +295,73 @@ struct kesvuot_build { /* build_version_command. An image can have several */
     uint32_t reserved;
 };
 
-struct kesvuot_command {        /* load_command */
-    struct kesvuot_bytes bytes; /* all cmdsize bytes, at least 8. If RULES.md lists cmd, its structure and records are
-                                   among them. Otherwise nothing past the first 8 is judged */
-    struct kesvuot_bytes name;  /* of a listed dylib_command, dylinker_command or rpath_command, otherwise none */
-    uint64_t place;             /* where it begins in the slice, a multiple of 8 */
-    uint32_t cmd;               /* any number */
+struct kesvuot_command {       /* load_command */
+    struct kesvuot_span bytes; /* all cmdsize bytes, at least 8. If RULES.md lists cmd, its structure and records are
+                                  among them. Otherwise nothing past the first 8 is judged */
+    struct kesvuot_span name;  /* of a listed dylib_command, dylinker_command (the dynamic linker) or rpath_command (a
+                                  run path), otherwise none */
+    uint32_t cmd;              /* any number */
     uint32_t reserved;
 };
 
-struct kesvuot_symbol {        /* nlist_64 */
-    struct kesvuot_bytes name; /* none if strx is 0 */
-    uint64_t value;            /* any number */
-    uint32_t strx;             /* 0, or less than strings_size */
-    uint16_t desc;             /* any number */
-    uint8_t type;              /* any number */
-    uint8_t sect;              /* n_sect. Its section has the index sect - 1 if 1 <= sect && sect <= section_count.
-                                  Test both: it is 0 if the symbol is in no section, and in an accepted file it may be
-                                  past the last one, unless the type is N_SECT and the symbol is no debugging entry
-                                  (N_STAB) */
+/* The index of no section. */
+#define KESVUOT_NO_SECTION UINT32_MAX
+
+struct kesvuot_symbol { /* nlist_64 */
+    uint64_t value;     /* any number */
+    uint32_t strx;      /* 0 if it has no name, otherwise less than strings_size. Pass it to kesvuot_symbol_name */
+    uint32_t section;   /* the index of its section in the table of sections, or KESVUOT_NO_SECTION. It is an index if
+                           the type is N_SECT and the symbol is no debugging entry (N_STAB) */
+    uint16_t desc;      /* any number */
+    uint8_t type;       /* any number */
+    uint8_t sect;       /* n_sect, from which `section` is: 0 (NO_SECT), or a number from 1 on. Any number */
+    uint32_t reserved;
 };
 
-size_t kesvuot_segments(const struct kesvuot_image *image, uint64_t first, struct kesvuot_segment *rows, size_t max);
-size_t kesvuot_sections(const struct kesvuot_image *image, uint64_t first, struct kesvuot_section *rows, size_t max);
-size_t kesvuot_libraries(const struct kesvuot_image *image, uint64_t first, struct kesvuot_library *rows, size_t max);
-size_t kesvuot_builds(const struct kesvuot_image *image, uint64_t first, struct kesvuot_build *rows, size_t max);
-size_t kesvuot_commands(const struct kesvuot_image *image, uint64_t first, struct kesvuot_command *rows, size_t max);
-size_t kesvuot_symbols(const struct kesvuot_image *image, uint64_t first, struct kesvuot_symbol *rows, size_t max);
+size_t kesvuot_read_commands(const void *file, size_t size, const struct kesvuot_image *image,
+                             struct kesvuot_cursor *cursor, struct kesvuot_command *rows, size_t max);
+size_t kesvuot_read_segments(const void *file, size_t size, const struct kesvuot_image *image,
+                             struct kesvuot_cursor *cursor, struct kesvuot_segment *rows, size_t max);
+size_t kesvuot_read_sections(const void *file, size_t size, const struct kesvuot_image *image,
+                             struct kesvuot_cursor *cursor, struct kesvuot_section *rows, size_t max);
+/* The libraries that the image loads. What it is itself is `id` of the image. */
+size_t kesvuot_read_libraries(const void *file, size_t size, const struct kesvuot_image *image,
+                              struct kesvuot_cursor *cursor, struct kesvuot_library *rows, size_t max);
+size_t kesvuot_read_builds(const void *file, size_t size, const struct kesvuot_image *image,
+                           struct kesvuot_cursor *cursor, struct kesvuot_build *rows, size_t max);
+size_t kesvuot_read_symbols(const void *file, size_t size, const struct kesvuot_image *image,
+                            struct kesvuot_cursor *cursor, struct kesvuot_symbol *rows, size_t max);
 
 /* The indirect symbol table. Each row is the index of a symbol, below symbol_count, or has the bit
  * INDIRECT_SYMBOL_LOCAL or INDIRECT_SYMBOL_ABS or both. With one of these, the other bits are any number. */
-size_t kesvuot_indirects(const struct kesvuot_image *image, uint64_t first, uint32_t *rows, size_t max);
+size_t kesvuot_read_indirects(const void *file, size_t size, const struct kesvuot_image *image,
+                              struct kesvuot_cursor *cursor, uint32_t *rows, size_t max);
+
+/* The name of a symbol, by its strx.
+ * OK: the name, which ends before the first zero byte of the strings from strx on. It can be empty.
+ * NONE: strx is 0. In a file that was not accepted, also if no zero byte of the strings ends a name there.
+ * The call searches for that byte. In a hostile file many symbols can share a long name: to look up all of them takes
+ * time in proportion to symbol_count * strings_size, so look up those that you need. */
+uint32_t kesvuot_symbol_name(const void *file, size_t size, const struct kesvuot_image *image, uint32_t strx,
+                             struct kesvuot_span *name);
 
 /* The data of the first linkedit_data_command with this cmd, such as LC_CODE_SIGNATURE (0x1d) or LC_FUNCTION_STARTS
  * (0x26).
  * OK: all datasize bytes from dataoff on. If datasize is 0, there are none, whatever dataoff is.
  * NONE: the image has no such command, or RULES.md does not list cmd as a linkedit_data_command (for example
  * LC_ATOM_INFO, 0x36). In a file that was not accepted, also if the data ends past the image, or the headers break a
- * rule. */
-uint32_t kesvuot_linkedit(const struct kesvuot_image *image, uint32_t cmd, struct kesvuot_bytes *data);
+ * rule. After NONE the span is empty. */
+uint32_t kesvuot_find_data(const void *file, size_t size, const struct kesvuot_image *image, uint32_t cmd,
+                           struct kesvuot_span *data);
 
 /* What is at an address, before any slide.
  * OK: the bytes from there to the end of what its segment has in the file.
  * ZERO: a segment has the address, but no byte of the file for it.
  * NONE: no segment has the address. In a file that was not accepted, also if the headers break a rule.
- * Like kesvuot_linkedit, this call rescans the load commands: for many addresses, read the segments once. */
-uint32_t kesvuot_at(const struct kesvuot_image *image, uint64_t address, struct kesvuot_bytes *bytes);
-
-#ifdef __cplusplus
-#define KESVUOT_NUMBER(at) reinterpret_cast<uintptr_t>(at)
-#else
-#define KESVUOT_NUMBER(at) ((uintptr_t)(at))
-#endif
-
-/* The offset in the file at which bytes of an image begin. Their len must not be 0. */
-static inline uint64_t kesvuot_place(const struct kesvuot_image *image, struct kesvuot_bytes bytes) {
-    return image->place + (KESVUOT_NUMBER(bytes.at) - KESVUOT_NUMBER(image->bytes.at));
-}
-
-#undef KESVUOT_NUMBER
+ * After ZERO and NONE the span is empty. Like kesvuot_find_data, this call judges the load commands again: for many
+ * addresses, read the segments once. */
+uint32_t kesvuot_find_address(const void *file, size_t size, const struct kesvuot_image *image, uint64_t address,
+                              struct kesvuot_span *bytes);
 
 /* The layout of the structures in the library, which is for 64-bit machines. C99 and C++98 cannot check it. */
 #if (defined(__cplusplus) && __cplusplus >= 201103L) || (defined(__STDC_VERSION__) && __STDC_VERSION__ >= 201112L)
@@ -338,25 +370,30 @@ static inline uint64_t kesvuot_place(const struct kesvuot_image *image, struct k
 #else
 #define KESVUOT_HOLDS(condition) _Static_assert(condition, #condition)
 #endif
-KESVUOT_HOLDS(sizeof(struct kesvuot_bytes) == 16);
+KESVUOT_HOLDS(sizeof(struct kesvuot_span) == 16);
 KESVUOT_HOLDS(sizeof(struct kesvuot_verdict) == 24);
-KESVUOT_HOLDS(sizeof(struct kesvuot_image) == 208);
-KESVUOT_HOLDS(sizeof(struct kesvuot_segment) == 80);
-KESVUOT_HOLDS(sizeof(struct kesvuot_section) == 96);
+KESVUOT_HOLDS(sizeof(struct kesvuot_text) == 16);
 KESVUOT_HOLDS(sizeof(struct kesvuot_library) == 32);
+KESVUOT_HOLDS(sizeof(struct kesvuot_image) == 232);
+KESVUOT_HOLDS(sizeof(struct kesvuot_cursor) == 32);
+KESVUOT_HOLDS(sizeof(struct kesvuot_segment) == 96);
+KESVUOT_HOLDS(sizeof(struct kesvuot_section) == 96);
 KESVUOT_HOLDS(sizeof(struct kesvuot_build) == 16);
-KESVUOT_HOLDS(sizeof(struct kesvuot_command) == 48);
-KESVUOT_HOLDS(sizeof(struct kesvuot_symbol) == 32);
+KESVUOT_HOLDS(sizeof(struct kesvuot_command) == 40);
+KESVUOT_HOLDS(sizeof(struct kesvuot_symbol) == 24);
 KESVUOT_HOLDS(offsetof(struct kesvuot_verdict, rule) == 16);
-KESVUOT_HOLDS(offsetof(struct kesvuot_image, symbols) == 40);
-KESVUOT_HOLDS(offsetof(struct kesvuot_image, command_count) == 88);
-KESVUOT_HOLDS(offsetof(struct kesvuot_image, cputype) == 128);
-KESVUOT_HOLDS(offsetof(struct kesvuot_image, groups) == 148);
-KESVUOT_HOLDS(offsetof(struct kesvuot_image, uuid) == 172);
-KESVUOT_HOLDS(offsetof(struct kesvuot_segment, first_section) == 64);
+KESVUOT_HOLDS(offsetof(struct kesvuot_image, symbols) == 32);
+KESVUOT_HOLDS(offsetof(struct kesvuot_image, command_count) == 80);
+KESVUOT_HOLDS(offsetof(struct kesvuot_image, id) == 120);
+KESVUOT_HOLDS(offsetof(struct kesvuot_image, cputype) == 152);
+KESVUOT_HOLDS(offsetof(struct kesvuot_image, groups) == 176);
+KESVUOT_HOLDS(offsetof(struct kesvuot_image, uuid) == 200);
+KESVUOT_HOLDS(offsetof(struct kesvuot_segment, vmaddr) == 32);
+KESVUOT_HOLDS(offsetof(struct kesvuot_segment, section_count) == 80);
 KESVUOT_HOLDS(offsetof(struct kesvuot_section, offset) == 64);
-KESVUOT_HOLDS(offsetof(struct kesvuot_command, place) == 32);
-KESVUOT_HOLDS(offsetof(struct kesvuot_symbol, desc) == 28);
+KESVUOT_HOLDS(offsetof(struct kesvuot_library, cmd) == 16);
+KESVUOT_HOLDS(offsetof(struct kesvuot_command, cmd) == 32);
+KESVUOT_HOLDS(offsetof(struct kesvuot_symbol, desc) == 16);
 #undef KESVUOT_HOLDS
 #endif
 

@@ -72,7 +72,7 @@ fn words_of(line: &str) -> Vec<String> {
 fn libs_of_pkg_config() -> Result<String, String> {
     let program = env::var("PKG_CONFIG").unwrap_or_else(|_| "pkg-config".to_owned());
     let output = Command::new(&program)
-        .args(["--libs", "kesvuot >= 1 kesvuot < 2"])
+        .args(["--libs", "kesvuot >= 2 kesvuot < 3"])
         .output()
         .map_err(|error| format!("{program}: {error}"))?;
     if !output.status.success() {

@@ -13,7 +13,7 @@ take_program() {
     program=$crate/out/${crate##*/}
     kept=$crate/out/$1
     [ "$1" = libkesvuot ] || return 0
-    program=$top/build/lib/libkesvuot.so.0
+    program=$top/build/lib/libkesvuot.so.2
     archive=$top/build/lib/libkesvuot.a
     linking="packaging/library packaging/kesvuot.map"
 }

@@ -1,5 +1,5 @@
-// calls LIBRARY MIXED: each call with each status, null beside the length 0, tables of no rows, indices past the end,
-// and batches of any size. LIBRARY is tests/real/library. MIXED is a universal file of a 32-bit image of 4 bytes at 64,
+// calls LIBRARY MIXED: each call with each status, null beside the length 0, tables of no rows, cursors past the end, and
+// batches of any size. LIBRARY is tests/real/library. MIXED is a universal file of a 32-bit image of 4 bytes at 64,
 // and of a header for x86_64 at 96.
 #include "support.h"
 #include <stdlib.h>
@@ -15,30 +15,38 @@ static struct kesvuot_image unwritten_image(void) {
     return image;
 }
 
-// Whether the image has these bytes, and 0 in all other fields.
-static bool has_only(struct kesvuot_image image, struct kesvuot_image wanted) {
-    const bool is_there = !wanted.bytes.len || image.bytes.at == wanted.bytes.at;
-    const bool is_as_long = image.bytes.len == wanted.bytes.len;
-    image.bytes = wanted.bytes;
-    return is_there && is_as_long && memcmp(&image, &wanted, sizeof image) == 0;
+static bool is_same(struct kesvuot_image image, struct kesvuot_image wanted) {
+    return memcmp(&image, &wanted, sizeof image) == 0;
 }
 
 static bool is_empty(struct kesvuot_image image) {
     struct kesvuot_image none;
     memset(&none, 0, sizeof none);
-    return has_only(image, none);
+    return is_same(image, none);
+}
+
+static bool is_at(struct kesvuot_span span, uint64_t offset, uint64_t size) {
+    return span.offset == offset && span.size == size;
+}
+
+static void try_no_rule(uint32_t rule) {
+    struct kesvuot_text name;
+    CHECK(kesvuot_find_rule(rule, &name) == KESVUOT_NONE && name.size == 0);
+    CHECK(kesvuot_rule_name(rule) == NULL);
 }
 
 static void try_version_and_rules(void) {
-    struct kesvuot_bytes name;
+    struct kesvuot_text name;
     CHECK(kesvuot_version() == KESVUOT_VERSION);
     uint32_t rule = KESVUOT_MAGIC;
-    for (; kesvuot_rule(rule, &name) == KESVUOT_OK; rule++) {
-        CHECK(name.len == strlen((const char *)name.at) && name.len > 0);
+    for (; kesvuot_find_rule(rule, &name) == KESVUOT_OK; rule++) {
+        CHECK(name.size == strlen(name.at) && name.size > 0);
+        CHECK(kesvuot_rule_name(rule) == name.at);
     }
-    CHECK(rule > KESVUOT_BIND_NAMES && name.len == 0);
-    CHECK(kesvuot_rule(0, &name) == KESVUOT_NONE && name.len == 0);
-    CHECK(kesvuot_rule(UINT32_MAX, &name) == KESVUOT_NONE && name.len == 0);
+    CHECK(rule > KESVUOT_BIND_NAMES);
+    try_no_rule(rule);
+    try_no_rule(0);
+    try_no_rule(UINT32_MAX);
 }
 
 typedef uint32_t judge(const void *file, size_t size, struct kesvuot_verdict *verdict);
@@ -115,57 +123,54 @@ static void try_layouts(void) {
 
 static void try_images(void) {
     struct kesvuot_image image = unwritten_image();
-    CHECK(kesvuot_image(library.bytes, library.size, 1, &image) == KESVUOT_OK);
-    CHECK(image.bytes.at == library.bytes + 0x1090 && image.bytes.len == 0x4180 && image.place == 0x1090);
+    CHECK(kesvuot_read_image(library.bytes, library.size, 1, &image) == KESVUOT_OK);
+    CHECK(is_at(image.slice, 0x1090, 0x4180));
+    CHECK((image.has & KESVUOT_HAS_ID) && image.id.cmd == 0xd && image.library_count > 0);
     CHECK(is_filled(image.reserved, sizeof image.reserved, 0));
     CHECK(image.entry == 0 && !(image.has & KESVUOT_HAS_ENTRY));
     const uint64_t past[] = {2, 3, UINT32_MAX, UINT64_MAX / 20, UINT64_MAX};
     for (size_t index = 0; index < sizeof past / sizeof *past; index++) {
         image = unwritten_image();
-        CHECK(kesvuot_image(library.bytes, library.size, past[index], &image) == KESVUOT_NONE && is_empty(image));
+        CHECK(kesvuot_read_image(library.bytes, library.size, past[index], &image) == KESVUOT_NONE && is_empty(image));
     }
     image = unwritten_image();
-    CHECK(kesvuot_image(NULL, 0, 0, &image) == KESVUOT_REFUSED && is_empty(image));
+    CHECK(kesvuot_read_image(NULL, 0, 0, &image) == KESVUOT_REFUSED && is_empty(image));
     image = unwritten_image();
-    CHECK(kesvuot_image(library.bytes, library.size - 1, 1, &image) == KESVUOT_REFUSED && is_empty(image));
+    CHECK(kesvuot_read_image(library.bytes, library.size - 1, 1, &image) == KESVUOT_REFUSED && is_empty(image));
 }
 
 static void try_slices_of_two_kinds(void) {
     struct kesvuot_image image = unwritten_image(), wanted;
     memset(&wanted, 0, sizeof wanted);
-    wanted.bytes.at = mixed.bytes + 64;
-    wanted.bytes.len = 4;
-    wanted.place = 64;
+    wanted.slice = (struct kesvuot_span){64, 4};
     wanted.cputype = 7;
     wanted.cpusubtype = 3;
-    CHECK(kesvuot_image(mixed.bytes, mixed.size, 0, &image) == KESVUOT_UNREAD && has_only(image, wanted));
-    wanted.bytes.at = mixed.bytes + 96;
-    wanted.bytes.len = 32;
-    wanted.place = 96;
+    CHECK(kesvuot_read_image(mixed.bytes, mixed.size, 0, &image) == KESVUOT_UNREAD && is_same(image, wanted));
+    wanted.slice = (struct kesvuot_span){96, 32};
     wanted.cputype = 0x01000007;
     wanted.filetype = 2;
     image = unwritten_image();
-    CHECK(kesvuot_image(mixed.bytes, mixed.size, 1, &image) == KESVUOT_OK && has_only(image, wanted));
+    CHECK(kesvuot_read_image(mixed.bytes, mixed.size, 1, &image) == KESVUOT_OK && is_same(image, wanted));
     // The second slice alone is a file, too.
-    wanted.place = 0;
+    wanted.slice.offset = 0;
     image = unwritten_image();
-    CHECK(kesvuot_image(mixed.bytes + 96, 32, 0, &image) == KESVUOT_OK && has_only(image, wanted));
-    CHECK(kesvuot_image(mixed.bytes + 96, 32, 1, &image) == KESVUOT_NONE && is_empty(image));
+    CHECK(kesvuot_read_image(mixed.bytes + 96, 32, 0, &image) == KESVUOT_OK && is_same(image, wanted));
+    CHECK(kesvuot_read_image(mixed.bytes + 96, 32, 1, &image) == KESVUOT_NONE && is_empty(image));
 }
 
 // A table, with its rows as bytes.
-typedef size_t table(const struct kesvuot_image *image, uint64_t first, void *rows, size_t max);
-#define TABLE(name, row)                                                                                      \
-    static size_t name##_table(const struct kesvuot_image *image, uint64_t first, void *rows, size_t max) { \
-        return kesvuot_##name(image, first, (row *)rows, max);                                              \
+typedef size_t table(const struct kesvuot_image *image, struct kesvuot_cursor *cursor, void *rows, size_t max);
+#define TABLE(name, row)                                                                                               \
+    static size_t name(const struct kesvuot_image *image, struct kesvuot_cursor *cursor, void *rows, size_t max) {     \
+        return kesvuot_##name(library.bytes, library.size, image, cursor, (row *)rows, max);                           \
     }
-TABLE(segments, struct kesvuot_segment)
-TABLE(sections, struct kesvuot_section)
-TABLE(libraries, struct kesvuot_library)
-TABLE(builds, struct kesvuot_build)
-TABLE(commands, struct kesvuot_command)
-TABLE(symbols, struct kesvuot_symbol)
-TABLE(indirects, uint32_t)
+TABLE(read_segments, struct kesvuot_segment)
+TABLE(read_sections, struct kesvuot_section)
+TABLE(read_libraries, struct kesvuot_library)
+TABLE(read_builds, struct kesvuot_build)
+TABLE(read_commands, struct kesvuot_command)
+TABLE(read_symbols, struct kesvuot_symbol)
+TABLE(read_indirects, uint32_t)
 
 // Room for the rows of any table.
 struct rows {
@@ -178,85 +183,136 @@ static struct rows unwritten_rows(void) {
     return rows;
 }
 
-// Asks for rows from `first` on, at most `max`, of a table whose rows are `all`, `count` of them.
+// Asks for at most `max` of the rows after the first ones, of a table whose rows are `all`, `count` of them.
 static void try_batch(table *read, const struct kesvuot_image *image, size_t size, const struct rows *all,
-                      uint64_t count, uint64_t first, size_t max) {
+                      uint64_t count, uint64_t first, size_t max, struct kesvuot_cursor *cursor) {
     struct rows rows = unwritten_rows();
-    const uint64_t left = first < count ? count - first : 0, wanted = left < max ? left : max;
-    const size_t found = read(image, first, &rows, max);
+    const uint64_t left = count - first, wanted = left < max ? left : max;
+    const size_t found = read(image, cursor, &rows, max);
     CHECK(found == wanted);
-    CHECK(memcmp(&rows, (const uint8_t *)all + (wanted ? first * size : 0), found * size) == 0);
+    CHECK(memcmp(&rows, (const uint8_t *)all + first * size, found * size) == 0);
     CHECK(is_filled((uint8_t *)&rows + found * size, sizeof rows - found * size, UNWRITTEN));
 }
 
+// Reads all rows in batches of two sizes by turns.
+static void try_batches(table *read, const struct kesvuot_image *image, size_t size, const struct rows *all,
+                        uint64_t count, size_t odd, size_t even) {
+    struct kesvuot_cursor cursor = {0};
+    uint64_t first = 0;
+    for (size_t turn = 0; turn <= 2 * count + 2; turn++) {
+        const size_t max = turn % 2 ? odd : even;
+        try_batch(read, image, size, all, count, first, max, &cursor);
+        first = count - first < max ? count : first + max;
+    }
+    CHECK(first == count || odd + even == 0);
+}
+
 static void try_table(table *read, const struct kesvuot_image *image, size_t size, uint64_t count) {
+    struct kesvuot_cursor cursor = {0};
     struct rows all = unwritten_rows();
     CHECK(count < ROWS);
-    CHECK(read(image, 0, &all, ROWS) == count);
+    CHECK(read(image, &cursor, NULL, 0) == 0);
+    CHECK(read(image, &cursor, &all, ROWS) == count);
     CHECK(is_filled((uint8_t *)&all + count * size, sizeof all - count * size, UNWRITTEN));
-    for (uint64_t first = 0; first <= count + 1; first++) {
-        for (size_t max = 0; max <= count + 2; max++) {
-            try_batch(read, image, size, &all, count, first, max);
+    CHECK(read(image, &cursor, NULL, 0) == 0);
+    for (size_t odd = 0; odd <= count + 2; odd++) {
+        for (size_t even = 0; even <= count + 2; even++) {
+            try_batches(read, image, size, &all, count, odd, even);
         }
     }
-    const uint64_t past[] = {count, count + 1, UINT32_MAX, 1ull << 32, 1ull << 60, UINT64_MAX};
+    const uint64_t past[] = {count + 1, UINT32_MAX, 1ull << 32, 1ull << 60, UINT64_MAX};
     for (size_t index = 0; index < sizeof past / sizeof *past; index++) {
-        try_batch(read, image, size, &all, count, past[index], ROWS);
-        CHECK(read(image, past[index], NULL, 0) == 0);
+        struct kesvuot_cursor far = {0, UINT64_MAX, 0, past[index]};
+        CHECK(read(image, &far, &all, ROWS) == 0);
+        far = (struct kesvuot_cursor){UINT64_MAX, UINT64_MAX, UINT64_MAX, UINT64_MAX};
+        CHECK(read(image, &far, &all, ROWS) == 0);
     }
-    CHECK(read(image, 0, NULL, 0) == 0);
 }
 
 static void try_tables(const struct kesvuot_image *image) {
-    try_table(segments_table, image, sizeof(struct kesvuot_segment), image->segment_count);
-    try_table(sections_table, image, sizeof(struct kesvuot_section), image->section_count);
-    try_table(libraries_table, image, sizeof(struct kesvuot_library), image->library_count);
-    try_table(builds_table, image, sizeof(struct kesvuot_build), image->build_count);
-    try_table(commands_table, image, sizeof(struct kesvuot_command), image->command_count);
-    try_table(symbols_table, image, sizeof(struct kesvuot_symbol), image->symbol_count);
-    try_table(indirects_table, image, sizeof(uint32_t), image->indirect_count);
+    try_table(read_segments, image, sizeof(struct kesvuot_segment), image->segment_count);
+    try_table(read_sections, image, sizeof(struct kesvuot_section), image->section_count);
+    try_table(read_libraries, image, sizeof(struct kesvuot_library), image->library_count);
+    try_table(read_builds, image, sizeof(struct kesvuot_build), image->build_count);
+    try_table(read_commands, image, sizeof(struct kesvuot_command), image->command_count);
+    try_table(read_symbols, image, sizeof(struct kesvuot_symbol), image->symbol_count);
+    try_table(read_indirects, image, sizeof(uint32_t), image->indirect_count);
 }
 
-// Without strings no symbol has a name, and all its other fields are the same.
-static void try_symbols_without_names(const struct kesvuot_image *image) {
+// Every symbol of the library has a name. A symbol has none at 0, past the strings, or without strings.
+static void try_names(const struct kesvuot_image *image) {
     struct kesvuot_image nameless = *image;
-    struct kesvuot_symbol named[ROWS], rows[ROWS];
-    const size_t count = kesvuot_symbols(image, 0, named, ROWS);
+    struct kesvuot_symbol rows[ROWS];
+    struct kesvuot_cursor cursor = {0};
+    struct kesvuot_span name;
+    const size_t count = kesvuot_read_symbols(library.bytes, library.size, image, &cursor, rows, ROWS);
     nameless.strings_size = 0;
-    CHECK(count > 0 && kesvuot_symbols(&nameless, 0, rows, ROWS) == count);
+    CHECK(count > 0);
     for (size_t row = 0; row < count; row++) {
-        CHECK(named[row].name.len > 0 && rows[row].name.len == 0);
-        rows[row].name = named[row].name;
-        CHECK(memcmp(&rows[row], &named[row], sizeof *rows) == 0);
+        const uint32_t strx = rows[row].strx;
+        CHECK(kesvuot_symbol_name(library.bytes, library.size, image, strx, &name) == KESVUOT_OK);
+        CHECK(name.offset == image->slice.offset + image->strings + strx);
+        CHECK(name.size > 0 && name.size == strlen((const char *)library.bytes + name.offset));
+        CHECK(kesvuot_symbol_name(library.bytes, library.size, &nameless, strx, &name) == KESVUOT_NONE);
+        CHECK(is_at(name, 0, 0));
     }
+    const uint32_t none[] = {0, (uint32_t)image->strings_size, (uint32_t)image->strings_size + 1, UINT32_MAX};
+    for (size_t index = 0; index < sizeof none / sizeof *none; index++) {
+        CHECK(kesvuot_symbol_name(library.bytes, library.size, image, none[index], &name) == KESVUOT_NONE);
+        CHECK(is_at(name, 0, 0));
+    }
+}
+
+// The section of a symbol is that with its number, and none if the image has no such section.
+static void try_sections_of_symbols(const struct kesvuot_image *image) {
+    struct kesvuot_image with = *image;
+    struct kesvuot_symbol rows[ROWS];
+    for (with.section_count = 0; with.section_count <= image->section_count; with.section_count++) {
+        struct kesvuot_cursor cursor = {0};
+        const size_t count = kesvuot_read_symbols(library.bytes, library.size, &with, &cursor, rows, ROWS);
+        for (size_t row = 0; row < count; row++) {
+            const bool is_there = rows[row].sect > 0 && rows[row].sect <= with.section_count;
+            CHECK(rows[row].section == (is_there ? (uint32_t)rows[row].sect - 1 : KESVUOT_NO_SECTION));
+        }
+    }
+}
+
+static uint32_t find_data(const struct kesvuot_image *image, uint32_t cmd, struct kesvuot_span *data) {
+    return kesvuot_find_data(library.bytes, library.size, image, cmd, data);
+}
+
+static uint32_t find_address(const struct kesvuot_image *image, uint64_t address, struct kesvuot_span *bytes) {
+    return kesvuot_find_address(library.bytes, library.size, image, address, bytes);
 }
 
 static void try_data(void) {
     struct kesvuot_image image;
-    struct kesvuot_bytes data;
-    CHECK(kesvuot_image(library.bytes, library.size, 1, &image) == KESVUOT_OK);
-    CHECK(kesvuot_linkedit(&image, 0x1d, &data) == KESVUOT_OK && data.len == 288);
-    CHECK(kesvuot_place(&image, data) == 0x1090 + 16480);
-    CHECK(kesvuot_linkedit(&image, 0x29, &data) == KESVUOT_OK && data.len == 0);
+    struct kesvuot_span data;
+    CHECK(kesvuot_read_image(library.bytes, library.size, 1, &image) == KESVUOT_OK);
+    CHECK(find_data(&image, 0x1d, &data) == KESVUOT_OK && is_at(data, 0x1090 + 16480, 288));
+    CHECK(find_data(&image, 0x29, &data) == KESVUOT_OK && is_at(data, 0, 0));
     // One that the image does not have, one of another structure that it has, and numbers of no command.
     const uint32_t none[] = {0x1e, 0x19, 0x2, 0xd, 0x1b, 0, 0x8000001d, UINT32_MAX};
     for (size_t index = 0; index < sizeof none / sizeof *none; index++) {
-        CHECK(kesvuot_linkedit(&image, none[index], &data) == KESVUOT_NONE && data.len == 0);
+        CHECK(find_data(&image, none[index], &data) == KESVUOT_NONE && is_at(data, 0, 0));
     }
-    CHECK(kesvuot_at(&image, 0x2a0, &data) == KESVUOT_OK && data.len == 0x4000 - 0x2a0);
-    CHECK(kesvuot_at(&image, 0x417f, &data) == KESVUOT_OK && data.len == 1);
-    CHECK(kesvuot_at(&image, 0x4180, &data) == KESVUOT_NONE && data.len == 0);
-    CHECK(kesvuot_at(&image, UINT64_MAX, &data) == KESVUOT_NONE && data.len == 0);
+    CHECK(find_address(&image, 0x2a0, &data) == KESVUOT_OK && is_at(data, 0x1090 + 0x2a0, 0x4000 - 0x2a0));
+    CHECK(find_address(&image, 0x417f, &data) == KESVUOT_OK && is_at(data, 0x1090 + 0x417f, 1));
+    CHECK(find_address(&image, 0x4180, &data) == KESVUOT_NONE && is_at(data, 0, 0));
+    CHECK(find_address(&image, UINT64_MAX, &data) == KESVUOT_NONE && is_at(data, 0, 0));
 }
 
-// A structure of zeros is not an image, and every call returns so.
+// A structure of zeros is not an image, and every call returns so. Nor is one whose slice ends past the file.
 static void try_no_image(void) {
     struct kesvuot_image none;
-    struct kesvuot_bytes data;
+    struct kesvuot_span data;
     memset(&none, 0, sizeof none);
-    try_tables(&none);
-    CHECK(kesvuot_linkedit(&none, 0x1d, &data) == KESVUOT_NONE && data.len == 0);
-    CHECK(kesvuot_at(&none, 0, &data) == KESVUOT_NONE && data.len == 0);
+    for (uint64_t size = 0; size <= library.size + 1; size += library.size + 1) {
+        none.slice.size = size;
+        try_tables(&none);
+        CHECK(find_data(&none, 0x1d, &data) == KESVUOT_NONE && is_at(data, 0, 0));
+        CHECK(find_address(&none, 0, &data) == KESVUOT_NONE && is_at(data, 0, 0));
+    }
 }
 
 int main(int count, char **words) {
@@ -272,9 +328,10 @@ int main(int count, char **words) {
     try_slices_of_two_kinds();
     for (uint64_t slice = 0; slice < 2; slice++) {
         struct kesvuot_image image;
-        CHECK(kesvuot_image(library.bytes, library.size, slice, &image) == KESVUOT_OK);
+        CHECK(kesvuot_read_image(library.bytes, library.size, slice, &image) == KESVUOT_OK);
         try_tables(&image);
-        try_symbols_without_names(&image);
+        try_names(&image);
+        try_sections_of_symbols(&image);
     }
     try_data();
     try_no_image();

@@ -9,7 +9,9 @@
 #include <stdlib.h>
 #include <string.h>
 
-enum { ROWS = 64, LC_ID_DYLIB = 0xd };
+enum { ROWS = 64 };
+
+static struct file file;
 
 struct word {
     uint32_t first, second; // the numbers that it is for
@@ -30,10 +32,10 @@ static const char *word_of(const struct word *words, uint32_t first, uint32_t se
     return words->word;
 }
 
-static void write_quoted(FILE *out, struct kesvuot_bytes name) {
+static void write_quoted(FILE *out, struct kesvuot_span name) {
     putc('"', out);
-    for (size_t index = 0; index < name.len; index++) {
-        const uint8_t byte = name.at[index];
+    for (size_t index = 0; index < name.size; index++) {
+        const uint8_t byte = bytes_at(&file, name)[index];
         const bool is_plain = byte >= ' ' && byte <= '~' && byte != '"' && byte != '\\';
         fprintf(out, is_plain ? "%c" : "\\x%02x", byte);
     }
@@ -52,20 +54,19 @@ static void write_library(FILE *out, const char *word, const struct kesvuot_libr
     putc('\n', out);
 }
 
-// The libraries that the image loads, or what it is itself.
-static void write_libraries(FILE *out, const struct kesvuot_image *image, bool loads) {
+static void write_libraries(FILE *out, const struct kesvuot_image *image) {
     struct kesvuot_library rows[ROWS];
-    size_t count;
-    for (uint64_t first = 0; (count = kesvuot_libraries(image, first, rows, ROWS)) > 0; first += count) {
+    struct kesvuot_cursor cursor = {0};
+    size_t count, total = 0;
+    while ((count = kesvuot_read_libraries(file.bytes, file.size, image, &cursor, rows, ROWS)) > 0) {
         for (size_t index = 0; index < count; index++) {
-            const bool is_id = rows[index].cmd == LC_ID_DYLIB;
-            const char *word = is_id ? "id" : word_of(LOADS, rows[index].cmd, 0);
+            const char *word = word_of(LOADS, rows[index].cmd, 0);
             CHECK(word != NULL);
-            if (is_id != loads) {
-                write_library(out, word, &rows[index]);
-            }
+            write_library(out, word, &rows[index]);
         }
+        total += count;
     }
+    CHECK(total == image->library_count);
 }
 
 static void write_uuid(FILE *out, const struct kesvuot_image *image) {
@@ -81,8 +82,9 @@ static void write_uuid(FILE *out, const struct kesvuot_image *image) {
 
 static void write_builds(FILE *out, const struct kesvuot_image *image) {
     struct kesvuot_build rows[ROWS];
+    struct kesvuot_cursor cursor = {0};
     size_t count;
-    for (uint64_t first = 0; (count = kesvuot_builds(image, first, rows, ROWS)) > 0; first += count) {
+    while ((count = kesvuot_read_builds(file.bytes, file.size, image, &cursor, rows, ROWS)) > 0) {
         for (size_t index = 0; index < count; index++) {
             fprintf(out, "  build platform %" PRIu32, rows[index].platform);
             write_version(out, "min", rows[index].minos);
@@ -103,21 +105,22 @@ static void write_section(FILE *out, const struct kesvuot_section *section) {
     }
 }
 
-static void write_sections(FILE *out, const struct kesvuot_image *image, const struct kesvuot_segment *segment) {
+// The next sections, which are those of the segment.
+static void write_sections(FILE *out, const struct kesvuot_image *image, const struct kesvuot_segment *segment,
+                           struct kesvuot_cursor *cursor) {
     struct kesvuot_section rows[ROWS];
-    uint64_t first = segment->first_section;
-    const uint64_t end = first + segment->section_count;
-    while (first < end) {
-        const uint64_t left = end - first;
-        const size_t count = kesvuot_sections(image, first, rows, left < ROWS ? (size_t)left : ROWS);
-        CHECK(count > 0);
-        if (count == 0) {
+    uint64_t left = segment->section_count;
+    while (left > 0) {
+        const size_t max = left < ROWS ? (size_t)left : ROWS;
+        const size_t count = kesvuot_read_sections(file.bytes, file.size, image, cursor, rows, max);
+        CHECK(count == max);
+        if (count != max) {
             return;
         }
         for (size_t index = 0; index < count; index++) {
             write_section(out, &rows[index]);
         }
-        first += count;
+        left -= count;
     }
 }
 
@@ -131,21 +134,28 @@ static void write_segment(FILE *out, const struct kesvuot_segment *segment) {
 
 static void write_segments(FILE *out, const struct kesvuot_image *image) {
     struct kesvuot_segment rows[ROWS];
+    struct kesvuot_cursor cursor = {0}, of_sections = {0};
+    uint64_t sections = 0;
     size_t count;
-    for (uint64_t first = 0; (count = kesvuot_segments(image, first, rows, ROWS)) > 0; first += count) {
+    while ((count = kesvuot_read_segments(file.bytes, file.size, image, &cursor, rows, ROWS)) > 0) {
         for (size_t index = 0; index < count; index++) {
+            CHECK(rows[index].first_section == sections);
             write_segment(out, &rows[index]);
-            write_sections(out, image, &rows[index]);
+            write_sections(out, image, &rows[index], &of_sections);
+            sections += rows[index].section_count;
         }
     }
+    CHECK(sections == image->section_count);
 }
 
 static void write_image(FILE *out, const struct kesvuot_image *image) {
-    write_libraries(out, image, false);
+    if (image->has & KESVUOT_HAS_ID) {
+        write_library(out, "id", &image->id);
+    }
     write_uuid(out, image);
     write_builds(out, image);
     write_segments(out, image);
-    write_libraries(out, image, true);
+    write_libraries(out, image);
     if (image->has & KESVUOT_HAS_SYMTAB) {
         fprintf(out, "  symbols %" PRIu64 "\n", image->symbol_count);
     }
@@ -156,9 +166,9 @@ static void write_image(FILE *out, const struct kesvuot_image *image) {
     }
 }
 
-static void write_slice(FILE *out, struct file file, uint64_t slice) {
+static void write_slice(FILE *out, uint64_t slice) {
     struct kesvuot_image image;
-    const uint32_t status = kesvuot_image(file.bytes, file.size, slice, &image);
+    const uint32_t status = kesvuot_read_image(file.bytes, file.size, slice, &image);
     const bool is_read = status == KESVUOT_OK;
     const char *arch = word_of(ARCHITECTURES, image.cputype, image.cpusubtype);
     const char *kind = is_read ? word_of(FILETYPES, image.filetype, 0) : "not read";
@@ -169,7 +179,7 @@ static void write_slice(FILE *out, struct file file, uint64_t slice) {
     } else {
         fprintf(out, "0x%" PRIx32 "/0x%" PRIx32, image.cputype, image.cpusubtype);
     }
-    fprintf(out, " at 0x%" PRIx64 " size 0x%zx %s\n", image.place, image.bytes.len, kind ? kind : "");
+    fprintf(out, " at 0x%" PRIx64 " size 0x%" PRIx64 " %s\n", image.slice.offset, image.slice.size, kind ? kind : "");
     if (is_read) {
         write_image(out, &image);
     }
@@ -180,8 +190,8 @@ struct text {
     size_t len;
 };
 
-// The layout of a file with so many slices.
-static struct text text_of(struct file file, uint64_t slices) {
+// The layout of the file, which has so many slices.
+static struct text text_of(uint64_t slices) {
     struct text text = {NULL, 0};
     FILE *out = open_memstream(&text.bytes, &text.len);
     if (!out) {
@@ -189,14 +199,14 @@ static struct text text_of(struct file file, uint64_t slices) {
     }
     fprintf(out, "accepted, slices %" PRIu64 "\n", slices);
     for (uint64_t slice = 0; slice < slices; slice++) {
-        write_slice(out, file, slice);
+        write_slice(out, slice);
     }
     fclose(out);
     return text;
 }
 
 // The call writes what there is room for of the text, and nothing else.
-static void try_room(struct file file, uint32_t status, struct text text, size_t size, enum side side) {
+static void try_room(uint32_t status, struct text text, size_t size, enum side side) {
     const struct file room = room_of(size, side);
     const size_t written = size < text.len ? size : text.len;
     size_t needed = SIZE_MAX;
@@ -208,23 +218,23 @@ static void try_room(struct file file, uint32_t status, struct text text, size_t
 }
 
 static void try_file(const char *path) {
-    const struct file file = read_file(path, side_or_block(AT_END));
+    file = read_file(path, side_or_block(AT_END));
     struct kesvuot_verdict verdict;
     const uint32_t status = kesvuot_verify(file.bytes, file.size, &verdict);
-    const struct text text = status == KESVUOT_OK ? text_of(file, verdict.slices) : (struct text){NULL, 0};
+    const struct text text = status == KESVUOT_OK ? text_of(verdict.slices) : (struct text){NULL, 0};
     size_t needed = SIZE_MAX;
     CHECK(kesvuot_layout(file.bytes, file.size, NULL, 0, &needed) == status && needed == text.len);
     const size_t rooms[] = {0, 1, text.len / 2, text.len ? text.len - 1 : 0, text.len, text.len + 1, text.len + 5000};
     for (size_t index = 0; index < sizeof rooms / sizeof *rooms; index++) {
-        try_room(file, status, text, rooms[index], AT_END);
-        try_room(file, status, text, rooms[index], AT_START);
+        try_room(status, text, rooms[index], AT_END);
+        try_room(status, text, rooms[index], AT_START);
     }
     free(text.bytes);
     release(file);
 }
 
 static int print_layout(const char *path) {
-    const struct file file = read_file(path, side_or_block(AT_END));
+    file = read_file(path, side_or_block(AT_END));
     size_t needed;
     if (kesvuot_layout(file.bytes, file.size, NULL, 0, &needed) != KESVUOT_OK) {
         stop(path, "it is not accepted");

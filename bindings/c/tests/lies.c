@@ -1,6 +1,6 @@
-// lies SEED ROUNDS FILE..: calls everything on files that need not be accepted, with images that kesvuot_image wrote,
-// and with images of random numbers over some part of the file. The file lies between guard pages, so a read outside
-// ends the program, and all returned bytes must lie in the file.
+// lies SEED ROUNDS FILE..: calls everything on files that need not be accepted, with images that kesvuot_read_image
+// wrote, and with images and cursors of random numbers. The file lies between guard pages, so a read outside ends the
+// program, and all returned spans must lie in the file.
 #include "support.h"
 #include <stdio.h>
 #include <stdlib.h>
@@ -44,32 +44,49 @@ static uint64_t lie(uint64_t right) {
     }
 }
 
-// The bytes lie in the file, and the first and the last can be read.
-static void take(struct kesvuot_bytes bytes) {
+// The bytes lie in the first `size` bytes of the file, and an empty span is at 0.
+static void take(struct kesvuot_span bytes, size_t size) {
     calls++;
-    if (!bytes.len) {
-        return;
-    }
-    const uintptr_t start = (uintptr_t)file.bytes, at = (uintptr_t)bytes.at;
-    const bool is_inside = at >= start && at - start <= file.size && bytes.len <= file.size - (at - start);
-    CHECK(is_inside);
-    if (is_inside) {
+    if (bytes.size) {
         handed_out++;
-        const volatile uint8_t *read = bytes.at;
-        (void)read[0];
-        (void)read[bytes.len - 1];
+        CHECK(bytes.offset <= size && bytes.size <= size - bytes.offset);
+    } else {
+        CHECK(bytes.offset == 0);
     }
 }
 
-// Asks for rows of a table, and takes what this says of each row. Rows past those that were written stay as they were.
+// Any numbers, or those of the start of a table.
+static struct kesvuot_cursor some_cursor(void) {
+    struct kesvuot_cursor cursor = {0};
+    if (draw_below(2)) {
+        cursor.place = lie(draw_below(0x400));
+        cursor.commands = lie(draw_below(12));
+        cursor.segment = lie(draw_below(0x400));
+        cursor.items = lie(draw_below(12));
+    }
+    return cursor;
+}
+
+static void take_name(const struct kesvuot_image *image, size_t size, uint32_t strx) {
+    struct kesvuot_span name;
+    const uint32_t status = kesvuot_symbol_name(file.bytes, size, image, strx, &name);
+    CHECK(status == KESVUOT_OK || (status == KESVUOT_NONE && name.size == 0));
+    take(name, size);
+}
+
+// Asks for three batches of rows of a table, and takes what this says of each row of the last. Rows past those that were written stay as they were.
 #define TAKE_TABLE(row_type, call, take_row)                                      \
     do {                                                                          \
         row_type rows[MOST_ROWS + 1], untouched;                                  \
-        memset(rows, 0x5a, sizeof rows);                                          \
         memset(&untouched, 0x5a, sizeof untouched);                               \
-        const size_t written = call(image, first, rows, max);                     \
-        CHECK(written <= max);                                                    \
-        CHECK(memcmp(&rows[written], &untouched, sizeof untouched) == 0);         \
+        struct kesvuot_cursor cursor = some_cursor();                             \
+        size_t written = 0;                                                       \
+        for (int batch = 0; batch < 3; batch++) {                                 \
+            memset(rows, 0x5a, sizeof rows);                                      \
+            written = call(file.bytes, size, image, &cursor, rows, max);          \
+            CHECK(written <= max);                                                \
+            CHECK(memcmp(&rows[written], &untouched, sizeof untouched) == 0);     \
+        }                                                                         \
         for (size_t index = 0; index < written; index++) {                        \
             const row_type *row = &rows[index];                                   \
             take_row;                                                             \
@@ -77,49 +94,40 @@ static void take(struct kesvuot_bytes bytes) {
         calls++;                                                                  \
     } while (0)
 
-static void take_tables(const struct kesvuot_image *image) {
+static void take_tables(const struct kesvuot_image *image, size_t size) {
     const size_t max = draw_below(MOST_ROWS + 1);
-    const uint64_t first = draw_below(3) ? draw_below(12) : lie(image->symbol_count);
-    TAKE_TABLE(struct kesvuot_segment, kesvuot_segments, (take(row->name), take(row->bytes)));
-    TAKE_TABLE(struct kesvuot_section, kesvuot_sections, (take(row->name), take(row->segment), take(row->bytes)));
-    TAKE_TABLE(struct kesvuot_library, kesvuot_libraries, take(row->name));
-    TAKE_TABLE(struct kesvuot_build, kesvuot_builds, CHECK(row->reserved == 0));
-    TAKE_TABLE(struct kesvuot_command, kesvuot_commands, (take(row->bytes), take(row->name)));
-    TAKE_TABLE(struct kesvuot_symbol, kesvuot_symbols, take(row->name));
-    TAKE_TABLE(uint32_t, kesvuot_indirects, (void)row);
+    TAKE_TABLE(struct kesvuot_segment, kesvuot_read_segments, (take(row->name, size), take(row->bytes, size)));
+    TAKE_TABLE(struct kesvuot_section, kesvuot_read_sections,
+               (take(row->name, size), take(row->segment, size), take(row->bytes, size)));
+    TAKE_TABLE(struct kesvuot_library, kesvuot_read_libraries, take(row->name, size));
+    TAKE_TABLE(struct kesvuot_build, kesvuot_read_builds, CHECK(row->reserved == 0));
+    TAKE_TABLE(struct kesvuot_command, kesvuot_read_commands, (take(row->bytes, size), take(row->name, size)));
+    TAKE_TABLE(struct kesvuot_symbol, kesvuot_read_symbols, take_name(image, size, row->strx));
+    TAKE_TABLE(uint32_t, kesvuot_read_indirects, (void)row);
 }
 
-static void take_all(const struct kesvuot_image *image) {
+static void take_all(const struct kesvuot_image *image, size_t size) {
     static const uint32_t cmds[] = {0x1d, 0x1e, 0x26, 0x29, 0x2b, 0x2e, 0x80000033, 0x80000034, 0x2, 0x19};
-    struct kesvuot_bytes bytes;
-    take_tables(image);
-    if (kesvuot_linkedit(image, cmds[draw_below(sizeof cmds / sizeof *cmds)], &bytes) == KESVUOT_OK) {
-        take(bytes);
-    }
+    struct kesvuot_span bytes;
+    take_tables(image, size);
+    take_name(image, size, (uint32_t)lie(draw_below(0x200)));
+    kesvuot_find_data(file.bytes, size, image, cmds[draw_below(sizeof cmds / sizeof *cmds)], &bytes);
+    take(bytes, size);
     const uint64_t address = draw_below(2) ? lie(image->base) : image->base + draw_below(0x20000);
-    const uint32_t status = kesvuot_at(image, address, &bytes);
-    CHECK(status == KESVUOT_OK ? bytes.len > 0 : bytes.len == 0);
-    take(bytes);
+    const uint32_t status = kesvuot_find_address(file.bytes, size, image, address, &bytes);
+    CHECK(status == KESVUOT_OK ? bytes.size > 0 : bytes.size == 0);
+    take(bytes, size);
 }
 
-// Bytes of the file: all, or any part.
-static struct kesvuot_bytes some_bytes(void) {
-    struct kesvuot_bytes bytes = {file.bytes, file.size};
-    if (draw_below(3) == 0) {
-        const size_t start = draw_below(file.size + 1);
-        bytes.at += start;
-        bytes.len = draw_below(file.size - start + 1);
-    }
-    return bytes;
-}
-
-// Random numbers in all fields, except that the bytes are of the file, which a caller must ensure.
+// Random numbers in all fields, some of them near the right ones.
 static void lie_all(struct kesvuot_image *image) {
     const struct kesvuot_image right = *image;
     for (size_t index = 0; index < sizeof *image; index++) {
         ((uint8_t *)image)[index] = (uint8_t)draw();
     }
-    image->bytes = draw_below(2) ? right.bytes : some_bytes();
+    image->slice.offset = lie(right.slice.offset);
+    image->slice.size = lie(right.slice.size);
+    image->section_count = lie(right.section_count);
     image->base = lie(right.base);
     image->symbols = lie(right.symbols);
     image->symbol_count = lie(right.symbol_count);
@@ -129,16 +137,19 @@ static void lie_all(struct kesvuot_image *image) {
     image->indirect_count = lie(right.indirect_count);
 }
 
+// Calls on all the bytes of the file, or on its first ones.
 static void try_file(long rounds) {
     for (long round = 0; round < rounds; round++) {
         struct kesvuot_image image;
-        const struct kesvuot_bytes part = some_bytes();
+        const size_t size = draw_below(3) ? file.size : draw_below(file.size + 1);
         const uint64_t slice = draw_below(4) ? draw_below(3) : lie(2);
-        opened += kesvuot_image(part.at, part.len, slice, &image) == KESVUOT_OK;
-        take(image.bytes);
-        take_all(&image);
+        opened += kesvuot_read_image(file.bytes, size, slice, &image) == KESVUOT_OK;
+        take(image.slice, size);
+        take_all(&image, size);
         lie_all(&image);
-        take_all(&image);
+        take_all(&image, size);
+        // The image of another part of the file.
+        take_all(&image, draw_below(file.size + 1));
     }
 }
 

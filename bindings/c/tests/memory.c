@@ -53,7 +53,7 @@ static uint32_t judge_refusing(judge *verify, struct file file, long number, str
 static uint64_t images_of(struct file file) {
     struct kesvuot_image image;
     uint64_t slice = 0, images = 0;
-    for (uint32_t status; (status = kesvuot_image(file.bytes, file.size, slice, &image)) != KESVUOT_NONE; slice++) {
+    for (uint32_t status; (status = kesvuot_read_image(file.bytes, file.size, slice, &image)) != KESVUOT_NONE; slice++) {
         images += status == KESVUOT_OK;
     }
     return images;
@@ -115,9 +115,9 @@ static void try_layout(struct file file) {
 static void try_views(struct file file) {
     struct kesvuot_image image;
     asked = 0;
-    for (uint64_t slice = 0; kesvuot_image(file.bytes, file.size, slice, &image) == KESVUOT_OK; slice++) {
+    for (uint64_t slice = 0; kesvuot_read_image(file.bytes, file.size, slice, &image) == KESVUOT_OK; slice++) {
         for (size_t index = 0; index < VIEWS; index++) {
-            views[index].call(&image);
+            views[index].call(&file, &image);
         }
     }
     CHECK(asked == 0);

@@ -5,7 +5,7 @@
 //     verify, verify_strictly
 //                 the verdict, as macho-check prints it
 //     layout      the first line
-//     NAME        kesvuot_image of slice 0, and what the view of this name returns of it
+//     NAME        kesvuot_read_image of slice 0, and what the view of this name returns of it
 #include "support.h"
 #include <inttypes.h>
 #include <stdio.h>
@@ -16,14 +16,12 @@ typedef uint32_t judge(const void *file, size_t size, struct kesvuot_verdict *ve
 
 static void print_verdict(judge *judge, const struct file *file) {
     struct kesvuot_verdict verdict;
-    struct kesvuot_bytes rule;
     switch (judge(file->bytes, file->size, &verdict)) {
     case KESVUOT_OK:
         printf("accepted, slices %" PRIu64 "\n", verdict.slices);
         break;
     case KESVUOT_REFUSED:
-        kesvuot_rule(verdict.rule, &rule);
-        printf("refused: %s at 0x%" PRIx64 "\n", (const char *)rule.at, verdict.place);
+        printf("refused: %s at 0x%" PRIx64 "\n", kesvuot_rule_name(verdict.rule), verdict.place);
         break;
     default:
         stop("the verdict", "no memory");
@@ -44,12 +42,12 @@ static void print_layout(const struct file *file) {
 
 static void print_of_image(const char *name, const struct file *file) {
     struct kesvuot_image image;
-    if (kesvuot_image(file->bytes, file->size, 0, &image) != KESVUOT_OK) {
-        stop("kesvuot_image", "there is none");
+    if (kesvuot_read_image(file->bytes, file->size, 0, &image) != KESVUOT_OK) {
+        stop("kesvuot_read_image", "there is none");
     }
     for (size_t index = 0; index < VIEWS; index++) {
         if (!strcmp(name, views[index].name)) {
-            printf("%zu\n", views[index].call(&image));
+            printf("%zu\n", views[index].call(file, &image));
             return;
         }
     }

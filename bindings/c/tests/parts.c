@@ -22,6 +22,7 @@ static const uint32_t LC_RPATH = 0x8000001c, MARKS = 0xc0000000;
 static const uint32_t DATA_COMMANDS[] = {0x1d, 0x26, 0x29, 0x80000033, 0x80000034, LC_SYMTAB};
 
 // The tables of the image, which are small.
+static struct file file;
 static struct kesvuot_image image;
 static struct kesvuot_command commands[ROWS];
 static struct kesvuot_segment segments[ROWS];
@@ -30,12 +31,16 @@ static struct kesvuot_symbol symbols[ROWS];
 static uint32_t indirects[ROWS];
 static size_t command_count, segment_count, section_count, symbol_count, indirect_count;
 
+#define READ(table) \
+    (cursor = (struct kesvuot_cursor){0}, kesvuot_read_##table(file.bytes, file.size, &image, &cursor, table, ROWS))
+
 static void read_tables(void) {
-    command_count = kesvuot_commands(&image, 0, commands, ROWS);
-    segment_count = kesvuot_segments(&image, 0, segments, ROWS);
-    section_count = kesvuot_sections(&image, 0, sections, ROWS);
-    symbol_count = kesvuot_symbols(&image, 0, symbols, ROWS);
-    indirect_count = kesvuot_indirects(&image, 0, indirects, ROWS);
+    struct kesvuot_cursor cursor;
+    command_count = READ(commands);
+    segment_count = READ(segments);
+    section_count = READ(sections);
+    symbol_count = READ(symbols);
+    indirect_count = READ(indirects);
 }
 
 static void print_digits(const uint8_t *bytes, size_t len) {
@@ -45,21 +50,27 @@ static void print_digits(const uint8_t *bytes, size_t len) {
 }
 
 // The length, the first bytes and, of more, the last ones.
-static void print_bytes(struct kesvuot_bytes bytes) {
-    printf(" size %zu", bytes.len);
-    print_digits(bytes.at, bytes.len < SHOWN ? bytes.len : SHOWN);
-    if (bytes.len > SHOWN) {
+static void print_bytes(struct kesvuot_span span) {
+    const uint8_t *bytes = bytes_at(&file, span);
+    printf(" size %" PRIu64, span.size);
+    print_digits(bytes, span.size < SHOWN ? span.size : SHOWN);
+    if (span.size > SHOWN) {
         printf(" ..");
-        print_digits(bytes.at + (bytes.len - SHOWN), SHOWN);
+        print_digits(bytes + (span.size - SHOWN), SHOWN);
     }
     putchar('\n');
+}
+
+// Where a command begins in the image.
+static uint64_t start_of(const struct kesvuot_command *command) {
+    return command->bytes.offset - image.slice.offset;
 }
 
 // The place of the command with this cmd that so many others with it come before.
 static uint64_t place_of(uint32_t cmd, size_t before) {
     for (size_t index = 0; index < command_count; index++) {
         if (commands[index].cmd == cmd && before-- == 0) {
-            return commands[index].place;
+            return start_of(&commands[index]);
         }
     }
     return 0;
@@ -94,8 +105,8 @@ static void print_commands(void) {
         printf("base 0x%" PRIx64 "\n", image.base);
     }
     for (size_t index = 0; index < command_count; index++) {
-        printf("command 0x%" PRIx64 " 0x%" PRIx32 " size 0x%zx\n", commands[index].place, commands[index].cmd,
-               commands[index].bytes.len);
+        printf("command 0x%" PRIx64 " 0x%" PRIx32 " size 0x%" PRIx64 "\n", start_of(&commands[index]),
+               commands[index].cmd, commands[index].bytes.size);
     }
     if (image.has & KESVUOT_HAS_SYMTAB) {
         print_symtab();
@@ -107,7 +118,7 @@ static void print_commands(void) {
 
 static void print_section(const struct kesvuot_section *section, uint64_t place) {
     printf("section ");
-    print_name(section->name);
+    print_name(&file, section->name);
     printf(" at 0x%" PRIx64 " relocs %" PRIu32 " %" PRIu32 " flags 0x%" PRIx32 " align %" PRIu32 " reserved %" PRIu32
            " %" PRIu32, place, section->reloff, section->nreloc, section->flags, section->align, section->reserved1,
            section->reserved2);
@@ -123,7 +134,7 @@ static void print_segments(void) {
         const struct kesvuot_segment *segment = &segments[index];
         const uint64_t place = place_of(LC_SEGMENT_64, index) + SEGMENT_SIZE;
         printf("segment ");
-        print_name(segment->name);
+        print_name(&file, segment->name);
         printf(" maxprot %" PRIu32, segment->maxprot);
         print_bytes(segment->bytes);
         for (uint32_t at = 0; at < segment->section_count; at++) {
@@ -133,7 +144,7 @@ static void print_segments(void) {
     printf("numbers");
     for (size_t index = 0; index < section_count; index++) {
         printf(" %zu ", index + 1);
-        print_name(sections[index].name);
+        print_name(&file, sections[index].name);
     }
     putchar('\n');
 }
@@ -143,18 +154,18 @@ static void print_paths(void) {
     const uint64_t dylinker = place_of(LC_LOAD_DYLINKER, 0);
     for (size_t index = 0; index < command_count; index++) {
         const bool is_rpath = commands[index].cmd == LC_RPATH;
-        if (is_rpath || commands[index].place == dylinker) {
+        if (is_rpath || start_of(&commands[index]) == dylinker) {
             printf("%s \"", is_rpath ? "rpath" : "dylinker");
-            print_name(commands[index].name);
+            print_name(&file, commands[index].name);
             puts("\"");
         }
     }
 }
 
 static void print_data(void) {
-    struct kesvuot_bytes data;
+    struct kesvuot_span data;
     for (size_t index = 0; index < sizeof DATA_COMMANDS / sizeof *DATA_COMMANDS; index++) {
-        if (kesvuot_linkedit(&image, DATA_COMMANDS[index], &data) == KESVUOT_OK) {
+        if (kesvuot_find_data(file.bytes, file.size, &image, DATA_COMMANDS[index], &data) == KESVUOT_OK) {
             printf("data 0x%" PRIx32, DATA_COMMANDS[index]);
             print_bytes(data);
         }
@@ -162,8 +173,9 @@ static void print_data(void) {
 }
 
 static void print_name_of(const struct kesvuot_symbol *symbol) {
-    if (symbol->strx) {
-        print_name(symbol->name);
+    struct kesvuot_span name;
+    if (kesvuot_symbol_name(file.bytes, file.size, &image, symbol->strx, &name) == KESVUOT_OK) {
+        print_name(&file, name);
     } else {
         printf("(none)");
     }
@@ -176,9 +188,9 @@ static void print_symbol(size_t index) {
     printf(" 0x%" PRIx64 " at 0x%" PRIx64 " strx %" PRIu32 " type 0x%x sect %u desc 0x%x", symbol->value,
            image.symbols + index * SYMBOL_SIZE, symbol->strx, (unsigned)symbol->type, (unsigned)symbol->sect,
            (unsigned)symbol->desc);
-    if (symbol->sect) {
+    if (symbol->section != KESVUOT_NO_SECTION) {
         printf(" in ");
-        print_name(sections[symbol->sect - 1].name);
+        print_name(&file, sections[symbol->section].name);
     }
     putchar('\n');
 }
@@ -216,14 +228,14 @@ static void print_indirects(void) {
 
 // What is there, and four bytes if the segment has as many.
 static void print_address(uint64_t address) {
-    struct kesvuot_bytes bytes;
+    struct kesvuot_span bytes;
     printf("address 0x%" PRIx64, address);
-    switch (kesvuot_at(&image, address, &bytes)) {
+    switch (kesvuot_find_address(file.bytes, file.size, &image, address, &bytes)) {
     case KESVUOT_OK:
-        printf(" Some(File(%" PRIu64 "))", kesvuot_place(&image, bytes) - image.place);
-        if (bytes.len >= 4) {
+        printf(" Some(File(%" PRIu64 "))", bytes.offset - image.slice.offset);
+        if (bytes.size >= 4) {
             printf(" size 4");
-            print_digits(bytes.at, 4);
+            print_digits(bytes_at(&file, bytes), 4);
         }
         puts("");
         break;
@@ -242,8 +254,8 @@ int main(int count, char **words) {
     if (count < 3) {
         stop("usage", "parts FILE SLICE [ADDRESS..]");
     }
-    const struct file file = read_file(words[1], side_or_block(AT_END));
-    if (kesvuot_image(file.bytes, file.size, strtoull(words[2], NULL, 10), &image) != KESVUOT_OK) {
+    file = read_file(words[1], side_or_block(AT_END));
+    if (kesvuot_read_image(file.bytes, file.size, strtoull(words[2], NULL, 10), &image) != KESVUOT_OK) {
         stop(words[1], "it has no such image");
     }
     read_tables();

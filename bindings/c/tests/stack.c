@@ -33,13 +33,13 @@ static void layout(void) {
 }
 
 static void first_image(void) {
-    kesvuot_image(file.bytes, file.size, 0, &image);
+    kesvuot_read_image(file.bytes, file.size, 0, &image);
 }
 
 static const struct {
     const char *name;
     void (*call)(void);
-} calls[] = {{"verify", verify}, {"verify_strictly", verify_strictly}, {"layout", layout}, {"image", first_image}};
+} calls[] = {{"verify", verify}, {"verify_strictly", verify_strictly}, {"layout", layout}, {"read_image", first_image}};
 enum { CALLS = sizeof calls / sizeof *calls, ALL = CALLS + VIEWS };
 
 // How many bytes each takes at most: the calls, and then the views of the image, which `first_image` has set.
@@ -50,7 +50,7 @@ static void *run(void *given) {
     if (index < CALLS) {
         calls[index].call();
     } else {
-        views[index - CALLS].call(&image);
+        views[index - CALLS].call(&file, &image);
     }
     return NULL;
 }

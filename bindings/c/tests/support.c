@@ -113,18 +113,23 @@ int print_counts(const char *name) {
     return broken || !checked;
 }
 
-void print_name(struct kesvuot_bytes name) {
-    if (name.len) {
-        fwrite(name.at, 1, name.len, stdout);
+const uint8_t *bytes_at(const struct file *file, struct kesvuot_span span) {
+    return file->bytes + span.offset;
+}
+
+void print_name(const struct file *file, struct kesvuot_span name) {
+    if (name.size) {
+        fwrite(bytes_at(file, name), 1, name.size, stdout);
     }
 }
 
 enum { BATCH = 16, LC_FUNCTION_STARTS = 0x26 };
 
 #define FIRST_BATCH(rows, type)                                                                                        \
-    static size_t rows(const struct kesvuot_image *image) {                                                            \
+    static size_t read_##rows(const struct file *file, const struct kesvuot_image *image) {                            \
         static type batch[BATCH];                                                                                      \
-        return kesvuot_##rows(image, 0, batch, BATCH);                                                                 \
+        struct kesvuot_cursor cursor = {0};                                                                            \
+        return kesvuot_read_##rows(file->bytes, file->size, image, &cursor, batch, BATCH);                             \
     }
 FIRST_BATCH(commands, struct kesvuot_command)
 FIRST_BATCH(segments, struct kesvuot_segment)
@@ -134,18 +139,31 @@ FIRST_BATCH(builds, struct kesvuot_build)
 FIRST_BATCH(symbols, struct kesvuot_symbol)
 FIRST_BATCH(indirects, uint32_t)
 
-static size_t linkedit(const struct kesvuot_image *image) {
-    struct kesvuot_bytes data;
-    return kesvuot_linkedit(image, LC_FUNCTION_STARTS, &data) == KESVUOT_OK;
+static size_t symbol_name(const struct file *file, const struct kesvuot_image *image) {
+    static struct kesvuot_symbol rows[BATCH];
+    struct kesvuot_cursor cursor = {0};
+    struct kesvuot_span name;
+    size_t named = 0;
+    const size_t count = kesvuot_read_symbols(file->bytes, file->size, image, &cursor, rows, BATCH);
+    for (size_t index = 0; index < count; index++) {
+        named += kesvuot_symbol_name(file->bytes, file->size, image, rows[index].strx, &name) == KESVUOT_OK;
+    }
+    return named;
 }
 
-static size_t at(const struct kesvuot_image *image) {
-    struct kesvuot_bytes bytes;
-    return kesvuot_at(image, image->base, &bytes) == KESVUOT_OK;
+static size_t find_data(const struct file *file, const struct kesvuot_image *image) {
+    struct kesvuot_span data;
+    return kesvuot_find_data(file->bytes, file->size, image, LC_FUNCTION_STARTS, &data) == KESVUOT_OK;
+}
+
+static size_t find_address(const struct file *file, const struct kesvuot_image *image) {
+    struct kesvuot_span bytes;
+    return kesvuot_find_address(file->bytes, file->size, image, image->base, &bytes) == KESVUOT_OK;
 }
 
 const struct view views[VIEWS] = {
-    {"commands", commands}, {"segments", segments}, {"sections", sections},
-    {"libraries", libraries}, {"builds", builds}, {"symbols", symbols},
-    {"indirects", indirects}, {"linkedit", linkedit}, {"at", at},
+    {"read_commands", read_commands}, {"read_segments", read_segments}, {"read_sections", read_sections},
+    {"read_libraries", read_libraries}, {"read_builds", read_builds}, {"read_symbols", read_symbols},
+    {"read_indirects", read_indirects}, {"symbol_name", symbol_name}, {"find_data", find_data},
+    {"find_address", find_address},
 };

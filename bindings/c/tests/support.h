@@ -43,17 +43,20 @@ void check(bool holds, const char *what, int line);
 // How many cases were counted, and how many failed. `print_counts` ends with the status.
 int print_counts(const char *name);
 
-void print_name(struct kesvuot_bytes name);
+// Where the bytes of a span lie in memory.
+const uint8_t *bytes_at(const struct file *file, struct kesvuot_span span);
+
+void print_name(const struct file *file, struct kesvuot_span name);
 
 // A call on an image, by its name without `kesvuot_`. Of a table it asks for the first 16 rows, and returns how many
-// there are. `linkedit` asks for the data of LC_FUNCTION_STARTS and `at` for the bytes at the base: they return whether
-// there are any.
+// there are. `symbol_name` asks for the names of these symbols, and returns how many have one. `find_data` asks for the
+// data of LC_FUNCTION_STARTS and `find_address` for the bytes at the base: they return whether there are any.
 struct view {
     const char *name;
-    size_t (*call)(const struct kesvuot_image *image);
+    size_t (*call)(const struct file *file, const struct kesvuot_image *image);
 };
 
-enum { VIEWS = 9 };
+enum { VIEWS = 10 };
 extern const struct view views[VIEWS];
 
 #endif

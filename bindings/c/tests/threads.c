@@ -13,7 +13,7 @@ struct answer {
     struct kesvuot_image image;
     struct kesvuot_segment segments[ROWS];
     struct kesvuot_symbol symbols[ROWS];
-    struct kesvuot_bytes bytes;
+    struct kesvuot_span bytes;
 };
 
 static struct file file;
@@ -24,10 +24,11 @@ static void ask(struct answer *answer) {
     memset(answer, 0, sizeof *answer);
     kesvuot_verify(file.bytes, file.size, &answer->verdict);
     kesvuot_verify_strictly(file.bytes, file.size, &answer->strict_verdict);
-    kesvuot_image(file.bytes, file.size, 0, &answer->image);
-    kesvuot_segments(&answer->image, 0, answer->segments, ROWS);
-    kesvuot_symbols(&answer->image, 0, answer->symbols, ROWS);
-    kesvuot_at(&answer->image, answer->image.base, &answer->bytes);
+    kesvuot_read_image(file.bytes, file.size, 0, &answer->image);
+    struct kesvuot_cursor of_segments = {0}, of_symbols = {0};
+    kesvuot_read_segments(file.bytes, file.size, &answer->image, &of_segments, answer->segments, ROWS);
+    kesvuot_read_symbols(file.bytes, file.size, &answer->image, &of_symbols, answer->symbols, ROWS);
+    kesvuot_find_address(file.bytes, file.size, &answer->image, answer->image.base, &answer->bytes);
 }
 
 // Returns null where all answers are the wanted one.
@@ -50,7 +51,7 @@ int main(int count, char **words) {
     rounds = strtol(words[1], NULL, 10);
     file = read_file(words[2], AT_END);
     ask(&wanted);
-    CHECK(wanted.verdict.slices == 1 && wanted.image.segment_count > 0 && wanted.bytes.len > 0);
+    CHECK(wanted.verdict.slices == 1 && wanted.image.segment_count > 0 && wanted.bytes.size > 0);
     for (size_t index = 0; index < THREADS; index++) {
         CHECK(pthread_create(&threads[index], NULL, run, words) == 0);
     }

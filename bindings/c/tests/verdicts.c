@@ -16,12 +16,11 @@ static struct kesvuot_verdict unwritten(void) {
 }
 
 static void print_line(uint32_t status, const struct kesvuot_verdict *verdict) {
-    struct kesvuot_bytes name;
+    const char *name = kesvuot_rule_name(verdict->rule);
     if (status == KESVUOT_OK && !verdict->rule && !verdict->place && verdict->slices && !verdict->reserved) {
         puts("accepted");
-    } else if (status == KESVUOT_REFUSED && kesvuot_rule(verdict->rule, &name) == KESVUOT_OK && !verdict->slices
-               && !verdict->reserved) {
-        printf("refused: %s at 0x%" PRIx64 "\n", (const char *)name.at, verdict->place);
+    } else if (status == KESVUOT_REFUSED && name && !verdict->slices && !verdict->reserved) {
+        printf("refused: %s at 0x%" PRIx64 "\n", name, verdict->place);
     } else {
         printf("status %" PRIu32 ", rule %" PRIu32 ", place %" PRIu64 ", slices %" PRIu64 "\n", status, verdict->rule,
                verdict->place, verdict->slices);

@@ -145,7 +145,7 @@ def _facts(part: Slice) -> Iterator[Fact]:
                f"{version_text(build.minos)} or later, SDK {version_text(build.sdk)}")
     yield "entry", "none" if part.entry is None else f"{part.entry:#x}"
     yield from _facts_of_segments(part)
-    for library in part.libraries:
+    for library in libraries_of(part):
         name = "name of the library" if library.cmd == LC_ID_DYLIB else f"library {plain(library.name)}"
         versions = f"version {version_text(library.current)}, compatible {version_text(library.compatible)}"
         yield name, f"{plain(library.name)}, {versions}" if library.cmd == LC_ID_DYLIB else (

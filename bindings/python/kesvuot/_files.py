@@ -10,7 +10,7 @@ from typing import Any, NamedTuple, Optional, SupportsIndex, Tuple
 from uuid import UUID
 
 from . import _library, _rows
-from ._library import CHANGED, IMAGE, PART, VERDICT, Bytes, Data, address_of, load
+from ._library import CHANGED, IMAGE, SPAN, TEXT, VERDICT, Bytes, Data, address_of, load
 from ._rows import Build, Command, Library, Reader, Section, Segment, Symbol, Table, WalkedReader
 
 # Room for the layout of most files. A longer one takes a second call.
@@ -86,11 +86,11 @@ class Slice:
 
     def __init__(self, data: Bytes, index: int, fields: Tuple[Any, ...]) -> None:
         self.index = index
+        self.place: int = fields[0]
         self.bytes = data.part(*fields[:2])
-        self.place: int = fields[2]
         self.cputype: int
         self.cpusubtype: int
-        self.cputype, self.cpusubtype = fields[16:18]
+        self.cputype, self.cpusubtype = fields[20:22]
 
     def __repr__(self) -> str:
         return f"<kesvuot.{type(self).__name__} {self.index}, {self.arch}, {len(self.bytes)} bytes>"
@@ -104,7 +104,8 @@ class Slice:
 
 class Image(Slice):
     """A 64-bit image: the whole file, or a slice of it. Offsets count from its start, and addresses are those before
-    any slide. What the image does not have is None.
+    any slide. What the image does not have is None: `id` is what a library is itself. `capabilities` is the high byte of
+    the cpusubtype.
 
     Each table is read when a row of it is first asked for. Symbols and indirect entries are found by their index. Any
     other table is read in one walk over the load commands, and kept in the form of the library."""
@@ -113,16 +114,18 @@ class Image(Slice):
         super().__init__(data, index, fields)
         self._data = data
         self._image = written
-        self._counts = fields[11:16]
-        has = fields[20]
+        self._counts = fields[10:15]
+        has = fields[25]
+        self.capabilities: int
         self.filetype: int
         self.flags: int
-        self.filetype, self.flags = fields[18:20]
-        self.base: Optional[int] = fields[3] if has & _library.HAS_BASE else None
-        self.entry: Optional[int] = fields[4] if has & _library.HAS_ENTRY else None
-        self.uuid = UUID(bytes=fields[27]) if has & _library.HAS_UUID else None
-        self.symtab = Symtab(*fields[5:9]) if has & _library.HAS_SYMTAB else None
-        self.dysymtab = Dysymtab(*fields[21:27], *fields[9:11]) if has & _library.HAS_DYSYMTAB else None
+        self.capabilities, self.filetype, self.flags = fields[22:25]
+        self.base: Optional[int] = fields[2] if has & _library.HAS_BASE else None
+        self.entry: Optional[int] = fields[3] if has & _library.HAS_ENTRY else None
+        self.id = Library(data.part(*fields[15:17]), *fields[17:20]) if has & _library.HAS_ID else None
+        self.uuid = UUID(bytes=fields[32]) if has & _library.HAS_UUID else None
+        self.symtab = Symtab(*fields[4:8]) if has & _library.HAS_SYMTAB else None
+        self.dysymtab = Dysymtab(*fields[26:32], *fields[8:10]) if has & _library.HAS_DYSYMTAB else None
 
     def _walked(self, kind: _rows.Kind, count: int) -> Table[Any]:
         return Table(WalkedReader(self._data, self._image, kind, count).read, range(count))
@@ -130,7 +133,7 @@ class Image(Slice):
     @cached_property
     def commands(self) -> Table[Command]:
         """All load commands, in their order."""
-        return self._walked(_rows.COMMANDS, self._counts[0])
+        return self._walked(_rows.commands_of(self.place), self._counts[0])
 
     @cached_property
     def segments(self) -> Table[Segment]:
@@ -148,7 +151,7 @@ class Image(Slice):
 
     @cached_property
     def libraries(self) -> Table[Library]:
-        """The libraries that it loads, and LC_ID_DYLIB, in the order of their commands."""
+        """The libraries that it loads, in the order of their commands. LC_ID_DYLIB is `id`."""
         return self._walked(_rows.LIBRARIES, self._counts[3])
 
     @cached_property
@@ -158,22 +161,20 @@ class Image(Slice):
 
     @cached_property
     def symbols(self) -> Table[Symbol]:
-        """The symbols of LC_SYMTAB, none without it. In a hostile file many symbols can share a long name. To read all
-        names then takes time in proportion to nsyms * strsize."""
-        return self._symbols_of(self._image)
-
-    @cached_property
-    def symbols_without_names(self) -> Table[Symbol]:
-        """All symbols with empty names, without a search for the end of each name. `symbols[index]` is a symbol with
-        its name."""
-        fields = IMAGE.unpack(self._image)
-        # No strings, so no name.
-        nameless = ctypes.create_string_buffer(IMAGE.pack(*fields[:8], 0, *fields[9:]), IMAGE.size)
-        return self._symbols_of(nameless)
-
-    def _symbols_of(self, image: Any) -> Table[Symbol]:
+        """The symbols of LC_SYMTAB, none without it."""
         count = self.symtab.nsyms if self.symtab else 0
-        return Table(Reader(self._data, image, _rows.symbols_of(self._counts[2])).read, range(count))
+        return Table(Reader(self._data, self._image, _rows.SYMBOLS).read, range(count))
+
+    def name(self, symbol: Symbol) -> memoryview:
+        """The name of a symbol of this image, empty where `strx` is 0. The call searches for its end. In a hostile file
+        many symbols can share a long name: to look up all of them takes time in proportion to nsyms * strsize."""
+        return self._span(load().kesvuot_symbol_name, symbol.strx)[1]
+
+    def _span(self, call: Any, key: int) -> Tuple[int, memoryview]:
+        """The status of a call on the image, and the bytes of the span that it writes."""
+        span = ctypes.create_string_buffer(SPAN.size)
+        status: int = call(self._data.address, len(self._data), self._image, key, span)
+        return status, self._data.part(*SPAN.unpack(span))
 
     @cached_property
     def local_symbols(self) -> Table[Symbol]:
@@ -206,21 +207,20 @@ class Image(Slice):
         is no such command, or RULES.md does not list `cmd` as a linkedit_data_command (for example LC_ATOM_INFO, 0x36).
         Each call rescans the load commands."""
         number = operator.index(cmd)
-        data = ctypes.create_string_buffer(PART.size)
-        if not 0 <= number < 1 << 32 or load().kesvuot_linkedit(self._image, number, data) != _library.OK:
+        if not 0 <= number < 1 << 32:
             return None
-        return self._data.part(*PART.unpack(data))
+        status, data = self._span(load().kesvuot_find_data, number)
+        return data if status == _library.OK else None
 
     def at(self, address: SupportsIndex) -> Source:
         """What is at an address. Each call rescans the load commands: for many addresses, look them up in
         `segments`."""
         number = operator.index(address)
-        found = ctypes.create_string_buffer(PART.size)
-        status = _library.NONE
+        status, found = _library.NONE, self._data.part(0, 0)
         if 0 <= number < 1 << 64:
-            status = load().kesvuot_at(self._image, number, found)
+            status, found = self._span(load().kesvuot_find_address, number)
         kinds = {_library.OK: SourceKind.FILE, _library.ZERO: SourceKind.ZERO}
-        return Source(kinds.get(status, SourceKind.UNMAPPED), self._data.part(*PART.unpack(found)))
+        return Source(kinds.get(status, SourceKind.UNMAPPED), found)
 
 
 class File:
@@ -272,7 +272,7 @@ class File:
 
     def _slice(self, index: int) -> Slice:
         image = ctypes.create_string_buffer(IMAGE.size)
-        status = load().kesvuot_image(self._data.address, len(self._data), index, image)
+        status = load().kesvuot_read_image(self._data.address, len(self._data), index, image)
         fields = IMAGE.unpack(image)
         if status == _library.OK:
             return Image(self._data, index, image, fields)
@@ -303,6 +303,6 @@ def verify(data: Data, strict: bool = False) -> File:
 
 
 def _rule_name(rule: int) -> str:
-    name = ctypes.create_string_buffer(PART.size)
-    load().kesvuot_rule(rule, name)
-    return ctypes.string_at(*PART.unpack(name)).decode("ascii")
+    name = ctypes.create_string_buffer(TEXT.size)
+    load().kesvuot_find_rule(rule, name)
+    return ctypes.string_at(*TEXT.unpack(name)).decode("ascii")

@@ -5,6 +5,7 @@ from __future__ import annotations
 from typing import Any, Dict, List
 
 from ._files import File, Image, Slice
+from ._rows import Library
 
 
 def plain(name: memoryview) -> str:
@@ -18,6 +19,11 @@ def _row_object(row: Any) -> Dict[str, Any]:
     return {field: plain(value) if isinstance(value, memoryview) else value for field, value in fields}
 
 
+def libraries_of(image: Image) -> List[Library]:
+    """What the image is as a library, and those that it loads."""
+    return [*([image.id] if image.id else []), *image.libraries]
+
+
 def _slice_object(part: Slice) -> Dict[str, Any]:
     whole = {"place": part.place, "size": len(part.bytes), "arch": part.arch, "is_read": isinstance(part, Image)}
     return {**whole, **_image_object(part)} if isinstance(part, Image) else whole
@@ -29,7 +35,7 @@ def _image_object(image: Image) -> Dict[str, Any]:
     return {"filetype": image.filetype, "flags": image.flags, "uuid": image.uuid and str(image.uuid).upper(),
             "base": image.base, "entry": image.entry, "symbols": image.symtab and image.symtab.nsyms,
             "builds": list(map(_row_object, image.builds)), "segments": segments,
-            "libraries": list(map(_row_object, image.libraries))}
+            "libraries": list(map(_row_object, libraries_of(image)))}
 
 
 def slice_objects(file: File) -> List[Dict[str, Any]]:

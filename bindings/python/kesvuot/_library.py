@@ -11,16 +11,19 @@ from typing import Any, Dict, List, Tuple, Union
 
 Data = Union[bytes, bytearray, memoryview, mmap.mmap]
 
-SONAME, MAJOR = "libkesvuot.so.0", 1
+SONAME, MAJOR = "libkesvuot.so.2", 2
 # Where the archive of `make dist` has this package, below the folder that has `lib`.
 ARCHIVED = "/share/kesvuot/python/kesvuot"
 OK, REFUSED, NO_MEMORY, NONE, UNREAD, ZERO = range(6)
-HAS_UUID, HAS_BASE, HAS_ENTRY, HAS_SYMTAB, HAS_DYSYMTAB = 1, 2, 4, 8, 16
+HAS_UUID, HAS_BASE, HAS_ENTRY, HAS_SYMTAB, HAS_DYSYMTAB, HAS_ID = 1, 2, 4, 8, 16, 32
+NO_SECTION = 0xFFFF_FFFF
 
-# PN is a pointer and a length, and x is reserved.
-PART = struct.Struct("@PN")
+# x is reserved.
+SPAN = struct.Struct("@2Q")
+CURSOR = struct.Struct("@4Q")
+TEXT = struct.Struct("@PN")
 VERDICT = struct.Struct("@2QI4x")
-IMAGE = struct.Struct("@PN14Q11I16s20x")
+IMAGE = struct.Struct("@2Q13Q2Q3I4x12I16s16x")
 
 CHANGED = "the bytes have changed after the verdict"
 
@@ -55,15 +58,16 @@ def _declare(library: Any) -> None:
     """Gives each call its types, as in kesvuot.h."""
     pointer, size, u32, u64 = ctypes.c_void_p, ctypes.c_size_t, ctypes.c_uint32, ctypes.c_uint64
     calls: Dict[str, Tuple[Any, List[Any]]] = {
-        "rule": (u32, [u32, pointer]),
+        "find_rule": (u32, [u32, pointer]),
         "verify": (u32, [pointer, size, pointer]),
         "verify_strictly": (u32, [pointer, size, pointer]),
         "layout": (u32, [pointer, size, pointer, size, pointer]),
-        "image": (u32, [pointer, size, u64, pointer]),
-        "linkedit": (u32, [pointer, u32, pointer]),
-        "at": (u32, [pointer, u64, pointer])}
+        "read_image": (u32, [pointer, size, u64, pointer]),
+        "symbol_name": (u32, [pointer, size, pointer, u32, pointer]),
+        "find_data": (u32, [pointer, size, pointer, u32, pointer]),
+        "find_address": (u32, [pointer, size, pointer, u64, pointer])}
     for table in ("segments", "sections", "libraries", "builds", "commands", "symbols", "indirects"):
-        calls[table] = (size, [pointer, u64, pointer, size])
+        calls[f"read_{table}"] = (size, [pointer, size, pointer, pointer, pointer, size])
     for name, (result, arguments) in calls.items():
         call = getattr(library, f"kesvuot_{name}")
         call.restype, call.argtypes = result, arguments
@@ -103,7 +107,6 @@ class Bytes:
     def __len__(self) -> int:
         return len(self.view)
 
-    def part(self, at: int, length: int) -> memoryview:
-        """The part to which the library points."""
-        first = at - self.address if length else 0
-        return self.view[first:first + length]
+    def part(self, offset: int, size: int) -> memoryview:
+        """The bytes of a span."""
+        return self.view[offset:offset + size]

@@ -8,7 +8,7 @@ from struct import Struct
 from typing import (
     Any, Callable, Iterable, Iterator, NamedTuple, Optional, Sequence, SupportsIndex, Tuple, TypeVar, Union, overload)
 
-from ._library import CHANGED, Bytes, load
+from ._library import CHANGED, CURSOR, NO_SECTION, Bytes, load
 
 Row = TypeVar("Row")
 Fields = Iterable[Tuple[Any, ...]]
@@ -69,7 +69,7 @@ class Section(NamedTuple):
 
 
 class Library(NamedTuple):
-    """A dylib_command: LC_ID_DYLIB, the name of the image itself, or a library that it loads."""
+    """A dylib_command: a library that the image loads, or what it is itself."""
 
     name: memoryview
     cmd: int
@@ -101,22 +101,18 @@ class Command(NamedTuple):
 
 
 class Symbol(NamedTuple):
-    """An nlist_64. `name` is empty where `strx` is 0.
+    """An nlist_64. `Image.name` gives its name.
 
     `section` is the index in `Image.sections` of the section with the number `sect`, or None if there is none. Do not
     subtract 1 from `sect`: it is 0 (NO_SECT) if the symbol is in no section, and may be past the last section, such as
     in a debugging entry (N_STAB)."""
 
-    name: memoryview
     value: int
     strx: int
     desc: int
     type: int
     sect: int
     section: Optional[int]
-
-    def __repr__(self) -> str:
-        return _text(self)
 
 
 class Kind(NamedTuple):
@@ -129,13 +125,13 @@ class Kind(NamedTuple):
 
 def _segments(data: Bytes, rows: Fields) -> Iterator[Segment]:
     part = data.part
-    return (Segment(part(name, length), part(at, size), *numbers) for name, length, at, size, *numbers in rows)
+    return (Segment(part(name, length), part(offset, size), *numbers) for name, length, offset, size, *numbers in rows)
 
 
 def _sections(data: Bytes, rows: Fields) -> Iterator[Section]:
     part = data.part
-    return (Section(part(name, length), part(segment, segment_length), part(at, size), *numbers)
-            for name, length, segment, segment_length, at, size, *numbers in rows)
+    return (Section(part(name, length), part(segment, segment_length), part(offset, size), *numbers)
+            for name, length, segment, segment_length, offset, size, *numbers in rows)
 
 
 def _libraries(data: Bytes, rows: Fields) -> Iterator[Library]:
@@ -147,37 +143,35 @@ def _builds(_data: Bytes, rows: Fields) -> Iterator[Build]:
     return map(Build._make, rows)
 
 
-def _commands(data: Bytes, rows: Fields) -> Iterator[Command]:
-    part = data.part
-    return (Command(part(at, size), part(name, length), place, cmd) for at, size, name, length, place, cmd in rows)
+def _symbols(_data: Bytes, rows: Fields) -> Iterator[Symbol]:
+    # There may be millions: nothing is called for a row but what makes its objects.
+    new, none = tuple.__new__, NO_SECTION
+    return (new(Symbol, (value, strx, desc, kind, sect, None if section == none else section))
+            for value, strx, section, desc, kind, sect in rows)
 
 
 def _indirects(_data: Bytes, rows: Fields) -> Iterator[int]:
     return (value for value, in rows)
 
 
-# In the forms of kesvuot.h, PN is a pointer and a length, x is reserved, and ?3x is a number that is 0 or 1.
-SEGMENTS = Kind("kesvuot_segments", Struct("@PNPN4Q4I"), _segments)
-SECTIONS = Kind("kesvuot_sections", Struct("@PNPNPN2Q7I?3x"), _sections)
-LIBRARIES = Kind("kesvuot_libraries", Struct("@PN3I4x"), _libraries)
-BUILDS = Kind("kesvuot_builds", Struct("@3I4x"), _builds)
-COMMANDS = Kind("kesvuot_commands", Struct("@PNPNQI4x"), _commands)
-INDIRECTS = Kind("kesvuot_indirects", Struct("@I"), _indirects)
+# In the forms of kesvuot.h, each 2Q at the start is a span, x is reserved or not taken, and ?3x is a number that is 0
+# or 1.
+SEGMENTS = Kind("kesvuot_read_segments", Struct("@4Q2Q8x3Q3I4x"), _segments)
+SECTIONS = Kind("kesvuot_read_sections", Struct("@6Q2Q7I?3x"), _sections)
+LIBRARIES = Kind("kesvuot_read_libraries", Struct("@2Q3I4x"), _libraries)
+BUILDS = Kind("kesvuot_read_builds", Struct("@3I4x"), _builds)
+SYMBOLS = Kind("kesvuot_read_symbols", Struct("@QIIHBB4x"), _symbols)
+INDIRECTS = Kind("kesvuot_read_indirects", Struct("@I"), _indirects)
 
 
-def symbols_of(section_count: int) -> Kind:
-    """The symbols of an image of so many sections."""
-    numbered = range(min(section_count, 255))
-    sections = [None, *numbered, *[None] * (255 - len(numbered))]
+def commands_of(image: int) -> Kind:
+    """The load commands of the image that begins here in the file."""
+    def make(data: Bytes, rows: Fields) -> Iterator[Command]:
+        part = data.part
+        return (Command(part(offset, size), part(name, length), offset - image, cmd)
+                for offset, size, name, length, cmd in rows)
 
-    def make(data: Bytes, rows: Fields) -> Iterator[Symbol]:
-        # There may be millions: nothing is called for a row but what makes its objects.
-        view, base, new = data.view, data.address, tuple.__new__
-        return (new(Symbol, (view[at - base:at - base + length] if length else view[:0],
-                             value, strx, desc, kind, sect, sections[sect]))
-                for at, length, value, strx, desc, kind, sect in rows)
-
-    return Kind("kesvuot_symbols", Struct("@PNQIHBB"), make)
+    return Kind("kesvuot_read_commands", Struct("@4QI4x"), make)
 
 
 class Reader:
@@ -191,8 +185,10 @@ class Reader:
     def _write(self, first: int, count: int) -> memoryview:
         """Rows as the library writes them, from an index on. There are fewer if the bytes have changed."""
         size = self._kind.form.size
-        rows = ctypes.create_string_buffer(count * size)
-        written = getattr(load(), self._kind.call)(self._image, first, rows, count)
+        rows, cursor = ctypes.create_string_buffer(count * size), CURSOR.pack(0, 0, 0, first)
+        written = getattr(load(), self._kind.call)(
+            self._data.address, len(self._data), self._image, ctypes.create_string_buffer(cursor, CURSOR.size), rows,
+            count)
         return memoryview(rows).cast("B")[:written * size]
 
     def _make(self, rows: memoryview) -> Iterator[Any]:

@@ -64,7 +64,7 @@ def _slice_lines(part: Slice) -> Iterator[str]:
         if len(part.segments):
             yield ""
             yield from _table(partial(_segments, part))
-        if len(part.libraries):
+        if libraries_of(part):
             yield ""
             yield from _table(partial(_libraries, part))
 
@@ -109,6 +109,6 @@ def _segments(image: Image) -> Iterator[Cells]:
 
 def _libraries(image: Image) -> Iterator[Cells]:
     yield "library", "version", "compatible", "how"
-    for library in image.libraries:
+    for library in libraries_of(image):
         yield (plain(library.name), version_text(library.current), version_text(library.compatible),
                LIBRARIES.get(library.cmd, f"{library.cmd:#x}"))

@@ -20,7 +20,7 @@ from ._reports import REPORTS, Report, Write, reason_text, shown
 from ._show import show
 
 # The version of the package (VERSION).
-VERSION = "1.1.0"
+VERSION = "2.0.0"
 
 STATUSES = """\
 statuses:

@@ -37,10 +37,8 @@ struct Tables<'a> {
 
 impl<'a> Tables<'a> {
     fn of(image: Image<'a>) -> Self {
-        // Without names, since the call would search for the end of each: many can share a long
-        // name.
         let mut symbols: Vec<_> = (0..)
-            .zip(image.symbols_without_names())
+            .zip(image.symbols())
             .filter_map(|(index, symbol)| Some((symbol.section_index()?, symbol.value, index)))
             .collect();
         symbols.sort_unstable();
@@ -66,7 +64,7 @@ impl<'a> Tables<'a> {
 
     /// The last symbol of a section at or before an address. symbol-section: each symbol is in a
     /// section that exists.
-    fn symbol_at(&self, section: usize, address: u64) -> Option<Symbol<'a>> {
+    fn symbol_at(&self, section: usize, address: u64) -> Option<Symbol> {
         let end = self
             .symbols
             .partition_point(|&(index, value, _)| (index, value) <= (section, address));
@@ -80,9 +78,10 @@ impl<'a> Tables<'a> {
         let section = self.section_at(address);
         write!(out, "{address:#x} ")?;
         match section.and_then(|index| self.symbol_at(index, address)) {
-            // symbol-name: the whole name is in the string table.
+            // symbol-name: the whole name is in the string table. Many symbols can share a long name, so
+            // only those of the addresses are looked up.
             Some(symbol) => {
-                let name = Name(symbol.name.unwrap_or_default());
+                let name = Name(self.image.name(&symbol).unwrap_or_default());
                 write!(out, "{name} + {:#x}", address - symbol.value)?;
             }
             None => write!(out, "?")?,

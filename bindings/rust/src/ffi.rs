@@ -1,12 +1,10 @@
 //! The structures and calls of `kesvuot.h`. All unsafe code of this crate is in this file.
 //!
-//! The library trusts no number in these structures, so any of them may be changed. Only pointers
-//! matter, and no other file can make one: each [`Bytes`] is empty, or was written by the library.
+//! The structures are plain numbers, and the library trusts none of them, so any may be changed.
 
 use alloc::vec;
 use alloc::vec::Vec;
 use core::ffi::c_void;
-use core::marker::PhantomData;
 use core::{ptr, slice};
 
 /// What a call returns. `NO_MEMORY` and `NONE` are the remaining statuses.
@@ -21,49 +19,18 @@ pub const HAS_BASE: u32 = 2;
 pub const HAS_ENTRY: u32 = 4;
 pub const HAS_SYMTAB: u32 = 8;
 pub const HAS_DYSYMTAB: u32 = 16;
+pub const HAS_ID: u32 = 32;
 
-/// `struct kesvuot_bytes`. If `len` is not 0, these bytes can be read for as long as `'a`.
-#[repr(C)]
-#[derive(Clone, Copy)]
-pub struct Bytes<'a> {
-    at: *const u8,
-    len: usize,
-    owner: PhantomData<&'a [u8]>,
-}
-
-impl<'a> Bytes<'a> {
-    pub fn get(self) -> &'a [u8] {
-        if self.len == 0 {
-            return &[];
-        }
-        // SAFETY: by the invariant of the type. The library points into bytes that it was given for
-        // `'a`.
-        unsafe { slice::from_raw_parts(self.at, self.len) }
-    }
-}
-
-impl Default for Bytes<'_> {
-    fn default() -> Self {
-        Bytes {
-            at: ptr::null(),
-            len: 0,
-            owner: PhantomData,
-        }
-    }
-}
-
-// SAFETY: it is a `&[u8]` in another form.
-unsafe impl Send for Bytes<'_> {}
-// SAFETY: as above.
-unsafe impl Sync for Bytes<'_> {}
+/// `KESVUOT_NO_SECTION`
+pub const NO_SECTION: u32 = u32::MAX;
 
 /// Declares structures, and lists for the tests how C must lay them out.
 macro_rules! structures {
-    ($($tag:ident = $name:ident $(<$life:lifetime>)? { $($field:ident: $type:ty,)* })*) => {
+    ($($tag:ident = $name:ident { $($field:ident: $type:ty,)* })*) => {
         $(
             #[repr(C)]
             #[derive(Clone, Copy, Default)]
-            pub struct $name $(<$life>)? {
+            pub struct $name {
                 $(pub $field: $type,)*
             }
         )*
@@ -94,6 +61,11 @@ macro_rules! structures {
 }
 
 structures! {
+    kesvuot_span = Span {
+        offset: u64,
+        size: u64,
+    }
+
     kesvuot_verdict = Verdict {
         place: u64,
         slices: u64,
@@ -101,9 +73,8 @@ structures! {
         reserved: u32,
     }
 
-    kesvuot_image = Image<'a> {
-        bytes: Bytes<'a>,
-        place: u64,
+    kesvuot_image = Image {
+        slice: Span,
         base: u64,
         entry: u64,
         symbols: u64,
@@ -117,33 +88,44 @@ structures! {
         section_count: u64,
         library_count: u64,
         build_count: u64,
+        id: Library,
         cputype: u32,
         cpusubtype: u32,
+        capabilities: u32,
         filetype: u32,
         flags: u32,
         has: u32,
         groups: [u32; 6],
         uuid: [u8; 16],
-        reserved: [u32; 5],
+        reserved: [u32; 4],
     }
 
-    kesvuot_segment = Segment<'a> {
-        name: Bytes<'a>,
-        bytes: Bytes<'a>,
+    kesvuot_cursor = Cursor {
+        place: u64,
+        commands: u64,
+        segment: u64,
+        items: u64,
+    }
+
+    kesvuot_segment = Segment {
+        name: Span,
+        bytes: Span,
         vmaddr: u64,
         vmsize: u64,
+        last: u64,
         fileoff: u64,
         filesize: u64,
-        first_section: u32,
+        first_section: u64,
         section_count: u32,
         maxprot: u32,
         initprot: u32,
+        reserved: u32,
     }
 
-    kesvuot_section = Section<'a> {
-        name: Bytes<'a>,
-        segment: Bytes<'a>,
-        bytes: Bytes<'a>,
+    kesvuot_section = Section {
+        name: Span,
+        segment: Span,
+        bytes: Span,
         addr: u64,
         size: u64,
         offset: u32,
@@ -156,8 +138,8 @@ structures! {
         zero_fill: u32,
     }
 
-    kesvuot_library = Library<'a> {
-        name: Bytes<'a>,
+    kesvuot_library = Library {
+        name: Span,
         cmd: u32,
         current: u32,
         compatible: u32,
@@ -171,27 +153,34 @@ structures! {
         reserved: u32,
     }
 
-    kesvuot_command = Command<'a> {
-        bytes: Bytes<'a>,
-        name: Bytes<'a>,
-        place: u64,
+    kesvuot_command = Command {
+        bytes: Span,
+        name: Span,
         cmd: u32,
         reserved: u32,
     }
 
-    kesvuot_symbol = Symbol<'a> {
-        name: Bytes<'a>,
+    kesvuot_symbol = Symbol {
         value: u64,
         strx: u32,
+        section: u32,
         desc: u16,
         r#type: u8,
         sect: u8,
+        reserved: u32,
     }
+}
+
+/// `struct kesvuot_text`: a constant of the library.
+#[repr(C)]
+struct Text {
+    at: *const u8,
+    size: usize,
 }
 
 extern "C" {
     fn kesvuot_version() -> u32;
-    fn kesvuot_rule(rule: u32, name: *mut Bytes<'static>) -> u32;
+    fn kesvuot_find_rule(rule: u32, name: *mut Text) -> u32;
     fn kesvuot_verify(file: *const c_void, size: usize, verdict: *mut Verdict) -> u32;
     fn kesvuot_verify_strictly(file: *const c_void, size: usize, verdict: *mut Verdict) -> u32;
     fn kesvuot_layout(
@@ -201,18 +190,32 @@ extern "C" {
         max: usize,
         needed: *mut usize,
     ) -> u32;
-    fn kesvuot_image<'a>(
+    fn kesvuot_read_image(file: *const c_void, size: usize, slice: u64, image: *mut Image) -> u32;
+    fn kesvuot_symbol_name(
         file: *const c_void,
         size: usize,
-        slice: u64,
-        image: *mut Image<'a>,
+        image: *const Image,
+        strx: u32,
+        name: *mut Span,
     ) -> u32;
-    fn kesvuot_linkedit<'a>(image: *const Image<'a>, cmd: u32, data: *mut Bytes<'a>) -> u32;
-    fn kesvuot_at<'a>(image: *const Image<'a>, address: u64, bytes: *mut Bytes<'a>) -> u32;
+    fn kesvuot_find_data(
+        file: *const c_void,
+        size: usize,
+        image: *const Image,
+        cmd: u32,
+        data: *mut Span,
+    ) -> u32;
+    fn kesvuot_find_address(
+        file: *const c_void,
+        size: usize,
+        image: *const Image,
+        address: u64,
+        bytes: *mut Span,
+    ) -> u32;
 }
 
 /// The major version of the library whose structures these are.
-const MAJOR: u32 = 1;
+const MAJOR: u32 = 2;
 
 /// Major << 16 | minor << 8 | patch.
 pub fn version() -> u32 {
@@ -220,12 +223,16 @@ pub fn version() -> u32 {
     unsafe { kesvuot_version() }
 }
 
-/// The name of the rule with this number, or no bytes if there is no such rule.
-pub fn rule(number: u32) -> Bytes<'static> {
-    let mut name = Bytes::default();
-    // SAFETY: the name may be written. It gets a constant of the library.
-    unsafe { kesvuot_rule(number, &mut name) };
-    name
+/// The name of the rule with this number. `None` if there is no such rule.
+pub fn rule(number: u32) -> Option<&'static [u8]> {
+    let mut name = Text {
+        at: ptr::null(),
+        size: 0,
+    };
+    // SAFETY: the name may be written.
+    let status = unsafe { kesvuot_find_rule(number, &mut name) };
+    // SAFETY: with this status, it is a constant of the library, of so many bytes.
+    (status == OK).then(|| unsafe { slice::from_raw_parts(name.at, name.size) })
 }
 
 /// Room for the layout of most files. A longer one takes a second call.
@@ -270,39 +277,45 @@ pub fn layout(file: &[u8]) -> (u32, Vec<u8>) {
 }
 
 /// The status, and the image of the slice with this index.
-pub fn image(file: &[u8], slice: u64) -> (u32, Image<'_>) {
+pub fn image(file: &[u8], slice: u64) -> (u32, Image) {
     let mut image = Image::default();
-    // SAFETY: the file may be read, and nobody changes it meanwhile. The image may be written. It
-    // gets bytes of the file.
-    let status = unsafe { kesvuot_image(file.as_ptr().cast(), file.len(), slice, &mut image) };
+    // SAFETY: the file may be read, and nobody changes it meanwhile. The image may be written.
+    let status = unsafe { kesvuot_read_image(file.as_ptr().cast(), file.len(), slice, &mut image) };
     (status, image)
 }
 
 /// A row of one of the tables of an image.
-pub trait Raw<'a>: Copy + Default {
-    /// Writes rows, starting at index `first`, and returns how many it wrote.
-    fn fill(image: &Image<'a>, first: u64, rows: &mut [Self]) -> usize;
+pub trait Raw: Copy + Default {
+    /// Writes the next rows, moves the cursor past them, and returns how many it wrote.
+    fn fill(file: &[u8], image: &Image, cursor: &mut Cursor, rows: &mut [Self]) -> usize;
 }
 
 /// Declares the calls that read tables, each for its row.
 macro_rules! tables {
     ($($row:ty: $call:ident,)*) => {
         extern "C" {
-            $(fn $call<'a>(
-                image: *const Image<'a>,
-                first: u64,
+            $(fn $call(
+                file: *const c_void,
+                size: usize,
+                image: *const Image,
+                cursor: *mut Cursor,
                 rows: *mut $row,
                 max: usize,
             ) -> usize;)*
         }
 
         $(
-            impl<'a> Raw<'a> for $row {
-                fn fill(image: &Image<'a>, first: u64, rows: &mut [Self]) -> usize {
-                    // SAFETY: the bytes of the image may be read for `'a`, and the rows may be
-                    // written. They get bytes of the image, and stay initialized where they get
-                    // none.
-                    unsafe { $call(image, first, rows.as_mut_ptr(), rows.len()) }
+            impl Raw for $row {
+                fn fill(
+                    file: &[u8],
+                    image: &Image,
+                    cursor: &mut Cursor,
+                    rows: &mut [Self],
+                ) -> usize {
+                    let (at, size) = (file.as_ptr().cast(), file.len());
+                    // SAFETY: the file may be read, and nobody changes it meanwhile. The cursor and
+                    // the rows may be written, and stay initialized where they are not.
+                    unsafe { $call(at, size, image, cursor, rows.as_mut_ptr(), rows.len()) }
                 }
             }
         )*
@@ -310,29 +323,36 @@ macro_rules! tables {
 }
 
 tables! {
-    Segment<'a>: kesvuot_segments,
-    Section<'a>: kesvuot_sections,
-    Library<'a>: kesvuot_libraries,
-    Build: kesvuot_builds,
-    Command<'a>: kesvuot_commands,
-    Symbol<'a>: kesvuot_symbols,
-    u32: kesvuot_indirects,
+    Segment: kesvuot_read_segments,
+    Section: kesvuot_read_sections,
+    Library: kesvuot_read_libraries,
+    Build: kesvuot_read_builds,
+    Command: kesvuot_read_commands,
+    Symbol: kesvuot_read_symbols,
+    u32: kesvuot_read_indirects,
 }
 
-/// The status, and the data of the first `linkedit_data_command` with this `cmd`.
-pub fn linkedit<'a>(image: &Image<'a>, cmd: u32) -> (u32, Bytes<'a>) {
-    let mut data = Bytes::default();
-    // SAFETY: the bytes of the image may be read for `'a`. The data may be written, and gets some
-    // of these.
-    let status = unsafe { kesvuot_linkedit(image, cmd, &mut data) };
+/// The status, and where the name at `strx` in the strings is.
+pub fn symbol_name(file: &[u8], image: &Image, strx: u32) -> (u32, Span) {
+    let (at, mut name) = (file.as_ptr().cast(), Span::default());
+    // SAFETY: the file may be read, and nobody changes it meanwhile. The span may be written.
+    let status = unsafe { kesvuot_symbol_name(at, file.len(), image, strx, &mut name) };
+    (status, name)
+}
+
+/// The status, and where the data of the first `linkedit_data_command` with this `cmd` is.
+pub fn find_data(file: &[u8], image: &Image, cmd: u32) -> (u32, Span) {
+    let (at, mut data) = (file.as_ptr().cast(), Span::default());
+    // SAFETY: as in `symbol_name`.
+    let status = unsafe { kesvuot_find_data(at, file.len(), image, cmd, &mut data) };
     (status, data)
 }
 
-/// The status, and the bytes from an address on.
-pub fn at<'a>(image: &Image<'a>, address: u64) -> (u32, Bytes<'a>) {
-    let mut bytes = Bytes::default();
-    // SAFETY: as in `linkedit`.
-    let status = unsafe { kesvuot_at(image, address, &mut bytes) };
+/// The status, and where the bytes from an address on are.
+pub fn find_address(file: &[u8], image: &Image, address: u64) -> (u32, Span) {
+    let (at, mut bytes) = (file.as_ptr().cast(), Span::default());
+    // SAFETY: as in `symbol_name`.
+    let status = unsafe { kesvuot_find_address(at, file.len(), image, address, &mut bytes) };
     (status, bytes)
 }
 
@@ -363,6 +383,8 @@ mod tests {
             ("HAS_ENTRY", HAS_ENTRY),
             ("HAS_SYMTAB", HAS_SYMTAB),
             ("HAS_DYSYMTAB", HAS_DYSYMTAB),
+            ("HAS_ID", HAS_ID),
+            ("NO_SECTION", NO_SECTION),
         ];
         let others = others
             .iter()
@@ -395,7 +417,7 @@ mod tests {
     fn declarations_are_those_of_the_header() {
         assert_eq!(hold(&conditions()), Ok(()));
         assert_eq!(hold(&numbers()), Ok(()));
-        let wrong = ["sizeof(struct kesvuot_bytes) == 15".to_owned()];
+        let wrong = ["sizeof(struct kesvuot_span) == 15".to_owned()];
         assert!(hold(&wrong).unwrap_err().contains(&wrong[0]));
     }
 }

@@ -2,7 +2,7 @@
 
 use core::fmt;
 
-use crate::ffi::{self, Raw};
+use crate::ffi::{self, Raw, Span};
 use crate::parts::{Build, Command, Indirect, Library, Section, Segment, Symbol};
 use crate::rows::{Row, Rows};
 
@@ -12,11 +12,12 @@ use crate::rows::{Row, Rows};
 /// the image, but [`place`](Image::place) and [`place_of`](Image::place_of) count from the start of
 /// the file. A name contains no zero byte.
 ///
-/// Symbols and indirect entries are found by their index. Each of the other tables is read as a
-/// whole, in one walk over the load commands: collect its rows to use them more than once.
+/// Symbols and indirect entries are found by their index. The rows of the other tables are read in a
+/// walk over the load commands: collect them to use them more than once.
 #[derive(Clone, Copy)]
 pub struct Image<'a> {
-    raw: ffi::Image<'a>,
+    file: &'a [u8],
+    raw: ffi::Image,
 }
 
 /// What is at an address.
@@ -75,20 +76,33 @@ pub struct Dysymtab {
 }
 
 impl<'a> Image<'a> {
-    pub(crate) fn new(raw: ffi::Image<'a>) -> Self {
-        Image { raw }
+    pub(crate) fn new(file: &'a [u8], raw: ffi::Image) -> Self {
+        Image { file, raw }
+    }
+
+    pub(crate) fn file(&self) -> &'a [u8] {
+        self.file
+    }
+
+    pub(crate) fn raw(&self) -> &ffi::Image {
+        &self.raw
+    }
+
+    /// The bytes of a span, which the library wrote. Each lies in the file.
+    pub(crate) fn part(&self, span: Span) -> &'a [u8] {
+        &self.file[span.offset as usize..][..span.size as usize]
     }
 
     /// The bytes of the image.
     #[must_use]
     pub fn bytes(&self) -> &'a [u8] {
-        self.raw.bytes.get()
+        self.part(self.raw.slice)
     }
 
     /// Where the image begins in the file.
     #[must_use]
     pub fn place(&self) -> u64 {
-        self.raw.place
+        self.raw.slice.offset
     }
 
     /// `cputype` of the header.
@@ -101,6 +115,12 @@ impl<'a> Image<'a> {
     #[must_use]
     pub fn cpusubtype(&self) -> u32 {
         self.raw.cpusubtype
+    }
+
+    /// The capability byte of `cpusubtype`, such as the version of the ABI of arm64e.
+    #[must_use]
+    pub fn capabilities(&self) -> u32 {
+        self.raw.capabilities
     }
 
     /// `filetype` of the header, such as `MH_EXECUTE`.
@@ -119,6 +139,13 @@ impl<'a> Image<'a> {
     #[must_use]
     pub fn uuid(&self) -> Option<[u8; 16]> {
         self.has(ffi::HAS_UUID).then_some(self.raw.uuid)
+    }
+
+    /// What the image is as a library, by its `LC_ID_DYLIB`, if there is one.
+    #[must_use]
+    pub fn id(&self) -> Option<Library<'a>> {
+        self.has(ffi::HAS_ID)
+            .then(|| Library::new(self.raw.id, self))
     }
 
     /// The address of the header, before any slide. `None` if no mapped segment has the header.
@@ -167,7 +194,7 @@ impl<'a> Image<'a> {
     /// The segments, in command order.
     #[must_use]
     pub fn segments(&self) -> Rows<'a, Segment<'a>> {
-        Rows::new(self.raw, 0..self.raw.segment_count)
+        Rows::new(*self, self.raw.segment_count)
     }
 
     /// The sections of all segments, in command order.
@@ -193,84 +220,79 @@ impl<'a> Image<'a> {
     /// ```
     #[must_use]
     pub fn sections(&self) -> Rows<'a, Section<'a>> {
-        Rows::new(self.raw, 0..self.raw.section_count)
+        Rows::new(*self, self.raw.section_count)
     }
 
-    /// The libraries that the image loads, and the image itself if it is a library, in command
-    /// order.
+    /// The libraries that the image loads, in command order. What it is itself is
+    /// [`id`](Image::id).
     #[must_use]
     pub fn libraries(&self) -> Rows<'a, Library<'a>> {
-        Rows::new(self.raw, 0..self.raw.library_count)
+        Rows::new(*self, self.raw.library_count)
     }
 
     /// The platforms that the image was built for, in command order.
     #[must_use]
     pub fn builds(&self) -> Rows<'a, Build> {
-        Rows::new(self.raw, 0..self.raw.build_count)
+        Rows::new(*self, self.raw.build_count)
     }
 
     /// All load commands.
     #[must_use]
     pub fn commands(&self) -> Rows<'a, Command<'a>> {
-        Rows::new(self.raw, 0..self.raw.command_count)
+        Rows::new(*self, self.raw.command_count)
     }
 
     /// All symbols, in the order of the table.
-    ///
-    /// In a hostile file many symbols can share a long name. To read all names then takes time in
-    /// proportion to `nsyms * strsize`.
     #[must_use]
-    pub fn symbols(&self) -> Rows<'a, Symbol<'a>> {
-        Rows::new(self.raw, 0..self.raw.symbol_count)
+    pub fn symbols(&self) -> Rows<'a, Symbol> {
+        Rows::new(*self, self.raw.symbol_count)
     }
 
-    /// All symbols with empty names, without a search for the end of each name.
-    /// [`symbol`](Image::symbol) returns a symbol with its name.
+    /// The name of a symbol of this image. `None` if its `strx` is 0.
+    ///
+    /// The call searches for the end of the name. In a hostile file many symbols can share a long
+    /// name: to look up all of them takes time in proportion to `nsyms * strsize`.
     #[must_use]
-    pub fn symbols_without_names(&self) -> Rows<'a, Symbol<'a>> {
-        // No strings, so no name.
-        let nameless = ffi::Image {
-            strings_size: 0,
-            ..self.raw
-        };
-        Rows::new(nameless, 0..self.raw.symbol_count)
+    pub fn name(&self, symbol: &Symbol) -> Option<&'a [u8]> {
+        let (status, name) = ffi::symbol_name(self.file, &self.raw, symbol.strx);
+        (status == ffi::OK).then(|| self.part(name))
     }
 
     /// The local symbols. There are none without `LC_DYSYMTAB`.
     #[must_use]
-    pub fn local_symbols(&self) -> Rows<'a, Symbol<'a>> {
+    pub fn local_symbols(&self) -> Rows<'a, Symbol> {
         self.symbol_group(0)
     }
 
     /// The defined external symbols. There are none without `LC_DYSYMTAB`.
     #[must_use]
-    pub fn defined_symbols(&self) -> Rows<'a, Symbol<'a>> {
+    pub fn defined_symbols(&self) -> Rows<'a, Symbol> {
         self.symbol_group(2)
     }
 
     /// The undefined symbols. There are none without `LC_DYSYMTAB`.
     #[must_use]
-    pub fn undefined_symbols(&self) -> Rows<'a, Symbol<'a>> {
+    pub fn undefined_symbols(&self) -> Rows<'a, Symbol> {
         self.symbol_group(4)
     }
 
     /// The group whose first index is here in `groups`, and its count after it.
-    fn symbol_group(&self, at: usize) -> Rows<'a, Symbol<'a>> {
+    fn symbol_group(&self, at: usize) -> Rows<'a, Symbol> {
         let first = u64::from(self.raw.groups[at]);
         let count = u64::from(self.raw.groups[at + 1]);
-        Rows::new(self.raw, first..first + count)
+        Rows::range(*self, first..first + count)
     }
 
     /// The symbol with this index in the table. `None` past the last one.
     #[must_use]
-    pub fn symbol(&self, index: u64) -> Option<Symbol<'a>> {
+    pub fn symbol(&self, index: u64) -> Option<Symbol> {
         self.row(index)
     }
 
     /// The indirect entries, in the order of the table.
     #[must_use]
     pub fn indirects(&self) -> Rows<'a, Indirect> {
-        Rows::new(self.raw, 0..self.raw.indirect_count)
+        Rows::new(*self, self.raw.indirect_count)
     }
 
     /// The indirect entry with this index in the table, such as `reserved1` of a section of stubs.
@@ -283,9 +305,13 @@ impl<'a> Image<'a> {
     /// One row of a table whose rows are found by their index.
     fn row<T: Row<'a>>(&self, index: u64) -> Option<T> {
         let mut row = [T::Raw::default()];
-        match T::Raw::fill(&self.raw, index, &mut row) {
+        let mut cursor = ffi::Cursor {
+            items: index,
+            ..Default::default()
+        };
+        match T::Raw::fill(self.file, &self.raw, &mut cursor, &mut row) {
             0 => None,
-            _ => Some(T::new(row[0], &self.raw)),
+            _ => Some(T::new(row[0], self)),
         }
     }
 
@@ -295,8 +321,8 @@ impl<'a> Image<'a> {
     /// 0x36). Each call rescans the load commands.
     #[must_use]
     pub fn linkedit(&self, cmd: u32) -> Option<&'a [u8]> {
-        let (status, data) = ffi::linkedit(&self.raw, cmd);
-        (status == ffi::OK).then(|| data.get())
+        let (status, data) = ffi::find_data(self.file, &self.raw, cmd);
+        (status == ffi::OK).then(|| self.part(data))
     }
 
     /// What is at an address, before any slide. `None` if no segment has the address.
@@ -316,8 +342,8 @@ impl<'a> Image<'a> {
     /// ```
     #[must_use]
     pub fn at(&self, address: u64) -> Option<Source<'a>> {
-        match ffi::at(&self.raw, address) {
-            (ffi::OK, bytes) => Some(Source::Bytes(bytes.get())),
+        match ffi::find_address(self.file, &self.raw, address) {
+            (ffi::OK, bytes) => Some(Source::Bytes(self.part(bytes))),
             (ffi::ZERO, _) => Some(Source::Zero),
             _ => None,
         }
@@ -343,7 +369,7 @@ impl<'a> Image<'a> {
         if bytes.is_empty() || bytes.start < image.start || bytes.end > image.end {
             return None;
         }
-        Some(self.raw.place + (bytes.start as u64 - image.start as u64))
+        Some(self.place() + (bytes.start as u64 - image.start as u64))
     }
 }
 

@@ -3,8 +3,8 @@
 use core::fmt;
 use core::ops::Range;
 
-use crate::ffi;
 use crate::rows::Row;
+use crate::{ffi, Image};
 
 /// A name as `Debug` shows it.
 struct Text<'a>(&'a [u8]);
@@ -32,7 +32,7 @@ pub struct Segment<'a> {
     /// How many bytes it has in the file.
     pub filesize: u64,
     /// The index of its first section in [`Image::sections`](crate::Image::sections).
-    pub first_section: u32,
+    pub first_section: u64,
     /// `nsects`: how many sections it has.
     pub section_count: u32,
     /// The protection that it may get: 1 to read, 2 to write, 4 to execute.
@@ -47,6 +47,12 @@ impl Segment<'_> {
     pub fn section_range(&self) -> Range<usize> {
         let first = self.first_section as usize;
         first..first + self.section_count as usize
+    }
+
+    /// Its last address. The sum `vmaddr + vmsize` can be 2^64. `None` if it is not mapped.
+    #[must_use]
+    pub fn last_address(&self) -> Option<u64> {
+        Some(self.vmaddr + self.vmsize.checked_sub(1)?)
     }
 }
 
@@ -63,12 +69,12 @@ impl fmt::Debug for Segment<'_> {
 }
 
 impl<'a> Row<'a> for Segment<'a> {
-    type Raw = ffi::Segment<'a>;
+    type Raw = ffi::Segment;
 
-    fn new(raw: ffi::Segment<'a>, _: &ffi::Image<'a>) -> Self {
+    fn new(raw: ffi::Segment, image: &Image<'a>) -> Self {
         Segment {
-            name: raw.name.get(),
-            bytes: raw.bytes.get(),
+            name: image.part(raw.name),
+            bytes: image.part(raw.bytes),
             vmaddr: raw.vmaddr,
             vmsize: raw.vmsize,
             fileoff: raw.fileoff,
@@ -125,13 +131,13 @@ impl fmt::Debug for Section<'_> {
 }
 
 impl<'a> Row<'a> for Section<'a> {
-    type Raw = ffi::Section<'a>;
+    type Raw = ffi::Section;
 
-    fn new(raw: ffi::Section<'a>, _: &ffi::Image<'a>) -> Self {
+    fn new(raw: ffi::Section, image: &Image<'a>) -> Self {
         Section {
-            name: raw.name.get(),
-            segment: raw.segment.get(),
-            bytes: (raw.zero_fill == 0).then(|| raw.bytes.get()),
+            name: image.part(raw.name),
+            segment: image.part(raw.segment),
+            bytes: (raw.zero_fill == 0).then(|| image.part(raw.bytes)),
             addr: raw.addr,
             size: raw.size,
             offset: raw.offset,
@@ -145,13 +151,13 @@ impl<'a> Row<'a> for Section<'a> {
     }
 }
 
-/// A library that an image loads, or that it is. (`dylib_command`)
+/// A library that an image loads, or what it is as one. (`dylib_command`)
 #[derive(Clone, Copy, PartialEq, Eq)]
 #[non_exhaustive]
 pub struct Library<'a> {
     /// The path of the library.
     pub name: &'a [u8],
-    /// `LC_LOAD_DYLIB` or one of its kin; or `LC_ID_DYLIB`, with the name of the image itself.
+    /// `LC_LOAD_DYLIB` or one of its kin; of [`Image::id`] `LC_ID_DYLIB`.
     pub cmd: u32,
     /// The current version X.Y.Z: X << 16 | Y << 8 | Z.
     pub current: u32,
@@ -171,11 +177,11 @@ impl fmt::Debug for Library<'_> {
 }
 
 impl<'a> Row<'a> for Library<'a> {
-    type Raw = ffi::Library<'a>;
+    type Raw = ffi::Library;
 
-    fn new(raw: ffi::Library<'a>, _: &ffi::Image<'a>) -> Self {
+    fn new(raw: ffi::Library, image: &Image<'a>) -> Self {
         Library {
-            name: raw.name.get(),
+            name: image.part(raw.name),
             cmd: raw.cmd,
             current: raw.current,
             compatible: raw.compatible,
@@ -198,7 +204,7 @@ pub struct Build {
 impl<'a> Row<'a> for Build {
     type Raw = ffi::Build;
 
-    fn new(raw: ffi::Build, _: &ffi::Image<'a>) -> Self {
+    fn new(raw: ffi::Build, _: &Image<'a>) -> Self {
         Build {
             platform: raw.platform,
             minos: raw.minos,
@@ -236,37 +242,32 @@ impl fmt::Debug for Command<'_> {
 }
 
 impl<'a> Row<'a> for Command<'a> {
-    type Raw = ffi::Command<'a>;
+    type Raw = ffi::Command;
 
-    fn new(raw: ffi::Command<'a>, _: &ffi::Image<'a>) -> Self {
+    fn new(raw: ffi::Command, image: &Image<'a>) -> Self {
         Command {
-            bytes: raw.bytes.get(),
-            name: raw.name.get(),
-            place: raw.place,
+            bytes: image.part(raw.bytes),
+            name: image.part(raw.name),
+            place: raw.bytes.offset - image.place(),
             cmd: raw.cmd,
         }
     }
 }
 
-/// How many symbols or indirect entries to ask for at once. Batches of any size cost the same.
-const BATCH: u64 = 256;
-
-/// A symbol. (`nlist_64`)
-#[derive(Clone, Copy, PartialEq, Eq)]
+/// A symbol. (`nlist_64`) Its name is [`Image::name`].
+#[derive(Clone, Copy, Debug, PartialEq, Eq)]
 #[non_exhaustive]
-pub struct Symbol<'a> {
-    /// The name of the symbol. `None` if `strx` is 0.
-    pub name: Option<&'a [u8]>,
+pub struct Symbol {
     /// `n_value`: the address of a symbol that is defined in a section, before any slide.
     pub value: u64,
-    /// `n_strx`: where the name begins in the string table.
+    /// `n_strx`: where the name begins in the string table, or 0 if it has none.
     pub strx: u32,
     /// `n_desc`
     pub desc: u16,
     /// `n_type`
     pub kind: u8,
-    /// `n_sect`: the number of a section, from 1 on. Do not subtract 1 from it: it is 0 (`NO_SECT`) if
-    /// the symbol is in no section, and may be past the last section, such as in a debugging entry
+    /// `n_sect`: the number of a section, from 1 on, from which `section` is. It is 0 (`NO_SECT`) if the
+    /// symbol is in no section, and may be past the last section, such as in a debugging entry
     /// (`N_STAB`).
     pub sect: u8,
     /// The index in [`Image::sections`](crate::Image::sections) of the section with the number `sect`.
@@ -274,7 +275,7 @@ pub struct Symbol<'a> {
     pub section: Option<usize>,
 }
 
-impl Symbol<'_> {
+impl Symbol {
     /// The index in [`Image::sections`](crate::Image::sections) of the section that defines the
     /// symbol. `None` if the symbol is defined elsewhere or nowhere, or is a debugging entry, even if
     /// that has a `section`.
@@ -288,35 +289,20 @@ impl Symbol<'_> {
     }
 }
 
-impl fmt::Debug for Symbol<'_> {
-    fn fmt(&self, f: &mut fmt::Formatter<'_>) -> fmt::Result {
-        f.debug_struct("Symbol")
-            .field("name", &self.name.map(Text))
-            .field("value", &self.value)
-            .field("kind", &self.kind)
-            .field("sect", &self.sect)
-            .field("desc", &self.desc)
-            .finish_non_exhaustive()
-    }
-}
+impl<'a> Row<'a> for Symbol {
+    type Raw = ffi::Symbol;
 
-impl<'a> Row<'a> for Symbol<'a> {
-    type Raw = ffi::Symbol<'a>;
-
-    const BATCH: u64 = BATCH;
+    const IS_INDEXED: bool = true;
 
     #[inline]
-    fn new(raw: ffi::Symbol<'a>, image: &ffi::Image<'a>) -> Self {
+    fn new(raw: ffi::Symbol, _: &Image<'a>) -> Self {
         Symbol {
-            name: (raw.strx != 0).then(|| raw.name.get()),
             value: raw.value,
             strx: raw.strx,
             desc: raw.desc,
             kind: raw.r#type,
             sect: raw.sect,
-            section: usize::from(raw.sect)
-                .checked_sub(1)
-                .filter(|&index| (index as u64) < image.section_count),
+            section: (raw.section != ffi::NO_SECTION).then_some(raw.section as usize),
         }
     }
 }
@@ -343,9 +329,9 @@ impl Indirect {
 impl<'a> Row<'a> for Indirect {
     type Raw = u32;
 
-    const BATCH: u64 = BATCH;
+    const IS_INDEXED: bool = true;
 
-    fn new(value: u32, _: &ffi::Image<'a>) -> Self {
+    fn new(value: u32, _: &Image<'a>) -> Self {
         Indirect { value }
     }
 }

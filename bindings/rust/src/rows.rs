@@ -6,47 +6,73 @@ use core::iter::FusedIterator;
 use core::ops::Range;
 use core::{cmp, fmt};
 
-use crate::ffi::{self, Raw};
+use crate::ffi::{Cursor, Raw};
+use crate::Image;
+
+/// How many rows to ask for at once. Batches of any size cost the same.
+const BATCH: u64 = 256;
 
 /// A row, which is made of what the library writes.
 pub trait Row<'a> {
-    type Raw: Raw<'a>;
+    type Raw: Raw;
 
-    /// How many rows to ask for at once. A call that scans the load commands is made once, for all
-    /// rows.
-    const BATCH: u64 = u64::MAX;
+    /// Whether the library finds a row by its index, without a walk over the load commands.
+    const IS_INDEXED: bool = false;
 
-    /// Makes the row. Some fields depend on the image that it is of.
-    fn new(raw: Self::Raw, image: &ffi::Image<'a>) -> Self;
+    /// Makes the row, of this image.
+    fn new(raw: Self::Raw, image: &Image<'a>) -> Self;
 }
 
 /// Rows of a table of an image, in the order of the table.
 #[derive(Clone)]
 pub struct Rows<'a, T: Row<'a>> {
-    image: ffi::Image<'a>,
+    image: Image<'a>,
     /// Rows that were read and not yet returned.
     held: vec::IntoIter<T::Raw>,
-    /// The indices of the rows after them. The start is at most the end.
-    left: Range<u64>,
+    /// Where the rows after them are.
+    cursor: Cursor,
+    /// How many these are.
+    left: u64,
 }
 
 impl<'a, T: Row<'a>> Rows<'a, T> {
-    pub(crate) fn new(image: ffi::Image<'a>, left: Range<u64>) -> Self {
+    /// The first rows of a table.
+    pub(crate) fn new(image: Image<'a>, count: u64) -> Self {
         Rows {
             image,
             held: Vec::new().into_iter(),
-            left,
+            cursor: Cursor::default(),
+            left: count,
         }
+    }
+
+    /// Rows of a table whose rows are found by their index.
+    pub(crate) fn range(image: Image<'a>, range: Range<u64>) -> Self {
+        let mut rows = Rows::new(image, range.end - range.start);
+        rows.cursor.items = range.start;
+        rows
     }
 
     /// Reads the next rows. All rows that were held have been returned.
     fn ask(&mut self) {
-        let count = cmp::min(self.left.end - self.left.start, T::BATCH);
+        let count = cmp::min(self.left, BATCH);
         let mut rows = vec![T::Raw::default(); to_usize(count)];
-        let written = T::Raw::fill(&self.image, self.left.start, &mut rows);
+        let written = T::Raw::fill(
+            self.image.file(),
+            self.image.raw(),
+            &mut self.cursor,
+            &mut rows,
+        );
         rows.truncate(written);
         self.held = rows.into_iter();
-        self.left.start += count;
+        self.left -= count;
+    }
+
+    /// Skips rows that were not read.
+    fn skip_unread(&mut self, count: u64) {
+        let skipped = cmp::min(count, self.left);
+        self.cursor.items += skipped;
+        self.left -= skipped;
     }
 }
 
@@ -59,26 +85,33 @@ impl<'a, T: Row<'a>> Iterator for Rows<'a, T> {
     type Item = T;
 
     fn next(&mut self) -> Option<T> {
-        if self.held.len() == 0 && !self.left.is_empty() {
+        if self.held.len() == 0 && self.left > 0 {
             self.ask();
         }
         Some(T::new(self.held.next()?, &self.image))
     }
 
     fn size_hint(&self) -> (usize, Option<usize>) {
-        let count = self.held.len() + to_usize(self.left.end - self.left.start);
+        let count = self.held.len() + to_usize(self.left);
         (count, Some(count))
     }
 
-    /// Skips rows without reading them.
+    /// Skips rows, without reading those that are found by their index.
     fn nth(&mut self, n: usize) -> Option<T> {
-        if n < self.held.len() {
-            return Some(T::new(self.held.nth(n)?, &self.image));
+        let mut past = n;
+        while past >= self.held.len() {
+            past -= self.held.len();
+            self.held = Vec::new().into_iter();
+            if T::IS_INDEXED {
+                self.skip_unread(past as u64);
+                past = 0;
+            }
+            if self.left == 0 {
+                return None;
+            }
+            self.ask();
         }
-        let past = (n - self.held.len()) as u64;
-        self.held = Vec::new().into_iter();
-        self.left.start = cmp::min(self.left.start.saturating_add(past), self.left.end);
-        self.next()
+        Some(T::new(self.held.nth(past)?, &self.image))
     }
 }
 
@@ -99,56 +132,84 @@ mod tests {
     use std::thread_local;
 
     use super::*;
-    use crate::{Build, Command, Indirect, Library, Section, Segment, Symbol};
+    use crate::ffi;
+    use crate::{Indirect, Segment, Symbol};
 
     thread_local! {
-        /// Each call of the library: the first row, and for how many rows it has room.
+        /// Each call of the library: the first row by the cursor, and for how many rows it has room.
         static CALLS: RefCell<Vec<(u64, usize)>> = const { RefCell::new(Vec::new()) };
     }
 
     #[derive(Clone, Copy, Default)]
-    struct Noted;
+    struct Noted(u64);
 
-    impl Raw<'_> for Noted {
-        fn fill(_: &ffi::Image<'_>, first: u64, rows: &mut [Self]) -> usize {
-            CALLS.with(|calls| calls.borrow_mut().push((first, rows.len())));
+    impl Raw for Noted {
+        fn fill(_: &[u8], _: &ffi::Image, cursor: &mut Cursor, rows: &mut [Self]) -> usize {
+            CALLS.with(|calls| calls.borrow_mut().push((cursor.items, rows.len())));
+            for row in rows.iter_mut() {
+                *row = Noted(cursor.items);
+                cursor.items += 1;
+            }
             rows.len()
         }
     }
 
-    /// A row that is asked for as another one is.
-    struct Like<T>(PhantomData<T>);
+    /// A row that is asked for as another one is: its index.
+    #[derive(Debug, PartialEq)]
+    struct Like<T>(u64, PhantomData<T>);
 
     impl<'a, T: Row<'a>> Row<'a> for Like<T> {
         type Raw = Noted;
 
-        const BATCH: u64 = T::BATCH;
+        const IS_INDEXED: bool = T::IS_INDEXED;
 
-        fn new(_: Noted, _: &ffi::Image<'a>) -> Self {
-            Like(PhantomData)
+        fn new(raw: Noted, _: &Image<'a>) -> Self {
+            Like(raw.0, PhantomData)
         }
     }
 
-    /// The calls for all rows of a range.
-    fn calls<'a, T: Row<'a>>(left: Range<u64>) -> Vec<(u64, usize)> {
+    fn rows<'a, T: Row<'a>>(range: Range<u64>) -> Rows<'a, Like<T>> {
         CALLS.with(|calls| calls.borrow_mut().clear());
-        Rows::<Like<T>>::new(ffi::Image::default(), left).for_each(drop);
+        Rows::range(Image::new(&[], ffi::Image::default()), range)
+    }
+
+    fn calls() -> Vec<(u64, usize)> {
         CALLS.with(|calls| calls.borrow().clone())
     }
 
-    #[test]
-    fn rows_that_are_found_by_their_index_come_in_batches() {
-        assert_eq!(calls::<Symbol>(0..0), []);
-        assert_eq!(calls::<Symbol>(0..600), [(0, 256), (256, 256), (512, 88)]);
-        assert_eq!(calls::<Symbol>(100..356), [(100, 256)]);
-        assert_eq!(Symbol::BATCH, Indirect::BATCH);
+    /// The calls for all rows of a range.
+    fn calls_for(range: Range<u64>) -> Vec<(u64, usize)> {
+        let indices: Vec<_> = rows::<Segment>(range.clone()).map(|row| row.0).collect();
+        assert!(range.eq(indices));
+        calls()
     }
 
     #[test]
-    fn rows_of_a_walk_come_at_once() {
-        assert_eq!(calls::<Segment>(0..0), []);
-        assert_eq!(calls::<Segment>(0..100_000), [(0, 100_000)]);
-        let others = [Section::BATCH, Library::BATCH, Build::BATCH, Command::BATCH];
-        assert_eq!(others, [Segment::BATCH; 4]);
+    fn rows_come_in_batches() {
+        assert_eq!(calls_for(0..0), []);
+        assert_eq!(calls_for(0..600), [(0, 256), (256, 256), (512, 88)]);
+        assert_eq!(calls_for(100..356), [(100, 256)]);
+    }
+
+    /// The row after so many, and the one after it.
+    fn skip<'a, T: Row<'a>>(range: Range<u64>, n: usize) -> (Option<u64>, Option<u64>) {
+        let mut rows = rows::<T>(range);
+        (rows.nth(n).map(|row| row.0), rows.next().map(|row| row.0))
+    }
+
+    #[test]
+    fn rows_are_skipped() {
+        for n in [0, 1, 255, 256, 257, 511, 512, 598, 599, 600, usize::MAX] {
+            let wanted = (
+                (n < 600).then_some(n as u64),
+                (n < 599).then_some(n as u64 + 1),
+            );
+            assert_eq!(skip::<Segment>(0..600, n), wanted, "{n}");
+            assert_eq!(skip::<Symbol>(0..600, n), wanted, "{n}");
+        }
+        let mut symbols = rows::<Symbol>(0..10_000);
+        assert_eq!(symbols.nth(9_000).map(|row| row.0), Some(9_000));
+        assert_eq!(calls(), [(9_000, 256)]);
+        assert_eq!([Symbol::IS_INDEXED, Indirect::IS_INDEXED], [true; 2]);
     }
 }

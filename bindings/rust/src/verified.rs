@@ -67,14 +67,11 @@ impl<'a> Verified<'a> {
     #[must_use]
     pub fn slice(&self, index: u64) -> Option<Slice<'a>> {
         let (status, raw) = ffi::image(self.bytes, index);
-        match status {
-            ffi::OK => Some(Slice { raw, is_read: true }),
-            ffi::UNREAD => Some(Slice {
-                raw,
-                is_read: false,
-            }),
-            _ => None,
-        }
+        let is_read = status == ffi::OK;
+        (is_read || status == ffi::UNREAD).then(|| Slice {
+            image: Image::new(self.bytes, raw),
+            is_read,
+        })
     }
 
     /// All slices.
@@ -204,7 +201,8 @@ impl fmt::Debug for VerifiedBuf {
 /// A slice of an accepted file.
 #[derive(Clone, Copy)]
 pub struct Slice<'a> {
-    raw: ffi::Image<'a>,
+    /// Of a slice that is not read, only its bytes and its architecture are known.
+    image: Image<'a>,
     is_read: bool,
 }
 
@@ -212,32 +210,32 @@ impl<'a> Slice<'a> {
     /// The bytes of the slice.
     #[must_use]
     pub fn bytes(&self) -> &'a [u8] {
-        self.raw.bytes.get()
+        self.image.bytes()
     }
 
     /// Where the slice begins in the file.
     #[must_use]
     pub fn place(&self) -> u64 {
-        self.raw.place
+        self.image.place()
     }
 
     /// `cputype` of the image, or of the universal table if the slice is not read.
     #[must_use]
     pub fn cputype(&self) -> u32 {
-        self.raw.cputype
+        self.image.cputype()
     }
 
     /// `cpusubtype` of the image or the table, without the capability byte (`CPU_SUBTYPE_MASK`).
     #[must_use]
     pub fn cpusubtype(&self) -> u32 {
-        self.raw.cpusubtype
+        self.image.cpusubtype()
     }
 
     /// The image of the slice. `None` if the slice is of 32 bits or big-endian: what is in it was
     /// not judged.
     #[must_use]
     pub fn image(&self) -> Option<Image<'a>> {
-        self.is_read.then(|| Image::new(self.raw))
+        self.is_read.then_some(self.image)
     }
 }
 

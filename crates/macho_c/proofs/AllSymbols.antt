@@ -1,23 +1,23 @@
 -- The rows of all symbols and of all indirect entries of an image that breaks no rule.
-use Rattle.std.proofs.Common.{◌≡◌, ◌≢◌, ◌∙◌, ℕ, zero, suc, ◌+◌, ◌-◌, ◌*◌, ◌==◌, ◌≤◌, ◌<◌, List, [], ◌∷◌, length, map, take, drop, slice_index, Bool, true, Option, Some, None, Contains, inl, inr, refl, sym, ap, ap₂, subst, arith, lit<, length-take, length-drop}
-use Rattle.std.specs.Prelude.{nat_le, if◌then◌else◌}
+use Rattle.std.proofs.Common.{◌≡◌, ◌≢◌, ◌∙◌, ℕ, zero, suc, ◌+◌, ◌-◌, ◌*◌, ◌==◌, ◌≤◌, ◌<◌, List, [], ◌∷◌, length, map, take, drop, slice_index, Bool, true, false, Option, Some, None, Contains, inl, inr, refl, sym, ap, ap₂, subst, subst₂, arith, lit<, length-take, length-drop}
+use Rattle.std.specs.Prelude.{nat_le, MatchOption}
 use Rattle.std.specs.List.{list_any, before_first}
 use Rattle.std.specs.Option.{option_map, option_map_or}
 use Rattle.std.proofs.Math.Nat.{mul_comm}
-use Rattle.std.proofs.lemmas.Bool.{cases_Bool, cases_lt, le-leb, false≢true, eq-eqb}
+use Rattle.std.proofs.lemmas.Bool.{cases_Bool, cases_lt, le-leb, false≢true, ne_eqb}
 use Rattle.std.proofs.lemmas.List.{get_or-take, get_or-drop, length-map}
 use Rattle.std.proofs.lemmas.List.Folds.{list_any-from_Any}
 use Rattle.std.proofs.lemmas.List.FromFn.{length-map-range_with_len}
 use Rattle.std.proofs.lemmas.Simd.{map-map}
 use Rattle.macho_fields.proofs.LoadCommands.{symbols_listed, strings_listed, indirects_listed}
-use Rattle.macho_fields.proofs.Lists.{contains_first, contains_later, none_in_nil}
+use Rattle.macho_fields.proofs.Lists.{none_in_nil}
 use Rattle.macho_fields.proofs.Ranks.{image_alone}
 use Rattle.macho_fields.specs.Field.{HasZero, part, string_from}
 use Rattle.macho_fields.specs.Image.{word, commands_of}
 use Rattle.macho_fields.specs.Layers.{NothingBreaks}
 use Rattle.macho_fields.specs.LoadCommands.{symbol_table, string_table, indirect_table}
 use Rattle.macho_fields.specs.Rules.{BreaksImage}
-use Rattle.macho_fields.specs.Symbol.{symbol_count, symoff, nsyms, stroff, strsize, indirectsymoff, nindirectsyms, n_strx, n_type, n_sect, n_desc, n_value, IsOutside}
+use Rattle.macho_fields.specs.Symbol.{symbol_count, symoff, nsyms, stroff, strsize, indirectsymoff, nindirectsyms, n_strx, IsOutside}
 use Rattle.macho_fields.specs.declared.header.loader.TheConstants as loader
 use Rattle.macho_fields.specs.declared.load_command.Structure.TheVariants.{SymtabCommand, DysymtabCommand}
 use Rattle.macho_fields.specs.declared.rule.Rule.TheVariants as rule
@@ -28,11 +28,12 @@ use Rattle.macho_rules.specs.Check.{KeptBefore}
 use Rattle.macho_rules.proofs.OneCommand.{is_with_cmd, symbols_counted}
 use Rattle.macho_rules.proofs.TableItems.{table_inside, in_items}
 use Rattle.macho_rules.proofs.Verdicts.{unbroken_image_sound}
-use Rattle.macho_c.specs.Image.{ShowsUnbroken, only, symtab_in, dysymtab_in, field_of}
-use Rattle.macho_c.specs.Rows.{IsFilled, part_or_none, ended_string, placeless}
-use Rattle.macho_c.specs.Symbols.{symbol_shown, symbol_row, symbol_rows, symbol_name, named_row, all_symbol_rows, GivesAllSymbols, indirect_shown, indirect_row, indirect_rows, all_indirect_rows, GivesAllIndirects}
+use Rattle.macho_c.specs.Image.{ShowsUnbroken, image_in, only, symtab_in, dysymtab_in, field_of}
+use Rattle.macho_c.specs.Spans.{part_or_none, span_at, span_of}
+use Rattle.macho_c.specs.Status.{KESVUOT_OK, KESVUOT_NONE}
+use Rattle.macho_c.specs.Symbols.{first_string, symbol_row, symbol_rows, row_at, all_symbols, HasAllSymbols, name_at, IsName, NamesSymbols, indirect_row, indirect_rows, all_indirects, HasAllIndirects}
 use Rattle.macho_c.specs.declared.image.KesvuotImage.{KesvuotImage}
-use Rattle.macho_c.specs.declared.symbols.KesvuotSymbol.{KesvuotSymbol}
+use Rattle.macho_c.specs.declared.span.KesvuotSpan.{KesvuotSpan}
 use Rattle.macho_c.proofs.Supplied.{rest_of}
 
 -- Names
@@ -64,12 +65,12 @@ module _ (image : List ℕ) (start size strx : ℕ) (fits : start + size ≤ len
       let is_zero : slice_index front k ≡ 0 = get_or-take (size - strx) (drop (start + strx) image) k 0 less ∙ (get_or-drop (start + strx) image k 0 ∙ (ap (slice_index image) here ∙ is)) in
       list_any-from_Any (λ byte. byte == 0) front (k, 0, held, is_zero, refl)
 
-  string_same : ended_string (drop strx (part_or_none start size image)) ≡ string_from (start + strx) image
-  string_same =
+  string_found : first_string (drop strx (part_or_none start size image)) ≡ Some (string_from (start + strx) image)
+  string_found =
       let (z, from, below, inside, is) = ends in
       let past : strx < size = omega (arith, from, below) in
       let rest : drop strx (part_or_none start size image) ≡ front = rw (le-leb (start + size) (length image) fits) (rest_of image start size strx fits past) in
-      ap ended_string rest ∙ rw zero_in_front (before_in_front (λ byte. byte == 0) (size - strx) (drop (start + strx) image) zero_in_front)
+      ap first_string rest ∙ rw zero_in_front (ap Some (before_in_front (λ byte. byte == 0) (size - strx) (drop (start + strx) image) zero_in_front))
 
 -- Tables
 
@@ -98,10 +99,6 @@ module _ {T : Type 0} (image : List ℕ) (each : ℕ) (at : ℕ → T) (start co
   table_counted : (first : Option ℕ) → ((c : ℕ) → first ≡ Some c → ¬ IsOutside image (start (at c), count (at c), each)) → length (table_of first) ≡ field_of count (option_map at first)
   table_counted None inside = refl
   table_counted (Some c) inside = items_counted image (start (at c)) each (count (at c)) (inside c refl)
-
-same_rows : {T : Type 0} (f g : ℕ → T) (places : List ℕ) → ((p : ℕ) → Contains places p → f p ≡ g p) → map f places ≡ map g places
-same_rows f g [] same = refl
-same_rows f g (p ∷ places) same = ap₂ (λ x xs. x ∷ xs) (same p (contains_first p places)) (same_rows f g places (λ q has. same q (contains_later p q places has)))
 
 -- An image that breaks no rule
 
@@ -145,18 +142,15 @@ module _ (image : List ℕ) (unbroken : NothingBreaks (BreaksImage image None)) 
   abbrev strings_size : ℕ
   strings_size = field_of (λ (t : Symtab). t.strsize) (symtab_in image)
 
-  name_same : (p : ℕ) → Contains (symbols_of image (commands_of image)) p
-      → (if n_strx image p == 0 then [] else ended_string (drop (n_strx image p) (part_or_none strings strings_size image))) ≡ symbol_name image p
-  name_same p has = elim (cases_Bool (n_strx image p == 0)) [
-    | inl none ↦ rw none refl
-    | inr some ↦
-        let (fits, ends) = has_string (only image loader.LC_SYMTAB) refl p has (λ none. false≢true (sym some ∙ eq-eqb (n_strx image p) 0 none)) in
-        rw some (string_same image strings strings_size (n_strx image p) fits ends)
-  ]
+  name_found : (p strx : ℕ) → Contains (symbols_of image (commands_of image)) p → n_strx image p ≡ strx → strx ≢ 0
+      → first_string (drop strx (part_or_none strings strings_size image)) ≡ Some (string_from (strings + strx) image)
+  name_found p strx has is some =
+      let (fits, ends) = has_string (only image loader.LC_SYMTAB) refl p has (λ none. some (sym is ∙ none)) in
+      string_found image strings strings_size strx fits (subst (λ n. HasZero image (strings + n) (strings + strings_size)) is ends)
 
-  all_symbols_counted : length (all_symbol_rows image) ≡ symbol_count image (commands_of image)
+  all_symbols_counted : length (all_symbols image) ≡ symbol_count image (commands_of image)
   all_symbols_counted =
-      length-map (symbols_of image (commands_of image)) (named_row image)
+      length-map (symbols_of image (commands_of image)) (row_at image)
       ∙ (table_counted image 16 (symtab_at image) (λ (t : Symtab). t.symoff) (λ (t : Symtab). t.nsyms) (only image loader.LC_SYMTAB) symbols_inside
       ∙ (by (only image loader.LC_SYMTAB) ∙ sym (symbols_counted image (commands_of image))))
     where
@@ -164,46 +158,33 @@ module _ (image : List ℕ) (unbroken : NothingBreaks (BreaksImage image None)) 
       by None = refl
       by (Some t) = refl
 
-  all_indirects_counted : length (all_indirect_rows image) ≡ field_of (λ (t : Dysymtab). t.nindirectsyms) (dysymtab_in image)
+  all_indirects_counted : length (all_indirects image) ≡ field_of (λ (t : Dysymtab). t.nindirectsyms) (dysymtab_in image)
   all_indirects_counted =
       length-map (indirects_of image (commands_of image)) (word image)
       ∙ table_counted image 4 (dysymtab_at image) (λ (t : Dysymtab). t.indirectsymoff) (λ (t : Dysymtab). t.nindirectsyms) (only image loader.LC_DYSYMTAB) indirects_inside
 
 -- The struct of such an image
 
-module _ (row : KesvuotImage) (shows : ShowsUnbroken row) where
+module _ (file : List ℕ) (row : KesvuotImage) (shows : ShowsUnbroken file row) where
   abbrev image : List ℕ
-  image = row.bytes.now
+  image = image_in file row
 
   -- whatever the architecture
   unbroken : NothingBreaks (BreaksImage image None)
   unbroken r place broken = let (all, arch, none) = shows in none r place (image_alone image arch r place broken)
 
   -- the rows by its numbers are those of the whole image
-  symbols_same : symbol_rows row ≡ all_symbol_rows image
+  pub symbols_same : symbol_rows image row ≡ all_symbols image
   symbols_same =
-      map-map (symbol_row row) (symbol_at image) (items_inside image row.symbols 16 row.symbol_count)
-      ∙ (ap (map (λ p. symbol_row row (symbol_at image p))) table
-      ∙ same_rows (λ p. symbol_row row (symbol_at image p)) (named_row image) (symbols_of image (commands_of image)) row_same)
+      map-map (symbol_row row.section_count) (symbol_at image) (items_inside image row.symbols 16 row.symbol_count)
+      ∙ ap₂ (λ n places. map (λ p. symbol_row n (symbol_at image p)) places) shows.0.counts.sections table
     where
       table : items_inside image row.symbols 16 row.symbol_count ≡ symbols_of image (commands_of image)
       table =
           ap₂ (λ start n. items_inside image start 16 n) shows.0.tables.symbols shows.0.tables.symbol_count
           ∙ table_shown image 16 (symtab_at image) (λ (t : Symtab). t.symoff) (λ (t : Symtab). t.nsyms) (only image loader.LC_SYMTAB)
 
-      row_same : (p : ℕ) → Contains (symbols_of image (commands_of image)) p → symbol_row row (symbol_at image p) ≡ named_row image p
-      row_same p has =
-          let string : ℕ → ℕ → List ℕ = λ start size. if n_strx image p == 0 then [] else ended_string (drop (n_strx image p) (part_or_none start size image)) in
-          ap (λ name. record {
-            name = placeless name;
-            value = n_value image p;
-            strx = n_strx image p;
-            desc = n_desc image p;
-            kind = n_type image p;
-            sect = n_sect image p;
-          }) (ap₂ string shows.0.tables.strings shows.0.tables.strings_size ∙ name_same image unbroken p has)
-
-  indirects_same : indirect_rows row ≡ all_indirect_rows image
+  pub indirects_same : indirect_rows image row ≡ all_indirects image
   indirects_same =
       map-map indirect_row (indirect_at image) (items_inside image row.indirects 4 row.indirect_count)
       ∙ ap (map (word image)) table
@@ -213,13 +194,17 @@ module _ (row : KesvuotImage) (shows : ShowsUnbroken row) where
           ap₂ (λ start n. items_inside image start 4 n) shows.0.tables.indirects shows.0.tables.indirect_count
           ∙ table_shown image 4 (dysymtab_at image) (λ (t : Dysymtab). t.indirectsymoff) (λ (t : Dysymtab). t.nindirectsyms) (only image loader.LC_DYSYMTAB)
 
--- so the tables of the caller have them
-pub gives_symbols : (row : KesvuotImage) (first n : ℕ) (old new : List KesvuotSymbol) → IsFilled symbol_shown (symbol_rows row) first n old new → ShowsUnbroken row
-    → GivesAllSymbols row.bytes.now first n old new
-gives_symbols row first n old new filled shows =
-    (subst (λ rows. IsFilled symbol_shown rows first n old new) (symbols_same row shows) filled, all_symbols_counted row.bytes.now (unbroken row shows))
+  pub has_symbols : HasAllSymbols image (symbol_rows image row)
+  has_symbols = (symbols_same, all_symbols_counted image unbroken)
 
-pub gives_indirects : (row : KesvuotImage) (first n : ℕ) (old new : List ℕ) → IsFilled indirect_shown (indirect_rows row) first n old new → ShowsUnbroken row
-    → GivesAllIndirects row.bytes.now first n old new
-gives_indirects row first n old new filled shows =
-    (subst (λ rows. IsFilled indirect_shown rows first n old new) (indirects_same row shows) filled, all_indirects_counted row.bytes.now (unbroken row shows))
+  pub has_indirects : HasAllIndirects image (indirect_rows image row)
+  has_indirects = (indirects_same, all_indirects_counted image unbroken)
+
+  pub names : (strx status : ℕ) (name : KesvuotSpan) → IsName image row strx status name → NamesSymbols image row.slice.offset strx status name
+  names strx status name answer p has is some =
+      let named : strx == 0 ≡ false = ne_eqb strx 0 some in
+      let string : first_string (drop strx (part_or_none row.strings row.strings_size image)) ≡ Some (string_from (row.strings + strx) image) =
+      subst₂ (λ start size. first_string (drop strx (part_or_none start size image)) ≡ Some (string_from (start + strx) image)) (sym shows.0.tables.strings) (sym shows.0.tables.strings_size) (name_found image unbroken p strx has is some) in
+      let found : name_at image row strx ≡ Some (string_from (row.strings + strx) image) = rw named string in
+      subst (λ start. (status ≡ KESVUOT_OK) × (name ≡ span_of (row.slice.offset + (start + strx)) (string_from (start + strx) image))) shows.0.tables.strings
+      (subst (λ o. MatchOption o ((status ≡ KESVUOT_NONE) × (name ≡ span_at 0 0)) (λ s. (status ≡ KESVUOT_OK) × (name ≡ span_of (row.slice.offset + (row.strings + strx)) s))) found answer)

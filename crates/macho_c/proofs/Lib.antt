@@ -1,8 +1,12 @@
+pub mod AllCommands
 pub mod AllSymbols
 pub mod BadSlices
 pub mod Counts
 pub mod Data
 pub mod Ended
-pub mod Filled
+pub mod Loads
 pub mod Opened
+pub mod PartFits
+pub mod Ranged
+pub mod Reached
 pub mod Supplied

@@ -1,7 +1,7 @@
 -- What the first segment with an address has there, in an image that breaks no rule.
-use Rattle.std.proofs.Common.{◌≡◌, ◌≢◌, ◌∙◌, ◌⊎◌, ℕ, ◌+◌, ◌-◌, ◌≤◌, ◌<◌, List, [], ◌∷◌, length, leb, map, drop, take, Bool, true, false, cond, Option, Some, None, Contains, inl, inr, refl, sym, ap, subst, arith}
+use Rattle.std.proofs.Common.{◌≡◌, ◌≢◌, ◌∙◌, ◌⊎◌, ℕ, ◌+◌, ◌-◌, ◌==◌, ◌≤◌, ◌<◌, List, [], ◌∷◌, length, leb, map, drop, take, Bool, true, false, cond, Option, Some, None, Contains, inl, inr, refl, sym, ap, subst, arith}
 use Rattle.std.specs.Prelude.{find, MatchOption}
-use Rattle.std.proofs.lemmas.Bool.{true≢false, and_parts, and_from, leb-true, ltb-true, le-leb, lt-ltb, le-ltb, cases_lt}
+use Rattle.std.proofs.lemmas.Bool.{true≢false, cases_Bool, eqb-true, and_parts, and_from, leb-true, ltb-true, le-leb, lt-ltb, le-ltb, cases_lt}
 use Rattle.std.proofs.lemmas.List.{length-take, length-drop, drop-take, drop-drop, drop_all}
 use Rattle.std.proofs.lemmas.List.Elements.{Contains-append_left, Contains-append_right, Contains-append_cases, Contains-push, Contains-push_cases}
 use Rattle.macho_fields.specs.Field.{part}
@@ -16,7 +16,9 @@ use Rattle.macho_rules.proofs.Verdicts.{unbroken_image_sound}
 use Rattle.macho_image.specs.Segment.{SegmentView, segment_at}
 use Rattle.macho_rules.proofs.Searches.{any_of}
 use Rattle.macho_c.specs.Address.{supplies, supplier, bytes_from, IsAnswer, IsSourceAt}
-use Rattle.macho_c.specs.Rows.{part_or_none}
+use Rattle.macho_c.specs.Segments.{segment_bytes}
+use Rattle.macho_c.specs.Spans.{part_or_none, span_at, span_of}
+use Rattle.macho_c.specs.declared.span.KesvuotSpan.{KesvuotSpan}
 use Rattle.macho_c.specs.Status.{KESVUOT_OK, KESVUOT_NONE, KESVUOT_ZERO}
 
 -- the first that passes, or none
@@ -85,31 +87,68 @@ module _ (image : List ℕ) (f n past : ℕ) where
       let whole : bytes ≡ drop past (part f n image) = is ∙ rw (le-leb (f + n) (length image) fits) refl in
       omega (arith, left_of fits, ap length whole, ap length none)
 
+-- what is left of the bytes of the segment begins in the image
+pub starts : (image : List ℕ) (address past : ℕ) (s : SegmentView) → supplier image address ≡ Some s → drop past (segment_bytes s.image s.place) ≢ [] → fileoff s.image s.place + past < length image
+starts image address past s is some =
+    let (p, has, same, passed) = found_in image address (segments_of image (commands_of image)) s is in
+    subst (λ (t : SegmentView). drop past (segment_bytes t.image t.place) ≢ [] → fileoff t.image t.place + past < length image) same (here p) some
+  where
+    at : (f n : ℕ) → drop past (part_or_none f n image) ≢ [] → f + past < length image
+    at f n rest = elim (cases_Bool (leb (f + n) (length image))) [
+      | inl under ↦
+          let fits = leb-true (f + n) (length image) under in
+          let (less, same) = some_left image f n past (drop past (part_or_none f n image)) refl rest in omega (arith, fits, less)
+      | inr over ↦ absurd (rest (rw over (drop_all past [] (omega arith))))
+    ]
+
+    here : (p : ℕ) → drop past (segment_bytes image p) ≢ [] → fileoff image p + past < length image
+    here p rest = at (fileoff image p) (filesize image p) rest
+
+-- where these bytes lie, of which there are some
+found_span : (place from : ℕ) (bytes image : List ℕ) (span : KesvuotSpan) → span ≡ span_of (place + from) bytes → bytes ≢ [] → bytes ≡ part from (length bytes) image
+    → (span.offset ≡ place + from) × (0 < span.size) × (from + span.size ≤ length image)
+found_span place from bytes image span is some rest = elim (cases_Bool (length bytes == 0)) [
+  | inl none ↦ absurd (some (empty bytes (eqb-true (length bytes) 0 none)))
+  | inr there ↦
+      let here : span ≡ span_at (place + from) (length bytes) = is ∙ rw there refl in
+      let offset : span.offset ≡ place + from = ap (λ (s : KesvuotSpan). s.offset) here in
+      let size : span.size ≡ length bytes = ap (λ (s : KesvuotSpan). s.size) here in
+      let more : 0 < length bytes = elim (cases_lt 0 (length bytes)) [ inl less ↦ less | inr most ↦ absurd (some (empty bytes (omega arith))) ] in
+      (offset, omega (arith, size), omega (arith, size, ap length rest, length-take (length bytes) (drop from image), length-drop from image))
+]
+  where
+    empty : (xs : List ℕ) → length xs ≡ 0 → xs ≡ []
+    empty [] none = refl
+    empty (x ∷ xs) none = absurd (omega arith)
+
 pub last_inside : (image : List ℕ) (p : ℕ) → IsSoundImage image (commands_of image) → Contains (segments_of image (commands_of image)) p → 0 < filesize image p → fileoff image p + filesize image p ≤ length image
 last_inside image p sound has some =
     let place : ℕ = fileoff image p + (filesize image p - 1) in
     let covers : Covers (fileoff image p) (filesize image p) place = (omega arith, omega arith) in
     let inside = sound.reads place (in_segment (any_of (λ s. Covers (fileoff image s) (filesize image s) place) (segments_of image (commands_of image)) p has covers)) in omega arith
 
-pub told : (image : List ℕ) (address status : ℕ) (bytes : List ℕ) → NothingBreaks (BreaksImage image None) → IsAnswer image address status bytes → IsSourceAt image address status bytes
-told image address status bytes unbroken answer = by (supplier image address) refl answer
+pub told : (image : List ℕ) (place address status : ℕ) (span : KesvuotSpan) → NothingBreaks (BreaksImage image None) → IsAnswer image place address status span → IsSourceAt image place address status span
+told image place address status span unbroken answer = by (supplier image address) refl answer
   where
     sound : IsSoundImage image (commands_of image)
     sound = unbroken_image_sound image unbroken
 
     by : (o : Option SegmentView) → supplier image address ≡ o
-        → MatchOption o ((status ≡ KESVUOT_NONE) × (bytes ≡ [])) (λ s. (bytes ≡ bytes_from address s) × (((status ≡ KESVUOT_OK) × (bytes ≢ [])) ⊎ ((status ≡ KESVUOT_ZERO) × (bytes ≡ []))))
-        → IsSourceAt image address status bytes
+        → MatchOption o ((status ≡ KESVUOT_NONE) × (span ≡ span_at 0 0)) (λ s. (span ≡ span_of (place + (fileoff s.image s.place + (address - vmaddr s.image s.place))) (bytes_from address s)) × (((status ≡ KESVUOT_OK) × (bytes_from address s ≢ [])) ⊎ ((status ≡ KESVUOT_ZERO) × (bytes_from address s ≡ []))))
+        → IsSourceAt image place address status span
     by None is (none, empty) = inr (inr (none, source_none image address is))
     by (Some s) is (are, answers) =
         let (p, has, same, passed) = found_in image address (segments_of image (commands_of image)) s is in
         let sup = supplied image address p passed in
         let at = source_found image address sound p has sup in
-        let here : bytes ≡ drop (address - vmaddr image p) (part_or_none (fileoff image p) (filesize image p) image) = are ∙ ap (bytes_from address) (sym same) in
+        let bytes : List ℕ = bytes_from address s in
+        let here : bytes ≡ drop (address - vmaddr image p) (part_or_none (fileoff image p) (filesize image p) image) = ap (bytes_from address) (sym same) in
+        let begins : fileoff s.image s.place + (address - vmaddr s.image s.place) ≡ fileoff image p + (address - vmaddr image p) = ap (λ (t : SegmentView). fileoff t.image t.place + (address - vmaddr t.image t.place)) (sym same) in
         elim answers [
           | inl (ok, some) ↦
               let (less, rest) = some_left image (fileoff image p) (filesize image p) (address - vmaddr image p) bytes here some in
-              inl (ok, fileoff image p + (address - vmaddr image p), subst (λ g. IsAtAddress image address (Some g)) (rw (lt-ltb _ _ less) refl) at, rest)
+              let (offset, more, inside) = found_span place (fileoff image p + (address - vmaddr image p)) bytes image span (are ∙ ap (λ from. span_of (place + from) bytes) begins) some rest in
+              inl (ok, fileoff image p + (address - vmaddr image p), subst (λ g. IsAtAddress image address (Some g)) (rw (lt-ltb _ _ less) refl) at, offset, more, inside)
           | inr (zero_there, empty) ↦
               let past : filesize image p ≤ address - vmaddr image p = elim (cases_lt 0 (filesize image p)) [
                 | inl some ↦ none_left image (fileoff image p) (filesize image p) (address - vmaddr image p) bytes here empty (last_inside image p sound has some)

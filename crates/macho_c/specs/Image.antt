@@ -1,6 +1,6 @@
 -- What the struct of an image shows. (mach-o/loader.h: mach_header_64)
-use Rattle.std.specs.Prelude.{◌≡◌, ℕ, ◌+◌, ◌≤◌, ◌<◌, ◌⊎◌, List, [], ◌∷◌, length, Option, None, Some, slice_get}
-use Rattle.std.specs.Option.{option_map, unwrap_or}
+use Rattle.std.specs.Prelude.{◌≡◌, ℕ, ◌+◌, ◌/◌, ◌^◌, ◌≤◌, ◌<◌, ◌⊎◌, List, [], ◌∷◌, length, Option, None, Some, slice_get}
+use Rattle.std.specs.Option.{option_map, option_map_or, unwrap_or}
 use Rattle.macho_fields.specs.First.{rank, IsUnbroken}
 use Rattle.macho_fields.specs.Image.{word, cpu_type, cpu_subtype, file_type, commands_of}
 use Rattle.macho_fields.specs.Layers.{BreaksUpTo, KeptBelow, NothingBreaks}
@@ -18,9 +18,10 @@ use Rattle.macho_image.specs.declared.dysymtab.Dysymtab.{Dysymtab}
 use Rattle.macho_image.specs.declared.symtab.Symtab.{Symtab}
 use Rattle.macho_c.specs.Builds.{builds_in}
 use Rattle.macho_c.specs.Commands.{commands_in}
-use Rattle.macho_c.specs.Libraries.{libraries_in}
+use Rattle.macho_c.specs.Libraries.{loaded_by, library_row, no_library}
 use Rattle.macho_c.specs.Rows.{IsBrokenImage, HasHeaders}
 use Rattle.macho_c.specs.Segments.{segments_seen}
+use Rattle.macho_c.specs.Spans.{part_or_none, span_at}
 use Rattle.macho_c.specs.declared.image.KesvuotImage.{KesvuotImage}
 use Rattle.macho_c.specs.Status.{KESVUOT_OK, KESVUOT_REFUSED, KESVUOT_NONE, KESVUOT_UNREAD}
 
@@ -38,6 +39,10 @@ symtab_in image = option_map (symtab_at image) (only image loader.LC_SYMTAB)
 
 abbrev pub dysymtab_in : List ℕ → Option Dysymtab
 dysymtab_in image = option_map (dysymtab_at image) (only image loader.LC_DYSYMTAB)
+
+-- LC_ID_DYLIB
+abbrev pub id_in : List ℕ → Option ℕ
+id_in image = only image loader.LC_ID_DYLIB
 
 -- a field of a part, which is 0 where the part is not there
 abbrev pub field_of : {T : Type 0} → (T → ℕ) → Option T → ℕ
@@ -62,7 +67,7 @@ abbrev pub no_uuid : List ℕ
 no_uuid = 0 ∷ 0 ∷ 0 ∷ 0 ∷ 0 ∷ 0 ∷ 0 ∷ 0 ∷ 0 ∷ 0 ∷ 0 ∷ 0 ∷ 0 ∷ 0 ∷ 0 ∷ 0 ∷ []
 
 abbrev pub no_words : List ℕ
-no_words = 0 ∷ 0 ∷ 0 ∷ 0 ∷ 0 ∷ []
+no_words = 0 ∷ 0 ∷ 0 ∷ 0 ∷ []
 
 -- What the struct shows of an image, by its parts
 
@@ -70,6 +75,7 @@ no_words = 0 ∷ 0 ∷ 0 ∷ 0 ∷ 0 ∷ []
 pub record ShowsHeader (image : List ℕ) (row : KesvuotImage) : Type 0 where
   pub cputype : row.cputype ≡ cpu_type image
   pub cpusubtype : row.cpusubtype ≡ masked (cpu_subtype image)
+  pub capabilities : row.capabilities ≡ cpu_subtype image / 2 ^ 24
   pub filetype : row.filetype ≡ file_type image
   pub flags : row.flags ≡ word image 24
 
@@ -78,7 +84,7 @@ pub record ShowsCounts (image : List ℕ) (row : KesvuotImage) : Type 0 where
   pub commands : row.command_count ≡ length (commands_in image)
   pub segments : row.segment_count ≡ length (segments_seen image)
   pub sections : row.section_count ≡ section_count image (commands_of image)
-  pub libraries : row.library_count ≡ length (libraries_in image)
+  pub libraries : row.library_count ≡ length (loaded_by image)
   pub builds : row.build_count ≡ length (builds_in image)
 
 -- the tables of LC_SYMTAB and LC_DYSYMTAB
@@ -93,40 +99,44 @@ pub record ShowsTables (image : List ℕ) (row : KesvuotImage) : Type 0 where
       row.indirect_count ≡ field_of (λ (t : Dysymtab). t.nindirectsyms) (dysymtab_in image)
   pub groups : row.groups ≡ unwrap_or (option_map (groups_at image) (only image loader.LC_DYSYMTAB)) no_groups
 
--- the others
-pub record ShowsParts (image : List ℕ) (row : KesvuotImage) : Type 0 where
+-- the others; the image begins at `start` in the file
+pub record ShowsParts (image : List ℕ) (start : ℕ) (row : KesvuotImage) : Type 0 where
+  pub id : row.id ≡ option_map_or (library_row start image) (id_in image) no_library
   pub uuid : row.uuid ≡ unwrap_or (uuid_in image) no_uuid
   pub base : row.base ≡ unwrap_or (base_of image (commands_of image)) 0
   pub entry : row.entry ≡ unwrap_or (entry_of image (commands_of image)) 0
   pub has : row.has
       ≡ bit 1 (uuid_in image) + bit 2 (base_of image (commands_of image))
       + bit 4 (entry_of image (commands_of image)) + bit 8 (symtab_in image)
-      + bit 16 (dysymtab_in image)
+      + bit 16 (dysymtab_in image) + bit 32 (id_in image)
   pub reserved : row.reserved ≡ no_words
 
 -- the whole, in these bytes that begin at the place in the file
 pub record Shows (image : List ℕ) (start : ℕ) (row : KesvuotImage) : Type 0 where
-  pub bytes : row.bytes.now ≡ image
-  pub place : row.place ≡ start
+  pub offset : row.slice.offset ≡ start
+  pub size : row.slice.size ≡ length image
   pub header : ShowsHeader image row
   pub counts : ShowsCounts image row
   pub tables : ShowsTables image row
-  pub parts : ShowsParts image row
+  pub parts : ShowsParts image start row
 
--- The struct shows the image in its bytes, as kesvuot_image writes it, and the image breaks no rule:
--- none of an accepted file does.
-abbrev pub ShowsUnbroken : KesvuotImage → Type 0
-ShowsUnbroken row =
-    Shows row.bytes.now row.place row
-    × (arch : Option (ℕ × ℕ)) × NothingBreaks (BreaksImage row.bytes.now arch)
+-- the bytes of the slice that a struct names in a file, and none where it ends past the file
+abbrev pub image_in : List ℕ → KesvuotImage → List ℕ
+image_in file row = part_or_none row.slice.offset row.slice.size file
+
+-- The struct shows the image in its slice of the file, as kesvuot_read_image writes it, and the image
+-- breaks no rule: none of an accepted file does.
+abbrev pub ShowsUnbroken : List ℕ → KesvuotImage → Type 0
+ShowsUnbroken file row =
+    Shows (image_in file row) row.slice.offset row
+    × (arch : Option (ℕ × ℕ)) × NothingBreaks (BreaksImage (image_in file row) arch)
 
 -- nothing is shown but what may be known of an image that is not read
-pub record ShowsOutside (held : List ℕ) (start cpu subtype : ℕ) (row : KesvuotImage)
-    : Type 0 where
-  pub bytes : row.bytes.now ≡ held
-  pub place : row.place ≡ start
+pub record ShowsOutside (start size cpu subtype : ℕ) (row : KesvuotImage) : Type 0 where
+  pub slice : row.slice ≡ span_at start size
   pub cputype : row.cputype ≡ cpu
   pub cpusubtype : row.cpusubtype ≡ subtype
+  pub capabilities : row.capabilities ≡ 0
   pub filetype : row.filetype ≡ 0
   pub flags : row.flags ≡ 0
   pub has : row.has ≡ 0
@@ -143,12 +153,13 @@ pub record ShowsOutside (held : List ℕ) (start cpu subtype : ℕ) (row : Kesvu
   pub section_count : row.section_count ≡ 0
   pub library_count : row.library_count ≡ 0
   pub build_count : row.build_count ≡ 0
+  pub id : row.id ≡ no_library
   pub groups : row.groups ≡ no_groups
   pub uuid : row.uuid ≡ no_uuid
   pub reserved : row.reserved ≡ no_words
 
 abbrev pub ShowsNothing : KesvuotImage → Type 0
-ShowsNothing row = ShowsOutside [] 0 0 0 row
+ShowsNothing row = ShowsOutside 0 0 0 0 row
 
 -- The answer on a slice
 
@@ -171,7 +182,7 @@ abbrev pub IsUnread : List ℕ → FileSlice → KesvuotImage → Type 0
 IsUnread file slice row =
     let arch = unwrap_or slice.arch (0, 0) in
     (slice.start + slice.size ≤ length file) × IsUnreadImage (slice_bytes file slice)
-    × ShowsOutside (slice_bytes file slice) slice.start arch.0 arch.1 row
+    × ShowsOutside slice.start slice.size arch.0 arch.1 row
 
 -- the slice ends past the file, is no image at all, or its headers break a rule
 abbrev pub IsBad : List ℕ → FileSlice → Type 0

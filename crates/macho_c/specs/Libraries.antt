@@ -1,27 +1,36 @@
--- The rows of the libraries of an image. (mach-o/loader.h: dylib_command)
-use Rattle.std.specs.Prelude.{ℕ, List, map}
-use Rattle.macho_fields.specs.Image.{commands_of}
-use Rattle.macho_image.specs.Library.{DylibView, dylib_at, libraries}
-use Rattle.macho_c.specs.Rows.{placeless}
+-- The rows of the libraries that an image loads, and of what it is as one. (mach-o/loader.h:
+-- dylib_command)
+use Rattle.std.specs.Prelude.{ℕ, ◌+◌, List, map, filter}
+use Rattle.macho_fields.specs.Image.{word, command_cmd, commands_of}
+use Rattle.macho_c.specs.Commands.{name_span}
+use Rattle.macho_c.specs.Loads.{loads_library, wanted_left}
+use Rattle.macho_c.specs.Spans.{span_at}
+use Rattle.macho_c.specs.declared.cursor.KesvuotCursor.{KesvuotCursor}
 use Rattle.macho_c.specs.declared.libraries.KesvuotLibrary.{KesvuotLibrary}
+use Rattle.macho_c.specs.declared.load.Wanted.TheVariants as wanted
 
--- a row of a library shows all of it, but where its name lies
-abbrev pub library_shown : KesvuotLibrary → KesvuotLibrary
-library_shown row = record row { name = placeless row.name.now }
-
--- the row of a library
-abbrev pub library_row : DylibView → KesvuotLibrary
-library_row library = record {
-  name = placeless library.name;
-  cmd = library.cmd;
-  current = library.current;
-  compatible = library.compatible;
+-- the row of a dylib_command: current_version at 16, compatibility_version at 20
+abbrev pub library_row : ℕ → List ℕ → ℕ → KesvuotLibrary
+library_row place image command = record {
+  name = name_span place image command;
+  cmd = command_cmd image command;
+  current = word image (command + 16);
+  compatible = word image (command + 20);
   reserved = 0;
 }
 
--- those of an image, in the order of the commands
-abbrev pub libraries_in : List ℕ → List DylibView
-libraries_in image = map (dylib_at image) (libraries image (commands_of image))
+abbrev pub no_library : KesvuotLibrary
+no_library = record { name = span_at 0 0; cmd = 0; current = 0; compatible = 0; reserved = 0 }
 
-abbrev pub library_rows : List ℕ → List KesvuotLibrary
-library_rows image = map library_row (libraries_in image)
+-- those that remain at a cursor
+abbrev pub libraries_left : ℕ → List ℕ → KesvuotCursor → List KesvuotLibrary
+libraries_left place image cursor =
+    map (library_row place image) (wanted_left wanted.Libraries image cursor)
+
+-- the commands of an image that name a library that it loads, in their order
+abbrev pub loaded_by : List ℕ → List ℕ
+loaded_by image = filter (λ c. loads_library (command_cmd image c)) (commands_of image)
+
+-- the rows of all
+abbrev pub all_libraries : ℕ → List ℕ → List KesvuotLibrary
+all_libraries place image = map (library_row place image) (loaded_by image)

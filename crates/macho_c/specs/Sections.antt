@@ -1,46 +1,74 @@
 -- The rows of the sections of an image. (mach-o/loader.h: section_64)
-use Rattle.std.specs.Prelude.{ℕ, List, [], map, if◌then◌else◌}
+use Rattle.std.specs.Prelude.{ℕ, ◌+◌, ◌%◌, ◌==◌, ◌&&◌, ◌||◌, List, [], ◌++◌, map, drop, flat_map, nat_le, if◌then◌else◌, Bool}
 use Rattle.macho_fields.specs.Image.{commands_of}
-use Rattle.macho_fields.specs.Segment.{section_address, section_size, section_offset, reloff, nreloc, section_flags, is_zero_fill}
-use Rattle.macho_image.specs.Segment.{SectionView, section_at, sections_of, section_name, segment_name, section_align, reserved1, reserved2}
-use Rattle.macho_c.specs.Rows.{part_or_none, placeless}
+use Rattle.macho_fields.specs.Segment.{segments_of, sections_in, nsects, section_address, section_size, section_offset, reloff, nreloc, section_flags}
+use Rattle.macho_fields.specs.declared.header.loader.TheConstants as loader
+use Rattle.macho_image.specs.Segment.{section_name, segment_name, section_align, reserved1, reserved2}
+use Rattle.macho_c.specs.Loads.{is_command, is_segment, wanted_left}
+use Rattle.macho_c.specs.Spans.{part_or_none, span_at, span_of}
+use Rattle.macho_c.specs.declared.cursor.KesvuotCursor.{KesvuotCursor}
+use Rattle.macho_c.specs.declared.load.Wanted.TheVariants as wanted
 use Rattle.macho_c.specs.declared.sections.KesvuotSection.{KesvuotSection}
+use Rattle.macho_c.specs.declared.span.KesvuotSpan.{KesvuotSpan}
 
--- a row of a section shows all of it, but where its slices lie
-abbrev pub section_shown : KesvuotSection → KesvuotSection
-section_shown row = record row {
-  name = placeless row.name.now;
-  segment = placeless row.segment.now;
-  bytes = placeless row.bytes.now;
+-- whether the type in the low byte of these flags has no bytes in the file
+abbrev pub fills_zeros : ℕ → Bool
+fills_zeros flags =
+    (flags % 256 == loader.S_ZEROFILL) || (flags % 256 == loader.S_GB_ZEROFILL)
+    || (flags % 256 == loader.S_THREAD_LOCAL_ZEROFILL)
+
+-- where the bytes of a section lie, in an image that begins at `place` in the file
+abbrev pub section_span : ℕ → List ℕ → ℕ → ℕ → ℕ → KesvuotSpan
+section_span place image offset size flags =
+    if fills_zeros flags then span_at 0 0
+    else span_of (place + offset) (part_or_none offset size image)
+
+-- the row of a section of a segment
+abbrev pub section_row : ℕ → List ℕ → ℕ → ℕ → KesvuotSection
+section_row place image segment section = record {
+  name = span_of (place + section) (section_name image section);
+  segment = span_of (place + (segment + 8)) (segment_name image segment);
+  bytes =
+      section_span place image (section_offset image section) (section_size image section)
+      (section_flags image section);
+  addr = section_address image section;
+  size = section_size image section;
+  offset = section_offset image section;
+  align = section_align image section;
+  reloff = reloff image section;
+  nreloc = nreloc image section;
+  flags = section_flags image section;
+  reserved1 = reserved1 image section;
+  reserved2 = reserved2 image section;
+  zero_fill = if fills_zeros (section_flags image section) then 1 else 0;
 }
 
--- the bytes that a section has in the image, none if it is zero-fill
-abbrev pub section_bytes : List ℕ → ℕ → List ℕ
-section_bytes image section =
-    if is_zero_fill image section then []
-    else part_or_none (section_offset image section) (section_size image section) image
+-- those of a segment
+abbrev pub section_rows : ℕ → List ℕ → ℕ → List KesvuotSection
+section_rows place image segment =
+    map (section_row place image segment) (sections_in image segment)
 
--- the row of a section
-abbrev pub section_row : SectionView → KesvuotSection
-section_row s = record {
-  name = placeless (section_name s.image s.place);
-  segment = placeless (segment_name s.image s.segment);
-  bytes = placeless (section_bytes s.image s.place);
-  addr = section_address s.image s.place;
-  size = section_size s.image s.place;
-  offset = section_offset s.image s.place;
-  align = section_align s.image s.place;
-  reloff = reloff s.image s.place;
-  nreloc = nreloc s.image s.place;
-  flags = section_flags s.image s.place;
-  reserved1 = reserved1 s.image s.place;
-  reserved2 = reserved2 s.image s.place;
-  zero_fill = if is_zero_fill s.image s.place then 1 else 0;
-}
+-- how many sections the segment at a place has, and 0 where none can be
+abbrev pub nsects_at : List ℕ → ℕ → ℕ
+nsects_at image segment =
+    if nat_le loader.MACH_HEADER_64_SIZE segment && is_command image segment
+    && is_segment image segment
+    then nsects image segment else 0
 
--- those of an image, in the order of the commands
-abbrev pub sections_in : List ℕ → List SectionView
-sections_in image = map (section_at image) (sections_of image (commands_of image))
+-- those that remain of the segment that a cursor has reached
+abbrev pub rows_reached : ℕ → List ℕ → KesvuotCursor → List KesvuotSection
+rows_reached place image cursor =
+    if nat_le loader.MACH_HEADER_64_SIZE cursor.segment && is_command image cursor.segment
+    && is_segment image cursor.segment
+    then drop cursor.items (section_rows place image cursor.segment) else []
 
-abbrev pub section_rows : List ℕ → List KesvuotSection
-section_rows image = map section_row (sections_in image)
+-- those that remain at a cursor
+abbrev pub sections_left : ℕ → List ℕ → KesvuotCursor → List KesvuotSection
+sections_left place image cursor =
+    rows_reached place image cursor
+    ++ flat_map (section_rows place image) (wanted_left wanted.Segments image cursor)
+
+-- those of all segments, in the order of the commands
+abbrev pub all_sections : ℕ → List ℕ → List KesvuotSection
+all_sections place image =
+    flat_map (section_rows place image) (segments_of image (commands_of image))

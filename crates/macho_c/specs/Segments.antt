@@ -1,49 +1,61 @@
 -- The rows of the segments of an image. (mach-o/loader.h: segment_command_64)
-use Rattle.std.specs.Prelude.{ℕ, ◌+◌, List, [], ◌∷◌, map}
+use Rattle.std.specs.Prelude.{ℕ, ◌+◌, ◌-◌, ◌^◌, ◌==◌, min, List, [], ◌∷◌, map, if◌then◌else◌}
 use Rattle.macho_fields.specs.Image.{commands_of}
 use Rattle.macho_fields.specs.Segment.{segments_of, vmaddr, vmsize, fileoff, filesize, initprot, nsects}
 use Rattle.macho_image.specs.Segment.{SegmentView, segment_at, segment_name, maxprot}
-use Rattle.macho_c.specs.Rows.{part_or_none, placeless}
+use Rattle.macho_c.specs.Loads.{wanted_left}
+use Rattle.macho_c.specs.Spans.{part_or_none, span_of}
+use Rattle.macho_c.specs.declared.cursor.KesvuotCursor.{KesvuotCursor}
+use Rattle.macho_c.specs.declared.load.Wanted.TheVariants as wanted
 use Rattle.macho_c.specs.declared.segments.KesvuotSegment.{KesvuotSegment}
-use Rattle.macho_c.specs.declared.segments.Numbered.{Numbered}
-
--- a row of a segment shows all of it, but where its slices lie
-abbrev pub segment_shown : KesvuotSegment → KesvuotSegment
-segment_shown row = record row { name = placeless row.name.now; bytes = placeless row.bytes.now }
 
 -- the bytes that a segment has in the image
 abbrev pub segment_bytes : List ℕ → ℕ → List ℕ
 segment_bytes image segment =
     part_or_none (fileoff image segment) (filesize image segment) image
 
--- the row of a segment, with the number of the sections before its own
-abbrev pub segment_row : Numbered → KesvuotSegment
-segment_row n =
-    let s = n.segment in record {
-      name = placeless (segment_name s.image s.place);
-      bytes = placeless (segment_bytes s.image s.place);
-      vmaddr = vmaddr s.image s.place;
-      vmsize = vmsize s.image s.place;
-      fileoff = fileoff s.image s.place;
-      filesize = filesize s.image s.place;
-      first_section = n.sections;
-      section_count = nsects s.image s.place;
-      maxprot = maxprot s.image s.place;
-      initprot = initprot s.image s.place;
-    }
+-- the last of the addresses from the start on: below 2^64, and 0 where there are none
+abbrev pub last_address : ℕ → ℕ → ℕ
+last_address start size = if size == 0 then 0 else min (start + (size - 1)) (2 ^ 64 - 1)
 
--- each segment with the number of the sections before its own, of which the first has so many
-abbrev pub numbered : ℕ → List SegmentView → List Numbered
-numbered sections [] = []
-numbered sections (s ∷ rest) =
-    record { segment = s; sections = sections } ∷ numbered (sections + nsects s.image s.place) rest
+-- how many sections there are up to the end of a segment: at most 2^64 - 1, which no image reaches
+abbrev pub sections_past : ℕ → ℕ → ℕ
+sections_past before own = min (before + own) (2 ^ 64 - 1)
 
--- those of an image, in the order of the commands
+-- the row of a segment of the image that begins at `place` in the file, with so many sections before its
+-- own
+abbrev pub segment_row : ℕ → List ℕ → ℕ → ℕ → KesvuotSegment
+segment_row place image sections segment = record {
+  name = span_of (place + (segment + 8)) (segment_name image segment);
+  bytes = span_of (place + fileoff image segment) (segment_bytes image segment);
+  vmaddr = vmaddr image segment;
+  vmsize = vmsize image segment;
+  last = last_address (vmaddr image segment) (vmsize image segment);
+  fileoff = fileoff image segment;
+  filesize = filesize image segment;
+  first_section = sections;
+  section_count = nsects image segment;
+  maxprot = maxprot image segment;
+  initprot = initprot image segment;
+  reserved = 0;
+}
+
+-- those of these segments, of which the first has so many sections before its own
+abbrev pub segment_rows : ℕ → List ℕ → ℕ → List ℕ → List KesvuotSegment
+segment_rows place image sections [] = []
+segment_rows place image sections (segment ∷ rest) =
+    segment_row place image sections segment
+    ∷ segment_rows place image (sections_past sections (nsects image segment)) rest
+
+-- those that remain at a cursor
+abbrev pub segments_left : ℕ → List ℕ → KesvuotCursor → List KesvuotSegment
+segments_left place image cursor =
+    segment_rows place image cursor.items (wanted_left wanted.Segments image cursor)
+
+-- those of all segments, in the order of the commands
+abbrev pub all_segments : ℕ → List ℕ → List KesvuotSegment
+all_segments place image = segment_rows place image 0 (segments_of image (commands_of image))
+
+-- the segments as views
 abbrev pub segments_seen : List ℕ → List SegmentView
 segments_seen image = map (segment_at image) (segments_of image (commands_of image))
-
-abbrev pub segments_in : List ℕ → List Numbered
-segments_in image = numbered 0 (segments_seen image)
-
-abbrev pub segment_rows : List ℕ → List KesvuotSegment
-segment_rows image = map segment_row (segments_in image)

@@ -1,8 +1,10 @@
 -- The rows of the symbols and of the indirect entries of an image, by the numbers of its struct, which
 -- the caller may have changed, and by the image alone. (mach-o/nlist.h: nlist_64)
-use Rattle.std.specs.Prelude.{◌≡◌, ℕ, ◌+◌, ◌==◌, List, [], length, map, drop, if◌then◌else◌}
+use Rattle.std.specs.Prelude.{◌≡◌, ◌≢◌, ℕ, ◌+◌, ◌-◌, ◌^◌, ◌==◌, ◌&&◌, List, length, map, drop, Contains, Option, Some, None, MatchOption, nat_le, if◌then◌else◌}
+use Rattle.std.specs.List.{before_first, list_any}
 use Rattle.macho_fields.specs.Field.{string_from}
 use Rattle.macho_fields.specs.Image.{word, commands_of}
+use Rattle.macho_fields.specs.Segment.{section_count}
 use Rattle.macho_fields.specs.Symbol.{symbol_count, n_strx, n_type, n_sect, n_desc, n_value}
 use Rattle.macho_fields.specs.declared.header.loader.TheConstants as loader
 use Rattle.macho_fields.specs.declared.header.nlist.TheConstants as nlist
@@ -12,96 +14,113 @@ use Rattle.macho_image.specs.declared.indirect.Indirect.{Indirect}
 use Rattle.macho_image.specs.declared.symbol.Symbol.{Symbol}
 use Rattle.macho_image.specs.declared.symtab.Symtab.{Symtab}
 use Rattle.macho_c.specs.Image.{symtab_in, dysymtab_in, field_of}
-use Rattle.macho_c.specs.Rows.{IsFilled, part_or_none, ended_string, placeless}
+use Rattle.macho_c.specs.Spans.{part_or_none, span_at, span_of}
+use Rattle.macho_c.specs.Status.{KESVUOT_OK, KESVUOT_NONE}
+use Rattle.macho_c.specs.declared.cursor.KesvuotCursor.{KesvuotCursor}
 use Rattle.macho_c.specs.declared.image.KesvuotImage.{KesvuotImage}
+use Rattle.macho_c.specs.declared.span.KesvuotSpan.{KesvuotSpan}
 use Rattle.macho_c.specs.declared.symbols.KesvuotSymbol.{KesvuotSymbol}
 
--- a row of a symbol shows all of it, but where its name lies
-abbrev pub symbol_shown : KesvuotSymbol → KesvuotSymbol
-symbol_shown row = record row { name = placeless row.name.now }
+-- the index of the section with this number, which is from 1 on, and 2^32 - 1 where there is none
+abbrev pub section_of : ℕ → ℕ → ℕ
+section_of sect sections =
+    if nat_le 1 sect && nat_le sect sections then sect - 1 else 2 ^ 32 - 1
 
--- the name at strx in the strings, none where strx is 0, where they do not lie inside the image, and
--- where no zero byte of them ends it
-abbrev pub name_at : KesvuotImage → ℕ → List ℕ
-name_at image strx =
-    if strx == 0 then []
-    else ended_string (drop strx (part_or_none image.strings image.strings_size image.bytes.now))
-
--- the row of a symbol
-abbrev pub symbol_row : KesvuotImage → Symbol → KesvuotSymbol
-symbol_row image symbol = record {
-  name = placeless (name_at image symbol.strx);
+-- the row of a symbol of an image with so many sections
+abbrev pub symbol_row : ℕ → Symbol → KesvuotSymbol
+symbol_row sections symbol = record {
   value = symbol.value;
   strx = symbol.strx;
+  section = section_of symbol.sect sections;
   desc = symbol.desc;
   kind = symbol.kind;
   sect = symbol.sect;
+  reserved = 0;
 }
 
 -- those of the table, in its order, and none where it does not lie inside the image
-abbrev pub symbols_in : KesvuotImage → List Symbol
-symbols_in image =
-    map (symbol_at image.bytes.now)
-    (items_inside image.bytes.now image.symbols nlist.NLIST_64_SIZE image.symbol_count)
+abbrev pub symbol_rows : List ℕ → KesvuotImage → List KesvuotSymbol
+symbol_rows image row =
+    map (symbol_row row.section_count) (map (symbol_at image)
+    (items_inside image row.symbols nlist.NLIST_64_SIZE row.symbol_count))
 
-abbrev pub symbol_rows : KesvuotImage → List KesvuotSymbol
-symbol_rows image = map (symbol_row image) (symbols_in image)
+-- those that remain at a cursor
+abbrev pub symbols_left : List ℕ → KesvuotImage → KesvuotCursor → List KesvuotSymbol
+symbols_left image row cursor = drop cursor.items (symbol_rows image row)
 
 -- the indirect entries, in the order of their table, and none where it does not lie inside the image
-abbrev pub indirects_in : KesvuotImage → List Indirect
-indirects_in image =
-    map (indirect_at image.bytes.now)
-    (items_inside image.bytes.now image.indirects loader.INDIRECT_ENTRY_SIZE image.indirect_count)
-
 abbrev pub indirect_row : Indirect → ℕ
 indirect_row entry = entry.value
 
-abbrev pub indirect_shown : ℕ → ℕ
-indirect_shown value = value
+abbrev pub indirect_rows : List ℕ → KesvuotImage → List ℕ
+indirect_rows image row =
+    map indirect_row (map (indirect_at image)
+    (items_inside image row.indirects loader.INDIRECT_ENTRY_SIZE row.indirect_count))
 
-abbrev pub indirect_rows : KesvuotImage → List ℕ
-indirect_rows image = map indirect_row (indirects_in image)
+abbrev pub indirects_left : List ℕ → KesvuotImage → KesvuotCursor → List ℕ
+indirects_left image row cursor = drop cursor.items (indirect_rows image row)
+
+-- the bytes before the first zero byte, if some byte is zero
+abbrev pub first_string : List ℕ → Option (List ℕ)
+first_string bytes =
+    if list_any (λ byte. byte == 0) bytes
+    then Some (before_first (λ byte. byte == 0) bytes) else None
+
+-- The name at strx in the strings. There is none where strx is 0, where the strings do not lie inside the
+-- image, and where no zero byte of them ends it.
+abbrev pub name_at : List ℕ → KesvuotImage → ℕ → Option (List ℕ)
+name_at image row strx =
+    if strx == 0 then None
+    else first_string (drop strx (part_or_none row.strings row.strings_size image))
+
+-- the answer on strx: where the name lies in the file
+abbrev pub IsName : List ℕ → KesvuotImage → ℕ → ℕ → KesvuotSpan → Type 0
+IsName image row strx status name =
+    MatchOption (name_at image row strx) ((status ≡ KESVUOT_NONE) × (name ≡ span_at 0 0))
+    (λ string. (status ≡ KESVUOT_OK)
+    × (name ≡ span_of (row.slice.offset + (row.strings + strx)) string))
 
 -- By the image alone: all its symbols, and all its indirect entries
 
--- the name of the symbol at a place: the bytes from n_strx on in the strings of LC_SYMTAB, up to the
--- first zero byte; none where n_strx is 0
-abbrev pub symbol_name : List ℕ → ℕ → List ℕ
-symbol_name image symbol =
-    let strings = field_of (λ (t : Symtab). t.stroff) (symtab_in image) in
-    if n_strx image symbol == 0 then []
-    else string_from (strings + n_strx image symbol) image
-
 -- the row of the symbol at a place
-abbrev pub named_row : List ℕ → ℕ → KesvuotSymbol
-named_row image symbol = record {
-  name = placeless (symbol_name image symbol);
+abbrev pub row_at : List ℕ → ℕ → KesvuotSymbol
+row_at image symbol = record {
   value = n_value image symbol;
   strx = n_strx image symbol;
+  section = section_of (n_sect image symbol) (section_count image (commands_of image));
   desc = n_desc image symbol;
   kind = n_type image symbol;
   sect = n_sect image symbol;
+  reserved = 0;
 }
 
 -- those of all symbols, in the order of their table
-abbrev pub all_symbol_rows : List ℕ → List KesvuotSymbol
-all_symbol_rows image = map (named_row image) (symbols_of image (commands_of image))
+abbrev pub all_symbols : List ℕ → List KesvuotSymbol
+all_symbols image = map (row_at image) (symbols_of image (commands_of image))
 
--- The table of the caller is filled with these rows. There are nsyms of them, and 0 where there is no
--- LC_SYMTAB.
-abbrev pub GivesAllSymbols : List ℕ → ℕ → ℕ → List KesvuotSymbol → List KesvuotSymbol → Type 0
-GivesAllSymbols image first n old new =
-    IsFilled symbol_shown (all_symbol_rows image) first n old new
-    × (length (all_symbol_rows image) ≡ symbol_count image (commands_of image))
+-- There are nsyms of them, and 0 where there is no LC_SYMTAB. These are the rows from the first on.
+abbrev pub HasAllSymbols : List ℕ → List KesvuotSymbol → Type 0
+HasAllSymbols image rows =
+    (rows ≡ all_symbols image)
+    × (length (all_symbols image) ≡ symbol_count image (commands_of image))
+
+-- Where strx is that of a symbol, and not 0, the name is that of the symbol: the bytes from strx on in the
+-- strings of LC_SYMTAB, up to the first zero byte, in an image that begins at `place` in the file.
+abbrev pub NamesSymbols : List ℕ → ℕ → ℕ → ℕ → KesvuotSpan → Type 0
+NamesSymbols image place strx status name =
+    let from = field_of (λ (t : Symtab). t.stroff) (symtab_in image) + strx in
+    (symbol : ℕ) → Contains (symbols_of image (commands_of image)) symbol
+    → n_strx image symbol ≡ strx → strx ≢ 0
+    → (status ≡ KESVUOT_OK) × (name ≡ span_of (place + from) (string_from from image))
 
 -- all indirect entries, in the order of their table
-abbrev pub all_indirect_rows : List ℕ → List ℕ
-all_indirect_rows image = map (word image) (indirects_of image (commands_of image))
+abbrev pub all_indirects : List ℕ → List ℕ
+all_indirects image = map (word image) (indirects_of image (commands_of image))
 
--- The table of the caller is filled with these. There are nindirectsyms of them, and 0 where there is
--- no LC_DYSYMTAB.
-abbrev pub GivesAllIndirects : List ℕ → ℕ → ℕ → List ℕ → List ℕ → Type 0
-GivesAllIndirects image first n old new =
-    IsFilled indirect_shown (all_indirect_rows image) first n old new
-    × (length (all_indirect_rows image)
+-- There are nindirectsyms of them, and 0 where there is no LC_DYSYMTAB. These are the rows from the first
+-- on.
+abbrev pub HasAllIndirects : List ℕ → List ℕ → Type 0
+HasAllIndirects image rows =
+    (rows ≡ all_indirects image)
+    × (length (all_indirects image)
     ≡ field_of (λ (t : Dysymtab). t.nindirectsyms) (dysymtab_in image))

@@ -1,54 +1,64 @@
 //! What is at the addresses of an image.
 
-ghost use Rattle.std.specs.Prelude.{◌≡◌, ◌⊎◌, [], None};
+ghost use Rattle.std.specs.Prelude.{◌≡◌, ◌⊎◌, None};
+ghost use Rattle.macho_fields.specs.Bytes.{bytes_of};
 ghost use Rattle.macho_fields.specs.Layers.{NothingBreaks};
 ghost use Rattle.macho_fields.specs.Rules.{BreaksImage};
 ghost use Rattle.macho_c.specs.Address.{supplier, IsAnswer, IsSourceAt};
 ghost use Rattle.macho_c.specs.Address.{supplies as supplies_of};
+ghost use Rattle.macho_c.specs.Image.{image_in};
 ghost use Rattle.macho_c.specs.Rows.{IsBrokenImage, HasHeaders};
+ghost use Rattle.macho_c.specs.Segments.{segment_bytes};
+ghost use Rattle.macho_c.specs.Spans.{span_at};
 ghost use Rattle.macho_c.specs.Status.{KESVUOT_NONE};
 
 use crate::image::KesvuotImage;
-use crate::parts::rest;
-use crate::segments::bytes_of;
+use crate::parts::{part_or_none, rest};
+use crate::span::{Held, KesvuotSpan, NO_SPAN};
 use crate::status::{NONE, OK, ZERO};
 use macho_image::{Image, Segment};
 
-/// Writes the bytes of the file from the address on, up to the last that the same segment has in
-/// the file. The status is `OK`; `ZERO` if there is a zero that is not a byte of the file; or
-/// `NONE` if no segment has the address.
+/// Writes where the bytes from the address on lie in the file, up to the last that the same segment has
+/// there. The status is `OK`; `ZERO` if there is a zero that is not a byte of the file; or `NONE` if no
+/// segment has the address.
 #[unsafe(no_mangle)]
-pub extern "C" fn kesvuot_at<'a>(
-    image: &KesvuotImage<'a>,
+pub extern "C" fn kesvuot_find_address(
+    file: &[u8],
+    image: &KesvuotImage,
     address: u64,
-    bytes: &mut &'a [u8],
+    bytes: &mut KesvuotSpan,
 ) -> u32
-    ensures answer { (HasHeaders image.now.bytes.now None
-        × IsAnswer image.now.bytes.now address result bytes.new.now)
-        ⊎ (IsBrokenImage image.now.bytes.now None × (result ≡ KESVUOT_NONE) × (bytes.new.now ≡ [])) }
-    ensures source { NothingBreaks (BreaksImage image.now.bytes.now None)
-        → IsSourceAt image.now.bytes.now address result bytes.new.now }
+    ensures answer { (HasHeaders (image_in file.now image.now) None
+        × IsAnswer (image_in file.now image.now) image.now.slice.offset address result bytes.new)
+        ⊎ (IsBrokenImage (image_in file.now image.now) None × (result ≡ KESVUOT_NONE)
+        × (bytes.new ≡ span_at 0 0)) }
+    ensures source { NothingBreaks (BreaksImage (image_in file.now image.now) None)
+        → IsSourceAt (image_in file.now image.now) image.now.slice.offset address result bytes.new }
 {
-    match image.open() {
-        Some(image) => write_bytes_at(&image, address, bytes),
-        None => {
-            *bytes = &[];
-            NONE
-        }
+    *bytes = NO_SPAN;
+    let held = image.held(file);
+    match held.open() {
+        Some(image) => write_span_at(&held, &image, address, bytes),
+        None => NONE,
     }
 }
 
-// Writes the bytes at the address in an opened image, as `kesvuot_at` does.
-fn write_bytes_at<'a>(image: &Image<'a>, address: u64, bytes: &mut &'a [u8]) -> u32
-    ensures { IsAnswer image.now address result bytes.new.now }
+// Writes where the bytes at the address lie, in an opened image, as `kesvuot_find_address` does.
+fn write_span_at(held: &Held, image: &Image, address: u64, span: &mut KesvuotSpan) -> u32
+    requires image { bytes_of held.now.bytes ≡ image.now }
+    requires empty { span.old ≡ span_at 0 0 }
+    ensures { IsAnswer image.now held.now.place address result span.new }
 {
     let Some(segment) = segment_with(image, address) else {
-        *bytes = &[];
         return NONE;
     };
     let past = address.saturating_sub(segment.vmaddr());
-    *bytes = rest(bytes_of(&segment), past);
-    if bytes.is_empty() { ZERO } else { OK }
+    let bytes = rest(bytes_of(&segment), past);
+    if bytes.is_empty() {
+        return ZERO;
+    }
+    *span = held.span_of(segment.fileoff() + past, bytes);
+    OK
 }
 
 // The first segment that has the address.
@@ -69,4 +79,11 @@ fn supplies(segment: &Segment, address: u64) -> bool
 {
     let start = segment.vmaddr();
     start <= address && address - start < segment.vmsize()
+}
+
+// The bytes of a segment in the image.
+fn bytes_of<'a>(segment: &Segment<'a>) -> &'a [u8]
+    ensures { result.now ≡ segment_bytes segment.now.image segment.now.place }
+{
+    part_or_none(segment.image(), segment.file_part())
 }

@@ -1,64 +1,91 @@
 //! The load commands of an image.
 
-ghost use Rattle.std.specs.Prelude.{◌≡◌, false};
+ghost use Rattle.std.specs.Prelude.{◌≡◌, false, None};
 ghost use Rattle.std.specs.Option.{option_map_or};
+ghost use Rattle.macho_fields.specs.Bytes.{bytes_of};
 ghost use Rattle.macho_fields.specs.LoadCommands.{has_name, structure_of};
-ghost use Rattle.macho_image.specs.Command.{command_of};
-ghost use Rattle.macho_c.specs.Rows.{IsTable};
-ghost use Rattle.macho_c.specs.Commands.{name_in, command_shown, command_row, command_rows};
+ghost use Rattle.macho_c.specs.Commands.{command_row, command_rows_left, all_commands, name_span};
+ghost use Rattle.macho_c.specs.Cursor.{start, IsBatch};
+ghost use Rattle.macho_c.specs.Image.{image_in};
+ghost use Rattle.macho_c.specs.Loads.{IsLoad};
+ghost use Rattle.macho_c.specs.Rows.{HasHeaders};
 
+use crate::cursor::KesvuotCursor;
 use crate::image::KesvuotImage;
+use crate::load::{Load, Wanted, next_wanted};
 use crate::parts::{ended_string, rest};
-use crate::table::fill;
+use crate::span::{Held, KesvuotSpan, NO_SPAN};
+use crate::table::{Table, fill};
 use macho_fields::header::loader::LC_STR_OFFSET;
-use macho_fields::{Bytes, Order, structure_of};
-use macho_image::Command;
+use macho_fields::{Bytes, Order, Span, structure_of};
 
 /// A load command. (`load_command`)
 #[repr(C)]
 #[derive(Clone, Copy)]
-pub struct KesvuotCommand<'a> {
+pub struct KesvuotCommand {
     /// Its bytes, `cmd` and `cmdsize` included.
-    pub bytes: &'a [u8],
+    pub bytes: KesvuotSpan,
     /// Its name, of a `dylib_command`, `dylinker_command` or `rpath_command`, otherwise none.
-    pub name: &'a [u8],
-    /// Where it begins in the image.
-    pub place: u64,
+    pub name: KesvuotSpan,
     pub cmd: u32,
     /// Reserved: 0.
     pub reserved: u32,
 }
 
-/// Writes the load commands from index `first` on to the rows of the table, until either runs out,
-/// and returns how many it wrote. Later rows are unchanged.
+/// Writes the load commands from the cursor on to the rows of the table, until either runs out, moves
+/// the cursor past them, and returns how many it wrote. Later rows are unchanged.
 #[unsafe(no_mangle)]
-pub extern "C" fn kesvuot_commands<'a>(
-    image: &KesvuotImage<'a>,
-    first: u64,
-    rows: &mut [KesvuotCommand<'a>],
+pub extern "C" fn kesvuot_read_commands(
+    file: &[u8],
+    image: &KesvuotImage,
+    cursor: &mut KesvuotCursor,
+    rows: &mut [KesvuotCommand],
 ) -> usize
-    ensures { IsTable image.now.bytes.now command_shown (command_rows image.now.bytes.now) first result
-        rows.old rows.new }
+    ensures rows { IsBatch (command_rows_left image.now.slice.offset (image_in file.now image.now))
+        cursor.old cursor.new result rows.old rows.new }
+    ensures all { HasHeaders (image_in file.now image.now) None
+        → command_rows_left image.now.slice.offset (image_in file.now image.now) start
+        ≡ all_commands image.now.slice.offset (image_in file.now image.now) }
 {
-    match image.open() {
-        Some(image) => fill(image.commands().skip(first as usize).map(row_of), rows),
-        None => 0,
+    let commands = Commands {
+        image: image.held(file),
+    };
+    fill(&commands, cursor, rows)
+}
+
+// The load commands of an image.
+#[derive(Clone, Copy)]
+struct Commands<'a> {
+    image: Held<'a>,
+}
+
+impl<'a> Table for Commands<'a> {
+    ghost use Rattle.macho_fields.specs.Bytes.{bytes_of};
+    ghost use Rattle.macho_c.specs.Commands.{command_rows_left};
+
+    type Row = KesvuotCommand;
+
+    ghost left = { λ t. command_rows_left t.image.place (bytes_of t.image.bytes) };
+
+    fn next(&self, cursor: &mut KesvuotCursor) -> Option<KesvuotCommand> {
+        let load = next_wanted(self.image.bytes, cursor, Wanted::All)?;
+        Some(row_of(&self.image, load))
     }
 }
 
 // The row of a load command.
-fn row_of(command: Command) -> KesvuotCommand
-    ensures { command_shown result ≡ command_row (command_of command.entry) }
+fn row_of(image: &Held, load: Load) -> KesvuotCommand
+    requires { IsLoad (bytes_of image.now.bytes) load }
+    ensures { result ≡ command_row image.now.place (bytes_of image.now.bytes) load.place }
 {
     KesvuotCommand {
-        bytes: command.bytes,
-        name: if has_name(command.cmd) {
-            name_in(command.bytes)
+        bytes: image.part(load.place, load.size),
+        name: if has_name(load.cmd) {
+            name_span(image, load)
         } else {
-            &[]
+            NO_SPAN
         },
-        place: command.place,
-        cmd: command.cmd,
+        cmd: load.cmd,
         reserved: 0,
     }
 }
@@ -73,12 +100,21 @@ fn has_name(cmd: u32) -> bool
     }
 }
 
-// The name in the bytes of a command.
-fn name_in(bytes: &[u8]) -> &[u8]
-    ensures { result.now ≡ name_in bytes.now }
+// Where the name of a load command lies in the file.
+pub(crate) fn name_span(image: &Held, load: Load) -> KesvuotSpan
+    requires { IsLoad (bytes_of image.now.bytes) load }
+    ensures { result ≡ name_span image.now.place (bytes_of image.now.bytes) load.place }
 {
+    let whole = Span {
+        start: load.place,
+        len: load.size,
+    };
+    let bytes = image.bytes.read_part(whole);
     match Bytes::new(bytes).u32_at(Order::Little, LC_STR_OFFSET) {
-        Some(offset) => ended_string(rest(bytes, u64::from(offset))),
-        None => &[],
+        Some(offset) => {
+            let offset = u64::from(offset);
+            image.span_of(load.place + offset, ended_string(rest(bytes, offset)))
+        }
+        None => NO_SPAN,
     }
 }

@@ -1,26 +1,32 @@
 //! The image of a slice: what is there once, how many rows its tables have, and where they begin.
 
-ghost use Rattle.std.specs.Prelude.{◌≡◌, ◌+◌, ◌≤◌, ◌⊎◌, length, if◌then◌else◌, MatchOption};
-ghost use Rattle.std.specs.Option.{option_map, unwrap_or};
+ghost use Rattle.std.specs.Prelude.{◌≡◌, ◌+◌, ◌/◌, ◌^◌, ◌≤◌, ◌<◌, ◌⊎◌, length, if◌then◌else◌, MatchOption, None};
+ghost use Rattle.std.specs.Option.{option_map, option_map_or, unwrap_or};
 ghost use Rattle.macho_fields.specs.Bytes.{bytes_of};
 ghost use Rattle.macho_fields.specs.First.{IsUnbroken};
-ghost use Rattle.macho_fields.specs.Image.{word, commands_of};
+ghost use Rattle.macho_fields.specs.Image.{word, cpu_subtype, commands_of};
 ghost use Rattle.macho_fields.specs.Segment.{base_of};
 ghost use Rattle.macho_fields.specs.declared.header.loader.TheConstants.{LC_DYSYMTAB};
 ghost use Rattle.macho_image.specs.Entry.{entry_of};
+ghost use Rattle.macho_image.specs.Opened.{IsOpened};
 ghost use Rattle.macho_fat.specs.Slices.{slice_of, MarksReadInside};
 ghost use Rattle.macho_c.specs.Builds.{builds_in};
 ghost use Rattle.macho_c.specs.Commands.{commands_in};
-ghost use Rattle.macho_c.specs.Libraries.{libraries_in};
+ghost use Rattle.macho_c.specs.Libraries.{loaded_by, library_row, no_library};
 ghost use Rattle.macho_c.specs.Segments.{segments_seen};
 ghost use Rattle.macho_c.specs.Image.{IsAnswer, IsSliceAnswer, Shows, ShowsNothing, ShowsUnbroken};
-ghost use Rattle.macho_c.specs.Image.{only, uuid_in, symtab_in, dysymtab_in, field_of};
+ghost use Rattle.macho_c.specs.Image.{image_in, only, uuid_in, symtab_in, dysymtab_in, id_in, field_of};
 ghost use Rattle.macho_c.specs.Image.{bit as bit_of, groups_at as groups_in, no_groups};
 ghost use Rattle.macho_c.specs.Rows.{IsBrokenImage, HasHeaders};
 ghost use Rattle.macho_c.specs.Status.{KESVUOT_OK, KESVUOT_REFUSED};
 
+use crate::libraries::{KesvuotLibrary, Libraries, NO_LIBRARY, library_row};
+use crate::load::Load;
+use crate::span::{Held, KesvuotSpan, NO_SPAN, held_at};
 use crate::status::{NONE, OK, REFUSED, UNREAD};
+use crate::table::count;
 use macho_fat::{Slice, is_unread_image, slice_at};
+use macho_fields::header::loader::LC_ID_DYLIB;
 use macho_fields::header::loader::dysymtab_command::{
     IEXTDEFSYM, ILOCALSYM, IUNDEFSYM, NEXTDEFSYM, NLOCALSYM, NUNDEFSYM,
 };
@@ -37,8 +43,12 @@ const HAS_ENTRY: u32 = 4;
 const HAS_SYMTAB: u32 = 8;
 /// `LC_DYSYMTAB` is there.
 const HAS_DYSYMTAB: u32 = 16;
+/// `LC_ID_DYLIB` is there.
+const HAS_ID: u32 = 32;
 
-// The offsets of `ncmds` and `flags` in `mach_header_64`.
+// The offsets of `cpusubtype`, `ncmds` and `flags` in `mach_header_64`.
+const CPUSUBTYPE: u64 = 8;
+
 const NCMDS: u64 = 16;
 
 const FLAGS: u64 = 24;
@@ -47,11 +57,9 @@ const FLAGS: u64 = 24;
 /// no export trusts it.
 #[repr(C)]
 #[derive(Clone, Copy)]
-pub struct KesvuotImage<'a> {
-    /// The bytes of the slice.
-    pub bytes: &'a [u8],
-    /// Where the slice begins in the file.
-    pub place: u64,
+pub struct KesvuotImage {
+    /// The slice of the file.
+    pub slice: KesvuotSpan,
     /// The address of the first segment that shows the start of the image, otherwise 0.
     pub base: u64,
     /// The address of the entry point, otherwise 0.
@@ -71,9 +79,12 @@ pub struct KesvuotImage<'a> {
     pub section_count: u64,
     pub library_count: u64,
     pub build_count: u64,
-    /// The fields of the header. The `cpusubtype` is without the capability bits.
+    /// What the image is as a library.
+    pub id: KesvuotLibrary,
+    /// The fields of the header. The `cpusubtype` is without its high byte, the capabilities.
     pub cputype: u32,
     pub cpusubtype: u32,
+    pub capabilities: u32,
     pub filetype: u32,
     pub flags: u32,
     /// Which of the parts above are there.
@@ -82,16 +93,26 @@ pub struct KesvuotImage<'a> {
     pub groups: [u32; 6],
     pub uuid: [u8; 16],
     /// Reserved: 0.
-    pub reserved: [u32; 5],
+    pub reserved: [u32; 4],
 }
 
-impl<'a> KesvuotImage<'a> {
+impl KesvuotImage {
+    // The bytes of the slice in a file: none where it ends past the file.
+    pub(crate) fn held<'a>(&self, file: &'a [u8]) -> Held<'a>
+        ensures bytes { bytes_of result.bytes ≡ image_in file.now self.now }
+        ensures place { result.place ≡ self.now.slice.offset }
+    {
+        held_at(file, self.slice.offset, self.slice.size)
+    }
+}
+
+impl<'a> Held<'a> {
     // The image in the bytes, or `None` where they break a rule of the headers.
     pub(crate) fn open(&self) -> Option<Image<'a>>
-        ensures { MatchOption result (IsBrokenImage self.now.bytes.now None)
-            (λ image. HasHeaders self.now.bytes.now None × (image ≡ self.now.bytes.now)) }
+        ensures { MatchOption result (IsBrokenImage (bytes_of self.now.bytes) None)
+            (λ image. HasHeaders (bytes_of self.now.bytes) None × (image ≡ bytes_of self.now.bytes)) }
     {
-        Image::open(Bytes::new(self.bytes), None).ok()
+        Image::open(self.bytes, None).ok()
     }
 }
 
@@ -99,9 +120,9 @@ impl<'a> KesvuotImage<'a> {
 /// `UNREAD` if the image is of 32 bits or big-endian; `NONE` if there is no such slice; or
 /// `REFUSED` if no accepted file has these bytes.
 #[unsafe(no_mangle)]
-pub extern "C" fn kesvuot_image<'a>(file: &'a [u8], slice: u64, image: &mut KesvuotImage<'a>) -> u32
+pub extern "C" fn kesvuot_read_image(file: &[u8], slice: u64, image: &mut KesvuotImage) -> u32
     ensures answer { IsAnswer file.now slice result image.new }
-    ensures unbroken { IsUnbroken file.now → (result ≡ KESVUOT_OK) → ShowsUnbroken image.new }
+    ensures unbroken { IsUnbroken file.now → (result ≡ KESVUOT_OK) → ShowsUnbroken file.now image.new }
 {
     *image = no_image();
     let bytes = Bytes::new(file);
@@ -113,7 +134,7 @@ pub extern "C" fn kesvuot_image<'a>(file: &'a [u8], slice: u64, image: &mut Kesv
 }
 
 // Reads the image of a slice into a struct that shows nothing.
-fn read_slice<'a>(file: Bytes<'a>, slice: &Slice, image: &mut KesvuotImage<'a>) -> u32
+fn read_slice(file: Bytes, slice: &Slice, image: &mut KesvuotImage) -> u32
     requires marked { MarksReadInside (bytes_of file) slice.now }
     requires empty { ShowsNothing image.old }
     ensures { IsSliceAnswer (bytes_of file.entry) (slice_of slice.now) result image.new }
@@ -128,16 +149,19 @@ fn read_slice<'a>(file: Bytes<'a>, slice: &Slice, image: &mut KesvuotImage<'a>) 
         return REFUSED;
     }
     let (cputype, cpusubtype) = slice.arch.unwrap_or((0, 0));
-    image.bytes = bytes;
-    image.place = slice.span.start;
+    image.slice = KesvuotSpan {
+        offset: slice.span.start,
+        size: slice.span.len,
+    };
     image.cputype = cputype;
     image.cpusubtype = cpusubtype;
     UNREAD
 }
 
 // Reads a 64-bit little-endian image, which the bytes of the slice are.
-fn read_image<'a>(bytes: &'a [u8], slice: &Slice, image: &mut KesvuotImage<'a>) -> u32
-    requires { ShowsNothing image.old }
+fn read_image(bytes: &[u8], slice: &Slice, image: &mut KesvuotImage) -> u32
+    requires fits { slice.now.span.start + length bytes.now < 2 ^ 64 }
+    requires empty { ShowsNothing image.old }
     ensures { ((result ≡ KESVUOT_OK) × HasHeaders bytes.now slice.now.arch
         × Shows bytes.now slice.now.span.start image.new)
         ⊎ ((result ≡ KESVUOT_REFUSED) × IsBrokenImage bytes.now slice.now.arch
@@ -145,7 +169,7 @@ fn read_image<'a>(bytes: &'a [u8], slice: &Slice, image: &mut KesvuotImage<'a>) 
 {
     match Image::open(Bytes::new(bytes), slice.arch) {
         Ok(opened) => {
-            *image = row_of(bytes, slice.span.start, &opened);
+            *image = row_of(&opened, slice.span.start);
             OK
         }
         Err(_) => REFUSED,
@@ -153,12 +177,11 @@ fn read_image<'a>(bytes: &'a [u8], slice: &Slice, image: &mut KesvuotImage<'a>) 
 }
 
 // No image: all fields are 0.
-fn no_image<'a>() -> KesvuotImage<'a>
+fn no_image() -> KesvuotImage
     ensures { ShowsNothing result }
 {
     KesvuotImage {
-        bytes: &[],
-        place: 0,
+        slice: NO_SPAN,
         base: 0,
         entry: 0,
         symbols: 0,
@@ -172,28 +195,36 @@ fn no_image<'a>() -> KesvuotImage<'a>
         section_count: 0,
         library_count: 0,
         build_count: 0,
+        id: NO_LIBRARY,
         cputype: 0,
         cpusubtype: 0,
+        capabilities: 0,
         filetype: 0,
         flags: 0,
         has: 0,
         groups: [0; 6],
         uuid: [0; 16],
-        reserved: [0; 5],
+        reserved: [0; 4],
     }
 }
 
 // The struct of the image in the bytes, which begin at `place` in the file.
-fn row_of<'a>(bytes: &'a [u8], place: u64, image: &Image<'a>) -> KesvuotImage<'a>
-    requires { image.now ≡ bytes.now }
-    ensures { Shows bytes.now place result }
+fn row_of(image: &Image, place: u64) -> KesvuotImage
+    requires { place + length image.now < 2 ^ 64 }
+    ensures { Shows image.now place result }
 {
     let (cputype, cpusubtype) = image.arch();
     let symtab = symtab(image);
     let (indirects, indirect_count) = indirects(image);
-    KesvuotImage {
-        bytes,
+    let held = Held {
+        bytes: image.bytes(),
         place,
+    };
+    KesvuotImage {
+        slice: KesvuotSpan {
+            offset: place,
+            size: image.bytes().len(),
+        },
         base: image.base().unwrap_or(0),
         entry: image.entry().unwrap_or(0),
         symbols: symtab.symoff,
@@ -205,16 +236,18 @@ fn row_of<'a>(bytes: &'a [u8], place: u64, image: &Image<'a>) -> KesvuotImage<'a
         command_count: u64::from(command_count(image)),
         segment_count: segment_count(image),
         section_count: image.section_count(),
-        library_count: library_count(image),
+        library_count: library_count(&held, image),
         build_count: build_count(image),
+        id: id(&held, image),
         cputype,
         cpusubtype,
+        capabilities: capabilities(image),
         filetype: image.file_type().number,
         flags: flags(image),
         has: has(image),
         groups: groups(image),
         uuid: image.uuid().unwrap_or([0; 16]),
-        reserved: [0; 5],
+        reserved: [0; 4],
     }
 }
 
@@ -270,12 +303,42 @@ fn segment_count(image: &Image) -> u64
     image.segments().count() as u64
 }
 
-// How many libraries the image names.
-fn library_count(image: &Image) -> u64
-    ensures { result ≡ length (libraries_in image.now) }
+// How many libraries the image loads.
+fn library_count(held: &Held, image: &Image) -> u64
+    requires bytes { bytes_of held.now.bytes ≡ image.now }
+    requires opened { IsOpened image.now }
+    ensures { result ≡ length (loaded_by image.now) }
 {
     prove!(command_count(image) <= u32::MAX);
-    image.dylibs().count() as u64
+    let libraries = Libraries { image: *held };
+    count(&libraries)
+}
+
+// What the image is as a library, by its `LC_ID_DYLIB`.
+fn id(held: &Held, image: &Image) -> KesvuotLibrary
+    requires bytes { bytes_of held.now.bytes ≡ image.now }
+    requires opened { IsOpened image.now }
+    ensures { result ≡ option_map_or (library_row held.now.place image.now) (id_in image.now) no_library }
+{
+    prove!(image.commands_end() <= u64::MAX);
+    match image.first_command(LC_ID_DYLIB) {
+        Some(command) => {
+            let load = Load {
+                place: command.place,
+                cmd: command.cmd,
+                size: u64::from(command.size),
+            };
+            library_row(held, load)
+        }
+        None => NO_LIBRARY,
+    }
+}
+
+// The high byte of the `cpusubtype`. (`mach_header_64`)
+fn capabilities(image: &Image) -> u32
+    ensures { result ≡ cpu_subtype image.now / 2 ^ 24 }
+{
+    image.bytes().read_u32(Order::Little, CPUSUBTYPE) >> 24
 }
 
 // How many builds there are.
@@ -290,13 +353,25 @@ fn build_count(image: &Image) -> u64
 fn has(image: &Image) -> u32
     ensures { result ≡ bit_of 1 (uuid_in image.now) + bit_of 2 (base_of image.now (commands_of image.now))
         + bit_of 4 (entry_of image.now (commands_of image.now)) + bit_of 8 (symtab_in image.now)
-        + bit_of 16 (dysymtab_in image.now) }
+        + bit_of 16 (dysymtab_in image.now)
+        + bit_of 32 (id_in image.now) }
 {
     bit(image.uuid().is_some(), HAS_UUID)
         + bit(image.base().is_some(), HAS_BASE)
         + bit(image.entry().is_some(), HAS_ENTRY)
         + bit(image.symtab().is_some(), HAS_SYMTAB)
         + bit(image.dysymtab().is_some(), HAS_DYSYMTAB)
+        + id_bit(image)
+}
+
+// The bit of `LC_ID_DYLIB`, if it is there.
+fn id_bit(image: &Image) -> u32
+    ensures { result ≡ bit_of 32 (id_in image.now) }
+{
+    match image.first_command(LC_ID_DYLIB) {
+        Some(_) => HAS_ID,
+        None => 0,
+    }
 }
 
 // The bit of a part that is there.

@@ -3,20 +3,23 @@
 //! can call C.
 //!
 //! No export has a `requires`: each is safe and returns on any bytes and on any numbers in the
-//! structures that it is passed. What an export returns is borrowed from the bytes of the file.
+//! structures that it is passed. Structures hold plain numbers: bytes are named by their place in the file.
 
 mod address;
 mod builds;
 mod commands;
+mod cursor;
 mod image;
 mod indirects;
 mod layout;
 mod libraries;
 mod linkedit;
+mod load;
 mod parts;
 mod rule;
 mod sections;
 mod segments;
+mod span;
 mod status;
 mod symbols;
 mod table;

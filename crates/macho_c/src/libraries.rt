@@ -1,19 +1,26 @@
-//! The libraries that an image names.
+//! The libraries that an image loads, and what it is as one.
 
-ghost use Rattle.std.specs.Prelude.{◌≡◌};
-ghost use Rattle.macho_image.specs.Library.{dylib_of};
-ghost use Rattle.macho_c.specs.Rows.{IsTable};
-ghost use Rattle.macho_c.specs.Libraries.{library_shown, library_row, library_rows};
+ghost use Rattle.std.specs.Prelude.{◌≡◌, ◌+◌, ◌≤◌, None};
+ghost use Rattle.macho_fields.specs.Bytes.{bytes_of};
+ghost use Rattle.macho_c.specs.Cursor.{start, IsBatch};
+ghost use Rattle.macho_c.specs.Image.{image_in};
+ghost use Rattle.macho_c.specs.Libraries.{library_row, libraries_left, all_libraries};
+ghost use Rattle.macho_c.specs.Loads.{IsLoad};
+ghost use Rattle.macho_c.specs.Rows.{HasHeaders};
 
+use crate::commands::name_span;
+use crate::cursor::KesvuotCursor;
 use crate::image::KesvuotImage;
-use crate::table::fill;
-use macho_image::Dylib;
+use crate::load::{Load, Wanted, next_wanted};
+use crate::span::{Held, KesvuotSpan, NO_SPAN};
+use crate::table::{Table, fill};
+use macho_fields::Order;
 
-/// A library: one that the image is linked with, or the image itself. (`dylib_command`)
+/// A library: one that the image loads, or the image itself. (`dylib_command`)
 #[repr(C)]
 #[derive(Clone, Copy)]
-pub struct KesvuotLibrary<'a> {
-    pub name: &'a [u8],
+pub struct KesvuotLibrary {
+    pub name: KesvuotSpan,
     /// The `cmd` of its command: `LC_ID_DYLIB` for the image itself.
     pub cmd: u32,
     pub current: u32,
@@ -22,32 +29,76 @@ pub struct KesvuotLibrary<'a> {
     pub reserved: u32,
 }
 
-/// Writes the libraries from index `first` on to the rows of the table, until either runs out, and
-/// returns how many it wrote. Later rows are unchanged.
+/// No library.
+pub(crate) const NO_LIBRARY: KesvuotLibrary = KesvuotLibrary {
+    name: NO_SPAN,
+    cmd: 0,
+    current: 0,
+    compatible: 0,
+    reserved: 0,
+};
+
+/// Writes the libraries that the image loads from the cursor on to the rows of the table, until either
+/// runs out, moves the cursor past them, and returns how many it wrote. Later rows are unchanged.
 #[unsafe(no_mangle)]
-pub extern "C" fn kesvuot_libraries<'a>(
-    image: &KesvuotImage<'a>,
-    first: u64,
-    rows: &mut [KesvuotLibrary<'a>],
+pub extern "C" fn kesvuot_read_libraries(
+    file: &[u8],
+    image: &KesvuotImage,
+    cursor: &mut KesvuotCursor,
+    rows: &mut [KesvuotLibrary],
 ) -> usize
-    ensures { IsTable image.now.bytes.now library_shown (library_rows image.now.bytes.now) first result
-        rows.old rows.new }
+    ensures rows { IsBatch (libraries_left image.now.slice.offset (image_in file.now image.now))
+        cursor.old cursor.new result rows.old rows.new }
+    ensures all { HasHeaders (image_in file.now image.now) None
+        → libraries_left image.now.slice.offset (image_in file.now image.now) start
+        ≡ all_libraries image.now.slice.offset (image_in file.now image.now) }
 {
-    match image.open() {
-        Some(image) => fill(image.dylibs().skip(first as usize).map(row_of), rows),
-        None => 0,
+    let libraries = Libraries {
+        image: image.held(file),
+    };
+    fill(&libraries, cursor, rows)
+}
+
+// The libraries that an image loads.
+#[derive(Clone, Copy)]
+pub(crate) struct Libraries<'a> {
+    pub(crate) image: Held<'a>,
+}
+
+impl<'a> Table for Libraries<'a> {
+    ghost use Rattle.macho_fields.specs.Bytes.{bytes_of};
+    ghost use Rattle.macho_c.specs.Libraries.{libraries_left};
+
+    type Row = KesvuotLibrary;
+
+    ghost left = { λ t. libraries_left t.image.place (bytes_of t.image.bytes) };
+
+    fn next(&self, cursor: &mut KesvuotCursor) -> Option<KesvuotLibrary> {
+        let load = next_wanted(self.image.bytes, cursor, Wanted::Libraries)?;
+        Some(library_row(&self.image, load))
     }
 }
 
-// The row of a library.
-fn row_of(library: Dylib) -> KesvuotLibrary
-    ensures { library_shown result ≡ library_row (dylib_of library.entry) }
+// The row of a `dylib_command`.
+pub(crate) fn library_row(image: &Held, load: Load) -> KesvuotLibrary
+    requires load { IsLoad (bytes_of image.now.bytes) load }
+    requires size { 24 ≤ load.size }
+    ensures { result ≡ library_row image.now.place (bytes_of image.now.bytes) load.place }
 {
     KesvuotLibrary {
-        name: library.name,
-        cmd: library.cmd,
-        current: library.current,
-        compatible: library.compatible,
+        name: name_span(image, load),
+        cmd: load.cmd,
+        current: image
+            .bytes
+            .read_u32(Order::Little, load.place + CURRENT_VERSION),
+        compatible: image
+            .bytes
+            .read_u32(Order::Little, load.place + COMPATIBILITY_VERSION),
         reserved: 0,
     }
 }
+
+// The offsets of the fields in `dylib_command`.
+const CURRENT_VERSION: u64 = 16;
+
+const COMPATIBILITY_VERSION: u64 = 20;

@@ -1,54 +1,61 @@
 //! The data that load commands name.
 
-ghost use Rattle.std.specs.Prelude.{◌≡◌, ◌⊎◌, ◌↔◌, ◌+◌, ◌≤◌, None, Some, [], IsTrue, IsSome, IfSome, IfNone, length};
+ghost use Rattle.std.specs.Prelude.{◌≡◌, ◌⊎◌, ◌↔◌, ◌+◌, ◌≤◌, None, Some, IsTrue, IfSome, IfNone, length};
 ghost use Rattle.macho_fields.specs.Bytes.{bytes_of};
 ghost use Rattle.macho_fields.specs.LoadCommands.{structure_of, structure_size};
 ghost use Rattle.macho_fields.specs.declared.load_command.Structure.TheVariants.{LinkeditDataCommand};
+ghost use Rattle.macho_image.specs.Opened.{IsOpened};
 ghost use Rattle.macho_c.specs.Linkedit.{IsAnswer, IsData, PassesImage};
+ghost use Rattle.macho_c.specs.Image.{image_in};
 ghost use Rattle.macho_c.specs.Rows.{IsBrokenImage, HasHeaders};
+ghost use Rattle.macho_c.specs.Spans.{span_at};
 ghost use Rattle.macho_c.specs.Status.{KESVUOT_NONE};
 
 use crate::image::KesvuotImage;
+use crate::span::{Held, KesvuotSpan, NO_SPAN};
 use crate::status::{NONE, OK};
 use macho_fields::header::loader::linkedit_data_command::{DATAOFF, DATASIZE};
-use macho_fields::{Bytes, Order, Span, Structure, structure_of};
+use macho_fields::{Order, Span, Structure, structure_of};
 use macho_image::Image;
 
-/// Writes the data that the first `linkedit_data_command` with this `cmd` names. The status is
-/// `OK`, or `NONE` if the image has none.
+/// Writes where the data lies in the file that the first `linkedit_data_command` with this `cmd` names.
+/// The status is `OK`, or `NONE` if the image has none.
 #[unsafe(no_mangle)]
-pub extern "C" fn kesvuot_linkedit<'a>(
-    image: &KesvuotImage<'a>,
+pub extern "C" fn kesvuot_find_data(
+    file: &[u8],
+    image: &KesvuotImage,
     cmd: u32,
-    bytes: &mut &'a [u8],
+    span: &mut KesvuotSpan,
 ) -> u32
-    ensures { (HasHeaders image.now.bytes.now None
-        × IsAnswer image.now.bytes.now cmd result bytes.new.now)
-        ⊎ (IsBrokenImage image.now.bytes.now None × (result ≡ KESVUOT_NONE) × (bytes.new.now ≡ [])) }
+    ensures { (HasHeaders (image_in file.now image.now) None
+        × IsAnswer (image_in file.now image.now) image.now.slice.offset cmd result span.new)
+        ⊎ (IsBrokenImage (image_in file.now image.now) None × (result ≡ KESVUOT_NONE)
+        × (span.new ≡ span_at 0 0)) }
 {
-    match image.open() {
-        Some(image) => write_data(&image, cmd, bytes),
-        None => {
-            *bytes = &[];
-            NONE
-        }
+    *span = NO_SPAN;
+    let held = image.held(file);
+    match held.open() {
+        Some(image) => write_data(&held, &image, cmd, span),
+        None => NONE,
     }
 }
 
-// Writes the data of the command in an opened image, as `kesvuot_linkedit` does.
-fn write_data<'a>(image: &Image<'a>, cmd: u32, bytes: &mut &'a [u8]) -> u32
-    ensures { IsAnswer image.now cmd result bytes.new.now }
+// Writes where the data of the command lies, in an opened image, as `kesvuot_find_data` does.
+fn write_data(held: &Held, image: &Image, cmd: u32, span: &mut KesvuotSpan) -> u32
+    requires image { bytes_of held.now.bytes ≡ image.now }
+    requires opened { IsOpened image.now }
+    requires empty { span.old ≡ span_at 0 0 }
+    ensures { IsAnswer image.now held.now.place cmd result span.new }
 {
-    *bytes = &[];
     if !names_data(cmd) {
         return NONE;
     }
     let Some(command) = image.first_command(cmd) else {
         return NONE;
     };
-    match data_at(image.bytes(), command.place) {
+    match data_at(held, command.place) {
         Some(data) => {
-            *bytes = data;
+            *span = data;
             OK
         }
         None => NONE,
@@ -62,19 +69,20 @@ fn names_data(cmd: u32) -> bool
     structure_of(cmd) == Some(Structure::LinkeditDataCommand)
 }
 
-// The data of the `linkedit_data_command` at the place `command`, or `None` if it ends past the
-// image. With `datasize` 0 it is empty, wherever `dataoff` is.
-fn data_at(image: Bytes, command: u64) -> Option<&[u8]>
-    requires { command + structure_size LinkeditDataCommand ≤ length (bytes_of image) }
-    ensures some { IfSome result (λ bytes. IsData (bytes_of image.entry) command bytes.now) }
-    ensures none { IfNone result (PassesImage (bytes_of image.entry) command) }
+// Where the data of the `linkedit_data_command` at the place `command` lies in the file, or `None` if it
+// ends past the image. With `datasize` 0 it is empty, wherever `dataoff` is.
+fn data_at(held: &Held, command: u64) -> Option<KesvuotSpan>
+    requires { command + structure_size LinkeditDataCommand ≤ length (bytes_of held.now.bytes) }
+    ensures some { IfSome result (IsData (bytes_of held.now.bytes) held.now.place command) }
+    ensures none { IfNone result (PassesImage (bytes_of held.now.bytes) command) }
 {
     let data = Span {
-        start: u64::from(image.read_u32(Order::Little, command + DATAOFF)),
-        len: u64::from(image.read_u32(Order::Little, command + DATASIZE)),
+        start: u64::from(held.bytes.read_u32(Order::Little, command + DATAOFF)),
+        len: u64::from(held.bytes.read_u32(Order::Little, command + DATASIZE)),
     };
     if data.len == 0 {
-        return Some(&[]);
+        return Some(NO_SPAN);
     }
-    image.part(data)
+    let bytes = held.bytes.part(data)?;
+    Some(held.span_of(data.start, bytes))
 }

@@ -2,7 +2,10 @@
 
 ghost use Rattle.std.specs.Prelude.{◌≡◌, drop};
 ghost use Rattle.macho_fields.specs.Bytes.{bytes_of};
-ghost use Rattle.macho_c.specs.Rows.{part_or_none, ended_string as ended_string_of};
+ghost use Rattle.std.specs.Option.{option_map};
+ghost use Rattle.macho_c.specs.Rows.{ended_string as ended_string_of};
+ghost use Rattle.macho_c.specs.Spans.{part_or_none};
+ghost use Rattle.macho_c.specs.Symbols.{first_string as first_string_of};
 
 use macho_fields::{Bytes, Span};
 
@@ -26,15 +29,22 @@ pub(crate) fn rest(bytes: &[u8], offset: u64) -> &[u8]
     }
 }
 
-// The bytes before the first zero byte, or none where no byte is zero.
-pub(crate) fn ended_string(bytes: &[u8]) -> &[u8]
-    ensures { result.now ≡ ended_string_of bytes.now }
+// The bytes before the first zero byte, if some byte is zero.
+pub(crate) fn first_string(bytes: &[u8]) -> Option<&[u8]>
+    ensures { option_map (λ string. string.now) result ≡ first_string_of bytes.now }
 {
     let all = Span {
         start: 0,
         len: bytes.len() as u64,
     };
-    match Bytes::new(bytes).string_in(all) {
+    Bytes::new(bytes).string_in(all)
+}
+
+// The bytes before the first zero byte, or none where no byte is zero.
+pub(crate) fn ended_string(bytes: &[u8]) -> &[u8]
+    ensures { result.now ≡ ended_string_of bytes.now }
+{
+    match first_string(bytes) {
         Some(string) => string,
         None => &[],
     }

@@ -10,7 +10,7 @@ use macho_fields::Rule;
 /// Writes the name of the rule with this number, borrowed from the library. A zero byte, which is not
 /// counted, follows it in memory. The status is `OK`, or `NONE` where no rule has the number.
 #[unsafe(no_mangle)]
-pub extern "C" fn kesvuot_rule(rule: u32, name: &mut &'static [u8]) -> u32
+pub extern "C" fn kesvuot_find_rule(rule: u32, name: &mut &'static [u8]) -> u32
     ensures { ((result ≡ KESVUOT_OK) × IsNumbered rule name.new.now)
         ⊎ ((result ≡ KESVUOT_NONE) × IsNoNumber rule × (name.new.now ≡ [])) }
 {

@@ -1,23 +1,35 @@
 //! The sections of all segments of an image.
 
-ghost use Rattle.std.specs.Prelude.{◌≡◌};
-ghost use Rattle.macho_c.specs.Rows.{IsTable};
-ghost use Rattle.macho_c.specs.Sections.{section_bytes, section_shown, section_row, section_rows};
+ghost use Rattle.std.specs.Prelude.{◌≡◌, ◌+◌, ◌*◌, ◌^◌, ◌≤◌, ◌<◌, length, None};
+ghost use Rattle.std.specs.Iterator.{YieldsFirst};
+ghost use Rattle.macho_fields.specs.Bytes.{bytes_of};
+ghost use Rattle.macho_c.specs.Cursor.{start, IsBatch};
+ghost use Rattle.macho_c.specs.Image.{image_in};
+ghost use Rattle.macho_c.specs.Rows.{HasHeaders};
+ghost use Rattle.macho_c.specs.Sections.{section_row, sections_left, all_sections, rows_reached};
+ghost use Rattle.macho_c.specs.Sections.{nsects_at, section_span, fills_zeros};
 
+use crate::cursor::KesvuotCursor;
 use crate::image::KesvuotImage;
-use crate::parts::part_or_none;
-use crate::table::fill;
-use macho_image::Section;
+use crate::load::{Wanted, is_segment, load_at, next_wanted};
+use crate::span::{Held, KesvuotSpan, NO_SPAN};
+use crate::table::{Table, fill};
+use macho_fields::header::loader::segment_command_64::NSECTS;
+use macho_fields::header::loader::{
+    MACH_HEADER_64_SIZE, S_GB_ZEROFILL, S_THREAD_LOCAL_ZEROFILL, S_ZEROFILL, SECTION_64_SIZE,
+    SECTION_TYPE, SEGMENT_COMMAND_64_SIZE,
+};
+use macho_fields::{Bytes, Order};
 
 /// A section. (`section_64`)
 #[repr(C)]
 #[derive(Clone, Copy)]
-pub struct KesvuotSection<'a> {
-    pub name: &'a [u8],
+pub struct KesvuotSection {
+    pub name: KesvuotSpan,
     /// The name of its segment.
-    pub segment: &'a [u8],
-    /// Its bytes in the image: none if it is zero-fill.
-    pub bytes: &'a [u8],
+    pub segment: KesvuotSpan,
+    /// Its bytes in the file: none if it is zero-fill.
+    pub bytes: KesvuotSpan,
     pub addr: u64,
     pub size: u64,
     pub offset: u32,
@@ -31,51 +43,153 @@ pub struct KesvuotSection<'a> {
     pub zero_fill: u32,
 }
 
-/// Writes the sections from index `first` on to the rows of the table, until either runs out, and
-/// returns how many it wrote. Later rows are unchanged. The section with the number `n_sect` of a
-/// symbol has the index `n_sect - 1`.
+/// Writes the sections from the cursor on to the rows of the table, until either runs out, moves the
+/// cursor past them, and returns how many it wrote. Later rows are unchanged.
 #[unsafe(no_mangle)]
-pub extern "C" fn kesvuot_sections<'a>(
-    image: &KesvuotImage<'a>,
-    first: u64,
-    rows: &mut [KesvuotSection<'a>],
+pub extern "C" fn kesvuot_read_sections(
+    file: &[u8],
+    image: &KesvuotImage,
+    cursor: &mut KesvuotCursor,
+    rows: &mut [KesvuotSection],
 ) -> usize
-    ensures { IsTable image.now.bytes.now section_shown (section_rows image.now.bytes.now) first result
-        rows.old rows.new }
+    ensures rows { IsBatch (sections_left image.now.slice.offset (image_in file.now image.now))
+        cursor.old cursor.new result rows.old rows.new }
+    ensures all { HasHeaders (image_in file.now image.now) None
+        → sections_left image.now.slice.offset (image_in file.now image.now) start
+        ≡ all_sections image.now.slice.offset (image_in file.now image.now) }
 {
-    match image.open() {
-        Some(image) => fill(image.sections().skip(first as usize).map(row_of), rows),
-        None => 0,
+    let sections = Sections {
+        image: image.held(file),
+    };
+    fill(&sections, cursor, rows)
+}
+
+// The sections of an image.
+#[derive(Clone, Copy)]
+struct Sections<'a> {
+    image: Held<'a>,
+}
+
+impl<'a> Table for Sections<'a> {
+    ghost use Rattle.macho_fields.specs.Bytes.{bytes_of};
+    ghost use Rattle.macho_c.specs.Sections.{sections_left};
+
+    type Row = KesvuotSection;
+
+    ghost left = { λ t. sections_left t.image.place (bytes_of t.image.bytes) };
+
+    fn next(&self, cursor: &mut KesvuotCursor) -> Option<KesvuotSection> {
+        loop {
+            match next_reached(&self.image, cursor) {
+                Some(row) => return Some(row),
+                None => {
+                    let load = next_wanted(self.image.bytes, cursor, Wanted::Segments)?;
+                    cursor.segment = load.place;
+                    cursor.items = 0;
+                }
+            }
+        }
+    }
+}
+
+// The next section of the segment that the cursor has reached.
+fn next_reached(image: &Held, cursor: &mut KesvuotCursor) -> Option<KesvuotSection>
+    ensures first { YieldsFirst (rows_reached image.now.place (bytes_of image.now.bytes)) cursor.old
+        result cursor.new }
+    ensures place { cursor.new.place ≡ cursor.old.place }
+    ensures commands { cursor.new.commands ≡ cursor.old.commands }
+{
+    let segment = cursor.segment;
+    if cursor.items >= nsects_at(image.bytes, segment) {
+        return None;
+    }
+    let section = segment + SEGMENT_COMMAND_64_SIZE + SECTION_64_SIZE * cursor.items;
+    cursor.items += 1;
+    Some(row_of(image, segment, section))
+}
+
+// How many sections the segment at a place has, or 0 where no segment can be.
+fn nsects_at(image: Bytes, segment: u64) -> u64
+    ensures count { result ≡ nsects_at (bytes_of image.entry) segment }
+    ensures inside { 0 < result → segment + 72 + 80 * result ≤ length (bytes_of image.entry) }
+    ensures near { result < 2 ^ 32 }
+{
+    if segment < MACH_HEADER_64_SIZE {
+        return 0;
+    }
+    match load_at(image, segment) {
+        Some(load) if is_segment(image, load) => {
+            u64::from(image.read_u32(Order::Little, segment + NSECTS))
+        }
+        _ => 0,
     }
 }
 
 // The row of a section.
-fn row_of<'a>(section: Section<'a>) -> KesvuotSection<'a>
-    ensures { section_shown result ≡ section_row section.entry }
+fn row_of(image: &Held, segment: u64, section: u64) -> KesvuotSection
+    requires segment { segment + 72 ≤ length (bytes_of image.now.bytes) }
+    requires section { section + 80 ≤ length (bytes_of image.now.bytes) }
+    ensures { result ≡ section_row image.now.place (bytes_of image.now.bytes) segment section }
 {
+    let bytes = image.bytes;
+    let size = bytes.read_u64(Order::Little, section + SIZE);
+    let offset = bytes.read_u32(Order::Little, section + OFFSET);
+    let flags = bytes.read_u32(Order::Little, section + FLAGS);
     KesvuotSection {
-        name: section.name(),
-        segment: section.segment().name(),
-        bytes: bytes_of(&section),
-        addr: section.addr(),
-        size: section.size(),
-        offset: section.offset() as u32,
-        align: section.align() as u32,
-        reloff: section.reloff() as u32,
-        nreloc: section.nreloc() as u32,
-        flags: section.flags() as u32,
-        reserved1: section.reserved1() as u32,
-        reserved2: section.reserved2() as u32,
-        zero_fill: u32::from(section.is_zero_fill()),
+        name: image.short_name(section),
+        segment: image.short_name(segment + SEGNAME),
+        bytes: bytes_of(image, offset, size, flags),
+        addr: bytes.read_u64(Order::Little, section + ADDR),
+        size,
+        offset,
+        align: bytes.read_u32(Order::Little, section + ALIGN),
+        reloff: bytes.read_u32(Order::Little, section + RELOFF),
+        nreloc: bytes.read_u32(Order::Little, section + NRELOC),
+        flags,
+        reserved1: bytes.read_u32(Order::Little, section + RESERVED1),
+        reserved2: bytes.read_u32(Order::Little, section + RESERVED2),
+        zero_fill: u32::from(is_zero_fill(flags)),
     }
 }
 
-// The bytes of a section in the image: none if it is zero-fill.
-fn bytes_of<'a>(section: &Section<'a>) -> &'a [u8]
-    ensures { result.now ≡ section_bytes section.now.image section.now.place }
+// Where the bytes of a section lie in the file: nowhere if it is zero-fill.
+fn bytes_of(image: &Held, offset: u32, size: u64, flags: u32) -> KesvuotSpan
+    ensures { result ≡ section_span image.now.place (bytes_of image.now.bytes) offset size flags }
 {
-    if section.is_zero_fill() {
-        return &[];
+    if is_zero_fill(flags) {
+        return NO_SPAN;
     }
-    part_or_none(section.segment().image(), section.file_part())
+    image.part(u64::from(offset), size)
 }
+
+// Whether the type in these flags of a section has no bytes in the file.
+fn is_zero_fill(flags: u32) -> bool
+    ensures { result ≡ fills_zeros flags }
+{
+    matches!(
+        flags & SECTION_TYPE,
+        S_ZEROFILL | S_GB_ZEROFILL | S_THREAD_LOCAL_ZEROFILL
+    )
+}
+
+// The offset of `segname` in `segment_command_64`.
+const SEGNAME: u64 = 8;
+
+// The offsets of the fields in `section_64`, of which the first is `sectname`.
+const ADDR: u64 = 32;
+
+const SIZE: u64 = 40;
+
+const OFFSET: u64 = 48;
+
+const ALIGN: u64 = 52;
+
+const RELOFF: u64 = 56;
+
+const NRELOC: u64 = 60;
+
+const FLAGS: u64 = 64;
+
+const RESERVED1: u64 = 68;
+
+const RESERVED2: u64 = 72;

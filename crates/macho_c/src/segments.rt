@@ -1,137 +1,139 @@
 //! The segments of an image.
 
-ghost use Rattle.std.specs.Prelude.{◌≡◌};
-ghost use Rattle.macho_c.specs.Rows.{IsTable};
-ghost use Rattle.macho_c.specs.Segments.{segment_bytes, segment_shown, segment_row, segment_rows};
+ghost use Rattle.std.specs.Prelude.{◌≡◌, ◌+◌, ◌≤◌, length, None};
+ghost use Rattle.macho_fields.specs.Bytes.{bytes_of};
+ghost use Rattle.macho_c.specs.Cursor.{start, IsBatch};
+ghost use Rattle.macho_c.specs.Image.{image_in};
+ghost use Rattle.macho_c.specs.Rows.{HasHeaders};
+ghost use Rattle.macho_c.specs.Segments.{segment_row, segments_left, all_segments, last_address, sections_past};
 
+use crate::cursor::KesvuotCursor;
 use crate::image::KesvuotImage;
-use crate::parts::part_or_none;
-use crate::table::fill;
-use macho_image::{Image, Segment, Segments};
-use std::marker::Model;
+use crate::load::{Wanted, next_wanted};
+use crate::span::{Held, KesvuotSpan};
+use crate::table::{Table, fill};
+use macho_fields::Order;
+use macho_fields::header::loader::segment_command_64::NSECTS;
 
 /// A segment. (`segment_command_64`)
 #[repr(C)]
 #[derive(Clone, Copy)]
-pub struct KesvuotSegment<'a> {
-    pub name: &'a [u8],
-    /// Its bytes in the image.
-    pub bytes: &'a [u8],
+pub struct KesvuotSegment {
+    pub name: KesvuotSpan,
+    /// Its bytes in the file.
+    pub bytes: KesvuotSpan,
     pub vmaddr: u64,
     pub vmsize: u64,
+    /// Its last address, or 0 where it is not mapped.
+    pub last: u64,
     pub fileoff: u64,
     pub filesize: u64,
     /// The index of its first section among those of all segments, and how many it has.
-    pub first_section: u32,
+    pub first_section: u64,
     pub section_count: u32,
     pub maxprot: u32,
     pub initprot: u32,
+    /// Reserved: 0.
+    pub reserved: u32,
 }
 
-/// Writes the segments from index `first` on to the rows of the table, until either runs out, and
-/// returns how many it wrote. Later rows are unchanged.
+/// Writes the segments from the cursor on to the rows of the table, until either runs out, moves the
+/// cursor past them, and returns how many it wrote. Later rows are unchanged.
 #[unsafe(no_mangle)]
-pub extern "C" fn kesvuot_segments<'a>(
-    image: &KesvuotImage<'a>,
-    first: u64,
-    rows: &mut [KesvuotSegment<'a>],
+pub extern "C" fn kesvuot_read_segments(
+    file: &[u8],
+    image: &KesvuotImage,
+    cursor: &mut KesvuotCursor,
+    rows: &mut [KesvuotSegment],
 ) -> usize
-    ensures { IsTable image.now.bytes.now segment_shown (segment_rows image.now.bytes.now) first result
-        rows.old rows.new }
+    ensures rows { IsBatch (segments_left image.now.slice.offset (image_in file.now image.now))
+        cursor.old cursor.new result rows.old rows.new }
+    ensures all { HasHeaders (image_in file.now image.now) None
+        → segments_left image.now.slice.offset (image_in file.now image.now) start
+        ≡ all_segments image.now.slice.offset (image_in file.now image.now) }
 {
-    match image.open() {
-        Some(image) => {
-            let segments = NumberedSegments::of(&image);
-            fill(segments.skip(first as usize).map(row_of), rows)
-        }
-        None => 0,
+    let segments = Segments {
+        image: image.held(file),
+    };
+    fill(&segments, cursor, rows)
+}
+
+// The segments of an image.
+#[derive(Clone, Copy)]
+struct Segments<'a> {
+    image: Held<'a>,
+}
+
+impl<'a> Table for Segments<'a> {
+    ghost use Rattle.macho_fields.specs.Bytes.{bytes_of};
+    ghost use Rattle.macho_c.specs.Segments.{segments_left};
+
+    type Row = KesvuotSegment;
+
+    ghost left = { λ t. segments_left t.image.place (bytes_of t.image.bytes) };
+
+    fn next(&self, cursor: &mut KesvuotCursor) -> Option<KesvuotSegment> {
+        let load = next_wanted(self.image.bytes, cursor, Wanted::Segments)?;
+        let row = row_of(&self.image, load.place, cursor.items);
+        cursor.items = sections_past(cursor.items, row.section_count);
+        Some(row)
     }
 }
 
-// The row of a segment.
-fn row_of<'a>(numbered: Numbered<'a>) -> KesvuotSegment<'a>
-    ensures { segment_shown result ≡ segment_row numbered.entry }
+// The row of a segment, with the number of the sections before its own.
+fn row_of(image: &Held, segment: u64, sections: u64) -> KesvuotSegment
+    requires { segment + 72 ≤ length (bytes_of image.now.bytes) }
+    ensures { result ≡ segment_row image.now.place (bytes_of image.now.bytes) sections segment }
 {
-    let segment = numbered.segment;
+    let bytes = image.bytes;
+    let vmaddr = bytes.read_u64(Order::Little, segment + VMADDR);
+    let vmsize = bytes.read_u64(Order::Little, segment + VMSIZE);
+    let fileoff = bytes.read_u64(Order::Little, segment + FILEOFF);
+    let filesize = bytes.read_u64(Order::Little, segment + FILESIZE);
     KesvuotSegment {
-        name: segment.name(),
-        bytes: bytes_of(&segment),
-        vmaddr: segment.vmaddr(),
-        vmsize: segment.vmsize(),
-        fileoff: segment.fileoff(),
-        filesize: segment.filesize(),
-        first_section: numbered.sections,
-        section_count: segment.nsects() as u32,
-        maxprot: segment.maxprot() as u32,
-        initprot: segment.initprot() as u32,
+        name: image.short_name(segment + SEGNAME),
+        bytes: image.part(fileoff, filesize),
+        vmaddr,
+        vmsize,
+        last: last_address(vmaddr, vmsize),
+        fileoff,
+        filesize,
+        first_section: sections,
+        section_count: bytes.read_u32(Order::Little, segment + NSECTS),
+        maxprot: bytes.read_u32(Order::Little, segment + MAXPROT),
+        initprot: bytes.read_u32(Order::Little, segment + INITPROT),
+        reserved: 0,
     }
 }
 
-// The bytes of a segment in the image.
-pub(crate) fn bytes_of<'a>(segment: &Segment<'a>) -> &'a [u8]
-    ensures { result.now ≡ segment_bytes segment.now.image segment.now.place }
+// The last of the addresses from `start` on: below 2^64, and 0 where there are none.
+fn last_address(start: u64, size: u64) -> u64
+    ensures { result ≡ last_address start size }
 {
-    part_or_none(segment.image(), segment.file_part())
-}
-
-// A segment, with the number of the sections before its own.
-#[derive(Drop)]
-struct Numbered<'a> {
-    segment: Segment<'a>,
-    sections: u32,
-}
-
-// The segments of an image that remain, each with the number of the sections before its own.
-#[derive(Drop)]
-struct NumberedSegments<'a> {
-    segments: Segments<'a>,
-    // The number of the sections before those of the segments that remain.
-    sections: u32,
-}
-
-impl<'a> Model for NumberedSegments<'a> {
-    ghost use Rattle.std.specs.Prelude.{List};
-    ghost use Rattle.macho_c.specs.Numbered.{AreFew};
-    ghost use Rattle.macho_c.specs.Segments.{numbered};
-    ghost use Rattle.macho_c.specs.declared.segments.Numbered.{Numbered};
-
-    ghost Value = { List Numbered };
-
-    ghost view = { λ n. numbered n.sections n.segments };
-
-    ghost invariant = { λ n. AreFew n.sections n.segments };
-}
-
-impl<'a> Iterator for NumberedSegments<'a> {
-    ghost use Rattle.std.specs.Iterator.{YieldsFirst, item_count};
-
-    type Item = Numbered<'a>;
-
-    ghost next_gives = { YieldsFirst (λ left. left) };
-
-    ghost remaining = { item_count (λ left. left) };
-
-    fn next(&mut self) -> Option<Numbered<'a>> {
-        let segment = self.segments.next()?;
-        let sections = self.sections;
-        self.sections += segment.nsects() as u32;
-        Some(Numbered { segment, sections })
+    if size == 0 {
+        return 0;
     }
+    start.saturating_add(size - 1)
 }
 
-impl<'a> NumberedSegments<'a> {
-    ghost use Rattle.std.specs.Prelude.{◌≡◌};
-    ghost use Rattle.macho_c.specs.Segments.{segments_in};
-
-    // All segments of an image, in the order of the commands.
-    fn of(image: &Image<'a>) -> NumberedSegments<'a>
-        ensures { result ≡ segments_in image.now }
-    {
-        // The sections lie among the commands, so their number is below 2^32.
-        prove!(image.commands_end() <= u64::MAX);
-        NumberedSegments {
-            segments: image.segments(),
-            sections: 0,
-        }
-    }
+// How many sections there are up to the end of a segment, or 2^64 - 1 if there were more.
+fn sections_past(before: u64, own: u32) -> u64
+    ensures { result ≡ sections_past before own }
+{
+    before.saturating_add(u64::from(own))
 }
+
+// The offsets of the fields in `segment_command_64`.
+const SEGNAME: u64 = 8;
+
+const VMADDR: u64 = 24;
+
+const VMSIZE: u64 = 32;
+
+const FILEOFF: u64 = 40;
+
+const FILESIZE: u64 = 48;
+
+const MAXPROT: u64 = 56;
+
+const INITPROT: u64 = 60;

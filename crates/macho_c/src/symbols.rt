@@ -1,73 +1,150 @@
-//! The symbols of an image.
+//! The symbols of an image, and their names.
 
-ghost use Rattle.std.specs.Prelude.{◌≡◌};
-ghost use Rattle.macho_c.specs.Image.{ShowsUnbroken};
-ghost use Rattle.macho_c.specs.Rows.{IsFilled};
-ghost use Rattle.macho_c.specs.Symbols.{symbol_shown, symbol_row, symbol_rows, name_at};
-ghost use Rattle.macho_c.specs.Symbols.{GivesAllSymbols};
+ghost use Rattle.std.specs.Prelude.{◌≡◌, ◌+◌, ◌<◌, length, IfSome};
+ghost use Rattle.std.specs.Option.{option_map};
+ghost use Rattle.macho_fields.specs.Bytes.{bytes_of};
+ghost use Rattle.macho_c.specs.Cursor.{start, IsBatch};
+ghost use Rattle.macho_c.specs.Image.{image_in, ShowsUnbroken};
+ghost use Rattle.macho_c.specs.Symbols.{symbol_row, symbols_left, HasAllSymbols};
+ghost use Rattle.macho_c.specs.Symbols.{name_at, section_of, IsName, NamesSymbols};
 
+use crate::cursor::KesvuotCursor;
 use crate::image::KesvuotImage;
-use crate::parts::{ended_string, part_or_none, rest};
-use crate::table::fill;
+use crate::parts::{first_string, part_or_none, rest};
+use crate::span::{KesvuotSpan, NO_SPAN};
+use crate::status::{NONE, OK};
+use crate::table::{Table, fill};
 use macho_fields::{Bytes, Span};
 use macho_image::{Symbol, Symbols};
+
+/// The index of no section.
+const NO_SECTION: u32 = u32::MAX;
 
 /// A symbol. (`nlist_64`)
 #[repr(C)]
 #[derive(Clone, Copy)]
-pub struct KesvuotSymbol<'a> {
-    /// Its name without the zero byte that ends it. None where `strx` is 0.
-    pub name: &'a [u8],
+pub struct KesvuotSymbol {
     pub value: u64,
+    /// Where its name begins in the strings, or 0 if it has none.
     pub strx: u32,
+    /// The index of the section with the number `sect`, or `NO_SECTION`.
+    pub section: u32,
     pub desc: u16,
     /// `n_type`
     pub kind: u8,
     pub sect: u8,
+    /// Reserved: 0.
+    pub reserved: u32,
 }
 
-/// Writes the symbols from index `first` on to the rows of the table, until either runs out, and
-/// returns how many it wrote. Later rows are unchanged. It does not scan the symbols before them.
+/// Writes the symbols from the cursor on to the rows of the table, until either runs out, moves the
+/// cursor past them, and returns how many it wrote. Later rows are unchanged. It does not scan the
+/// symbols before them.
 #[unsafe(no_mangle)]
-pub extern "C" fn kesvuot_symbols<'a>(
-    image: &KesvuotImage<'a>,
-    first: u64,
-    rows: &mut [KesvuotSymbol<'a>],
+pub extern "C" fn kesvuot_read_symbols(
+    file: &[u8],
+    image: &KesvuotImage,
+    cursor: &mut KesvuotCursor,
+    rows: &mut [KesvuotSymbol],
 ) -> usize
-    ensures rows { IsFilled symbol_shown (symbol_rows image.now) first result rows.old rows.new }
-    ensures accepted { ShowsUnbroken image.now
-        → GivesAllSymbols image.now.bytes.now first result rows.old rows.new }
+    ensures rows { IsBatch (symbols_left (image_in file.now image.now) image.now) cursor.old cursor.new
+        result rows.old rows.new }
+    ensures all { ShowsUnbroken file.now image.now
+        → HasAllSymbols (image_in file.now image.now)
+        (symbols_left (image_in file.now image.now) image.now start) }
 {
-    let symbols = Symbols::in_table(Bytes::new(image.bytes), image.symbols, image.symbol_count);
-    let wanted = symbols.range(first, rows.len() as u64);
-    fill(wanted.map(|symbol| row_of(image, symbol)), rows)
+    let symbols = SymbolTable {
+        bytes: image.held(file).bytes,
+        image,
+    };
+    fill(&symbols, cursor, rows)
 }
 
-// The row of a symbol.
-fn row_of<'a>(image: &KesvuotImage<'a>, symbol: Symbol) -> KesvuotSymbol<'a>
-    ensures { symbol_shown result ≡ symbol_row image.now symbol }
+/// Writes where the name at `strx` in the strings lies in the file. The status is `OK`, or `NONE` where
+/// `strx` is 0, and where no zero byte of the strings ends a name there.
+#[unsafe(no_mangle)]
+pub extern "C" fn kesvuot_symbol_name(
+    file: &[u8],
+    image: &KesvuotImage,
+    strx: u32,
+    name: &mut KesvuotSpan,
+) -> u32
+    ensures name { IsName (image_in file.now image.now) image.now strx result name.new }
+    ensures all { ShowsUnbroken file.now image.now
+        → NamesSymbols (image_in file.now image.now) image.now.slice.offset strx result name.new }
 {
-    KesvuotSymbol {
-        name: name_at(image, symbol.strx),
-        value: symbol.value,
-        strx: symbol.strx,
-        desc: symbol.desc,
-        kind: symbol.kind,
-        sect: symbol.sect,
+    *name = NO_SPAN;
+    let held = image.held(file);
+    match string_at(held.bytes, image, strx) {
+        Some(string) => {
+            *name = held.span_of(image.strings + u64::from(strx), string);
+            OK
+        }
+        None => NONE,
     }
 }
 
-// The name at `strx` in the strings, which must end in them.
-fn name_at<'a>(image: &KesvuotImage<'a>, strx: u32) -> &'a [u8]
-    ensures { result.now ≡ name_at image.now strx }
+// The name at `strx` in the strings, if a zero byte of them ends it.
+fn string_at<'a>(bytes: Bytes<'a>, image: &KesvuotImage, strx: u32) -> Option<&'a [u8]>
+    ensures name { option_map (λ name. name.now) result ≡ name_at (bytes_of bytes.entry) image.now strx }
+    ensures inside { IfSome result (λ name.
+        image.now.strings + strx < length (bytes_of bytes.entry)) }
 {
     if strx == 0 {
-        return &[];
+        return None;
     }
     let strings = Span {
         start: image.strings,
         len: image.strings_size,
     };
-    let bytes = part_or_none(Bytes::new(image.bytes), strings);
-    ended_string(rest(bytes, u64::from(strx)))
+    first_string(rest(part_or_none(bytes, strings), u64::from(strx)))
+}
+
+// The symbols of an image, by the numbers of its struct.
+#[derive(Clone, Copy)]
+struct SymbolTable<'a> {
+    bytes: Bytes<'a>,
+    image: &'a KesvuotImage,
+}
+
+impl<'a> Table for SymbolTable<'a> {
+    ghost use Rattle.macho_fields.specs.Bytes.{bytes_of};
+    ghost use Rattle.macho_c.specs.Symbols.{symbols_left};
+
+    type Row = KesvuotSymbol;
+
+    ghost left = { λ t. symbols_left (bytes_of t.bytes) t.image.now };
+
+    fn next(&self, cursor: &mut KesvuotCursor) -> Option<KesvuotSymbol> {
+        let symbols = Symbols::in_table(self.bytes, self.image.symbols, self.image.symbol_count);
+        let symbol = symbols.range(cursor.items, 1).next()?;
+        prove!(self.bytes.len() <= u64::MAX);
+        cursor.items += 1;
+        Some(row_of(symbol, self.image.section_count))
+    }
+}
+
+// The row of a symbol of an image with so many sections.
+fn row_of(symbol: Symbol, sections: u64) -> KesvuotSymbol
+    ensures { result ≡ symbol_row sections symbol }
+{
+    KesvuotSymbol {
+        value: symbol.value,
+        strx: symbol.strx,
+        section: section_of(symbol.sect, sections),
+        desc: symbol.desc,
+        kind: symbol.kind,
+        sect: symbol.sect,
+        reserved: 0,
+    }
+}
+
+// The index of the section with this number, if there is one.
+fn section_of(sect: u8, sections: u64) -> u32
+    ensures { result ≡ section_of sect sections }
+{
+    if sect == 0 || u64::from(sect) > sections {
+        return NO_SECTION;
+    }
+    u32::from(sect) - 1
 }

@@ -1,10 +1,11 @@
 //! The parts of an image, read from its bytes by the structures of `<mach-o/loader.h>` and
 //! `<mach-o/nlist.h>` alone, and compared with what the crate gives.
 
-use kesvuot::{Image, Source};
+use kesvuot::{Image, Library, Source};
 
 const LC_SYMTAB: u32 = 0x2;
 const LC_DYSYMTAB: u32 = 0xb;
+const LC_ID_DYLIB: u32 = 0xd;
 const LC_SEGMENT_64: u32 = 0x19;
 const LC_UUID: u32 = 0x1b;
 const LC_BUILD_VERSION: u32 = 0x32;
@@ -127,10 +128,10 @@ fn compare_libraries(image: &Image, commands: &[Plain]) {
         let name = text(&bytes[word(bytes, 8) as usize..]);
         (name, *cmd, word(bytes, 16), word(bytes, 20))
     });
-    let found = image
-        .libraries()
-        .map(|found| (found.name, found.cmd, found.current, found.compatible));
-    assert_eq!(found.collect::<Vec<_>>(), wanted.collect::<Vec<_>>());
+    let (ids, loaded): (Vec<_>, Vec<_>) = wanted.partition(|wanted| wanted.1 == LC_ID_DYLIB);
+    let fields = |found: Library| (found.name, found.cmd, found.current, found.compatible);
+    assert_eq!(image.libraries().map(fields).collect::<Vec<_>>(), loaded);
+    assert_eq!(image.id().map(fields), ids.first().copied());
 
     let builds = all_of(commands, LC_BUILD_VERSION);
     let wanted = builds.map(|bytes| (word(bytes, 8), word(bytes, 12), word(bytes, 16)));
@@ -161,7 +162,12 @@ fn compare_segments(image: &Image, commands: &[Plain]) {
             (found.first_section, found.section_count),
             (first_section, word(bytes, 64))
         );
-        first_section += found.section_count;
+        first_section += u64::from(found.section_count);
+        let last = u128::from(found.vmaddr) + u128::from(found.vmsize);
+        assert_eq!(
+            found.last_address().map(u128::from),
+            last.checked_sub(1).filter(|_| found.vmsize > 0)
+        );
         let place = (filesize > 0).then(|| image.place() + fileoff);
         assert_eq!(image.place_of(found.bytes), place);
     }
@@ -212,16 +218,11 @@ fn compare_symbols(image: &Image, commands: &[Plain]) {
     assert_eq!(found, symtab.map(|_| [symoff, nsyms, stroff, strsize]));
     let symbols = part(image.bytes(), symoff, 16 * nsyms).chunks_exact(16);
     assert_eq!(image.symbols().len(), symbols.len());
-    let nameless = image.symbols_without_names();
-    assert_eq!(nameless.len(), symbols.len());
-    for ((found, mut nameless), bytes) in image.symbols().zip(nameless).zip(symbols) {
+    for (found, bytes) in image.symbols().zip(symbols) {
         let strx = word(bytes, 0);
         let name =
             (strx != 0).then(|| text(&part(image.bytes(), stroff, strsize)[strx as usize..]));
-        assert_eq!((found.name, found.strx), (name, strx));
-        assert_eq!(nameless.name, name.map(|_| &b""[..]));
-        nameless.name = name;
-        assert_eq!(nameless, found);
+        assert_eq!((image.name(&found), found.strx), (name, strx));
         assert_eq!(
             (found.kind, found.sect, found.desc),
             (bytes[4], bytes[5], half(bytes, 6))

@@ -1,8 +1,10 @@
-use Rattle.std.proofs.Common.{inl, refl, subst}
+use Rattle.std.proofs.Common.{inl, refl, subst, ◌∙◌}
+use Rattle.macho_c.specs.Image.{Shows}
 use Rattle.macho_c.specs.Rows.{HasHeaders}
 use Rattle.macho_c.proofs.image.read_image.Goals as goal
 
 pub returns-in-Ok : goal.returns-in-Ok
 returns-in-Ok c =
     let slice = c.args.slice.now in
-    inl (refl, subst (λ bytes. HasHeaders bytes slice.arch) c.new.ensures c.in-Ok.ensures.decides, c.row_of.ensures)
+    let same = c.in-Ok.ensures.image ∙ c.new.ensures in
+    inl (refl, subst (λ bytes. HasHeaders bytes slice.arch) c.new.ensures c.in-Ok.ensures.decides, subst (λ bytes. Shows bytes slice.span.start c.row_of.result) same c.row_of.ensures)

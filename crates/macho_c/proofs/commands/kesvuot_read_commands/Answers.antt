@@ -1,0 +1,10 @@
+use Rattle.std.proofs.Common.{map, ap}
+use Rattle.macho_c.specs.Commands.{command_row}
+use Rattle.macho_c.specs.Image.{image_in}
+use Rattle.macho_c.proofs.AllCommands.{has_opened, all_wanted}
+use Rattle.macho_c.proofs.commands.kesvuot_read_commands.Goals as goal
+
+pub returns-clause-all : goal.returns-clause-all
+returns-clause-all c = λ kept.
+    let image = image_in c.args.file.now c.args.image.now in
+    ap (map (command_row c.args.image.now.slice.offset image)) (all_wanted image (has_opened image kept))

@@ -1,0 +1,10 @@
+use Rattle.std.proofs.Common.{ap}
+use Rattle.macho_c.specs.Image.{image_in}
+use Rattle.macho_c.specs.Segments.{segment_rows}
+use Rattle.macho_c.proofs.AllCommands.{has_opened, segments_wanted}
+use Rattle.macho_c.proofs.segments.kesvuot_read_segments.Goals as goal
+
+pub returns-clause-all : goal.returns-clause-all
+returns-clause-all c = λ kept.
+    let image = image_in c.args.file.now c.args.image.now in
+    ap (segment_rows c.args.image.now.slice.offset image 0) (segments_wanted image (has_opened image kept))

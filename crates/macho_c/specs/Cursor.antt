@@ -1,0 +1,17 @@
+-- A batch of rows of a table, which a cursor of the caller reads on.
+use Rattle.std.specs.Prelude.{◌≡◌, ℕ, ◌≤◌, ◌⊎◌, List, [], ◌++◌, length, take, drop}
+use Rattle.macho_c.specs.declared.cursor.KesvuotCursor.{KesvuotCursor}
+
+-- the cursor of the first row of any table
+abbrev pub start : KesvuotCursor
+start = record { place = 0; commands = 0; segment = 0; items = 0 }
+
+-- `left` has the rows that remain at a cursor, which was `before` and now is `after`. The table had
+-- `old`, and has `new`: the first n rows of it and those that now remain are those that remained before.
+-- The table is full, or none remain. Its other rows are as they were.
+pub record IsBatch {R : Type 0} (left : KesvuotCursor → List R) (before after : KesvuotCursor)
+    (n : ℕ) (old new : List R) : Type 0 where
+  pub room : n ≤ length old
+  pub rows : left before ≡ take n new ++ left after
+  pub full : (n ≡ length old) ⊎ (left after ≡ [])
+  pub rest : drop n new ≡ drop n old
