@@ -136,27 +136,30 @@ static void *room_for_rows(uint64_t count, size_t size) {
     return rows;
 }
 
-#define READ(image, table, row, count) \
-    kesvuot_##table((image), 0, room_for_rows((image)->count, sizeof(row)), (size_t)(image)->count)
+#define READ(table, row, count)                                                                                  \
+    (cursor = (struct kesvuot_cursor){0}, kesvuot_read_##table(file->bytes, file->size, &image, &cursor,         \
+                                                               room_for_rows(image.count, sizeof(row)),          \
+                                                               (size_t)image.count))
 
 // Whether the file has a slice with this index, and its image.
 static bool has_slice(const struct file *file, uint64_t index, struct kesvuot_image *image) {
-    uint32_t status = kesvuot_image(file->bytes, file->size, index, image);
+    uint32_t status = kesvuot_read_image(file->bytes, file->size, index, image);
     return status == KESVUOT_OK || status == KESVUOT_UNREAD;
 }
 
 // All rows of all images.
 static uint64_t all_rows(const struct file *file) {
     struct kesvuot_image image;
+    struct kesvuot_cursor cursor;
     uint64_t sum = 0;
     for (uint64_t k = 0; has_slice(file, k, &image); k++) {
-        sum += READ(&image, segments, struct kesvuot_segment, segment_count);
-        sum += READ(&image, sections, struct kesvuot_section, section_count);
-        sum += READ(&image, libraries, struct kesvuot_library, library_count);
-        sum += READ(&image, builds, struct kesvuot_build, build_count);
-        sum += READ(&image, commands, struct kesvuot_command, command_count);
-        sum += READ(&image, symbols, struct kesvuot_symbol, symbol_count);
-        sum += READ(&image, indirects, uint32_t, indirect_count);
+        sum += READ(segments, struct kesvuot_segment, segment_count);
+        sum += READ(sections, struct kesvuot_section, section_count);
+        sum += READ(libraries, struct kesvuot_library, library_count);
+        sum += READ(builds, struct kesvuot_build, build_count);
+        sum += READ(commands, struct kesvuot_command, command_count);
+        sum += READ(symbols, struct kesvuot_symbol, symbol_count);
+        sum += READ(indirects, uint32_t, indirect_count);
     }
     return sum;
 }
@@ -204,9 +207,9 @@ static void measure(uint64_t (*judge)(const struct file *), int descriptor, size
 }
 
 static void print_verdict(void) {
-    struct kesvuot_bytes rule;
-    if (kesvuot_rule(verdict.rule, &rule) == KESVUOT_OK) {
-        printf("refused: %s at 0x%" PRIx64 "\n", (const char *)rule.at, verdict.place);
+    const char *rule = kesvuot_rule_name(verdict.rule);
+    if (rule != NULL) {
+        printf("refused: %s at 0x%" PRIx64 "\n", rule, verdict.place);
     } else {
         printf("accepted, slices %" PRIu64 "\n", verdict.slices);
     }

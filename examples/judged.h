@@ -45,10 +45,7 @@ static inline bool read_stream(FILE *stream, struct judged *file) {
 }
 
 static inline int print_refusal(const char *path, const struct kesvuot_verdict *verdict) {
-    struct kesvuot_bytes rule;
-    kesvuot_rule(verdict->rule, &rule);
-    // A zero byte follows the name of a rule.
-    fprintf(stderr, "%s: refused: %s at 0x%" PRIx64 "\n", path, (const char *)rule.at, verdict->place);
+    fprintf(stderr, "%s: refused: %s at 0x%" PRIx64 "\n", path, kesvuot_rule_name(verdict->rule), verdict->place);
     return REFUSED;
 }
 
@@ -83,10 +80,11 @@ static inline int finish(struct judged *file, int status) {
 }
 
 // Prints a name. Any byte that is not printable ASCII is written as a number.
-static inline void print_name(struct kesvuot_bytes name) {
-    for (size_t k = 0; k < name.len; k++) {
-        bool is_plain = name.at[k] >= 0x20 && name.at[k] <= 0x7e && name.at[k] != '\\';
-        printf(is_plain ? "%c" : "\\x%02x", name.at[k]);
+static inline void print_name(const struct judged *file, struct kesvuot_span name) {
+    const uint8_t *bytes = file->bytes + name.offset;
+    for (uint64_t k = 0; k < name.size; k++) {
+        bool is_plain = bytes[k] >= 0x20 && bytes[k] <= 0x7e && bytes[k] != '\\';
+        printf(is_plain ? "%c" : "\\x%02x", bytes[k]);
     }
 }
 

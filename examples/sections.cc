@@ -24,9 +24,6 @@
 
 namespace {
 
-// The call kesvuot_image hides the structure of the same name. With `struct` before it, C++ finds the structure.
-using Image = struct kesvuot_image;
-
 using Bytes = std::vector<unsigned char>;
 
 // Reads a file into memory, where nobody else can change it.
@@ -39,8 +36,9 @@ Bytes read(const char *path) {
     return bytes;
 }
 
-std::string_view text(kesvuot_bytes bytes) {
-    return {reinterpret_cast<const char *>(bytes.at), bytes.len};
+// A part of a file as text.
+std::string_view text(const Bytes &file, kesvuot_span span) {
+    return {reinterpret_cast<const char *>(file.data()) + span.offset, span.size};
 }
 
 struct Refused : std::runtime_error {
@@ -54,11 +52,9 @@ std::uint64_t judge(const Bytes &file) {
     case KESVUOT_OK:
         return verdict.slices;
     case KESVUOT_REFUSED: {
-        kesvuot_bytes rule;
-        kesvuot_rule(verdict.rule, &rule);
         char place[32];
         std::snprintf(place, sizeof place, " at 0x%jx", static_cast<std::uintmax_t>(verdict.place));
-        throw Refused("refused: " + std::string(text(rule)) + place);
+        throw Refused(std::string("refused: ") + kesvuot_rule_name(verdict.rule) + place);
     }
     default:
         throw std::bad_alloc();
@@ -66,20 +62,22 @@ std::uint64_t judge(const Bytes &file) {
 }
 
 // All rows of a table, by one call.
-template <typename Row, typename Call> std::vector<Row> rows(const Image &image, Call call, std::uint64_t count) {
+template <typename Row, typename Call>
+std::vector<Row> rows(const Bytes &file, const kesvuot_image &image, Call call, std::uint64_t count) {
     std::vector<Row> found(count);
-    found.resize(call(&image, 0, found.data(), found.size()));
+    kesvuot_cursor cursor{};
+    found.resize(call(file.data(), file.size(), &image, &cursor, found.data(), found.size()));
     return found;
 }
 
 // The index of the section in which a symbol is defined. mach-o/nlist.h has the masks. symbol-section: such a symbol is
-// in a section that exists. Of other symbols `sect` may be any number.
+// in a section that exists.
 std::optional<std::size_t> section_of(const kesvuot_symbol &symbol) {
     constexpr unsigned n_stab = 0xe0, n_type = 0x0e, n_sect = 0x0e;
     if ((symbol.type & n_stab) != 0 || (symbol.type & n_type) != n_sect) {
         return std::nullopt;
     }
-    return symbol.sect - 1u;
+    return symbol.section;
 }
 
 // A name. Any byte that is not printable ASCII is written as a question mark.
@@ -91,19 +89,17 @@ std::string plain(std::string_view name) {
     return shown;
 }
 
-void print_sections(const Image &image) {
-    const auto sections = rows<kesvuot_section>(image, kesvuot_sections, image.section_count);
+void print_sections(const Bytes &file, const kesvuot_image &image) {
+    const auto sections = rows<kesvuot_section>(file, image, kesvuot_read_sections, image.section_count);
     std::vector<std::uint64_t> counts(sections.size());
-    Image nameless = image;
-    nameless.strings_size = 0; // No name is needed, and many symbols can share a long one.
-    for (const auto &symbol : rows<kesvuot_symbol>(nameless, kesvuot_symbols, image.symbol_count)) {
+    for (const auto &symbol : rows<kesvuot_symbol>(file, image, kesvuot_read_symbols, image.symbol_count)) {
         if (const auto index = section_of(symbol)) {
             counts[*index]++;
         }
     }
     for (std::size_t index = 0; index < sections.size(); index++) {
         const auto &section = sections[index];
-        std::cout << plain(text(section.segment)) << ',' << plain(text(section.name)) << " 0x" << std::hex
+        std::cout << plain(text(file, section.segment)) << ',' << plain(text(file, section.name)) << " 0x" << std::hex
                   << section.addr << std::dec << ' ' << section.size << " bytes, " << counts[index] << " symbols\n";
     }
 }
@@ -119,9 +115,9 @@ int main(int argc, char **argv) {
         const Bytes file = read(argv[1]);
         const std::uint64_t slices = judge(file);
         for (std::uint64_t slice = 0; slice < slices; slice++) {
-            Image image;
-            if (kesvuot_image(file.data(), file.size(), slice, &image) == KESVUOT_OK) {
-                print_sections(image);
+            kesvuot_image image;
+            if (kesvuot_read_image(file.data(), file.size(), slice, &image) == KESVUOT_OK) {
+                print_sections(file, image);
             }
         }
         return std::cout.flush() ? 0 : 2;

@@ -12,151 +12,71 @@
 //     cc -std=c99 -O2 -Ibindings/c -o build/symbolize examples/symbolize.c build/lib/libkesvuot.a
 //
 // The file may be from a stranger. The library judges it once. After that no offset, count or index of the file is
-// tested: a comment says which rule of docs/RULES.md makes this safe.
-
+// tested. For many addresses, sort the symbols once instead.
 #include <ctype.h>
 #include <errno.h>
-#include <inttypes.h>
-#include <stdbool.h>
-#include <stdio.h>
-#include <stdlib.h>
 
 #include "judged.h"
-#include "kesvuot.h"
 
-// mach-o/nlist.h
-#define N_STAB 0xe0
-#define N_TYPE 0x0e
-#define N_SECT 0x0e
+enum { BATCH = 256, N_STAB = 0xe0, N_TYPE = 0x0e, N_SECT = 0x0e }; // N_..: mach-o/nlist.h
 
-// An image and its tables, with the symbols that name an address of a section, by section and address.
-struct tables {
-    struct kesvuot_image image;
-    struct kesvuot_segment *segments;
-    struct kesvuot_section *sections;
-    struct kesvuot_symbol *symbols;
-    const struct kesvuot_symbol **sorted;
-    size_t sorted_count;
-};
-
-// Room for `count` rows. table-range and command-short: each row is in the file, so it has no more rows than bytes.
-static void *new_rows(uint64_t count, size_t size) {
-    return calloc((size_t)count + 1, size);
-}
-
-// Symbols at the same address keep the order of the table.
-static int compare(const void *left, const void *right) {
-    const struct kesvuot_symbol *one = *(const struct kesvuot_symbol *const *)left;
-    const struct kesvuot_symbol *other = *(const struct kesvuot_symbol *const *)right;
-    if (one->sect != other->sect) {
-        return one->sect < other->sect ? -1 : 1;
-    }
-    if (one->value != other->value) {
-        return one->value < other->value ? -1 : 1;
-    }
-    return one < other ? -1 : one > other;
-}
-
-static bool names_section(const struct kesvuot_symbol *symbol) {
-    return (symbol->type & N_STAB) == 0 && (symbol->type & N_TYPE) == N_SECT;
-}
-
-static void sort_symbols(struct tables *tables) {
-    for (uint64_t k = 0; k < tables->image.symbol_count; k++) {
-        if (names_section(&tables->symbols[k])) {
-            tables->sorted[tables->sorted_count++] = &tables->symbols[k];
-        }
-    }
-    qsort(tables->sorted, tables->sorted_count, sizeof *tables->sorted, compare);
-}
-
-// Reads all rows. There are as many as the image says.
-static bool read_tables(struct tables *tables) {
-    const struct kesvuot_image *image = &tables->image;
-    tables->segments = new_rows(image->segment_count, sizeof *tables->segments);
-    tables->sections = new_rows(image->section_count, sizeof *tables->sections);
-    tables->symbols = new_rows(image->symbol_count, sizeof *tables->symbols);
-    tables->sorted = new_rows(image->symbol_count, sizeof *tables->sorted);
-    if (tables->segments == NULL || tables->sections == NULL || tables->symbols == NULL || tables->sorted == NULL) {
-        return false;
-    }
-    kesvuot_segments(image, 0, tables->segments, (size_t)image->segment_count);
-    kesvuot_sections(image, 0, tables->sections, (size_t)image->section_count);
-    // Without names, since the call would search for the end of each: many symbols can share a long name.
-    struct kesvuot_image nameless = *image;
-    nameless.strings_size = 0;
-    kesvuot_symbols(&nameless, 0, tables->symbols, (size_t)image->symbol_count);
-    sort_symbols(tables);
-    return true;
-}
-
-static void free_tables(struct tables *tables) {
-    free(tables->segments);
-    free(tables->sections);
-    free(tables->symbols);
-    free(tables->sorted);
-}
-
-// segment-address and section-address: no range passes 2^64.
-static bool is_in(uint64_t address, uint64_t start, uint64_t size) {
-    return start <= address && address - start < size;
-}
-
-// The section of an address, or NULL. segment-overlap: at most one segment has the address. section-address: no section
-// of another segment has it.
-static const struct kesvuot_section *section_at(const struct tables *tables, uint64_t address) {
-    for (uint64_t k = 0; k < tables->image.segment_count; k++) {
-        const struct kesvuot_segment *segment = &tables->segments[k];
-        if (!is_in(address, segment->vmaddr, segment->vmsize)) {
-            continue;
-        }
-        // command-short: a segment has all its nsects sections.
-        const struct kesvuot_section *section = tables->sections + segment->first_section;
-        for (uint32_t n = 0; n < segment->section_count; n++, section++) {
-            if (is_in(address, section->addr, section->size)) {
-                return section;
+// Finds the section of an address, and its index. segment-overlap and section-address: no section of another segment has
+// it. section-address: no range passes 2^64.
+static bool find_section(const struct judged *file, const struct kesvuot_image *image, uint64_t address,
+                         struct kesvuot_section *section, uint64_t *index) {
+    struct kesvuot_segment segment;
+    struct kesvuot_cursor of_segments = {0}, of_sections = {0};
+    *index = 0;
+    while (kesvuot_read_segments(file->bytes, file->size, image, &of_segments, &segment, 1) == 1) {
+        bool is_mapped = address >= segment.vmaddr && address - segment.vmaddr < segment.vmsize;
+        for (uint32_t k = 0; k < segment.section_count; k++, ++*index) {
+            kesvuot_read_sections(file->bytes, file->size, image, &of_sections, section, 1);
+            if (is_mapped && address >= section->addr && address - section->addr < section->size) {
+                return true;
             }
         }
     }
-    return NULL;
+    return false;
 }
 
-// The last symbol of a section at or before the address, or NULL. symbol-section: each n_sect is that of a section.
-static const struct kesvuot_symbol *symbol_at(const struct tables *tables, uint64_t sect, uint64_t address) {
-    size_t low = 0;
-    for (size_t high = tables->sorted_count; low < high;) {
-        size_t middle = low + (high - low) / 2;
-        const struct kesvuot_symbol *symbol = tables->sorted[middle];
-        if (symbol->sect < sect || (symbol->sect == sect && symbol->value <= address)) {
-            low = middle + 1;
-        } else {
-            high = middle;
+// Finds the last symbol of a section at or before an address.
+static bool find_symbol(const struct judged *file, const struct kesvuot_image *image, uint64_t section,
+                        uint64_t address, struct kesvuot_symbol *found) {
+    struct kesvuot_symbol rows[BATCH];
+    struct kesvuot_cursor cursor = {0};
+    bool is_found = false;
+    for (size_t count; (count = kesvuot_read_symbols(file->bytes, file->size, image, &cursor, rows, BATCH)) > 0;) {
+        for (size_t k = 0; k < count; k++) {
+            bool names_section = (rows[k].type & N_STAB) == 0 && (rows[k].type & N_TYPE) == N_SECT;
+            if (names_section && rows[k].section == section && rows[k].value <= address &&
+                (!is_found || rows[k].value >= found->value)) {
+                *found = rows[k];
+                is_found = true;
+            }
         }
     }
-    return low > 0 && tables->sorted[low - 1]->sect == sect ? tables->sorted[low - 1] : NULL;
+    return is_found;
 }
 
-static void print_line(const struct tables *tables, uint64_t address) {
-    const struct kesvuot_section *section = section_at(tables, address);
-    const struct kesvuot_symbol *symbol = NULL;
+static void print_line(const struct judged *file, const struct kesvuot_image *image, uint64_t address) {
+    struct kesvuot_section section;
+    struct kesvuot_symbol symbol;
+    struct kesvuot_span name;
+    uint64_t index;
+    bool has_section = find_section(file, image, address, &section, &index);
     printf("0x%" PRIx64 " ", address);
-    if (section != NULL) {
-        symbol = symbol_at(tables, (uint64_t)(section - tables->sections) + 1, address);
-    }
-    if (symbol != NULL) {
-        struct kesvuot_symbol named;
-        kesvuot_symbols(&tables->image, (uint64_t)(symbol - tables->symbols), &named, 1);
-        // symbol-name: the whole name is in the string table.
-        print_name(named.name);
-        printf(" + 0x%" PRIx64, address - symbol->value);
+    if (has_section && find_symbol(file, image, index, address, &symbol)) {
+        kesvuot_symbol_name(file->bytes, file->size, image, symbol.strx, &name);
+        print_name(file, name);
+        printf(" + 0x%" PRIx64, address - symbol.value);
     } else {
         putchar('?');
     }
-    if (section != NULL) {
+    if (has_section) {
         printf(" (");
-        print_name(section->segment);
+        print_name(file, section.segment);
         putchar(',');
-        print_name(section->name);
+        print_name(file, section.name);
         putchar(')');
     }
     putchar('\n');
@@ -170,31 +90,23 @@ static bool read_address(const char *word, uint64_t *address) {
     return isxdigit((unsigned char)word[0]) && *end == '\0' && errno == 0;
 }
 
-static int print_lines(const struct judged *file, char **words) {
-    struct tables tables = {.segments = NULL};
-    // fat-empty: some slice is read.
-    for (uint64_t k = 0; kesvuot_image(file->bytes, file->size, k, &tables.image) == KESVUOT_UNREAD; k++) {
-    }
-    int status = read_tables(&tables) ? ACCEPTED : fail("symbolize", "out of memory");
-    for (uint64_t address; status == ACCEPTED && *words != NULL; words++) {
-        if (read_address(*words, &address)) {
-            print_line(&tables, address);
-        } else {
-            status = fail(*words, "not an address");
-        }
-    }
-    free_tables(&tables);
-    return status;
-}
-
 int main(int argc, char **argv) {
     struct judged file;
+    struct kesvuot_image image;
     if (argc < 3) {
         return fail("usage", "symbolize FILE ADDRESS..");
     }
     int status = judge(argv[1], &file);
-    if (status == ACCEPTED) {
-        status = print_lines(&file, argv + 2);
+    // fat-empty: some slice is read.
+    for (uint64_t k = 0; status == ACCEPTED && kesvuot_read_image(file.bytes, file.size, k, &image) != KESVUOT_OK;) {
+        k++;
+    }
+    for (uint64_t address; status == ACCEPTED && *(argv + 2) != NULL; argv++) {
+        if (!read_address(argv[2], &address)) {
+            status = fail(argv[2], "not an address");
+        } else {
+            print_line(&file, &image, address);
+        }
     }
     return finish(&file, status);
 }

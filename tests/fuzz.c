@@ -47,7 +47,7 @@ enum accepted { REFUSED = 0, ACCEPTED, ACCEPTED_STRICTLY };
 // Counters
 
 // The kinds from RULES on are the rules, by their numbers.
-enum { TABLES = 0, SLICES = 9, IMAGE, AT, LINKEDIT, RULES, KINDS = RULES + 64 };
+enum { TABLES = 0, SLICES = 9, IMAGE, ADDRESS, DATA, NAME, RULES, KINDS = RULES + 64 };
 
 __attribute__((section("__libfuzzer_extra_counters"))) static uint8_t counters[64 * KINDS];
 
@@ -58,42 +58,68 @@ static void reach(unsigned kind, uint64_t number) {
     counters[64 * kind + (digits < 64 ? digits : 63)] = 1;
 }
 
-// Returned bytes
+// Returned spans
 
-static bool is_empty(struct kesvuot_bytes bytes) {
-    return bytes.len == 0;
+// The bytes of a file, or the first of them.
+struct file {
+    const uint8_t *bytes;
+    size_t size;
+};
+
+// An image of a file, as kesvuot_read_image wrote it, or with other numbers.
+struct held {
+    struct file file;
+    struct kesvuot_image image;
+};
+
+#define OF(held) (held)->file.bytes, (held)->file.size, &(held)->image
+
+static bool is_empty(struct kesvuot_span span) {
+    return span.size == 0;
 }
 
-// All bytes are of the image.
-static void check_inside(const struct kesvuot_image *image, struct kesvuot_bytes bytes) {
-    if (!is_empty(bytes)) {
-        CHECK(bytes.at >= image->bytes.at);
-        CHECK(bytes.len <= image->bytes.len);
-        CHECK((size_t)(bytes.at - image->bytes.at) <= image->bytes.len - bytes.len);
+static const uint8_t *bytes_at(const struct held *held, struct kesvuot_span span) {
+    return held->file.bytes + span.offset;
+}
+
+// The span lies in another one, or is empty and at 0.
+static void check_within(struct kesvuot_span whole, struct kesvuot_span span) {
+    if (is_empty(span)) {
+        CHECK(span.offset == 0);
+    } else {
+        CHECK(span.offset >= whole.offset);
+        CHECK(span.size <= whole.size);
+        CHECK(span.offset - whole.offset <= whole.size - span.size);
     }
 }
 
-// A name that ends before a zero byte of the image.
-static void check_ended(const struct kesvuot_image *image, struct kesvuot_bytes name) {
+// The span lies in the slice, and so in the file. Where the slice does not lie in the file, it is empty.
+static void check_inside(const struct held *held, struct kesvuot_span span) {
+    check_within((struct kesvuot_span){0, held->file.size}, span);
+    check_within(held->image.slice, span);
+}
+
+// A name that ends before a zero byte of the slice.
+static void check_ended(const struct held *held, struct kesvuot_span name) {
     if (!is_empty(name)) {
-        CHECK((size_t)(name.at - image->bytes.at) < image->bytes.len - name.len);
-        CHECK(name.at[name.len] == 0);
-        CHECK(memchr(name.at, 0, name.len) == NULL);
+        CHECK(name.offset - held->image.slice.offset < held->image.slice.size - name.size);
+        CHECK(bytes_at(held, name)[name.size] == 0);
+        CHECK(memchr(bytes_at(held, name), 0, name.size) == NULL);
     }
 }
 
-// The bytes are those of the image from an offset on, as many as there must be.
-static void check_part(const struct kesvuot_image *image, struct kesvuot_bytes bytes, uint64_t offset, uint64_t len) {
-    CHECK(bytes.len == len);
-    CHECK(len == 0 || bytes.at == image->bytes.at + offset);
+// The span is that of the slice from an offset on, of as many bytes as there must be.
+static void check_part(const struct held *held, struct kesvuot_span span, uint64_t offset, uint64_t size) {
+    CHECK(span.size == size);
+    CHECK(span.offset == (size == 0 ? 0 : held->image.slice.offset + offset));
 }
 
 // Tables
 
 // The calls, each with rows of no type.
 #define CALL(table)                                                                                                 \
-    static size_t read_##table(const struct kesvuot_image *image, uint64_t first, void *rows, size_t max) {         \
-        return kesvuot_##table(image, first, rows, max);                                                            \
+    static size_t read_##table(const struct held *held, struct kesvuot_cursor *cursor, void *rows, size_t max) {    \
+        return kesvuot_read_##table(OF(held), cursor, rows, max);                                                   \
     }
 CALL(segments)
 CALL(sections)
@@ -104,7 +130,7 @@ CALL(symbols)
 CALL(indirects)
 
 struct table {
-    size_t (*read)(const struct kesvuot_image *image, uint64_t first, void *rows, size_t max);
+    size_t (*read)(const struct held *held, struct kesvuot_cursor *cursor, void *rows, size_t max);
     size_t row_size;
     // The offset of the number of rows in the image.
     size_t count_at;
@@ -134,143 +160,148 @@ static bool is_unwritten(const uint8_t *bytes, size_t size) {
     return bytes[0] == UNWRITTEN && memcmp(bytes, bytes + 1, size - 1) == 0;
 }
 
-// Reads up to `max` rows, starting at index `first`, into a block of two more rows.
-static struct rows read_rows(const struct table *table, const struct kesvuot_image *image, uint64_t first, size_t max) {
+// Reads up to `max` rows from the cursor on into a block of two more rows.
+static struct rows read_rows(const struct table *table, const struct held *held, struct kesvuot_cursor *cursor,
+                             size_t max) {
     size_t size = (max + 2) * table->row_size;
     uint8_t *rows = malloc(size);
     CHECK(rows != NULL);
     memset(rows, UNWRITTEN, size);
-    size_t count = table->read(image, first, rows, max);
+    size_t count = table->read(held, cursor, rows, max);
     CHECK(count <= max);
     CHECK(is_unwritten(rows + count * table->row_size, size - count * table->row_size));
     return (struct rows){rows, count};
 }
 
 // Batches of some rows are the same rows.
-static void check_batches(const struct table *table, const struct kesvuot_image *image, const struct rows *all) {
+static void check_batches(const struct table *table, const struct held *held, const struct rows *all) {
     size_t each = all->count / 3 + 1;
+    struct kesvuot_cursor cursor = {0};
     for (size_t first = 0; first <= all->count; first += each) {
-        struct rows some = read_rows(table, image, first, each);
+        struct rows some = read_rows(table, held, &cursor, each);
         size_t rest = all->count - first;
         CHECK(some.count == (rest < each ? rest : each));
         CHECK(memcmp(some.rows, (uint8_t *)all->rows + first * table->row_size, some.count * table->row_size) == 0);
         free(some.rows);
     }
-    CHECK(table->read(image, UINT64_MAX, all->rows, all->count) == 0);
-    CHECK(table->read(image, 0, NULL, 0) == 0);
+    CHECK(table->read(held, &cursor, all->rows, all->count) == 0);
+    cursor = (struct kesvuot_cursor){UINT64_MAX, UINT64_MAX, UINT64_MAX, UINT64_MAX};
+    CHECK(table->read(held, &cursor, all->rows, all->count) == 0);
+    cursor = (struct kesvuot_cursor){0};
+    CHECK(table->read(held, &cursor, NULL, 0) == 0);
 }
 
-// Reads a table of an image as kesvuot_image has written it. It has as many rows as it says; symbols and indirect
+// Reads a table of an image as kesvuot_read_image has written it. It has as many rows as it says; symbols and indirect
 // entries may be fewer where the file is refused.
-static struct rows read_table(unsigned number, const struct kesvuot_image *image, enum accepted accepted) {
+static struct rows read_table(unsigned number, const struct held *held, enum accepted accepted) {
     const struct table *table = &tables[number];
+    struct kesvuot_cursor cursor = {0};
     uint64_t wanted;
-    memcpy(&wanted, (const uint8_t *)image + table->count_at, sizeof wanted);
+    memcpy(&wanted, (const uint8_t *)&held->image + table->count_at, sizeof wanted);
     // Of an image that was not judged, symbols and indirect entries may be said to be many more.
-    size_t max = wanted <= image->bytes.len ? (size_t)wanted : image->bytes.len;
-    struct rows all = read_rows(table, image, 0, max + 1);
+    size_t max = wanted <= held->file.size ? (size_t)wanted : held->file.size;
+    struct rows all = read_rows(table, held, &cursor, max + 1);
     CHECK(all.count == wanted || (!accepted && number >= SYMBOLS && all.count < wanted));
-    check_batches(table, image, &all);
+    check_batches(table, held, &all);
     reach(TABLES + number, all.count);
     return all;
 }
 
 // The rows of an image
 
-static void check_segments(const struct kesvuot_image *image, const struct rows *all, enum accepted accepted) {
+static void check_segments(const struct held *held, const struct rows *all, enum accepted accepted) {
     const struct kesvuot_segment *row = all->rows;
     uint64_t sections = 0;
     for (size_t k = 0; k < all->count; k++, row++) {
-        check_inside(image, row->name);
-        check_inside(image, row->bytes);
-        CHECK(row->name.len <= 16);
+        check_inside(held, row->name);
+        check_inside(held, row->bytes);
+        CHECK(row->name.size <= 16);
         if (accepted) {
-            check_part(image, row->bytes, row->fileoff, row->filesize);
-            CHECK(is_empty(row->bytes) || kesvuot_place(image, row->bytes) == image->place + row->fileoff);
+            check_part(held, row->bytes, row->fileoff, row->filesize);
+            CHECK(row->last == (row->vmsize == 0 ? 0 : row->vmaddr + (row->vmsize - 1)));
             CHECK(row->first_section == sections);
-            CHECK(row->vmsize == 0 || row->vmaddr <= UINT64_MAX - (row->vmsize - 1));
+            CHECK(row->vmsize == 0 || row->last >= row->vmaddr);
             CHECK(row->vmsize == 0 || row->filesize <= row->vmsize);
             sections += row->section_count;
         }
     }
-    CHECK(!accepted || sections == image->section_count);
+    CHECK(!accepted || sections == held->image.section_count);
 }
 
 // An address of a segment that is mapped is at the byte which the segment has for it, or at none.
-static void check_addresses(const struct kesvuot_image *image, const struct rows *all) {
+static void check_addresses(const struct held *held, const struct rows *all) {
     const struct kesvuot_segment *row = all->rows;
     for (size_t k = 0; k < all->count; k++, row++) {
-        struct kesvuot_bytes bytes;
+        struct kesvuot_span bytes;
         if (row->vmsize == 0) {
             continue;
         }
         if (row->filesize > 0) {
             uint64_t last = row->filesize - 1;
-            CHECK(kesvuot_at(image, row->vmaddr + last, &bytes) == KESVUOT_OK);
-            check_part(image, bytes, row->fileoff + last, 1);
+            CHECK(kesvuot_find_address(OF(held), row->vmaddr + last, &bytes) == KESVUOT_OK);
+            check_part(held, bytes, row->fileoff + last, 1);
         }
         if (row->filesize < row->vmsize) {
-            CHECK(kesvuot_at(image, row->vmaddr + row->filesize, &bytes) == KESVUOT_ZERO);
+            CHECK(kesvuot_find_address(OF(held), row->vmaddr + row->filesize, &bytes) == KESVUOT_ZERO);
             CHECK(is_empty(bytes));
         }
     }
 }
 
 // Each nonzero byte is in exactly one segment, and no other byte is in two.
-static void check_covered(const struct kesvuot_image *image, const struct rows *all) {
+static void check_covered(const struct held *held, const struct rows *all) {
     const struct kesvuot_segment *row = all->rows;
-    uint8_t *covered = calloc(image->bytes.len, 1);
+    uint8_t *covered = calloc(held->image.slice.size, 1);
     CHECK(covered != NULL);
     for (size_t k = 0; k < all->count; k++, row++) {
         if (!is_empty(row->bytes)) {
-            CHECK(memchr(covered + row->fileoff, 1, row->bytes.len) == NULL);
-            memset(covered + row->fileoff, 1, row->bytes.len);
+            CHECK(memchr(covered + row->fileoff, 1, row->bytes.size) == NULL);
+            memset(covered + row->fileoff, 1, row->bytes.size);
         }
     }
-    for (size_t k = 0; k < image->bytes.len; k++) {
-        CHECK(covered[k] || image->bytes.at[k] == 0);
+    for (size_t k = 0; k < held->image.slice.size; k++) {
+        CHECK(covered[k] || bytes_at(held, held->image.slice)[k] == 0);
     }
     free(covered);
 }
 
-static void check_sections(const struct kesvuot_image *image, const struct rows *all, enum accepted accepted) {
+static void check_sections(const struct held *held, const struct rows *all, enum accepted accepted) {
     const struct kesvuot_section *row = all->rows;
     for (size_t k = 0; k < all->count; k++, row++) {
-        check_inside(image, row->name);
-        check_inside(image, row->segment);
-        check_inside(image, row->bytes);
-        CHECK(row->name.len <= 16 && row->segment.len <= 16);
+        check_inside(held, row->name);
+        check_inside(held, row->segment);
+        check_inside(held, row->bytes);
+        CHECK(row->name.size <= 16 && row->segment.size <= 16);
         CHECK(row->zero_fill <= 1);
         CHECK(!row->zero_fill || is_empty(row->bytes));
         if (accepted && !row->zero_fill) {
-            check_part(image, row->bytes, row->offset, row->size);
+            check_part(held, row->bytes, row->offset, row->size);
         }
     }
 }
 
 // In a mapped segment each section of bytes is at its address.
-static void check_section_addresses(const struct kesvuot_image *image, const struct rows *segments,
+static void check_section_addresses(const struct held *held, const struct rows *segments,
                                     const struct rows *sections) {
     const struct kesvuot_segment *segment = segments->rows;
     for (size_t k = 0; k < segments->count; k++, segment++) {
         const struct kesvuot_section *section = (const struct kesvuot_section *)sections->rows + segment->first_section;
         for (uint32_t n = 0; segment->vmsize > 0 && n < segment->section_count; n++, section++) {
-            struct kesvuot_bytes bytes;
-            CHECK(section->segment.len == segment->name.len);
-            CHECK(is_empty(segment->name) || section->segment.at == segment->name.at);
+            struct kesvuot_span bytes;
+            CHECK(section->segment.size == segment->name.size && section->segment.offset == segment->name.offset);
             if (!is_empty(section->bytes)) {
-                CHECK(kesvuot_at(image, section->addr, &bytes) == KESVUOT_OK);
-                CHECK(bytes.at == section->bytes.at && bytes.len >= section->bytes.len);
+                CHECK(kesvuot_find_address(OF(held), section->addr, &bytes) == KESVUOT_OK);
+                CHECK(bytes.offset == section->bytes.offset && bytes.size >= section->bytes.size);
             }
         }
     }
 }
 
-static void check_libraries(const struct kesvuot_image *image, const struct rows *all) {
+static void check_libraries(const struct held *held, const struct rows *all) {
     const struct kesvuot_library *row = all->rows;
     for (size_t k = 0; k < all->count; k++, row++) {
-        check_inside(image, row->name);
-        check_ended(image, row->name);
+        check_inside(held, row->name);
+        check_ended(held, row->name);
         CHECK(row->reserved == 0);
     }
 }
@@ -291,18 +322,18 @@ static const struct listed {
 
 enum { LISTED_COUNT = sizeof listed_commands / sizeof listed_commands[0] };
 
-static uint32_t check_linkedit(const struct kesvuot_image *image, uint32_t cmd, struct kesvuot_bytes *data) {
-    *data = (struct kesvuot_bytes){NULL, 1};
-    uint32_t status = kesvuot_linkedit(image, cmd, data);
+static uint32_t check_data(const struct held *held, uint32_t cmd, struct kesvuot_span *data) {
+    *data = (struct kesvuot_span){1, 1};
+    uint32_t status = kesvuot_find_data(OF(held), cmd, data);
     CHECK(status == KESVUOT_OK || (status == KESVUOT_NONE && is_empty(*data)));
-    check_inside(image, *data);
-    reach(LINKEDIT, status);
+    check_inside(held, *data);
+    reach(DATA, status);
     return status;
 }
 
 // The data of an image that is accepted is what its first linkedit_data_command of each kind names.
-static void check_linkedits(const struct kesvuot_image *image, const struct rows *commands) {
-    struct kesvuot_bytes data;
+static void check_all_data(const struct held *held, const struct rows *commands) {
+    struct kesvuot_span data;
     for (size_t k = 0; k < LISTED_COUNT; k++) {
         const struct listed *listed = &listed_commands[k];
         const struct kesvuot_command *row = commands->rows, *end = row + commands->count;
@@ -310,76 +341,91 @@ static void check_linkedits(const struct kesvuot_image *image, const struct rows
             row++;
         }
         bool names_data = row < end && strcmp(listed->structure, "linkedit_data_command") == 0;
-        uint32_t status = check_linkedit(image, listed->cmd, &data);
+        uint32_t status = check_data(held, listed->cmd, &data);
         CHECK((status == KESVUOT_OK) == names_data);
         if (names_data) {
             uint32_t dataoff, datasize;
-            memcpy(&dataoff, row->bytes.at + 8, sizeof dataoff);
-            memcpy(&datasize, row->bytes.at + 12, sizeof datasize);
-            check_part(image, data, dataoff, datasize);
+            memcpy(&dataoff, bytes_at(held, row->bytes) + 8, sizeof dataoff);
+            memcpy(&datasize, bytes_at(held, row->bytes) + 12, sizeof datasize);
+            check_part(held, data, dataoff, datasize);
         }
     }
 }
 
 // The commands lie one after the other.
-static void check_commands(const struct kesvuot_image *image, const struct rows *all) {
+static void check_commands(const struct held *held, const struct rows *all) {
     const struct kesvuot_command *row = all->rows;
     uint64_t place = 32;
     for (size_t k = 0; k < all->count; k++, row++) {
-        check_inside(image, row->bytes);
-        check_inside(image, row->name);
-        check_ended(image, row->name);
-        check_part(image, row->bytes, place, row->bytes.len);
-        CHECK(row->place == place && row->bytes.len >= 8 && row->bytes.len % 8 == 0);
+        check_inside(held, row->bytes);
+        check_inside(held, row->name);
+        check_ended(held, row->name);
+        check_part(held, row->bytes, place, row->bytes.size);
+        CHECK(row->bytes.size >= 8 && row->bytes.size % 8 == 0);
         CHECK(row->reserved == 0);
-        place += row->bytes.len;
+        place += row->bytes.size;
     }
 }
 
-static void check_symbols(const struct kesvuot_image *image, const struct rows *all, enum accepted accepted) {
+// The name at this place in the strings.
+static uint32_t check_name(const struct held *held, uint32_t strx) {
+    struct kesvuot_span name = {1, 1};
+    uint32_t status = kesvuot_symbol_name(OF(held), strx, &name);
+    CHECK(status == KESVUOT_OK || (status == KESVUOT_NONE && is_empty(name)));
+    CHECK(status == KESVUOT_NONE || strx != 0);
+    check_inside(held, name);
+    check_ended(held, name);
+    CHECK(is_empty(name) || name.offset == held->image.slice.offset + held->image.strings + strx);
+    reach(NAME, status);
+    return status;
+}
+
+static void check_symbols(const struct held *held, const struct rows *all, enum accepted accepted) {
     const struct kesvuot_symbol *row = all->rows;
     for (size_t k = 0; k < all->count; k++, row++) {
+        bool has_section = row->sect > 0 && row->sect <= held->image.section_count;
+        CHECK(row->section == (has_section ? row->sect - 1u : KESVUOT_NO_SECTION));
+        CHECK(row->reserved == 0);
         // If many symbols share a long string, this would read it once for each.
         if (k < 99) {
-            check_inside(image, row->name);
-            check_ended(image, row->name);
+            uint32_t status = check_name(held, row->strx);
+            CHECK(!accepted || (status == KESVUOT_OK) == (row->strx != 0));
         }
         if (accepted && row->strx != 0) {
-            CHECK(row->strx < image->strings_size);
-            CHECK(image->bytes.at[image->strings + row->strx + row->name.len] == 0);
+            CHECK(row->strx < held->image.strings_size);
         }
         if (accepted && (row->type & N_STAB) == 0 && (row->type & N_TYPE) == N_SECT) {
-            CHECK(row->sect > 0 && row->sect <= image->section_count);
+            CHECK(has_section);
         }
     }
 }
 
-static void check_indirects(const struct kesvuot_image *image, const struct rows *all, enum accepted accepted) {
+static void check_indirects(const struct held *held, const struct rows *all, enum accepted accepted) {
     const uint32_t *row = all->rows;
     for (size_t k = 0; k < all->count; k++, row++) {
-        CHECK(!accepted || (*row & INDIRECT_SYMBOL_LOCAL_OR_ABS) != 0 || *row < image->symbol_count);
+        CHECK(!accepted || (*row & INDIRECT_SYMBOL_LOCAL_OR_ABS) != 0 || *row < held->image.symbol_count);
     }
 }
 
-static void check_tables(const struct kesvuot_image *image, enum accepted accepted) {
+static void check_tables(const struct held *held, enum accepted accepted) {
     struct rows all[TABLE_COUNT];
     for (unsigned k = 0; k < TABLE_COUNT; k++) {
-        all[k] = read_table(k, image, accepted);
+        all[k] = read_table(k, held, accepted);
     }
-    check_segments(image, &all[SEGMENTS], accepted);
-    check_sections(image, &all[SECTIONS], accepted);
-    check_libraries(image, &all[LIBRARIES]);
+    check_segments(held, &all[SEGMENTS], accepted);
+    check_sections(held, &all[SECTIONS], accepted);
+    check_libraries(held, &all[LIBRARIES]);
     check_builds(&all[BUILDS]);
-    check_commands(image, &all[COMMANDS]);
-    check_symbols(image, &all[SYMBOLS], accepted);
-    check_indirects(image, &all[INDIRECTS], accepted);
+    check_commands(held, &all[COMMANDS]);
+    check_symbols(held, &all[SYMBOLS], accepted);
+    check_indirects(held, &all[INDIRECTS], accepted);
     if (accepted) {
-        check_addresses(image, &all[SEGMENTS]);
-        check_section_addresses(image, &all[SEGMENTS], &all[SECTIONS]);
-        check_linkedits(image, &all[COMMANDS]);
+        check_addresses(held, &all[SEGMENTS]);
+        check_section_addresses(held, &all[SEGMENTS], &all[SECTIONS]);
+        check_all_data(held, &all[COMMANDS]);
     }
     if (accepted == ACCEPTED_STRICTLY) {
-        check_covered(image, &all[SEGMENTS]);
+        check_covered(held, &all[SEGMENTS]);
     }
     for (unsigned k = 0; k < TABLE_COUNT; k++) {
         free(all[k].rows);
@@ -388,103 +434,119 @@ static void check_tables(const struct kesvuot_image *image, enum accepted accept
 
 // An image with any numbers: the calls return only bytes of the slice.
 
-static void check_at(const struct kesvuot_image *image, uint64_t address) {
-    struct kesvuot_bytes bytes = {NULL, 1};
-    uint32_t status = kesvuot_at(image, address, &bytes);
+static void check_address(const struct held *held, uint64_t address) {
+    struct kesvuot_span bytes = {1, 1};
+    uint32_t status = kesvuot_find_address(OF(held), address, &bytes);
     CHECK(status == KESVUOT_OK || ((status == KESVUOT_ZERO || status == KESVUOT_NONE) && is_empty(bytes)));
-    check_inside(image, bytes);
-    reach(AT, status);
+    check_inside(held, bytes);
+    reach(ADDRESS, status);
 }
 
-static void check_any(const struct kesvuot_image *image, uint64_t first, size_t max) {
-    struct kesvuot_bytes data;
+static void check_any(const struct held *held, struct kesvuot_cursor cursor, size_t max) {
+    struct kesvuot_span data;
     for (unsigned k = 0; k < TABLE_COUNT; k++) {
-        struct rows some = read_rows(&tables[k], image, first, max);
+        struct kesvuot_cursor next = cursor;
+        struct rows some = read_rows(&tables[k], held, &next, max);
         switch (k) {
         case SEGMENTS:
-            check_segments(image, &some, REFUSED);
+            check_segments(held, &some, REFUSED);
             break;
         case SECTIONS:
-            check_sections(image, &some, REFUSED);
+            check_sections(held, &some, REFUSED);
             break;
         case LIBRARIES:
-            check_libraries(image, &some);
+            check_libraries(held, &some);
             break;
         case SYMBOLS:
-            check_symbols(image, &some, REFUSED);
+            check_symbols(held, &some, REFUSED);
             break;
         default:
             break;
         }
         free(some.rows);
+        // The cursor that the call left is one that a caller may pass again.
+        free(read_rows(&tables[k], held, &next, max).rows);
     }
-    check_at(image, first);
-    check_at(image, image->base);
-    check_linkedit(image, LC_CODE_SIGNATURE, &data);
-    check_linkedit(image, (uint32_t)first, &data);
+    check_name(held, (uint32_t)cursor.items);
+    check_address(held, cursor.items);
+    check_address(held, held->image.base);
+    check_data(held, LC_CODE_SIGNATURE, &data);
+    check_data(held, (uint32_t)cursor.items, &data);
 }
 
-// The numbers of an image are set to bytes of the file, all or some.
-static void check_lies(const struct kesvuot_image *image, const uint8_t *file, size_t size) {
-    const size_t after = offsetof(struct kesvuot_image, place);
-    struct kesvuot_image lie = *image;
-    uint64_t number = 0;
-    memcpy(&number, file, size < sizeof number ? size : sizeof number);
-    for (size_t k = after; k + sizeof number <= sizeof lie; k += 2 * sizeof number) {
-        memcpy((uint8_t *)&lie + k, file + (k * 7919 + size) % (size - size / 2), size < 16 ? 0 : sizeof number);
-        check_any(&lie, number % (image->command_count + 2), 5);
+// The numbers of an image and of a cursor are set to bytes of the file, all or some.
+static void check_lies(const struct held *held) {
+    const struct file file = held->file;
+    struct held lie = *held;
+    struct kesvuot_cursor cursor = {0};
+    const size_t each = sizeof(uint64_t);
+    for (size_t k = 0; k + each <= sizeof lie.image; k += 2 * each) {
+        const uint8_t *some = file.bytes + (k * 7919 + file.size) % (file.size - file.size / 2);
+        memcpy((uint8_t *)&lie.image + k, some, file.size < 16 ? 0 : each);
+        memcpy((uint8_t *)&cursor + k % sizeof cursor, some, file.size < 16 ? 0 : each);
+        check_any(&lie, cursor, 5);
+        check_any(held, cursor, 5);
+        cursor.place %= file.size + 9;
+        cursor.commands %= held->image.command_count + 2;
+        cursor.segment %= file.size + 9;
+        cursor.items %= 9;
+        check_any(&lie, cursor, 5);
+        check_any(held, cursor, 5);
     }
-    memset((uint8_t *)&lie + after, 0xff, sizeof lie - after);
-    check_any(&lie, 0, 3);
-    memset((uint8_t *)&lie + after, 0, sizeof lie - after);
-    check_any(&lie, 0, 3);
+    // The image of another file: of the first half of this one.
+    lie = *held;
+    lie.file.size /= 2;
+    check_any(&lie, (struct kesvuot_cursor){0}, 5);
+    memset(&lie.image, 0xff, sizeof lie.image);
+    check_any(&lie, (struct kesvuot_cursor){0}, 3);
+    memset(&lie.image, 0, sizeof lie.image);
+    check_any(&lie, (struct kesvuot_cursor){0}, 3);
 }
 
 // Files
 
-static void check_image(const struct kesvuot_image *image, const uint8_t *file, size_t size, enum accepted accepted) {
-    struct kesvuot_bytes bytes;
-    check_tables(image, accepted);
-    if ((image->has & KESVUOT_HAS_ENTRY) != 0 && accepted) {
-        CHECK(kesvuot_at(image, image->entry, &bytes) == KESVUOT_OK && !is_empty(bytes));
+static void check_image(const struct held *held, enum accepted accepted) {
+    struct kesvuot_span bytes;
+    check_tables(held, accepted);
+    check_inside(held, held->image.id.name);
+    check_ended(held, held->image.id.name);
+    CHECK(held->image.capabilities < 256);
+    if ((held->image.has & KESVUOT_HAS_ENTRY) != 0 && accepted) {
+        CHECK(kesvuot_find_address(OF(held), held->image.entry, &bytes) == KESVUOT_OK && !is_empty(bytes));
     }
-    check_at(image, image->base);
-    check_at(image, UINT64_MAX);
+    check_address(held, held->image.base);
+    check_address(held, UINT64_MAX);
     // It is of another structure.
-    CHECK(check_linkedit(image, LC_SEGMENT_64, &bytes) == KESVUOT_NONE);
-    check_lies(image, file, size);
+    CHECK(check_data(held, LC_SEGMENT_64, &bytes) == KESVUOT_NONE);
+    check_lies(held);
 }
 
 // No field is written but those of a slice that is not read, or none at all.
 static void check_unread(const struct kesvuot_image *image, bool has_slice) {
-    struct kesvuot_image wanted = {.bytes = image->bytes};
+    struct kesvuot_image wanted = {.base = 0};
     if (has_slice) {
-        wanted.place = image->place;
+        wanted.slice = image->slice;
         wanted.cputype = image->cputype;
         wanted.cpusubtype = image->cpusubtype;
     }
-    CHECK(has_slice != is_empty(image->bytes));
+    CHECK(has_slice != is_empty(image->slice));
     CHECK(memcmp(image, &wanted, sizeof wanted) == 0);
 }
 
 // The image of a slice of a file that has so many. Of a refused file it may have any number.
 static void check_slice(const uint8_t *file, size_t size, uint64_t slice, uint64_t slices, enum accepted accepted) {
-    struct kesvuot_image image;
-    const struct kesvuot_image whole = {.bytes = {file, size}};
-    memset(&image, UNWRITTEN, sizeof image);
-    uint32_t status = kesvuot_image(file, size, slice, &image);
+    struct held held = {.file = {file, size}};
+    memset(&held.image, UNWRITTEN, sizeof held.image);
+    uint32_t status = kesvuot_read_image(file, size, slice, &held.image);
     bool is_found = status == KESVUOT_OK || status == KESVUOT_UNREAD;
     reach(IMAGE, status);
     CHECK(is_found || status == KESVUOT_NONE || status == KESVUOT_REFUSED);
     CHECK(!accepted || (slice < slices ? is_found : status == KESVUOT_NONE));
-    if (is_found) {
-        check_inside(&whole, image.bytes);
-        CHECK(image.bytes.at == file + image.place);
-    }
+    check_within((struct kesvuot_span){0, size}, held.image.slice);
     if (status == KESVUOT_OK) {
-        check_image(&image, file, size, accepted);
+        check_image(&held, accepted);
     } else {
-        check_unread(&image, is_found);
+        check_unread(&held.image, is_found);
     }
 }
 
@@ -498,13 +560,12 @@ static bool is_strict(uint32_t rule) {
 
 // The verdict is whole.
 static void check_verdict(uint32_t status, const struct kesvuot_verdict *verdict, size_t size) {
-    struct kesvuot_bytes name;
     CHECK(verdict->reserved == 0);
     if (status == KESVUOT_OK) {
         CHECK(verdict->rule == 0 && verdict->place == 0 && verdict->slices > 0);
     } else {
         CHECK(status == KESVUOT_REFUSED);
-        CHECK(kesvuot_rule(verdict->rule, &name) == KESVUOT_OK);
+        CHECK(kesvuot_rule_name(verdict->rule) != NULL);
         CHECK(verdict->place <= size && verdict->slices == 0);
     }
 }
@@ -581,19 +642,19 @@ static struct kesvuot_verdict check_file(const uint8_t *file, size_t size) {
 
 // What depends on no file: the names of rules, whose numbers have no gap; and no bytes.
 static void check_constants(void) {
-    struct kesvuot_bytes name;
+    struct kesvuot_text name;
     struct kesvuot_image image;
     struct kesvuot_verdict verdict;
     uint32_t rule = KESVUOT_MAGIC;
-    for (; kesvuot_rule(rule, &name) == KESVUOT_OK; rule++) {
-        CHECK(name.len > 0 && name.len == strlen((const char *)name.at));
+    for (; kesvuot_find_rule(rule, &name) == KESVUOT_OK; rule++) {
+        CHECK(name.size > 0 && name.size == strlen(name.at));
     }
-    CHECK(rule > KESVUOT_BIND_NAMES && is_empty(name));
-    CHECK(kesvuot_rule(0, &name) == KESVUOT_NONE && is_empty(name));
-    CHECK(kesvuot_rule(UINT32_MAX, &name) == KESVUOT_NONE && is_empty(name));
+    CHECK(rule > KESVUOT_BIND_NAMES && name.size == 0);
+    CHECK(kesvuot_find_rule(0, &name) == KESVUOT_NONE && name.size == 0);
+    CHECK(kesvuot_find_rule(UINT32_MAX, &name) == KESVUOT_NONE && name.size == 0);
     CHECK(kesvuot_version() == KESVUOT_VERSION);
     CHECK(kesvuot_verify(NULL, 0, &verdict) == KESVUOT_REFUSED && verdict.rule == KESVUOT_MAGIC && verdict.place == 0);
-    CHECK(kesvuot_image(NULL, 0, 0, &image) == KESVUOT_REFUSED);
+    CHECK(kesvuot_read_image(NULL, 0, 0, &image) == KESVUOT_REFUSED);
     check_unread(&image, false);
 }
 

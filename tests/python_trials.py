@@ -138,8 +138,8 @@ def text_of(name):
     return str(name, "utf-8")
 
 
-def name_of(symbol):
-    return text_of(symbol.name) if symbol.strx else "(none)"
+def name_of(image, symbol):
+    return text_of(image.name(symbol)) if symbol.strx else "(none)"
 
 
 def debugged(name, fields):
@@ -201,15 +201,15 @@ def reads_of_symbols(image):
         symbol = image.symbols[index]
         place = image.symtab.symoff + 16 * index
         inside = "" if symbol.section is None else " in " + text_of(image.sections[symbol.section].name)
-        yield (f"symbol {index} {name_of(symbol)} {symbol.value:#x} at {place:#x} strx {symbol.strx} "
+        yield (f"symbol {index} {name_of(image, symbol)} {symbol.value:#x} at {place:#x} strx {symbol.strx} "
                f"type {symbol.type:#x} sect {symbol.sect} desc {symbol.desc:#x}{inside}")
     groups = {"all": image.symbols, "local": image.local_symbols, "defined": image.defined_symbols,
               "undefined": image.undefined_symbols}
     for word, symbols in groups.items():
-        yield word + "".join(" " + name_of(symbol) for symbol in symbols)
+        yield word + "".join(" " + name_of(image, symbol) for symbol in symbols)
     for index, value in enumerate(image.indirects):
         is_index = value & (oracle.INDIRECT_SYMBOL_LOCAL | oracle.INDIRECT_SYMBOL_ABS) == 0
-        name = name_of(image.symbols[value]) if is_index else "none"
+        name = name_of(image, image.symbols[value]) if is_index else "none"
         yield f"indirect {value:#x} at {image.dysymtab.indirectsymoff + 4 * index:#x} {name}"
 
 
@@ -306,9 +306,10 @@ def wanted_sections(image):
                it.align, it.reloff, it.nreloc, it.flags, it.reserved1, it.reserved2, is_zero_fill)
 
 
-def wanted_libraries(image):
+def wanted_libraries(image, is_id):
+    """The libraries that the image loads, or what it is as one."""
     for it in image.listed:
-        if oracle.LISTED[it.cmd][0] == "dylib_command":
+        if oracle.LISTED[it.cmd][0] == "dylib_command" and (it.cmd == oracle.LC_ID_DYLIB) == is_id:
             yield wanted_name(image, it), it.cmd, it.current_version, it.compatibility_version
 
 
@@ -317,13 +318,17 @@ def wanted_builds(image):
 
 
 def wanted_symbols(image):
+    for it in image.symbols:
+        has_section = 1 <= it.n_sect <= len(image.sections)
+        yield it.n_value, it.n_strx, it.n_desc, it.n_type, it.n_sect, it.n_sect - 1 if has_section else None
+
+
+def wanted_names(image):
+    """The names of the symbols."""
     symtab = image.only(LC_SYMTAB)
     for it in image.symbols:
-        name = b""
-        if it.n_strx:
-            name = string_at(image.data, symtab.stroff + it.n_strx, symtab.stroff + symtab.strsize)
-        has_section = 1 <= it.n_sect <= len(image.sections)
-        yield name, it.n_value, it.n_strx, it.n_desc, it.n_type, it.n_sect, it.n_sect - 1 if has_section else None
+        has_name = it.n_strx != 0
+        yield string_at(image.data, symtab.stroff + it.n_strx, symtab.stroff + symtab.strsize) if has_name else b""
 
 
 def wanted_indirects(image):
@@ -379,11 +384,12 @@ def compare_image(found, wanted):
     yield "symtab", found.symtab, only_fields(wanted, LC_SYMTAB, kesvuot.Symtab)
     yield "dysymtab", found.dysymtab, only_fields(wanted, LC_DYSYMTAB, kesvuot.Dysymtab)
     for name, rows in (("commands", wanted_commands(wanted)), ("segments", wanted_segments(wanted)),
-                       ("sections", wanted_sections(wanted)), ("libraries", wanted_libraries(wanted)),
+                       ("sections", wanted_sections(wanted)), ("libraries", wanted_libraries(wanted, False)),
                        ("builds", wanted_builds(wanted)), ("symbols", wanted_symbols(wanted))):
         yield name, list(map(as_bytes, getattr(found, name))), list(rows)
-    yield "symbols without names", list(map(as_bytes, found.symbols_without_names)), [
-        (b"", *fields) for _, *fields in wanted_symbols(wanted)]
+    yield "names", [found.name(symbol).tobytes() for symbol in found.symbols], list(wanted_names(wanted))
+    yield "id", found.id and as_bytes(found.id), next(wanted_libraries(wanted, True), None)
+    yield "capabilities", found.capabilities, wanted.header.cpusubtype >> 24
     yield "indirects", list(found.indirects), wanted_indirects(wanted)
     yield from compare_groups(found, wanted)
     # A number that is not of 32 bits is no cmd.
@@ -550,6 +556,7 @@ def all_parts(file):
         yield image.bytes
         for rows in (image.commands, image.segments, image.sections, image.libraries, image.symbols):
             yield from (value for row in rows for value in row if isinstance(value, memoryview))
+        yield from map(image.name, image.symbols)
         yield from filter(None, (image.linkedit(command.cmd) for command in image.commands))
         yield from (image.at(segment.vmaddr).bytes for segment in image.segments)
 
@@ -638,8 +645,7 @@ def judge_sections_of_symbols(report):
               (0x26, 0): None, (0x26, 2): 1, (0x24, 3): None, (0x24, 200): None}
     image = kesvuot.verify(with_sections(list(wanted))).images[0]
     report.case("how many sections there are", len(image.sections), 2)
-    for name, symbols in (("symbols", image.symbols), ("symbols without names", image.symbols_without_names)):
-        report.case(f"the sections of {name}", {(it.type, it.sect): it.section for it in symbols}, wanted)
+    report.case("the sections of symbols", {(it.type, it.sect): it.section for it in image.symbols}, wanted)
 
 
 class Number:
@@ -692,8 +698,7 @@ def judge_texts_of_rows(report, data):
     command = next(command for command in image.commands if command.cmd == LC_LOAD_DYLINKER)
     report.case("a command", str(command),
                 f"Command(bytes=<{len(command.bytes)} bytes>, name=b'/usr/lib/dyld', place={command.place}, cmd=14)")
-    report.case("a symbol", str(next(iter(image.symbols))).split(", value=")[0] + ")",
-                f"Symbol(name={image.symbols[0].name.tobytes()!r})")
+    report.case("a symbol", str(image.symbols[0]).split(", desc=")[0] + ")", "Symbol(value=4294968384, strx=2)")
 
 
 def made(name):

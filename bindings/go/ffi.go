@@ -2,105 +2,34 @@ package kesvuot
 
 // #cgo pkg-config: kesvuot
 // #include <kesvuot.h>
-// #include <stdlib.h>
-// #include <string.h>
-//
-// /* What the library writes points into the file, which is memory of Go. C must not store such a pointer in memory of
-//  * Go, even for a moment. So these functions have the library write to memory of C, and give Go numbers: for a
-//  * pointer into the file, its offset from the start of the bytes that were passed. */
-//
-// struct part {
-//     uint64_t at, len;
-// };
 //
 // enum table { SEGMENTS, SECTIONS, LIBRARIES, BUILDS, COMMANDS, SYMBOLS, INDIRECTS };
 //
-// static struct part part_of(struct kesvuot_bytes bytes, const void *start) {
-//     struct part part = {0, bytes.len};
-//     if (bytes.len > 0)
-//         part.at = (uint64_t)((uintptr_t)bytes.at - (uintptr_t)start);
-//     return part;
-// }
-//
-// static uint32_t read_image(const void *file, size_t size, uint64_t slice, struct kesvuot_image *numbers,
-//                            struct part *bytes) {
-//     struct kesvuot_image image;
-//     uint32_t status = kesvuot_image(file, size, slice, &image);
-//     *bytes = part_of(image.bytes, file);
-//     image.bytes.at = NULL;
-//     *numbers = image;
-//     return status;
-// }
-//
-// static struct kesvuot_image image_of(const struct kesvuot_image *numbers, const void *slice) {
-//     struct kesvuot_image image = *numbers;
-//     image.bytes.at = slice;
-//     return image;
-// }
-//
-// static uint32_t read_linkedit(const struct kesvuot_image *numbers, const void *slice, uint32_t cmd,
-//                               struct part *data) {
-//     struct kesvuot_image image = image_of(numbers, slice);
-//     struct kesvuot_bytes bytes;
-//     uint32_t status = kesvuot_linkedit(&image, cmd, &bytes);
-//     *data = part_of(bytes, slice);
-//     return status;
-// }
-//
-// static uint32_t read_at(const struct kesvuot_image *numbers, const void *slice, uint64_t address,
-//                         struct part *found) {
-//     struct kesvuot_image image = image_of(numbers, slice);
-//     struct kesvuot_bytes bytes;
-//     uint32_t status = kesvuot_at(&image, address, &bytes);
-//     *found = part_of(bytes, slice);
-//     return status;
-// }
-//
-// static size_t call(enum table table, const struct kesvuot_image *image, uint64_t first, void *rows, size_t max) {
+// static size_t read_rows(enum table table, const void *file, size_t size, const struct kesvuot_image *image,
+//                         struct kesvuot_cursor *cursor, void *rows, size_t max) {
 //     switch (table) {
 //     case SEGMENTS:
-//         return kesvuot_segments(image, first, rows, max);
+//         return kesvuot_read_segments(file, size, image, cursor, rows, max);
 //     case SECTIONS:
-//         return kesvuot_sections(image, first, rows, max);
+//         return kesvuot_read_sections(file, size, image, cursor, rows, max);
 //     case LIBRARIES:
-//         return kesvuot_libraries(image, first, rows, max);
+//         return kesvuot_read_libraries(file, size, image, cursor, rows, max);
 //     case BUILDS:
-//         return kesvuot_builds(image, first, rows, max);
+//         return kesvuot_read_builds(file, size, image, cursor, rows, max);
 //     case COMMANDS:
-//         return kesvuot_commands(image, first, rows, max);
+//         return kesvuot_read_commands(file, size, image, cursor, rows, max);
 //     case SYMBOLS:
-//         return kesvuot_symbols(image, first, rows, max);
+//         return kesvuot_read_symbols(file, size, image, cursor, rows, max);
 //     default:
-//         return kesvuot_indirects(image, first, rows, max);
+//         return kesvuot_read_indirects(file, size, image, cursor, rows, max);
 //     }
-// }
-//
-// /* Writes rows of `size` bytes, which begin with so many parts. Returns how many there are, or SIZE_MAX if memory ran
-//  * out. */
-// static size_t read_rows(enum table table, const struct kesvuot_image *numbers, const void *slice, uint64_t first,
-//                         void *rows, size_t max, size_t size, size_t parts) {
-//     struct kesvuot_image image = image_of(numbers, slice);
-//     char *written = malloc(max * size);
-//     if (written == NULL)
-//         return SIZE_MAX;
-//     size_t count = call(table, &image, first, written, max);
-//     for (size_t row = 0; row < count; row++)
-//         for (size_t at = row * size; at < row * size + parts * sizeof(struct part); at += sizeof(struct part)) {
-//             struct kesvuot_bytes bytes;
-//             memcpy(&bytes, written + at, sizeof bytes);
-//             struct part part = part_of(bytes, slice);
-//             memcpy(written + at, &part, sizeof part);
-//         }
-//     memcpy(rows, written, count * size);
-//     free(written);
-//     return count;
 // }
 import "C"
 
 import "unsafe"
 
 // The major version of the library whose structures these are.
-const major = 1
+const major = 2
 
 // LibraryVersion returns the version of the library that is linked.
 func LibraryVersion() (major, minor, patch uint32) {
@@ -141,9 +70,9 @@ func judge(file []byte, isStrict bool) (*File, error) {
 
 // ruleName returns the name of a rule, which is a constant of the library.
 func ruleName(rule C.uint32_t) string {
-	var name C.struct_kesvuot_bytes
-	C.kesvuot_rule(rule, &name)
-	return C.GoStringN((*C.char)(unsafe.Pointer(name.at)), C.int(name.len))
+	var name C.struct_kesvuot_text
+	C.kesvuot_find_rule(rule, &name)
+	return C.GoStringN(name.at, C.int(name.size))
 }
 
 // Room for the layout of most files. A longer one takes a second call.
@@ -171,23 +100,33 @@ func readLayout(file []byte) (string, error) {
 
 func readSlice(file []byte, index uint64) Slice {
 	var numbers numbers
-	var place part
-	status := C.read_image(unsafe.Pointer(&file[0]), C.size_t(len(file)), C.uint64_t(index), &numbers,
-		(*C.struct_part)(unsafe.Pointer(&place)))
+	status := C.kesvuot_read_image(unsafe.Pointer(&file[0]), C.size_t(len(file)), C.uint64_t(index), &numbers)
 	slice := Slice{
-		Bytes:      place.in(file),
-		Place:      uint64(numbers.place),
+		Bytes:      partOf(file, numbers.slice),
+		Place:      uint64(numbers.slice.offset),
 		CPUType:    uint32(numbers.cputype),
 		CPUSubtype: uint32(numbers.cpusubtype),
 	}
 	if status == C.KESVUOT_OK {
-		slice.Image = newImage(slice, &numbers)
+		slice.Image = newImage(file, slice, &numbers)
 	}
 	return slice
 }
 
-// numbers are what the library reads of the headers of an image, without a pointer.
-type numbers = C.struct_kesvuot_image
+// The structures of the library have no pointers.
+type (
+	numbers = C.struct_kesvuot_image
+	cursor  = C.struct_kesvuot_cursor
+	span    = C.struct_kesvuot_span
+
+	segmentRow  = C.struct_kesvuot_segment
+	sectionRow  = C.struct_kesvuot_section
+	libraryRow  = C.struct_kesvuot_library
+	buildRow    = C.struct_kesvuot_build
+	commandRow  = C.struct_kesvuot_command
+	symbolRow   = C.struct_kesvuot_symbol
+	indirectRow = C.uint32_t
+)
 
 const (
 	hasUUID     = C.KESVUOT_HAS_UUID
@@ -195,108 +134,69 @@ const (
 	hasEntry    = C.KESVUOT_HAS_ENTRY
 	hasSymtab   = C.KESVUOT_HAS_SYMTAB
 	hasDysymtab = C.KESVUOT_HAS_DYSYMTAB
+	hasID       = C.KESVUOT_HAS_ID
+	noSection   = C.KESVUOT_NO_SECTION
 )
 
-// The rows as the library writes them, with numbers in the place of pointers.
-type (
-	part struct{ at, len uint64 }
-
-	segmentRow struct {
-		name, bytes                                   part
-		vmaddr, vmsize, fileoff, filesize             uint64
-		firstSection, sectionCount, maxprot, initprot uint32
-	}
-
-	sectionRow struct {
-		name, segment, bytes                                                 part
-		addr, size                                                           uint64
-		offset, align, reloff, nreloc, flags, reserved1, reserved2, zeroFill uint32
-	}
-
-	libraryRow struct {
-		name                               part
-		cmd, current, compatible, reserved uint32
-	}
-
-	buildRow struct{ platform, minos, sdk, reserved uint32 }
-
-	commandRow struct {
-		bytes, name   part
-		place         uint64
-		cmd, reserved uint32
-	}
-
-	symbolRow struct {
-		name       part
-		value      uint64
-		strx       uint32
-		desc       uint16
-		kind, sect uint8
-	}
-
-	indirectRow = uint32
-)
-
-// Their sizes are those of kesvuot.h: another one is no index of an array of one.
-var (
-	_ = [1]struct{}{}[unsafe.Sizeof(part{})-C.sizeof_struct_kesvuot_bytes]
-	_ = [1]struct{}{}[unsafe.Sizeof(segmentRow{})-C.sizeof_struct_kesvuot_segment]
-	_ = [1]struct{}{}[unsafe.Sizeof(sectionRow{})-C.sizeof_struct_kesvuot_section]
-	_ = [1]struct{}{}[unsafe.Sizeof(libraryRow{})-C.sizeof_struct_kesvuot_library]
-	_ = [1]struct{}{}[unsafe.Sizeof(buildRow{})-C.sizeof_struct_kesvuot_build]
-	_ = [1]struct{}{}[unsafe.Sizeof(commandRow{})-C.sizeof_struct_kesvuot_command]
-	_ = [1]struct{}{}[unsafe.Sizeof(symbolRow{})-C.sizeof_struct_kesvuot_symbol]
-)
-
-// in returns the part of the bytes.
-func (part part) in(bytes []byte) []byte {
-	return bytes[part.at : part.at+part.len : part.at+part.len]
+// partOf returns the bytes of a span, which has a capacity of no more than these.
+func partOf(file []byte, span span) []byte {
+	end := span.offset + span.size
+	return file[span.offset:end:end]
 }
 
-// A table is one whose rows a call writes. They begin with so many parts.
-type table struct {
-	number C.enum_table
-	parts  C.size_t
-}
+// A table is one whose rows a call writes.
+type table = C.enum_table
 
-var (
-	segmentTable  = table{C.SEGMENTS, 2}
-	sectionTable  = table{C.SECTIONS, 3}
-	libraryTable  = table{C.LIBRARIES, 1}
-	buildTable    = table{C.BUILDS, 0}
-	commandTable  = table{C.COMMANDS, 2}
-	symbolTable   = table{C.SYMBOLS, 1}
-	indirectTable = table{C.INDIRECTS, 0}
+const (
+	segmentTable  = table(C.SEGMENTS)
+	sectionTable  = table(C.SECTIONS)
+	libraryTable  = table(C.LIBRARIES)
+	buildTable    = table(C.BUILDS)
+	commandTable  = table(C.COMMANDS)
+	symbolTable   = table(C.SYMBOLS)
+	indirectTable = table(C.INDIRECTS)
 )
 
-// readRows returns up to count rows of a table, from index first on. There are fewer if the bytes have changed.
-func readRows[Row any](image *Image, table table, first, count uint64) []Row {
+// readRows returns up to count of the next rows of a table. There are fewer if the bytes have changed.
+func readRows[Row any](image *Image, table table, cursor *cursor, count uint64) []Row {
 	if count == 0 {
 		return nil
 	}
 	rows := make([]Row, count)
-	written := C.read_rows(table.number, &image.numbers, unsafe.Pointer(&image.Bytes[0]), C.uint64_t(first),
-		unsafe.Pointer(&rows[0]), C.size_t(count), C.size_t(unsafe.Sizeof(rows[0])), table.parts)
-	if uint64(written) > count {
-		panic("kesvuot: out of memory")
-	}
+	written := C.read_rows(table, unsafe.Pointer(&image.file[0]), C.size_t(len(image.file)), &image.numbers, cursor,
+		unsafe.Pointer(&rows[0]), C.size_t(count))
 	return rows[:written]
 }
 
+// readAll returns all rows of a table, of which there are so many.
+func readAll[Row any](image *Image, table table, count C.uint64_t) []Row {
+	return readRows[Row](image, table, new(cursor), uint64(count))
+}
+
+// symbolCursor returns the cursor of the symbol with this index.
+func symbolCursor(index uint64) cursor { return cursor{items: C.uint64_t(index)} }
+
+func readName(image *Image, strx uint32) []byte {
+	var name span
+	C.kesvuot_symbol_name(unsafe.Pointer(&image.file[0]), C.size_t(len(image.file)), &image.numbers, C.uint32_t(strx),
+		&name)
+	return partOf(image.file, name)
+}
+
 func readLinkedit(image *Image, cmd uint32) ([]byte, bool) {
-	var data part
-	status := C.read_linkedit(&image.numbers, unsafe.Pointer(&image.Bytes[0]), C.uint32_t(cmd),
-		(*C.struct_part)(unsafe.Pointer(&data)))
-	return data.in(image.Bytes), status == C.KESVUOT_OK
+	var data span
+	status := C.kesvuot_find_data(unsafe.Pointer(&image.file[0]), C.size_t(len(image.file)), &image.numbers,
+		C.uint32_t(cmd), &data)
+	return partOf(image.file, data), status == C.KESVUOT_OK
 }
 
 func readAt(image *Image, address uint64) Source {
-	var found part
-	status := C.read_at(&image.numbers, unsafe.Pointer(&image.Bytes[0]), C.uint64_t(address),
-		(*C.struct_part)(unsafe.Pointer(&found)))
+	var found span
+	status := C.kesvuot_find_address(unsafe.Pointer(&image.file[0]), C.size_t(len(image.file)), &image.numbers,
+		C.uint64_t(address), &found)
 	switch status {
 	case C.KESVUOT_OK:
-		return Source{Kind: FileBytes, Bytes: found.in(image.Bytes)}
+		return Source{Kind: FileBytes, Bytes: partOf(image.file, found)}
 	case C.KESVUOT_ZERO:
 		return Source{Kind: Zero}
 	default:

@@ -5,8 +5,7 @@ import "fmt"
 // An Image is a 64-bit image of an accepted file. Offsets count from the start of the image, but Place from the start
 // of the file. Addresses are those before any slide.
 //
-// Symbols and indirect entries are found by their index. Each other table is read in one walk over the load commands by
-// each call: keep what it returns.
+// Symbols are found by their index. Each other table is read as a whole by each call: keep what it returns.
 type Image struct {
 	// Bytes are those of the image.
 	Bytes []byte
@@ -14,21 +13,26 @@ type Image struct {
 	Place uint64
 	// CPUType and CPUSubtype are those of the header, the second without the capability byte (CPU_SUBTYPE_MASK).
 	CPUType, CPUSubtype uint32
+	// Capabilities is the capability byte, such as the version of the ABI of arm64e.
+	Capabilities uint32
 	// FileType and Flags are those of the header.
 	FileType, Flags uint32
 
+	file    []byte
 	numbers numbers
 }
 
-func newImage(slice Slice, numbers *numbers) *Image {
+func newImage(file []byte, slice Slice, numbers *numbers) *Image {
 	return &Image{
-		Bytes:      slice.Bytes,
-		Place:      slice.Place,
-		CPUType:    slice.CPUType,
-		CPUSubtype: slice.CPUSubtype,
-		FileType:   uint32(numbers.filetype),
-		Flags:      uint32(numbers.flags),
-		numbers:    *numbers,
+		Bytes:        slice.Bytes,
+		Place:        slice.Place,
+		CPUType:      slice.CPUType,
+		CPUSubtype:   slice.CPUSubtype,
+		Capabilities: uint32(numbers.capabilities),
+		FileType:     uint32(numbers.filetype),
+		Flags:        uint32(numbers.flags),
+		file:         file,
+		numbers:      *numbers,
 	}
 }
 
@@ -48,6 +52,15 @@ func (image *Image) UUID() (uuid UUID, ok bool) {
 		uuid[index] = byte(digits)
 	}
 	return uuid, image.has(hasUUID)
+}
+
+// ID returns what the image is as a library, by its LC_ID_DYLIB, or nil without one.
+func (image *Image) ID() *Library {
+	if !image.has(hasID) {
+		return nil
+	}
+	library := image.newLibrary(&image.numbers.id)
+	return &library
 }
 
 // Base returns the address of the header, and whether a mapped segment has it.

@@ -140,13 +140,15 @@ func compareCommands(t *testing.T, image *Image, plain *macho.File) {
 		same(t, "its place", image.Bytes[command.Place:][:len(command.Bytes)], command.Bytes)
 	}
 	for _, library := range image.Libraries() {
-		if library.Cmd != 0xd {
-			imported = append(imported, string(library.Name))
-		}
+		imported = append(imported, string(library.Name))
 	}
 	wanted, err := plain.ImportedLibraries()
 	same(t, "the libraries", imported, wanted)
 	same(t, "of them", err, nil)
+	same(t, "whether it has a name as a library", image.ID() != nil, plain.Type == macho.TypeDylib)
+	if id := image.ID(); id != nil {
+		same(t, "its cmd", id.Cmd, uint32(0xd))
+	}
 }
 
 func compareSegments(t *testing.T, image *Image, plain *macho.File) {
@@ -159,6 +161,9 @@ func compareSegments(t *testing.T, image *Image, plain *macho.File) {
 			Maxprot: segment.Maxprot, Prot: segment.Initprot, Nsect: segment.SectionCount, Flag: 0,
 		})
 		same(t, "the bytes of a segment", segment.Bytes, image.Bytes[segment.Fileoff:segment.Fileoff+segment.Filesize])
+		last, ok := segment.LastAddress()
+		same(t, "its last address", last+1, segment.Vmaddr+segment.Vmsize)
+		same(t, "whether it has one", ok, segment.Vmsize > 0)
 	}
 	for _, load := range plain.Loads {
 		if segment, ok := load.(*macho.Segment); ok {
@@ -202,7 +207,7 @@ func compareSymbols(t *testing.T, image *Image, plain *macho.File) {
 	found := []macho.Symbol{}
 	for index, symbol := range symbols {
 		found = append(found, macho.Symbol{
-			Name: string(symbol.Name), Type: symbol.Type, Sect: symbol.Sect, Desc: symbol.Desc, Value: symbol.Value})
+			Name: string(image.Name(symbol)), Type: symbol.Type, Sect: symbol.Sect, Desc: symbol.Desc, Value: symbol.Value})
 		again, ok := image.Symbol(uint64(index))
 		same(t, "a symbol by its index", again, symbol)
 		same(t, "of it", ok, true)
@@ -215,11 +220,6 @@ func compareSymbols(t *testing.T, image *Image, plain *macho.File) {
 	same(t, "local symbols", collect(image.LocalSymbols()), group(dysymtab.Ilocalsym, dysymtab.Nlocalsym))
 	same(t, "defined symbols", collect(image.DefinedSymbols()), group(dysymtab.Iextdefsym, dysymtab.Nextdefsym))
 	same(t, "undefined symbols", collect(image.UndefinedSymbols()), group(dysymtab.Iundefsym, dysymtab.Nundefsym))
-	for index, symbol := range collect(image.SymbolsWithoutNames()) {
-		same(t, "a symbol without its name", len(symbol.Name), 0)
-		symbol.Name = symbols[index].Name
-		same(t, "a symbol without its name", symbol, symbols[index])
-	}
 }
 
 // The header, by the texts beside the real program.

@@ -8,26 +8,34 @@ type Segment struct {
 	Bytes                             []byte
 	Vmaddr, Vmsize, Fileoff, Filesize uint64
 	// FirstSection is the index of its first section in Sections, and SectionCount its nsects.
-	FirstSection, SectionCount uint32
-	Maxprot, Initprot          uint32
+	FirstSection                    uint64
+	SectionCount, Maxprot, Initprot uint32
 }
+
+// LastAddress returns the last address of the segment: the sum Vmaddr + Vmsize can be 2^64. It is not ok if the segment
+// is not mapped.
+func (segment *Segment) LastAddress() (address uint64, ok bool) {
+	return segment.Vmaddr + segment.Vmsize - 1, segment.Vmsize > 0
+}
+
+func (image *Image) part(span span) []byte { return partOf(image.file, span) }
 
 // Segments returns the segments, in command order.
 func (image *Image) Segments() []Segment {
-	rows := readRows[segmentRow](image, segmentTable, 0, uint64(image.numbers.segment_count))
+	rows := readAll[segmentRow](image, segmentTable, image.numbers.segment_count)
 	segments := make([]Segment, len(rows))
 	for index, row := range rows {
 		segments[index] = Segment{
-			Name:         row.name.in(image.Bytes),
-			Bytes:        row.bytes.in(image.Bytes),
-			Vmaddr:       row.vmaddr,
-			Vmsize:       row.vmsize,
-			Fileoff:      row.fileoff,
-			Filesize:     row.filesize,
-			FirstSection: row.firstSection,
-			SectionCount: row.sectionCount,
-			Maxprot:      row.maxprot,
-			Initprot:     row.initprot,
+			Name:         image.part(row.name),
+			Bytes:        image.part(row.bytes),
+			Vmaddr:       uint64(row.vmaddr),
+			Vmsize:       uint64(row.vmsize),
+			Fileoff:      uint64(row.fileoff),
+			Filesize:     uint64(row.filesize),
+			FirstSection: uint64(row.first_section),
+			SectionCount: uint32(row.section_count),
+			Maxprot:      uint32(row.maxprot),
+			Initprot:     uint32(row.initprot),
 		}
 	}
 	return segments
@@ -49,29 +57,29 @@ type Section struct {
 
 // Sections returns the sections of all segments, in command order.
 func (image *Image) Sections() []Section {
-	rows := readRows[sectionRow](image, sectionTable, 0, uint64(image.numbers.section_count))
+	rows := readAll[sectionRow](image, sectionTable, image.numbers.section_count)
 	sections := make([]Section, len(rows))
 	for index, row := range rows {
 		sections[index] = Section{
-			Name:      row.name.in(image.Bytes),
-			Segment:   row.segment.in(image.Bytes),
-			Bytes:     row.bytes.in(image.Bytes),
-			Addr:      row.addr,
-			Size:      row.size,
-			Offset:    row.offset,
-			Align:     row.align,
-			Reloff:    row.reloff,
-			Nreloc:    row.nreloc,
-			Flags:     row.flags,
-			Reserved1: row.reserved1,
-			Reserved2: row.reserved2,
-			ZeroFill:  row.zeroFill != 0,
+			Name:      image.part(row.name),
+			Segment:   image.part(row.segment),
+			Bytes:     image.part(row.bytes),
+			Addr:      uint64(row.addr),
+			Size:      uint64(row.size),
+			Offset:    uint32(row.offset),
+			Align:     uint32(row.align),
+			Reloff:    uint32(row.reloff),
+			Nreloc:    uint32(row.nreloc),
+			Flags:     uint32(row.flags),
+			Reserved1: uint32(row.reserved1),
+			Reserved2: uint32(row.reserved2),
+			ZeroFill:  row.zero_fill != 0,
 		}
 	}
 	return sections
 }
 
-// A Library is a dylib_command: a library that the image loads, or, with the Cmd LC_ID_DYLIB (0xd), the image itself.
+// A Library is a dylib_command: a library that the image loads, or what it is as one.
 type Library struct {
 	// Name is the path of the library.
 	Name []byte
@@ -80,14 +88,18 @@ type Library struct {
 	Current, Compatible uint32
 }
 
-// Libraries returns the libraries, in command order.
+// Libraries returns the libraries that the image loads, in command order. What it is itself is ID.
 func (image *Image) Libraries() []Library {
-	rows := readRows[libraryRow](image, libraryTable, 0, uint64(image.numbers.library_count))
+	rows := readAll[libraryRow](image, libraryTable, image.numbers.library_count)
 	libraries := make([]Library, len(rows))
-	for index, row := range rows {
-		libraries[index] = Library{row.name.in(image.Bytes), row.cmd, row.current, row.compatible}
+	for index := range rows {
+		libraries[index] = image.newLibrary(&rows[index])
 	}
 	return libraries
+}
+
+func (image *Image) newLibrary(row *libraryRow) Library {
+	return Library{image.part(row.name), uint32(row.cmd), uint32(row.current), uint32(row.compatible)}
 }
 
 // A Build is an LC_BUILD_VERSION. Minos and SDK are versions X.Y.Z: X << 16 | Y << 8 | Z.
@@ -97,10 +109,10 @@ type Build struct {
 
 // Builds returns the platforms that the image was built for, in command order.
 func (image *Image) Builds() []Build {
-	rows := readRows[buildRow](image, buildTable, 0, uint64(image.numbers.build_count))
+	rows := readAll[buildRow](image, buildTable, image.numbers.build_count)
 	builds := make([]Build, len(rows))
 	for index, row := range rows {
-		builds[index] = Build{row.platform, row.minos, row.sdk}
+		builds[index] = Build{uint32(row.platform), uint32(row.minos), uint32(row.sdk)}
 	}
 	return builds
 }
@@ -118,21 +130,21 @@ type Command struct {
 
 // Commands returns all load commands. Of a command that RULES.md does not list, all fields past cmdsize are unchecked.
 func (image *Image) Commands() []Command {
-	rows := readRows[commandRow](image, commandTable, 0, uint64(image.numbers.command_count))
+	rows := readAll[commandRow](image, commandTable, image.numbers.command_count)
 	commands := make([]Command, len(rows))
 	for index, row := range rows {
-		commands[index] = Command{row.bytes.in(image.Bytes), row.name.in(image.Bytes), row.place, row.cmd}
+		place := uint64(row.bytes.offset) - image.Place
+		commands[index] = Command{image.part(row.bytes), image.part(row.name), place, uint32(row.cmd)}
 	}
 	return commands
 }
 
-// A Symbol is an nlist_64.
+// A Symbol is an nlist_64. Its name is Image.Name.
 type Symbol struct {
-	// Name is empty if Strx is 0.
-	Name  []byte
 	Value uint64
-	Strx  uint32
-	Desc  uint16
+	// Strx is 0 if the symbol has no name.
+	Strx uint32
+	Desc uint16
 	// Type is n_type. Sect is n_sect, the number of a section, from 1 on. Do not subtract 1 from it: it is 0 (NO_SECT)
 	// if the symbol is in no section, and may be past the last section, such as in a debugging entry (N_STAB).
 	Type, Sect uint8
@@ -147,29 +159,25 @@ type Symbol struct {
 //	}
 type Symbols struct {
 	image *Image
-	// The indexes of the symbols that are left, and those that were read of them.
-	first, end uint64
-	held       []symbolRow
-	symbol     Symbol
+	// Where the symbols are that were not read, how many there are, and those that were read.
+	cursor cursor
+	left   uint64
+	held   []symbolRow
+	symbol Symbol
 }
 
 // How many symbols are read at once.
 const batch = 256
 
-// Symbols goes over all symbols. In a hostile file many symbols can share a long name. To read all names then takes
-// time in proportion to Nsyms * Strsize.
+// Symbols goes over all symbols.
 func (image *Image) Symbols() *Symbols {
 	return image.symbols(0, uint64(image.numbers.symbol_count))
 }
 
-// SymbolsWithoutNames goes over all symbols with empty names, without a search for the end of each name. Symbol returns
-// a symbol with its name.
-func (image *Image) SymbolsWithoutNames() *Symbols {
-	// No strings, so no name.
-	nameless := *image
-	nameless.numbers.strings_size = 0
-	return nameless.Symbols()
-}
+// Name returns the name of a symbol of this image. It is empty if Strx is 0. The call searches for the end of the name.
+// In a hostile file many symbols can share a long name: to look up all of them takes time in proportion to
+// Nsyms * Strsize.
+func (image *Image) Name(symbol Symbol) []byte { return readName(image, symbol.Strx) }
 
 // LocalSymbols goes over the local symbols of LC_DYSYMTAB, none without it.
 func (image *Image) LocalSymbols() *Symbols { return image.group(0) }
@@ -183,30 +191,30 @@ func (image *Image) UndefinedSymbols() *Symbols { return image.group(4) }
 // group goes over the group whose first index is here in the groups, and its count after it.
 func (image *Image) group(at int) *Symbols {
 	first, count := uint64(image.numbers.groups[at]), uint64(image.numbers.groups[at+1])
-	return image.symbols(first, first+count)
+	return image.symbols(first, count)
 }
 
-func (image *Image) symbols(first, end uint64) *Symbols {
-	return &Symbols{image: image, first: first, end: end}
+func (image *Image) symbols(first, count uint64) *Symbols {
+	return &Symbols{image: image, cursor: symbolCursor(first), left: count}
 }
 
 // Len returns how many symbols are left.
-func (symbols *Symbols) Len() int { return int(symbols.end-symbols.first) + len(symbols.held) }
+func (symbols *Symbols) Len() int { return int(symbols.left) + len(symbols.held) }
 
 // Next goes on to the next symbol. It returns false if there is none.
 func (symbols *Symbols) Next() bool {
 	if len(symbols.held) == 0 {
-		count := symbols.end - symbols.first
+		count := symbols.left
 		if count > batch {
 			count = batch
 		}
-		symbols.held = readRows[symbolRow](symbols.image, symbolTable, symbols.first, count)
-		symbols.first += count
+		symbols.held = readRows[symbolRow](symbols.image, symbolTable, &symbols.cursor, count)
+		symbols.left -= count
 	}
 	if len(symbols.held) == 0 {
 		return false
 	}
-	symbols.symbol = symbols.image.newSymbol(&symbols.held[0])
+	symbols.symbol = newSymbol(&symbols.held[0])
 	symbols.held = symbols.held[1:]
 	return true
 }
@@ -216,23 +224,36 @@ func (symbols *Symbols) Symbol() Symbol { return symbols.symbol }
 
 // Symbol returns the symbol with this index in the table. It is not ok if there is none.
 func (image *Image) Symbol(index uint64) (symbol Symbol, ok bool) {
-	rows := readRows[symbolRow](image, symbolTable, index, 1)
+	cursor := symbolCursor(index)
+	rows := readRows[symbolRow](image, symbolTable, &cursor, 1)
 	if len(rows) == 0 {
 		return Symbol{Section: -1}, false
 	}
-	return image.newSymbol(&rows[0]), true
+	return newSymbol(&rows[0]), true
 }
 
-func (image *Image) newSymbol(row *symbolRow) Symbol {
-	section := int(row.sect) - 1
-	if uint64(row.sect) > uint64(image.numbers.section_count) {
-		section = -1
+func newSymbol(row *symbolRow) Symbol {
+	section := -1
+	if row.section != noSection {
+		section = int(row.section)
 	}
-	return Symbol{row.name.in(image.Bytes), row.value, row.strx, row.desc, row.kind, row.sect, section}
+	return Symbol{
+		Value:   uint64(row.value),
+		Strx:    uint32(row.strx),
+		Desc:    uint16(row.desc),
+		Type:    uint8(row._type),
+		Sect:    uint8(row.sect),
+		Section: section,
+	}
 }
 
 // Indirects returns the indirect entries. Each is the index of a symbol, or INDIRECT_SYMBOL_LOCAL (0x80000000),
 // INDIRECT_SYMBOL_ABS (0x40000000) or both.
 func (image *Image) Indirects() []uint32 {
-	return readRows[indirectRow](image, indirectTable, 0, uint64(image.numbers.indirect_count))
+	rows := readAll[indirectRow](image, indirectTable, image.numbers.indirect_count)
+	indirects := make([]uint32, len(rows))
+	for index, row := range rows {
+		indirects[index] = uint32(row)
+	}
+	return indirects
 }

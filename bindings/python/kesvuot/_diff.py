@@ -10,7 +10,7 @@ from typing import Dict, Iterator, List, NamedTuple, Tuple
 
 from ._check import ACCEPTED, NO_VERDICT, Choice, Outcome, Target, judge
 from ._files import File, Image, Slice
-from ._layout import plain
+from ._layout import libraries_of, plain
 from ._names import (
     FILETYPES, LC_ID_DYLIB, LIBRARIES, command_name, platform_name, protection_text, version_text)
 from ._output import GREEN, RED, Output, coloured, say

@@ -8,7 +8,7 @@ from typing import Any, Callable, Dict, Iterator, List, Tuple
 
 from ._check import ACCEPTED, NO_VERDICT, Choice, Outcome, Target, judge
 from ._files import File, Image, Slice
-from ._layout import layout_objects, plain
+from ._layout import layout_objects, libraries_of, plain
 from ._names import (
     FILETYPES, LC_LOAD_DYLINKER, LC_RPATH, LIBRARIES, platform_name, protection_text, size_text, version_text)
 from ._output import Output, say

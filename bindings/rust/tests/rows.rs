@@ -19,7 +19,7 @@ fn with_symbols(count: u32) -> Vec<u8> {
     file
 }
 
-fn values<'a>(symbols: impl Iterator<Item = Symbol<'a>>) -> Vec<u64> {
+fn values(symbols: impl Iterator<Item = Symbol>) -> Vec<u64> {
     symbols.map(|symbol| symbol.value).collect()
 }
 
@@ -92,13 +92,14 @@ fn a_clone_goes_on_by_itself() {
 #[test]
 fn what_is_read_outlives_the_verdict() {
     let file = with_symbols(1);
-    let symbol = {
+    let (symbol, command) = {
         let verified = kesvuot::verify(&file).unwrap();
         let image = verified.image(0).unwrap();
-        let mut symbols = image.symbols();
-        symbols.next().unwrap()
+        let symbol = image.symbols().next().unwrap();
+        assert_eq!(image.name(&symbol), None);
+        (symbol, image.commands().next().unwrap())
     };
-    assert_eq!((symbol.name, symbol.section), (None, None));
+    assert_eq!((symbol.section, command.bytes), (None, &file[32..56]));
 }
 
 /// An executable of a header, `LC_SEGMENT_64` with two empty sections, `LC_SYMTAB`, and symbols of
@@ -154,8 +155,6 @@ fn sections_of_symbols_exist() {
         (kind, sect, section, symbol.section_index())
     });
     assert_eq!(found.collect::<Vec<_>>(), wanted);
-    let nameless = image.symbols_without_names();
-    assert!(nameless.eq(image.symbols()));
     assert_eq!(image.symbol(3).unwrap().section, Some(1));
 }
 

@@ -17,13 +17,10 @@ import (
 	"kesvuot"
 )
 
-// LC_ID_DYLIB of <mach-o/loader.h>: the name of the image itself.
-const idDylib = 0xd
-
 func loads(file *kesvuot.File, name string) bool {
 	for _, image := range file.Images() {
 		for _, library := range image.Libraries() {
-			if library.Cmd != idDylib && string(library.Name) == name {
+			if string(library.Name) == name {
 				return true
 			}
 		}

@@ -120,6 +120,15 @@ fn compare_commands(image: &Image, commands: &[Plain]) {
     assert_eq!(found.collect::<Vec<_>>(), wanted.collect::<Vec<_>>());
 }
 
+fn library_fields(library: Library<'_>) -> (&[u8], u32, u32, u32) {
+    (
+        library.name,
+        library.cmd,
+        library.current,
+        library.compatible,
+    )
+}
+
 fn compare_libraries(image: &Image, commands: &[Plain]) {
     let libraries = commands
         .iter()
@@ -129,9 +138,11 @@ fn compare_libraries(image: &Image, commands: &[Plain]) {
         (name, *cmd, word(bytes, 16), word(bytes, 20))
     });
     let (ids, loaded): (Vec<_>, Vec<_>) = wanted.partition(|wanted| wanted.1 == LC_ID_DYLIB);
-    let fields = |found: Library| (found.name, found.cmd, found.current, found.compatible);
-    assert_eq!(image.libraries().map(fields).collect::<Vec<_>>(), loaded);
-    assert_eq!(image.id().map(fields), ids.first().copied());
+    assert_eq!(
+        image.libraries().map(library_fields).collect::<Vec<_>>(),
+        loaded
+    );
+    assert_eq!(image.id().map(library_fields), ids.first().copied());
 
     let builds = all_of(commands, LC_BUILD_VERSION);
     let wanted = builds.map(|bytes| (word(bytes, 8), word(bytes, 12), word(bytes, 16)));
