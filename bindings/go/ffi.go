@@ -168,8 +168,8 @@ func readRows[Row any](image *Image, table table, cursor *cursor, count uint64) 
 	return rows[:written]
 }
 
-// readAll returns all rows of a table, of which there are so many.
-func readAll[Row any](image *Image, table table, count C.uint64_t) []Row {
+// readTable returns all rows of a table, of which there are so many.
+func readTable[Row any](image *Image, table table, count C.uint64_t) []Row {
 	return readRows[Row](image, table, new(cursor), uint64(count))
 }
 

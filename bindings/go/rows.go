@@ -22,7 +22,7 @@ func (image *Image) part(span span) []byte { return partOf(image.file, span) }
 
 // Segments returns the segments, in command order.
 func (image *Image) Segments() []Segment {
-	rows := readAll[segmentRow](image, segmentTable, image.numbers.segment_count)
+	rows := readTable[segmentRow](image, segmentTable, image.numbers.segment_count)
 	segments := make([]Segment, len(rows))
 	for index, row := range rows {
 		segments[index] = Segment{
@@ -57,7 +57,7 @@ type Section struct {
 
 // Sections returns the sections of all segments, in command order.
 func (image *Image) Sections() []Section {
-	rows := readAll[sectionRow](image, sectionTable, image.numbers.section_count)
+	rows := readTable[sectionRow](image, sectionTable, image.numbers.section_count)
 	sections := make([]Section, len(rows))
 	for index, row := range rows {
 		sections[index] = Section{
@@ -90,7 +90,7 @@ type Library struct {
 
 // Libraries returns the libraries that the image loads, in command order. What it is itself is ID.
 func (image *Image) Libraries() []Library {
-	rows := readAll[libraryRow](image, libraryTable, image.numbers.library_count)
+	rows := readTable[libraryRow](image, libraryTable, image.numbers.library_count)
 	libraries := make([]Library, len(rows))
 	for index := range rows {
 		libraries[index] = image.newLibrary(&rows[index])
@@ -109,7 +109,7 @@ type Build struct {
 
 // Builds returns the platforms that the image was built for, in command order.
 func (image *Image) Builds() []Build {
-	rows := readAll[buildRow](image, buildTable, image.numbers.build_count)
+	rows := readTable[buildRow](image, buildTable, image.numbers.build_count)
 	builds := make([]Build, len(rows))
 	for index, row := range rows {
 		builds[index] = Build{uint32(row.platform), uint32(row.minos), uint32(row.sdk)}
@@ -130,7 +130,7 @@ type Command struct {
 
 // Commands returns all load commands. Of a command that RULES.md does not list, all fields past cmdsize are unchecked.
 func (image *Image) Commands() []Command {
-	rows := readAll[commandRow](image, commandTable, image.numbers.command_count)
+	rows := readTable[commandRow](image, commandTable, image.numbers.command_count)
 	commands := make([]Command, len(rows))
 	for index, row := range rows {
 		place := uint64(row.bytes.offset) - image.Place
@@ -250,7 +250,7 @@ func newSymbol(row *symbolRow) Symbol {
 // Indirects returns the indirect entries. Each is the index of a symbol, or INDIRECT_SYMBOL_LOCAL (0x80000000),
 // INDIRECT_SYMBOL_ABS (0x40000000) or both.
 func (image *Image) Indirects() []uint32 {
-	rows := readAll[indirectRow](image, indirectTable, image.numbers.indirect_count)
+	rows := readTable[indirectRow](image, indirectTable, image.numbers.indirect_count)
 	indirects := make([]uint32, len(rows))
 	for index, row := range rows {
 		indirects[index] = uint32(row)

@@ -125,7 +125,11 @@ static void try_images(void) {
     struct kesvuot_image image = unwritten_image();
     CHECK(kesvuot_read_image(library.bytes, library.size, 1, &image) == KESVUOT_OK);
     CHECK(is_at(image.slice, 0x1090, 0x4180));
-    CHECK((image.has & KESVUOT_HAS_ID) && image.id.cmd == 0xd && image.library_count > 0);
+    // As tests/real/library.layout has it. It loads no library.
+    static const char name[] = "/usr/lib/libdemo.dylib";
+    CHECK((image.has & KESVUOT_HAS_ID) && image.id.cmd == 0xd && image.library_count == 0);
+    CHECK(image.id.current == 0x10203 && image.id.compatible == 0x10200 && image.id.name.size == strlen(name));
+    CHECK(memcmp(library.bytes + image.id.name.offset, name, sizeof name) == 0);
     CHECK(is_filled(image.reserved, sizeof image.reserved, 0));
     CHECK(image.entry == 0 && !(image.has & KESVUOT_HAS_ENTRY));
     const uint64_t past[] = {2, 3, UINT32_MAX, UINT64_MAX / 20, UINT64_MAX};

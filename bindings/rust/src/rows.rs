@@ -201,7 +201,7 @@ mod tests {
     fn rows_are_skipped() {
         for n in [0, 1, 255, 256, 257, 511, 512, 598, 599, 600, usize::MAX] {
             let wanted = (
-                (n < 600).then(|| n as u64),
+                (n < 600).then_some(n as u64),
                 (n < 599).then(|| n as u64 + 1),
             );
             assert_eq!(skip::<Segment>(0..600, n), wanted, "{n}");
