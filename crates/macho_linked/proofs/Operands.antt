@@ -49,7 +49,7 @@ last_fails stream next place from there =
 
 -- a name ends at its first zero byte
 pub name_ends : (flags : ℕ) (stream : List ℕ) (name z : ℕ) → name ≤ z → slice_get stream z ≡ Some 0 → (HasZero stream name z → ⊥)
-    → with_name flags stream name ≡ Some (step.SetSymbol name flags, z + 1)
+    → with_name flags stream name ≡ Some (step.SetSymbol (record { start = name; len = z + 1 - name }) flags, z + 1)
 name_ends flags stream name z from there first =
     let inside = slice_get_within stream z 0 there in
     let is = string_ends stream name z from there first in

@@ -1,13 +1,13 @@
 -- A walk over the steps of a stream: what it has noted of each rule before a place.
-use Rattle.std.proofs.Common.{◌≡◌, ℕ, ◌+◌, ◌-◌, ◌*◌, ◌^◌, ◌≤◌, ◌<◌, List, [], ◌∷◌, ◌++◌, length, Option, Some, None, MatchOption, inl, inr, refl, sym, ap, ◌∙◌, subst, arith}
+use Rattle.std.proofs.Common.{◌≡◌, ℕ, ◌+◌, ◌-◌, ◌*◌, ◌^◌, ◌≤◌, ◌<◌, List, [], ◌∷◌, ◌++◌, length, fold, Option, Some, None, MatchOption, inl, inr, refl, sym, ap, ◌∙◌, subst, arith}
 use Rattle.std.specs.List.{sum_by}
 use Rattle.std.proofs.lemmas.Bool.{cases_lt, cases_eq}
 use Rattle.std.proofs.lemmas.List.{append-nil}
 use Rattle.std.proofs.lemmas.List.Sums.{fold_push, sum_by-append, sum_by-cons}
 use Rattle.macho_fields.specs.FirstPlace.{IsNoted, IsLeastPlace}
-use Rattle.macho_linked.specs.Cursor.{start, moved, cursor_after}
+use Rattle.macho_linked.specs.Cursor.{start, moved, cursor_after, writes, looks_up, looked_up}
 use Rattle.macho_linked.specs.Steps.{step_at, Follow, AreSteps}
-use Rattle.macho_linked.specs.Streams.{At, IsUndecoded, NamesNoLibrary, LacksName, WritesOutside, PassesBudget, writes, IsSurveyOf}
+use Rattle.macho_linked.specs.Streams.{At, pointers, names, IsUndecoded, NamesNoLibrary, LacksName, WritesOutside, PassesBudget, PassesNames, IsSurveyOf}
 use Rattle.macho_linked.specs.declared.cursor.Cursor.{Cursor}
 use Rattle.macho_linked.specs.declared.step.Opcodes.{Opcodes}
 use Rattle.macho_linked.specs.declared.step.Step.{Step}
@@ -49,20 +49,27 @@ module _ (P : ℕ → Type 0) where
   below_all end None none past = λ place broken. elim (cases_lt place end) [ inl early ↦ none place early broken | inr late ↦ past place late broken ]
   below_all end (Some least) found past = found
 
+-- what the steps up to a place have made of the cursor, and how much they have done
+abbrev Progress : Opcodes → List ℕ → ℕ → Cursor → ℕ → ℕ → Type 0
+Progress of stream place cursor written named =
+    (before : List Step) × AreSteps of stream before place × (cursor ≡ cursor_after before) × (written ≡ pointers before) × (named ≡ names before)
+
 -- where a walk has come
-pub record IsWalked (of : Opcodes) (stream : List ℕ) (limits : Limits) (place : ℕ) (cursor : Cursor) (written : ℕ) (survey : StreamSurvey) : Type 0 where
+pub record IsWalked (of : Opcodes) (stream : List ℕ) (limits : Limits) (place : ℕ) (cursor : Cursor) (written named : ℕ) (survey : StreamSurvey) : Type 0 where
   pub inside : place ≤ length stream
   pub few : written ≤ place * (2 ^ 64 - 1)
-  pub steps : (before : List Step) × AreSteps of stream before place × (cursor ≡ cursor_after before) × (written ≡ sum_by writes before)
+  pub short : named ≤ place * (2 ^ 64 - 1)
+  pub steps : Progress of stream place cursor written named
   pub opcode : survey.opcode ≡ None
-  pub library : IsLeastBelow (At (NamesNoLibrary limits.libraries) of stream) place survey.library
-  pub symbol : IsLeastBelow (At LacksName of stream) place survey.symbol
-  pub slot : IsLeastBelow (At (WritesOutside limits.rooms) of stream) place survey.slot
-  pub total : IsLeastBelow (At (PassesBudget limits.budget) of stream) place survey.total
+  pub library : IsLeastBelow (At pointers (NamesNoLibrary limits.libraries) of stream) place survey.library
+  pub symbol : IsLeastBelow (At pointers LacksName of stream) place survey.symbol
+  pub slot : IsLeastBelow (At pointers (WritesOutside limits.rooms) of stream) place survey.slot
+  pub total : IsLeastBelow (At pointers (PassesBudget limits.budget) of stream) place survey.total
+  pub names : IsLeastBelow (At names (PassesNames (length stream)) of stream) place survey.names
 
-module _ (P : Cursor → ℕ → Step → Type 0) (of : Opcodes) (stream : List ℕ) (place : ℕ) (before : List Step) (are : AreSteps of stream before place) where
+module _ (done : List Step → ℕ) (P : Cursor → ℕ → Step → Type 0) (of : Opcodes) (stream : List ℕ) (place : ℕ) (before : List Step) (are : AreSteps of stream before place) where
   -- no step goes past a place without one
-  pub none_past : step_at of stream place ≡ None → (late : ℕ) → place ≤ late → At P of stream late → ⊥
+  pub none_past : step_at of stream place ≡ None → (late : ℕ) → place ≤ late → At done P of stream late → ⊥
   none_past none late less (others, next, after, chain, at, has) =
       let (rest, on, is) = follow_on of stream before others 0 place late are chain less in
       nothing rest on
@@ -72,28 +79,28 @@ module _ (P : Cursor → ℕ → Step → Type 0) (of : Opcodes) (stream : List 
       nothing (first ∷ rest) (end, here, on) = cc
 
   -- nor past the end of the stream
-  pub none_outside : length stream ≤ place → (late : ℕ) → place ≤ late → At P of stream late → ⊥
+  pub none_outside : length stream ≤ place → (late : ℕ) → place ≤ late → At done P of stream late → ⊥
   none_outside past late less (others, next, after, chain, at, has) =
       let within = step_within of stream late next after at in omega arith
 
   module _ (here : Step) (after : ℕ) (at : step_at of stream place ≡ Some (here, after)) where
     -- the step at the place is the only one there
-    pub at_here : At P of stream place → P (cursor_after before) (sum_by writes before) here
+    pub at_here : At done P of stream place → P (cursor_after before) (done before) here
     at_here (others, next, end, chain, there, has) =
         let same = (same_step _ here next after end at there).0 in
         let (rest, on, is) = follow_on of stream before others 0 place place are chain (omega arith) in
         all_same rest on is same
       where
-        all_same : (rest : List Step) → Follow of stream place rest place → others ≡ before ++ rest → here ≡ next → P (cursor_after before) (sum_by writes before) here
+        all_same : (rest : List Step) → Follow of stream place rest place → others ≡ before ++ rest → here ≡ next → P (cursor_after before) (done before) here
         all_same [] on is same =
-            subst (λ (steps : List Step). P (cursor_after steps) (sum_by writes steps) here) (is ∙ append-nil before)
-            (subst (P (cursor_after others) (sum_by writes others)) (sym same) has)
+            subst (λ (steps : List Step). P (cursor_after steps) (done steps) here) (is ∙ append-nil before)
+            (subst (P (cursor_after others) (done others)) (sym same) has)
         all_same (first ∷ rest) (end_of, begins, on) is same =
             let within = step_within of stream place first end_of begins in
             let more = follow_rises of stream rest end_of place on in absurd (omega arith)
 
     -- and there is none up to its end
-    pub none_between : (between : ℕ) → place < between → between < after → At P of stream between → ⊥
+    pub none_between : (between : ℕ) → place < between → between < after → At done P of stream between → ⊥
     none_between between past less (others, next, end, chain, there, has) =
         let (rest, on, is) = follow_on of stream before others 0 place between are chain (omega arith) in
         nothing rest on
@@ -107,69 +114,94 @@ module _ (P : Cursor → ℕ → Step → Type 0) (of : Opcodes) (stream : List 
 -- Where a walk begins, goes on and ends
 
 pub walk_start : (of : Opcodes) (stream : List ℕ) (limits : Limits) (cursor : Cursor) (survey : StreamSurvey) → cursor ≡ start
-    → survey.opcode ≡ None → survey.library ≡ None → survey.symbol ≡ None → survey.slot ≡ None → survey.total ≡ None
-    → IsWalked of stream limits 0 cursor 0 survey
-walk_start of stream limits cursor survey begins opcode library symbol slot total = record {
+    → survey.opcode ≡ None → survey.library ≡ None → survey.symbol ≡ None → survey.slot ≡ None → survey.total ≡ None → survey.names ≡ None
+    → IsWalked of stream limits 0 cursor 0 0 survey
+walk_start of stream limits cursor survey begins opcode library symbol slot total named = record {
   inside = omega arith;
   few = omega arith;
-  steps = ([], refl, begins, refl);
+  short = omega arith;
+  steps = ([], refl, begins, refl, refl);
   opcode = opcode;
   library = none_below _ library;
   symbol = none_below _ symbol;
   slot = none_below _ slot;
   total = none_below _ total;
+  names = none_below _ named;
 }
   where
     none_below : (P : ℕ → Type 0) {found : Option ℕ} → found ≡ None → IsLeastBelow P 0 found
     none_below P is = let none : IsLeastBelow P 0 None = (λ place below. absurd (omega arith)) in subst (IsLeastBelow P 0) (sym is) none
 
-module _ (of : Opcodes) (stream : List ℕ) (limits : Limits) (place : ℕ) (cursor : Cursor) (written : ℕ) (survey : StreamSurvey)
-    (walked : IsWalked of stream limits place cursor written survey) where
+-- one step more looks up its name too
+looked_up_more : (cursor : Cursor) (before : List Step) (here : Step) → looked_up cursor (before ++ here ∷ []) ≡ looked_up cursor before + looks_up (fold moved cursor before) here
+looked_up_more cursor [] here = omega arith
+looked_up_more cursor (first ∷ before) here = let more = looked_up_more (moved cursor first) before here in omega (arith, more)
+
+module _ (of : Opcodes) (stream : List ℕ) (limits : Limits) (place : ℕ) (cursor : Cursor) (written named : ℕ) (survey : StreamSurvey)
+    (walked : IsWalked of stream limits place cursor written named survey) where
   -- one step more
-  pub walk_more : (here : Step) (after : ℕ) (noted : StreamSurvey) (next : Cursor) (total : ℕ) → step_at of stream place ≡ Some (here, after)
-      → writes here < 2 ^ 64 → next ≡ moved cursor here → total ≡ written + writes here → noted.opcode ≡ survey.opcode
+  pub walk_more : (here : Step) (after : ℕ) (noted : StreamSurvey) (next : Cursor) (total found : ℕ) → step_at of stream place ≡ Some (here, after)
+      → writes here < 2 ^ 64 → looks_up cursor here < 2 ^ 64 → next ≡ moved cursor here → total ≡ written + writes here → found ≡ named + looks_up cursor here
+      → noted.opcode ≡ survey.opcode
       → IsNoted (NamesNoLibrary limits.libraries cursor written here) place survey.library noted.library
       → IsNoted (LacksName cursor written here) place survey.symbol noted.symbol
       → IsNoted (WritesOutside limits.rooms cursor written here) place survey.slot noted.slot
       → IsNoted (PassesBudget limits.budget cursor written here) place survey.total noted.total
-      → IsWalked of stream limits after next total noted
-  walk_more here after noted next total at fits moves counts opcode library symbol slot budget =
-      let (before, are, cursor_is, written_is) = walked.steps in
+      → IsNoted (PassesNames (length stream) cursor named here) place survey.names noted.names
+      → IsWalked of stream limits after next total found noted
+  walk_more here after noted next total found at fits short moves counts finds opcode library symbol slot budget most =
+      let (before, are, cursor_is, written_is, named_is) = walked.steps in
       let within = step_within of stream place here after at in record {
         inside = within.1;
         few = few_more within.0;
-        steps = (before ++ here ∷ [], follow_more of stream before 0 place here after are at, moves ∙ (ap (λ c. moved c here) cursor_is ∙ sym (fold_push moved start before here)), counts ∙ more before written_is);
+        short = short_more within.0;
+        steps = (
+          before ++ here ∷ [],
+          follow_more of stream before 0 place here after are at,
+          moves ∙ (ap (λ c. moved c here) cursor_is ∙ sym (fold_push moved start before here)),
+          counts ∙ more before written_is,
+          finds ∙ more_names before cursor_is named_is,
+        );
         opcode = opcode ∙ walked.opcode;
-        library = passed (NamesNoLibrary limits.libraries) before are cursor_is written_is _ _ walked.library library;
-        symbol = passed LacksName before are cursor_is written_is _ _ walked.symbol symbol;
-        slot = passed (WritesOutside limits.rooms) before are cursor_is written_is _ _ walked.slot slot;
-        total = passed (PassesBudget limits.budget) before are cursor_is written_is _ _ walked.total budget;
+        library = passed pointers written (NamesNoLibrary limits.libraries) before are cursor_is written_is _ _ walked.library library;
+        symbol = passed pointers written LacksName before are cursor_is written_is _ _ walked.symbol symbol;
+        slot = passed pointers written (WritesOutside limits.rooms) before are cursor_is written_is _ _ walked.slot slot;
+        total = passed pointers written (PassesBudget limits.budget) before are cursor_is written_is _ _ walked.total budget;
+        names = passed names named (PassesNames (length stream)) before are cursor_is named_is _ _ walked.names most;
       }
     where
       few_more : place < after → total ≤ after * (2 ^ 64 - 1)
       few_more past = let few = walked.few in omega (arith, few, counts, fits)
 
-      more : (before : List Step) → written ≡ sum_by writes before → written + writes here ≡ sum_by writes (before ++ here ∷ [])
+      short_more : place < after → found ≤ after * (2 ^ 64 - 1)
+      short_more past = let few = walked.short in omega (arith, few, finds, short)
+
+      more : (before : List Step) → written ≡ pointers before → written + writes here ≡ pointers (before ++ here ∷ [])
       more before is =
           let sum = sum_by-append writes before (here ∷ []) in
           let single = sum_by-cons writes here [] in omega (arith, is, sum, single)
 
-      passed : (P : Cursor → ℕ → Step → Type 0) (before : List Step) → AreSteps of stream before place → cursor ≡ cursor_after before → written ≡ sum_by writes before
-          → (old new : Option ℕ) → IsLeastBelow (At P of stream) place old → IsNoted (P cursor written here) place old new → IsLeastBelow (At P of stream) after new
-      passed P before are cursor_is written_is old new found note =
-          let there : P cursor written here → P (cursor_after before) (sum_by writes before) here =
-          (λ has. subst (λ c. P c (sum_by writes before) here) cursor_is (subst (λ n. P cursor n here) written_is has)) in
-          let back : P (cursor_after before) (sum_by writes before) here → P cursor written here =
-          (λ has. subst (λ n. P cursor n here) (sym written_is) (subst (λ c. P c (sum_by writes before) here) (sym cursor_is) has)) in
-          below_more (At P of stream) place after (P cursor written here) old new found note
+      more_names : (before : List Step) → cursor ≡ cursor_after before → named ≡ names before → named + looks_up cursor here ≡ names (before ++ here ∷ [])
+      more_names before cursor_is is =
+          let sum = looked_up_more start before here in
+          let same : looks_up cursor here ≡ looks_up (cursor_after before) here = ap (λ (c : Cursor). looks_up c here) cursor_is in omega (arith, is, sum, same)
+
+      passed : (done : List Step → ℕ) (count : ℕ) (P : Cursor → ℕ → Step → Type 0) (before : List Step) → AreSteps of stream before place → cursor ≡ cursor_after before → count ≡ done before
+          → (old new : Option ℕ) → IsLeastBelow (At done P of stream) place old → IsNoted (P cursor count here) place old new → IsLeastBelow (At done P of stream) after new
+      passed done count P before are cursor_is count_is old new found note =
+          let there : P cursor count here → P (cursor_after before) (done before) here =
+          (λ has. subst (λ c. P c (done before) here) cursor_is (subst (λ n. P cursor n here) count_is has)) in
+          let back : P (cursor_after before) (done before) here → P cursor count here =
+          (λ has. subst (λ n. P cursor n here) (sym count_is) (subst (λ c. P c (done before) here) (sym cursor_is) has)) in
+          below_more (At done P of stream) place after (P cursor count here) old new found note
           (λ has. (before, here, after, are, at, there has))
-          (λ has. back (at_here P of stream place before are here after at has))
-          (none_between P of stream place before are here after at)
+          (λ has. back (at_here done P of stream place before are here after at has))
+          (none_between done P of stream place before are here after at)
 
   -- each opcode before the place says something
   decoded : (early : ℕ) → early < place → IsUndecoded of stream early → ⊥
   decoded early less ((others, chain), inside, none) =
-      let (before, are, cursor_is, written_is) = walked.steps in
+      let (before, are, cursor_is, written_is, named_is) = walked.steps in
       let (rest, on, is) = follow_on of stream others before 0 early place chain are (omega arith) in
       nothing rest on
     where
@@ -178,19 +210,20 @@ module _ (of : Opcodes) (stream : List ℕ) (limits : Limits) (place : ℕ) (cur
       nothing (first ∷ rest) (end, here, on) = cc
 
   -- what is found of a rule where no step follows
-  found_all : (P : Cursor → ℕ → Step → Type 0) (old found : Option ℕ) → found ≡ old → IsLeastBelow (At P of stream) place old
-      → ((late : ℕ) → place ≤ late → At P of stream late → ⊥) → IsLeastPlace (At P of stream) found
-  found_all P old found is below past = subst (IsLeastPlace (At P of stream)) (sym is) (below_all (At P of stream) place old below past)
+  found_all : (done : List Step → ℕ) (P : Cursor → ℕ → Step → Type 0) (old found : Option ℕ) → found ≡ old → IsLeastBelow (At done P of stream) place old
+      → ((late : ℕ) → place ≤ late → At done P of stream late → ⊥) → IsLeastPlace (At done P of stream) found
+  found_all done P old found is below past = subst (IsLeastPlace (At done P of stream)) (sym is) (below_all (At done P of stream) place old below past)
 
   -- the stream ends at the place
   pub walk_ended : length stream ≤ place → IsSurveyOf of stream limits survey
   walk_ended end =
-      let (before, are, cursor_is, written_is) = walked.steps in record {
+      let (before, are, cursor_is, written_is, named_is) = walked.steps in record {
         opcode = subst (IsLeastPlace (IsUndecoded of stream)) (sym walked.opcode) all_decoded;
-        library = found_all (NamesNoLibrary limits.libraries) _ _ refl walked.library (none_outside (NamesNoLibrary limits.libraries) of stream place before are end);
-        symbol = found_all LacksName _ _ refl walked.symbol (none_outside LacksName of stream place before are end);
-        slot = found_all (WritesOutside limits.rooms) _ _ refl walked.slot (none_outside (WritesOutside limits.rooms) of stream place before are end);
-        total = found_all (PassesBudget limits.budget) _ _ refl walked.total (none_outside (PassesBudget limits.budget) of stream place before are end);
+        library = found_all pointers (NamesNoLibrary limits.libraries) _ _ refl walked.library (none_outside pointers (NamesNoLibrary limits.libraries) of stream place before are end);
+        symbol = found_all pointers LacksName _ _ refl walked.symbol (none_outside pointers LacksName of stream place before are end);
+        slot = found_all pointers (WritesOutside limits.rooms) _ _ refl walked.slot (none_outside pointers (WritesOutside limits.rooms) of stream place before are end);
+        total = found_all pointers (PassesBudget limits.budget) _ _ refl walked.total (none_outside pointers (PassesBudget limits.budget) of stream place before are end);
+        names = found_all names (PassesNames (length stream)) _ _ refl walked.names (none_outside names (PassesNames (length stream)) of stream place before are end);
       }
     where
       all_decoded : IsLeastPlace (IsUndecoded of stream) None
@@ -201,15 +234,16 @@ module _ (of : Opcodes) (stream : List ℕ) (limits : Limits) (place : ℕ) (cur
 
   -- the opcode at the place says nothing
   pub walk_stuck : place < length stream → step_at of stream place ≡ None → (found : StreamSurvey) → found.opcode ≡ Some place
-      → found.library ≡ survey.library → found.symbol ≡ survey.symbol → found.slot ≡ survey.slot → found.total ≡ survey.total
+      → found.library ≡ survey.library → found.symbol ≡ survey.symbol → found.slot ≡ survey.slot → found.total ≡ survey.total → found.names ≡ survey.names
       → IsSurveyOf of stream limits found
-  walk_stuck inside none found opcode library symbol slot total =
-      let (before, are, cursor_is, written_is) = walked.steps in record {
+  walk_stuck inside none found opcode library symbol slot total named_same =
+      let (before, are, cursor_is, written_is, named_is) = walked.steps in record {
         opcode = subst (IsLeastPlace (IsUndecoded of stream)) (sym opcode) (((before, are), inside, none), no_earlier);
-        library = found_all (NamesNoLibrary limits.libraries) _ _ library walked.library (none_past (NamesNoLibrary limits.libraries) of stream place before are none);
-        symbol = found_all LacksName _ _ symbol walked.symbol (none_past LacksName of stream place before are none);
-        slot = found_all (WritesOutside limits.rooms) _ _ slot walked.slot (none_past (WritesOutside limits.rooms) of stream place before are none);
-        total = found_all (PassesBudget limits.budget) _ _ total walked.total (none_past (PassesBudget limits.budget) of stream place before are none);
+        library = found_all pointers (NamesNoLibrary limits.libraries) _ _ library walked.library (none_past pointers (NamesNoLibrary limits.libraries) of stream place before are none);
+        symbol = found_all pointers LacksName _ _ symbol walked.symbol (none_past pointers LacksName of stream place before are none);
+        slot = found_all pointers (WritesOutside limits.rooms) _ _ slot walked.slot (none_past pointers (WritesOutside limits.rooms) of stream place before are none);
+        total = found_all pointers (PassesBudget limits.budget) _ _ total walked.total (none_past pointers (PassesBudget limits.budget) of stream place before are none);
+        names = found_all names (PassesNames (length stream)) _ _ named_same walked.names (none_past names (PassesNames (length stream)) of stream place before are none);
       }
     where
       no_earlier : (other : ℕ) → IsUndecoded of stream other → place ≤ other

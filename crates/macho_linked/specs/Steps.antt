@@ -29,11 +29,12 @@ abbrev pub with_addend : List ℕ → ℕ → Option (Step × ℕ)
 with_addend stream next =
     option_map (λ number. (step.SetAddend number.0, number.1)) (signed_at stream next)
 
--- with a name: the bytes up to the first zero byte, which is in the stream
+-- with a name: the bytes up to the first zero byte, which is in the stream, and that byte
 abbrev pub with_name : ℕ → List ℕ → ℕ → Option (Step × ℕ)
 with_name flags stream next =
     let zero = next + length (string_from next stream) in
-    if nat_lt zero (length stream) then Some (step.SetSymbol next flags, zero + 1) else None
+    if nat_lt zero (length stream)
+    then Some (step.SetSymbol (record { start = next; len = zero + 1 - next }) flags, zero + 1) else None
 
 -- a type that is a pointer
 abbrev pub pointer_type : ℕ → ℕ → ℕ → Option (Step × ℕ)

@@ -2,7 +2,7 @@
 use Rattle.std.specs.Prelude.{◌≡◌, ℕ, ◌+◌, ◌-◌, ◌*◌, ◌≤◌, ◌<◌, List, length, slice_index, Option, Some, None}
 use Rattle.std.specs.List.{sum_by}
 use Rattle.macho_fields.specs.FirstPlace.{IsLeastPlace}
-use Rattle.macho_linked.specs.Cursor.{cursor_after}
+use Rattle.macho_linked.specs.Cursor.{start, cursor_after, writes, looks_up, looked_up}
 use Rattle.macho_linked.specs.Steps.{step_at, AreSteps}
 use Rattle.macho_linked.specs.declared.cursor.Cursor.{Cursor}
 use Rattle.macho_linked.specs.declared.step.Opcodes.{Opcodes}
@@ -19,17 +19,20 @@ IsUndecoded of stream place =
     ((steps : List Step) × AreSteps of stream steps place) × (place < length stream)
     × (step_at of stream place ≡ None)
 
--- how many pointers a step writes
-abbrev pub writes : Step → ℕ
-writes (step.Write count skip) = count
-writes other = 0
+-- How much the steps before a place do: how many pointers they write, and how many bytes of names they
+-- look up.
+abbrev pub pointers : List Step → ℕ
+pointers before = sum_by writes before
 
--- The steps come up to the place. P holds of the cursor there, of how many pointers were written before,
--- and of the step there.
-abbrev pub At : (Cursor → ℕ → Step → Type 0) → Opcodes → List ℕ → ℕ → Type 0
-At P of stream place =
+abbrev pub names : List Step → ℕ
+names before = looked_up start before
+
+-- The steps come up to the place. P holds of the cursor there, of how much was done before, and of the
+-- step there.
+abbrev pub At : (List Step → ℕ) → (Cursor → ℕ → Step → Type 0) → Opcodes → List ℕ → ℕ → Type 0
+At done P of stream place =
     (before : List Step) × (next : Step) × (after : ℕ) × AreSteps of stream before place
-    × (step_at of stream place ≡ Some (next, after)) × P (cursor_after before) (sum_by writes before) next
+    × (step_at of stream place ≡ Some (next, after)) × P (cursor_after before) (done before) next
 
 -- the step sets an ordinal above the number of libraries, or one so far below 0 that it has no meaning
 abbrev pub NamesNoLibrary : ℕ → Cursor → ℕ → Step → Type 0
@@ -62,10 +65,15 @@ WritesOutside rooms cursor written other = ⊥
 abbrev pub PassesBudget : ℕ → Cursor → ℕ → Step → Type 0
 PassesBudget budget cursor written next = (0 < writes next) × (budget < written + writes next)
 
+-- the step writes, and with it more bytes of names are looked up than so many
+abbrev pub PassesNames : ℕ → Cursor → ℕ → Step → Type 0
+PassesNames most cursor named next = (0 < writes next) × (most < named + looks_up cursor next)
+
 -- where one stream breaks each of its rules first
 pub record IsSurveyOf (of : Opcodes) (stream : List ℕ) (limits : Limits) (survey : StreamSurvey) : Type 0 where
   pub opcode : IsLeastPlace (IsUndecoded of stream) survey.opcode
-  pub library : IsLeastPlace (At (NamesNoLibrary limits.libraries) of stream) survey.library
-  pub symbol : IsLeastPlace (At LacksName of stream) survey.symbol
-  pub slot : IsLeastPlace (At (WritesOutside limits.rooms) of stream) survey.slot
-  pub total : IsLeastPlace (At (PassesBudget limits.budget) of stream) survey.total
+  pub library : IsLeastPlace (At pointers (NamesNoLibrary limits.libraries) of stream) survey.library
+  pub symbol : IsLeastPlace (At pointers LacksName of stream) survey.symbol
+  pub slot : IsLeastPlace (At pointers (WritesOutside limits.rooms) of stream) survey.slot
+  pub total : IsLeastPlace (At pointers (PassesBudget limits.budget) of stream) survey.total
+  pub names : IsLeastPlace (At names (PassesNames (length stream)) of stream) survey.names

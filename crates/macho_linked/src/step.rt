@@ -35,10 +35,10 @@ pub enum Step {
     SetLibrary(u64),
     /// Names are looked up as the special ordinal says that is so far below 0.
     SetSpecial(u8),
-    /// The name that begins at a place of the stream is looked up, with the flags.
+    /// A name is looked up, with the flags.
     SetSymbol {
-        /// The place of its first byte.
-        name: u64,
+        /// Its bytes in the stream, up to and with the zero byte that ends it.
+        name: Span,
         /// The flags of the look-up.
         flags: u8,
     },
@@ -65,7 +65,7 @@ pub enum Step {
 
 impl Step {
     ghost use Rattle.std.specs.Prelude.{◌≡◌};
-    ghost use Rattle.macho_linked.specs.Streams.{writes};
+    ghost use Rattle.macho_linked.specs.Cursor.{writes};
 
     /// How many pointers the step writes.
     pub fn writes(self) -> u64
@@ -203,7 +203,12 @@ fn set_symbol(stream: Bytes, flags: u8, name: u64) -> Option<(Step, u64)>
         len: stream.len(),
     };
     let zero = stream.first_zero(rest)?;
-    Some((Step::SetSymbol { name, flags }, zero + 1))
+    let next = zero + 1;
+    let name = Span {
+        start: name,
+        len: next - name,
+    };
+    Some((Step::SetSymbol { name, flags }, next))
 }
 
 fn set_addend(stream: Bytes, next: u64) -> Option<(Step, u64)>

@@ -1,13 +1,14 @@
 //! The rules of one stream of opcodes, in one pass over it.
 
-ghost use Rattle.std.specs.Prelude.{◌≡◌, ◌-◌, ◌^◌, ◌<◌, min};
+ghost use Rattle.std.specs.Prelude.{◌≡◌, ◌-◌, ◌^◌, ◌<◌, min, IsTrue};
 ghost use Rattle.macho_fields.specs.Bytes.{bytes_of};
+ghost use Rattle.macho_fields.specs.FirstPlace.{IsNoted};
 ghost use Rattle.macho_linked.specs.Streams.{IsSurveyOf};
 ghost use Rattle.macho_linked.specs.Streams.{reach as reach_of};
 
 use crate::cursor::Cursor;
 use crate::step::{Opcodes, POINTER_SIZE, Step, step_at};
-use macho_fields::{Bytes, FirstPlace};
+use macho_fields::Bytes;
 
 /// How many segments a step can name: its segment is four bits.
 pub const SEGMENTS: usize = 16;
@@ -30,15 +31,17 @@ pub struct Limits {
 #[derive(Clone, Copy, Debug)]
 pub struct StreamSurvey {
     /// The first opcode that says nothing.
-    pub opcode: FirstPlace,
+    pub opcode: Option<u64>,
     /// The first one with an ordinal of no library.
-    pub library: FirstPlace,
+    pub library: Option<u64>,
     /// The first one that writes while no name is set.
-    pub symbol: FirstPlace,
+    pub symbol: Option<u64>,
     /// The first one that writes where it may not.
-    pub slot: FirstPlace,
+    pub slot: Option<u64>,
     /// The first one with which more is written than the stream may write.
-    pub total: FirstPlace,
+    pub total: Option<u64>,
+    /// The first one that writes with which the names that were looked up have more bytes than the stream.
+    pub names: Option<u64>,
 }
 
 /// Goes over the steps of a stream, once.
@@ -48,14 +51,17 @@ pub fn survey(opcodes: Opcodes, stream: Bytes, limits: &Limits) -> StreamSurvey
     let mut survey = StreamSurvey::unbroken();
     let mut cursor = Cursor::new();
     let mut written: u128 = 0;
+    let mut named: u128 = 0;
     let mut place = 0;
     while place < stream.len() {
         let Some((step, next)) = step_at(opcodes, stream, place) else {
-            survey.opcode.note(place);
+            survey.opcode = Some(place);
             return survey;
         };
         survey.note(place, cursor, written, step, limits);
+        survey.note_names(place, cursor, named, step, stream.len());
         written += u128::from(step.writes());
+        named += u128::from(cursor.looks_up(step));
         cursor = cursor.moved(step);
         place = next;
     }
@@ -63,9 +69,10 @@ pub fn survey(opcodes: Opcodes, stream: Bytes, limits: &Limits) -> StreamSurvey
 }
 
 impl StreamSurvey {
-    ghost use Rattle.std.specs.Prelude.{◌≡◌, ◌+◌, ◌^◌, ◌<◌, None};
+    ghost use Rattle.std.specs.Prelude.{◌≡◌, ◌+◌, ◌^◌, ◌≤◌, ◌<◌, None};
     ghost use Rattle.macho_fields.specs.FirstPlace.{IsNoted};
-    ghost use Rattle.macho_linked.specs.Streams.{NamesNoLibrary, LacksName, WritesOutside, PassesBudget, writes};
+    ghost use Rattle.macho_linked.specs.Cursor.{writes};
+    ghost use Rattle.macho_linked.specs.Streams.{NamesNoLibrary, LacksName, WritesOutside, PassesBudget, PassesNames};
 
     // No rule is broken.
     fn unbroken() -> StreamSurvey
@@ -74,13 +81,15 @@ impl StreamSurvey {
         ensures symbol { result.symbol ≡ None }
         ensures slot { result.slot ≡ None }
         ensures total { result.total ≡ None }
+        ensures names { result.names ≡ None }
     {
         StreamSurvey {
-            opcode: FirstPlace::none(),
-            library: FirstPlace::none(),
-            symbol: FirstPlace::none(),
-            slot: FirstPlace::none(),
-            total: FirstPlace::none(),
+            opcode: None,
+            library: None,
+            symbol: None,
+            slot: None,
+            total: None,
+            names: None,
         }
     }
 
@@ -96,19 +105,47 @@ impl StreamSurvey {
             self.old.slot self.new.slot }
         ensures total { IsNoted (PassesBudget limits.now.budget cursor written step) place
             self.old.total self.new.total }
+        ensures names { self.new.names ≡ self.old.names }
     {
         match step {
-            Step::SetLibrary(ordinal) => self.library.note_if(ordinal > limits.libraries, place),
-            Step::SetSpecial(below) => self.library.note_if(below > SPECIAL_ORDINALS, place),
+            Step::SetLibrary(ordinal) => note_if(
+                &mut self.library,
+                ordinal > limits.libraries,
+                place,
+            ),
+            Step::SetSpecial(below) => note_if(&mut self.library, below > SPECIAL_ORDINALS, place),
             Step::Write { count, skip } if count > 0 => {
-                self.symbol.note_if(cursor.name.is_none(), place);
-                self.slot
-                    .note_if(!limits.has_room(cursor, count, skip), place);
-                self.total
-                    .note_if(written + u128::from(count) > limits.budget, place);
+                note_if(&mut self.symbol, cursor.name.is_none(), place);
+                note_if(&mut self.slot, !limits.has_room(cursor, count, skip), place);
+                let passes = written + u128::from(count) > limits.budget;
+                note_if(&mut self.total, passes, place);
             }
             _ => {}
         }
+    }
+
+    // Notes whether with the step at `place` more bytes of names are looked up than `most`. So many were
+    // looked up before.
+    fn note_names(&mut self, place: u64, cursor: Cursor, named: u128, step: Step, most: u64)
+        requires { named + 2 ^ 64 ≤ 2 ^ 128 }
+        ensures names { IsNoted (PassesNames most cursor named step) place self.old.names self.new.names }
+        ensures opcode { self.new.opcode ≡ self.old.opcode }
+        ensures library { self.new.library ≡ self.old.library }
+        ensures symbol { self.new.symbol ≡ self.old.symbol }
+        ensures slot { self.new.slot ≡ self.old.slot }
+        ensures total { self.new.total ≡ self.old.total }
+    {
+        let passes = named + u128::from(cursor.looks_up(step)) > u128::from(most);
+        note_if(&mut self.names, step.writes() > 0 && passes, place);
+    }
+}
+
+// Notes the place if the rule is broken there, and none was noted before.
+fn note_if(found: &mut Option<u64>, is_broken: bool, place: u64)
+    ensures { IsNoted (IsTrue is_broken) place found.old found.new }
+{
+    if is_broken && found.is_none() {
+        *found = Some(place);
     }
 }
 
