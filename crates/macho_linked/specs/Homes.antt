@@ -1,55 +1,52 @@
 -- The tables of linked data that commands name, and where they lie. (mach-o/loader.h:
--- dyld_info_command, linkedit_data_command, segment_command_64)
-use Rattle.std.specs.Prelude.{◌≡◌, ℕ, ◌<◌, ◌==◌, ◌&&◌, nat_lt, List, [], ◌∷◌, Any, Contains, Bool, true, false, bit_and, IsSomeAnd}
-use Rattle.std.specs.List.{list_any, find}
+-- dyld_info_command, linkedit_data_command, encryption_info_command_64, segment_command_64)
+use Rattle.std.specs.Prelude.{◌≡◌, ℕ, ◌<◌, List, Any, Contains, true, false, IsSomeAnd}
+use Rattle.std.specs.List.{find}
 use Rattle.macho_fields.specs.Image.{command_cmd, commands_of}
-use Rattle.macho_fields.specs.Segment.{segments_of, vmsize, fileoff, filesize, initprot, shows_start}
+use Rattle.macho_fields.specs.Segment.{vmsize, fileoff, filesize, shows_start}
 use Rattle.macho_fields.specs.Symbol.{tables_of}
 use Rattle.macho_fields.specs.declared.header.loader.TheConstants as loader
-use Rattle.macho_fields.specs.declared.header.vm_prot.TheConstants as vm_prot
-use Rattle.macho_spans.specs.Span.{IsInside}
+use Rattle.macho_linked.specs.Kinds.{names_linked_data}
+use Rattle.macho_linked.specs.Segments.{all_segments, is_constant, is_protected, IsLinkedit}
+use Rattle.macho_spans.specs.Span.{IsInside, Shares}
 use Rattle.macho_spans.specs.declared.span.Span.{Span}
-
--- the commands that name tables of linked data
-abbrev pub linked_commands : List ℕ
-linked_commands =
-    loader.LC_DYLD_INFO ∷ loader.LC_DYLD_INFO_ONLY ∷ loader.LC_DYLD_CHAINED_FIXUPS
-    ∷ loader.LC_DYLD_EXPORTS_TRIE ∷ loader.LC_FUNCTION_STARTS ∷ loader.LC_DATA_IN_CODE
-    ∷ loader.LC_CODE_SIGNATURE ∷ []
-
-abbrev pub names_linked_data : ℕ → Bool
-names_linked_data cmd = list_any (λ wanted. cmd == wanted) linked_commands
-
--- the segments of an image
-abbrev pub all_segments : List ℕ → List ℕ
-all_segments image = segments_of image (commands_of image)
-
--- segment_command_64: mapped, and initprot allows writing (mach/vm_prot.h: VM_PROT_WRITE)
-abbrev pub is_writable : List ℕ → ℕ → Bool
-is_writable image segment =
-    nat_lt 0 (vmsize image segment)
-    && nat_lt 0 (bit_and (initprot image segment) vm_prot.VM_PROT_WRITE)
 
 -- the bytes of a segment in the file
 abbrev pub file_part : List ℕ → ℕ → Span
 file_part image segment =
     record { start = fileoff image segment; len = filesize image segment }
 
--- A segment is a home of some bytes: it is mapped and not writable, and they are among its bytes in the
--- file.
+-- A segment is a home of some bytes: it is mapped, can be read and not written, is not decrypted, and
+-- they are among its bytes in the file.
 abbrev pub IsHome : Span → List ℕ → ℕ → Type 0
 IsHome table image segment =
-    (0 < vmsize image segment) × (is_writable image segment ≡ false)
-    × IsInside table (file_part image segment)
+    (0 < vmsize image segment) × (is_constant image segment ≡ true)
+    × (is_protected image segment ≡ false) × IsInside table (file_part image segment)
 
--- the bytes of a table of linked data, whose items are bytes
+-- loaders look for them in the segment, and it is no home of them
+abbrev pub IsAstray : Span → List ℕ → ℕ → Type 0
+IsAstray table image segment = IsLinkedit image segment × ¬ IsHome table image segment
+
+-- the bytes of a table whose items are bytes
 abbrev pub bytes_of_table : ℕ × ℕ × ℕ → Span
 bytes_of_table table = record { start = table.0; len = table.1 }
 
--- the table has bytes, and no segment is their home
+-- LC_ENCRYPTION_INFO_64: the command has a range of encrypted bytes, and one of them is in the span
+abbrev pub Encrypts : Span → List ℕ → ℕ → Type 0
+Encrypts table image command =
+    (command_cmd image command ≡ loader.LC_ENCRYPTION_INFO_64)
+    × Any (λ range. Shares (bytes_of_table range) table) (tables_of image command)
+
+-- Loaders find these bytes as they are in the file: there is a segment in which they look, each is a
+-- home of the bytes, and none of them is encrypted.
+abbrev pub HasHome : Span → List ℕ → Type 0
+HasHome table image =
+    Any (IsLinkedit image) (all_segments image) × (¬ Any (IsAstray table image) (all_segments image))
+    × (¬ Any (Encrypts table image) (commands_of image))
+
+-- the table has bytes, and no home
 abbrev pub IsHomeless : List ℕ → ℕ × ℕ × ℕ → Type 0
-IsHomeless image table =
-    (0 < table.1) × ¬ Any (IsHome (bytes_of_table table) image) (all_segments image)
+IsHomeless image table = (0 < table.1) × ¬ HasHome (bytes_of_table table) image
 
 -- the command names such a table of linked data
 abbrev pub HasHomeless : List ℕ → ℕ → Type 0
@@ -67,11 +64,11 @@ HasLinkedData image command =
     (names_linked_data (command_cmd image command) ≡ true)
     × Any (λ table. 0 < table.1) (tables_of image command)
 
--- the image has a base, and its segment is not writable
+-- the image has a base, and its segment can be read and not written
 abbrev pub HasSafeBase : List ℕ → Type 0
 HasSafeBase image =
     IsSomeAnd (find (shows_start image) (all_segments image))
-    (λ base. is_writable image base ≡ false)
+    (λ base. is_constant image base ≡ true)
 
 -- the rule header-home, which is broken at the header
 abbrev pub BreaksHeaderHome : List ℕ → ℕ → Type 0

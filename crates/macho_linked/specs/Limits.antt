@@ -5,7 +5,7 @@ use Rattle.macho_fields.specs.Image.{command_cmd, commands_of}
 use Rattle.macho_fields.specs.LoadCommands.{names_library}
 use Rattle.macho_fields.specs.Segment.{filesize}
 use Rattle.macho_fields.specs.declared.header.loader.TheConstants as loader
-use Rattle.macho_linked.specs.Homes.{all_segments, is_writable}
+use Rattle.macho_linked.specs.Segments.{all_segments, is_writable}
 use Rattle.macho_linked.specs.declared.step.TheConstants as size
 use Rattle.macho_linked.specs.declared.stream.TheConstants as stream
 

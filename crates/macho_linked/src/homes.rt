@@ -1,5 +1,5 @@
-//! Where the tables of linked data lie: a loader reads them in memory while it writes, so no segment that
-//! it can write may hold them. (`mach-o/loader.h`)
+//! Where the tables of linked data lie: a loader reads them in memory while it writes, so it must find them
+//! there as they are in the file. (`mach-o/loader.h`)
 
 ghost use Rattle.std.specs.Prelude.{◌≡◌, ◌↔◌, ◌+◌, ◌*◌, ◌^◌, ◌≤◌, ◌<◌, length, IsTrue, Any, Contains};
 ghost use Rattle.macho_fields.specs.Bytes.{bytes_of};
@@ -8,31 +8,31 @@ ghost use Rattle.macho_fields.specs.Image.{command_cmd, commands_of};
 ghost use Rattle.macho_fields.specs.LoadCommands.{width_size};
 ghost use Rattle.macho_fields.specs.Symbol.{table_at, tables_of};
 ghost use Rattle.macho_image.specs.Opened.{IsOpened};
-ghost use Rattle.macho_linked.specs.Homes.{all_segments, names_linked_data as names_linked_data_of, is_writable as is_writable_of, IsHome, IsHomeless, HasHomeless, BreaksTableHome, HasLinkedData, HasSafeBase, BreaksHeaderHome};
+ghost use Rattle.macho_linked.specs.Homes.{bytes_of_table, Encrypts, IsHome, IsAstray, HasHome, IsHomeless, HasHomeless, BreaksTableHome, HasLinkedData, HasSafeBase, BreaksHeaderHome};
+ghost use Rattle.macho_linked.specs.Segments.{all_segments, IsLinkedit};
+ghost use Rattle.macho_spans.specs.Span.{Shares};
 
-use macho_fields::header::loader::{
-    LC_CODE_SIGNATURE, LC_DATA_IN_CODE, LC_DYLD_CHAINED_FIXUPS, LC_DYLD_EXPORTS_TRIE, LC_DYLD_INFO,
-    LC_DYLD_INFO_ONLY, LC_FUNCTION_STARTS,
-};
-use macho_fields::header::vm_prot::VM_PROT_WRITE;
+use crate::kinds::names_linked_data;
+use crate::segment::{is_constant, is_linkedit, is_protected};
+use macho_fields::header::loader::{LC_ENCRYPTION_INFO_64, SEGMENT_COMMAND_64_SIZE};
 use macho_fields::{Span, TableFields, structure_of};
 use macho_image::{Image, Segment};
 
-/// The place of the first command that names a table of linked data which is not in the file bytes of a
-/// mapped segment that is not writable.
+/// The place of the first command that names a table of linked data without a home: a loader does not find
+/// it in a segment named `__LINKEDIT`, can write it, or finds other bytes than those of the file.
 pub fn table_home(image: &Image) -> Option<u64>
     ensures { IsLeastPlace (BreaksTableHome image.now) result }
 {
     for command in image.commands() {
-        if names_linked_data(command.cmd) && has_homeless(image, command.cmd, command.place) {
+        if names_homeless(image, command.cmd, command.place) {
             return Some(command.place);
         }
     }
     None
 }
 
-/// The place 0, if a command names a table of linked data, and the image has no base, or its segment is
-/// writable.
+/// The place 0, if a command names a table of linked data, and the image has no base, or its segment can
+/// be written or not be read.
 pub fn header_home(image: &Image) -> Option<u64>
     ensures { IsLeastPlace (BreaksHeaderHome image.now) result }
 {
@@ -43,32 +43,38 @@ pub fn header_home(image: &Image) -> Option<u64>
     }
 }
 
-// Whether a command with this `cmd` names tables of linked data.
-fn names_linked_data(cmd: u32) -> bool
-    ensures { result ≡ names_linked_data_of cmd }
-{
-    matches!(
-        cmd,
-        LC_DYLD_INFO
-            | LC_DYLD_INFO_ONLY
-            | LC_DYLD_CHAINED_FIXUPS
-            | LC_DYLD_EXPORTS_TRIE
-            | LC_FUNCTION_STARTS
-            | LC_DATA_IN_CODE
-            | LC_CODE_SIGNATURE
-    )
-}
-
 // Whether a command names a table of linked data that has bytes.
 fn has_linked_data(image: &Image) -> bool
     ensures { IsTrue result ↔ Any (HasLinkedData image.now) (commands_of image.now) }
 {
     for command in image.commands() {
-        if names_linked_data(command.cmd) && has_table(image, command.cmd, command.place) {
+        if names_table(image, command.cmd, command.place) {
             return true;
         }
     }
     false
+}
+
+// Whether the command at the place `command`, whose number is `cmd`, names a table of linked data that has
+// bytes.
+fn names_table(image: &Image, cmd: u32, command: u64) -> bool
+    requires opened { IsOpened image.now }
+    requires listed { Contains (commands_of image.now) command }
+    requires cmd { cmd ≡ command_cmd image.now command }
+    ensures { IsTrue result ↔ HasLinkedData image.now command }
+{
+    names_linked_data(cmd) && has_table(image, cmd, command)
+}
+
+// Whether the command at the place `command`, whose number is `cmd`, names a table of linked data that has
+// bytes and no home.
+fn names_homeless(image: &Image, cmd: u32, command: u64) -> bool
+    requires opened { IsOpened image.now }
+    requires listed { Contains (commands_of image.now) command }
+    requires cmd { cmd ≡ command_cmd image.now command }
+    ensures { IsTrue result ↔ HasHomeless image.now command }
+{
+    names_linked_data(cmd) && has_homeless(image, cmd, command)
 }
 
 // Whether one of the tables that the command at the place `command` names, whose number is `cmd`, has
@@ -91,13 +97,13 @@ fn has_table(image: &Image, cmd: u32, command: u64) -> bool
     false
 }
 
-// Whether the base is that of a segment which is not writable.
+// Whether the base is that of a segment which can be read and not written.
 fn has_safe_base(image: &Image) -> bool
     ensures { IsTrue result ↔ HasSafeBase image.now }
 {
     for segment in image.segments() {
         if segment.shows_start() {
-            return !is_writable(&segment);
+            return is_constant(&segment);
         }
     }
     false
@@ -128,34 +134,112 @@ fn is_homeless(image: &Image, command: u64, fields: TableFields) -> bool
     requires count { command + fields.count + width_size fields.width ≤ length image.now }
     ensures { IsTrue result ↔ IsHomeless image.now (table_at image.now command fields) }
 {
+    let table = span_of(image, command, fields);
+    table.len > 0 && !has_home(image, table)
+}
+
+// The bytes of the table that these fields of the command bound.
+fn span_of(image: &Image, command: u64, fields: TableFields) -> Span
+    requires place { command + fields.place + width_size fields.width ≤ length image.now }
+    requires count { command + fields.count + width_size fields.width ≤ length image.now }
+    ensures { result ≡ bytes_of_table (table_at image.now command fields) }
+{
     let bytes = image.bytes();
     let start = fields.table_place(bytes, command);
     let len = fields.item_count(bytes, command);
-    len > 0 && !has_home(image, Span { start, len })
+    Span { start, len }
 }
 
-// Whether some segment is a home of the table.
+// Whether loaders find the table as it is in the file.
 fn has_home(image: &Image, table: Span) -> bool
-    ensures { IsTrue result ↔ Any (IsHome table image.now) (all_segments image.now) }
+    ensures { IsTrue result ↔ HasHome table image.now }
+{
+    has_linkedit(image) && !has_astray(image, table) && !is_encrypted(image, table)
+}
+
+// Whether some segment is one in which loaders look for tables.
+fn has_linkedit(image: &Image) -> bool
+    ensures { IsTrue result ↔ Any (IsLinkedit image.now) (all_segments image.now) }
 {
     for segment in image.segments() {
-        if is_home(&segment, table) {
+        if is_linkedit(&segment) {
             return true;
         }
     }
     false
 }
 
-// Whether the segment is a home of the table: mapped, not writable, with the table in its file bytes.
-fn is_home(segment: &Segment, table: Span) -> bool
-    ensures { IsTrue result ↔ IsHome table segment.now.image segment.now.place }
+// Whether loaders look for the table in some segment that is no home of it.
+fn has_astray(image: &Image, table: Span) -> bool
+    ensures { IsTrue result ↔ Any (IsAstray table image.now) (all_segments image.now) }
 {
-    segment.vmsize() > 0 && !is_writable(segment) && table.inside(&segment.file_part())
+    for segment in image.segments() {
+        if is_astray(&segment, table) {
+            return true;
+        }
+    }
+    false
 }
 
-/// Whether the segment is mapped, and its initial protection allows writing.
-pub fn is_writable(segment: &Segment) -> bool
-    ensures { result ≡ is_writable_of segment.now.image segment.now.place }
+// Whether loaders look for the table in the segment, and it is no home of it.
+fn is_astray(segment: &Segment, table: Span) -> bool
+    requires { segment.now.place + SEGMENT_COMMAND_64_SIZE ≤ length segment.now.image }
+    ensures { IsTrue result ↔ IsAstray table segment.now.image segment.now.place }
 {
-    segment.vmsize() > 0 && segment.initprot() & u64::from(VM_PROT_WRITE) != 0
+    is_linkedit(segment) && !is_home(segment, table)
+}
+
+// Whether the segment is a home of the table: mapped, read and not written, not decrypted, with the table
+// in its file bytes.
+fn is_home(segment: &Segment, table: Span) -> bool
+    requires { segment.now.place + SEGMENT_COMMAND_64_SIZE ≤ length segment.now.image }
+    ensures { IsTrue result ↔ IsHome table segment.now.image segment.now.place }
+{
+    segment.vmsize() > 0
+        && is_constant(segment)
+        && !is_protected(segment)
+        && table.inside(&segment.file_part())
+}
+
+// Whether a byte of the table is in an encrypted range.
+fn is_encrypted(image: &Image, table: Span) -> bool
+    ensures { IsTrue result ↔ Any (Encrypts table image.now) (commands_of image.now) }
+{
+    for command in image.commands() {
+        if encrypts(image, command.cmd, command.place, table) {
+            return true;
+        }
+    }
+    false
+}
+
+// Whether the command at the place `command`, whose number is `cmd`, has an encrypted range with a byte of
+// the table.
+fn encrypts(image: &Image, cmd: u32, command: u64, table: Span) -> bool
+    requires opened { IsOpened image.now }
+    requires listed { Contains (commands_of image.now) command }
+    requires cmd { cmd ≡ command_cmd image.now command }
+    ensures { IsTrue result ↔ Encrypts table image.now command }
+{
+    cmd == LC_ENCRYPTION_INFO_64 && shares_range(image, cmd, command, table)
+}
+
+// Whether one of the ranges that the command at the place `command` bounds, whose number is `cmd`, has a
+// byte of the table.
+fn shares_range(image: &Image, cmd: u32, command: u64, table: Span) -> bool
+    requires opened { IsOpened image.now }
+    requires listed { Contains (commands_of image.now) command }
+    requires cmd { cmd ≡ command_cmd image.now command }
+    ensures { IsTrue result
+        ↔ Any (λ range. Shares (bytes_of_table range) table) (tables_of image.now command) }
+{
+    let Some(structure) = structure_of(cmd) else {
+        return false;
+    };
+    for fields in structure.tables() {
+        if span_of(image, command, *fields).shares(&table) {
+            return true;
+        }
+    }
+    false
 }

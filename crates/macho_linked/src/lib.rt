@@ -4,8 +4,10 @@
 
 pub mod cursor;
 pub mod homes;
+pub mod kinds;
 pub mod limits;
 pub mod numbers;
 pub mod opcode;
+pub mod segment;
 pub mod step;
 pub mod stream;

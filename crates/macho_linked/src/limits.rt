@@ -3,7 +3,7 @@
 ghost use Rattle.std.specs.Prelude.{◌≡◌};
 ghost use Rattle.macho_linked.specs.Limits.{AreRooms, rooms_of as all_rooms, budget_of, room as room_of, library_count as library_count_of, loads_library as loads_library_of};
 
-use crate::homes::is_writable;
+use crate::segment::is_writable;
 use crate::step::POINTER_SIZE;
 use crate::stream::{Limits, SEGMENTS};
 use macho_fields::header::loader::LC_ID_DYLIB;

@@ -1,32 +1,21 @@
-use Rattle.std.proofs.Common.{refl, ◌∙◌}
-use Rattle.std.proofs.lemmas.Bool.{false≢true, both_ways}
-use Rattle.macho_rules.proofs.Searches.{first_among, search_next, none_left}
-use Rattle.macho_rules.proofs.SegmentItems.{segments_search, some_segment, of_segment}
-use Rattle.macho_linked.specs.Homes.{IsHome}
+use Rattle.std.proofs.Common.{IsTrue, sym, ◌∙◌}
+use Rattle.std.specs.Prelude.{not}
+use Rattle.std.proofs.lemmas.Bool.{false≢true}
+use Rattle.macho_linked.proofs.Nots.{not_true, true_not}
 use Rattle.macho_linked.proofs.homes.has_home.Goals as goal
+use Rattle.macho_linked.proofs.homes.has_home.Goals.{then-has_linkedit, else-has_linkedit}
 
-pub loop-segment-init : goal.loop-segment-init
-loop-segment-init c =
-    let are = c.into_iter-segment-iterator.ensures.into_iter_gives ∙ c.segments-segment-items.ensures.segments in
-    segments_search c.args.image.now _ are _ c.segments-segment-items.ensures.opened
-
-pub returns-then-is_home : goal.returns-then-is_home
-returns-then-is_home c =
-    let are = c.into_iter-segment-iterator.ensures.into_iter_gives ∙ c.segments-segment-items.ensures.segments in
-    let among = first_among _ _ _ _ _ c.in-Some.segment c.in-Some.ensures.steps c.loop-segment.invariant in
-    let here = some_segment c.args.image.now _ are (IsHome c.args.table) c.in-Some.segment among (c.is_home.ensures.0 c.if-is_home.true) in
-    (λ _. here, λ _. refl)
-
-pub loop-segment-preserved : goal.loop-segment-preserved
-loop-segment-preserved c =
-    search_next _ _ _ _ _ c.in-Some.segment c.in-Some.ensures.steps c.loop-segment.invariant
-    (λ has. both_ways c.is_home.result c.if-is_home.false (c.is_home.ensures.1 has))
-
-pub returns : goal.returns
-returns c = (
-  λ wrong. absurd (false≢true wrong),
-  λ any.
-      let are = c.into_iter-segment-iterator.ensures.into_iter_gives ∙ c.segments-segment-items.ensures.segments in
-      let (s, has, here) = of_segment c.args.image.now _ are (IsHome c.args.table) any in
-      absurd (none_left _ _ _ _ c.in-None.ensures.steps.0 c.loop-segment.invariant s has here),
-)
+pub returns-then-not-has_astray : goal.returns-then-not-has_astray
+returns-then-not-has_astray c =
+    elim c.if-has_linkedit.branch [
+      | then-has_linkedit w ↦
+          let none : IsTrue (not w.has_astray.result) = sym w.value-is ∙ c.if-not-has_astray.true in (
+            λ plain. (
+              c.has_linkedit.ensures.0 w.if-has_linkedit.true,
+              λ any. not_true _ none (w.has_astray.ensures.1 any),
+              λ any. not_true _ plain (c.is_encrypted.ensures.1 any),
+            ),
+            λ home. true_not _ (λ encrypted. home.2 (c.is_encrypted.ensures.0 encrypted)),
+          )
+      | else-has_linkedit w ↦ absurd (false≢true (sym w.if-has_linkedit.false ∙ (sym w.value-is ∙ c.if-not-has_astray.true)))
+    ]

@@ -13,8 +13,8 @@ loop-segment-preserved c =
 pub returns-then-shows_start : goal.returns-then-shows_start
 returns-then-shows_start c =
     let are = c.into_iter-segment-iterator.ensures.into_iter_gives ∙ c.segments-segment-items.ensures.segments in
-    base_found c.args.image.now _ _ _ are c.loop-segment.invariant.2 c.in-Some.segment c.is_writable.result c.in-Some.ensures.steps
-    (sym c.shows_start.ensures ∙ c.if-shows_start.true) c.is_writable.ensures
+    base_found c.args.image.now _ _ _ are c.loop-segment.invariant.2 c.in-Some.segment c.is_constant.result c.in-Some.ensures.steps
+    (sym c.shows_start.ensures ∙ c.if-shows_start.true) c.is_constant.ensures
 
 pub returns : goal.returns
 returns c =

@@ -1,0 +1,51 @@
+//! What the name, the protection and the flags of a segment say of the linked data in it.
+//! (`mach-o/loader.h`: `segment_command_64`; `mach/vm_prot.h`)
+
+ghost use Rattle.std.specs.Prelude.{◌≡◌, ◌↔◌, ◌+◌, ◌≤◌, IsTrue, length};
+ghost use Rattle.macho_linked.specs.Segments.{is_writable as is_writable_of, is_constant as is_constant_of, is_protected as is_protected_of, IsLinkedit};
+
+use macho_fields::Order;
+use macho_fields::header::loader::SEGMENT_COMMAND_64_SIZE;
+use macho_fields::header::vm_prot::{VM_PROT_READ, VM_PROT_WRITE};
+use macho_image::Segment;
+
+/// Of the flags of a segment: a kernel decrypts its pages.
+pub const SG_PROTECTED_VERSION_1: u32 = 0x8;
+
+/// The name of the segment in which loaders look for linked data. (`SEG_LINKEDIT`)
+const SEG_LINKEDIT: &[u8] = b"__LINKEDIT";
+
+// The offset of `flags` in `segment_command_64`.
+const FLAGS: u64 = 68;
+
+/// Whether the segment is mapped, and its initial protection allows writing.
+pub fn is_writable(segment: &Segment) -> bool
+    ensures { result ≡ is_writable_of segment.now.image segment.now.place }
+{
+    segment.vmsize() > 0 && segment.initprot() & u64::from(VM_PROT_WRITE) != 0
+}
+
+/// Whether a loader can read the segment, and cannot write it.
+pub fn is_constant(segment: &Segment) -> bool
+    ensures { result ≡ is_constant_of segment.now.image segment.now.place }
+{
+    segment.initprot() & u64::from(VM_PROT_READ) != 0 && !is_writable(segment)
+}
+
+/// Whether a kernel decrypts the pages of the segment.
+pub fn is_protected(segment: &Segment) -> bool
+    requires { segment.now.place + SEGMENT_COMMAND_64_SIZE ≤ length segment.now.image }
+    ensures { result ≡ is_protected_of segment.now.image segment.now.place }
+{
+    let flags = segment
+        .image()
+        .read_u32(Order::Little, segment.place() + FLAGS);
+    flags & SG_PROTECTED_VERSION_1 != 0
+}
+
+/// Whether loaders take the segment, by its name, for the one that has the linked data.
+pub fn is_linkedit(segment: &Segment) -> bool
+    ensures { IsTrue result ↔ IsLinkedit segment.now.image segment.now.place }
+{
+    segment.name() == SEG_LINKEDIT
+}
