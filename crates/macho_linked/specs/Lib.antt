@@ -6,3 +6,4 @@ pub mod Segments
 pub mod Kinds
 pub mod Homes
 pub mod Limits
+pub mod Images

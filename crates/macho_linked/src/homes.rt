@@ -139,7 +139,7 @@ fn is_homeless(image: &Image, command: u64, fields: TableFields) -> bool
 }
 
 // The bytes of the table that these fields of the command bound.
-fn span_of(image: &Image, command: u64, fields: TableFields) -> Span
+pub(crate) fn span_of(image: &Image, command: u64, fields: TableFields) -> Span
     requires place { command + fields.place + width_size fields.width ≤ length image.now }
     requires count { command + fields.count + width_size fields.width ≤ length image.now }
     ensures { result ≡ bytes_of_table (table_at image.now command fields) }

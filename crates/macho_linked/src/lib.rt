@@ -11,3 +11,4 @@ pub mod opcode;
 pub mod segment;
 pub mod step;
 pub mod stream;
+pub mod streams;

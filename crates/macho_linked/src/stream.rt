@@ -75,7 +75,7 @@ impl StreamSurvey {
     ghost use Rattle.macho_linked.specs.Streams.{NamesNoLibrary, LacksName, WritesOutside, PassesBudget, PassesNames};
 
     // No rule is broken.
-    fn unbroken() -> StreamSurvey
+    pub(crate) fn unbroken() -> StreamSurvey
         ensures opcode { result.opcode ≡ None }
         ensures library { result.library ≡ None }
         ensures symbol { result.symbol ≡ None }

@@ -1,0 +1,104 @@
+-- The streams of an image, and where they break their rules. A place is one in the image.
+-- (mach-o/loader.h: dyld_info_command)
+use Rattle.std.specs.Prelude.{◌≡◌, ℕ, ◌+◌, ◌^◌, ◌<◌, ◌⊎◌, List, length, min, Option, Some, None, IfSome, IsSomeAnd}
+use Rattle.std.specs.Option.{option_map, option_map_or}
+use Rattle.macho_fields.specs.Field.{part}
+use Rattle.macho_fields.specs.FirstPlace.{IsLeastPlace}
+use Rattle.macho_fields.specs.Image.{commands_of}
+use Rattle.macho_fields.specs.LoadCommands.{word_table}
+use Rattle.macho_fields.specs.Symbol.{table_at}
+use Rattle.macho_fields.specs.declared.header.loader.TheConstants as loader
+use Rattle.macho_fields.specs.declared.load_command.TableFields.{TableFields}
+use Rattle.macho_image.specs.Command.{first_with_cmd}
+use Rattle.macho_linked.specs.Limits.{rooms_of, library_count, budget_of}
+use Rattle.macho_linked.specs.Streams.{At, pointers, names, IsUndecoded, NamesNoLibrary, LacksName, WritesOutside, PassesBudget, PassesNames}
+use Rattle.macho_linked.specs.declared.step.Opcodes.{Opcodes}
+use Rattle.macho_linked.specs.declared.step.Opcodes.TheVariants as opcodes
+use Rattle.macho_linked.specs.declared.stream.StreamSurvey.{StreamSurvey}
+
+-- the command that names the streams of an image, of which there is at most one after table-repeated
+abbrev pub dyld_info : List ℕ → Option ℕ
+dyld_info image =
+    option_map_or (λ command. Some command)
+    (first_with_cmd image loader.LC_DYLD_INFO_ONLY (commands_of image))
+    (first_with_cmd image loader.LC_DYLD_INFO (commands_of image))
+
+-- dyld_info_command: rebase_off at 8, bind_off 16, weak_bind_off 24 and lazy_bind_off 32. The size of
+-- each follows it.
+abbrev pub bounded_at : ℕ → TableFields
+bounded_at place = word_table place (place + 4) 1
+
+-- The rules of a stream of an image
+
+abbrev pub Undecoded : List ℕ → Opcodes → List ℕ → ℕ → Type 0
+Undecoded image of stream = IsUndecoded of stream
+
+abbrev pub NoLibrary : List ℕ → Opcodes → List ℕ → ℕ → Type 0
+NoLibrary image of stream = At pointers (NamesNoLibrary (library_count image)) of stream
+
+abbrev pub NoName : List ℕ → Opcodes → List ℕ → ℕ → Type 0
+NoName image of stream = At pointers LacksName of stream
+
+abbrev pub NoSlot : List ℕ → Opcodes → List ℕ → ℕ → Type 0
+NoSlot image of stream = At pointers (WritesOutside (rooms_of image)) of stream
+
+abbrev pub TooMany : List ℕ → Opcodes → List ℕ → ℕ → Type 0
+TooMany image of stream = At pointers (PassesBudget (budget_of image)) of stream
+
+abbrev pub TooLong : List ℕ → Opcodes → List ℕ → ℕ → Type 0
+TooLong image of stream = At names (PassesNames (length stream)) of stream
+
+-- such a rule, of the bytes of a table, at the place of an opcode
+abbrev pub InTable : Opcodes → List ℕ → ℕ × ℕ × ℕ → (List ℕ → Opcodes → List ℕ → ℕ → Type 0) → ℕ → Type 0
+InTable of image table Rule place =
+    (offset : ℕ) × (place ≡ table.0 + offset) × Rule image of (part table.0 table.1 image) offset
+
+-- of the rebase stream
+abbrev pub InRebases : List ℕ → (List ℕ → Opcodes → List ℕ → ℕ → Type 0) → ℕ → Type 0
+InRebases image Rule place =
+    IsSomeAnd (dyld_info image)
+    (λ command. InTable opcodes.Rebase image (table_at image command (bounded_at 8)) Rule place)
+
+-- of the bind, the weak and the lazy stream of a command
+abbrev pub InBindsOf : List ℕ → ℕ → (List ℕ → Opcodes → List ℕ → ℕ → Type 0) → ℕ → Type 0
+InBindsOf image command Rule place =
+    (InTable opcodes.Bind image (table_at image command (bounded_at 16)) Rule place
+    ⊎ InTable opcodes.Bind image (table_at image command (bounded_at 24)) Rule place)
+    ⊎ InTable opcodes.LazyBind image (table_at image command (bounded_at 32)) Rule place
+
+abbrev pub InBinds : List ℕ → (List ℕ → Opcodes → List ℕ → ℕ → Type 0) → ℕ → Type 0
+InBinds image Rule place = IsSomeAnd (dyld_info image) (λ command. InBindsOf image command Rule place)
+
+-- the least places at which the rules are broken in some streams
+pub record AreLeast (In : (List ℕ → Opcodes → List ℕ → ℕ → Type 0) → ℕ → Type 0) (survey : StreamSurvey) : Type 0 where
+  pub opcode : IsLeastPlace (In Undecoded) survey.opcode
+  pub library : IsLeastPlace (In NoLibrary) survey.library
+  pub symbol : IsLeastPlace (In NoName) survey.symbol
+  pub slot : IsLeastPlace (In NoSlot) survey.slot
+  pub total : IsLeastPlace (In TooMany) survey.total
+  pub names : IsLeastPlace (In TooLong) survey.names
+
+-- the lesser of two places
+abbrev pub lesser : Option ℕ → Option ℕ → Option ℕ
+lesser None other = other
+lesser (Some one) None = Some one
+lesser (Some one) (Some other) = Some (min one other)
+
+-- a survey whose places are counted from another start, and that these fit 64 bits
+abbrev pub moved : ℕ → StreamSurvey → StreamSurvey
+moved start survey = record {
+  opcode = option_map (λ offset. start + offset) survey.opcode;
+  library = option_map (λ offset. start + offset) survey.library;
+  symbol = option_map (λ offset. start + offset) survey.symbol;
+  slot = option_map (λ offset. start + offset) survey.slot;
+  total = option_map (λ offset. start + offset) survey.total;
+  names = option_map (λ offset. start + offset) survey.names;
+}
+
+pub record FitsAt (start : ℕ) (survey : StreamSurvey) : Type 0 where
+  pub opcode : IfSome survey.opcode (λ offset. start + offset < 2 ^ 64)
+  pub library : IfSome survey.library (λ offset. start + offset < 2 ^ 64)
+  pub symbol : IfSome survey.symbol (λ offset. start + offset < 2 ^ 64)
+  pub slot : IfSome survey.slot (λ offset. start + offset < 2 ^ 64)
+  pub total : IfSome survey.total (λ offset. start + offset < 2 ^ 64)
+  pub names : IfSome survey.names (λ offset. start + offset < 2 ^ 64)

@@ -1,0 +1,185 @@
+//! The streams of an image, and where they first break each of their rules. (`mach-o/loader.h`:
+//! `dyld_info_command`)
+
+ghost use Rattle.std.specs.Prelude.{◌≡◌, ◌+◌, ◌^◌, ◌<◌, IfSome, Contains, Some};
+ghost use Rattle.std.specs.Option.{option_map};
+ghost use Rattle.macho_fields.specs.Image.{command_cmd, commands_of};
+ghost use Rattle.macho_fields.specs.LoadCommands.{structure_of, dyld_info_tables};
+ghost use Rattle.macho_fields.specs.Layers.{NothingBreaks};
+ghost use Rattle.macho_fields.specs.Rules.{BreaksImage as Breaks};
+ghost use Rattle.macho_fields.specs.Symbol.{table_at};
+ghost use Rattle.macho_fields.specs.declared.load_command.Structure.TheVariants.{DyldInfoCommand};
+ghost use Rattle.macho_image.specs.Command.{first_with_cmd};
+ghost use Rattle.macho_linked.specs.Images.{dyld_info as dyld_info_of, bounded_at as bounded_at_of, lesser as lesser_of, AreLeast, InTable};
+ghost use Rattle.macho_linked.specs.Limits.{AreRooms, rooms_of, budget_of, library_count};
+
+use crate::homes::span_of;
+use crate::step::Opcodes;
+use crate::stream::{Limits, StreamSurvey, survey};
+use macho_fields::header::loader::dyld_info_command::{
+    BIND_OFF, LAZY_BIND_OFF, REBASE_OFF, WEAK_BIND_OFF,
+};
+use macho_fields::header::loader::{LC_DYLD_INFO, LC_DYLD_INFO_ONLY};
+use macho_fields::{TableFields, Width};
+use macho_image::Image;
+
+/// Where the streams of an image first break each of their rules, as places in the image.
+#[derive(Clone, Copy, Debug)]
+pub struct Survey {
+    /// Of the rebase stream.
+    pub rebases: StreamSurvey,
+    /// Of the bind, the weak and the lazy stream: the least places in all three.
+    pub binds: StreamSurvey,
+}
+
+impl Survey {
+    ghost use Rattle.std.specs.Prelude.{None};
+    ghost use Rattle.macho_fields.specs.Layers.{NothingBreaks};
+    ghost use Rattle.macho_fields.specs.Rules.{BreaksImage as Breaks};
+    ghost use Rattle.macho_linked.specs.Images.{AreLeast, InRebases, InBinds};
+
+    /// Goes over the opcodes of an image that breaks no rule of the layout, once.
+    pub fn of(image: &Image) -> Survey
+        requires { NothingBreaks (Breaks image.now None) }
+        ensures rebases { AreLeast (InRebases image.now) result.rebases }
+        ensures binds { AreLeast (InBinds image.now) result.binds }
+    {
+        let Some(command) = dyld_info(image) else {
+            return Survey {
+                rebases: StreamSurvey::unbroken(),
+                binds: StreamSurvey::unbroken(),
+            };
+        };
+        let limits = Limits::of(image);
+        let rebases = survey_at(image, command, REBASE_OFF, Opcodes::Rebase, &limits);
+        let binds = survey_at(image, command, BIND_OFF, Opcodes::Bind, &limits);
+        let weak = survey_at(image, command, WEAK_BIND_OFF, Opcodes::Bind, &limits);
+        let lazy = survey_at(image, command, LAZY_BIND_OFF, Opcodes::LazyBind, &limits);
+        Survey {
+            rebases,
+            binds: binds.joined(weak).joined(lazy),
+        }
+    }
+}
+
+impl StreamSurvey {
+    ghost use Rattle.std.specs.Prelude.{◌≡◌};
+    ghost use Rattle.std.specs.Option.{option_map};
+    ghost use Rattle.macho_linked.specs.Images.{lesser, moved, FitsAt};
+
+    // The same with places that are counted from another start.
+    fn moved(self, start: u64) -> StreamSurvey
+        requires { FitsAt start self }
+        ensures { result ≡ moved start self }
+    {
+        StreamSurvey {
+            opcode: place_from(start, self.opcode),
+            library: place_from(start, self.library),
+            symbol: place_from(start, self.symbol),
+            slot: place_from(start, self.slot),
+            total: place_from(start, self.total),
+            names: place_from(start, self.names),
+        }
+    }
+
+    // The lesser places of two streams.
+    fn joined(self, other: StreamSurvey) -> StreamSurvey
+        ensures opcode { result.opcode ≡ lesser self.opcode other.opcode }
+        ensures library { result.library ≡ lesser self.library other.library }
+        ensures symbol { result.symbol ≡ lesser self.symbol other.symbol }
+        ensures slot { result.slot ≡ lesser self.slot other.slot }
+        ensures total { result.total ≡ lesser self.total other.total }
+        ensures names { result.names ≡ lesser self.names other.names }
+    {
+        StreamSurvey {
+            opcode: lesser(self.opcode, other.opcode),
+            library: lesser(self.library, other.library),
+            symbol: lesser(self.symbol, other.symbol),
+            slot: lesser(self.slot, other.slot),
+            total: lesser(self.total, other.total),
+            names: lesser(self.names, other.names),
+        }
+    }
+}
+
+// The place of the command that names the streams, if there is one.
+fn dyld_info(image: &Image) -> Option<u64>
+    ensures { result ≡ dyld_info_of image.now }
+{
+    match first_place(image, LC_DYLD_INFO_ONLY) {
+        Some(command) => Some(command),
+        None => first_place(image, LC_DYLD_INFO),
+    }
+}
+
+// The place of the first command with this `cmd`, if there is one.
+fn first_place(image: &Image, cmd: u32) -> Option<u64>
+    ensures { result ≡ first_with_cmd image.now cmd (commands_of image.now) }
+{
+    match image.first_command(cmd) {
+        Some(command) => Some(command.place),
+        None => None,
+    }
+}
+
+// Goes over the stream whose start is in the field at `field` of the command at `command`.
+fn survey_at(
+    image: &Image,
+    command: u64,
+    field: u64,
+    opcodes: Opcodes,
+    limits: &Limits,
+) -> StreamSurvey
+    requires unbroken { NothingBreaks (Breaks image.now None) }
+    requires listed { Contains (commands_of image.now) command }
+    requires cmd { structure_of (command_cmd image.now command) ≡ Some DyldInfoCommand }
+    requires field { Contains dyld_info_tables (bounded_at_of field) }
+    requires near { field < 2 ^ 32 }
+    requires rooms { AreRooms (rooms_of image.now) limits.now.rooms }
+    requires libraries { limits.now.libraries ≡ library_count image.now }
+    requires budget { limits.now.budget ≡ budget_of image.now }
+    ensures { AreLeast (InTable opcodes image.now (table_at image.now command (bounded_at_of field)))
+        result }
+{
+    let table = span_of(image, command, bounded_at(field));
+    if table.len == 0 {
+        return StreamSurvey::unbroken();
+    }
+    let stream = image.bytes().slice(table);
+    survey(opcodes, stream, limits).moved(table.start)
+}
+
+// The fields that bound a stream: that at `place` with its start, and its size just past it.
+fn bounded_at(place: u64) -> TableFields
+    requires { place < 2 ^ 32 }
+    ensures { result ≡ bounded_at_of place }
+{
+    TableFields {
+        place,
+        count: place + 4,
+        width: Width::Uint32,
+        item_size: 1,
+    }
+}
+
+// The place that is so far from `start`.
+fn place_from(start: u64, offset: Option<u64>) -> Option<u64>
+    requires { IfSome offset (λ found. start + found < 2 ^ 64) }
+    ensures { result ≡ option_map (λ found. start + found) offset }
+{
+    match offset {
+        Some(found) => Some(start + found),
+        None => None,
+    }
+}
+
+// The lesser of two places.
+fn lesser(one: Option<u64>, other: Option<u64>) -> Option<u64>
+    ensures { result ≡ lesser_of one other }
+{
+    match (one, other) {
+        (Some(one), Some(other)) => Some(one.min(other)),
+        (Some(one), None) => Some(one),
+        (None, other) => other,
+    }
+}
