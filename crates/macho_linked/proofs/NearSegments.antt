@@ -1,6 +1,6 @@
 -- A step names one of the first 16 segments alone, since it has four bits for it.
-use Rattle.std.proofs.Common.{◌≡◌, ◌↔◌, ℕ, ◌+◌, ◌*◌, ◌%◌, ◌^◌, ◌<◌, ◌≤◌, ◌==◌, Bool, true, false, List, [], ◌∷◌, length, drop, fold, slice_get, Option, Some, None, MatchOption, refl, sym, subst, arith, inl, inr}
-use Rattle.std.specs.Prelude.{cond, nat_lt, bit_and, slice_index, ℤ}
+use Rattle.std.proofs.Common.{◌≡◌, ◌↔◌, ℕ, ◌+◌, ◌*◌, ◌<◌, ◌==◌, Bool, true, false, List, [], ◌∷◌, length, drop, fold, slice_get, Option, Some, None, MatchOption, refl, subst, arith, inl, inr}
+use Rattle.std.specs.Prelude.{cond, nat_lt, bit_and, ℤ}
 use Rattle.std.specs.List.{list_all}
 use Rattle.std.specs.Option.{option_map, option_and_then}
 use Rattle.std.proofs.lemmas.Bool.{cases_Bool}
@@ -9,7 +9,7 @@ use Rattle.macho_fields.specs.Field.{string_from}
 use Rattle.macho_linked.specs.Cursor.{start, moved, cursor_after}
 use Rattle.macho_linked.specs.Limits.{AreRooms}
 use Rattle.macho_linked.specs.Numbers.{unsigned_at, signed_at}
-use Rattle.macho_linked.specs.Steps.{with_number, with_count_and_skip, with_addend, with_name, pointer_type, last_step, special_step, rebase_step, bind_step, opcode_step, step_at, Follow, AreSteps}
+use Rattle.macho_linked.specs.Steps.{with_number, with_name, pointer_type, last_step, special_step, rebase_step, bind_step, opcode_step, step_at, Follow, AreSteps}
 use Rattle.macho_linked.specs.Streams.{EndsInRoom, WritesOutside, reach}
 use Rattle.macho_linked.specs.declared.cursor.Cursor.{Cursor}
 use Rattle.macho_linked.specs.declared.step.Opcodes.{Opcodes}

@@ -3,7 +3,7 @@ use Rattle.std.proofs.Common.{◌≡◌, ◌↔◌, ℕ, List, [], ◌∷◌, ma
 use Rattle.std.specs.Prelude.{IsSomeAnd}
 use Rattle.std.specs.List.{find}
 use Rattle.std.specs.Option.{option_map}
-use Rattle.std.proofs.lemmas.Bool.{cases_Bool, false≢true}
+use Rattle.std.proofs.lemmas.Bool.{cases_Bool}
 use Rattle.macho_fields.specs.Segment.{shows_start}
 use Rattle.macho_image.specs.Segment.{SegmentView, segment_at}
 use Rattle.macho_linked.specs.Homes.{HasSafeBase}

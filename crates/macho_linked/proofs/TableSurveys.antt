@@ -1,5 +1,5 @@
 -- From what a walk over the bytes of a stream finds to the places in the image.
-use Rattle.std.proofs.Common.{◌≡◌, ◌↔◌, ℕ, ◌+◌, ◌*◌, ◌^◌, ◌≤◌, ◌<◌, ◌⊎◌, List, [], length, min, map, Any, Contains, Option, Some, None, MatchOption, refl, sym, ap, ◌∙◌, subst, arith, inl, inr}
+use Rattle.std.proofs.Common.{◌≡◌, ◌↔◌, ℕ, ◌+◌, ◌*◌, ◌^◌, ◌≤◌, ◌<◌, ◌⊎◌, List, length, min, Contains, Option, Some, None, refl, sym, ap, ◌∙◌, subst, arith, inl, inr}
 use Rattle.std.specs.Prelude.{IfSome, IsSomeAnd}
 use Rattle.std.specs.Option.{option_map, option_map_or}
 use Rattle.std.proofs.lemmas.Bool.{cases_lt}
@@ -86,7 +86,7 @@ fits_moved : (P : ℕ → Type 0) (start size : ℕ) (found : Option ℕ) → ((
 fits_moved P start size None inside fits none = tt
 fits_moved P start size (Some first) inside fits (here, least) = let within = inside first here in omega arith
 
-at_inside : (done : List Step → ℕ) (P : Cursor → ℕ → Step → Type 0) (of : Opcodes) (stream : List ℕ) (place : ℕ) → At done P of stream place → place < length stream
+pub at_inside : (done : List Step → ℕ) (P : Cursor → ℕ → Step → Type 0) (of : Opcodes) (stream : List ℕ) (place : ℕ) → At done P of stream place → place < length stream
 at_inside done P of stream place (before, next, after, are, at, has) = let within = step_within of stream place next after at in omega arith
 
 -- The places of a survey fit where those of the stream do

@@ -7,3 +7,5 @@ pub mod Kinds
 pub mod Homes
 pub mod Limits
 pub mod Images
+pub mod Rules
+pub mod Verdict

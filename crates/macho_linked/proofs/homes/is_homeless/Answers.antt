@@ -1,4 +1,4 @@
-use Rattle.std.proofs.Common.{◌<◌, ◌↔◌, IsTrue, sym, subst}
+use Rattle.std.proofs.Common.{◌<◌, ◌↔◌, IsTrue, subst}
 use Rattle.macho_spans.specs.declared.span.Span.{Span}
 use Rattle.macho_linked.specs.Homes.{HasHome}
 use Rattle.macho_linked.proofs.Nots.{not_true, true_not}

@@ -1,4 +1,4 @@
-use Rattle.std.proofs.Common.{◌++◌, [], ◌∷◌, ◌∙◌, ◌≡◌, ◌+◌, ◌<◌, ◌^◌, length, refl, sym, ap, arith}
+use Rattle.std.proofs.Common.{◌++◌, [], ◌∷◌, ◌∙◌, refl, sym, arith}
 use Rattle.macho_image.specs.Command.{command_of}
 use Rattle.macho_rules.proofs.Surveys.{walked_on, walked_all}
 use Rattle.macho_linked.proofs.LibraryCounts.{loaded_more, loaded_same, loaded_fits, all_loaded}

@@ -1,5 +1,5 @@
 use Rattle.std.proofs.Common.{◌≡◌, ◌+◌, ◌∙◌, refl, sym, ap, arith}
-use Rattle.std.specs.Prelude.{ℕ, ◌<◌, ◌^◌}
+use Rattle.std.specs.Prelude.{◌<◌, ◌^◌}
 use Rattle.macho_fields.specs.Bytes.{bytes_of}
 use Rattle.macho_linked.specs.Cursor.{writes, looks_up}
 use Rattle.macho_linked.proofs.StreamWalks.{walk_start, walk_more, walk_ended, walk_stuck}

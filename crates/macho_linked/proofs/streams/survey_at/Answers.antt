@@ -8,7 +8,6 @@ use Rattle.macho_spans.specs.declared.span.Span.{Span}
 use Rattle.macho_linked.specs.Homes.{bytes_of_table}
 use Rattle.macho_linked.specs.Images.{bounded_at, moved, AreLeast, InTable}
 use Rattle.macho_linked.specs.Streams.{IsSurveyOf}
-use Rattle.macho_linked.specs.declared.stream.StreamSurvey.{StreamSurvey}
 use Rattle.macho_linked.proofs.TableSurveys.{survey_fits, least_in_table, none_in_table, table_inside, fields_inside}
 use Rattle.macho_linked.proofs.streams.survey_at.Goals as goal
 

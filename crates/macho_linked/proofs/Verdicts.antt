@@ -1,0 +1,36 @@
+-- From the answers on the images of a file to the linked verdict.
+use Rattle.std.proofs.Common.{ℕ, ◌+◌, List, inl, inr}
+use Rattle.macho_fields.specs.First.{IsUnbroken}
+use Rattle.macho_fields.specs.Layers.{NothingBreaks}
+use Rattle.macho_fields.specs.declared.rule.Break.{Break}
+use Rattle.macho_fields.proofs.Scopes.{KeptScopes, none_kept, one_more, scope_first}
+use Rattle.macho_rules.specs.declared.refusal.Refusal.{Refusal}
+use Rattle.macho_rules.specs.declared.refusal.Refusal.TheVariants as refusal
+use Rattle.macho_strict.specs.First.{IsStrictlyUnbroken}
+use Rattle.macho_strict.specs.Verdict.{IsStrictRefusal}
+use Rattle.macho_linked.specs.Rules.{BreaksFile, BreaksSlice, IsBrokenIn, IsFirstLinkedBroken}
+use Rattle.macho_linked.specs.Verdict.{IsLinkedRefusal, IsScopeBreak}
+
+-- nothing is broken in the first n scopes
+abbrev pub KeptLinked : List ℕ → ℕ → Type 0
+KeptLinked file n = KeptScopes BreaksFile BreaksSlice file n
+
+pub one_kept : (file : List ℕ) (n : ℕ) → KeptLinked file n → NothingBreaks (IsBrokenIn file n) → KeptLinked file (n + 1)
+one_kept = one_more BreaksFile BreaksSlice
+
+-- the file itself breaks none
+pub file_kept : (file : List ℕ) → KeptLinked file 1
+file_kept file = one_kept file 0 (none_kept BreaksFile BreaksSlice file) (λ r place broken. broken)
+
+-- the first of a scope is the first of the file, where nothing is broken in the scopes before it
+pub scope_broken : (file : List ℕ) (n : ℕ) → KeptLinked file n → (b : Break) → IsScopeBreak file n b → IsFirstLinkedBroken file b
+scope_broken file n kept b (found, least, same, at) = scope_first BreaksFile BreaksSlice file n found b kept least same at
+
+-- a refusal by the strict verdict is one of the linked
+pub strict_refused : (file : List ℕ) (r : Refusal) → IsStrictRefusal file r → IsLinkedRefusal file r
+strict_refused file (refusal.Broken b) refused = inl refused
+strict_refused file refusal.Memory takes = takes
+
+-- and so is the first broken linked rule, where the file breaks no other
+pub linked_refused : (file : List ℕ) → IsUnbroken file → IsStrictlyUnbroken file → (b : Break) → IsFirstLinkedBroken file b → IsLinkedRefusal file (refusal.Broken b)
+linked_refused file unbroken strictly b first = inr (unbroken, strictly, first)

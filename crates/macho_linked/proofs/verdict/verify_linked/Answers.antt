@@ -1,0 +1,23 @@
+use Rattle.std.proofs.Common.{List, ℕ, subst}
+use Rattle.macho_rules.proofs.Verdicts.{passed_on}
+use Rattle.macho_linked.specs.Rules.{IsLinkedUnbroken, IsFirstLinkedBroken}
+use Rattle.macho_linked.specs.Verdict.{IsLinkedRefusal}
+use Rattle.macho_rules.specs.declared.refusal.Refusal.TheVariants as refusal
+use Rattle.macho_linked.proofs.Verdicts.{strict_refused, linked_refused}
+use Rattle.macho_linked.proofs.verdict.verify_linked.Goals as goal
+
+pub returns-in_err-verified-clause-refused : goal.returns-in_err-verified-clause-refused
+returns-in_err-verified-clause-refused c =
+    passed_on (IsLinkedRefusal c.args.file.now) c.from_residual.result c.in_err-verified.field-0.0 c.from_residual.ensures.1
+    (strict_refused c.args.file.now c.in_err-verified.field-0.0 c.in_err-verified.ensures.refused)
+
+pub returns-in_err-check_linked-clause-refused : goal.returns-in_err-check_linked-clause-refused
+returns-in_err-check_linked-clause-refused c =
+    let file = c.args.file.now in
+    let b = c.in_err-check_linked.field-0.0 in
+    passed_on (IsLinkedRefusal file) c.from_residual-in_err-check_linked.result (refusal.Broken b) c.from_residual-in_err-check_linked.ensures.1
+    (linked_refused file c.in_ok-verified.ensures.accepted c.in_ok-verified.ensures.strictly b
+    (subst (λ (bytes : List ℕ). IsFirstLinkedBroken bytes b) c.in_ok-verified.ensures.file c.in_err-check_linked.ensures.refused))
+
+pub returns-clause-linked : goal.returns-clause-linked
+returns-clause-linked c = subst IsLinkedUnbroken c.in_ok-verified.ensures.file c.in_ok-check_linked.ensures.unbroken

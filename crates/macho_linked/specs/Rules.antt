@@ -1,0 +1,47 @@
+-- Where each linked rule is broken, by an image that breaks no other rule: the rule, and the place that
+-- is reported. docs/LINKED.md says the same in words.
+use Rattle.std.specs.Prelude.{ℕ, List, Option}
+use Rattle.macho_fields.specs.First.{BreaksIn, NoneIsBroken, IsFirstOfAll}
+use Rattle.macho_fields.specs.declared.rule.Break.{Break}
+use Rattle.macho_fields.specs.declared.rule.Rule.{Rule}
+use Rattle.macho_fields.specs.declared.rule.Rule.TheVariants as rule
+use Rattle.macho_linked.specs.Homes.{BreaksTableHome, BreaksHeaderHome}
+use Rattle.macho_linked.specs.Images.{Undecoded, NoLibrary, NoName, NoSlot, TooMany, TooLong, InRebases, InBinds}
+use Rattle.macho_linked.specs.Kinds.{BreaksTableRepeated, BreaksFunctionVariants}
+
+-- the image breaks the rule at the place
+abbrev pub BreaksImage : List ℕ → Rule → ℕ → Type 0
+BreaksImage image rule.TableRepeated place = BreaksTableRepeated image place
+BreaksImage image rule.FunctionVariants place = BreaksFunctionVariants image place
+BreaksImage image rule.TableHome place = BreaksTableHome image place
+BreaksImage image rule.HeaderHome place = BreaksHeaderHome image place
+BreaksImage image rule.RebaseOpcode place = InRebases image Undecoded place
+BreaksImage image rule.RebaseSlot place = InRebases image NoSlot place
+BreaksImage image rule.RebaseTotal place = InRebases image TooMany place
+BreaksImage image rule.BindOpcode place = InBinds image Undecoded place
+BreaksImage image rule.BindLibrary place = InBinds image NoLibrary place
+BreaksImage image rule.BindSymbol place = InBinds image NoName place
+BreaksImage image rule.BindSlot place = InBinds image NoSlot place
+BreaksImage image rule.BindTotal place = InBinds image TooMany place
+BreaksImage image rule.BindNames place = InBinds image TooLong place
+BreaksImage image other place = ⊥
+
+-- a file breaks none but in its images
+abbrev pub BreaksFile : List ℕ → Rule → ℕ → Type 0
+BreaksFile file r place = ⊥
+
+-- an image breaks a linked rule, whatever architecture a universal file names for it
+abbrev pub BreaksSlice : List ℕ → Option (ℕ × ℕ) → Rule → ℕ → Type 0
+BreaksSlice image arch = BreaksImage image
+
+-- the linked rule is broken there, by the bytes of a 64-bit slice
+abbrev pub IsBrokenIn : List ℕ → ℕ → Rule → ℕ → Type 0
+IsBrokenIn = BreaksIn BreaksFile BreaksSlice
+
+-- no linked rule is broken
+abbrev pub IsLinkedUnbroken : List ℕ → Type 0
+IsLinkedUnbroken file = NoneIsBroken (IsBrokenIn file)
+
+-- b is the first broken linked rule, with its place in the file
+abbrev pub IsFirstLinkedBroken : List ℕ → Break → Type 0
+IsFirstLinkedBroken file b = IsFirstOfAll (IsBrokenIn file) file b

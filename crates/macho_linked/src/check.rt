@@ -1,0 +1,48 @@
+//! The linked rules of an image, in their order.
+
+ghost use Rattle.std.specs.Prelude.{None};
+ghost use Rattle.macho_fields.specs.First.{rank};
+ghost use Rattle.macho_fields.specs.FirstPlace.{IsLeastPlace};
+ghost use Rattle.macho_fields.specs.Layers.{NothingBreaks, KeptBelow, Continues, Decides};
+ghost use Rattle.macho_fields.specs.Rules.{BreaksImage as Breaks};
+ghost use Rattle.macho_linked.specs.Rules.{BreaksImage};
+
+use crate::homes::{header_home, table_home};
+use crate::kinds::{function_variants, table_repeated};
+use crate::streams::Survey;
+use macho_fields::{Break, Rule};
+use macho_image::Image;
+
+// Decides the linked rules of an image that breaks no rule of the layout, in their order. It returns the
+// first broken one, with its place in the image.
+pub(crate) fn check_image(image: &Image) -> Result<(), Break>
+    requires { NothingBreaks (Breaks image.now None) }
+    ensures { Decides (BreaksImage image.now) result }
+{
+    judge(image, Rule::TableRepeated, table_repeated(image))?;
+    judge(image, Rule::FunctionVariants, function_variants(image))?;
+    judge(image, Rule::TableHome, table_home(image))?;
+    judge(image, Rule::HeaderHome, header_home(image))?;
+    let Survey { rebases, binds } = Survey::of(image);
+    judge(image, Rule::RebaseOpcode, rebases.opcode)?;
+    judge(image, Rule::RebaseSlot, rebases.slot)?;
+    judge(image, Rule::RebaseTotal, rebases.total)?;
+    judge(image, Rule::BindOpcode, binds.opcode)?;
+    judge(image, Rule::BindLibrary, binds.library)?;
+    judge(image, Rule::BindSymbol, binds.symbol)?;
+    judge(image, Rule::BindSlot, binds.slot)?;
+    judge(image, Rule::BindTotal, binds.total)?;
+    judge(image, Rule::BindNames, binds.names)?;
+    Ok(())
+}
+
+// The answer of a rule, by the least place at which the image breaks it, where all earlier ones are
+// unbroken.
+fn judge(image: &Image, rule: Rule, least: Option<u64>) -> Result<(), Break>
+    requires kept { KeptBelow (BreaksImage image.now) (rank rule) }
+    requires least { IsLeastPlace (BreaksImage image.now rule) least }
+    ensures { Continues (BreaksImage image.now) rule result }
+{
+    let _image = image;
+    rule.judge(least)
+}

@@ -1,0 +1,73 @@
+//! The linked verdict on a file.
+
+ghost use Rattle.std.specs.Prelude.{◌≡◌, suc, OnOk, IfOk, IfErr};
+ghost use Rattle.macho_fields.specs.First.{IsUnbroken};
+ghost use Rattle.macho_fields.specs.Layers.{NothingBreaks};
+ghost use Rattle.macho_fields.specs.Loader.{IsSound};
+ghost use Rattle.macho_linked.specs.Rules.{IsBrokenIn, IsLinkedUnbroken, IsFirstLinkedBroken};
+ghost use Rattle.macho_linked.specs.Verdict.{IsLinkedRefusal, IsScopeBreak};
+ghost use Rattle.macho_strict.specs.Accounted.{IsAccounted};
+ghost use Rattle.macho_strict.specs.First.{IsStrictlyUnbroken};
+
+use crate::check::check_image;
+use macho_fields::Break;
+use macho_rules::{Refusal, Verified};
+use macho_strict::verify_strictly;
+use std::alloc::Global;
+
+/// Decides the rules of a file as `macho_strict::verify_strictly` does, and then the linked rules, in their
+/// order: accepts it, or returns the first broken one, with its place in the file.
+///
+/// The linked rules are those of its 64-bit slices, in the order of the table. They take no memory.
+pub fn verify_linked<'a>(alloc: Global, file: &'a [u8]) -> Result<Verified<'a>, Refusal>
+    // It accepts only a file that breaks no rule of the three profiles, and refuses only one that breaks
+    // one of them, unless there is no memory.
+    ensures accepted { OnOk result (IsUnbroken file.now) }
+    ensures strictly { OnOk result (IsStrictlyUnbroken file.now) }
+    ensures linked { OnOk result (IsLinkedUnbroken file.now) }
+    ensures refused { IfErr result (IsLinkedRefusal file.now) }
+
+    // What it accepts is sound, and accounted for.
+    ensures sound { OnOk result (IsSound file.now) }
+    ensures accounted { OnOk result (IsAccounted file.now) }
+    ensures file { IfOk result (λ verified. verified ≡ file.now) }
+{
+    let verified = verify_strictly(alloc, file)?;
+    check_linked(&verified)?;
+    Ok(verified)
+}
+
+// Decides the linked rules of each 64-bit slice of a file, one slice after the other. The place of a break
+// is its offset in the file.
+fn check_linked(verified: &Verified) -> Result<(), Break>
+    ensures unbroken { OnOk result (IsLinkedUnbroken verified.now) }
+    ensures refused { IfErr result (IsFirstLinkedBroken verified.now) }
+{
+    for index in 0..verified.slice_count() {
+        check_slice(verified, index)?;
+    }
+    Ok(())
+}
+
+// Decides the linked rules of the slice with this index, if it has an image. The place of a break is its
+// offset in the file.
+fn check_slice(verified: &Verified, index: u64) -> Result<(), Break>
+    ensures unbroken { OnOk result (NothingBreaks (IsBrokenIn verified.now (suc index))) }
+    ensures refused { IfErr result (IsScopeBreak verified.now (suc index)) }
+{
+    let Some(slice) = verified.slice(index) else {
+        return Ok(());
+    };
+    let Some(image) = verified.image(index) else {
+        return Ok(());
+    };
+    match check_image(&image) {
+        Ok(()) => Ok(()),
+        Err(broken) => {
+            // The image lies in the file, so its places do too.
+            prove!(verified.bytes().len() <= u64::MAX);
+            let place = slice.span.start + broken.place;
+            Err(Break::at(broken.rule, place))
+        }
+    }
+}
