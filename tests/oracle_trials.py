@@ -6,8 +6,9 @@ folders that are named, and mutants of the vectors and of all files. Mutant N of
 case it prints a line of three texts with tabs between them: the case, what was found, and what is wanted. Of each
 disagreement it prints both answers on standard error, and keeps the file.
 
-With --strict the verdicts are those of the strict profile, and the program is macho-strict. It has no `where`, so
-nothing is asked of addresses.
+With --strict the verdicts are those of the strict profile, and the program is macho-strict; with --linked those of the
+linked profile, of macho-linked, with the vectors of tests/linked.txt and mutants of tables as well. These programs have
+no `where`, so nothing is asked of addresses.
 """
 
 import argparse
@@ -23,11 +24,15 @@ import tempfile
 from collections import Counter, namedtuple
 from pathlib import Path
 
+sys.dont_write_bytecode = True
+import table_mutants
+
 TOP = os.path.dirname(os.path.dirname(os.path.abspath(__file__)))
 sys.path.insert(0, os.path.join(TOP, "bench"))
 from images import read_count, read_reports, read_vectors  # pylint: disable=wrong-import-position
 
 DATA = os.path.join(TOP, "crates", "macho_trials", "data")
+LINKED = Path(TOP, "tests", "linked.txt")
 REAL = os.path.join(TOP, "tests", "real")
 BATCH = 50
 SHOWN = 20
@@ -256,9 +261,16 @@ def repeat_range(rng, data, _):
     count = data[source + width:source + 2 * width]
     return data[:place] + (start % 2 ** (8 * width)).to_bytes(width, "little") + count + data[place + 2 * width:]
 
-# With how often each is taken; and the ways that are taken as well where the strict profile is judged.
+def change_table(rng, data, _):
+    """A stream of opcodes is changed, or what it depends on."""
+    return table_mutants.change(rng, data) if table_mutants.streams(data) else data
+
+# With how often each is taken; and the ways that are taken as well where a further profile is judged.
 WAYS = {set_field: 65, set_range: 8, cut: 5, splice: 8, exchange: 6, add_command: 8, wrap: 6, set_magic: 1}
 STRICT_WAYS = {append: 10, set_byte: 20, repeat_range: 30}
+LINKED_WAYS = {change_table: 300}
+WAYS_OF = {"layout": WAYS, "strict": {**WAYS, **STRICT_WAYS}, "linked": {**WAYS, **STRICT_WAYS, **LINKED_WAYS}}
+CRATES = {"layout": "macho_check", "strict": "macho_strict_check", "linked": "macho_linked_check"}
 
 def weight(data, is_accepted):
     """How often a file is changed. An accepted one says more then, or one that the strict profile alone refuses, and so
@@ -293,13 +305,11 @@ def written(rng, number):
 
 # The two answers
 
-def load(path, is_strict):
+def load(path, profile):
     spec = importlib.util.spec_from_file_location("oracle", path)
     module = importlib.util.module_from_spec(spec)
-    sys.dont_write_bytecode = True
     spec.loader.exec_module(module)
-    if is_strict:
-        module.check = functools.partial(module.check, profile="strict")
+    module.check = functools.partial(module.check, profile=profile)
     return module
 
 def oracle_answer(oracle, question):
@@ -357,7 +367,7 @@ def batch(bounds):
     verdicts = [Question("mutant %d of seed %d" % (number, work.seed), data, "check", ())
                 for number, (data, _) in zip(range(*bounds), mutants)]
     judged = compare(work.oracle, work.program, verdicts)
-    if work.is_strict:
+    if work.profile != "layout":
         return len(verdicts), judged.differences, judged.kinds
     addresses = []
     for question, (data, rng), answer in zip(verdicts, mutants, judged.program):
@@ -416,38 +426,46 @@ def says_verdict(answer, verdict):
         return status == 0 and text.startswith(b"accepted, slices ")
     return status == 1 and text.decode() == verdict + "\n"
 
-def read_all_vectors(is_strict):
-    """The files of vectors, by their names. Some are for the strict profile alone, which is judged on all files: of the
-    others it has the refusals, and which of their acceptances it has is not known by hand."""
-    names = sorted(name for name in os.listdir(DATA) if name.endswith(".txt"))
-    files = [(name, read_vectors(Path(DATA, name))) for name in names]
-    if is_strict:
-        return [(name, [known_strictly(vector) for vector in vectors]) for name, vectors in files]
-    return [(name, vectors) for name, vectors in files if not vectors[0].is_strict]
+def read_all_vectors(profile):
+    """The files of vectors, by their paths. Some are for one profile alone. A further profile is judged on the files of
+    those before it too: of these it has the refusals, and which of their acceptances it has is not known by hand."""
+    files = [(path, read_vectors(path)) for path in sorted(Path(DATA).glob("*.txt"))]
+    if profile == "layout":
+        return [(path, vectors) for path, vectors in files if not vectors[0].is_strict]
+    if profile == "linked":
+        files.append((LINKED, read_vectors(LINKED)))
+    return [(path, vectors if is_whole(path, profile) else list(map(without_acceptance, vectors)))
+            for path, vectors in files]
 
-def known_strictly(vector):
-    return vector if vector.is_strict or vector.wanted != "accepted" else vector._replace(wanted="")
+def is_whole(path, profile):
+    """Whether all verdicts of the file by the profile are known by hand."""
+    return profile == "layout" or path.stem == profile
+
+def without_acceptance(vector):
+    return vector._replace(wanted="") if vector.wanted == "accepted" else vector
 
 def read_all_reports():
     return read_reports(Path(TOP, "tests", "reports.txt"))
 
-def judge_vectors(report, oracle, program, is_strict):
+def judge_vectors(report, oracle, program, profile):
     """Three are compared: what stands in the data, the oracle, and the program."""
     seen = Counter()
-    for name, vectors in read_all_vectors(is_strict):
-        questions = [Question("%s: %s" % (name, vector.name), vector.data, "check", ()) for vector in vectors]
+    for path, vectors in read_all_vectors(profile):
+        questions = [Question("%s: %s" % (path.name, vector.name), vector.data, "check", ()) for vector in vectors]
         judged = compare(oracle, program, questions)
         seen += judged.kinds
-        report.agreeing("the vectors of " + name, judged.differences, len(questions), "answers")
+        report.agreeing("the vectors of " + path.name, judged.differences, len(questions), "answers")
         right = sum(agrees_by_hand(report, question, says, vector.wanted)
                     for question, says, vector in zip(questions, judged.oracle, vectors))
-        known = read_count(Path(DATA, name))[0]
-        if is_strict and name != "strict.txt":
+        known = read_count(path)[0]
+        if not is_whole(path, profile):
             known = sum(vector.wanted != "" for vector in vectors)
-        report.case("the verdicts of %s, by hand" % name, "%d verdicts" % right, "%d verdicts" % known)
+        report.case("the verdicts of %s, by hand" % path.name, "%d verdicts" % right, "%d verdicts" % known)
     rules = oracle.RULES_OF_THE_FILE + oracle.RULES_OF_AN_IMAGE
-    if is_strict:
+    if profile != "layout":
         rules += oracle.STRICT_RULES_OF_THE_FILE + oracle.STRICT_RULES_OF_AN_IMAGE
+    if profile == "linked":
+        rules += oracle.LINKED_RULES_OF_AN_IMAGE
     unbroken = " ".join({rule.__name__.replace("_", "-") for rule in rules} - set(seen))
     report.case("rules that no vector breaks first", unbroken or "none", "none")
 
@@ -472,8 +490,8 @@ def judge_reports(report, oracle, program):
     report.case("the reports, by hand", "%d texts" % right, "%d texts" % len(reports))
     report.agreeing("the reports", compare(oracle, program, questions).differences, len(questions), "answers")
 
-def judge_reports_strictly(report, oracle, program):
-    """Two are compared: the strict profile refuses some of the reports."""
+def judge_reports_further(report, oracle, program):
+    """Two are compared: a further profile refuses some of the reports."""
     questions = [Question("the report %s" % name, data, "check", ()) for name, data, *_ in read_all_reports()]
     report.agreeing("the reports", compare(oracle, program, questions).differences, len(questions), "answers")
 
@@ -562,7 +580,10 @@ def judge_mutants(report, count, jobs, only_first):
 def main():
     global work  # pylint: disable=global-statement
     parser = argparse.ArgumentParser(prog="tests/oracle")
-    parser.add_argument("--strict", action="store_true", help="the strict profile, and macho-strict")
+    parser.add_argument("--strict", dest="profile", action="store_const", const="strict", default="layout",
+                        help="the strict profile, and macho-strict")
+    parser.add_argument("--linked", dest="profile", action="store_const", const="linked",
+                        help="the linked profile, and macho-linked")
     parser.add_argument("--seed", type=int, default=1, help="of the mutants; 1 otherwise")
     parser.add_argument("--count", type=int, default=3000, help="of the mutants; 3000 otherwise")
     parser.add_argument("--jobs", type=int, default=2, help="how many processes; 2 otherwise")
@@ -574,26 +595,26 @@ def main():
     parser.add_argument("folders", nargs="*", help="folders of other files, which are judged and mutated as well")
     words = parser.parse_args()
 
-    crate = "macho_strict_check" if words.strict else "macho_check"
-    program = words.program or os.path.join(TOP, "crates", crate, "out", crate)
-    oracle = load(words.oracle, words.strict)
+    profile = words.profile
+    program = words.program or os.path.join(TOP, "crates", CRATES[profile], "out", CRATES[profile])
+    oracle = load(words.oracle, profile)
     report = Report(words.keep)
-    vectors = [vector for _, vectors in read_all_vectors(words.strict) for vector in vectors]
+    vectors = [vector for _, vectors in read_all_vectors(profile) for vector in vectors]
     real = [data for _, data, _ in read_real()]
     others = [data for folder in words.folders for _, data in read_folder(folder)]
     corpus = real + others + [vector.data for vector in vectors]
     accepted = [True] * len(real) + [oracle_answer(oracle, Question("", data, "check", ()))[0] == 0 for data in others]
-    accepted += [vector.wanted == "accepted" or vector.is_strict for vector in vectors]
+    accepted += [vector.wanted == "accepted" or vector.is_strict or vector.is_linked for vector in vectors]
     weights = [weight(data, good) for data, good in zip(corpus, accepted)]
     work = argparse.Namespace(
-        seed=words.seed, oracle=oracle, program=program, corpus=corpus, weights=weights, is_strict=words.strict,
-        ways={**WAYS, **STRICT_WAYS} if words.strict else WAYS)
+        seed=words.seed, oracle=oracle, program=program, corpus=corpus, weights=weights, profile=profile,
+        ways=WAYS_OF[profile])
     if not words.first:
-        judge_vectors(report, oracle, program, words.strict)
+        judge_vectors(report, oracle, program, profile)
         judge_real(report, oracle, program)
         judge_folders(report, oracle, program, words.folders)
-    if not words.first and words.strict:
-        judge_reports_strictly(report, oracle, program)
+    if not words.first and profile != "layout":
+        judge_reports_further(report, oracle, program)
     elif not words.first:
         judge_reports(report, oracle, program)
         judge_addresses(report, oracle, program)

@@ -8,6 +8,7 @@ take_program() {
     case $1 in
         macho-check) crate=$top/crates/macho_check ;;
         macho-strict) crate=$top/crates/macho_strict_check ;;
+        macho-linked) crate=$top/crates/macho_linked_check ;;
         libkesvuot) crate=$top/crates/macho_c ;;
     esac
     program=$crate/out/${crate##*/}

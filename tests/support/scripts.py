@@ -20,7 +20,7 @@ from .programs import build_trials
 # What takes long comes first. Those of the library wait until it is built. The others run the programs, but
 # tests/floor, which runs one of its own, tests/dyld, tests/slots and tests/counts, which run none, and tests/command,
 # which has stubs.
-PROGRAM_SCRIPTS = "program floor refusals oracle strict dyld sizes limits vectors slots counts".split()
+PROGRAM_SCRIPTS = "program floor refusals oracle strict linked dyld sizes limits vectors slots counts".split()
 LIBRARY_SCRIPTS = "cost rebuild library python tool map examples rust go fuzz recipes install".split()
 SCRIPTS = ["command", *PROGRAM_SCRIPTS, *LIBRARY_SCRIPTS]
 CLOSING_LINE = re.compile(r"(\d+) passed, (\d+) failed")
