@@ -8,4 +8,5 @@ pub mod Homes
 pub mod Limits
 pub mod Images
 pub mod Rules
+pub mod Harmless
 pub mod Verdict

@@ -4,7 +4,9 @@
 ghost use Rattle.std.specs.Prelude.{◌≡◌};
 ghost use Rattle.macho_fields.specs.RuleList.{profile_of};
 ghost use Rattle.macho_fields.specs.declared.rule.Profile.TheVariants.{Linked};
-ghost use Rattle.macho_linked.specs.Rules.{IsFirstLinkedBroken};
+ghost use Rattle.macho_fields.specs.First.{IsUnbroken};
+ghost use Rattle.macho_linked.specs.Harmless.{AreHarmless};
+ghost use Rattle.macho_linked.specs.Rules.{IsFirstLinkedBroken, IsLinkedUnbroken};
 
 use macho_fields::Break;
 
@@ -19,4 +21,11 @@ pub fn first_linked_broken_is_one(file: &[u8], first: Break, other: Break)
 pub fn first_linked_broken_is_linked(file: &[u8], first: Break)
     requires { IsFirstLinkedBroken file.now first }
     ensures { profile_of first.rule ≡ Linked }
+{}
+
+/// The opcodes of a file that breaks no rule of the layout and no linked rule ask for harmless writes alone.
+pub fn linked_unbroken_is_harmless(file: &[u8])
+    requires unbroken { IsUnbroken file.now }
+    requires linked { IsLinkedUnbroken file.now }
+    ensures { AreHarmless file.now }
 {}

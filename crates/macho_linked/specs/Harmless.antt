@@ -1,0 +1,87 @@
+-- What the opcodes of an image that breaks no rule ask of a dynamic loader: which pointers it writes, and
+-- where. The memory of a loader is no part of it.
+use Rattle.std.specs.Prelude.{◌≡◌, ℕ, ◌+◌, ◌*◌, ◌≤◌, ◌<◌, List, [], ◌∷◌, length, All, Contains, Some, true, slice_get, IsSomeAnd}
+use Rattle.macho_fields.specs.Field.{part}
+use Rattle.macho_fields.specs.Segment.{filesize, Supplies}
+use Rattle.macho_fields.specs.Symbol.{table_at}
+use Rattle.macho_fields.specs.Universal.{slices_of, slice_bytes, IsImage}
+use Rattle.macho_linked.specs.Cursor.{cursor_after}
+use Rattle.macho_linked.specs.Homes.{IsHome}
+use Rattle.macho_linked.specs.Images.{dyld_info, bounded_at}
+use Rattle.macho_linked.specs.Limits.{budget_of, library_count}
+use Rattle.macho_linked.specs.Segments.{all_segments, is_writable}
+use Rattle.macho_linked.specs.Steps.{step_at, AreSteps}
+use Rattle.macho_linked.specs.Streams.{pointers}
+use Rattle.macho_linked.specs.declared.step.Opcodes.{Opcodes}
+use Rattle.macho_linked.specs.declared.step.Opcodes.TheVariants as opcodes
+use Rattle.macho_linked.specs.declared.step.Step.{Step}
+use Rattle.macho_linked.specs.declared.step.Step.TheVariants as step
+use Rattle.macho_linked.specs.declared.step.TheConstants as size
+use Rattle.macho_spans.specs.declared.span.Span.{Span}
+
+-- the streams of a command: their opcodes, and the tables that are their bytes
+abbrev pub streams_of : List ℕ → ℕ → List (Opcodes × (ℕ × ℕ × ℕ))
+streams_of image command =
+    (opcodes.Rebase, table_at image command (bounded_at 8))
+    ∷ (opcodes.Bind, table_at image command (bounded_at 16))
+    ∷ (opcodes.Bind, table_at image command (bounded_at 24))
+    ∷ (opcodes.LazyBind, table_at image command (bounded_at 32)) ∷ []
+
+-- the bytes of one of the streams of an image
+pub record IsStream (image : List ℕ) (of : Opcodes) (stream : List ℕ) : Type 0 where
+  pub bounded : IsSomeAnd (dyld_info image)
+      (λ command. (table : ℕ × ℕ × ℕ) × Contains (streams_of image command) (of, table)
+      × (stream ≡ part table.0 table.1 image))
+
+-- after these steps of a stream an opcode writes so many pointers, one `skip` bytes past the other
+abbrev pub WritesAt : Opcodes → List ℕ → List Step → ℕ → ℕ → Type 0
+WritesAt of stream before count skip =
+    (place : ℕ) × (after : ℕ) × AreSteps of stream before place
+    × (step_at of stream place ≡ Some (step.Write count skip, after))
+
+-- an opcode of a stream, at the place
+abbrev pub SaysAt : Opcodes → List ℕ → ℕ → Step → Type 0
+SaysAt of stream place said =
+    (before : List Step) × (after : ℕ) × AreSteps of stream before place
+    × (step_at of stream place ≡ Some (said, after))
+
+-- the opcodes of a stream ask for a pointer at an offset of the segment with this index
+abbrev pub IsSlot : Opcodes → List ℕ → ℕ → ℕ → Type 0
+IsSlot of stream segment offset =
+    (before : List Step) × (count : ℕ) × (skip : ℕ) × (k : ℕ) × WritesAt of stream before count skip
+    × (k < count) × ((cursor_after before).segment ≡ Some segment)
+    × (offset ≡ (cursor_after before).offset + k * (size.POINTER_SIZE + skip))
+
+-- of an image
+pub record IsHarmless (image : List ℕ) : Type 0 where
+  -- the bytes of each stream are opcodes up to its end
+  pub decoded : (of : Opcodes) (stream : List ℕ) → IsStream image of stream
+      → (steps : List Step) × AreSteps of stream steps (length stream)
+  -- an opcode that writes has a segment
+  pub set : (of : Opcodes) (stream : List ℕ) (before : List Step) (count skip : ℕ) → IsStream image of stream
+      → WritesAt of stream before count skip → 0 < count
+      → (segment : ℕ) × ((cursor_after before).segment ≡ Some segment)
+  -- each slot is a whole pointer in the file bytes of a segment that is there, and can be written
+  pub slots : (of : Opcodes) (stream : List ℕ) (segment offset : ℕ) → IsStream image of stream
+      → IsSlot of stream segment offset
+      → (s : ℕ) × (slice_get (all_segments image) segment ≡ Some s) × (is_writable image s ≡ true)
+      × (offset + size.POINTER_SIZE ≤ filesize image s)
+  -- the opcodes of a stream ask for no more pointers than fit into such segments
+  pub few : (of : Opcodes) (stream : List ℕ) (before : List Step) (place : ℕ) → IsStream image of stream
+      → AreSteps of stream before place → pointers before ≤ budget_of image
+  -- a bind has a name, and each library that is named is there
+  pub named : (of : Opcodes) (stream : List ℕ) (before : List Step) (count skip : ℕ) → IsStream image of stream
+      → ¬ (of ≡ opcodes.Rebase) → WritesAt of stream before count skip → 0 < count
+      → (name : Span) × ((cursor_after before).name ≡ Some name)
+  pub libraries : (of : Opcodes) (stream : List ℕ) (place ordinal : ℕ) → IsStream image of stream
+      → ¬ (of ≡ opcodes.Rebase) → SaysAt of stream place (step.SetLibrary ordinal)
+      → ordinal ≤ library_count image
+  -- a segment that can be written has no address of a home of any table
+  pub apart : (s home address : ℕ) (table : Span) → Contains (all_segments image) s
+      → Contains (all_segments image) home → is_writable image s ≡ true → IsHome table image home
+      → Supplies image s address → ¬ Supplies image home address
+
+-- of a file: each 64-bit slice is such an image
+abbrev pub AreHarmless : List ℕ → Type 0
+AreHarmless file =
+    All (λ slice. IsImage (slice_bytes file slice) → IsHarmless (slice_bytes file slice)) (slices_of file)
