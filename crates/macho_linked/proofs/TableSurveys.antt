@@ -142,7 +142,7 @@ module _ (image : List ℕ) (of : Opcodes) (table : ℕ × ℕ × ℕ) (limits :
 -- The tables of the command that names the streams
 module _ (image : List ℕ) (unbroken : NothingBreaks (BreaksImage image None)) (command : ℕ) (listed : Contains (commands_of image) command)
     (is : structure_of (command_cmd image command) ≡ Some DyldInfoCommand) (fields : TableFields) (has : Contains dyld_info_tables fields) where
-  named : Contains (tables_of image command) (table_at image command fields)
+  pub named : Contains (tables_of image command) (table_at image command fields)
   named =
       subst (λ (tables : List (ℕ × ℕ × ℕ)). Contains tables (table_at image command fields)) (sym (tables_listed image command DyldInfoCommand is))
       (contains_mapped (table_at image command) dyld_info_tables fields has)

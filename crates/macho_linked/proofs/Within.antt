@@ -48,7 +48,7 @@ number_within stream place fits value inside (Some bytes) is =
     let size = length-drop place stream in
     either stream place (fits bytes) _ _ (omega arith, omega arith) tt
 
-unsigned_within : (stream : List ℕ) (place : ℕ) → place ≤ length stream → IsWithin stream place (unsigned_at stream place)
+pub unsigned_within : (stream : List ℕ) (place : ℕ) → place ≤ length stream → IsWithin stream place (unsigned_at stream place)
 unfolding unsigned_at
 unsigned_within stream place inside = number_within stream place _ _ inside _ refl
 

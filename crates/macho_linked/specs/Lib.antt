@@ -9,4 +9,5 @@ pub mod Limits
 pub mod Images
 pub mod Rules
 pub mod Harmless
+pub mod Dyld
 pub mod Verdict

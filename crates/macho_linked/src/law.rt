@@ -5,6 +5,7 @@ ghost use Rattle.std.specs.Prelude.{◌≡◌};
 ghost use Rattle.macho_fields.specs.RuleList.{profile_of};
 ghost use Rattle.macho_fields.specs.declared.rule.Profile.TheVariants.{Linked};
 ghost use Rattle.macho_fields.specs.First.{IsUnbroken};
+ghost use Rattle.macho_linked.specs.Dyld.{AreFollowedSafely};
 ghost use Rattle.macho_linked.specs.Harmless.{AreHarmless};
 ghost use Rattle.macho_linked.specs.Rules.{IsFirstLinkedBroken, IsLinkedUnbroken};
 
@@ -28,4 +29,11 @@ pub fn linked_unbroken_is_harmless(file: &[u8])
     requires unbroken { IsUnbroken file.now }
     requires linked { IsLinkedUnbroken file.now }
     ensures { AreHarmless file.now }
+{}
+
+/// The plain dyld follows the streams of such a file safely.
+pub fn linked_unbroken_is_followed_safely(file: &[u8])
+    requires unbroken { IsUnbroken file.now }
+    requires linked { IsLinkedUnbroken file.now }
+    ensures { AreFollowedSafely file.now }
 {}

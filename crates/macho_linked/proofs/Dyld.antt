@@ -1,0 +1,329 @@
+-- The plain dyld follows the opcodes of the file, and writes nothing that it reads.
+use Rattle.std.proofs.Common.{◌≡◌, ℕ, suc, zero, ◌+◌, ◌-◌, ◌*◌, ◌≤◌, ◌<◌, ◌⊎◌, List, [], ◌∷◌, ◌++◌, length, map, lit<, take, drop, fold, get_or, slice_get, All, Any, Contains, Option, Some, None, MatchOption, Bool, true, false, refl, sym, ap, ◌∙◌, subst, arith, inl, inr, length-drop, length-append}
+use Rattle.std.specs.Prelude.{slice_index, not, nat_lt}
+use Rattle.std.specs.List.{range_with_len}
+use Rattle.std.proofs.lemmas.Bool.{cases_Bool, cases_lt, cases_eq, false≢true, ltb-true, and_parts}
+use Rattle.std.proofs.lemmas.List.{ext_get_or, get_or-take, get_or-drop, length-take, length-take-le, take-append-drop}
+use Rattle.std.proofs.lemmas.List.FromFn.{get_or-map-range_with_len, length-map-range_with_len}
+use Rattle.std.proofs.lemmas.List.Sums.{fold_push}
+use Rattle.std.proofs.lemmas.Option.{slice_get-get_or, slice_get_within, get_or_from_slice_get}
+use Rattle.macho_fields.specs.Field.{part}
+use Rattle.macho_fields.specs.First.{IsUnbroken}
+use Rattle.macho_fields.specs.Image.{command_cmd, commands_of}
+use Rattle.macho_fields.specs.Layers.{NothingBreaks}
+use Rattle.macho_fields.specs.LoadCommands.{dyld_info_tables}
+use Rattle.macho_fields.specs.Rules as layout
+use Rattle.macho_fields.specs.Segment.{vmaddr, vmsize, fileoff, filesize, Supplies}
+use Rattle.macho_fields.specs.Symbol.{table_at, tables_of}
+use Rattle.macho_fields.specs.Universal.{slices_of, slice_bytes, IsImage}
+use Rattle.macho_fields.specs.declared.rule.Rule.TheVariants as rule
+use Rattle.macho_fields.proofs.Options.{some_of, of_some}
+use Rattle.macho_fields.proofs.Parts.{with_cmd_is}
+use Rattle.macho_fields.proofs.Ranks.{image_alone}
+use Rattle.macho_fields.specs.declared.header.loader.TheConstants as loader
+use Rattle.macho_fields.specs.Image.{with_cmd}
+use Rattle.macho_image.specs.Command.{first_with_cmd}
+use Rattle.std.specs.Option.{option_map_or}
+use Rattle.macho_linked.specs.Kinds.{names_linked_data}
+use Rattle.macho_fields.proofs.Scopes.{of_slice}
+use Rattle.macho_image.proofs.ReadParts.{length-part}
+use Rattle.macho_rules.proofs.Judged.{opened_commands}
+use Rattle.macho_rules.proofs.Searches.{any_of, one_of}
+use Rattle.macho_rules.proofs.Verdicts.{unbroken_opened, unbroken_image_sound}
+use Rattle.macho_spans.specs.Span.{Covers, Holds, Shares}
+use Rattle.macho_spans.specs.declared.span.Span.{Span}
+use Rattle.macho_linked.specs.Cursor.{start, moved, cursor_after, writes}
+use Rattle.macho_linked.specs.Dyld.{State, bytes_from, Takes, IsLast, skip_of, slot, IsWritten, Moves, Reaches, IsKept, IsAt, IsSafe, IsFollowedSafely, AreFollowedSafely}
+use Rattle.macho_linked.specs.Harmless.{streams_of, IsStream, WritesAt, IsSlot, IsHarmless}
+use Rattle.macho_linked.specs.Homes.{bytes_of_table, Encrypts, IsHome, IsAstray, HasHome, IsHomeless}
+use Rattle.macho_linked.specs.Images.{dyld_info, bounded_at}
+use Rattle.macho_linked.specs.Rules.{BreaksFile, BreaksSlice, BreaksImage, IsLinkedUnbroken}
+use Rattle.macho_linked.specs.Segments.{all_segments, is_writable, is_constant, is_protected, IsLinkedit}
+use Rattle.macho_linked.specs.Steps.{step_at, Follow, AreSteps}
+use Rattle.macho_linked.specs.declared.cursor.Cursor.{Cursor}
+use Rattle.macho_linked.specs.declared.step.Opcodes.{Opcodes}
+use Rattle.macho_linked.specs.declared.step.Opcodes.TheVariants as opcodes
+use Rattle.macho_linked.specs.declared.step.Step.{Step}
+use Rattle.macho_linked.specs.declared.step.Step.TheVariants as step
+use Rattle.macho_linked.proofs.Harmless.{harmless_image}
+use Rattle.macho_linked.proofs.Prefixes.{step_same}
+use Rattle.macho_linked.proofs.StepChains.{follow_more, same_step, follow_on}
+use Rattle.macho_linked.proofs.TableSurveys.{info_is, table_inside, named}
+use Rattle.macho_linked.proofs.Within.{step_within}
+
+-- Two lists that agree as far as both go: an opcode that one has is that of the other, but for the last
+module _ (of : Opcodes) (xs ys : List ℕ) (agree : (k : ℕ) → k < length xs → k < length ys → get_or xs k 0 ≡ get_or ys k 0) where
+  -- the shorter one is the front of the longer
+  front : length xs ≤ length ys → take (length xs) ys ≡ xs
+  front less =
+      let size : length (take (length xs) ys) ≡ length xs = length-take-le (length xs) ys less in
+      ext_get_or 0 (take (length xs) ys) xs size
+      (λ i below. get_or-take (length xs) ys i 0 (omega (arith, size, below)) ∙ sym (agree i (omega (arith, size, below)) (omega (arith, size, below, less))))
+
+  longer : (place : ℕ) (r : Step × ℕ) → length xs ≤ length ys → step_at of xs place ≡ Some r → ¬ IsLast of (get_or xs place 0) → step_at of ys place ≡ Some r
+  longer place r less is not_last =
+      let whole : xs ++ drop (length xs) ys ≡ ys = ap (λ (zs : List ℕ). zs ++ drop (length xs) ys) (sym (front less)) ∙ take-append-drop (length xs) ys in
+      elim (step_same xs (drop (length xs) ys) of place r is) [
+        | inl last ↦ absurd (not_last last)
+        | inr same ↦ subst (λ (zs : List ℕ). step_at of zs place ≡ Some r) whole same
+      ]
+
+one_read : (read : Option (Step × ℕ)) (r s : Step × ℕ) → read ≡ Some r → read ≡ Some s → r ≡ s
+one_read read r s is also = cc
+
+step_agrees : (of : Opcodes) (xs ys : List ℕ) → ((k : ℕ) → k < length xs → k < length ys → get_or xs k 0 ≡ get_or ys k 0) → (place : ℕ) (r s : Step × ℕ)
+    → step_at of xs place ≡ Some r → step_at of ys place ≡ Some s → ¬ IsLast of (get_or xs place 0) → r ≡ s
+step_agrees of xs ys agree place r s is also not_last =
+    let in_x = step_within of xs place r.0 r.1 is in
+    let in_y = step_within of ys place s.0 s.1 also in
+    let here : get_or xs place 0 ≡ get_or ys place 0 = agree place (omega arith) (omega arith) in
+    elim (cases_lt (length ys) (length xs)) [
+      | inl less ↦
+          one_read (step_at of xs place) r s is
+          (longer of ys xs (λ k below above. sym (agree k above below)) place s (omega arith) also (λ last. not_last (subst (IsLast of) (sym here) last)))
+      | inr more ↦ one_read (step_at of ys place) r s (longer of xs ys agree place r more is not_last) also
+    ]
+
+-- the byte with an offset in a part of the image
+part_at : (image : List ℕ) (start size k : ℕ) → k < size → get_or (part start size image) k 0 ≡ get_or image (start + k) 0
+part_at image start size k less = get_or-take size (drop start image) k 0 less ∙ get_or-drop start image k 0
+
+-- The image
+module _ (image : List ℕ) (kept : NothingBreaks (BreaksImage image)) (unbroken : NothingBreaks (layout.BreaksImage image None)) where
+  harmless : IsHarmless image
+  harmless = harmless_image image kept unbroken
+
+  -- a mapped segment has no more bytes in the file than addresses
+  file_in_memory : (s : ℕ) → Contains (all_segments image) s → 0 < vmsize image s → filesize image s ≤ vmsize image s
+  file_in_memory s has mapped = elim (cases_lt (vmsize image s) (filesize image s)) [
+    | inl past ↦
+        absurd (unbroken rule.SegmentSize s (inr (commands_of image, opened_commands image (unbroken_opened image unbroken), (has, (mapped, past)))))
+    | inr fits ↦ fits
+  ]
+
+  writable_mapped : (s : ℕ) → is_writable image s ≡ true → 0 < vmsize image s
+  writable_mapped s can = let (mapped, some) = and_parts (nat_lt 0 (vmsize image s)) _ can in ltb-true 0 (vmsize image s) mapped
+
+  never_both : (s : ℕ) → is_writable image s ≡ true → is_constant image s ≡ true → ⊥
+  never_both s can constant =
+      let (readable, cannot) = and_parts _ (not (is_writable image s)) constant in
+      false≢true (subst (λ (b : Bool). not b ≡ true) can cannot)
+
+  -- the command that names the streams names linked data
+  first_names : (cmd : ℕ) → names_linked_data cmd ≡ true → (command : ℕ) → first_with_cmd image cmd (commands_of image) ≡ Some command → names_linked_data (command_cmd image command) ≡ true
+  first_names cmd names command is =
+      let has : Contains (with_cmd image cmd (commands_of image)) command =
+      (0, slice_get_within (with_cmd image cmd (commands_of image)) 0 command is, get_or_from_slice_get (with_cmd image cmd (commands_of image)) 0 command command is) in
+      ap names_linked_data (with_cmd_is image (commands_of image) cmd command has) ∙ names
+
+  info_names : (command : ℕ) → dyld_info image ≡ Some command → names_linked_data (command_cmd image command) ≡ true
+  info_names command is = either (first_with_cmd image loader.LC_DYLD_INFO_ONLY (commands_of image)) refl is
+    where
+      either : (only : Option ℕ) → first_with_cmd image loader.LC_DYLD_INFO_ONLY (commands_of image) ≡ only
+          → option_map_or (λ c. Some c) only (first_with_cmd image loader.LC_DYLD_INFO (commands_of image)) ≡ Some command → names_linked_data (command_cmd image command) ≡ true
+      either None none same = first_names loader.LC_DYLD_INFO refl command same
+      either (Some other) some same = first_names loader.LC_DYLD_INFO_ONLY refl command (some ∙ same)
+
+  -- a table of the command, and where it lies
+  abbrev IsTableOf : ℕ → ℕ × ℕ × ℕ → Type 0
+  IsTableOf command table = Contains (tables_of image command) table × (0 < table.1 → table.0 + table.1 ≤ length image)
+
+  bounded_is : (command : ℕ) → dyld_info image ≡ Some command → (field : ℕ) → Contains dyld_info_tables (bounded_at field) → IsTableOf command (table_at image command (bounded_at field))
+  bounded_is command info field has =
+      let (listed, cmd) = info_is image command info in (
+        named image unbroken command listed cmd (bounded_at field) has,
+        λ some. table_inside image unbroken command listed cmd (bounded_at field) has refl some,
+      )
+
+  stream_is : (of : Opcodes) (table : ℕ × ℕ × ℕ) (command : ℕ) → dyld_info image ≡ Some command → (k : ℕ) → k < 4 → get_or (streams_of image command) k (of, table) ≡ (of, table) → IsTableOf command table
+  stream_is of table command info zero less at = subst (IsTableOf command) (ap (λ (s : Opcodes × (ℕ × ℕ × ℕ)). s.1) at) (bounded_is command info 8 (0, lit< tt, refl))
+  stream_is of table command info (suc zero) less at = subst (IsTableOf command) (ap (λ (s : Opcodes × (ℕ × ℕ × ℕ)). s.1) at) (bounded_is command info 16 (1, lit< tt, refl))
+  stream_is of table command info (suc (suc zero)) less at = subst (IsTableOf command) (ap (λ (s : Opcodes × (ℕ × ℕ × ℕ)). s.1) at) (bounded_is command info 24 (2, lit< tt, refl))
+  stream_is of table command info (suc (suc (suc zero))) less at = subst (IsTableOf command) (ap (λ (s : Opcodes × (ℕ × ℕ × ℕ)). s.1) at) (bounded_is command info 32 (3, lit< tt, refl))
+  stream_is of table command info (suc (suc (suc (suc k)))) less at = absurd (omega arith)
+
+  -- One stream
+  module _ (of : Opcodes) (table : ℕ × ℕ × ℕ) (home : ℕ) (is_at : IsAt image of table home) where
+    abbrev stream : List ℕ
+    stream = part table.0 table.1 image
+
+    abbrev At : ℕ → Type 0
+    At command = Contains (streams_of image command) (of, table)
+
+    are : IsStream image of stream
+    are =
+        let (command, info, has) = some_of At (dyld_info image) is_at.named in
+        record { bounded = of_some (λ c. (t : ℕ × ℕ × ℕ) × Contains (streams_of image c) (of, t) × (stream ≡ part t.0 t.1 image)) (dyld_info image) command info (table, has, refl) }
+
+    -- its command
+    found : (command : ℕ) × (dyld_info image ≡ Some command) × IsTableOf command table
+    found = let (command, info, (k, less, at)) = some_of At (dyld_info image) is_at.named in (command, info, stream_is of table command info k less at)
+
+    sized : 0 < table.1 → length stream ≡ table.1
+    sized some = let (command, info, (has, inside)) = found in length-part table.0 table.1 image (inside some)
+
+    short : (k : ℕ) → k < length stream → k < table.1
+    short k less =
+        let count = length-take table.1 (drop table.0 image) in omega (arith, count, less)
+
+    -- what is in memory where the loader reads the stream
+    module _ (memory : ℕ → ℕ) (still : IsKept image memory) where
+      byte_at : (k : ℕ) → k < length stream → (l : ℕ) → Contains (all_segments image) l → (home + fileoff image l ≡ vmaddr image l + table.0) → IsHome (bytes_of_table table) image l
+          → (¬ Any (Encrypts (bytes_of_table table) image) (commands_of image)) → memory (home + k) ≡ get_or stream k 0
+      byte_at k less l has at (mapped, constant, plain, (low, high)) not_encrypted =
+          let near = short k less in
+          let j = table.0 + k - fileoff image l in
+          let inside : table.0 + k - fileoff image l < filesize image l = omega (arith, low, high, near) in
+          let address : home + k ≡ vmaddr image l + (table.0 + k - fileoff image l) = omega (arith, at, low, near) in
+          let place : fileoff image l + (table.0 + k - fileoff image l) ≡ table.0 + k = omega (arith, low, near) in
+          ap memory address
+          ∙ (still l (table.0 + k - fileoff image l) has mapped constant plain inside (λ any. not_encrypted (wider any))
+          ∙ (ap (slice_index image) place ∙ sym (part_at image table.0 table.1 k near)))
+        where
+          wider : Any (Encrypts (record { start = fileoff image l + (table.0 + k - fileoff image l); len = 1 }) image) (commands_of image) → Any (Encrypts (bytes_of_table table) image) (commands_of image)
+          wider any =
+              let near = short k less in
+              let (c, listed, (cmd, ranges)) = one_of (Encrypts (record { start = fileoff image l + (table.0 + k - fileoff image l); len = 1 }) image) (commands_of image) any in
+              let (range, bounds, (spot, in_range, (from, to))) =
+              one_of (λ r. Shares (bytes_of_table r) (record { start = fileoff image l + (table.0 + k - fileoff image l); len = 1 })) (tables_of image c) ranges in
+              any_of (Encrypts (bytes_of_table table) image) (commands_of image) c listed (
+                cmd,
+                any_of (λ r. Shares (bytes_of_table r) (bytes_of_table table)) (tables_of image c) range bounds (spot, in_range, (omega (arith, from, to, low, near), omega (arith, from, to, low, near))),
+              )
+
+      same_in_memory : (k : ℕ) → k < length stream → memory (home + k) ≡ get_or stream k 0
+      same_in_memory k less = elim (cases_eq (memory (home + k)) (get_or stream k 0)) [
+        | inl same ↦ same
+        | inr apart ↦ absurd (no_home (λ home_is. lost apart home_is))
+      ]
+        where
+          no_home : ¬ ¬ HasHome (bytes_of_table table) image
+          no_home none =
+              let (command, info, (has, inside)) = found in
+              let (listed, cmd) = info_is image command info in
+              let near = short k less in
+              kept rule.TableHome command (listed, (info_names command info, any_of (IsHomeless image) (tables_of image command) table has (omega (arith, near), none)))
+
+          lost : ¬ (memory (home + k) ≡ get_or stream k 0) → HasHome (bytes_of_table table) image → ⊥
+          lost apart home_is =
+              let (l, has, (linkedit, at)) = one_of (λ s. IsLinkedit image s × (home + fileoff image s ≡ vmaddr image s + table.0)) (all_segments image) is_at.found in
+              home_is.1 (any_of (IsAstray (bytes_of_table table) image) (all_segments image) l has (linkedit, λ here. apart (byte_at k less l has at here home_is.2)))
+
+      -- the opcode that the loader takes is that of the file
+      opcode_there : (place : ℕ) (before : List Step) → AreSteps of stream before place → place < length stream → (r : Step × ℕ) × (step_at of stream place ≡ Some r)
+      opcode_there place before chain less =
+          let (steps, all) = harmless.decoded of stream are in
+          let (rest, on, is) = follow_on of stream before steps 0 place (length stream) chain all (omega arith) in
+          next rest on
+        where
+          next : (rest : List Step) → Follow of stream place rest (length stream) → (r : Step × ℕ) × (step_at of stream place ≡ Some r)
+          next [] same = absurd (omega (arith, same, less))
+          next (first ∷ rest) (after, at, on) = ((first, after), at)
+
+      takes_same : (place : ℕ) (before : List Step) → AreSteps of stream before place → place < length stream → (said : Step) (after : ℕ) → Takes of memory home place said after
+          → ¬ IsLast of (memory (home + place)) → step_at of stream place ≡ Some (said, after)
+      takes_same place before chain less said after (n, takes) not_last =
+          let (r, at) = opcode_there place before chain less in
+          let agree = λ (k : ℕ) (in_x : k < length stream) (in_y : k < length (bytes_from memory home n)).
+          sym (same_in_memory k in_x) ∙ sym (get_or-map-range_with_len memory home n k (home + k) 0 (subst (λ (size : ℕ). k < size) (length-map-range_with_len memory home n) in_y) refl) in
+          let same = step_agrees of stream (bytes_from memory home n) agree place r (said, after) at takes (λ last. not_last (subst (IsLast of) (sym (same_in_memory place less)) last)) in
+          at ∙ ap Some same
+
+    -- a pointer that a step writes
+    abbrev Points : Cursor → Step → ℕ → Type 0
+    Points cursor said k =
+        (segment : ℕ) × (s : ℕ) × (cursor.segment ≡ Some segment) × (slice_get (all_segments image) segment ≡ Some s) × (is_writable image s ≡ true) × (slot cursor said k + 8 ≤ filesize image s)
+
+    pointer_there : (place : ℕ) (before : List Step) → AreSteps of stream before place → (said : Step) (after k : ℕ) → step_at of stream place ≡ Some (said, after) → k < writes said → Points (cursor_after before) said k
+    pointer_there place before chain (step.Write count skip) after k at less =
+        let says : WritesAt of stream before count skip = (place, after, chain, at) in
+        let (segment, set) = harmless.set of stream before count skip are says (omega arith) in
+        let (s, there, can, inside) = harmless.slots of stream segment (slot (cursor_after before) (step.Write count skip) k) are (before, count, skip, k, says, less, set, refl) in
+        (segment, s, set, there, can, inside)
+    pointer_there place before chain other after k at less = absurd (omega arith)
+
+    -- What holds of the loader after n opcodes
+    record Follows (n : ℕ) (a : State) : Type 0 where
+      ends : n ≤ a.place
+      inside : a.place ≤ length stream
+      before : (steps : List Step) × (length steps ≡ n) × AreSteps of stream steps a.place × (a.cursor ≡ cursor_after steps)
+      still : IsKept image a.memory
+
+    moves_on : (n : ℕ) (a b : State) → Follows n a → Moves image of home table.1 a b → Follows (suc n) b
+    moves_on n a b good (said, less, takes, not_last, cursor, writes_to) =
+        let (steps, count, chain, is) = good.before in
+        let size = sized (omega (arith, less)) in
+        let within_stream : a.place < length stream = omega (arith, less, size) in
+        let at = takes_same a.memory good.still a.place steps chain within_stream said b.place takes not_last in
+        let within = step_within of stream a.place said b.place at in
+        let longer_by = length-append steps (said ∷ []) in
+        let past = good.ends in record {
+          ends = omega (arith, past, within.0);
+          inside = within.1;
+          before = (
+            steps ++ said ∷ [],
+            omega (arith, longer_by, count),
+            follow_more of stream steps 0 a.place said b.place chain at,
+            cursor ∙ (ap (λ (c : Cursor). moved c said) is ∙ sym (fold_push moved start steps said)),
+          );
+          still = λ s k has mapped constant plain below not_encrypted.
+              elim (writes_to (vmaddr image s + k)) [
+                | inl same ↦ same ∙ good.still s k has mapped constant plain below not_encrypted
+                | inr (j, few, written) ↦ absurd (never_written steps chain is at s k has mapped constant below j few written)
+              ];
+        }
+      where
+        never_written : (steps : List Step) → AreSteps of stream steps a.place → a.cursor ≡ cursor_after steps → step_at of stream a.place ≡ Some (said, b.place)
+            → (s k : ℕ) → Contains (all_segments image) s → 0 < vmsize image s → is_constant image s ≡ true → k < filesize image s → (j : ℕ) → j < writes said
+            → ((segment w : ℕ) → a.cursor.segment ≡ Some segment → slice_get (all_segments image) segment ≡ Some w → Covers (vmaddr image w + slot a.cursor said j) 8 (vmaddr image s + k)) → ⊥
+        never_written steps chain is at s k has mapped constant below j few written =
+            let points = subst (λ (c : Cursor). Points c said j) (sym is) (pointer_there a.place steps chain said b.place j at few) in
+            let (segment, w, set, there, can, inside) = points in
+            let (low, high) = written segment w set there in
+            let among : Contains (all_segments image) w = (segment, slice_get_within (all_segments image) segment w there, get_or_from_slice_get (all_segments image) segment w w there) in
+            let fits_w = file_in_memory w among (writable_mapped w can) in
+            let fits_s = file_in_memory s has mapped in
+            let by_w : Supplies image w (vmaddr image s + k) = (omega (arith, low), omega (arith, high, inside, fits_w)) in
+            let by_s : Supplies image s (vmaddr image s + k) = (omega arith, omega (arith, below, fits_s)) in
+            let same = (unbroken_image_sound image unbroken).one_segment w s (vmaddr image s + k) among has by_w by_s in
+            never_both s (subst (λ (n : ℕ). is_writable image n ≡ true) same can) constant
+
+    reaches : (n m : ℕ) (a b : State) → Follows m a → Reaches image of home table.1 a n b → Follows (m + n) b
+    reaches zero m a b good is = subst (λ (i : ℕ). Follows i b) (let same : m ≡ m + zero = omega arith in same) (subst (Follows m) is good)
+    reaches (suc n) m a b good (next, move, on) = subst (λ (i : ℕ). Follows i b) (let same : suc m + n ≡ m + suc n = omega arith in same) (reaches n (suc m) next b (moves_on m a next good move) on)
+
+    safe : (n : ℕ) (a : State) → Follows n a → IsSafe image of stream home n a
+    safe n a good =
+        let past = good.ends in
+        let within = good.inside in record {
+          ends = omega (arith, past, within);
+          follows = good.before;
+          same = same_in_memory a.memory good.still;
+          kept = good.still;
+          inside = λ said after less takes not_last.
+              let (steps, count, chain, is) = good.before in
+              (step_within of stream a.place said after (takes_same a.memory good.still a.place steps chain less said after takes not_last)).1;
+          writes = λ said after k less takes not_last few.
+              let (steps, count, chain, is) = good.before in
+              let at = takes_same a.memory good.still a.place steps chain less said after takes not_last in
+              subst (λ (c : Cursor). Points c said k) (sym is) (pointer_there a.place steps chain said after k at few);
+        }
+
+  pub followed_safely : IsFollowedSafely image
+  followed_safely of table home n first last is_at still begins fresh reached =
+      safe of table home is_at n last (subst (λ (i : ℕ). Follows of table home is_at i last) (let same : 0 + n ≡ n = omega arith in same) (reaches of table home is_at n 0 first last (record {
+        ends = omega arith;
+        inside = omega (arith, begins);
+        before = ([], refl, sym begins, fresh);
+        still = still;
+      }) reached))
+
+-- a file
+pub file_followed_safely : (file : List ℕ) → IsUnbroken file → IsLinkedUnbroken file → AreFollowedSafely file
+file_followed_safely file unbroken linked k d less image =
+    let slice = get_or (slices_of file) k d in
+    let at = slice_get-get_or (slices_of file) k d less in
+    followed_safely (slice_bytes file slice)
+    (λ r place broken. linked (record { scope = suc k; rule = r; place = place }) (of_slice BreaksFile BreaksSlice file k slice at image r place broken))
+    (λ r place broken. unbroken (record { scope = suc k; rule = r; place = place })
+    (of_slice layout.BreaksFile layout.BreaksImage file k slice at image r place (image_alone (slice_bytes file slice) slice.arch r place broken)))
