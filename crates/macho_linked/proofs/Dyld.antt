@@ -1,8 +1,7 @@
 -- The plain dyld follows the opcodes of the file, and writes nothing that it reads.
-use Rattle.std.proofs.Common.{◌≡◌, ℕ, suc, zero, ◌+◌, ◌-◌, ◌*◌, ◌≤◌, ◌<◌, ◌⊎◌, List, [], ◌∷◌, ◌++◌, length, map, lit<, take, drop, fold, get_or, slice_get, All, Any, Contains, Option, Some, None, MatchOption, Bool, true, false, refl, sym, ap, ◌∙◌, subst, arith, inl, inr, length-drop, length-append}
+use Rattle.std.proofs.Common.{◌≡◌, ℕ, suc, zero, ◌+◌, ◌-◌, ◌≤◌, ◌<◌, List, [], ◌∷◌, ◌++◌, length, lit<, take, drop, get_or, slice_get, Any, Contains, Option, Some, None, Bool, true, refl, sym, ap, ◌∙◌, subst, arith, inl, inr, length-append}
 use Rattle.std.specs.Prelude.{slice_index, not, nat_lt}
-use Rattle.std.specs.List.{range_with_len}
-use Rattle.std.proofs.lemmas.Bool.{cases_Bool, cases_lt, cases_eq, false≢true, ltb-true, and_parts}
+use Rattle.std.proofs.lemmas.Bool.{cases_lt, cases_eq, false≢true, ltb-true, and_parts}
 use Rattle.std.proofs.lemmas.List.{ext_get_or, get_or-take, get_or-drop, length-take, length-take-le, take-append-drop}
 use Rattle.std.proofs.lemmas.List.FromFn.{get_or-map-range_with_len, length-map-range_with_len}
 use Rattle.std.proofs.lemmas.List.Sums.{fold_push}
@@ -15,7 +14,7 @@ use Rattle.macho_fields.specs.LoadCommands.{dyld_info_tables}
 use Rattle.macho_fields.specs.Rules as layout
 use Rattle.macho_fields.specs.Segment.{vmaddr, vmsize, fileoff, filesize, Supplies}
 use Rattle.macho_fields.specs.Symbol.{table_at, tables_of}
-use Rattle.macho_fields.specs.Universal.{slices_of, slice_bytes, IsImage}
+use Rattle.macho_fields.specs.Universal.{slices_of, slice_bytes}
 use Rattle.macho_fields.specs.declared.rule.Rule.TheVariants as rule
 use Rattle.macho_fields.proofs.Options.{some_of, of_some}
 use Rattle.macho_fields.proofs.Parts.{with_cmd_is}
@@ -30,24 +29,22 @@ use Rattle.macho_image.proofs.ReadParts.{length-part}
 use Rattle.macho_rules.proofs.Judged.{opened_commands}
 use Rattle.macho_rules.proofs.Searches.{any_of, one_of}
 use Rattle.macho_rules.proofs.Verdicts.{unbroken_opened, unbroken_image_sound}
-use Rattle.macho_spans.specs.Span.{Covers, Holds, Shares}
-use Rattle.macho_spans.specs.declared.span.Span.{Span}
+use Rattle.macho_spans.specs.Span.{Covers, Shares}
 use Rattle.macho_linked.specs.Cursor.{start, moved, cursor_after, writes}
-use Rattle.macho_linked.specs.Dyld.{State, bytes_from, Takes, IsLast, skip_of, slot, IsWritten, Moves, Reaches, IsKept, IsAt, IsSafe, IsFollowedSafely, AreFollowedSafely}
-use Rattle.macho_linked.specs.Harmless.{streams_of, IsStream, WritesAt, IsSlot, IsHarmless}
+use Rattle.macho_linked.specs.Dyld.{State, bytes_from, Takes, IsLast, slot, Moves, Reaches, IsKept, IsAt, IsSafe, IsFollowedSafely, AreFollowedSafely}
+use Rattle.macho_linked.specs.Harmless.{streams_of, IsStream, WritesAt, IsHarmless}
 use Rattle.macho_linked.specs.Homes.{bytes_of_table, Encrypts, IsHome, IsAstray, HasHome, IsHomeless}
 use Rattle.macho_linked.specs.Images.{dyld_info, bounded_at}
 use Rattle.macho_linked.specs.Rules.{BreaksFile, BreaksSlice, BreaksImage, IsLinkedUnbroken}
-use Rattle.macho_linked.specs.Segments.{all_segments, is_writable, is_constant, is_protected, IsLinkedit}
+use Rattle.macho_linked.specs.Segments.{all_segments, is_writable, is_constant, IsLinkedit}
 use Rattle.macho_linked.specs.Steps.{step_at, Follow, AreSteps}
 use Rattle.macho_linked.specs.declared.cursor.Cursor.{Cursor}
 use Rattle.macho_linked.specs.declared.step.Opcodes.{Opcodes}
-use Rattle.macho_linked.specs.declared.step.Opcodes.TheVariants as opcodes
 use Rattle.macho_linked.specs.declared.step.Step.{Step}
 use Rattle.macho_linked.specs.declared.step.Step.TheVariants as step
 use Rattle.macho_linked.proofs.Harmless.{harmless_image}
 use Rattle.macho_linked.proofs.Prefixes.{step_same}
-use Rattle.macho_linked.proofs.StepChains.{follow_more, same_step, follow_on}
+use Rattle.macho_linked.proofs.StepChains.{follow_more, follow_on}
 use Rattle.macho_linked.proofs.TableSurveys.{info_is, table_inside, named}
 use Rattle.macho_linked.proofs.Within.{step_within}
 

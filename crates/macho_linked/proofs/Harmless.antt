@@ -1,7 +1,6 @@
 -- An image that breaks no rule asks a loader for harmless writes alone.
-use Rattle.std.proofs.Common.{◌≡◌, ℕ, suc, zero, ◌+◌, ◌-◌, ◌*◌, ◌≤◌, ◌<◌, ◌⊎◌, List, [], ◌∷◌, ◌++◌, length, map, get_or, slice_get, fold, All, Contains, Option, Some, None, Bool, true, false, refl, sym, ap, ◌∙◌, subst, arith, inl, inr}
+use Rattle.std.proofs.Common.{◌≡◌, ℕ, suc, zero, ◌+◌, ◌-◌, ◌≤◌, ◌<◌, List, [], ◌∷◌, ◌++◌, length, get_or, slice_get, Contains, Option, Some, None, Bool, true, refl, sym, ◌∙◌, subst, arith, inl, inr}
 use Rattle.std.specs.Prelude.{slice_index, not}
-use Rattle.std.specs.List.{sum_by}
 use Rattle.std.proofs.Math.Nat.{mul-le-mul_right}
 use Rattle.std.proofs.lemmas.Bool.{cases_Bool, cases_lt, cases_eq, false≢true, and_parts}
 use Rattle.std.proofs.lemmas.List.{get_or-map, get_or_past, length-map, append-nil, append_assoc}
@@ -9,24 +8,23 @@ use Rattle.std.proofs.lemmas.List.Sums.{sum_by-append, sum_by-cons}
 use Rattle.std.proofs.lemmas.Option.{slice_get-get_or}
 use Rattle.macho_fields.specs.Field.{part}
 use Rattle.macho_fields.specs.First.{IsUnbroken}
-use Rattle.macho_fields.specs.Image.{commands_of}
 use Rattle.macho_fields.specs.Layers.{NothingBreaks}
 use Rattle.macho_fields.specs.Rules as layout
-use Rattle.macho_fields.specs.Segment.{filesize, Supplies}
+use Rattle.macho_fields.specs.Segment.{filesize}
 use Rattle.macho_fields.specs.Symbol.{table_at}
-use Rattle.macho_fields.specs.Universal.{FileSlice, slices_of, slice_bytes, IsImage}
+use Rattle.macho_fields.specs.Universal.{slices_of, slice_bytes}
 use Rattle.macho_fields.specs.declared.rule.Rule.TheVariants as rule
 use Rattle.macho_fields.proofs.Options.{some_of, of_some}
 use Rattle.macho_fields.proofs.Ranks.{image_alone}
 use Rattle.macho_fields.proofs.Scopes.{of_slice}
 use Rattle.macho_rules.proofs.Verdicts.{unbroken_image_sound}
 use Rattle.macho_linked.specs.Cursor.{cursor_after, writes}
-use Rattle.macho_linked.specs.Harmless.{streams_of, IsStream, SaysAt, WritesAt, IsSlot, IsHarmless, AreHarmless}
+use Rattle.macho_linked.specs.Harmless.{streams_of, IsStream, SaysAt, IsSlot, IsHarmless, AreHarmless}
 use Rattle.macho_linked.specs.Homes.{IsHome}
 use Rattle.macho_linked.specs.Images.{dyld_info, bounded_at, Undecoded, NoLibrary, NoName, NoSlot, TooMany, InTable, InRebases, InBinds, InBindsOf}
 use Rattle.macho_linked.specs.Limits.{room, rooms_of, budget_of, library_count}
 use Rattle.macho_linked.specs.Rules.{BreaksFile, BreaksSlice, BreaksImage, IsLinkedUnbroken}
-use Rattle.macho_linked.specs.Segments.{all_segments, is_writable, is_constant}
+use Rattle.macho_linked.specs.Segments.{all_segments, is_writable}
 use Rattle.macho_linked.specs.Steps.{step_at, Follow, AreSteps}
 use Rattle.macho_linked.specs.Streams.{pointers, EndsInRoom, reach}
 use Rattle.macho_linked.specs.declared.step.Opcodes.{Opcodes}

@@ -1,7 +1,7 @@
 -- What an opcode says does not depend on the bytes after its operands.
-use Rattle.std.proofs.Common.{◌≡◌, ℕ, ◌+◌, ◌-◌, ◌*◌, ◌≤◌, ◌<◌, ◌==◌, ◌&&◌, ◌⊎◌, ◌++◌, Bool, true, false, List, length, take, drop, get_or, slice_get, Option, Some, None, refl, sym, ap, ◌∙◌, subst, arith, inl, inr, length-drop, length-append}
+use Rattle.std.proofs.Common.{◌≡◌, ℕ, ◌+◌, ◌-◌, ◌≤◌, ◌<◌, ◌==◌, ◌&&◌, ◌⊎◌, ◌++◌, Bool, true, false, List, length, take, drop, get_or, slice_get, Option, Some, None, refl, sym, ap, ◌∙◌, subst, arith, inl, inr, length-drop, length-append}
 use Rattle.std.specs.Prelude.{cond, nat_lt, nat_le, bit_and, ℤ}
-use Rattle.std.specs.List.{list_all, position_or_len}
+use Rattle.std.specs.List.{position_or_len}
 use Rattle.std.specs.Option.{option_map, option_and_then}
 use Rattle.std.proofs.lemmas.Bool.{cases_Bool, lt-ltb, ltb-true, le-leb, leb-true, eqb-true, and_parts}
 use Rattle.std.proofs.lemmas.List.{get_or_append_left, take-append-le, drop-append-le, length-take}
@@ -10,7 +10,7 @@ use Rattle.std.proofs.lemmas.Option.{slice_get_within, slice_get-get_or, get_or_
 use Rattle.macho_fields.specs.Field.{string_from}
 use Rattle.macho_linked.specs.Dyld.{IsLast}
 use Rattle.macho_linked.specs.Numbers.{number_bytes, unsigned_at, signed_at}
-use Rattle.macho_linked.specs.Steps.{with_number, with_count_and_skip, with_addend, with_name, pointer_type, last_step, special_step, rebase_step, bind_step, opcode_step, step_at}
+use Rattle.macho_linked.specs.Steps.{with_number, with_count_and_skip, with_addend, with_name, rebase_step, bind_step, opcode_step, step_at}
 use Rattle.macho_linked.specs.declared.step.Opcodes.{Opcodes}
 use Rattle.macho_linked.specs.declared.step.Opcodes.TheVariants as opcodes
 use Rattle.macho_linked.specs.declared.step.Step.{Step}
