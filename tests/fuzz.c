@@ -652,6 +652,10 @@ static void check_constants(void) {
     CHECK(rule > KESVUOT_BIND_NAMES && name.size == 0);
     CHECK(kesvuot_find_rule(0, &name) == KESVUOT_NONE && name.size == 0);
     CHECK(kesvuot_find_rule(UINT32_MAX, &name) == KESVUOT_NONE && name.size == 0);
+    for (uint32_t number = 0; number < 256; number++) {
+        CHECK(kesvuot_command_name(number) == NULL || strncmp(kesvuot_command_name(number), "LC_", 3) == 0);
+        CHECK(kesvuot_platform_name(number) == NULL || strncmp(kesvuot_platform_name(number), "PLATFORM_", 9) == 0);
+    }
     CHECK(kesvuot_version() == KESVUOT_VERSION);
     CHECK(kesvuot_verify(NULL, 0, &verdict) == KESVUOT_REFUSED && verdict.rule == KESVUOT_MAGIC && verdict.place == 0);
     CHECK(kesvuot_read_image(NULL, 0, 0, &image) == KESVUOT_REFUSED);

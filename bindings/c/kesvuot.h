@@ -61,7 +61,7 @@ enum {
     KESVUOT_OK = 0,
     KESVUOT_REFUSED = 1,   /* the bytes break a rule */
     KESVUOT_NO_MEMORY = 2, /* memory ran out: there is no verdict. kesvuot_verify says for which files this can be */
-    KESVUOT_NONE = 3,      /* there is no such rule, slice, command or address */
+    KESVUOT_NONE = 3,      /* there is no such rule, name, slice, command or address */
     KESVUOT_UNREAD = 4,    /* the slice is 32-bit or big-endian: nothing in it is judged */
     KESVUOT_ZERO = 5       /* the address is mapped, but to no byte of the file: a loader puts a zero there */
 };
@@ -174,6 +174,23 @@ uint32_t kesvuot_find_rule(uint32_t rule, struct kesvuot_text *name);
 static inline const char *kesvuot_rule_name(uint32_t rule) {
     struct kesvuot_text name;
     return kesvuot_find_rule(rule, &name) == KESVUOT_OK ? name.at : NULL;
+}
+
+/* The name of the load commands with this cmd, such as "LC_SEGMENT_64", and of the platform of a build, such as
+ * "PLATFORM_MACOS", as <mach-o/loader.h> has them.
+ * OK: the name is written. NONE: the library knows no name for the number, and the name is empty. */
+uint32_t kesvuot_find_command(uint32_t cmd, struct kesvuot_text *name);
+uint32_t kesvuot_find_platform(uint32_t platform, struct kesvuot_text *name);
+
+/* The same as strings, or null pointers. */
+static inline const char *kesvuot_command_name(uint32_t cmd) {
+    struct kesvuot_text name;
+    return kesvuot_find_command(cmd, &name) == KESVUOT_OK ? name.at : NULL;
+}
+
+static inline const char *kesvuot_platform_name(uint32_t platform) {
+    struct kesvuot_text name;
+    return kesvuot_find_platform(platform, &name) == KESVUOT_OK ? name.at : NULL;
 }
 
 /* An image

@@ -75,6 +75,21 @@ func ruleName(rule C.uint32_t) string {
 	return C.GoStringN(name.at, C.int(name.size))
 }
 
+// CommandName returns the name of the load commands with this cmd, such as "LC_SEGMENT_64", or "" if the library knows
+// none.
+func CommandName(cmd uint32) string {
+	var name C.struct_kesvuot_text
+	C.kesvuot_find_command(C.uint32_t(cmd), &name)
+	return C.GoStringN(name.at, C.int(name.size))
+}
+
+// PlatformName returns the name of the platform of a build, such as "PLATFORM_MACOS", or "" if the library knows none.
+func PlatformName(platform uint32) string {
+	var name C.struct_kesvuot_text
+	C.kesvuot_find_platform(C.uint32_t(platform), &name)
+	return C.GoStringN(name.at, C.int(name.size))
+}
+
 // Room for the layout of most files. A longer one takes a second call.
 const layoutRoom = 1 << 14
 

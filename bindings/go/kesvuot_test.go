@@ -237,6 +237,13 @@ func TestHeader(t *testing.T) {
 	same(t, "how many symbols", image.Symtab().Nsyms, uint64(5))
 }
 
+func TestNames(t *testing.T) {
+	same(t, "a command", CommandName(0x80000028), "LC_MAIN")
+	same(t, "no command", CommandName(0x28), "")
+	same(t, "a platform", PlatformName(1), "PLATFORM_MACOS")
+	same(t, "no platform", PlatformName(0), "")
+}
+
 func TestAddresses(t *testing.T) {
 	file := readReal(t, "program")
 	image := verified(t, file).Images()[0]

@@ -49,6 +49,41 @@ static void try_version_and_rules(void) {
     try_no_rule(UINT32_MAX);
 }
 
+// A name by both calls, or none.
+static void try_name(uint32_t status, struct kesvuot_text text, const char *name, const char *wanted) {
+    CHECK(status == (wanted ? KESVUOT_OK : KESVUOT_NONE));
+    CHECK(wanted ? name == text.at && text.size == strlen(wanted) && strcmp(name, wanted) == 0 : !name && !text.size);
+}
+
+static void try_command(uint32_t cmd, const char *wanted) {
+    struct kesvuot_text text;
+    const uint32_t status = kesvuot_find_command(cmd, &text);
+    try_name(status, text, kesvuot_command_name(cmd), wanted);
+}
+
+static void try_platform(uint32_t platform, const char *wanted) {
+    struct kesvuot_text text;
+    const uint32_t status = kesvuot_find_platform(platform, &text);
+    try_name(status, text, kesvuot_platform_name(platform), wanted);
+}
+
+// By mach-o/loader.h. 0x18 and 0x1c are without the bit LC_REQ_DYLD.
+static void try_names_of_numbers(void) {
+    try_command(0x1, "LC_SEGMENT");
+    try_command(0x19, "LC_SEGMENT_64");
+    try_command(0x1d, "LC_CODE_SIGNATURE");
+    try_command(0x80000028, "LC_MAIN");
+    try_command(0x80000034, "LC_DYLD_CHAINED_FIXUPS");
+    const uint32_t none[] = {0, 0x18, 0x1c, 0x28, 0x7fffffff, UINT32_MAX};
+    for (size_t index = 0; index < sizeof none / sizeof *none; index++) {
+        try_command(none[index], NULL);
+    }
+    try_platform(1, "PLATFORM_MACOS");
+    try_platform(12, "PLATFORM_VISIONOSSIMULATOR");
+    try_platform(0, NULL);
+    try_platform(UINT32_MAX, NULL);
+}
+
 typedef uint32_t judge(const void *file, size_t size, struct kesvuot_verdict *verdict);
 
 static void try_call(judge *verify, const void *bytes, size_t size, uint32_t status, struct kesvuot_verdict wanted) {
@@ -326,6 +361,7 @@ int main(int count, char **words) {
     library = read_file(words[1], side_or_block(AT_END));
     mixed = read_file(words[2], side_or_block(AT_END));
     try_version_and_rules();
+    try_names_of_numbers();
     try_verdicts();
     try_layouts();
     try_images();

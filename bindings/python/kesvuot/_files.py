@@ -302,7 +302,25 @@ def verify(data: Data, strict: bool = False) -> File:
     return File(file, slices)
 
 
+def command_name(cmd: SupportsIndex) -> Optional[str]:
+    """The name of the load commands with this `cmd` in <mach-o/loader.h>, such as "LC_SEGMENT_64". None if the library
+    knows none."""
+    return _name(load().kesvuot_find_command, operator.index(cmd))
+
+
+def platform_name(platform: SupportsIndex) -> Optional[str]:
+    """The name of the platform of a build in <mach-o/loader.h>, such as "PLATFORM_MACOS". None if the library knows
+    none."""
+    return _name(load().kesvuot_find_platform, operator.index(platform))
+
+
 def _rule_name(rule: int) -> str:
+    return _name(load().kesvuot_find_rule, rule) or ""
+
+
+def _name(call: Any, number: int) -> Optional[str]:
+    """A constant text of the library for a number."""
     name = ctypes.create_string_buffer(TEXT.size)
-    load().kesvuot_find_rule(rule, name)
+    if not 0 <= number < 1 << 32 or call(number, name) != _library.OK:
+        return None
     return ctypes.string_at(*TEXT.unpack(name)).decode("ascii")

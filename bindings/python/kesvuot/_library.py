@@ -59,6 +59,8 @@ def _declare(library: Any) -> None:
     pointer, size, u32, u64 = ctypes.c_void_p, ctypes.c_size_t, ctypes.c_uint32, ctypes.c_uint64
     calls: Dict[str, Tuple[Any, List[Any]]] = {
         "find_rule": (u32, [u32, pointer]),
+        "find_command": (u32, [u32, pointer]),
+        "find_platform": (u32, [u32, pointer]),
         "verify": (u32, [pointer, size, pointer]),
         "verify_strictly": (u32, [pointer, size, pointer]),
         "layout": (u32, [pointer, size, pointer, size, pointer]),

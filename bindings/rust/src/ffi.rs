@@ -5,7 +5,7 @@
 use alloc::vec;
 use alloc::vec::Vec;
 use core::ffi::c_void;
-use core::{ptr, slice};
+use core::{ptr, slice, str};
 
 /// What a call returns. `NO_MEMORY` and `NONE` are the remaining statuses.
 pub const OK: u32 = 0;
@@ -181,6 +181,8 @@ struct Text {
 extern "C" {
     fn kesvuot_version() -> u32;
     fn kesvuot_find_rule(rule: u32, name: *mut Text) -> u32;
+    fn kesvuot_find_command(cmd: u32, name: *mut Text) -> u32;
+    fn kesvuot_find_platform(platform: u32, name: *mut Text) -> u32;
     fn kesvuot_verify(file: *const c_void, size: usize, verdict: *mut Verdict) -> u32;
     fn kesvuot_verify_strictly(file: *const c_void, size: usize, verdict: *mut Verdict) -> u32;
     fn kesvuot_layout(
@@ -223,16 +225,35 @@ pub fn version() -> u32 {
     unsafe { kesvuot_version() }
 }
 
-/// The name of the rule with this number. `None` if there is no such rule.
-pub fn rule(number: u32) -> Option<&'static [u8]> {
+/// A name of the library for a number. `None` if it has none.
+fn name_by(call: unsafe extern "C" fn(u32, *mut Text) -> u32, number: u32) -> Option<&'static str> {
     let mut name = Text {
         at: ptr::null(),
         size: 0,
     };
     // SAFETY: the name may be written.
-    let status = unsafe { kesvuot_find_rule(number, &mut name) };
+    let status = unsafe { call(number, &mut name) };
+    if status != OK {
+        return None;
+    }
     // SAFETY: with this status, it is a constant of the library, of so many bytes.
-    (status == OK).then(|| unsafe { slice::from_raw_parts(name.at, name.size) })
+    let bytes = unsafe { slice::from_raw_parts(name.at, name.size) };
+    str::from_utf8(bytes).ok()
+}
+
+/// The name of the rule with this number. `None` if there is no such rule.
+pub fn rule(number: u32) -> Option<&'static str> {
+    name_by(kesvuot_find_rule, number)
+}
+
+/// The name of the load commands with this `cmd`.
+pub fn command(cmd: u32) -> Option<&'static str> {
+    name_by(kesvuot_find_command, cmd)
+}
+
+/// The name of a platform.
+pub fn platform(number: u32) -> Option<&'static str> {
+    name_by(kesvuot_find_platform, number)
 }
 
 /// Room for the layout of most files. A longer one takes a second call.

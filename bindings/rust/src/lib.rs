@@ -90,6 +90,30 @@ pub fn verify_strictly(file: &[u8]) -> Result<Verified<'_>, Error> {
     Verified::new(file, ffi::verify_strictly(file))
 }
 
+/// The name of the load commands with this `cmd` in `<mach-o/loader.h>`, such as `LC_SEGMENT_64`. `None`
+/// if the library knows none.
+///
+/// ```
+/// assert_eq!(kesvuot::command_name(0x19), Some("LC_SEGMENT_64"));
+/// assert_eq!(kesvuot::command_name(0), None);
+/// ```
+#[must_use]
+pub fn command_name(cmd: u32) -> Option<&'static str> {
+    ffi::command(cmd)
+}
+
+/// The name of the platform of a build in `<mach-o/loader.h>`, such as `PLATFORM_MACOS`. `None` if the
+/// library knows none.
+///
+/// ```
+/// assert_eq!(kesvuot::platform_name(1), Some("PLATFORM_MACOS"));
+/// assert_eq!(kesvuot::platform_name(0), None);
+/// ```
+#[must_use]
+pub fn platform_name(platform: u32) -> Option<&'static str> {
+    ffi::platform(platform)
+}
+
 /// The version of the library that is linked: major, minor and patch.
 #[must_use]
 pub fn version() -> (u32, u32, u32) {

@@ -162,7 +162,7 @@ impl Rule {
     /// this number.
     #[must_use]
     pub fn name(self) -> &'static str {
-        str::from_utf8(ffi::rule(self.number()).unwrap_or_default()).unwrap_or_default()
+        ffi::rule(self.number()).unwrap_or_default()
     }
 }
 

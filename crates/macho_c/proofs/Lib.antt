@@ -1,3 +1,4 @@
+pub mod AgreeNames
 pub mod AllCommands
 pub mod AllSymbols
 pub mod BadSlices

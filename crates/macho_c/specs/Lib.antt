@@ -7,6 +7,7 @@ pub mod Layout
 pub mod Libraries
 pub mod Linkedit
 pub mod Loads
+pub mod Names
 pub mod Rows
 pub mod RuleNumbers
 pub mod Sections

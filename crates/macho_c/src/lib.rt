@@ -15,6 +15,7 @@ mod layout;
 mod libraries;
 mod linkedit;
 mod load;
+mod names;
 mod parts;
 mod rule;
 mod sections;
