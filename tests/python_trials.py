@@ -36,6 +36,8 @@ import oracle  # pylint: disable=wrong-import-position
 import oracle_trials  # pylint: disable=wrong-import-position
 
 SHOWN = 20
+# The profiles whose programs tests/python builds.
+WITH_PROGRAMS = ("layout", "strict")
 LC_LOAD_DYLINKER, LC_RPATH = 0xE, 0x8000_001C
 LC_SYMTAB, LC_DYSYMTAB = oracle.LC_SYMTAB, oracle.LC_DYSYMTAB
 # The commands whose data tests/*.reads and tests/real/*.reads show, in their order. The last one is of another kind.
@@ -71,21 +73,21 @@ class Report:
 # Verdicts and layouts
 
 
-def answer(data, is_strict=False):
+def answer(data, profile="layout"):
     """What the program would print: the status and the text."""
     try:
-        return 0, kesvuot.verify(data, is_strict).layout()
+        return 0, kesvuot.verify(data, profile == "strict").layout()
     except kesvuot.Refused as refused:
         return 1, f"refused: {refused.rule} at {refused.place:#x}\n"
 
 
-def verdict(data, is_strict):
-    status, text = answer(data, is_strict)
+def verdict(data, profile="layout"):
+    status, text = answer(data, profile)
     return text.rstrip("\n") if status else "accepted"
 
 
-def program_answers(files, is_strict):
-    name = "macho_strict_check" if is_strict else "macho_check"
+def program_answers(files, profile):
+    name = oracle_trials.CRATES[profile]
     program = TOP / "crates" / name / "out" / name
     questions = [oracle_trials.Question(which, data, "check", ()) for which, data in files]
     says = oracle_trials.program_answers(str(program), questions)
@@ -93,26 +95,24 @@ def program_answers(files, is_strict):
 
 
 def judge_vectors(report):
-    """The verdicts are those that stand beside the vectors; the layouts, those of the program."""
-    for name, vectors in oracle_trials.read_all_vectors(False):
-        judge_by_hand(report, f"the verdicts of {name}, by hand", vectors, False)
-        compare_program(report, name, [(vector.name, vector.data) for vector in vectors], False)
-    for name, vectors in oracle_trials.read_all_vectors(True):
-        judge_by_hand(report, f"the strict verdicts of {name}, by hand", vectors, True)
-        if vectors[0].is_strict:
-            compare_program(report, name, [(vector.name, vector.data) for vector in vectors], True)
+    """The verdicts are those that stand beside the vectors; the layouts, those of the programs."""
+    for profile in WITH_PROGRAMS:
+        for path, vectors in oracle_trials.read_all_vectors(profile):
+            judge_by_hand(report, path.name, vectors, profile)
+            if oracle_trials.is_whole(path, profile):
+                compare_program(report, path.name, [(vector.name, vector.data) for vector in vectors], profile)
 
 
-def judge_by_hand(report, name, vectors, is_strict):
-    """Which of the acceptances of other vectors the strict profile has is not known by hand."""
-    report.alike(name, "verdicts", (
-        (vector.name, verdict(vector.data, is_strict), vector.wanted) for vector in vectors if vector.wanted))
+def judge_by_hand(report, name, vectors, profile):
+    """Which of the acceptances of other vectors a further profile has is not known by hand."""
+    report.alike(f"the verdicts of {name} by the profile {profile}, by hand", "verdicts", (
+        (vector.name, verdict(vector.data, profile), vector.wanted) for vector in vectors if vector.wanted))
 
 
-def compare_program(report, name, files, is_strict):
-    report.alike(f"what is said of {name}, and the {'strict ' if is_strict else ''}program", "texts", (
-        (which, answer(data, is_strict), says)
-        for (which, data), says in zip(files, program_answers(files, is_strict))))
+def compare_program(report, name, files, profile):
+    report.alike(f"what is said of {name}, and the program of the profile {profile}", "texts", (
+        (which, answer(data, profile), says)
+        for (which, data), says in zip(files, program_answers(files, profile))))
 
 
 def judge_texts(report):
@@ -439,10 +439,10 @@ def compare_views(report, name, files):
 
 
 def compare_all_views(report, all_kinds, mixed):
-    accepted = [(f"{name}: {vector.name}", vector.data) for name, vectors in oracle_trials.read_all_vectors(False)
+    accepted = [(f"{name}: {vector.name}", vector.data) for name, vectors in oracle_trials.read_all_vectors("layout")
                 for vector in vectors if vector.wanted == "accepted"]
-    accepted += [(f"{name}: {vector.name}", vector.data) for name, vectors in oracle_trials.read_all_vectors(True)
-                 for vector in vectors if vector.is_strict and verdict(vector.data, False) == "accepted"]
+    accepted += [(f"{name}: {vector.name}", vector.data) for name, vectors in oracle_trials.read_all_vectors("strict")
+                 for vector in vectors if vector.is_strict and verdict(vector.data) == "accepted"]
     compare_views(report, f"{len(accepted)} accepted vectors", accepted)
     compare_views(report, "two files of tests/support", [("all kinds", all_kinds), ("mixed", mixed)])
     compare_views(report, "the reports", ((name, data) for name, data, *_ in oracle_trials.read_all_reports()))
@@ -496,7 +496,8 @@ def plain_text(answer_object):
 
 def compare_json(report):
     """The vectors and reports, each in a file of its own, judged by one call of the command."""
-    files = [(vector.name, vector.data) for _, vectors in oracle_trials.read_all_vectors(False) for vector in vectors]
+    files = [(vector.name, vector.data) for _, vectors in oracle_trials.read_all_vectors("layout")
+             for vector in vectors]
     files += [(name, data) for name, data, *_ in oracle_trials.read_all_reports()]
     with tempfile.TemporaryDirectory() as room:
         paths = [os.path.join(room, str(number)) for number in range(len(files))]
@@ -830,9 +831,9 @@ def judge_memory(report):
 def judge_folders(report, folders):
     for folder in folders:
         files = oracle_trials.read_folder(folder)
-        for is_strict in (False, True):
-            compare_program(report, folder, files, is_strict)
-        compare_views(report, folder, [(name, data) for name, data in files if verdict(data, False) == "accepted"])
+        for profile in WITH_PROGRAMS:
+            compare_program(report, folder, files, profile)
+        compare_views(report, folder, [(name, data) for name, data in files if verdict(data) == "accepted"])
 
 
 def main(words):
