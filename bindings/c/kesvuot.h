@@ -31,8 +31,8 @@
  * version that adds a rule gives it the next free number, wherever it is judged.
  *
  * No call keeps state, prints, or ends the process, and any number of threads may call at once. Only kesvuot_verify,
- * kesvuot_verify_strictly and kesvuot_layout allocate memory, with malloc and realloc, and they free it before they
- * return.
+ * kesvuot_verify_strictly, kesvuot_verify_linked and kesvuot_layout allocate memory, with malloc and realloc, and they
+ * free it before they return.
  */
 #ifndef KESVUOT_H
 #define KESVUOT_H
@@ -112,7 +112,7 @@ enum {
     KESVUOT_ENCRYPTED_RANGE = 38,
     KESVUOT_COMMAND_SLACK = 39,
     KESVUOT_UNCLAIMED_BYTE = 40,
-    /* of the linked profile, which no call judges yet: none of these is reported */
+    /* of the linked profile: LINKED.md of the source explains them */
     KESVUOT_TABLE_REPEATED = 41,
     KESVUOT_FUNCTION_VARIANTS = 42,
     KESVUOT_TABLE_HOME = 43,
@@ -151,6 +151,13 @@ uint32_t kesvuot_verify(const void *file, size_t size, struct kesvuot_verdict *v
  * kesvuot_verify, and only if the slices do not ascend, or if in some slice the segments do not ascend by file offset,
  * or the elements do not, or a range is encrypted, or a byte 0x90 (a NOP) is in no element. */
 uint32_t kesvuot_verify_strictly(const void *file, size_t size, struct kesvuot_verdict *verdict);
+
+/* Judges a file as kesvuot_verify_strictly does, and then by the rules of the linked profile: where the linked data of
+ * an image lies, and what the opcodes of LC_DYLD_INFO and LC_DYLD_INFO_ONLY ask a dynamic loader for. LINKED.md of the
+ * source says what that means.
+ * Every file that is OK here is also OK for kesvuot_verify_strictly.
+ * Memory can run out wherever it can for kesvuot_verify_strictly, and nowhere else. */
+uint32_t kesvuot_verify_linked(const void *file, size_t size, struct kesvuot_verdict *verdict);
 
 /* Writes the layout of an accepted file as text, as macho-check prints it: up to `max` bytes, from its first byte on.
  * Later bytes of `text` are unchanged, and no zero byte is added. `needed` is the length of the whole layout: if it is

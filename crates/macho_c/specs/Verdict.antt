@@ -10,6 +10,10 @@ use Rattle.macho_rules.specs.declared.refusal.Refusal.TheVariants as refusal
 use Rattle.macho_strict.specs.Accounted.{IsAccounted}
 use Rattle.macho_strict.specs.First.{IsStrictlyUnbroken, IsFirstStrictlyBroken}
 use Rattle.macho_strict.specs.Verdict.{IsStrictRefusal}
+use Rattle.macho_linked.specs.Dyld.{AreFollowedSafely}
+use Rattle.macho_linked.specs.Harmless.{AreHarmless}
+use Rattle.macho_linked.specs.Rules.{IsLinkedUnbroken, IsFirstLinkedBroken}
+use Rattle.macho_linked.specs.Verdict.{IsLinkedRefusal}
 use Rattle.macho_c.specs.Status.{KESVUOT_OK, KESVUOT_REFUSED, KESVUOT_NO_MEMORY}
 use Rattle.macho_c.specs.declared.verdict.KesvuotVerdict.{KesvuotVerdict}
 
@@ -56,3 +60,26 @@ abbrev pub IsStrictVerdict : List ℕ → ℕ → KesvuotVerdict → Type 0
 IsStrictVerdict file status v =
     ((status ≡ KESVUOT_OK) × IsAcceptedStrictly file v) ⊎ ((status ≡ KESVUOT_REFUSED) × IsRefusedStrictly file v)
     ⊎ ((status ≡ KESVUOT_NO_MEMORY) × IsUndecidedStrictly file v)
+
+-- The file breaks no linked rule either. Its opcodes are harmless, and the plain dyld follows them safely.
+abbrev pub IsLinkedAccepted : List ℕ → KesvuotVerdict → Type 0
+IsLinkedAccepted file v =
+    IsAcceptedStrictly file v × IsLinkedUnbroken file × AreHarmless file × AreFollowedSafely file
+
+-- The verdict has the first broken rule of the strict verdict, or if that accepts the file the first
+-- broken linked one.
+abbrev pub IsLinkedRefused : List ℕ → KesvuotVerdict → Type 0
+IsLinkedRefused file v =
+    IsRefusedStrictly file v
+    ⊎ (IsUnbroken file × IsStrictlyUnbroken file
+    × (b : Break) × IsFirstLinkedBroken file b × Has v (rule_number b.rule) b.place 0)
+
+-- There was no memory. That is answered only if the linked verdict takes some.
+abbrev pub IsLinkedUndecided : List ℕ → KesvuotVerdict → Type 0
+IsLinkedUndecided file v = IsLinkedRefusal file refusal.Memory × Has v 0 0 0
+
+-- the answer on a file, by the strict rules and the linked ones too
+abbrev pub IsLinkedVerdict : List ℕ → ℕ → KesvuotVerdict → Type 0
+IsLinkedVerdict file status v =
+    ((status ≡ KESVUOT_OK) × IsLinkedAccepted file v) ⊎ ((status ≡ KESVUOT_REFUSED) × IsLinkedRefused file v)
+    ⊎ ((status ≡ KESVUOT_NO_MEMORY) × IsLinkedUndecided file v)
