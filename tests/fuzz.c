@@ -558,6 +558,10 @@ static bool is_strict(uint32_t rule) {
     return rule >= KESVUOT_FAT_STRAY_BYTE && rule <= KESVUOT_UNCLAIMED_BYTE;
 }
 
+static bool is_linked(uint32_t rule) {
+    return rule >= KESVUOT_TABLE_REPEATED && rule <= KESVUOT_BIND_NAMES;
+}
+
 // The verdict is whole.
 static void check_verdict(uint32_t status, const struct kesvuot_verdict *verdict, size_t size) {
     CHECK(verdict->reserved == 0);
@@ -568,6 +572,21 @@ static void check_verdict(uint32_t status, const struct kesvuot_verdict *verdict
         CHECK(kesvuot_rule_name(verdict->rule) != NULL);
         CHECK(verdict->place <= size && verdict->slices == 0);
     }
+}
+
+// The linked verdict of a file that is refused strictly is the same.
+static void check_linked(const uint8_t *file, size_t size, uint32_t strict_status,
+                         const struct kesvuot_verdict *strict) {
+    struct kesvuot_verdict linked;
+    memset(&linked, UNWRITTEN, sizeof linked);
+    uint32_t status = kesvuot_verify_linked(file, size, &linked);
+    check_verdict(status, &linked, size);
+    if (strict_status == KESVUOT_REFUSED || status == KESVUOT_OK) {
+        CHECK(status == strict_status && is_same(&linked, strict));
+    } else {
+        CHECK(is_linked(linked.rule));
+    }
+    reach(RULES + linked.rule, linked.place);
 }
 
 // The strict verdict of a file that breaks another rule is the same.
@@ -587,6 +606,7 @@ static enum accepted check_verdicts(const uint8_t *file, size_t size, struct kes
     }
     reach(RULES + verdict->rule, verdict->place);
     reach(RULES + strict.rule, strict.place);
+    check_linked(file, size, strict_status, &strict);
     return status == KESVUOT_REFUSED ? REFUSED : strict_status == KESVUOT_OK ? ACCEPTED_STRICTLY : ACCEPTED;
 }
 

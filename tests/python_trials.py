@@ -73,10 +73,15 @@ class Report:
 # Verdicts and layouts
 
 
+def judge(data, profile):
+    """The file, if it is accepted by the profile."""
+    return kesvuot.verify_linked(data) if profile == "linked" else kesvuot.verify(data, profile == "strict")
+
+
 def answer(data, profile="layout"):
     """What the program would print: the status and the text."""
     try:
-        return 0, kesvuot.verify(data, profile == "strict").layout()
+        return 0, judge(data, profile).layout()
     except kesvuot.Refused as refused:
         return 1, f"refused: {refused.rule} at {refused.place:#x}\n"
 
@@ -96,10 +101,10 @@ def program_answers(files, profile):
 
 def judge_vectors(report):
     """The verdicts are those that stand beside the vectors; the layouts, those of the programs."""
-    for profile in WITH_PROGRAMS:
+    for profile in oracle_trials.CRATES:
         for path, vectors in oracle_trials.read_all_vectors(profile):
             judge_by_hand(report, path.name, vectors, profile)
-            if oracle_trials.is_whole(path, profile):
+            if profile in WITH_PROGRAMS and oracle_trials.is_whole(path, profile):
                 compare_program(report, path.name, [(vector.name, vector.data) for vector in vectors], profile)
 
 

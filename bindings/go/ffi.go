@@ -46,16 +46,28 @@ func atLeastOne(bytes []byte) []byte {
 	return bytes
 }
 
-func judge(file []byte, isStrict bool) (*File, error) {
+// A profile is a set of rules that one call judges. Each has those of the ones before it.
+type profile int
+
+const (
+	byLayout profile = iota
+	strictly
+	linked
+)
+
+func judge(file []byte, rules profile) (*File, error) {
 	if found, _, _ := LibraryVersion(); found != major {
 		panic("kesvuot: the library has another major version")
 	}
 	bytes, size := atLeastOne(file), C.size_t(len(file))
 	var verdict C.struct_kesvuot_verdict
 	var status C.uint32_t
-	if isStrict {
+	switch rules {
+	case strictly:
 		status = C.kesvuot_verify_strictly(unsafe.Pointer(&bytes[0]), size, &verdict)
-	} else {
+	case linked:
+		status = C.kesvuot_verify_linked(unsafe.Pointer(&bytes[0]), size, &verdict)
+	default:
 		status = C.kesvuot_verify(unsafe.Pointer(&bytes[0]), size, &verdict)
 	}
 	switch status {
@@ -100,7 +112,7 @@ func readLayout(file []byte) (string, error) {
 		status := C.kesvuot_layout(unsafe.Pointer(&file[0]), C.size_t(len(file)), (*C.char)(unsafe.Pointer(&text[0])),
 			room, &needed)
 		if status != C.KESVUOT_OK {
-			_, err := judge(file, false)
+			_, err := judge(file, byLayout)
 			if err == nil {
 				err = ErrMemory
 			}

@@ -49,14 +49,21 @@ func (refused *Refused) Error() string {
 
 // Verify judges a file by the rules of the layout. The error is a *Refused, or ErrMemory.
 func Verify(file []byte) (*File, error) {
-	return judge(file, false)
+	return judge(file, byLayout)
 }
 
 // VerifyStrictly judges a file by the rules of the strict profile too: every nonzero byte is accounted for, and no byte
 // belongs to two elements, such as the headers, a section or a table. RULES.md says what that means. Whatever is
 // accepted here is accepted by Verify. The error is a *Refused, or ErrMemory.
 func VerifyStrictly(file []byte) (*File, error) {
-	return judge(file, true)
+	return judge(file, strictly)
+}
+
+// VerifyLinked judges a file by the rules of the linked profile too, after those of VerifyStrictly: where the linked
+// data of an image lies, and what the opcodes of LC_DYLD_INFO and LC_DYLD_INFO_ONLY ask a dynamic loader for. LINKED.md
+// says what that means. Whatever is accepted here is accepted by VerifyStrictly. The error is a *Refused, or ErrMemory.
+func VerifyLinked(file []byte) (*File, error) {
+	return judge(file, linked)
 }
 
 // A File was accepted.

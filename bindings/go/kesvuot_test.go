@@ -75,6 +75,20 @@ func TestRefused(t *testing.T) {
 	}
 }
 
+// No opcode of the bind stream, which begins at 0x3008, is 0xd0.
+func TestRefusedLinked(t *testing.T) {
+	changed := readReal(t, "program")
+	if _, err := VerifyLinked(changed); err != nil {
+		t.Errorf("the program: %v", err)
+	}
+	changed[0x3008] = 0xd0
+	if _, err := VerifyStrictly(changed); err != nil {
+		t.Errorf("the changed program, strictly: %v", err)
+	}
+	_, err := VerifyLinked(changed)
+	same(t, "an opcode that is not known", err, error(&Refused{"bind-opcode", 0x3008}))
+}
+
 func TestLayout(t *testing.T) {
 	for _, name := range []string{"program", "library"} {
 		layout, err := verified(t, readReal(t, name)).Layout()
@@ -452,7 +466,8 @@ func TestVectors(t *testing.T) {
 	if list == "" {
 		t.Skip("it needs KESVUOT_TRIALS")
 	}
-	for name, judge := range map[string]func([]byte) (*File, error){"vectors": Verify, "strict-vectors": VerifyStrictly} {
+	for name, judge := range map[string]func([]byte) (*File, error){
+		"vectors": Verify, "strict-vectors": VerifyStrictly, "linked-vectors": VerifyLinked} {
 		lines, err := os.ReadFile(filepath.Join(list, name))
 		if err != nil {
 			t.Fatal(err)

@@ -93,22 +93,24 @@ static void try_call(judge *verify, const void *bytes, size_t size, uint32_t sta
     CHECK(memcmp(&verdict, &wanted, sizeof verdict) == 0);
 }
 
-static void try_both(const void *bytes, size_t size, uint32_t status, struct kesvuot_verdict wanted) {
+static void try_all(const void *bytes, size_t size, uint32_t status, struct kesvuot_verdict wanted) {
     try_call(kesvuot_verify, bytes, size, status, wanted);
     try_call(kesvuot_verify_strictly, bytes, size, status, wanted);
+    try_call(kesvuot_verify_linked, bytes, size, status, wanted);
 }
 
 static void try_verdicts(void) {
     const struct kesvuot_verdict no_magic = {0, 0, KESVUOT_MAGIC, 0}, of_two = {0, 2, 0, 0};
     const struct kesvuot_verdict cut = {8 + 20, 0, KESVUOT_FAT_SLICE_OUTSIDE, 0};
-    try_both(NULL, 0, KESVUOT_REFUSED, no_magic);
-    try_both("", 0, KESVUOT_REFUSED, no_magic);
-    try_both(library.bytes, library.size, KESVUOT_OK, of_two);
-    try_both(library.bytes, library.size - 1, KESVUOT_REFUSED, cut);
+    try_all(NULL, 0, KESVUOT_REFUSED, no_magic);
+    try_all("", 0, KESVUOT_REFUSED, no_magic);
+    try_all(library.bytes, library.size, KESVUOT_OK, of_two);
+    try_all(library.bytes, library.size - 1, KESVUOT_REFUSED, cut);
     // Its 64-bit image has no segment, so none has its header. The place is that of sizeofcmds.
     const struct kesvuot_verdict no_segment = {96 + 20, 0, KESVUOT_HEADER_SEGMENT, 0};
     try_call(kesvuot_verify, mixed.bytes, mixed.size, KESVUOT_OK, of_two);
     try_call(kesvuot_verify_strictly, mixed.bytes, mixed.size, KESVUOT_REFUSED, no_segment);
+    try_call(kesvuot_verify_linked, mixed.bytes, mixed.size, KESVUOT_REFUSED, no_segment);
 }
 
 // Asks for the layout in this much room. `text` has room for `length` bytes and one more.

@@ -1,7 +1,7 @@
-// memory FILE..: refuses each allocation of both verdicts and of the layout in turn. Then the status is NO_MEMORY, or
-// that with ample memory if it was room for elements that kesvuot_verify_strictly keeps only where there is room: at
-// most one allocation for each slice. All allocated memory is freed. No other call allocates memory. Linked with --wrap
-// for malloc, realloc and free.
+// memory FILE..: refuses each allocation of the three verdicts and of the layout in turn. Then the status is NO_MEMORY,
+// or that with ample memory if it was room for elements that the strict and the linked verdict keep only where there is
+// room: at most one allocation for each slice. All allocated memory is freed. No other call allocates memory. Linked with
+// --wrap for malloc, realloc and free.
 #include "support.h"
 #include <stdio.h>
 #include <string.h>
@@ -128,6 +128,7 @@ int main(int count, char **words) {
         const struct file file = read_file(words[index], AT_END);
         try_verdict(kesvuot_verify, file, 0);
         try_verdict(kesvuot_verify_strictly, file, images_of(file));
+        try_verdict(kesvuot_verify_linked, file, images_of(file));
         try_layout(file);
         try_views(file);
         release(file);

@@ -27,6 +27,11 @@ static void verify_strictly(void) {
     kesvuot_verify_strictly(file.bytes, file.size, &verdict);
 }
 
+static void verify_linked(void) {
+    struct kesvuot_verdict verdict;
+    kesvuot_verify_linked(file.bytes, file.size, &verdict);
+}
+
 static void layout(void) {
     size_t needed;
     kesvuot_layout(file.bytes, file.size, text, sizeof text, &needed);
@@ -39,7 +44,11 @@ static void first_image(void) {
 static const struct {
     const char *name;
     void (*call)(void);
-} calls[] = {{"verify", verify}, {"verify_strictly", verify_strictly}, {"layout", layout}, {"read_image", first_image}};
+} calls[] = {{"verify", verify},
+             {"verify_strictly", verify_strictly},
+             {"verify_linked", verify_linked},
+             {"layout", layout},
+             {"read_image", first_image}};
 enum { CALLS = sizeof calls / sizeof *calls, ALL = CALLS + VIEWS };
 
 // How many bytes each takes at most: the calls, and then the views of the image, which `first_image` has set.

@@ -1,5 +1,6 @@
-// verdicts FOLDER COUNT [strictly]: judges the files 1 to COUNT of a folder, and prints a line for each, as vectors
-// have it: `accepted`, or `refused: RULE at 0xPLACE`. Each file lies at the end of its pages, and then at the start.
+// verdicts FOLDER COUNT [strictly|linked]: judges the files 1 to COUNT of a folder, and prints a line for each, as
+// vectors have it: `accepted`, or `refused: RULE at 0xPLACE`. Each file lies at the end of its pages, and then at the
+// start.
 #include "support.h"
 #include <inttypes.h>
 #include <stdio.h>
@@ -35,11 +36,19 @@ static uint32_t judge_at(judge *verify, const char *path, enum side side, struct
     return status;
 }
 
+// The call that judges by the rules of this word.
+static judge *judge_of(const char *word) {
+    if (strcmp(word, "linked") == 0) {
+        return kesvuot_verify_linked;
+    }
+    return strcmp(word, "strictly") == 0 ? kesvuot_verify_strictly : kesvuot_verify;
+}
+
 int main(int count, char **words) {
     if (count < 3) {
-        stop("usage", "verdicts FOLDER COUNT [strictly]");
+        stop("usage", "verdicts FOLDER COUNT [strictly|linked]");
     }
-    judge *verify = count > 3 ? kesvuot_verify_strictly : kesvuot_verify;
+    judge *verify = judge_of(count > 3 ? words[3] : "");
     for (long number = 1; number <= strtol(words[2], NULL, 10); number++) {
         char path[4096];
         struct kesvuot_verdict at_end, at_start;

@@ -290,9 +290,19 @@ def library_version() -> Tuple[int, int, int]:
 def verify(data: Data, strict: bool = False) -> File:
     """Judges a file by the rules of docs/RULES.md, and if `strict` by those of the strict profile too. Raises Refused
     if it breaks one. MemoryError means that there is no verdict."""
+    return _judge(data, load().kesvuot_verify_strictly if strict else load().kesvuot_verify)
+
+
+def verify_linked(data: Data) -> File:
+    """Judges a file by the rules of the strict profile, and then by those of docs/LINKED.md: where the linked data of
+    an image lies, and what the opcodes of LC_DYLD_INFO and LC_DYLD_INFO_ONLY ask a dynamic loader for. Raises what
+    `verify` raises."""
+    return _judge(data, load().kesvuot_verify_linked)
+
+
+def _judge(data: Data, call: Any) -> File:
     file = Bytes(data)
     verdict = ctypes.create_string_buffer(VERDICT.size)
-    call = load().kesvuot_verify_strictly if strict else load().kesvuot_verify
     status = call(file.address, len(file.view), verdict)
     place, slices, rule = VERDICT.unpack(verdict)
     if status == _library.REFUSED:

@@ -63,6 +63,7 @@ def _declare(library: Any) -> None:
         "find_platform": (u32, [u32, pointer]),
         "verify": (u32, [pointer, size, pointer]),
         "verify_strictly": (u32, [pointer, size, pointer]),
+        "verify_linked": (u32, [pointer, size, pointer]),
         "layout": (u32, [pointer, size, pointer, size, pointer]),
         "read_image": (u32, [pointer, size, u64, pointer]),
         "symbol_name": (u32, [pointer, size, pointer, u32, pointer]),

@@ -185,6 +185,7 @@ extern "C" {
     fn kesvuot_find_platform(platform: u32, name: *mut Text) -> u32;
     fn kesvuot_verify(file: *const c_void, size: usize, verdict: *mut Verdict) -> u32;
     fn kesvuot_verify_strictly(file: *const c_void, size: usize, verdict: *mut Verdict) -> u32;
+    fn kesvuot_verify_linked(file: *const c_void, size: usize, verdict: *mut Verdict) -> u32;
     fn kesvuot_layout(
         file: *const c_void,
         size: usize,
@@ -261,7 +262,7 @@ const LAYOUT_ROOM: usize = 1 << 14;
 
 type Judge = unsafe extern "C" fn(*const c_void, usize, *mut Verdict) -> u32;
 
-/// Calls one of the two calls that judge, if the structures here are those of the library. Returns
+/// Calls one of the calls that judge, if the structures here are those of the library. Returns
 /// the status and the verdict.
 fn judge(call: Judge, file: &[u8]) -> (u32, Verdict) {
     let version = version();
@@ -278,6 +279,10 @@ pub fn verify(file: &[u8]) -> (u32, Verdict) {
 
 pub fn verify_strictly(file: &[u8]) -> (u32, Verdict) {
     judge(kesvuot_verify_strictly, file)
+}
+
+pub fn verify_linked(file: &[u8]) -> (u32, Verdict) {
+    judge(kesvuot_verify_linked, file)
 }
 
 /// The status, and the layout of the file, empty unless the status is `OK`.

@@ -90,6 +90,22 @@ pub fn verify_strictly(file: &[u8]) -> Result<Verified<'_>, Error> {
     Verified::new(file, ffi::verify_strictly(file))
 }
 
+/// Judges a file by the rules of the linked profile too, after those of [`verify_strictly`]: where
+/// the linked data of an image lies, and what the opcodes of `LC_DYLD_INFO` and `LC_DYLD_INFO_ONLY`
+/// ask a dynamic loader for. `docs/LINKED.md` says what that means. Whatever is accepted here is
+/// accepted by [`verify_strictly`].
+///
+/// # Errors
+///
+/// The first broken rule, or that memory ran out.
+///
+/// # Panics
+///
+/// If the library that is linked is of another major version.
+pub fn verify_linked(file: &[u8]) -> Result<Verified<'_>, Error> {
+    Verified::new(file, ffi::verify_linked(file))
+}
+
 /// The name of the load commands with this `cmd` in `<mach-o/loader.h>`, such as `LC_SEGMENT_64`. `None`
 /// if the library knows none.
 ///

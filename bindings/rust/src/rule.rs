@@ -11,7 +11,7 @@ macro_rules! rules {
         /// judgment.
         ///
         /// `docs/RULES.md` says when each is broken, what usually breaks it, and what to do. For the
-        /// linked profile, which no call judges yet, `docs/LINKED.md` does.
+        /// linked profile `docs/LINKED.md` does.
         #[derive(Clone, Copy, Debug, PartialEq, Eq, PartialOrd, Ord, Hash)]
         #[non_exhaustive]
         pub enum Rule {

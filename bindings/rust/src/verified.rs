@@ -9,8 +9,8 @@ use core::ops::Range;
 
 use crate::{ffi, Error, Image, Rule};
 
-/// A file that was accepted. Only [`verify`](crate::verify) and
-/// [`verify_strictly`](crate::verify_strictly) make one.
+/// A file that was accepted. Only [`verify`](crate::verify),
+/// [`verify_strictly`](crate::verify_strictly) and [`verify_linked`](crate::verify_linked) make one.
 #[derive(Clone, Copy)]
 pub struct Verified<'a> {
     bytes: &'a [u8],
@@ -153,6 +153,19 @@ impl VerifiedBuf {
     /// If the library that is linked is of another major version.
     pub fn verify_strictly(bytes: impl Into<Vec<u8>>) -> Result<Self, Error> {
         VerifiedBuf::judge(bytes.into(), crate::verify_strictly)
+    }
+
+    /// Judges a file as [`verify_linked`](crate::verify_linked) does, and keeps its bytes.
+    ///
+    /// # Errors
+    ///
+    /// As of [`verify`](VerifiedBuf::verify).
+    ///
+    /// # Panics
+    ///
+    /// If the library that is linked is of another major version.
+    pub fn verify_linked(bytes: impl Into<Vec<u8>>) -> Result<Self, Error> {
+        VerifiedBuf::judge(bytes.into(), crate::verify_linked)
     }
 
     fn judge(

@@ -143,6 +143,15 @@ fn a_file_that_owns_its_bytes() {
     let (rule, place) = (Rule::FatStrayByte, 21008);
     let refused = VerifiedBuf::verify_strictly(longer).unwrap_err();
     assert_eq!(refused, Error::Refused { rule, place });
+
+    // No opcode of the bind stream, which begins at 0x3008, is 0xd0.
+    let mut changed = fs::read(path_of_real("program")).unwrap();
+    assert!(VerifiedBuf::verify_linked(&changed[..]).is_ok());
+    changed[0x3008] = 0xd0;
+    assert!(VerifiedBuf::verify_strictly(&changed[..]).is_ok());
+    let (rule, place) = (Rule::BindOpcode, 0x3008);
+    let refused = VerifiedBuf::verify_linked(changed).unwrap_err();
+    assert_eq!(refused, Error::Refused { rule, place });
 }
 
 #[test]
@@ -176,6 +185,12 @@ fn vectors() {
 #[ignore = "it needs KESVUOT_TRIALS"]
 fn strict_vectors() {
     judge_all("strict-vectors", kesvuot::verify_strictly);
+}
+
+#[test]
+#[ignore = "it needs KESVUOT_TRIALS"]
+fn linked_vectors() {
+    judge_all("linked-vectors", kesvuot::verify_linked);
 }
 
 #[test]
