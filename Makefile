@@ -80,7 +80,7 @@ install-lib: built-lib
 	    $(TO_PYTHON)/kesvuot
 	install -m 644 man/kesvuot.3 $(TO_MAN)/man3
 	for call in $(CALLS); do ln -sf kesvuot.3 $(TO_MAN)/man3/$$call.3 || exit; done
-	install -m 644 docs/RULES.md $(TO_DOC)
+	install -m 644 docs/RULES.md docs/LINKED.md $(TO_DOC)
 	$(FILL_TOOL) packaging/kesvuot.in >$(TO_BIN)/kesvuot
 	chmod 755 $(TO_BIN)/kesvuot
 	install -m 644 man/kesvuot.1 $(TO_MAN)/man1
@@ -94,7 +94,8 @@ uninstall:
 	rm -f $(TO_LIB)/libkesvuot.a $(TO_LIB)/libkesvuot.so.2 $(TO_LIB)/libkesvuot.so $(TO_LIB)/pkgconfig/kesvuot.pc
 	rm -f $(TO_INCLUDE)/kesvuot.h
 	rm -rf $(TO_LIB)/cmake/kesvuot $(TO_PYTHON)/kesvuot
-	rm -f $(TO_MAN)/man1/macho-check.1 $(TO_MAN)/man1/macho-strict.1 $(TO_MAN)/man3/kesvuot.3 $(TO_DOC)/RULES.md
+	rm -f $(TO_MAN)/man1/macho-check.1 $(TO_MAN)/man1/macho-strict.1 $(TO_MAN)/man3/kesvuot.3
+	rm -f $(TO_DOC)/RULES.md $(TO_DOC)/LINKED.md
 	for call in $(CALLS); do rm -f $(TO_MAN)/man3/$$call.3; done
 	rmdir $(TO_DOC) 2>/dev/null || :
 

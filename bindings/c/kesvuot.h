@@ -112,7 +112,7 @@ enum {
     KESVUOT_ENCRYPTED_RANGE = 38,
     KESVUOT_COMMAND_SLACK = 39,
     KESVUOT_UNCLAIMED_BYTE = 40,
-    /* of the linked profile: LINKED.md of the source explains them */
+    /* of the linked profile: LINKED.md explains them */
     KESVUOT_TABLE_REPEATED = 41,
     KESVUOT_FUNCTION_VARIANTS = 42,
     KESVUOT_TABLE_HOME = 43,
@@ -153,8 +153,8 @@ uint32_t kesvuot_verify(const void *file, size_t size, struct kesvuot_verdict *v
 uint32_t kesvuot_verify_strictly(const void *file, size_t size, struct kesvuot_verdict *verdict);
 
 /* Judges a file as kesvuot_verify_strictly does, and then by the rules of the linked profile: where the linked data of
- * an image lies, and what the opcodes of LC_DYLD_INFO and LC_DYLD_INFO_ONLY ask a dynamic loader for. LINKED.md of the
- * source says what that means.
+ * an image lies, and what the opcodes of LC_DYLD_INFO and LC_DYLD_INFO_ONLY ask a dynamic loader for. LINKED.md says
+ * what that means.
  * Every file that is OK here is also OK for kesvuot_verify_strictly.
  * Memory can run out wherever it can for kesvuot_verify_strictly, and nowhere else. */
 uint32_t kesvuot_verify_linked(const void *file, size_t size, struct kesvuot_verdict *verdict);

@@ -12,6 +12,7 @@ sys.path.insert(0, os.fspath(TOP / "bench"))
 import images  # pylint: disable=wrong-import-position
 
 REFUSED_CUT = "refused: segment-file at 0x198"
+REFUSED_OPCODE = "refused: bind-opcode at 0x3008"
 # A universal file of a 32-bit image of 4 bytes at 64, and of a header for x86_64 at 96.
 MIXED = """
 cafebabe 00000002 00000007 00000003 00000040 00000004 00000000 01000007 00000003 00000060 00000020 00000000
@@ -92,6 +93,14 @@ def real(name: str) -> bytes:
 def cut_program() -> bytes:
     """The real program without its end, which is refused."""
     return real("program")[:12000]
+
+
+def unknown_opcode() -> bytes:
+    """The real program with an opcode that no loader knows. The linked profile alone refuses it. The bind stream begins
+    at 0x3008."""
+    data = bytearray(real("program"))
+    data[0x3008] = 0xD0
+    return bytes(data)
 
 
 def copy_crates(folder: Path) -> None:

@@ -7,14 +7,14 @@ from fnmatch import fnmatchcase
 from functools import partial
 from typing import Any, Callable, Counter, Dict, Iterator, List, NamedTuple, Optional, Tuple
 
-from ._files import File, Refused, verify
+from ._files import File, Refused
 from ._kinds import other_kind
 from ._pool import map_in_processes
+from ._profiles import DEFAULT, verify
 from ._reading import Contents, NotMachO, read_found, read_given
 
 ACCEPTED, REFUSED, NO_VERDICT, SKIPPED = "accepted", "refused", "no verdict", "skipped"
 STATUSES = {ACCEPTED: 0, SKIPPED: 0, REFUSED: 1, NO_VERDICT: 2}
-PROFILES = ("layout", "strict")
 # What is asked of an accepted file, besides the verdict: nothing, its text, or its slices as objects. And of the bytes
 # of a refused one.
 Extra = Optional[Callable[[File], Any]]
@@ -58,7 +58,7 @@ class Target(NamedTuple):
 class Choice(NamedTuple):
     """How files are chosen and judged."""
 
-    is_strict: bool = False
+    profile: str = DEFAULT
     walks: bool = True
     include: Tuple[str, ...] = ()
     exclude: Tuple[str, ...] = ()
@@ -138,7 +138,7 @@ def judge(target: Target, choice: Choice) -> Outcome:
     try:
         data = (read_found if target.is_found else read_given)(path, choice.maps)
         size = len(data)
-        file = verify(data, choice.is_strict)
+        file = verify(data, choice.profile)
         return Outcome(path, ACCEPTED, size, file.slice_count, extra=choice.extra and choice.extra(file))
     except Refused as refused:
         kind = other_kind(refused.rule, refused.place, data)

@@ -47,7 +47,7 @@ class Side(NamedTuple):
 def diff(one: str, other: str, profile: str) -> int:
     """Prints what differs, and returns the status: as that of diff(1), and 2 if a file is not accepted."""
     output = Output()
-    choice = Choice(profile == "strict", walks=False, extra=_side)
+    choice = Choice(profile, walks=False, extra=_side)
     outcomes = [judge(Target(path), choice) for path in (one, other)]
     for outcome in outcomes:
         if outcome.word != ACCEPTED:

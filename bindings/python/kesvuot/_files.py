@@ -22,7 +22,7 @@ ARCHITECTURES = {
 
 class Refused(Exception):
     """The file breaks a rule. `rule` is the name of the first broken one, and `place` the offset in the file where it
-    is broken. docs/RULES.md explains each rule under its name."""
+    is broken. docs/RULES.md and docs/LINKED.md explain each rule under its name."""
 
     def __init__(self, rule: str, place: int) -> None:
         super().__init__(rule, place)

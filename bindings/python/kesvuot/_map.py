@@ -12,8 +12,9 @@ from ._files import File
 from ._names import size_text
 from ._output import Output, WriteFailed, say
 from ._parts import Part, parts_of
+from ._profiles import link
 from ._reports import reason_text, rule_text, shown
-from ._rules import RULES, link
+from ._rules import RULES
 
 # The page, and where in it the map is put.
 PAGE, PLACE = "map.html", "@MAP@"
@@ -43,7 +44,7 @@ def map_file(path: str, profile: str, target: str) -> int:
     if _is_same(path, target):
         say(f"{shown(target)}: the map would replace the file")
         return Outcome(path, NO_VERDICT).status
-    choice = Choice(profile == "strict", walks=False, extra=_mapped,
+    choice = Choice(profile, walks=False, extra=_mapped,
                     of_refused=lambda data: Mapped(parts_of(memoryview(data)), len(data)))
     outcome = judge(Target(path), choice)
     if outcome.word == NO_VERDICT:
@@ -182,7 +183,8 @@ DESCRIBED: Dict[str, FrozenSet[str]] = {
     **dict.fromkeys(("fat-slice-outside", "fat-slice-in-table", "fat-align", "fat-overlap", "fat-duplicate"),
                     SLICE_KINDS),
     "table-range": frozenset(("table", "encrypted range")), "element-overlap": ELEMENT_KINDS,
-    "encrypted-range": frozenset(("encrypted range",))}
+    "encrypted-range": frozenset(("encrypted range",)), "table-repeated": frozenset(("command",)),
+    "table-home": frozenset(("table",))}
 
 
 def _shares_bytes(kinds: FrozenSet[str]) -> Find:
@@ -216,15 +218,17 @@ def _its_segment(number: int, parts: List[Part]) -> Iterator[int]:
     return iter([other for other in range(number) if parts[other].kind == "segment"][-1:])
 
 
-def _table_named(name: str) -> Find:
+def _named(kind: str, name: str) -> Find:
+    """Finds the parts of this kind and name in the same slice."""
     def find(number: int, parts: List[Part]) -> Iterator[int]:
-        return (other for other, part in enumerate(parts) if part.kind == "table" and part.name == name
+        return (other for other, part in enumerate(parts) if part.kind == kind and part.name == name
                 and part.slice == parts[number].slice)
     return find
 
 
 OTHERS: Dict[str, Find] = {
     "fat-overlap": _shares_bytes(SLICE_KINDS), "fat-duplicate": _same_arch, "segment-overlap": _shares_addresses,
-    "section-address": _its_segment, "section-file": _its_segment, "symbol-name": _table_named("strings"),
-    "symbol-group": _table_named("symbols"), "indirect-index": _table_named("symbols"),
-    "segment-file-overlap": _shares_bytes(SEGMENT_KINDS), "element-overlap": _shares_bytes(ELEMENT_KINDS | {"headers"})}
+    "section-address": _its_segment, "section-file": _its_segment, "symbol-name": _named("table", "strings"),
+    "symbol-group": _named("table", "symbols"), "indirect-index": _named("table", "symbols"),
+    "segment-file-overlap": _shares_bytes(SEGMENT_KINDS), "element-overlap": _shares_bytes(ELEMENT_KINDS | {"headers"}),
+    "table-home": _named("segment", "__LINKEDIT")}

@@ -10,7 +10,8 @@ from urllib.parse import quote
 from xml.sax.saxutils import escape, quoteattr
 
 from ._check import ACCEPTED, NO_VERDICT, REFUSED, SKIPPED, Outcome, Summary
-from ._rules import RULES, link
+from ._profiles import link
+from ._rules import RULES
 
 Write = Callable[[str], Any]
 

@@ -24,7 +24,7 @@ def show(path: str, profile: str, as_json: bool) -> int:
     """Prints the layout of a file, or why it has none, and returns the status."""
     output = Output()
     extra = layout_objects if as_json else _lines
-    outcome = judge(Target(path), Choice(profile == "strict", walks=False, extra=extra))
+    outcome = judge(Target(path), Choice(profile, walks=False, extra=extra))
     if as_json:
         output.write(json.dumps(_object(outcome, profile), indent=1) + "\n")
     elif outcome.word == ACCEPTED:

@@ -15,6 +15,7 @@ from ._files import File
 from ._layout import slice_objects
 from ._map import STANDARD_OUTPUT, map_file
 from ._output import GREEN, RED, YELLOW, Output, WriteFailed, coloured, end_at_interrupts, open_errors, say
+from ._profiles import DEFAULT, PROFILES
 from ._progress import Progress, is_terminal
 from ._reports import REPORTS, Report, Write, reason_text, shown
 from ._show import show
@@ -113,7 +114,7 @@ def judge_files(words: argparse.Namespace) -> int:
     """Judges files as 1.0.0 does: none is a folder, and there is no summary."""
     output = Output()
     report = words.form(output.write, "", len(words.files) > 1)
-    choice = Choice(words.strict, walks=False, extra=words.form.extra)
+    choice = Choice(words.profile, walks=False, extra=words.form.extra)
     summary = Summary()
     for outcome in judge_all(words.files, choice, jobs=1):
         summary.add(outcome)
@@ -126,12 +127,12 @@ def judge_files(words: argparse.Namespace) -> int:
 
 def _files_words(words: List[str]) -> argparse.Namespace:
     parser = argparse.ArgumentParser(prog="kesvuot", usage="kesvuot [--strict] [--json | --layout] FILE..")
-    parser.add_argument("--strict", action="store_true")
+    parser.add_argument("--strict", dest="profile", action="store_const", const="strict")
     form = parser.add_mutually_exclusive_group()
     form.add_argument("--json", dest="form", action="store_const", const=Objects)
     form.add_argument("--layout", dest="form", action="store_const", const=Layouts)
     parser.add_argument("files", nargs="+", metavar="FILE")
-    parser.set_defaults(form=Lines, run=judge_files)
+    parser.set_defaults(profile=DEFAULT, form=Lines, run=judge_files)
     return parser.parse_args(words)
 
 
@@ -150,8 +151,7 @@ def check(words: argparse.Namespace) -> int:
 
 
 def _report_all(words: argparse.Namespace, output: Output, report: Report) -> int:
-    choice = Choice(words.profile == "strict", True, tuple(words.include), tuple(words.exclude),
-                    words.skip_other_kinds, words.mmap)
+    choice = Choice(words.profile, True, tuple(words.include), tuple(words.exclude), words.skip_other_kinds, words.mmap)
     progress = Progress(_count(words, choice), not words.no_progress)
     if is_terminal(sys.stdout):
         output.clear = progress.clear
@@ -189,8 +189,8 @@ def _add_command(commands: Any, name: str, run: Any, summary: str, description: 
     parser: argparse.ArgumentParser = commands.add_parser(
         name, help=summary, epilog=f"{EXAMPLES}\n{STATUSES}", description=description,
         formatter_class=argparse.RawDescriptionHelpFormatter)
-    parser.add_argument("--profile", choices=_check.PROFILES, default="layout", help="the rules: layout (the default), "
-                        "or strict, which has more")
+    parser.add_argument("--profile", choices=tuple(PROFILES), default=DEFAULT, help="the rules: " + "; ".join(
+        f"{name}, {it.text}" for name, it in PROFILES.items()))
     parser.set_defaults(run=run, parser=parser)
     return parser
 

@@ -1,0 +1,37 @@
+"""The profiles: by which rules a file is judged. Each judges the rules of those before it, and then its own."""
+
+from __future__ import annotations
+
+from functools import partial
+from typing import Callable, Dict, NamedTuple
+
+from . import _files
+from ._files import File
+from ._library import Data
+from ._rules import RULES
+
+
+class Profile(NamedTuple):
+    """What judges a file by a profile, the page that explains the rules which it adds, and what the help says of them.
+    The page is installed in share/doc/kesvuot."""
+
+    verify: Callable[[Data], File]
+    page: str
+    text: str
+
+
+PROFILES: Dict[str, Profile] = {
+    "layout": Profile(_files.verify, "RULES.md", "as macho-check (the default)"),
+    "strict": Profile(partial(_files.verify, strict=True), "RULES.md", "as macho-strict, with more"),
+    "linked": Profile(_files.verify_linked, "LINKED.md", "as macho-linked, with still more")}
+DEFAULT = "layout"
+
+
+def verify(data: Data, profile: str) -> File:
+    """Judges a file by the rules of a profile. Raises what `kesvuot.verify` raises."""
+    return PROFILES[profile].verify(data)
+
+
+def link(rule: str) -> str:
+    """The section of a rule on the page of its profile."""
+    return f"{PROFILES[RULES[rule].profile].page}#{rule}"
