@@ -1,4 +1,4 @@
-# For any POSIX make. `make` builds both programs and the library. No other target builds them or needs the kit, except
+# For any POSIX make. `make` builds the programs and the library. No other target builds them or needs the kit, except
 # `make lib` and `make check`.
 .POSIX:
 
@@ -19,6 +19,9 @@ PYTHONDIR = $$(packaging/python-folder "$(PREFIX)")
 DESTDIR =
 # The folder for the results of `make deb` and `make dist`.
 OUT = out
+
+# The programs, each of which has a page.
+PROGRAMS = macho-check macho-strict macho-linked
 
 TO_BIN = "$(DESTDIR)$(BINDIR)"
 TO_LIB = "$(DESTDIR)$(LIBDIR)"
@@ -44,7 +47,7 @@ FILL_TOOL = sed -e "1s|@PYTHON@|$(PYTHON)|; s|@LIB_FROM_HERE@|$$(realpath -ms --
 
 # On an empty input, each command builds its program, if it is not current, and the program refuses the input.
 all: lib
-	@for command in macho-check macho-strict; do \
+	@for command in $(PROGRAMS); do \
 	    test "$$(./$$command </dev/null)" = "refused: magic at 0x0" || exit; \
 	done
 
@@ -63,7 +66,8 @@ install-programs: built
 	install -d $(TO_BIN) $(TO_MAN)/man1
 	install -m 755 crates/macho_check/out/macho_check $(TO_BIN)/macho-check
 	install -m 755 crates/macho_strict_check/out/macho_strict_check $(TO_BIN)/macho-strict
-	install -m 644 man/macho-check.1 man/macho-strict.1 $(TO_MAN)/man1
+	install -m 755 crates/macho_linked_check/out/macho_linked_check $(TO_BIN)/macho-linked
+	for program in $(PROGRAMS); do install -m 644 man/$$program.1 $(TO_MAN)/man1 || exit; done
 
 # The library alone, which `make lib` builds, with the command kesvuot.
 install-lib: built-lib
@@ -89,13 +93,13 @@ install-lib: built-lib
 	install -m 644 packaging/completions/kesvuot.fish $(TO_FISH)
 
 uninstall:
-	rm -f $(TO_BIN)/macho-check $(TO_BIN)/macho-strict $(TO_BIN)/kesvuot $(TO_MAN)/man1/kesvuot.1
+	for program in $(PROGRAMS); do rm -f $(TO_BIN)/$$program $(TO_MAN)/man1/$$program.1; done
+	rm -f $(TO_BIN)/kesvuot $(TO_MAN)/man1/kesvuot.1
 	rm -f $(TO_BASH)/kesvuot $(TO_ZSH)/_kesvuot $(TO_FISH)/kesvuot.fish
 	rm -f $(TO_LIB)/libkesvuot.a $(TO_LIB)/libkesvuot.so.2 $(TO_LIB)/libkesvuot.so $(TO_LIB)/pkgconfig/kesvuot.pc
 	rm -f $(TO_INCLUDE)/kesvuot.h
 	rm -rf $(TO_LIB)/cmake/kesvuot $(TO_PYTHON)/kesvuot
-	rm -f $(TO_MAN)/man1/macho-check.1 $(TO_MAN)/man1/macho-strict.1 $(TO_MAN)/man3/kesvuot.3
-	rm -f $(TO_DOC)/RULES.md $(TO_DOC)/LINKED.md
+	rm -f $(TO_MAN)/man3/kesvuot.3 $(TO_DOC)/RULES.md $(TO_DOC)/LINKED.md
 	for call in $(CALLS); do rm -f $(TO_MAN)/man3/$$call.3; done
 	rmdir $(TO_DOC) 2>/dev/null || :
 
@@ -108,7 +112,7 @@ dist: built
 	@packaging/pack dist "$(OUT)"
 
 built:
-	@packaging/built macho-check macho-strict libkesvuot
+	@packaging/built $(PROGRAMS) libkesvuot
 
 built-lib:
 	@packaging/built libkesvuot

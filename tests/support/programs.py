@@ -9,6 +9,9 @@ from .calling import TOP, Answer, call, shell
 
 MACHO_CHECK = TOP / "crates/macho_check/out/macho_check"
 MACHO_STRICT = TOP / "crates/macho_strict_check/out/macho_strict_check"
+MACHO_LINKED = TOP / "crates/macho_linked_check/out/macho_linked_check"
+# What make builds and installs.
+PROGRAMS = {"macho-check": MACHO_CHECK, "macho-strict": MACHO_STRICT, "macho-linked": MACHO_LINKED}
 MACHO_TRIALS = TOP / "crates/macho_trials/out/macho_trials"
 REAL = TOP / "tests/real"
 # The file of the stored run of macho-check, and its layout.
@@ -17,7 +20,7 @@ NO_BYTES = b"refused: magic at 0x0\n"
 
 
 def is_built(command: str) -> bool:
-    """Builds the program of ./macho-check or ./macho-strict, where it is not current."""
+    """Builds the program of a command, such as ./macho-check, where it is not current."""
     return call(TOP / command, stderr=2) == Answer(1, NO_BYTES)
 
 
