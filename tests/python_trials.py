@@ -36,8 +36,6 @@ import oracle  # pylint: disable=wrong-import-position
 import oracle_trials  # pylint: disable=wrong-import-position
 
 SHOWN = 20
-# The profiles whose programs tests/python builds.
-WITH_PROGRAMS = ("layout", "strict")
 LC_LOAD_DYLINKER, LC_RPATH = 0xE, 0x8000_001C
 LC_SYMTAB, LC_DYSYMTAB = oracle.LC_SYMTAB, oracle.LC_DYSYMTAB
 # The commands whose data tests/*.reads and tests/real/*.reads show, in their order. The last one is of another kind.
@@ -104,7 +102,7 @@ def judge_vectors(report):
     for profile in oracle_trials.CRATES:
         for path, vectors in oracle_trials.read_all_vectors(profile):
             judge_by_hand(report, path.name, vectors, profile)
-            if profile in WITH_PROGRAMS and oracle_trials.is_whole(path, profile):
+            if oracle_trials.is_whole(path, profile):
                 compare_program(report, path.name, [(vector.name, vector.data) for vector in vectors], profile)
 
 
@@ -836,7 +834,7 @@ def judge_memory(report):
 def judge_folders(report, folders):
     for folder in folders:
         files = oracle_trials.read_folder(folder)
-        for profile in WITH_PROGRAMS:
+        for profile in oracle_trials.CRATES:
             compare_program(report, folder, files, profile)
         compare_views(report, folder, [(name, data) for name, data in files if verdict(data) == "accepted"])
 
