@@ -93,7 +93,7 @@ install-lib: built-lib
 	install -m 644 packaging/completions/kesvuot.fish $(TO_FISH)
 
 uninstall:
-	for program in $(PROGRAMS); do rm -f $(TO_BIN)/$$program $(TO_MAN)/man1/$$program.1; done
+	for program in $(PROGRAMS); do rm -f $(TO_BIN)/$$program $(TO_MAN)/man1/$$program.1 || exit; done
 	rm -f $(TO_BIN)/kesvuot $(TO_MAN)/man1/kesvuot.1
 	rm -f $(TO_BASH)/kesvuot $(TO_ZSH)/_kesvuot $(TO_FISH)/kesvuot.fish
 	rm -f $(TO_LIB)/libkesvuot.a $(TO_LIB)/libkesvuot.so.2 $(TO_LIB)/libkesvuot.so $(TO_LIB)/pkgconfig/kesvuot.pc
