@@ -96,8 +96,8 @@ def cut_program() -> bytes:
 
 
 def unknown_opcode() -> bytes:
-    """The real program with an opcode that no loader knows. The linked profile alone refuses it. The bind stream begins
-    at 0x3008."""
+    """The real program with the byte 0xd0 for the first opcode of its bind stream, which begins at 0x3008. The linked
+    profile alone refuses it."""
     data = bytearray(real("program"))
     data[0x3008] = 0xD0
     return bytes(data)

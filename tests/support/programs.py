@@ -8,10 +8,10 @@ from pathlib import Path
 from .calling import TOP, Answer, call, shell
 
 MACHO_CHECK = TOP / "crates/macho_check/out/macho_check"
-MACHO_STRICT = TOP / "crates/macho_strict_check/out/macho_strict_check"
-MACHO_LINKED = TOP / "crates/macho_linked_check/out/macho_linked_check"
 # What make builds and installs.
-PROGRAMS = {"macho-check": MACHO_CHECK, "macho-strict": MACHO_STRICT, "macho-linked": MACHO_LINKED}
+PROGRAMS = {"macho-check": MACHO_CHECK,
+            "macho-strict": TOP / "crates/macho_strict_check/out/macho_strict_check",
+            "macho-linked": TOP / "crates/macho_linked_check/out/macho_linked_check"}
 MACHO_TRIALS = TOP / "crates/macho_trials/out/macho_trials"
 REAL = TOP / "tests/real"
 # The file of the stored run of macho-check, and its layout.
