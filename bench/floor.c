@@ -2,9 +2,9 @@
 // file that breaks no rule of docs/RULES.md (status 0), or the first rule that is broken and its place (status 1).
 //
 //     bench/rules_tables.py >rules_tables.h && cc -std=c99 -O2 -I. -o floor bench/floor.c
-//     ./floor [--strict] <FILE
+//     ./floor [--strict | --linked] <FILE
 //
-// With --strict it decides what macho-strict decides.
+// With --strict it decides what macho-strict decides, and with --linked what macho-linked decides.
 //
 // It shows how fast C can be at this. bench/speed runs it beside the program, and tests/floor tries its answers.
 // Nothing is walked twice without need: one walk over the load commands judges each command, segment and section, and
@@ -15,8 +15,9 @@
 //
 // Structures and constants have their public names. The rules stand in the order of docs/RULES.md, a function for each:
 // of the file, of the header and the load commands, of segments and sections, of tables and symbols, and of the entry.
-// After them stand the walk and the judgment, which call them, then the strict profile, and the report. The names of
-// the rules, the filetypes, the listed commands and their tables are those of that page, as rules_tables.h has them.
+// After them stand the walk and the judgment, which call them, then the strict and the linked profile, and the report.
+// The names of the rules, the filetypes, the listed commands and their tables are those of that page and of
+// docs/LINKED.md, as rules_tables.h has them.
 
 #define _GNU_SOURCE // memrchr
 #include <stdbool.h>
@@ -39,6 +40,9 @@
 #define OUTPUT_SIZE ((size_t)1 << 16)
 
 enum { ACCEPTED = 0, REFUSED = 1, NOT_READ_OR_WRITTEN = 3, NO_MEMORY = 4 };
+
+// The rules that are judged: those of a profile and of those before it.
+enum profile { LAYOUT, STRICT, LINKED };
 
 // mach-o/fat.h
 
@@ -173,6 +177,38 @@ struct entry_point_command {
     uint64_t entryoff, stacksize;
 };
 
+#define SG_PROTECTED_VERSION_1 8u
+
+#define REBASE_TYPE_POINTER 1u
+#define REBASE_OPCODE_DONE 0x00u
+#define REBASE_OPCODE_SET_TYPE_IMM 0x10u
+#define REBASE_OPCODE_SET_SEGMENT_AND_OFFSET_ULEB 0x20u
+#define REBASE_OPCODE_ADD_ADDR_ULEB 0x30u
+#define REBASE_OPCODE_ADD_ADDR_IMM_SCALED 0x40u
+#define REBASE_OPCODE_DO_REBASE_IMM_TIMES 0x50u
+#define REBASE_OPCODE_DO_REBASE_ULEB_TIMES 0x60u
+#define REBASE_OPCODE_DO_REBASE_ADD_ADDR_ULEB 0x70u
+#define REBASE_OPCODE_DO_REBASE_ULEB_TIMES_SKIPPING_ULEB 0x80u
+
+#define BIND_TYPE_POINTER 1u
+#define BIND_OPCODE_DONE 0x00u
+#define BIND_OPCODE_SET_DYLIB_ORDINAL_IMM 0x10u
+#define BIND_OPCODE_SET_DYLIB_ORDINAL_ULEB 0x20u
+#define BIND_OPCODE_SET_DYLIB_SPECIAL_IMM 0x30u
+#define BIND_OPCODE_SET_SYMBOL_TRAILING_FLAGS_IMM 0x40u
+#define BIND_OPCODE_SET_TYPE_IMM 0x50u
+#define BIND_OPCODE_SET_ADDEND_SLEB 0x60u
+#define BIND_OPCODE_SET_SEGMENT_AND_OFFSET_ULEB 0x70u
+#define BIND_OPCODE_ADD_ADDR_ULEB 0x80u
+#define BIND_OPCODE_DO_BIND 0x90u
+#define BIND_OPCODE_DO_BIND_ADD_ADDR_ULEB 0xa0u
+#define BIND_OPCODE_DO_BIND_ADD_ADDR_IMM_SCALED 0xb0u
+#define BIND_OPCODE_DO_BIND_ULEB_TIMES_SKIPPING_ULEB 0xc0u
+
+// Ordinals from -1 down to this many below 0 have a meaning: BIND_SPECIAL_DYLIB_MAIN_EXECUTABLE to _WEAK_LOOKUP.
+#define SPECIAL_LIBRARIES 3u
+
+#define POINTER_SIZE 8u
 #define BUILD_TOOL_VERSION_SIZE 8u
 #define INDIRECT_ENTRY_SIZE 4u
 #define TWOLEVEL_HINT_SIZE 4u
@@ -1508,6 +1544,507 @@ static void judge_universal_strictly(const struct file *file, const struct unive
     }
 }
 
+// The linked profile of docs/LINKED.md, of files that break no rule above
+
+// The kinds of linked data that a command names, a bit for each. Fixups and exports can be of one command.
+enum { FIXUPS = 1, EXPORTS = 2, FUNCTION_STARTS = 4, DATA_IN_CODE = 8, SIGNATURE = 16 };
+
+static inline unsigned kinds_of(size_t slot) {
+    switch (slot) {
+    case SLOT(LC_DYLD_INFO):
+    case SLOT(LC_DYLD_INFO_ONLY):
+        return FIXUPS | EXPORTS;
+    case SLOT(LC_DYLD_CHAINED_FIXUPS):
+        return FIXUPS;
+    case SLOT(LC_DYLD_EXPORTS_TRIE):
+        return EXPORTS;
+    case SLOT(LC_FUNCTION_STARTS):
+        return FUNCTION_STARTS;
+    case SLOT(LC_DATA_IN_CODE):
+        return DATA_IN_CODE;
+    case SLOT(LC_CODE_SIGNATURE):
+        return SIGNATURE;
+    default:
+        return 0;
+    }
+}
+
+// As many segments as an opcode can name, and one more, which is never there.
+enum { SEGMENTS = 16, NO_SEGMENT = SEGMENTS };
+
+// The most commands that name linked data where table-repeated is unbroken: one of each kind.
+enum { TABLE_COMMANDS = 5 };
+
+// What is found of an image on the way over its commands.
+struct linked {
+    const struct image *image;
+    uint64_t rooms[SEGMENTS + 1]; // of a segment how many bytes can be written, and 0 where it is not writable
+    uint64_t budget;
+    uint64_t segment_count, library_count;
+    unsigned kinds;
+    uint64_t commands[TABLE_COMMANDS]; // their places
+    size_t command_count;
+    bool has_linkedit, has_safe_base;
+};
+
+static inline uint64_t protection_of(const uint8_t *segment) {
+    return FIELD(segment, segment_command_64, initprot);
+}
+
+static inline bool is_writable(const uint8_t *segment) {
+    return FIELD(segment, segment_command_64, vmsize) != 0 && (protection_of(segment) & VM_PROT_WRITE) != 0;
+}
+
+static inline bool is_constant(const uint8_t *segment) {
+    return (protection_of(segment) & VM_PROT_READ) != 0 && !is_writable(segment);
+}
+
+// strncmp goes no further than the first zero byte.
+static inline bool is_linkedit(const uint8_t *segment) {
+    const char *name = (const char *)segment + offsetof(struct segment_command_64, segname);
+    return strncmp(name, "__LINKEDIT", sizeof(((struct segment_command_64 *)0)->segname)) == 0;
+}
+
+static void note_segment(struct linked *linked, const uint8_t *command) {
+    struct segment segment = read_segment(command);
+    uint64_t room = is_writable(command) ? segment.filesize : 0;
+    if (linked->segment_count < SEGMENTS) {
+        linked->rooms[linked->segment_count] = room;
+    }
+    linked->segment_count++;
+    linked->budget += room / POINTER_SIZE;
+    linked->has_linkedit = linked->has_linkedit || is_linkedit(command);
+    if (is_mapped(&segment) && segment.fileoff == 0 && segment.filesize != 0) {
+        linked->has_safe_base = is_constant(command);
+    }
+}
+
+// table-repeated
+static void note_tables(struct linked *linked, uint64_t place, unsigned kinds) {
+    if ((linked->kinds & kinds) != 0) {
+        note_in(linked->image, TABLE_REPEATED, place);
+    } else {
+        linked->commands[linked->command_count++] = place;
+    }
+    linked->kinds |= kinds;
+}
+
+// table-repeated and function-variants, in one walk over the commands.
+static void survey_linked(struct linked *linked) {
+    const struct image *image = linked->image;
+    uint64_t place = sizeof(struct mach_header_64);
+    for (uint64_t k = 0; k < image->ncmds; k++) {
+        const uint8_t *command = image->bytes + place;
+        size_t slot = slot_of(FIELD(command, load_command, cmd));
+        unsigned kinds = kinds_of(slot);
+        if (kinds != 0) {
+            note_tables(linked, place, kinds);
+        }
+        switch (slot) {
+        case SLOT(LC_SEGMENT_64):
+            note_segment(linked, command);
+            break;
+        case SLOT(LC_FUNCTION_VARIANTS):
+        case SLOT(LC_FUNCTION_VARIANT_FIXUPS):
+            note_in(image, FUNCTION_VARIANTS, place);
+            break;
+        LIBRARIES(AS_CASE)
+            linked->library_count++;
+            break;
+        default:
+            break;
+        }
+        place += FIELD(command, load_command, cmdsize);
+    }
+}
+
+// Whether the bytes are in the segment as they are in the file.
+static bool is_home(const uint8_t *command, uint64_t start, uint64_t size) {
+    struct segment segment = read_segment(command);
+    return is_mapped(&segment) && is_constant(command) &&
+        (FIELD(command, segment_command_64, flags) & SG_PROTECTED_VERSION_1) == 0 && start >= segment.fileoff &&
+        fits(start - segment.fileoff, size, segment.filesize);
+}
+
+static bool is_encrypted(const uint8_t *command, uint64_t start, uint64_t size) {
+    uint64_t cryptoff = FIELD(command, encryption_info_command_64, cryptoff);
+    uint64_t cryptsize = FIELD(command, encryption_info_command_64, cryptsize);
+    return cryptoff < start + size && start < cryptoff + cryptsize && cryptsize != 0;
+}
+
+// Whether a segment named __LINKEDIT is no home of these bytes, or one of them is encrypted. They are more than none.
+static bool is_astray(const struct image *image, uint64_t start, uint64_t size) {
+    uint64_t place = sizeof(struct mach_header_64);
+    for (uint64_t k = 0; k < image->ncmds; k++) {
+        const uint8_t *command = image->bytes + place;
+        size_t slot = slot_of(FIELD(command, load_command, cmd));
+        if (slot == SLOT(LC_SEGMENT_64) && is_linkedit(command) && !is_home(command, start, size)) {
+            return true;
+        }
+        if (slot == SLOT(LC_ENCRYPTION_INFO_64) && is_encrypted(command, start, size)) {
+            return true;
+        }
+        place += FIELD(command, load_command, cmdsize);
+    }
+    return false;
+}
+
+// table-home of the tables of a command, and header-home if it has one.
+static void judge_homes(const struct linked *linked, uint64_t place) {
+    const struct image *image = linked->image;
+    const uint8_t *command = image->bytes + place;
+    size_t slot = slot_of(FIELD(command, load_command, cmd));
+    const struct table *tables = bounded_tables + listed_commands[slot].first_table;
+    for (size_t k = 0; k < listed_commands[slot].table_count; k++) {
+        uint64_t start = table_start(command, &tables[k]), size = table_size(command, &tables[k]);
+        if (size == 0) {
+            continue;
+        }
+        if (!linked->has_linkedit || is_astray(image, start, size)) {
+            note_in(image, TABLE_HOME, place);
+        }
+        if (!linked->has_safe_base) {
+            note_in(image, HEADER_HOME, 0);
+        }
+    }
+}
+
+// Which of the tables of a dyld_info_command are these streams.
+enum { REBASE_STREAM = 0, LAZY_STREAM = 3 };
+
+// A stream: its bytes from `at` on are not read yet. What its opcodes have set, and what they have asked for.
+struct stream {
+    const struct linked *linked;
+    const uint8_t *bytes;
+    uint64_t at, size;
+    uint64_t segment, cursor;
+    uint64_t name_size; // with the zero byte; 0 where no name is set
+    bool is_new;
+    uint64_t written, looked_up;
+};
+
+// The slots of an opcode, and whether it is one that there is, with its operands.
+struct step {
+    uint64_t count, skip;
+    bool is_known;
+};
+
+static const struct step unknown = {0, 0, false}, without_slots = {0, 0, true};
+
+static inline void clear(struct stream *stream) {
+    stream->segment = NO_SEGMENT;
+    stream->cursor = stream->name_size = 0;
+    stream->is_new = false;
+}
+
+// A ULEB128, below 2^64, of at most ten bytes. The tenth has one bit of it.
+static inline bool read_number(struct stream *stream, uint64_t *number) {
+    *number = 0;
+    for (unsigned shift = 0; shift < 70 && stream->at < stream->size; shift += 7) {
+        uint8_t byte = stream->bytes[stream->at++];
+        *number |= (uint64_t)(byte & 0x7f) << shift;
+        if (byte < 0x80) {
+            return shift < 63 || byte <= 1;
+        }
+    }
+    return false;
+}
+
+// A SLEB128 from -2^63 to 2^63 - 1: all bits of the tenth byte are the sign.
+static inline bool read_addend(struct stream *stream) {
+    for (unsigned k = 1; k <= 10 && stream->at < stream->size; k++) {
+        uint8_t byte = stream->bytes[stream->at++];
+        if (byte < 0x80) {
+            return k < 10 || byte == 0 || byte == 0x7f;
+        }
+    }
+    return false;
+}
+
+static inline bool read_name(struct stream *stream) {
+    const uint8_t *name = stream->bytes + stream->at;
+    const uint8_t *zero = memchr(name, 0, stream->size - stream->at);
+    if (zero == NULL) {
+        return false;
+    }
+    stream->name_size = (uint64_t)(zero - name) + 1;
+    stream->at += stream->name_size;
+    stream->is_new = true;
+    return true;
+}
+
+static inline bool move_cursor(struct stream *stream) {
+    uint64_t distance;
+    bool is_number = read_number(stream, &distance);
+    stream->cursor += distance;
+    return is_number;
+}
+
+static inline bool set_cursor(struct stream *stream, unsigned segment) {
+    stream->segment = segment;
+    return read_number(stream, &stream->cursor);
+}
+
+static inline bool set_library(struct stream *stream, uint64_t place, uint64_t ordinal) {
+    if (ordinal > stream->linked->library_count) {
+        note_in(stream->linked->image, BIND_LIBRARY, place);
+    }
+    stream->is_new = true;
+    return true;
+}
+
+static inline bool set_special(struct stream *stream, uint64_t place, unsigned imm) {
+    if (imm != 0 && imm < 16 - SPECIAL_LIBRARIES) {
+        note_in(stream->linked->image, BIND_LIBRARY, place);
+    }
+    stream->is_new = true;
+    return true;
+}
+
+// The last DONE: only zeros may follow.
+static inline bool end_stream(struct stream *stream) {
+    bool is_last = first_nonzero(stream->bytes, stream->at, stream->size) == stream->size;
+    stream->at = stream->size;
+    return is_last;
+}
+
+static inline struct step known_if(bool is_known) {
+    return is_known ? without_slots : unknown;
+}
+
+// An opcode with these operands that has slots.
+static inline struct step one_slot(uint64_t skip) {
+    return (struct step){1, skip, true};
+}
+
+static inline struct step one_and_number(struct stream *stream) {
+    struct step step = {1, 0, false};
+    step.is_known = read_number(stream, &step.skip);
+    return step;
+}
+
+static inline struct step number_of_slots(struct stream *stream) {
+    struct step step = {0, 0, false};
+    step.is_known = read_number(stream, &step.count);
+    return step;
+}
+
+static inline struct step two_numbers(struct stream *stream) {
+    struct step step = {0, 0, false};
+    step.is_known = read_number(stream, &step.count) && read_number(stream, &step.skip);
+    return step;
+}
+
+static inline struct step follow_rebase(struct stream *stream, uint8_t byte) {
+    unsigned imm = byte & 0xfu;
+    switch (byte & 0xf0u) {
+    case REBASE_OPCODE_DONE:
+        return known_if(end_stream(stream));
+    case REBASE_OPCODE_SET_TYPE_IMM:
+        return known_if(imm == REBASE_TYPE_POINTER);
+    case REBASE_OPCODE_SET_SEGMENT_AND_OFFSET_ULEB:
+        return known_if(set_cursor(stream, imm));
+    case REBASE_OPCODE_ADD_ADDR_ULEB:
+        return known_if(move_cursor(stream));
+    case REBASE_OPCODE_ADD_ADDR_IMM_SCALED:
+        stream->cursor += POINTER_SIZE * imm;
+        return without_slots;
+    case REBASE_OPCODE_DO_REBASE_IMM_TIMES:
+        return (struct step){imm, 0, true};
+    case REBASE_OPCODE_DO_REBASE_ULEB_TIMES:
+        return number_of_slots(stream);
+    case REBASE_OPCODE_DO_REBASE_ADD_ADDR_ULEB:
+        return one_and_number(stream);
+    case REBASE_OPCODE_DO_REBASE_ULEB_TIMES_SKIPPING_ULEB:
+        return two_numbers(stream);
+    default:
+        return unknown;
+    }
+}
+
+// `place` is that of the opcode.
+static inline struct step set_ordinal(struct stream *stream, uint8_t byte, uint64_t place) {
+    uint64_t ordinal = byte & 0xfu;
+    if ((byte & 0xf0u) == BIND_OPCODE_SET_DYLIB_SPECIAL_IMM) {
+        return known_if(set_special(stream, place, byte & 0xfu));
+    }
+    if ((byte & 0xf0u) == BIND_OPCODE_SET_DYLIB_ORDINAL_ULEB && !read_number(stream, &ordinal)) {
+        return unknown;
+    }
+    return known_if(set_library(stream, place, ordinal));
+}
+
+static inline struct step follow_bind(struct stream *stream, uint8_t byte, uint64_t place) {
+    unsigned imm = byte & 0xfu;
+    switch (byte & 0xf0u) {
+    case BIND_OPCODE_SET_DYLIB_ORDINAL_IMM:
+    case BIND_OPCODE_SET_DYLIB_ORDINAL_ULEB:
+    case BIND_OPCODE_SET_DYLIB_SPECIAL_IMM:
+        return set_ordinal(stream, byte, place);
+    case BIND_OPCODE_SET_SYMBOL_TRAILING_FLAGS_IMM:
+        return known_if(read_name(stream));
+    case BIND_OPCODE_SET_TYPE_IMM:
+        return known_if(imm == BIND_TYPE_POINTER);
+    case BIND_OPCODE_SET_ADDEND_SLEB:
+        return known_if(read_addend(stream));
+    case BIND_OPCODE_SET_SEGMENT_AND_OFFSET_ULEB:
+        return known_if(set_cursor(stream, imm));
+    case BIND_OPCODE_ADD_ADDR_ULEB:
+        return known_if(move_cursor(stream));
+    case BIND_OPCODE_DO_BIND:
+        return one_slot(0);
+    case BIND_OPCODE_DO_BIND_ADD_ADDR_ULEB:
+        return one_and_number(stream);
+    case BIND_OPCODE_DO_BIND_ADD_ADDR_IMM_SCALED:
+        return one_slot(POINTER_SIZE * imm);
+    case BIND_OPCODE_DO_BIND_ULEB_TIMES_SKIPPING_ULEB:
+        return two_numbers(stream);
+    default:
+        return unknown;
+    }
+}
+
+// Whether all slots of a step with some are in a room of so many bytes. A skip that is above it is that of one slot.
+static inline bool fit_slots(const struct step *step, uint64_t cursor, uint64_t room) {
+    if (room < POINTER_SIZE || cursor > room - POINTER_SIZE) {
+        return false;
+    }
+    uint64_t left = room - POINTER_SIZE - cursor;
+    return step->count == 1 || (step->skip <= left && step->count - 1 <= left / (POINTER_SIZE + step->skip));
+}
+
+// Adds a part to a sum up to a limit, and notes the rule where it passes it. The sum stays at the limit.
+static inline void add_up(const struct image *image, enum rule rule, uint64_t place, uint64_t *sum, uint64_t part,
+                          uint64_t limit) {
+    if (part > limit - *sum) {
+        note_in(image, rule, place);
+        *sum = limit;
+    } else {
+        *sum += part;
+    }
+}
+
+// The rules of slots, of which there are some.
+struct slot_rules {
+    enum rule opcode, slot, total;
+};
+
+static inline void judge_slots(struct stream *stream, const struct step *step, const struct slot_rules *rules,
+                               uint64_t place) {
+    const struct linked *linked = stream->linked;
+    if (!fit_slots(step, stream->cursor, linked->rooms[stream->segment])) {
+        note_in(linked->image, rules->slot, place);
+    }
+    add_up(linked->image, rules->total, place, &stream->written, step->count, linked->budget);
+    stream->cursor += step->count * (POINTER_SIZE + step->skip);
+}
+
+// bind-symbol and bind-names. Where no name is set it has no bytes.
+static inline void judge_name(struct stream *stream, uint64_t place) {
+    const struct image *image = stream->linked->image;
+    if (stream->name_size == 0) {
+        note_in(image, BIND_SYMBOL, place);
+    }
+    if (stream->is_new) {
+        add_up(image, BIND_NAMES, place, &stream->looked_up, stream->name_size, stream->size);
+    }
+    stream->is_new = false;
+}
+
+static void judge_rebases(struct stream *stream, uint64_t start) {
+    static const struct slot_rules rules = {REBASE_OPCODE, REBASE_SLOT, REBASE_TOTAL};
+    while (stream->at < stream->size) {
+        uint64_t place = start + stream->at;
+        struct step step = follow_rebase(stream, stream->bytes[stream->at++]);
+        if (!step.is_known) {
+            note_in(stream->linked->image, rules.opcode, place);
+            return;
+        }
+        if (step.count != 0) {
+            judge_slots(stream, &step, &rules, place);
+        }
+    }
+}
+
+// DONE of a lazy stream begins it anew.
+static inline struct step follow_done(struct stream *stream, bool is_lazy) {
+    if (is_lazy) {
+        clear(stream);
+        return without_slots;
+    }
+    return known_if(end_stream(stream));
+}
+
+static void judge_binds(struct stream *stream, uint64_t start, bool is_lazy) {
+    static const struct slot_rules rules = {BIND_OPCODE, BIND_SLOT, BIND_TOTAL};
+    while (stream->at < stream->size) {
+        uint64_t place = start + stream->at;
+        uint8_t byte = stream->bytes[stream->at++];
+        struct step step =
+            (byte & 0xf0u) == BIND_OPCODE_DONE ? follow_done(stream, is_lazy) : follow_bind(stream, byte, place);
+        if (!step.is_known) {
+            note_in(stream->linked->image, rules.opcode, place);
+            return;
+        }
+        if (step.count != 0) {
+            judge_name(stream, place);
+            judge_slots(stream, &step, &rules, place);
+        }
+    }
+}
+
+static struct stream begin_stream(const struct linked *linked, uint64_t start, uint64_t size) {
+    struct stream stream = {.linked = linked, .bytes = linked->image->bytes + start, .size = size};
+    clear(&stream);
+    return stream;
+}
+
+// The rules of the streams of an LC_DYLD_INFO or LC_DYLD_INFO_ONLY, whose first tables are the rebase, the bind, the
+// weak and the lazy stream. All are judged, whatever one of them breaks.
+static void judge_streams(const struct linked *linked, const uint8_t *command, const struct table *tables) {
+    for (size_t k = 0; k <= LAZY_STREAM; k++) {
+        uint64_t start = table_start(command, &tables[k]);
+        struct stream stream = begin_stream(linked, start, table_size(command, &tables[k]));
+        if (k == REBASE_STREAM) {
+            judge_rebases(&stream, start);
+        } else {
+            judge_binds(&stream, start, k == LAZY_STREAM);
+        }
+    }
+}
+
+static void judge_image_linked(const struct image *image) {
+    struct linked linked = {.image = image};
+    survey_linked(&linked);
+    for (size_t k = 0; k < linked.command_count && is_kept_below(image->breaks, TABLE_HOME); k++) {
+        judge_homes(&linked, linked.commands[k]);
+    }
+    if (image->breaks->broken != 0) {
+        return;
+    }
+    for (size_t k = 0; k < linked.command_count; k++) {
+        const uint8_t *command = image->bytes + linked.commands[k];
+        size_t slot = slot_of(FIELD(command, load_command, cmd));
+        if (slot == SLOT(LC_DYLD_INFO) || slot == SLOT(LC_DYLD_INFO_ONLY)) {
+            judge_streams(&linked, command, bounded_tables + listed_commands[slot].first_table);
+        }
+    }
+}
+
+// Of a universal file, up to the first slice that breaks one of the rules.
+static void judge_universal_linked(const struct file *file, const struct universal *universal,
+                                   struct breaks *breaks) {
+    struct image image;
+    for (uint64_t k = 0; k < universal->nfat_arch && breaks->broken == 0; k++) {
+        struct entry entry = read_entry(universal, k);
+        if (is_read(universal, &entry)) {
+            begin_image(&image, file, entry.offset, entry.size, breaks);
+            survey(&image, &entry.arch);
+            judge_image_linked(&image);
+        }
+    }
+}
+
 // The report, as docs/COMMAND.md has its lines
 
 // The most bytes of a line, but for the name of a library.
@@ -1824,13 +2361,16 @@ static struct file read_input(void) {
 }
 
 // Judges a file that is an image, and prints its layout where it breaks no rule.
-static void check_image(const struct file *file, struct breaks *breaks, bool is_strict) {
+static void check_image(const struct file *file, struct breaks *breaks, enum profile profile) {
     struct image image;
     begin_image(&image, file, 0, file->size, breaks);
     survey(&image, NULL);
     judge_surveyed(&image);
-    if (breaks->broken == 0 && is_strict) {
+    if (breaks->broken == 0 && profile >= STRICT) {
         judge_image_strictly(&image);
+    }
+    if (breaks->broken == 0 && profile >= LINKED) {
+        judge_image_linked(&image);
     }
     if (breaks->broken == 0) {
         print_accepted(1);
@@ -1839,7 +2379,7 @@ static void check_image(const struct file *file, struct breaks *breaks, bool is_
 }
 
 // The same of a universal file.
-static void check_universal(const struct file *file, struct breaks *breaks, bool is_strict) {
+static void check_universal(const struct file *file, struct breaks *breaks, enum profile profile) {
     struct universal universal;
     if (breaks_fat_truncated(file, &universal)) {
         note(breaks, FAT_TRUNCATED, offsetof(struct fat_header, nfat_arch));
@@ -1850,8 +2390,11 @@ static void check_universal(const struct file *file, struct breaks *breaks, bool
         return;
     }
     judge_slices(file, &universal, breaks);
-    if (breaks->broken == 0 && is_strict) {
+    if (breaks->broken == 0 && profile >= STRICT) {
         judge_universal_strictly(file, &universal, breaks);
+    }
+    if (breaks->broken == 0 && profile >= LINKED) {
+        judge_universal_linked(file, &universal, breaks);
     }
     if (breaks->broken == 0) {
         print_universal(file, &universal, breaks);
@@ -1859,15 +2402,15 @@ static void check_universal(const struct file *file, struct breaks *breaks, bool
 }
 
 int main(int argc, char **argv) {
-    bool is_strict = argc > 1 && strcmp(argv[1], "--strict") == 0;
+    enum profile profile = argc == 1 ? LAYOUT : strcmp(argv[1], "--linked") == 0 ? LINKED : STRICT;
     struct file file = read_input();
     struct breaks breaks = {.broken = 0};
     if (breaks_magic(&file)) {
         note(&breaks, MAGIC, 0);
     } else if (is_fat_magic(read_big(file.bytes, sizeof(uint32_t)))) {
-        check_universal(&file, &breaks, is_strict);
+        check_universal(&file, &breaks, profile);
     } else {
-        check_image(&file, &breaks, is_strict);
+        check_image(&file, &breaks, profile);
     }
     if (breaks.broken != 0) {
         print_break(&breaks);

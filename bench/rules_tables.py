@@ -1,6 +1,7 @@
 #!/usr/bin/env python3
-"""Prints the tables of docs/RULES.md for bench/floor.c and tests/fuzz.c: the rules, the filetypes that are judged, the
-listed commands and their bounded tables. tests/oracle.py reads all but the first there.
+"""Prints the tables of docs/RULES.md for bench/floor.c and tests/fuzz.c: the rules, with those of docs/LINKED.md after
+them, the filetypes that are judged, the listed commands and their bounded tables. tests/oracle.py reads all but the
+first there.
 
     bench/rules_tables.py >rules_tables.h
 
@@ -28,8 +29,9 @@ def macro(name: str, rows: Iterable[str]) -> str:
 
 
 def rule_rows() -> Iterator[str]:
-    for name in oracle.rows_of("^### `([a-z-]+)`$"):
-        yield f'{name.upper().replace("-", "_")}, "{name}"'
+    for page in "RULES.md", "LINKED.md":
+        for name in oracle.rows_of("^### `([a-z-]+)`$", page):
+            yield f'{name.upper().replace("-", "_")}, "{name}"'
 
 
 def filetype_rows() -> Iterator[str]:
@@ -47,7 +49,7 @@ def command_rows() -> Iterator[str]:
 def header() -> str:
     constants = [f"#define {command} {cmd:#x}u\n" for command, (cmd, *_) in oracle.COMMANDS.items()]
     return "\n".join((
-        "// Made by bench/rules_tables.py of docs/RULES.md.\n",
+        "// Made by bench/rules_tables.py of docs/RULES.md and docs/LINKED.md.\n",
         "".join(constants),
         macro("RULES", rule_rows()),
         macro("FILETYPES", filetype_rows()),
