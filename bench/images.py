@@ -56,6 +56,13 @@ whose LC_MAIN names an address of no segment. That breaks the last rule, so all 
     string-Nm                       a million symbols whose names begin in one string of N MiB, which its last byte ends
     endless-Nm                      the same, but nothing ends the string. All symbols are without a name, but the last
     names-N                         a million symbols with names of N bytes
+    rebases-N, rebases-N-one        a segment of zeros for N pointers, and rebases of all, by an opcode for each or by
+                                    one. Accepted by the linked profile, as it is below
+    binds-N                         a bind of each, with a name of its own
+    opcodes-Nm, numbers-Nm          N MiB of rebase opcodes that move the cursor, each of one byte, or with a number of
+                                    three bytes
+    plain-Nm                        a text in N MiB, and the opcodes of a linker: 750,000 rebases, three by each opcode,
+                                    and 10,000 binds
 """
 
 from __future__ import annotations
@@ -77,12 +84,13 @@ CPU_TYPE_X86_64, CPU_SUBTYPE_X86_64_ALL = 0x01000007, 3
 CPU_TYPE_ARM64, CPU_SUBTYPE_ARM64_ALL = 0x0100000C, 0
 MH_OBJECT, MH_EXECUTE = 1, 2
 LC_SYMTAB, LC_DYSYMTAB, LC_LOAD_DYLIB, LC_SEGMENT_64, LC_MAIN = 0x2, 0xB, 0xC, 0x19, 0x80000028
-LC_ENCRYPTION_INFO_64, LC_ATOM_INFO, LC_RPATH = 0x2C, 0x36, 0x8000001C
+LC_ENCRYPTION_INFO_64, LC_ATOM_INFO, LC_RPATH, LC_DYLD_INFO_ONLY = 0x2C, 0x36, 0x8000001C, 0x80000022
 LC_UNLISTED = 0x7FFFFFFF
-VM_PROT_READ, VM_PROT_EXECUTE = 1, 4
+VM_PROT_READ, VM_PROT_WRITE, VM_PROT_EXECUTE = 1, 2, 4
 HEADER_SIZE, SEGMENT_SIZE, SECTION_SIZE = 32, 72, 80
 ENCRYPTION_INFO_SIZE, ATOM_INFO_SIZE = 24, 16
 SYMTAB_SIZE, DYSYMTAB_SIZE, MAIN_SIZE, SYMBOL_SIZE = 24, 80, 24, 16
+LIBRARY_SIZE, DYLD_INFO_SIZE, POINTER_SIZE = 32, 48, 8
 FAT_HEADER_SIZE, FAT_ARCH_SIZE = 8, 20
 S_ZEROFILL = 1
 RELOCATION_SIZE = 8
@@ -108,8 +116,9 @@ def segment(name: bytes, vmaddr: int, vmsize: int, fileoff: int = 0, filesize: i
     return struct.pack("<2I16s4Q4I", LC_SEGMENT_64, SEGMENT_SIZE + len(sections), name, *fields) + sections
 
 
-def section(name: bytes, addr: int, size: int, offset: int, reloff: int = 0, nreloc: int = 0, flags: int = 0) -> bytes:
-    return struct.pack("<16s16s2Q8I", name, b"__TEXT", addr, size, offset, 0, reloff, nreloc, flags, 0, 0, 0)
+def section(name: bytes, addr: int, size: int, offset: int, reloff: int = 0, nreloc: int = 0, flags: int = 0,
+            segname: bytes = b"__TEXT") -> bytes:
+    return struct.pack("<16s16s2Q8I", name, segname, addr, size, offset, 0, reloff, nreloc, flags, 0, 0, 0)
 
 
 def symtab(symoff: int, nsyms: int, stroff: int, strsize: int) -> bytes:
@@ -122,7 +131,7 @@ def dysymtab(indirectsymoff: int, nindirectsyms: int) -> bytes:
 
 
 def library(number: int) -> bytes:
-    return struct.pack("<6I8s", LC_LOAD_DYLIB, 32, 24, 2, 0x10203, 0x10200, b"l%06d" % number)
+    return struct.pack("<6I8s", LC_LOAD_DYLIB, LIBRARY_SIZE, 24, 2, 0x10203, 0x10200, b"l%06d" % number)
 
 
 def libraries(count: int) -> bytes:
@@ -139,6 +148,23 @@ def encryption_info(cryptoff: int, cryptsize: int) -> bytes:
 
 def atom_info(dataoff: int, datasize: int) -> bytes:
     return struct.pack("<4I", LC_ATOM_INFO, ATOM_INFO_SIZE, dataoff, datasize)
+
+
+def dyld_info(start: int, sizes: Iterable[int]) -> bytes:
+    """The four streams, of these sizes, one after another, and no exports."""
+    fields = []
+    for size in sizes:
+        fields += [start, size]
+        start += size
+    return struct.pack("<12I", LC_DYLD_INFO_ONLY, DYLD_INFO_SIZE, *fields, 0, 0)
+
+
+def uleb(number: int) -> bytes:
+    content = bytearray()
+    while number >= 0x80:
+        content.append(number & 0x7F | 0x80)
+        number >>= 7
+    return bytes(content) + bytes([number])
 
 
 def unlisted(count: int) -> bytes:
@@ -439,6 +465,63 @@ def indirect(out: BinaryIO, count: int) -> str:
     return image(out, TEXT + tables, 3, [bytes(SYMBOL_SIZE * nsyms), entries * (count // nsyms)])
 
 
+def with_opcodes(out: BinaryIO, data_size: int, rebase: bytes = b"", bind: bytes = b"", weak: bytes = b"",
+                 lazy: bytes = b"", text_size: int = 0) -> str:
+    """An executable of three segments: the headers with a text, data, all of whose bytes are zero, and these streams.
+    It loads a library."""
+    start = HEADER_SIZE + 3 * SEGMENT_SIZE + 2 * SECTION_SIZE + LIBRARY_SIZE + DYLD_INFO_SIZE + MAIN_SIZE
+    place, streams = start + text_size, [rebase, bind, weak, lazy]
+    sizes = list(map(len, streams))
+    text = section(b"__text", BASE + start, text_size, start)
+    data = section(b"__data", FAR, data_size, place, segname=b"__DATA")
+    commands = segment(b"__TEXT", BASE, place, 0, place, text)
+    commands += segment(b"__DATA", FAR, data_size, place, data_size, data, VM_PROT_READ | VM_PROT_WRITE)
+    place += data_size
+    commands += segment(b"__LINKEDIT", 2 * FAR, sum(sizes), place, sum(sizes), initprot=VM_PROT_READ)
+    commands += library(0) + dyld_info(place, sizes)
+    return image(out, commands, 5, [*filler(text_size), bytes(data_size), *streams], accepted=True)
+
+
+# Each sets the type, and then the cursor to the first byte of the second segment. That of binds sets the library first.
+REBASE_FIRST, BIND_FIRST = b"\x11\x21\x00", b"\x11\x51\x71\x00"
+DONE = b"\0"
+
+
+def rebases(out: BinaryIO, count: int, by_one: bool) -> str:
+    opcodes = b"\x60" + uleb(count) if by_one else b"\x51" * count
+    return with_opcodes(out, POINTER_SIZE * count, rebase=REBASE_FIRST + opcodes + DONE)
+
+
+def bind_names(count: int) -> Iterator[bytes]:
+    """Opcodes that set names."""
+    return (b"\x40_symbol_%07d\0" % k for k in range(count))
+
+
+def binds(out: BinaryIO, count: int) -> str:
+    opcodes = b"".join(name + b"\x90" for name in bind_names(count))
+    return with_opcodes(out, POINTER_SIZE * count, bind=BIND_FIRST + opcodes + DONE)
+
+
+def moves(out: BinaryIO, mebibytes: int) -> str:
+    return with_opcodes(out, POINTER_SIZE, rebase=b"\x41" * (mebibytes * MIB))
+
+
+def long_moves(out: BinaryIO, mebibytes: int) -> str:
+    opcode = b"\x30" + uleb(0x4001)
+    return with_opcodes(out, POINTER_SIZE, rebase=opcode * (mebibytes * MIB // len(opcode)))
+
+
+def plain(out: BinaryIO, mebibytes: int) -> str:
+    """Of four pointers three are rebased, and the fourth of some is bound."""
+    fours = 250_000
+    rebase = REBASE_FIRST + b"\x53\x41" * fours + DONE
+    # Past the first three, and then from one fourth to the next.
+    bind = BIND_FIRST + b"\x80\x18" + b"".join(name + b"\xa0\x18" for name in bind_names(10_000)) + DONE
+    data_size = 4 * POINTER_SIZE * fours
+    text_size = mebibytes * MIB - data_size - len(rebase) - len(bind) - PAGE
+    return with_opcodes(out, data_size, rebase=rebase, bind=bind, text_size=text_size)
+
+
 # The commands of which a file has many.
 REPEATED = {"commands": unlisted, "libraries": libraries}
 
@@ -457,6 +540,10 @@ SIZED = {
     "endless": endless,
     "names": names,
     "symbols": accepted_symbols,
+    "binds": binds,
+    "opcodes": moves,
+    "numbers": long_moves,
+    "plain": plain,
 }
 
 
@@ -484,6 +571,8 @@ def maker(name: str) -> Callable[[BinaryIO], str]:
         return partial(gapped_sections, count=size, between=NOP if order == "nops" else 0)
     if kind == "encrypted":
         return partial(encrypted, count=size, order=order)
+    if kind == "rebases":
+        return partial(rebases, count=size, by_one=order == "one")
     return lambda out: SIZED[kind](out, size)
 
 
