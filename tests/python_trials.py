@@ -34,6 +34,8 @@ import images  # pylint: disable=wrong-import-position
 import kesvuot  # pylint: disable=wrong-import-position
 import oracle  # pylint: disable=wrong-import-position
 import oracle_trials  # pylint: disable=wrong-import-position
+import plain_dyld  # pylint: disable=wrong-import-position
+import table_mutants  # pylint: disable=wrong-import-position
 
 SHOWN = 20
 LC_LOAD_DYLINKER, LC_RPATH = 0xE, 0x8000_001C
@@ -759,6 +761,184 @@ def judge_walked_tables(report):
     report.case("a table is read once", image.commands is table, True)
 
 
+# Opcodes
+
+
+def with_streams(data_size=256, **streams):
+    """The first image of a file with these streams, in hexadecimal. It loads one library, and its segment 1 has the
+    data, at images.FAR."""
+    out = io.BytesIO()
+    images.with_opcodes(out, data_size, **{name: bytes.fromhex(words) for name, words in streams.items()})
+    return kesvuot.verify(out.getvalue()).images[0]
+
+
+def judge_slots(report):
+    """An opcode of each kind, by hand."""
+    rebase = "11 2108 52 3008 41 6002 7010 800208 51 00"
+    report.case("rebases, by hand", [(it.address - images.FAR, it.segment, it.kind)
+                                     for it in with_streams(rebase=rebase).rebases()],
+                [(offset, 1, 1) for offset in (8, 16, 40, 48, 56, 80, 96, 112)])
+    bind = "11 405f6100 51 7108 90 607e a008 b1 2000 3e 495f6200 c00208 80f8ffffffffffffffff01 90 00"
+    wanted = [(8, b"_a", 1, 0, 0), (16, b"_a", 1, -2, 0), (32, b"_a", 1, -2, 0), (48, b"_b", -2, -2, 9),
+              (64, b"_b", -2, -2, 9), (72, b"_b", -2, -2, 9)]
+    report.case("binds, by hand", slots_of(with_streams(bind=bind).binds()), wanted)
+    report.case("the same as weak binds", slots_of(with_streams(weak=bind).weak_binds()), wanted)
+    lazy = "7110 11 6005 425f6100 90 00 7118 405f6300 51 90 00 00"
+    report.case("lazy binds, by hand", [(it.address - images.FAR, *it[1:3], it.name.tobytes(), *it[4:])
+                                        for it in with_streams(lazy=lazy).lazy_binds()],
+                [(16, 1, 0, b"_a", 1, 5, 2), (24, 1, 1, b"_c", 0, 0, 0)])
+    report.case("what is shown of a bind", str(next(with_streams(lazy=lazy).lazy_binds())),
+                f"Bind(address={images.FAR + 16}, segment=1, kind=0, name=b'_a', ordinal=1, addend=5, flags=2)")
+    report.case("an image without opcodes", [list(slots()) for slots in slots_of_all(with_streams())], [[], [], [], []])
+
+
+def slots_of(binds):
+    return [(it.address - images.FAR, it.name.tobytes(), it.ordinal, it.addend, it.flags) for it in binds]
+
+
+def slots_of_all(image):
+    return image.rebases, image.binds, image.weak_binds, image.lazy_binds
+
+
+def fault_of(slots):
+    """How many slots are found, and what ends them."""
+    count = 0
+    try:
+        for _ in slots():
+            count += 1
+    except kesvuot.OpcodeError as error:
+        return count, str(error)
+    return count, "all"
+
+
+def judge_bad_opcodes(report):
+    """Each opcode that cannot be followed, by hand: its place is that in the stream."""
+    most = "ff" * 9 + "01"
+    for name, words, count, reason, place in (
+            ("an opcode", "11 90", 0, "the opcode is not known", 1),
+            ("no segment", "51", 0, "no segment is set", 0),
+            ("a segment", "2300 51", 0, "the segment is not there", 2),
+            ("the last slot", "21f801 51 51", 1, "a slot is not in the file bytes of the segment", 4),
+            ("a part of a slot", "21f901 51", 0, "a slot is not in the file bytes of the segment", 3),
+            ("the last of many slots", "2100 6021", 0, "a slot is not in the file bytes of the segment", 2),
+            ("one slot again and again", f"2100 80{most}f8{most[2:]}", 0,
+             "a slot is not in the file bytes of the segment", 2),
+            ("a number at the end", "3080", 0, "a number does not end", 0),
+            ("a number of eleven bytes", f"30{'80' * 10}00", 0, "a number does not end", 0),
+            ("a number of 65 bits", f"30{'80' * 9}02", 0, "a number is 2^64 or more", 0)):
+        check_fault(report, name, with_streams(rebase=words).rebases, count, reason, place)
+    for name, words, count, reason, place in (
+            ("an opcode of a bind", "11 d0", 0, "the opcode is not known", 1),
+            ("no name", "7100 90", 0, "no name is set", 2),
+            ("a name", "7100 405f61", 0, "a name does not end", 2),
+            ("a library", "12", 0, "the library is not there", 0),
+            ("a library by a number", "11 2002", 0, "the library is not there", 1),
+            ("a special library", "3d 3c", 0, "the library is not there", 1),
+            ("an addend", f"60{'ff' * 9}01", 0, "a number is not of 64 bits", 0),
+            ("a slot of a bind", "405f6100 7100 90 c00120 71f801 a000 90", 3,
+             "a slot is not in the file bytes of the segment", 15)):
+        check_fault(report, name, with_streams(bind=words).binds, count, reason, place)
+    check_fault(report, "a name after DONE", with_streams(lazy="405f6100 7100 90 00 7108 90").lazy_binds, 1,
+                "no name is set", 10)
+    refused = kesvuot.OpcodeError("why", 0x1F)
+    again = pickle.loads(pickle.dumps(refused))
+    report.case("a fault from another process", (type(again), again.reason, again.place, str(again)),
+                (kesvuot.OpcodeError, "why", 0x1F, "why at 0x1f"))
+
+
+def check_fault(report, name, slots, count, reason, place):
+    """The first command of LC_DYLD_INFO_ONLY has the starts of all streams. One of them has bytes."""
+    info = next(it for it in slots.__self__.commands if it.cmd == images.LC_DYLD_INFO_ONLY)
+    start = struct.unpack_from("<I", info.bytes, 8)[0]
+    wanted = count, f"{reason} at {start + place:#x}"
+    report.case(f"an opcode that cannot be followed: {name}", fault_of(slots), wanted)
+
+
+def with_data(count):
+    """An image of so many segments between that of the headers and __LINKEDIT, each of one pointer. An opcode rebases
+    the first slot of segment 15."""
+    opcodes = bytes.fromhex("2f00 51 00")
+    start = images.HEADER_SIZE + images.SEGMENT_SIZE * (count + 2) + images.DYLD_INFO_SIZE + images.MAIN_SIZE
+    end = start + images.POINTER_SIZE * count
+    commands = images.segment(b"__TEXT", images.BASE, start, 0, start)
+    for number in range(count):
+        commands += images.segment(b"__DATA", images.FAR + images.PAGE * number, images.PAGE,
+                                   start + images.POINTER_SIZE * number, images.POINTER_SIZE)
+    commands += images.segment(b"__LINKEDIT", 2 * images.FAR, images.PAGE, end, len(opcodes))
+    commands += images.dyld_info(end, [len(opcodes), 0, 0, 0])
+    out = io.BytesIO()
+    images.image(out, commands, count + 3, [bytes(end - start), opcodes], accepted=True)
+    return kesvuot.verify(out.getvalue()).images[0]
+
+
+def judge_last_segment(report):
+    """An opcode can name 16 segments: the last one of these is not there, is __LINKEDIT, or has a pointer."""
+    faults = [fault_of(with_data(count).rebases)[1].split(" at ")[0] for count in (13, 14, 15)]
+    report.case("a slot in segment 15", faults,
+                ["the segment is not there", "a slot is not in the file bytes of the segment", "all"])
+    report.case("its address", [it.address - images.FAR for it in with_data(15).rebases()], [14 * images.PAGE])
+
+
+def judge_much(report):
+    """There are no more slots than the file has pointers, and no more memory is taken than for the opcodes."""
+    data_size, again = 64, 200
+    image = with_streams(data_size, rebase="2100 58" * again)
+    count, said = fault_of(image.rebases)
+    report.case("slots without end", (count <= len(image.bytes) // 8 < 8 * again, said.split(" at ")[0]),
+                (True, "there are more slots than pointers in the file"))
+    image = kesvuot.verify(made("binds-100000")).images[0]
+    report.case("the first of many binds", slots_of([next(image.binds())]), [(0, b"_symbol_0000000", 1, 0, 0)])
+    tracemalloc.start()
+    report.case("many binds", sum(1 for _ in image.binds()), 100_000)
+    report.case("the memory for many binds", tracemalloc.get_traced_memory()[1] < 19 * 100_000 + 100_000, True)
+    tracemalloc.stop()
+
+
+def judge_streams(report):
+    """Of the vectors and of mutants of these and of the real files: a file that the linked profile accepts has the
+    slots that the plain dyld writes. Of another the slots are given up to an opcode that cannot be followed."""
+    vectors = [(vector.name, vector.data) for vector in images.read_vectors(oracle_trials.LINKED)]
+    twice = [data for name, data in vectors if name == "two rebase streams"]
+    report.case("a second command with opcodes", [fault_of(kesvuot.verify(data).images[0].rebases) for data in twice],
+                [(0, "a second command names opcodes at 0x128")] * 3)
+    compare_streams(report, "vectors", vectors, 280)
+    seeds = [data for _, data in vectors if table_mutants.streams(data)] + [it[1] for it in oracle_trials.read_real()]
+    compare_streams(report, "mutants", [(f"mutant {number}", mutant_of(seeds, number)) for number in range(4000)], 200)
+
+
+def mutant_of(seeds, number):
+    rng = random.Random(f"opcodes {number}")
+    data = rng.choice(seeds)
+    for _ in range(rng.choice((1, 1, 2, 3))):
+        data = table_mutants.change(rng, data)
+    return data
+
+
+def compare_streams(report, name, files, least):
+    """At least so many of the files are accepted by the linked profile."""
+    judged = [(which, data, verdict(data, "linked") == "accepted") for which, data in files
+              if verdict(data) == "accepted"]
+    report.case(f"{name} with good opcodes", sum(is_good for *_, is_good in judged) >= least, True)
+    report.alike(f"the slots of {name}, and the plain dyld", "files", (
+        (which, list(given_slots(data)), list(dyld_slots(data))) for which, data, is_good in judged if is_good))
+    report.case(f"{name} with more slots than pointers", [
+        which for which, data, _ in judged for image in kesvuot.verify(data).images for slots in slots_of_all(image)
+        if fault_of(slots)[0] > len(data) // 8], [])
+
+
+def given_slots(data):
+    for image in kesvuot.verify(data).images:
+        yield from ((it.address, None, None, None, None) for it in image.rebases())
+        for slots in (image.binds, image.weak_binds, image.lazy_binds):
+            yield from ((it.address, it.ordinal, it.name.tobytes(), it.addend, it.flags) for it in slots())
+
+
+def dyld_slots(data):
+    for image in oracle.File(data).slices:
+        if image.is_64_bit:
+            yield from (tuple(write)[1:] for write in plain_dyld.load(image))
+
+
 def judge_threads(report):
     """While a call runs, no other thread of Python does. This one gives way only where it sleeps. The calls take long
     enough for another one to begin."""
@@ -813,6 +993,8 @@ def read_all(image):
     list(all_parts(SimpleNamespace(data=image.bytes, images=[image])))
     for rows in (image.builds, image.indirects, image.local_symbols, image.defined_symbols, image.undefined_symbols):
         list(rows)
+    for slots in slots_of_all(image):
+        fault_of(slots)
 
 
 def judge_memory(report):
@@ -859,6 +1041,11 @@ def main(words):
     judge_texts_of_rows(report, program)
     judge_tables(report)
     judge_walked_tables(report)
+    judge_slots(report)
+    judge_bad_opcodes(report)
+    judge_last_segment(report)
+    judge_much(report)
+    judge_streams(report)
     judge_threads(report)
     judge_changes(report, program)
     judge_memory(report)

@@ -6,11 +6,12 @@ import ctypes
 import enum
 import operator
 from functools import cached_property
-from typing import Any, NamedTuple, Optional, SupportsIndex, Tuple
+from typing import Any, Iterator, NamedTuple, Optional, SupportsIndex, Tuple
 from uuid import UUID
 
-from . import _library, _rows
+from . import _library, _opcodes, _rows
 from ._library import CHANGED, IMAGE, SPAN, TEXT, VERDICT, Bytes, Data, address_of, load
+from ._opcodes import Bind, Rebase
 from ._rows import Build, Command, Library, Reader, Section, Segment, Symbol, Table, WalkedReader
 
 # Room for the layout of most files. A longer one takes a second call.
@@ -211,6 +212,26 @@ class Image(Slice):
             return None
         status, data = self._span(load().kesvuot_find_data, number)
         return data if status == _library.OK else None
+
+    def rebases(self) -> Iterator[Rebase]:
+        """The pointers to which a dynamic loader adds the slide: the slots of the rebase opcodes of LC_DYLD_INFO or
+        LC_DYLD_INFO_ONLY, in their order. Those of chained fixups are not among them. Each call follows the opcodes
+        anew, as far as the iterator is asked. It raises OpcodeError at an opcode that cannot be followed: then
+        `verify_linked` refuses the file."""
+        return _opcodes.rebases(self._data, self)
+
+    def binds(self) -> Iterator[Bind]:
+        """The same for the bind opcodes: the pointers where a loader stores the address of a symbol."""
+        return _opcodes.binds(self._data, self, _opcodes.BIND)
+
+    def weak_binds(self) -> Iterator[Bind]:
+        """The same for the weak bind opcodes, whose symbols several images may define. A symbol that is named there but
+        bound nowhere, such as a strong definition, is not among them."""
+        return _opcodes.binds(self._data, self, _opcodes.WEAK_BIND)
+
+    def lazy_binds(self) -> Iterator[Bind]:
+        """The same for the lazy bind opcodes: the pointers that are bound when they are first called."""
+        return _opcodes.binds(self._data, self, _opcodes.LAZY_BIND)
 
     def at(self, address: SupportsIndex) -> Source:
         """What is at an address. Each call rescans the load commands: for many addresses, look them up in
