@@ -1,13 +1,13 @@
 #!/usr/bin/env python3
 """A second verifier of the layout of Mach-O files. It was written from docs/RULES.md, and from docs/COMMAND.md for what is
 printed. It reads the filetypes and the listed commands in the tables of docs/RULES.md. Nothing was taken from the
-sources of the first one. tests/oracle compares the two. It also judges the rules of docs/LINKED.md, which no program
-judges yet; tests/dyld tests that.
+sources of the first one. tests/oracle compares the two. It also judges the rules of docs/LINKED.md, as macho-linked
+does; tests/dyld loads what it accepts.
 
     tests/oracle.py FILE                        prints what `macho-check check FILE` prints, and ends with its status
     tests/oracle.py where FILE SLICE ADDRESS    the same of `macho-check where FILE SLICE ADDRESS`
     tests/oracle.py --strict FILE               the same of `macho-strict check FILE`
-    tests/oracle.py --linked FILE               prints the same by the linked profile as well
+    tests/oracle.py --linked FILE               the same of `macho-linked check FILE`
 
 It is written to be read beside docs/RULES.md, and has the same order. A rule is a function with its name. It yields
 each place at which the rule is broken. `first_broken` takes the rules one after the other, and of the first one that
@@ -1129,7 +1129,7 @@ def answer(words):
         return 2, "", "macho-check: bad number\n"
     path = words[0] if len(words) == 1 else words[1]
     profile = words[0].replace("--", "") if is_further else "layout"
-    program = {"layout": "macho-check", "strict": "macho-strict", "linked": "oracle.py"}[profile]
+    program = {"layout": "macho-check", "strict": "macho-strict", "linked": "macho-linked"}[profile]
     try:
         with sys.stdin.buffer if path == "-" else open(path, "rb") as stream:
             data = stream.read()
