@@ -1,5 +1,5 @@
 -- Where the last command of an image ends.
-use Rattle.std.proofs.Common.{◌≡◌, ◌≢◌, ℕ, ◌+◌, ◌≤◌, List, [], ◌∷◌, map, refl, sym, ap, ◌∙◌, subst, arith}
+use Rattle.std.proofs.Common.{◌≡◌, ◌≢◌, ℕ, ◌+◌, List, [], ◌∷◌, map, refl, sym, ap, ◌∙◌, subst, arith}
 use Rattle.macho_fields.specs.Image.{command_size, commands_of, commands_end, Follow, IsChain, AreCommands}
 use Rattle.macho_image.specs.Command.{CommandView, command_at}
 use Rattle.macho_strict.specs.Rules.{BreaksImage}
@@ -16,29 +16,22 @@ all_left image left are = record { places = commands_of image; are = are; chain 
 
 module _ (image : List ℕ) (end : ℕ) (left : List CommandView) (are : AreLeft image end left) where
   module _ (x : CommandView) (rest : List CommandView) (is : left ≡ x ∷ rest) where
-    first : (places : List ℕ) → left ≡ map (command_at image) places → ((next : ℕ) → IsChain image (commands_of image) next → Follow image end places next)
-        → AreLeft image (x.place + x.size) rest × ((next : ℕ) → IsChain image (commands_of image) next → x.place + x.size ≤ commands_end image)
-    first [] none chain = cc
-    first (p ∷ ps) same chain =
+    after : (places : List ℕ) → left ≡ map (command_at image) places → ((next : ℕ) → IsChain image (commands_of image) next → Follow image end places next) → AreLeft image (x.place + x.size) rest
+    after [] none chain = cc
+    after (p ∷ ps) same chain =
         let here : command_at image p ≡ x = cc in
         let later : rest ≡ map (command_at image) ps = cc in
         let place : p ≡ x.place = ap (λ (c : CommandView). c.place) here in
-        let size : command_size image p ≡ x.size = ap (λ (c : CommandView). c.size) here in (
-          record {
-            places = ps;
-            are = later;
-            chain = λ next all. subst (λ n. Follow image n ps next) (let e : p + command_size image p ≡ x.place + x.size = omega (arith, place, size) in e) (chain next all).2;
-          },
-          λ next all. let inside = (chain next all).1.inside in omega (arith, place, size),
-        )
+        let size : command_size image p ≡ x.size = ap (λ (c : CommandView). c.size) here in
+        record {
+          places = ps;
+          are = later;
+          chain = λ next all. subst (λ n. Follow image n ps next) (let e : p + command_size image p ≡ x.place + x.size = omega (arith, place, size) in e) (chain next all).2;
+        }
 
     -- one command less
     pub left_after : AreLeft image (x.place + x.size) rest
-    left_after = (first are.places are.are are.chain).0
-
-    -- which ends within the bytes of the commands
-    pub left_inside : AreCommands image (commands_of image) → x.place + x.size ≤ commands_end image
-    left_inside (count, next, chain) = (first are.places are.are are.chain).1 next chain
+    left_after = after are.places are.are are.chain
 
   -- where none is left, all commands end there
   pub ends : left ≡ [] → AreCommands image (commands_of image) → IsChain image (commands_of image) end
