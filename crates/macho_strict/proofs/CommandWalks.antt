@@ -16,7 +16,7 @@ use Rattle.macho_rules.proofs.Searches.{Searching, search_next, none_left}
 use Rattle.macho_strict.specs.Claims.{AreNoted}
 use Rattle.macho_strict.specs.Commands.{NotesOne, IsNotedOf}
 use Rattle.macho_strict.specs.Elements.{headers, command_elements, elements_of}
-use Rattle.macho_strict.specs.ElementWalk.{commands_left, all_of}
+use Rattle.macho_strict.specs.ElementWalk.{elements_left}
 use Rattle.macho_strict.specs.Encrypted.{IsEncrypted}
 use Rattle.macho_strict.specs.Rules.{BreaksImage}
 use Rattle.macho_strict.specs.Slack.{IsNonZeroSlack}
@@ -25,14 +25,14 @@ use Rattle.macho_strict.specs.declared.claims.Noted.{Noted}
 use Rattle.macho_strict.specs.declared.commands.NotedCommands.{NotedCommands}
 use Rattle.macho_strict.specs.declared.elements.Element.{Element}
 use Rattle.macho_strict.proofs.CommandsEnd.{AreLeft, all_left, left_after, ends}
-use Rattle.macho_strict.proofs.ElementWalks.{all_begun, all_described, commands_of_image}
+use Rattle.macho_strict.proofs.ElementWalks.{elements_begun, commands_of_image}
 use Rattle.macho_strict.proofs.Encryptions.{commands_search, some_encrypted, of_encrypted}
 use Rattle.macho_strict.proofs.Slacks.{HasSlack, slack_search, slack_found, slack_ended}
 
 -- the elements that were passed, and that they are noted
 pub record AreSeen (image : List ℕ) (left : List CommandView) (noted : Noted) : Type 0 where
   pub seen : List Element
-  pub all : seen ++ all_of (commands_left image left) ≡ elements_of image
+  pub all : seen ++ elements_left image left ≡ elements_of image
   pub are : AreNoted image seen noted
 
 -- what is noted of an image's commands, of which these are left
@@ -55,7 +55,7 @@ module _ (image : List ℕ) (opened : IsOpened image) (all : List CommandView) (
     search = λ not. commands_search image all opened are (IsEncrypted image);
     elements = record {
       seen = headers image ∷ [];
-      all = ap (λ lists. headers image ∷ all_of lists) (all_begun image all are) ∙ all_described image;
+      all = elements_begun image all are;
       are = elements;
     };
   }
@@ -78,7 +78,7 @@ module _ (image : List ℕ) (opened : IsOpened image) (all : List CommandView) (
       seen_more : AreSeen image left old.elements → AreSeen image rest new.elements
       seen_more before = record {
         seen = before.seen ++ command_elements image x.place;
-        all = append_assoc before.seen (command_elements image x.place) (all_of (commands_left image rest)) ∙ (ap (λ more. before.seen ++ all_of (commands_left image more)) (sym is) ∙ before.all);
+        all = append_assoc before.seen (command_elements image x.place) (elements_left image rest) ∙ (ap (λ more. before.seen ++ elements_left image more) (sym is) ∙ before.all);
         are = one.elements before.seen before.are;
       }
 
@@ -108,7 +108,7 @@ module _ (image : List ℕ) (opened : IsOpened image) (all : List CommandView) (
     elements_all : AreSeen image left noted.elements → AreNoted image (elements_of image) noted.elements
     elements_all seen =
         subst (λ (es : List Element). AreNoted image es noted.elements)
-        (sym (append-nil seen.seen) ∙ (ap (λ more. seen.seen ++ all_of (commands_left image more)) (sym is) ∙ seen.all)) seen.are
+        (sym (append-nil seen.seen) ∙ (ap (λ more. seen.seen ++ elements_left image more) (sym is) ∙ seen.all)) seen.are
 
     -- all were passed
     pub all_noted : IsNotedOf image noted

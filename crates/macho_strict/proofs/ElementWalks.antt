@@ -6,6 +6,7 @@ use Rattle.std.specs.Option.{option_map, option_map_or}
 use Rattle.std.proofs.Math.Nat.{mul-le-mul_right}
 use Rattle.std.proofs.lemmas.Bool.{cases_Bool, ltb-true, ltb-false, eqb-true}
 use Rattle.std.proofs.lemmas.List.{append-nil, append_assoc}
+use Rattle.std.proofs.lemmas.Option.{none-some, same_Some}
 use Rattle.std.proofs.lemmas.List.Elements.{All-nil, All-map, All-contains_itself}
 use Rattle.std.proofs.lemmas.List.Folds.{flat_map-map}
 use Rattle.std.proofs.lemmas.List.Sums.{AllPass-from_list_all}
@@ -20,10 +21,10 @@ use Rattle.macho_fields.proofs.LoadCommands.{unlisted_each, unlisted_inside}
 use Rattle.macho_fields.proofs.Opened.{command_inside, table_fields_inside}
 use Rattle.macho_image.specs.Command.{CommandView, command_at}
 use Rattle.macho_image.specs.Opened.{IsOpened, IsCommandOf}
-use Rattle.macho_image.specs.Segment.{SectionView, segment_at, section_at, sections_with, segment_of}
+use Rattle.macho_image.specs.Segment.{SectionView, SegmentView, segment_at, section_at, sections_with, segment_of}
 use Rattle.macho_rules.proofs.Judged.{opened_facts, opened_commands}
-use Rattle.macho_strict.specs.Elements.{headers, section_elements, described_tables, command_elements, elements_of}
-use Rattle.macho_strict.specs.ElementWalk.{tables_left, sections_left, commands_left, described_left, all_commands, all_of, HoldsTable}
+use Rattle.macho_strict.specs.Elements.{contents, relocations, headers, section_elements, described_tables, command_elements, elements_of}
+use Rattle.macho_strict.specs.ElementWalk.{tables_left, sections_left, elements_left, described_left, HoldsTable}
 use Rattle.macho_strict.specs.declared.elements.Element.{Element}
 
 -- Tables
@@ -83,6 +84,17 @@ sections_same image segment =
     flat_map-map (λ (s : SectionView). section_elements s.image s.place) (section_at image) (sections_with image segment)
     ∙ flat_map-map (λ (pair : ℕ × ℕ). section_elements image pair.1) (λ section. (segment, section)) (sections_in image segment)
 
+-- one section more
+left_more : (seen : List SectionView) (s : SectionView) → sections_left (seen ++ s ∷ []) ≡ sections_left seen ++ section_elements s.image s.place
+left_more [] s = refl
+left_more (x ∷ xs) s = ap (λ rest. contents x.image x.place ∷ relocations x.image x.place ∷ rest) (left_more xs s)
+
+pub sections_more : (elements : List Element) (seen : List SectionView) (s : SectionView)
+    → ((elements ++ sections_left seen) ++ contents s.image s.place ∷ []) ++ relocations s.image s.place ∷ [] ≡ elements ++ sections_left (seen ++ s ∷ [])
+sections_more elements seen s =
+    append_assoc (elements ++ sections_left seen) (contents s.image s.place ∷ []) (relocations s.image s.place ∷ [])
+    ∙ (append_assoc elements (sections_left seen) (section_elements s.image s.place) ∙ ap (λ rest. elements ++ rest) (sym (left_more seen s)))
+
 -- Commands
 
 -- what a command describes that is no segment
@@ -91,6 +103,9 @@ pub other_elements : (image : List ℕ) (command : ℕ) → (command_cmd image c
 other_elements image command not_segment = rw not_segment refl
 
 -- what a segment describes
+of_segment : (image : List ℕ) (command : ℕ) → (command_cmd image command == loader.LC_SEGMENT_64) ≡ true → command_elements image command ≡ flat_map (section_elements image) (sections_in image command)
+of_segment image command is = rw is refl
+
 pub segment_elements : (image : List ℕ) (command : ℕ) → (command_cmd image command == loader.LC_SEGMENT_64) ≡ true
     → command_elements image command
     ≡ sections_left (map (section_at image) (sections_with image command)) ++ tables_left image command (described_tables (command_cmd image command) (command_size image command))
@@ -111,26 +126,43 @@ module _ (image : List ℕ) (c : CommandView) (of : IsCommandOf image c) where
   pub described_hold : All (HoldsTable image c.place) (described_tables c.cmd c.size)
   described_hold = tables_hold image of.opened c.place of.listed c.cmd c.size has_cmd has_size
 
-  -- what it describes, as a segment or as another command
-  pub as_described : (sections : Option (List SectionView)) (tables : List TableFields) → sections ≡ option_map (λ s. map (section_at s.image) (sections_with s.image s.place)) (segment_of image c)
-      → tables ≡ described_tables c.cmd c.size → described_left None sections (tables_left image c.place tables) ≡ command_elements image c.place
+  tables_same : described_tables c.cmd c.size ≡ described_tables (command_cmd image c.place) (command_size image c.place)
+  tables_same = ap₂ described_tables has_cmd has_size
+
+  is_segment : (c.cmd == loader.LC_SEGMENT_64) ≡ true → segment_of image c ≡ Some (segment_at image c.place)
+  is_segment t = rw t refl
+
+  is_other : (c.cmd == loader.LC_SEGMENT_64) ≡ false → segment_of image c ≡ None
+  is_other f = rw f refl
+
+  -- what it describes as a segment
+  pub segment_described : (s : SegmentView) → segment_of image c ≡ Some s → sections_left (map (section_at s.image) (sections_with s.image s.place)) ≡ command_elements image c.place
+  segment_described s is = elim (cases_Bool (c.cmd == loader.LC_SEGMENT_64)) [
+    | inl t ↦
+        let here : segment_at image c.place ≡ s = same_Some (segment_at image c.place) s (sym (is_segment t) ∙ is) in
+        ap (λ (v : SegmentView). sections_left (map (section_at v.image) (sections_with v.image v.place))) (sym here)
+        ∙ (sections_same image c.place ∙ sym (of_segment image c.place (subst (λ cmd. (cmd == loader.LC_SEGMENT_64) ≡ true) has_cmd t)))
+    | inr f ↦ absurd (none-some s (sym (is_other f) ∙ is))
+  ]
+
+  -- and as another command
+  pub other_described : segment_of image c ≡ None → tables_left image c.place (described_tables c.cmd c.size) ≡ command_elements image c.place
+  other_described is = elim (cases_Bool (c.cmd == loader.LC_SEGMENT_64)) [
+    | inl t ↦ absurd (none-some (segment_at image c.place) (sym is ∙ is_segment t))
+    | inr f ↦ ap (tables_left image c.place) tables_same ∙ sym (other_elements image c.place (subst (λ cmd. (cmd == loader.LC_SEGMENT_64) ≡ false) has_cmd f))
+  ]
+
+  -- as either
+  pub as_described : (sections : Option (List SectionView)) (tables : List Element) → sections ≡ option_map (λ s. map (section_at s.image) (sections_with s.image s.place)) (segment_of image c)
+      → tables ≡ tables_left image c.place (described_tables c.cmd c.size) → described_left None sections tables ≡ command_elements image c.place
   as_described sections tables have are = elim (cases_Bool (c.cmd == loader.LC_SEGMENT_64)) [
     | inl t ↦
-        ap₂ (λ ss ts. described_left None ss (tables_left image c.place ts)) (have ∙ ap (option_map (λ s. map (section_at s.image) (sections_with s.image s.place))) (is_segment t)) (are ∙ tables_same)
+        ap₂ (described_left None) (have ∙ ap (option_map (λ s. map (section_at s.image) (sections_with s.image s.place))) (is_segment t)) (are ∙ ap (tables_left image c.place) tables_same)
         ∙ sym (segment_elements image c.place (subst (λ cmd. (cmd == loader.LC_SEGMENT_64) ≡ true) has_cmd t))
     | inr f ↦
-        ap₂ (λ ss ts. described_left None ss (tables_left image c.place ts)) (have ∙ ap (option_map (λ s. map (section_at s.image) (sections_with s.image s.place))) (is_other f)) (are ∙ tables_same)
+        ap₂ (described_left None) (have ∙ ap (option_map (λ s. map (section_at s.image) (sections_with s.image s.place))) (is_other f)) (are ∙ ap (tables_left image c.place) tables_same)
         ∙ sym (other_elements image c.place (subst (λ cmd. (cmd == loader.LC_SEGMENT_64) ≡ false) has_cmd f))
   ]
-    where
-      tables_same : described_tables c.cmd c.size ≡ described_tables (command_cmd image c.place) (command_size image c.place)
-      tables_same = ap₂ described_tables has_cmd has_size
-
-      is_segment : (c.cmd == loader.LC_SEGMENT_64) ≡ true → segment_of image c ≡ Some (segment_at image c.place)
-      is_segment t = rw t refl
-
-      is_other : (c.cmd == loader.LC_SEGMENT_64) ≡ false → segment_of image c ≡ None
-      is_other f = rw f refl
 
 -- The walk begins
 
@@ -139,17 +171,7 @@ commands_of_image image commands opened all =
     subst (All (IsCommandOf image)) (sym all)
     (All-map (IsCommandOf image) (command_at image) (commands_of image) (λ k d less. record { opened = opened; listed = All-contains_itself (commands_of image) k d less; same = refl }))
 
-pub all_begun : (image : List ℕ) (commands : List CommandView) → commands ≡ map (command_at image) (commands_of image) → commands_left image commands ≡ all_commands image
-all_begun image commands all = ap (commands_left image) all ∙ mapped (commands_of image)
-  where
-    mapped : (places : List ℕ) → commands_left image (map (command_at image) places) ≡ map (command_elements image) places
-    mapped [] = refl
-    mapped (p ∷ ps) = ap (λ rest. command_elements image p ∷ rest) (mapped ps)
-
-pub all_described : (image : List ℕ) → headers image ∷ all_of (all_commands image) ≡ elements_of image
-all_described image = ap (λ rest. headers image ∷ rest) (flat_map-map (λ (list : List Element). list) (command_elements image) (commands_of image))
-
--- what one command more describes
-pub all_more : (lists : List (List Element)) (list : List Element) → all_of (lists ++ list ∷ []) ≡ all_of lists ++ list
-all_more [] list = append-nil list
-all_more (l ∷ ls) list = ap (λ rest. l ++ rest) (all_more ls list) ∙ sym (append_assoc l (all_of ls) list)
+pub elements_begun : (image : List ℕ) (commands : List CommandView) → commands ≡ map (command_at image) (commands_of image) → headers image ∷ elements_left image commands ≡ elements_of image
+elements_begun image commands all =
+    ap (λ left. headers image ∷ elements_left image left) all
+    ∙ ap (λ rest. headers image ∷ rest) (flat_map-map (λ (c : CommandView). command_elements image c.place) (command_at image) (commands_of image))

@@ -1,19 +1,24 @@
 -- Those spans of a list that have a place.
-use Rattle.std.proofs.Common.{◌≡◌, ℕ, suc, zero, ◌<◌, Bool, List, [], ◌∷◌, ◌++◌, length, map, Option, ap, ◌∙◌, subst, arith, inl, inr, refl}
+use Rattle.std.proofs.Common.{◌≡◌, ℕ, suc, zero, ◌<◌, ◌≤◌, max, min, Bool, true, false, All, List, [], ◌∷◌, ◌++◌, length, map, get_or, Option, sym, ap, ap₂, ◌∙◌, subst, arith, inl, inr, refl}
+use Rattle.std.specs.List.{AllPairs, IsDistinct}
+use Rattle.std.specs.List.Sorted.{IsNonDecreasingBy}
 use Rattle.std.specs.Prelude.{nat_lt, IsPermutation}
 use Rattle.std.proofs.lemmas.Bool.{cases_Bool, ltb-true, ltb-false}
-use Rattle.std.proofs.lemmas.List.{append-nil, map_push}
-use Rattle.std.proofs.lemmas.List.Elements.{filter-append}
-use Rattle.std.proofs.lemmas.List.Sorted.{IsPermutation-sym, Contains-permutation}
+use Rattle.std.proofs.lemmas.List.{append-nil, get_or_default, map_push}
+use Rattle.std.proofs.lemmas.List.Elements.{Contains-append_left, Contains-append_right, filter-append, filter_passes}
+use Rattle.std.proofs.lemmas.List.Kept.{AllPairs-filter}
+use Rattle.std.proofs.lemmas.List.Sorted.{All-permutation, IsPermutation-sym, Contains-permutation}
+use Rattle.std.proofs.lemmas.Map.Keys.{IsDistinct-IsPermutation, IsDistinct-from_apart, apart_from_distinct}
 use Rattle.macho_rules.proofs.Searches.{unfiltered}
 use Rattle.macho_fields.specs.FirstPlace.{IsLeastPlace}
-use Rattle.macho_spans.specs.Overlap.{span_at, SharesEarlier}
+use Rattle.macho_spans.specs.Overlap.{span_at, IsAscending, SharesEarlier}
+use Rattle.macho_spans.specs.Span.{end_of}
 use Rattle.macho_spans.specs.declared.span.Span.{Span}
 use Rattle.macho_strict.specs.Claims.{occupied, CoverSame}
-use Rattle.macho_strict.specs.Gaps.{IsStray}
+use Rattle.macho_strict.specs.Gaps.{IsFree, IsStray}
 use Rattle.macho_strict.specs.declared.elements.Element.{Element}
 use Rattle.macho_strict.specs.declared.gaps.Wanted.{Wanted}
-use Rattle.macho_strict.proofs.Passed.{among, free_among, least_same}
+use Rattle.macho_strict.proofs.Passed.{no_span, among, free_among, free_joined, least_same}
 
 abbrev has_place : Span → Bool
 has_place span = nat_lt 0 span.len
@@ -53,6 +58,75 @@ none_shares spans none j (less, (i, before, shares)) =
     let (k, m, under, within, same, other) = pair_down spans i j before less (omega (arith, shares)) (omega (arith, shares)) in
     none m (within, (k, under, rw (same, other) shares))
 
+-- where those that have a place ascend, so do they without the others
+abbrev IsBefore : Span → Span → Type 0
+IsBefore a b = 0 < a.len → 0 < b.len → end_of a ≤ b.start
+
+ascending_occupied : (spans : List Span) → IsAscending spans → IsAscending (occupied spans)
+ascending_occupied spans up i j less filled_i filled_j = AllPairs-filter IsBefore has_place spans pairs i j no_span less (among (occupied spans) j filled_j) filled_i filled_j
+  where
+    pairs : AllPairs IsBefore spans
+    pairs a b d before within filled_a filled_b =
+        let same_a = get_or_default spans a d no_span (omega arith) in
+        let same_b = get_or_default spans b d no_span within in
+        let here = up a b before (omega (arith, ap (λ (s : Span). s.len) same_a, filled_a)) (omega (arith, ap (λ (s : Span). s.len) same_b, filled_b)) in
+        omega (arith, here, ap end_of same_a, ap (λ (s : Span). s.start) same_b)
+
+-- Those of them in another order
+
+-- a test of whether two spans that have a place share one
+abbrev share : Span → Span → Bool
+share a b = nat_lt (max a.start b.start) (min (end_of a) (end_of b))
+
+share_flips : (a b : Span) → share a b ≡ share b a
+share_flips a b =
+    let starts : max a.start b.start ≡ max b.start a.start = omega arith in
+    let ends : min (end_of a) (end_of b) ≡ min (end_of b) (end_of a) = omega arith in
+    ap₂ nat_lt starts ends
+
+share_none : (a b : Span) → end_of a ≤ b.start → share a b ≡ false
+share_none a b before = elim (cases_Bool (share a b)) [
+  | inl t ↦ let some = ltb-true (max a.start b.start) (min (end_of a) (end_of b)) t in absurd (omega (arith, some))
+  | inr f ↦ f
+]
+
+abbrev AreFilled : List Span → Type 0
+AreFilled spans = All (λ span. has_place span ≡ true) spans
+
+distinct_ascending : (spans : List Span) → AreFilled spans → IsAscending spans → IsDistinct share spans
+distinct_ascending spans filled up = IsDistinct-from_apart share spans apart
+  where
+    apart : (i j : ℕ) (d : Span) → i < j → j < length spans → share (get_or spans i d) (get_or spans j d) ≡ false
+    apart i j d less within =
+        ap₂ share (get_or_default spans i d no_span (omega arith)) (get_or_default spans j d no_span within)
+        ∙ share_none (span_at spans i) (span_at spans j) (up i j less (ltb-true 0 (span_at spans i).len (filled i no_span (omega arith))) (ltb-true 0 (span_at spans j).len (filled j no_span within)))
+
+ascending_distinct : (spans : List Span) → IsNonDecreasingBy (λ span. span.start) spans → IsDistinct share spans → IsAscending spans
+ascending_distinct spans rising distinct i j less filled_i filled_j =
+    let within = among spans j filled_j in
+    let apart = apart_from_distinct share spans i j no_span distinct less within in
+    let most = ltb-false (max (span_at spans i).start (span_at spans j).start) (min (end_of (span_at spans i)) (end_of (span_at spans j))) apart in
+    let low = rising i j no_span (omega arith) within in
+    omega (arith, most, low)
+
+distinct_apart : (spans : List Span) → IsDistinct share spans → (j : ℕ) → ¬ SharesEarlier spans j
+distinct_apart spans distinct j (within, (i, less, (place, here, there))) =
+    let apart = apart_from_distinct share spans i j no_span distinct less within in
+    let most = ltb-false (max (span_at spans i).start (span_at spans j).start) (min (end_of (span_at spans i)) (end_of (span_at spans j))) apart in
+    absurd (omega (arith, most, here, there))
+
+module _ (spans sorted : List Span) (moved : IsPermutation (occupied spans) sorted) where
+  -- where they ascend in that order, no two of all share a place
+  pub apart_moved : IsAscending sorted → (j : ℕ) → ¬ SharesEarlier spans j
+  apart_moved up =
+      let filled : AreFilled sorted = All-permutation (λ span. has_place span ≡ true) (occupied spans) sorted moved (filter_passes has_place spans) in
+      none_shares spans (distinct_apart (occupied spans) (IsDistinct-IsPermutation share share_flips sorted (occupied spans) (IsPermutation-sym (occupied spans) sorted moved) (distinct_ascending sorted filled up)))
+
+  -- and they do in that of their starts, where all ascend
+  pub ascending_moved : IsNonDecreasingBy (λ span. span.start) sorted → IsAscending spans → IsAscending sorted
+  ascending_moved rising up =
+      ascending_distinct sorted rising (IsDistinct-IsPermutation share share_flips (occupied spans) sorted moved (distinct_ascending (occupied spans) (filter_passes has_place spans) (ascending_occupied spans up)))
+
 -- they have the same places
 pub cover_same : (spans : List Span) → CoverSame spans (occupied spans)
 cover_same spans place = (
@@ -71,6 +145,23 @@ cover_moved spans others moved place = (
 
 pub cover_trans : (a b c : List Span) → CoverSame a b → CoverSame b c → CoverSame a c
 cover_trans a b c first second place = (λ free. (second place).0 ((first place).0 free), λ free. (first place).1 ((second place).1 free))
+
+-- and those that have a place, in another order
+pub cover_listed : (spans list others : List Span) → list ≡ occupied spans → IsPermutation list others → CoverSame spans others
+cover_listed spans list others are moved = cover_trans spans list others (subst (CoverSame spans) (sym are) (cover_same spans)) (cover_moved list others moved)
+
+-- others may follow both
+pub cover_joined : (spans others more : List Span) → CoverSame spans others → CoverSame (spans ++ more) (others ++ more)
+cover_joined spans others more same place = (
+  λ free. free_joined others more place ((same place).0 (first spans free)) (last spans free),
+  λ free. free_joined spans more place ((same place).1 (first others free)) (last others free),
+)
+  where
+    first : (those : List Span) → IsFree (those ++ more) place → IsFree those place
+    first those free = free_among (those ++ more) those place (λ x has. Contains-append_left those more x has) free
+
+    last : (those : List Span) → IsFree (those ++ more) place → IsFree more place
+    last those free = free_among (those ++ more) more place (λ x has. Contains-append_right those more x has) free
 
 -- the least place that was found between spans is that of all that have the same places, of whatever bytes they are
 pub least_covered : (wanted : Wanted) (bytes own : List ℕ) (spans list sorted : List Span) (found : Option ℕ) → own ≡ bytes → list ≡ spans → CoverSame list sorted

@@ -1,6 +1,6 @@
 -- One span more in a walk over spans that come by their starts.
 use Rattle.std.proofs.Common.{◌≡◌, ℕ, ◌+◌, ◌≤◌, ◌<◌, ◌⊎◌, Bool, true, false, max, List, [], ◌∷◌, ◌++◌, length, map, All, Contains, Option, Some, None, sym, ap, ◌∙◌, subst, arith, inl, inr, length-append}
-use Rattle.std.specs.Prelude.{MatchOption}
+use Rattle.std.specs.Prelude.{MatchOption, IsTrue, ◌↔◌}
 use Rattle.std.specs.List.Sorted.{IsNonDecreasingBy}
 use Rattle.std.proofs.Math.ListN.{get_or-append}
 use Rattle.std.proofs.Math.Seq.{get_or-append_seam}
@@ -9,13 +9,14 @@ use Rattle.std.proofs.lemmas.List.{get_or_default, get_or_past, get_or-map, leng
 use Rattle.std.proofs.lemmas.List.Elements.{Contains-append_cases}
 use Rattle.macho_fields.specs.Bytes.{bytes_of}
 use Rattle.macho_fields.specs.FirstPlace.{IsLeastPlace}
-use Rattle.macho_spans.specs.Overlap.{span_at, IsAscending}
+use Rattle.macho_spans.specs.Overlap.{span_at, IsAscending, SharesEarlier}
 use Rattle.macho_fields.proofs.Decided.{both_or_not, le_or_not}
 use Rattle.macho_spans.specs.Span.{Covers, end_of, Holds}
 use Rattle.macho_spans.specs.declared.span.Span.{Span}
-use Rattle.macho_strict.specs.Gaps.{IsWanted, IsFree, IsStray, ComeByStart, Walked, ArePassed, IsLeastNext}
+use Rattle.macho_strict.specs.Gaps.{IsWanted, IsFree, IsStray, ComeByStart, AreInside, Walked, ArePassed, IsLeastNext}
 use Rattle.macho_strict.specs.declared.gaps.Gaps.{Gaps}
 use Rattle.macho_strict.specs.declared.gaps.Wanted.{Wanted}
+use Rattle.macho_strict.specs.declared.gaps.Wanted.TheVariants as wanted
 
 abbrev pub no_span : Span
 no_span = record { start = 0; len = 0 }
@@ -133,6 +134,10 @@ module _ (spans : List Span) (x : Span) where
       ];
       starts = each_more (λ s. 0 < s.len → s.start ≤ start) (λ none. absurd (omega (arith, none))) walked.starts (λ none. absurd (omega (arith, none, empty)));
       ends = each_more (λ s. 0 < s.len → end_of s ≤ end) (λ none. absurd (omega (arith, none))) walked.ends (λ none. absurd (omega (arith, none, empty)));
+      reached = elim walked.reached [
+        | inl none ↦ inl none
+        | inr (j, filled, same) ↦ let at = (filled_old j filled).1 in inr (j, omega (arith, ap (λ s. s.len) at, filled), ap end_of at ∙ same)
+      ];
       covered = λ p low high. let (i, held) = walked.covered p low high in (i, subst (λ s. Holds s p) (sym (filled_old i (omega (arith, held.0, held.1))).1) held);
       least = least_same (λ p. (p < start) × IsStray wanted bytes spans p) (λ p. (p < start) × IsStray wanted bytes more p)
           (λ p (low, is). (low, stray_more p is (λ held. absurd (omega (arith, held.0, held.1, empty)))))
@@ -146,6 +151,7 @@ module _ (spans : List Span) (x : Span) where
       last = inr (length spans, omega (arith, ap (λ s. s.len) at_last, filled), ap (λ s. s.start) at_last);
       starts = each_more (λ s. 0 < s.len → s.start ≤ x.start) (λ none. absurd (omega (arith, none))) (λ i one. let low = walked.starts i one in omega (arith, low)) (λ _. omega arith);
       ends = each_more (λ s. 0 < s.len → end_of s ≤ max end (end_of x)) (λ none. absurd (omega (arith, none))) (λ i one. let low = walked.ends i one in omega (arith, low)) (λ _. omega arith);
+      reached = reaches;
       covered = covers;
       least = least_of_two (λ p. (p < start) × IsStray wanted bytes spans p) (λ p. (end ≤ p) × (p < x.start) × IsWanted wanted bytes p) (λ p. (p < x.start) × IsStray wanted bytes more p) old new walked.least next
           (λ p (low, is). (omega arith, stray_more p is (λ held. absurd (omega (arith, held.0)))))
@@ -154,6 +160,15 @@ module _ (spans : List Span) (x : Span) where
           (λ p q (low, is) (past, high, other). let order = begins_before_end wanted bytes spans start end old walked in omega (arith, order, low, past));
     }
       where
+        reaches : (max end (end_of x) ≡ 0) ⊎ ((j : ℕ) × (0 < (span_at more j).len) × (end_of (span_at more j) ≡ max end (end_of x)))
+        reaches = elim (cases_lt end (end_of x)) [
+          | inl further ↦ inr (length spans, omega (arith, ap (λ s. s.len) at_last, filled), let last = ap end_of at_last in omega (arith, last))
+          | inr most ↦ elim walked.reached [
+            | inl none ↦ absurd (omega (arith, none))
+            | inr (j, filled_j, same) ↦ let at = (filled_old j filled_j).1 in inr (j, omega (arith, ap (λ s. s.len) at, filled_j), let end_j = ap end_of at in omega (arith, end_j, same))
+          ]
+        ]
+
         covers : (p : ℕ) → x.start ≤ p → p < max end (end_of x) → (i : ℕ) × Holds (span_at more i) p
         covers p low high = elim (cases_lt p (end_of x)) [
           | inl here ↦ (length spans, subst (λ s. Holds s p) (sym at_last) (low, here))
@@ -161,6 +176,69 @@ module _ (spans : List Span) (x : Span) where
               let (i, held) = walked.covered p (omega arith) (omega arith) in
               (i, subst (λ s. Holds s p) (sym (filled_old i (omega (arith, held.0, held.1))).1) held)
         ]
+
+pub among : (spans : List Span) (i : ℕ) → 0 < (span_at spans i).len → i < length spans
+among spans i filled = elim (cases_lt i (length spans)) [
+  | inl less ↦ less
+  | inr past ↦ absurd (omega (arith, ap (λ s. s.len) (get_or_past spans i no_span past), filled))
+]
+
+pub ascending_by_start : (spans : List Span) → IsAscending spans → ComeByStart spans
+ascending_by_start spans up i j less filled_i filled_j = let here = up i j less filled_i filled_j in omega (arith, here)
+
+pub by_start_where_sorted : (wanted : Wanted) (bytes : List ℕ) (spans : List Span) (gaps : Gaps) → ArePassed wanted bytes spans gaps → ComeByStart spans → gaps.by_start ≡ true
+by_start_where_sorted wanted bytes spans gaps are sorted = elim (cases_Bool gaps.by_start) [
+  | inl set ↦ set
+  | inr unset ↦ absurd (are.unsorted unset sorted)
+]
+
+-- Whether the spans ascend
+
+module _ (spans : List Span) (x : Span) where
+  ascending_old : IsAscending (more spans x) → IsAscending spans
+  ascending_old up i j less filled_i filled_j =
+      let (under_i, same_i) = filled_old spans x i filled_i in
+      let (under_j, same_j) = filled_old spans x j filled_j in
+      let here = up i j less (omega (arith, ap (λ s. s.len) same_i, filled_i)) (omega (arith, ap (λ s. s.len) same_j, filled_j)) in
+      omega (arith, here, ap end_of same_i, ap (λ s. s.start) same_j)
+
+  -- with one more they do, if it is empty or all of them end where it begins, or before that
+  ascending_with : IsAscending spans → (0 < x.len → (i : ℕ) → 0 < (span_at spans i).len → end_of (span_at spans i) ≤ x.start) → IsAscending (more spans x)
+  ascending_with up past i j less filled_i filled_j = elim (cases_lt j (length spans)) [
+    | inl within ↦
+        let same_i = at_old spans x i (omega arith) in
+        let same_j = at_old spans x j within in
+        let here = up i j less (omega (arith, ap (λ s. s.len) same_i, filled_i)) (omega (arith, ap (λ s. s.len) same_j, filled_j)) in
+        omega (arith, here, ap end_of same_i, ap (λ s. s.start) same_j)
+    | inr most ↦
+        let last : j ≡ length spans = omega (arith, among (more spans x) j filled_j, length-append spans (x ∷ [])) in
+        let same_i = at_old spans x i (omega (arith, last)) in
+        let same_j : span_at (more spans x) j ≡ x = ap (span_at (more spans x)) last ∙ at_last spans x in
+        let low = past (omega (arith, ap (λ s. s.len) same_j, filled_j)) i (omega (arith, ap (λ s. s.len) same_i, filled_i)) in
+        omega (arith, low, ap end_of same_i, ap (λ s. s.start) same_j)
+  ]
+
+  pub ascending_empty : x.len ≡ 0 → IsAscending spans ↔ IsAscending (more spans x)
+  ascending_empty empty = (λ up. ascending_with up (λ filled. absurd (omega (arith, empty, filled))), ascending_old)
+
+  module _ (wanted : Wanted) (bytes : List ℕ) (start end : ℕ) (stray : Option ℕ) (walked : Walked wanted bytes spans start end stray) where
+    pub ascending_past : end ≤ x.start → IsAscending spans → IsAscending (more spans x)
+    ascending_past past up = ascending_with up (λ _ i filled. let low = walked.ends i filled in omega (arith, low))
+
+    -- one that begins before the end does not ascend after them
+    pub not_ascending : 0 < x.len → x.start < end → ¬ IsAscending (more spans x)
+    not_ascending filled before up = elim (cases_lt x.start start) [
+      | inl early ↦ now_unsorted spans x wanted bytes start end stray walked filled early (ascending_by_start (more spans x) up)
+      | inr late ↦
+          let (i, held) = walked.covered x.start late before in
+          let (under, same) = filled_old spans x i (omega (arith, held.0, held.1)) in
+          let here = up i (length spans) under (omega (arith, ap (λ s. s.len) same, held.0, held.1)) (omega (arith, ap (λ s. s.len) (at_last spans x), filled)) in
+          absurd (omega (arith, here, held.1, ap end_of same, ap (λ s. s.start) (at_last spans x)))
+    ]
+
+-- spans that ascend came by their starts
+pub ascend_by_start : (wanted : Wanted) (bytes : List ℕ) (spans : List Span) (gaps : Gaps) → ArePassed wanted bytes spans gaps → gaps.ascend ≡ true → gaps.by_start ≡ true
+ascend_by_start wanted bytes spans gaps are up = by_start_where_sorted wanted bytes spans gaps are (ascending_by_start spans (are.ascending.0 up))
 
 -- One span more was passed
 
@@ -170,15 +248,38 @@ module _ (wanted : Wanted) (bytes : List ℕ) (spans : List Span) (x : Span) (ol
     of = are.of;
     wants = are.wants;
     unsorted = λ e. still_unsorted spans x (are.unsorted e);
+    ascending = (λ up. (ascending_empty spans x empty).0 (are.ascending.0 up), λ up. are.ascending.1 ((ascending_empty spans x empty).1 up));
     walked = λ e. walked_empty spans x wanted bytes old.start old.end old.stray empty (are.walked e);
   }
 
-  pub passed_on : (by_start : Bool) (end : ℕ) (stray : Option ℕ) → by_start ≡ true → old.by_start ≡ true → 0 < x.len → old.start ≤ x.start
+  -- .. which ascends, or does not
+  pub ascending_more : (ascend : Bool) → 0 < x.len → IsTrue ascend ↔ ((old.ascend ≡ true) × (old.end ≤ x.start)) → IsTrue ascend ↔ IsAscending (spans ++ x ∷ [])
+  ascending_more ascend filled test = (up, down)
+    where
+      walked_up : old.ascend ≡ true → Walked wanted bytes spans old.start old.end old.stray
+      walked_up was = are.walked (ascend_by_start wanted bytes spans old are was)
+
+      up : IsTrue ascend → IsAscending (spans ++ x ∷ [])
+      up set = let (was, past) = test.0 set in ascending_past spans x wanted bytes old.start old.end old.stray (walked_up was) past (are.ascending.0 was)
+
+      down : IsAscending (spans ++ x ∷ []) → IsTrue ascend
+      down all =
+          let was = are.ascending.1 (ascending_old spans x all) in
+          test.1 (
+            was,
+            elim (cases_lt x.start old.end) [
+              | inl before ↦ absurd (not_ascending spans x wanted bytes old.start old.end old.stray (walked_up was) filled before all)
+              | inr past ↦ past
+            ],
+          )
+
+  pub passed_on : (by_start ascend : Bool) (end : ℕ) (stray : Option ℕ) → IsTrue ascend ↔ IsAscending (spans ++ x ∷ []) → by_start ≡ true → old.by_start ≡ true → 0 < x.len → old.start ≤ x.start
       → IsLeastNext old.wanted (bytes_of old.bytes) old.end x.start old.stray stray → end ≡ max old.end (end_of x)
-      → ArePassed wanted bytes (spans ++ x ∷ []) (record { bytes = old.bytes; wanted = old.wanted; by_start = by_start; start = x.start; end = end; stray = stray })
-  passed_on by_start end stray set was filled after next ends = record {
+      → ArePassed wanted bytes (spans ++ x ∷ []) (record { bytes = old.bytes; wanted = old.wanted; by_start = by_start; ascend = ascend; start = x.start; end = end; stray = stray })
+  passed_on by_start ascend end stray ascending set was filled after next ends = record {
     of = are.of;
     wants = are.wants;
+    ascending = ascending;
     unsorted = λ e. absurd (true≢false (sym set ∙ e));
     walked = λ _.
         subst (λ e. Walked wanted bytes (spans ++ x ∷ []) x.start e stray) (sym ends)
@@ -186,29 +287,61 @@ module _ (wanted : Wanted) (bytes : List ℕ) (spans : List Span) (x : Span) (ol
         (subst (λ (bs : List ℕ). IsLeastNext old.wanted bs old.end x.start old.stray stray) are.of next)));
   }
 
-  pub passed_back : (by_start : Bool) → by_start ≡ false → ¬ ComeByStart (spans ++ x ∷ [])
-      → ArePassed wanted bytes (spans ++ x ∷ []) (record { bytes = old.bytes; wanted = old.wanted; by_start = by_start; start = old.start; end = old.end; stray = old.stray })
-  passed_back by_start unset unsorted = record { of = are.of; wants = are.wants; unsorted = λ _. unsorted; walked = λ e. absurd (true≢false (sym e ∙ unset)) }
+  pub passed_back : (by_start ascend : Bool) → IsTrue ascend ↔ IsAscending (spans ++ x ∷ []) → by_start ≡ false → ¬ ComeByStart (spans ++ x ∷ [])
+      → ArePassed wanted bytes (spans ++ x ∷ []) (record { bytes = old.bytes; wanted = old.wanted; by_start = by_start; ascend = ascend; start = old.start; end = old.end; stray = old.stray })
+  passed_back by_start ascend ascending unset unsorted =
+      record { of = are.of; wants = are.wants; unsorted = λ _. unsorted; ascending = ascending; walked = λ e. absurd (true≢false (sym e ∙ unset)) }
 
 -- All were passed
 
-pub by_start_where_sorted : (wanted : Wanted) (bytes : List ℕ) (spans : List Span) (gaps : Gaps) → ArePassed wanted bytes spans gaps → ComeByStart spans → gaps.by_start ≡ true
-by_start_where_sorted wanted bytes spans gaps are sorted = elim (cases_Bool gaps.by_start) [
-  | inl set ↦ set
-  | inr unset ↦ absurd (are.unsorted unset sorted)
-]
+-- whether they end inside the bytes, as a test of the greatest end shows it
+pub inside_shown : (wanted : Wanted) (bytes : List ℕ) (spans : List Span) (gaps : Gaps) → ArePassed wanted bytes spans gaps → gaps.by_start ≡ true → (inside : Bool)
+    → IsTrue inside ↔ (gaps.end ≤ length (bytes_of gaps.bytes)) → IsTrue inside ↔ AreInside bytes spans
+inside_shown wanted bytes spans gaps are set inside test = (shown, found)
+  where
+    walked : Walked wanted bytes spans gaps.start gaps.end gaps.stray
+    walked = are.walked set
 
-pub among : (spans : List Span) (i : ℕ) → 0 < (span_at spans i).len → i < length spans
-among spans i filled = elim (cases_lt i (length spans)) [
-  | inl less ↦ less
-  | inr past ↦ absurd (omega (arith, ap (λ s. s.len) (get_or_past spans i no_span past), filled))
-]
+    shown : IsTrue inside → AreInside bytes spans
+    shown is i filled = let by = test.0 is in let low = walked.ends i filled in omega (arith, by, low, ap length are.of)
+
+    found : AreInside bytes spans → IsTrue inside
+    found all = test.1 (elim walked.reached [
+      | inl none ↦ omega (arith, none)
+      | inr (j, filled, same) ↦ let by = all j filled in omega (arith, by, same, ap length are.of)
+    ])
+
+-- a byte that is looked for is one of them
+wanted_inside : (wanted : Wanted) (bytes : List ℕ) (p : ℕ) → IsWanted wanted bytes p → p < length bytes
+wanted_inside wanted.NonZero bytes p is = is.0
+wanted_inside wanted.NoPadding bytes p (is, other) = is.0
+
+-- the least one in none of them, if what was found before all of them ended is followed by the bytes up to the last
+pub least_of_all : (wanted : Wanted) (bytes : List ℕ) (spans : List Span) (gaps : Gaps) → ArePassed wanted bytes spans gaps → gaps.by_start ≡ true → (limit : ℕ) → limit ≡ length (bytes_of gaps.bytes)
+    → (found : Option ℕ) → IsLeastNext gaps.wanted (bytes_of gaps.bytes) gaps.end limit gaps.stray found → IsLeastPlace (IsStray wanted bytes spans) found
+least_of_all wanted bytes spans gaps are set limit all found next =
+    least_of_two (λ p. (p < gaps.start) × IsStray wanted bytes spans p) (λ p. (gaps.end ≤ p) × (p < limit) × IsWanted wanted bytes p) (IsStray wanted bytes spans) gaps.stray found walked.least here
+    (λ p (low, is). is)
+    (λ p (past, low, is). (is, past_all wanted bytes spans gaps.start gaps.end gaps.stray walked p past))
+    (λ p is. elim (before_or_past wanted bytes spans gaps.start gaps.end gaps.stray walked p is) [
+      | inl before ↦ inl before
+      | inr past ↦ inr (past, (let low = wanted_inside wanted bytes p is.0 in omega (arith, low, all, ap length are.of)), is.0)
+    ])
+    (λ p q (low, is) (past, high, other). let order = begins_before_end wanted bytes spans gaps.start gaps.end gaps.stray walked in omega (arith, order, low, past))
+  where
+    walked : Walked wanted bytes spans gaps.start gaps.end gaps.stray
+    walked = are.walked set
+
+    here : IsLeastNext wanted bytes gaps.end limit gaps.stray found
+    here = subst (λ (w : Wanted). IsLeastNext w bytes gaps.end limit gaps.stray found) are.wants (subst (λ (bs : List ℕ). IsLeastNext gaps.wanted bs gaps.end limit gaps.stray found) are.of next)
+
+-- spans that ascend share no place
+pub ascending_apart : (spans : List Span) → IsAscending spans → (j : ℕ) → ¬ SharesEarlier spans j
+ascending_apart spans up j (within, (i, less, (place, here, there))) =
+    let low = up i j less (omega (arith, here)) (omega (arith, there)) in absurd (omega (arith, low, here, there))
 
 pub sorted_by_start : (spans : List Span) → IsNonDecreasingBy (λ s. s.start) spans → ComeByStart spans
 sorted_by_start spans sorted i j less filled_i filled_j = sorted i j no_span (omega arith) (among spans j filled_j)
-
-pub ascending_by_start : (spans : List Span) → IsAscending spans → ComeByStart spans
-ascending_by_start spans up i j less filled_i filled_j = let here = up i j less filled_i filled_j in omega (arith, here)
 
 -- a place in none of some spans is in none of those among them
 pub free_among : (spans others : List Span) (p : ℕ) → ((x : Span) → Contains others x → Contains spans x) → ((i : ℕ) → ¬ Holds (span_at spans i) p) → (i : ℕ) → ¬ Holds (span_at others i) p

@@ -1,5 +1,5 @@
 -- Which of the elements of a list is the first that shares a place with an earlier one.
-use Rattle.std.proofs.Common.{◌≡◌, ℕ, ◌≤◌, ◌<◌, List, [], ◌∷◌, ◌++◌, length, map, get_or, Option, None, Some, MatchOption, slice_get, refl, sym, ap, ◌∙◌, subst, arith, inl, inr}
+use Rattle.std.proofs.Common.{◌≡◌, ℕ, ◌≤◌, ◌<◌, List, [], ◌∷◌, length, map, get_or, Option, None, Some, MatchOption, slice_get, refl, sym, ap, ◌∙◌, subst, arith, inl, inr}
 use Rattle.std.specs.Iterator.{Yields, Drains, YieldsFirst, SkipsThenYields}
 use Rattle.std.specs.Option.{option_map}
 use Rattle.std.specs.Prelude.{IsSomeAnd}
@@ -7,18 +7,20 @@ use Rattle.std.proofs.lemmas.Iterator.{YieldsList}
 use Rattle.std.proofs.lemmas.Iterator.Adapters.{option_map_id}
 use Rattle.std.proofs.lemmas.Iterator.Consumers.{YieldsList-from_first, YieldsList-end, nth_from_yields_List}
 use Rattle.std.proofs.lemmas.Bool.{cases_order}
-use Rattle.std.proofs.lemmas.List.{get_or-map, length-map, map-append, map-id}
+use Rattle.std.proofs.lemmas.List.{get_or-map, length-map, map-id}
 use Rattle.std.proofs.lemmas.Option.{slice_get-get_or, slice_get-map, slice_get_within, get_or_from_slice_get, none-some, same_Some}
 use Rattle.macho_fields.specs.FirstPlace.{IsLeastPlace}
 use Rattle.macho_spans.specs.Overlap.{span_at, SharesEarlier, IsLeastSharing, IsUnordered}
-use Rattle.macho_spans.specs.SpanOrder.{spans_in, tags_in, IsOrderOf, IsSharingOf}
+use Rattle.macho_spans.specs.SpanOrder.{spans_in, tags_in, IsSharingOf}
 use Rattle.macho_spans.specs.declared.span.Span.{Span}
 use Rattle.macho_spans.specs.declared.span_order.Sharing.TheVariants as sharing
-use Rattle.macho_spans.specs.declared.span_order.SpanOrder.{SpanOrder}
 use Rattle.macho_rules.proofs.Searches.{Rising, ordered_at}
+use Rattle.macho_strict.specs.Gaps.{ArePassed}
 use Rattle.macho_strict.specs.Rules.{SharesEarlierElement}
 use Rattle.macho_strict.specs.Sharing.{tagged, IsFirstSharing}
 use Rattle.macho_strict.specs.declared.elements.Element.{Element}
+use Rattle.macho_strict.specs.declared.gaps.Gaps.{Gaps}
+use Rattle.macho_strict.specs.declared.gaps.Wanted.TheVariants as wanted
 
 -- What is read of each element
 
@@ -60,6 +62,13 @@ module _ {X : Type 0} (all given : List X) (is : given ≡ all) where
 pub drained_spans : (all given : List Element) → given ≡ all → (spans : List Span) (xs : List Element) → Drains (YieldsFirst (λ (left : List Element). left)) given xs → spans ≡ map span_of xs → spans ≡ map span_of all
 drained_spans all given is spans xs ran are = are ∙ ap (map span_of) (drained all given is xs ran)
 
+-- and so are those that were passed, of whatever bytes
+pub drained_passed : (all given : List Element) → given ≡ all → (image bytes : List ℕ) → bytes ≡ image → (gaps : Gaps) (xs : List Element)
+    → Drains (YieldsFirst (λ (left : List Element). left)) given xs → ArePassed wanted.NonZero bytes (map span_of xs) gaps → ArePassed wanted.NonZero image (map span_of all) gaps
+drained_passed all given is image bytes own gaps xs ran passed =
+    subst (λ (es : List Element). ArePassed wanted.NonZero image (map span_of es) gaps) (drained all given is xs ran)
+    (subst (λ (bs : List ℕ). ArePassed wanted.NonZero bs (map span_of xs) gaps) own passed)
+
 -- The spans of all of them
 
 module _ (all : List Element) (spans : List Span) (are : spans ≡ map span_of all) where
@@ -89,9 +98,6 @@ module _ (all : List Element) (spans : List Span) (are : spans ≡ map span_of a
     )
 
 -- What their order shows
-
-pub order_noted : (noted : List Element) (e : Element) (order : SpanOrder) → IsOrderOf (tagged noted ++ (e.span, e.described) ∷ []) order → IsOrderOf (tagged (noted ++ e ∷ [])) order
-order_noted noted e order is = subst (λ pairs. IsOrderOf pairs order) (sym (map-append (λ (x : Element). (x.span, x.described)) noted (e ∷ []))) is
 
 pub unordered_shown : (all : List Element) → IsSharingOf (tagged all) sharing.Unknown → IsUnordered (map span_of all)
 unordered_shown all (up, down, mixed) = subst IsUnordered (spans_tagged all) (up, down)

@@ -1,51 +1,38 @@
 -- What one walk over the segments of an image finds of their file parts.
-use Rattle.std.proofs.Common.{◌≡◌, ℕ, ◌+◌, ◌≤◌, ◌<◌, List, [], ◌∷◌, ◌++◌, length, map, get_or, slice_get, Contains, Option, None, Some, sym, ap, ◌∙◌, subst, arith, inl, inr}
+use Rattle.std.proofs.Common.{◌≡◌, ℕ, ◌+◌, ◌≤◌, ◌<◌, List, length, map, get_or, slice_get, Contains, Option, None, Some, sym, ap, ◌∙◌, subst, arith, inl, inr}
 use Rattle.std.proofs.lemmas.Bool.{cases_lt}
-use Rattle.std.proofs.lemmas.List.{get_or_default, get_or-map, length-map, map_push}
+use Rattle.std.proofs.lemmas.List.{get_or_default, get_or-map, length-map}
 use Rattle.std.proofs.lemmas.Option.{get_or_from_slice_get}
 use Rattle.std.proofs.lemmas.Simd.{map-map}
 use Rattle.macho_fields.specs.FirstPlace.{IsLeastPlace}
 use Rattle.macho_fields.specs.Image.{commands_of, command_size}
-use Rattle.macho_spans.specs.Overlap.{span_at, SharesEarlier, IsLeastSharing, IsUnordered}
+use Rattle.macho_spans.specs.Overlap.{span_at, SharesEarlier, IsLeastSharing, IsAscending, IsUnordered}
 use Rattle.macho_spans.specs.Span.{Holds}
-use Rattle.macho_spans.specs.SpanOrder.{IsOrderOf, IsSharingOf, spans_in, tags_in}
+use Rattle.macho_spans.specs.SpanOrder.{IsSharingOf, spans_in, tags_in}
 use Rattle.macho_spans.specs.declared.span.Span.{Span}
 use Rattle.macho_spans.specs.declared.span_order.Sharing.TheVariants as sharing
-use Rattle.macho_spans.specs.declared.span_order.SpanOrder.{SpanOrder}
 use Rattle.macho_fields.proofs.Parts.{command_good, with_cmd_among}
 use Rattle.macho_fields.specs.declared.header.loader.TheConstants as loader
 use Rattle.macho_image.specs.Opened.{IsOpened}
 use Rattle.macho_rules.proofs.Searches.{ordered_at}
 use Rattle.macho_rules.proofs.SegmentItems.{segments_spread}
 use Rattle.macho_image.proofs.OpenedWalk.{opened_commands}
-use Rattle.macho_strict.specs.FileParts.{AreSurveyed}
 use Rattle.macho_strict.specs.Gaps.{IsStray, ArePassed}
 use Rattle.macho_strict.specs.Rules.{BreaksImage, SharesFilePart, all_segments}
-use Rattle.macho_strict.specs.Sharing.{file_part, all_parts, tagged, tagged_parts, IsFirstSharing}
+use Rattle.macho_strict.specs.Sharing.{file_part, all_parts, tagged_parts, IsFirstSharing}
 use Rattle.macho_strict.specs.Verdict.{file_parts}
 use Rattle.macho_strict.specs.declared.elements.Element.{Element}
 use Rattle.macho_strict.specs.declared.gaps.Gaps.{Gaps}
 use Rattle.macho_strict.specs.declared.gaps.Wanted.TheVariants as wanted
 use Rattle.macho_fields.specs.declared.rule.Rule.TheVariants as rule
-use Rattle.macho_strict.proofs.Passed.{least_same, all_of_free, free_of_all}
-use Rattle.macho_strict.proofs.Sharings.{spans_tagged, tags_tagged, unordered_shown}
+use Rattle.macho_strict.proofs.Passed.{ascending_apart, least_same, all_of_free, free_of_all}
+use Rattle.macho_strict.proofs.Sharings.{none_sharing, spans_tagged, tags_tagged, unordered_shown}
 
 abbrev span_of : Element → Span
 span_of part = part.span
 
 abbrev no_span : Span
 no_span = record { start = 0; len = 0 }
-
--- One file part more
-
-pub surveyed_more : (image : List ℕ) (parts : List Element) (part : Element) (order order' : SpanOrder) (gaps gaps' : Gaps) → AreSurveyed image parts order gaps
-    → (IsOrderOf (tagged parts) order → IsOrderOf (tagged parts ++ (part.span, part.described) ∷ []) order')
-    → (ArePassed wanted.NonZero image (map span_of parts) gaps → ArePassed wanted.NonZero image (map span_of parts ++ part.span ∷ []) gaps')
-    → AreSurveyed image (parts ++ part ∷ []) order' gaps'
-surveyed_more image parts part order order' gaps gaps' are ordered passed = record {
-  ordered = subst (λ pairs. IsOrderOf pairs order') (sym (map_push (λ (e : Element). (e.span, e.described)) parts part)) (ordered are.ordered);
-  passed = subst (λ (spans : List Span). ArePassed wanted.NonZero image spans gaps') (sym (map_push span_of parts part)) (passed are.passed);
-}
 
 -- All file parts of an image
 
@@ -61,6 +48,10 @@ module _ (image : List ℕ) where
 
   pub passed_parts : (gaps : Gaps) → ArePassed wanted.NonZero image (map span_of (all_parts image)) gaps → ArePassed wanted.NonZero image (file_parts image) gaps
   passed_parts gaps = subst (λ (spans : List Span). ArePassed wanted.NonZero image spans gaps) parts_are
+
+  -- where they ascend, none shares a place with an earlier one
+  pub ascending_parts : IsAscending (file_parts image) → IsFirstSharing (tagged_parts image) None
+  ascending_parts up = none_sharing (all_parts image) (file_parts image) (sym parts_are) (ascending_apart (file_parts image) up)
 
   spans_are : spans_in (tagged_parts image) ≡ file_parts image
   spans_are = spans_tagged (all_parts image) ∙ parts_are

@@ -1,7 +1,6 @@
 -- A walk over the elements of an image: what is left of them.
 use Rattle.std.specs.Prelude.{ℕ, ◌+◌, ◌-◌, ◌*◌, ◌^◌, ◌≤◌, ◌<◌, List, [], ◌++◌, length, map, flat_map, Option, option_to_list}
 use Rattle.std.specs.Option.{option_map_or}
-use Rattle.macho_fields.specs.Image.{commands_of}
 use Rattle.macho_fields.specs.LoadCommands.{width_size}
 use Rattle.macho_fields.specs.Symbol.{table_at}
 use Rattle.macho_fields.specs.declared.load_command.TableFields.{TableFields}
@@ -24,17 +23,9 @@ abbrev pub described_left : Option Element → Option (List SectionView) → Lis
 described_left pending sections tables =
     option_to_list pending ++ (option_map_or sections_left sections [] ++ tables)
 
--- what each of the commands that remain describes
-abbrev pub commands_left : List ℕ → List CommandView → List (List Element)
-commands_left image commands = map (λ c. command_elements image c.place) commands
-
--- what each command of an image describes
-abbrev pub all_commands : List ℕ → List (List Element)
-all_commands image = map (command_elements image) (commands_of image)
-
--- one list after the other
-abbrev pub all_of : List (List Element) → List Element
-all_of lists = flat_map (λ list. list) lists
+-- what the commands that remain describe
+abbrev pub elements_left : List ℕ → List CommandView → List Element
+elements_left image commands = flat_map (λ c. command_elements image c.place) commands
 
 -- the fields that bound a table lie inside the image, and its size in bytes has 64 bits
 pub record HoldsTable (image : List ℕ) (command : ℕ) (fields : TableFields) : Type 0 where

@@ -1,9 +1,9 @@
 -- What a walk over spans that come by their starts finds between them.
-use Rattle.std.specs.Prelude.{◌≡◌, ◌≢◌, ℕ, ◌≤◌, ◌<◌, ◌⊎◌, List, slice_index, true, false, Option, Some, MatchOption}
+use Rattle.std.specs.Prelude.{◌≡◌, ◌≢◌, ◌↔◌, ℕ, ◌≤◌, ◌<◌, ◌⊎◌, List, length, slice_index, true, false, Option, Some, MatchOption, IsTrue}
 use Rattle.macho_fields.specs.Bytes.{bytes_of}
 use Rattle.macho_fields.specs.FirstPlace.{IsLeastPlace}
 use Rattle.macho_fields.specs.NonZero.{IsNonZero}
-use Rattle.macho_spans.specs.Overlap.{span_at}
+use Rattle.macho_spans.specs.Overlap.{span_at, IsAscending}
 use Rattle.macho_spans.specs.Span.{end_of, Holds}
 use Rattle.macho_spans.specs.declared.span.Span.{Span}
 use Rattle.macho_strict.specs.declared.gaps.Gaps.{Gaps}
@@ -29,14 +29,20 @@ ComeByStart spans =
     (i j : ℕ) → i < j → 0 < (span_at spans i).len → 0 < (span_at spans j).len
     → (span_at spans i).start ≤ (span_at spans j).start
 
+-- each of the spans that are not empty ends inside the bytes
+abbrev pub AreInside : List ℕ → List Span → Type 0
+AreInside bytes spans =
+    (i : ℕ) → 0 < (span_at spans i).len → end_of (span_at spans i) ≤ length bytes
+
 -- What is kept while spans are passed
 
--- the last span that is not empty begins at `start`, and those that are not empty end at `end` or
--- before it, with no gap between the two
+-- the last span that is not empty begins at `start`, and of those that are not empty the furthest ends
+-- at `end`, with no gap between the two
 pub record Walked (wanted : Wanted) (bytes : List ℕ) (spans : List Span) (start end : ℕ) (stray : Option ℕ) : Type 0 where
   pub last : (start ≡ 0) ⊎ ((j : ℕ) × (0 < (span_at spans j).len) × ((span_at spans j).start ≡ start))
   pub starts : (i : ℕ) → 0 < (span_at spans i).len → (span_at spans i).start ≤ start
   pub ends : (i : ℕ) → 0 < (span_at spans i).len → end_of (span_at spans i) ≤ end
+  pub reached : (end ≡ 0) ⊎ ((j : ℕ) × (0 < (span_at spans j).len) × (end_of (span_at spans j) ≡ end))
   pub covered : (place : ℕ) → start ≤ place → place < end → (i : ℕ) × Holds (span_at spans i) place
   pub least : IsLeastPlace (λ place. (place < start) × IsStray wanted bytes spans place) stray
 
@@ -45,6 +51,7 @@ pub record ArePassed (wanted : Wanted) (bytes : List ℕ) (spans : List Span) (g
   pub of : bytes_of gaps.bytes ≡ bytes
   pub wants : gaps.wanted ≡ wanted
   pub unsorted : gaps.by_start ≡ false → ¬ ComeByStart spans
+  pub ascending : IsTrue gaps.ascend ↔ IsAscending spans
   pub walked : gaps.by_start ≡ true → Walked wanted bytes spans gaps.start gaps.end gaps.stray
 
 -- the least place of those from `start` on and before `end` that has such a byte

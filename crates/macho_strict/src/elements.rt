@@ -7,6 +7,7 @@ ghost use Rattle.macho_image.specs.Command.{command_of};
 ghost use Rattle.macho_image.specs.Opened.{IsCommandOf};
 ghost use Rattle.macho_strict.specs.Elements.{contents as contents_of, relocations as relocations_of};
 ghost use Rattle.macho_strict.specs.Elements.{command_elements, described_tables, headers as headers_of};
+ghost use Rattle.macho_strict.specs.ElementWalk.{tables_left};
 
 use macho_fields::header::loader::{LC_ENCRYPTION_INFO_64, LINKEDIT_DATA_COMMAND_SIZE};
 use macho_fields::header::reloc::RELOCATION_INFO_SIZE;
@@ -38,7 +39,7 @@ pub(crate) fn headers(image: &Image) -> Element
 }
 
 // The bytes of a section in the image, which a zero-fill section does not have.
-fn contents(section: &Section) -> Element
+pub(crate) fn contents(section: &Section) -> Element
     ensures { result ≡ contents_of section.now.image section.now.place }
 {
     let len = if section.is_zero_fill() {
@@ -56,7 +57,7 @@ fn contents(section: &Section) -> Element
 }
 
 // The relocations of a section.
-fn relocations(section: &Section) -> Element
+pub(crate) fn relocations(section: &Section) -> Element
     ensures { result ≡ relocations_of section.now.image section.now.place }
 {
     Element {
@@ -86,7 +87,7 @@ fn described_tables(cmd: u32, size: u32, structure: Option<Structure>) -> &'stat
 
 // The tables of a command that remain.
 #[derive(Drop)]
-struct Tables<'a> {
+pub(crate) struct Tables<'a> {
     image: Bytes<'a>,
     command: u64,
     fields: &'static [TableFields],
@@ -130,7 +131,7 @@ impl<'a> Iterator for Tables<'a> {
 
 // What a command describes that remains.
 #[derive(Drop)]
-pub(crate) struct Described<'a> {
+struct Described<'a> {
     // What is next: the headers, or the relocations of the section that came last.
     pending: Option<Element>,
     // The sections of the command, where it is a segment.
@@ -173,11 +174,7 @@ impl<'a> Iterator for Described<'a> {
 }
 
 // What a command of an image, of this structure, describes.
-pub(crate) fn describe<'a>(
-    image: Bytes<'a>,
-    command: &Command,
-    structure: Option<Structure>,
-) -> Described<'a>
+fn describe<'a>(image: Bytes<'a>, command: &Command, structure: Option<Structure>) -> Described<'a>
     requires structure { structure ≡ structure_of command.now.cmd }
     requires listed { IsCommandOf (bytes_of image) (command_of command.now) }
     ensures { result ≡ command_elements (bytes_of image.entry) command.now.place }
@@ -186,86 +183,55 @@ pub(crate) fn describe<'a>(
         Some(segment) => Some(segment.sections()),
         None => None,
     };
-    let tables = Tables {
-        image,
-        command: command.place,
-        fields: described_tables(command.cmd, command.size, structure),
-    };
     Described {
         pending: None,
         sections,
-        tables,
+        tables: tables_of(image, command, structure),
     }
 }
 
-// The commands that remain, each as what it describes.
-#[derive(Drop)]
-pub(crate) struct Describing<'a> {
+// The tables of a command of an image, of this structure, that are elements.
+pub(crate) fn tables_of<'a>(
     image: Bytes<'a>,
-    commands: Commands<'a>,
-}
-
-impl<'a> Model for Describing<'a> {
-    ghost use Rattle.std.specs.Prelude.{List, All};
-    ghost use Rattle.macho_fields.specs.Bytes.{bytes_of};
-    ghost use Rattle.macho_image.specs.Opened.{IsCommandOf};
-    ghost use Rattle.macho_strict.specs.ElementWalk.{commands_left};
-    ghost use Rattle.macho_strict.specs.declared.elements.Element.{Element};
-
-    ghost Value = { List (List Element) };
-
-    ghost view = { λ left. commands_left (bytes_of left.image) left.commands };
-
-    ghost invariant = { λ left. All (IsCommandOf (bytes_of left.image)) left.commands };
-}
-
-impl<'a> Iterator for Describing<'a> {
-    ghost use Rattle.std.specs.Iterator.{YieldsFirstBy, item_count};
-
-    type Item = Described<'a>;
-
-    ghost next_gives = { YieldsFirstBy (λ described. described) (λ left. left) };
-
-    ghost remaining = { item_count (λ left. left) };
-
-    fn next(&mut self) -> Option<Described<'a>> {
-        let command = self.commands.next()?;
-        Some(describe(self.image, &command, structure_of(command.cmd)))
-    }
-}
-
-impl<'a> Describing<'a> {
-    ghost use Rattle.std.specs.Prelude.{◌≡◌};
-    ghost use Rattle.macho_strict.specs.ElementWalk.{all_commands};
-
-    // All commands of the image, each as what it describes.
-    pub(crate) fn of(image: &Image<'a>) -> Describing<'a>
-        ensures { result ≡ all_commands image.now }
-    {
-        Describing {
-            image: image.bytes(),
-            commands: image.commands(),
-        }
+    command: &Command,
+    structure: Option<Structure>,
+) -> Tables<'a>
+    requires structure { structure ≡ structure_of command.now.cmd }
+    requires listed { IsCommandOf (bytes_of image) (command_of command.now) }
+    ensures { result ≡ tables_left (bytes_of image.entry) command.now.place
+        (described_tables command.now.cmd command.now.size) }
+{
+    Tables {
+        image,
+        command: command.place,
+        fields: described_tables(command.cmd, command.size, structure),
     }
 }
 
 /// The elements of an image that remain, in their order.
 #[derive(Drop)]
 pub struct Elements<'a> {
+    image: Bytes<'a>,
     // Those of the command that is reached.
     described: Described<'a>,
     // The commands after it.
-    commands: Describing<'a>,
+    commands: Commands<'a>,
 }
 
 impl<'a> Model for Elements<'a> {
-    ghost use Rattle.std.specs.Prelude.{◌++◌, List};
-    ghost use Rattle.macho_strict.specs.ElementWalk.{all_of};
+    ghost use Rattle.std.specs.Prelude.{◌++◌, List, All};
+    ghost use Rattle.macho_fields.specs.Bytes.{bytes_of};
+    ghost use Rattle.macho_image.specs.Opened.{IsCommandOf};
+    ghost use Rattle.macho_strict.specs.ElementWalk.{elements_left};
     ghost use Rattle.macho_strict.specs.declared.elements.Element.{Element};
 
     ghost Value = { List Element };
 
-    ghost view = { λ elements. elements.described ++ all_of elements.commands };
+    ghost view = { λ elements.
+        elements.described ++ elements_left (bytes_of elements.image) elements.commands };
+
+    ghost invariant = { λ elements.
+        All (IsCommandOf (bytes_of elements.image)) elements.commands };
 }
 
 impl<'a> Iterator for Elements<'a> {
@@ -282,7 +248,8 @@ impl<'a> Iterator for Elements<'a> {
             if let Some(element) = self.described.next() {
                 return Some(element);
             }
-            self.described = self.commands.next()?;
+            let command = self.commands.next()?;
+            self.described = describe(self.image, &command, structure_of(command.cmd));
         }
     }
 }
@@ -300,6 +267,7 @@ impl<'a> Elements<'a> {
     {
         let bytes = image.bytes();
         Elements {
+            image: bytes,
             described: Described {
                 pending: Some(headers(image)),
                 sections: None,
@@ -309,7 +277,7 @@ impl<'a> Elements<'a> {
                     fields: &[],
                 },
             },
-            commands: Describing::of(image),
+            commands: image.commands(),
         }
     }
 }

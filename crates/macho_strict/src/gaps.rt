@@ -1,12 +1,12 @@
 //! The bytes between spans.
 
-ghost use Rattle.std.specs.Prelude.{◌≡◌};
+ghost use Rattle.std.specs.Prelude.{◌≡◌, true};
 ghost use Rattle.std.specs.List.Sorted.{IsNonDecreasingBy};
 ghost use Rattle.macho_fields.specs.Bytes.{bytes_of};
 ghost use Rattle.macho_fields.specs.FirstPlace.{IsLeastPlace};
 ghost use Rattle.macho_spans.specs.Span.{end_of};
 ghost use Rattle.macho_spans.specs.Overlap.{sorted_spans};
-ghost use Rattle.macho_strict.specs.Gaps.{IsStray, IsLeastWithin};
+ghost use Rattle.macho_strict.specs.Gaps.{ArePassed, IsStray, IsLeastWithin};
 ghost use Rattle.macho_strict.specs.declared.gaps.Wanted.{Wanted};
 
 use macho_fields::{Bytes, Span, SpansByStart};
@@ -64,6 +64,8 @@ pub(crate) struct Gaps<'a> {
     wanted: Wanted,
     // Whether none of the spans began before an earlier one. If one did, nothing more is noted.
     by_start: bool,
+    // Whether none of them began before an earlier one ended.
+    ascend: bool,
     // Where the last span begins.
     start: u64,
     // The greatest end of a span.
@@ -73,11 +75,11 @@ pub(crate) struct Gaps<'a> {
 }
 
 impl<'a> Gaps<'a> {
-    ghost use Rattle.std.specs.Prelude.{◌≡◌, ◌++◌, [], ◌∷◌, List, ℕ, true};
+    ghost use Rattle.std.specs.Prelude.{◌≡◌, ◌≤◌, ◌↔◌, ◌++◌, [], ◌∷◌, List, ℕ, true, IsTrue};
     ghost use Rattle.macho_fields.specs.Bytes.{bytes_of};
     ghost use Rattle.macho_fields.specs.FirstPlace.{IsLeastPlace};
     ghost use Rattle.macho_spans.specs.declared.span.Span.{Span};
-    ghost use Rattle.macho_strict.specs.Gaps.{ArePassed, IsLeastNext, IsStray};
+    ghost use Rattle.macho_strict.specs.Gaps.{AreInside, ArePassed, IsLeastNext, IsStray};
     ghost use Rattle.macho_strict.specs.declared.gaps.Wanted.{Wanted};
 
     // No span was passed.
@@ -88,6 +90,7 @@ impl<'a> Gaps<'a> {
             bytes,
             wanted,
             by_start: true,
+            ascend: true,
             start: 0,
             end: 0,
             stray: None,
@@ -103,6 +106,7 @@ impl<'a> Gaps<'a> {
         if span.len == 0 {
             return;
         }
+        self.ascend = self.ascends_to(span.start);
         self.by_start = self.by_start && self.start <= span.start;
         if self.by_start {
             self.stray = self.stray_before(span.start);
@@ -111,11 +115,35 @@ impl<'a> Gaps<'a> {
         }
     }
 
+    // Whether the spans ascend with one more that begins there and is not empty.
+    fn ascends_to(&self, start: u64) -> bool
+        ensures { IsTrue result ↔ ((self.now.ascend ≡ true) × (self.now.end ≤ start)) }
+    {
+        self.ascend && self.end <= u128::from(start)
+    }
+
     // Whether none of the spans began before an earlier one.
     pub(crate) fn by_start(&self) -> bool
         ensures { result ≡ self.now.by_start }
     {
         self.by_start
+    }
+
+    // Whether none of the spans began before an earlier one ended.
+    pub(crate) fn ascend(&self) -> bool
+        ensures { result ≡ self.now.ascend }
+    {
+        self.ascend
+    }
+
+    // Whether each of the spans that are not empty ends inside the bytes.
+    pub(crate) fn are_inside(&self) -> bool
+        requires { self.now.by_start ≡ true }
+        ensures { (wanted : Wanted) (bytes : List ℕ) (spans : List Span)
+            → ArePassed wanted bytes spans self.now
+            → (IsTrue result ↔ AreInside bytes spans) }
+    {
+        self.end <= u128::from(self.bytes.len())
     }
 
     // The least place of a byte that is looked for and lies in none of the spans.
@@ -148,14 +176,23 @@ impl<'a> Gaps<'a> {
     }
 }
 
-// The least place of a byte that is looked for and lies in none of the spans.
-pub(crate) fn stray_in(bytes: Bytes, wanted: Wanted, spans: &SpansByStart) -> Option<u64>
+// What lies between the spans, which are passed by their starts.
+pub(crate) fn gaps_in<'a>(bytes: Bytes<'a>, wanted: Wanted, spans: &SpansByStart) -> Gaps<'a>
     requires { IsNonDecreasingBy (λ span. span.start) (sorted_spans spans.now) }
-    ensures { IsLeastPlace (IsStray wanted (bytes_of bytes.entry) (sorted_spans spans.now)) result }
+    ensures passed { ArePassed wanted (bytes_of bytes.entry) (sorted_spans spans.now) result }
+    ensures by_start { result.by_start ≡ true }
 {
     let mut gaps = Gaps::new(bytes, wanted);
     for index in 0..spans.len() {
         gaps.pass(spans.span(index));
     }
-    gaps.stray()
+    gaps
+}
+
+// The least place of a byte that is looked for and lies in none of the spans.
+pub(crate) fn stray_in(bytes: Bytes, wanted: Wanted, spans: &SpansByStart) -> Option<u64>
+    requires { IsNonDecreasingBy (λ span. span.start) (sorted_spans spans.now) }
+    ensures { IsLeastPlace (IsStray wanted (bytes_of bytes.entry) (sorted_spans spans.now)) result }
+{
+    gaps_in(bytes, wanted, spans).stray()
 }

@@ -12,8 +12,8 @@ ghost use Rattle.macho_strict.specs.Verdict.{file_parts};
 ghost use Rattle.macho_strict.specs.declared.gaps.Wanted.{Wanted};
 
 use crate::gaps::{Gaps, Wanted, stray_in};
-use crate::overlap::{FileParts, count_of, sorted_file_overlap, span_list};
-use macho_fields::{Break, Bytes, Rule, Sharing, SpanOrder};
+use crate::overlap::{FileParts, count_of, file_overlap, gaps_between, span_list};
+use macho_fields::{Break, Bytes, Rule};
 use macho_image::{Image, Segment};
 use macho_rules::Refusal;
 use std::alloc::{AllocError, Global};
@@ -61,8 +61,6 @@ fn has_headers(segment: &Segment, commands_end: u64) -> bool
 pub(crate) struct Survey<'a> {
     // The image that was scanned.
     image: Bytes<'a>,
-    // In what order the file parts come. The place of a segment is its tag.
-    order: SpanOrder,
     // What lies between them.
     gaps: Gaps<'a>,
 }
@@ -77,7 +75,7 @@ impl<'a> Model for Survey<'a> {
     ghost view = { λ survey. bytes_of survey.image };
 
     ghost invariant = { λ survey.
-        IsSurveyOf (bytes_of survey.image) survey.order survey.gaps };
+        IsSurveyOf (bytes_of survey.image) survey.gaps };
 }
 
 impl<'a> Survey<'a> {
@@ -95,16 +93,9 @@ impl<'a> Survey<'a> {
         ensures { result ≡ image.now }
     {
         let bytes = image.bytes();
-        let mut order = SpanOrder::new();
-        let mut gaps = Gaps::new(bytes, Wanted::NonZero);
-        for part in FileParts::of(image) {
-            order.note(part.span, part.described);
-            gaps.pass(part.span);
-        }
         Survey {
             image: bytes,
-            order,
-            gaps,
+            gaps: gaps_between(bytes, FileParts::of(image)),
         }
     }
 
@@ -118,10 +109,10 @@ impl<'a> Survey<'a> {
         ensures { ContinuesWithMemory (BreaksImage image.now) Rule.SegmentFileOverlap
             (IsUnordered (file_parts image.now)) result }
     {
-        let overlap = match self.order.sharing() {
-            Sharing::None => None,
-            Sharing::First(place) => Some(place),
-            Sharing::Unknown => sorted_file_overlap(alloc, image)?,
+        let overlap = if self.gaps.ascend() {
+            None
+        } else {
+            file_overlap(alloc, image)?
         };
         Rule::SegmentFileOverlap.judge(overlap)?;
         Ok(())

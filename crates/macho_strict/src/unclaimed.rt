@@ -6,17 +6,16 @@ ghost use Rattle.macho_fields.specs.Layers.{KeptBelow};
 ghost use Rattle.macho_fields.specs.RuleList.{rank};
 ghost use Rattle.macho_fields.specs.declared.rule.Rule.{Rule};
 ghost use Rattle.macho_rules.specs.Check.{ContinuesWithMemory};
-ghost use Rattle.macho_spans.specs.Overlap.{IsAscending};
 ghost use Rattle.macho_strict.specs.Gaps.{IsStray};
 ghost use Rattle.macho_strict.specs.Rules.{BreaksImage};
 ghost use Rattle.macho_strict.specs.Unclaimed.{code_parts, is_code};
 ghost use Rattle.macho_strict.specs.Verdict.{element_spans, HasLooseNop};
 ghost use Rattle.macho_strict.specs.declared.gaps.Wanted.{Wanted};
 
-use crate::claims::{Claims, least, sorted_stray};
+use crate::claims::{Claims, element_list, least};
 use crate::elements::Elements;
 use crate::gaps::{NOP, Wanted, stray_in};
-use crate::overlap::{FileParts, count_of, span_list};
+use crate::overlap::{FileParts, count_of};
 use macho_fields::header::vm_prot::VM_PROT_EXECUTE;
 use macho_fields::{Rule, SpanList};
 use macho_image::{Image, Segment};
@@ -25,13 +24,13 @@ use std::alloc::{AllocError, Global};
 
 // Each byte of a segment is zero, a NOP of code, or lies in an element.
 //
-// It takes memory only if the elements do not ascend, or a NOP lies in none: 24 bytes for each element
-// and each segment, to sort the elements with the segments that may be executed.
+// It takes memory only if a NOP lies in no element: 24 bytes for each element and each segment, to sort
+// the elements with the segments that may be executed.
 pub(crate) fn unclaimed_byte(alloc: Global, image: &Image, claims: &Claims) -> Result<(), Refusal>
     requires claims { claims.now ≡ image.now }
     requires kept { KeptBelow (BreaksImage image.now) (rank Rule.UnclaimedByte) }
     ensures { ContinuesWithMemory (BreaksImage image.now) Rule.UnclaimedByte
-        ((¬ IsAscending (element_spans image.now)) ⊎ HasLooseNop image.now) result }
+        (HasLooseNop image.now) result }
 {
     let unclaimed = first_unclaimed(alloc, image, claims)?;
     Rule::UnclaimedByte.judge(unclaimed)?;
@@ -44,10 +43,9 @@ fn first_unclaimed(alloc: Global, image: &Image, claims: &Claims) -> Result<Opti
     requires claims { claims.now ≡ image.now }
     requires kept { KeptBelow (BreaksImage image.now) (rank Rule.UnclaimedByte) }
     ensures found { IfOk result (IsLeastPlace (BreaksImage image.now Rule.UnclaimedByte)) }
-    ensures memory { OnErr result
-        ((¬ IsAscending (element_spans image.now)) ⊎ HasLooseNop image.now) }
+    ensures memory { OnErr result (HasLooseNop image.now) }
 {
-    let Some(place) = claims.first_loose(alloc, image)? else {
+    let Some(place) = claims.loose() else {
         return Ok(None);
     };
     if image.bytes().read_u8(place) != NOP {
@@ -64,9 +62,18 @@ fn least_unclaimed(alloc: Global, image: &Image) -> Result<Option<u64>, AllocErr
         ⊎ IsStray Wanted.NonZero image.now
         (element_spans image.now ++ code_parts image.now) place)) }
 {
-    let other = sorted_stray(alloc, image, Wanted::NoPadding)?;
+    let other = stray_no_padding(alloc, image)?;
     let outside = stray_outside_code(alloc, image)?;
     Ok(least(other, outside))
+}
+
+// The least place of a byte in no element that is neither zero nor a NOP.
+fn stray_no_padding(alloc: Global, image: &Image) -> Result<Option<u64>, AllocError>
+    ensures { IfOk result (IsLeastPlace
+        (IsStray Wanted.NoPadding image.now (element_spans image.now))) }
+{
+    let list = element_list(alloc, count_of(Elements::of(image)), image)?;
+    Ok(stray_in(image.bytes(), Wanted::NoPadding, &list.sorted()))
 }
 
 // The least place of a byte that is not zero and lies in no element and in no segment that may be
@@ -76,7 +83,7 @@ fn stray_outside_code(alloc: Global, image: &Image) -> Result<Option<u64>, Alloc
         (element_spans image.now ++ code_parts image.now))) }
 {
     let count = count_of(Elements::of(image)).saturating_add(count_of(FileParts::of(image)));
-    let mut list = span_list(alloc, count, Elements::of(image))?;
+    let mut list = element_list(alloc, count, image)?;
     push_code(&mut list, image)?;
     Ok(stray_in(image.bytes(), Wanted::NonZero, &list.sorted()))
 }

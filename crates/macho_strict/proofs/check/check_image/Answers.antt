@@ -1,4 +1,4 @@
-use Rattle.std.proofs.Common.{◌⊎◌, Ok, Err, inl, inr}
+use Rattle.std.proofs.Common.{Ok, Err, inl, inr}
 use Rattle.macho_fields.specs.Layers.{IsLeast}
 use Rattle.macho_fields.specs.declared.rule.Rule.TheVariants as rule
 use Rattle.macho_fields.proofs.FirstPlaces.{first_judged}
@@ -41,8 +41,7 @@ unclaimed_byte-requires-clause-kept c =
 
 pub returns-in_err-unclaimed_byte-clause-refused : goal.returns-in_err-unclaimed_byte-clause-refused
 returns-in_err-unclaimed_byte-clause-refused c =
-    passed_of c.args.image.now ((¬ IsAscending (element_spans c.args.image.now)) ⊎ HasLooseNop c.args.image.now) (λ either. elim either [ inl not ↦ inr (inl not) | inr nop ↦ inr (inr (inr nop)) ])
-    c.in_err-unclaimed_byte.field-0.0 c.in_err-unclaimed_byte.ensures
+    passed_of c.args.image.now (HasLooseNop c.args.image.now) (λ nop. inr (inr (inr nop))) c.in_err-unclaimed_byte.field-0.0 c.in_err-unclaimed_byte.ensures
     c.from_residual-in_err-unclaimed_byte.result c.from_residual-in_err-unclaimed_byte.ensures.1
 
 pub returns-clause-unbroken : goal.returns-clause-unbroken

@@ -3,12 +3,9 @@ use Rattle.std.specs.Option.{option_map}
 use Rattle.macho_fields.specs.Bytes.{bytes_of}
 use Rattle.macho_image.specs.Command.{command_of}
 use Rattle.macho_image.specs.Segment.{SegmentView, SectionView, segment_of, section_at, sections_with}
-use Rattle.macho_strict.proofs.ElementWalks.{described_hold, as_described}
+use Rattle.macho_strict.proofs.ElementWalks.{as_described}
 use Rattle.macho_strict.proofs.elements.describe.Goals as goal
 use Rattle.macho_strict.proofs.elements.describe.Goals.{in-Some, in-None}
-
-pub invariant_of-tables : goal.invariant_of-tables
-invariant_of-tables c = rw c.described_tables.ensures (described_hold (bytes_of c.args.image) (command_of c.args.command.now) c.requires.listed)
 
 abbrev sections_of : SegmentView → List SectionView
 sections_of segment = map (section_at segment.image) (sections_with segment.image segment.place)
@@ -21,4 +18,4 @@ returns c =
       | in-Some w ↦ w.sections-is ∙ (ap Some w.sections.ensures ∙ ap (option_map sections_of) (sym w.in-Some.is ∙ c.of.ensures))
       | in-None w ↦ w.sections-is ∙ ap (option_map sections_of) (sym w.in-None.is ∙ c.of.ensures)
     ] in
-    as_described image v c.requires.listed c.match-of.sections c.described_tables.result.now have c.described_tables.ensures
+    as_described image v c.requires.listed c.match-of.sections c.tables_of.result have c.tables_of.ensures

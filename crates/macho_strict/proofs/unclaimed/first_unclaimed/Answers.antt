@@ -1,4 +1,4 @@
-use Rattle.std.proofs.Common.{◌≡◌, ◌≢◌, ◌⊎◌, ◌<◌, ◌++◌, ℕ, List, length, Option, Some, slice_index, sym, ap, ◌∙◌, subst, inr, lit<}
+use Rattle.std.proofs.Common.{◌≡◌, ◌≢◌, ◌⊎◌, ◌<◌, ◌++◌, ℕ, List, length, Option, Some, slice_index, sym, ap, ◌∙◌, subst, lit<}
 use Rattle.std.proofs.lemmas.Result.{IfOk-weaker}
 use Rattle.macho_fields.specs.FirstPlace.{IsLeastPlace}
 use Rattle.macho_fields.specs.Layers.{KeptBelow}
@@ -20,18 +20,22 @@ module _ (image : List ℕ) (kept : KeptBelow (BreaksImage image) (rank rule.Unc
   keeps_apart : (p : ℕ) → ¬ BreaksImage image rule.SegmentFileOverlap p
   keeps_apart p broken = kept rule.SegmentFileOverlap p (lit< tt) broken
 
+-- the claims are those of the image
+of_image : (claims image : List ℕ) → claims ≡ image → (first : Option ℕ) → IsLeastPlace (IsStray wanted.NonZero claims (element_spans claims)) first → IsLeastPlace (IsStray wanted.NonZero image (element_spans image)) first
+of_image claims image same first least = subst (λ (bytes : List ℕ). IsLeastPlace (IsStray wanted.NonZero bytes (element_spans bytes)) first) same least
+
 at_place : (image : List ℕ) (first : Option ℕ) (p : ℕ) → first ≡ Some p → IsLeastPlace (IsStray wanted.NonZero image (element_spans image)) first → IsLeastPlace (IsStray wanted.NonZero image (element_spans image)) (Some p)
 at_place image first p is least = subst (IsLeastPlace (IsStray wanted.NonZero image (element_spans image))) is least
 
 pub read_u8-requires : goal.read_u8-requires
 read_u8-requires c =
-    let least = at_place c.args.image.now c.in_ok-place.field-0 c.in-Some.place c.in-Some.is c.in_ok-place.ensures.found in
+    let least = at_place c.args.image.now c.loose.result c.in-Some.place c.in-Some.is (of_image c.args.claims.now c.args.image.now c.requires.claims c.loose.result c.loose.ensures) in
     subst (λ (bytes : List ℕ). c.in-Some.place < length bytes) (sym c.bytes.ensures.bytes) least.0.0.0
 
 pub returns-in_default-clause-found : goal.returns-in_default-clause-found
 returns-in_default-clause-found c =
     let image = c.args.image.now in
-    none_loose image (subst (IsLeastPlace (IsStray wanted.NonZero image (element_spans image))) c.in_default.is c.in_ok-place.ensures.found)
+    none_loose image (subst (IsLeastPlace (IsStray wanted.NonZero image (element_spans image))) c.in_default.is (of_image c.args.claims.now image c.requires.claims c.loose.result c.loose.ensures))
 
 pub returns-clause-found : goal.returns-clause-found
 returns-clause-found c =
@@ -42,14 +46,14 @@ returns-clause-found c =
 pub returns-clause-memory : goal.returns-clause-memory
 returns-clause-memory c =
     let image = c.args.image.now in
-    let least = at_place image c.in_ok-place.field-0 c.in-Some.place c.in-Some.is c.in_ok-place.ensures.found in
+    let least = at_place image c.loose.result c.in-Some.place c.in-Some.is (of_image c.args.claims.now image c.requires.claims c.loose.result c.loose.ensures) in
     let byte : slice_index image c.in-Some.place ≡ 0x90 = ap (λ (bytes : List ℕ). slice_index bytes c.in-Some.place) (sym c.bytes.ensures.bytes) ∙ (sym c.read_u8.ensures ∙ c.if-read_u8.false) in
-    on_err c.least_unclaimed.result (inr (c.in-Some.place, byte, least.0.1))
+    on_err c.least_unclaimed.result (c.in-Some.place, byte, least.0.1)
 
 pub returns-then-read_u8-clause-found : goal.returns-then-read_u8-clause-found
 returns-then-read_u8-clause-found c =
     let image = c.args.image.now in
-    let least = at_place image c.in_ok-place.field-0 c.in-Some.place c.in-Some.is c.in_ok-place.ensures.found in
+    let least = at_place image c.loose.result c.in-Some.place c.in-Some.is (of_image c.args.claims.now image c.requires.claims c.loose.result c.loose.ensures) in
     let other : slice_index image c.in-Some.place ≢ 0x90 =
     λ same. c.if-read_u8.true (c.read_u8.ensures ∙ (ap (λ (bytes : List ℕ). slice_index bytes c.in-Some.place) c.bytes.ensures.bytes ∙ same)) in
     first_loose image (keeps_stray image c.requires.kept) (keeps_apart image c.requires.kept) c.in-Some.place other least

@@ -1,17 +1,16 @@
-use Rattle.std.proofs.Common.{◌⊎◌, Ok, Err}
+use Rattle.std.proofs.Common.{Ok, Err}
 use Rattle.macho_fields.specs.Layers.{IsLeast}
 use Rattle.macho_fields.specs.declared.rule.Rule.TheVariants as rule
 use Rattle.macho_fields.proofs.FirstPlaces.{first_judged}
-use Rattle.macho_spans.specs.Overlap.{IsAscending}
 use Rattle.macho_strict.specs.Rules.{BreaksImage}
-use Rattle.macho_strict.specs.Verdict.{element_spans, HasLooseNop}
+use Rattle.macho_strict.specs.Verdict.{HasLooseNop}
 use Rattle.macho_strict.proofs.Judged.{without_memory, refused}
 use Rattle.macho_strict.proofs.unclaimed.unclaimed_byte.Goals as goal
 
 pub returns-in_err-unclaimed : goal.returns-in_err-unclaimed
 returns-in_err-unclaimed c =
     let image = c.args.image.now in
-    without_memory (BreaksImage image) rule.UnclaimedByte ((¬ IsAscending (element_spans image)) ⊎ HasLooseNop image) c.in_err-unclaimed.ensures.memory c.from_residual.result c.from_residual.ensures.1
+    without_memory (BreaksImage image) rule.UnclaimedByte (HasLooseNop image) c.in_err-unclaimed.ensures.memory c.from_residual.result c.from_residual.ensures.1
 
 pub returns-in_err-judge : goal.returns-in_err-judge
 returns-in_err-judge c =
@@ -19,7 +18,7 @@ returns-in_err-judge c =
     let found = c.in_ok-unclaimed.unclaimed in
     let b = c.in_err-judge.field-0.0 in
     let least : IsLeast (BreaksImage image) b = first_judged {T = Unit {0}} (BreaksImage image) rule.UnclaimedByte found (Err b) c.requires.kept c.in_ok-unclaimed.ensures.found c.in_err-judge.ensures in
-    refused (BreaksImage image) rule.UnclaimedByte ((¬ IsAscending (element_spans image)) ⊎ HasLooseNop image) b least c.from_residual-in_err-judge.result c.from_residual-in_err-judge.ensures.1
+    refused (BreaksImage image) rule.UnclaimedByte (HasLooseNop image) b least c.from_residual-in_err-judge.result c.from_residual-in_err-judge.ensures.1
 
 pub returns : goal.returns
 returns c =

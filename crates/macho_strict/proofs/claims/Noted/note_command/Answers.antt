@@ -1,22 +1,22 @@
-use Rattle.std.proofs.Common.{◌++◌, ◌∷◌, ◌∙◌, [], List, subst, sym}
-use Rattle.std.proofs.lemmas.List.{append-nil, append_assoc}
+use Rattle.std.proofs.Common.{◌++◌, ◌∙◌, List, ap, subst, sym}
 use Rattle.macho_fields.specs.Bytes.{bytes_of}
+use Rattle.macho_image.specs.Command.{command_of}
 use Rattle.macho_strict.specs.Claims.{AreNoted}
+use Rattle.macho_strict.specs.ElementWalk.{sections_left}
 use Rattle.macho_strict.specs.declared.elements.Element.{Element}
-use Rattle.macho_strict.proofs.Sharings.{all_yielded}
+use Rattle.macho_strict.proofs.ElementWalks.{segment_described, other_described}
 use Rattle.macho_strict.proofs.claims.Noted.note_command.Goals as goal
 
-pub loop-element-init : goal.loop-element-init
-loop-element-init c = λ elements are. subst (λ (es : List Element). AreNoted (bytes_of c.args.bytes) es c.args.self.now) (sym (append-nil elements)) are
+pub returns-in-Some : goal.returns-in-Some
+returns-in-Some c = λ elements are.
+    let image = bytes_of c.args.bytes in
+    let v = command_of c.args.command.now in
+    let described = ap sections_left c.sections.ensures ∙ segment_described image v c.requires.listed c.in-Some.segment (sym c.of.ensures ∙ c.in-Some.is) in
+    subst (λ (es : List Element). AreNoted image (elements ++ es) c.note_sections.new.self) described (c.note_sections.ensures image elements are)
 
-pub loop-element-preserved : goal.loop-element-preserved
-loop-element-preserved c = λ elements are.
-    let seen = c.loop-element.yielded in
-    subst (λ (es : List Element). AreNoted (bytes_of c.args.bytes) es c.note.new.self) (append_assoc elements seen (c.in-Some.element ∷ []))
-    (c.note.ensures (elements ++ seen) (c.loop-element.invariant elements are))
-
-pub returns : goal.returns
-returns c = λ elements are.
-    let all = all_yielded _ c.into_iter-element-iterator.result (c.into_iter-element-iterator.ensures.into_iter_gives ∙ c.describe-element-items.ensures)
-    c.loop-element.yielded _ _ c.next.result c.loop-element.yielded_by c.next.ensures.steps c.in-None.is in
-    subst (λ (es : List Element). AreNoted (bytes_of c.args.bytes) (elements ++ es) c.loop-element.self) all (c.loop-element.invariant elements are)
+pub returns-in-None : goal.returns-in-None
+returns-in-None c = λ elements are.
+    let image = bytes_of c.args.bytes in
+    let v = command_of c.args.command.now in
+    let described = c.tables_of.ensures ∙ other_described image v c.requires.listed (sym c.of.ensures ∙ c.in-None.is) in
+    subst (λ (es : List Element). AreNoted image (elements ++ es) c.note_tables.new.self) described (c.note_tables.ensures image elements are)

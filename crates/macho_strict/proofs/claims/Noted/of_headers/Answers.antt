@@ -7,5 +7,5 @@ use Rattle.macho_strict.proofs.claims.Noted.of_headers.Goals as goal
 
 pub returns : goal.returns
 returns c =
-    subst (λ (image : List ℕ). AreNoted image (headers c.args.image.now ∷ []) c.note.new.self) c.bytes-bytes.ensures.bytes
-    (subst (λ (head : Element). AreNoted (bytes_of c.bytes-bytes.result) (head ∷ []) c.note.new.self) c.headers.ensures (c.note.ensures [] c.new-noted.ensures))
+    subst (λ (image : List ℕ). AreNoted image (headers c.args.image.now ∷ []) c.note.new.self) c.bytes.ensures.bytes
+    (subst (λ (head : Element). AreNoted (bytes_of c.bytes.result) (head ∷ []) c.note.new.self) c.headers.ensures (c.note.ensures (bytes_of c.bytes.result) [] c.new-noted.ensures))

@@ -10,14 +10,14 @@ use Rattle.macho_strict.specs.declared.gaps.Wanted.TheVariants as wanted
 use Rattle.macho_fields.proofs.FirstPlaces.{first_judged}
 use Rattle.macho_strict.proofs.Judged.{without_memory, refused}
 use Rattle.macho_strict.proofs.Passed.{ascending_by_start}
-use Rattle.macho_strict.proofs.Surveyed.{passed_parts, least_stray}
+use Rattle.macho_strict.proofs.Surveyed.{least_stray}
 use Rattle.macho_strict.proofs.segments.Survey.stray_byte.Goals as goal
 
 pub least_stray-requires : goal.least_stray-requires
 least_stray-requires c =
     let own = bytes_of c.self.inside.image in
     let same : own ≡ c.args.image.now = c.self.view_is ∙ c.requires.image in
-    subst (λ (bytes : List ℕ). ArePassed wanted.NonZero bytes (file_parts bytes) c.self.inside.gaps) same (passed_parts own c.self.inside.gaps c.self.invariant.1.passed)
+    subst (λ (bytes : List ℕ). ArePassed wanted.NonZero bytes (file_parts bytes) c.self.inside.gaps) same c.self.invariant.1
 
 pub returns-in_err-stray : goal.returns-in_err-stray
 returns-in_err-stray c =
