@@ -5,13 +5,14 @@ use Rattle.std.specs.Prelude.{filter, ◌&&◌, nat_le}
 use Rattle.std.proofs.lemmas.Bool.{cases_Bool, and_parts, eqb-true, le-leb, eq-eqb}
 use Rattle.std.proofs.lemmas.List.Elements.{All-tail, All-contains_itself}
 use Rattle.macho_fields.specs.Image.{command_cmd, command_size, command_count, commands_end, commands_of, IsGood, places_from, with_cmd}
-use Rattle.macho_fields.specs.LoadCommands.{structure_of}
+use Rattle.macho_fields.specs.LoadCommands.{structure_of, structure_size}
 use Rattle.macho_fields.specs.Segment.{segments_of}
 use Rattle.macho_fields.specs.declared.header.loader.TheConstants as loader
-use Rattle.macho_fields.specs.declared.load_command.Structure.TheVariants.{BuildVersionCommand, DylibCommand}
+use Rattle.macho_fields.specs.declared.load_command.Structure.{Structure}
+use Rattle.macho_fields.specs.declared.load_command.Structure.TheVariants.{BuildVersionCommand, DylibCommand, SymtabCommand, DysymtabCommand, DyldInfoCommand, EncryptionInfoCommand64}
 use Rattle.macho_fields.proofs.LoadCommands.{library_structure}
 use Rattle.macho_fields.proofs.Opened.{structure_inside, sections_inside, command_inside}
-use Rattle.std.specs.Option.{option_map}
+use Rattle.std.specs.Option.{option_map, option_map_or}
 use Rattle.std.proofs.lemmas.Option.{same_Some}
 use Rattle.macho_fields.proofs.Parts.{command_good, with_cmd_is, with_cmd_among}
 use Rattle.macho_image.specs.Command.{CommandView, command_of, command_at}
@@ -21,12 +22,14 @@ use Rattle.macho_image.specs.Walk.{CanWalk}
 use Rattle.macho_image.proofs.Opened.{may_open, opened_below, opened_keeps}
 use Rattle.macho_image.proofs.OpenedWalk.{opened_commands, opened_inside, can_walk}
 use Rattle.macho_image.proofs.Kept.{got_first}
+use Rattle.macho_c.specs.BoundedTables.{bounding, has_cmd}
+use Rattle.macho_c.specs.Builds.{builds_in, builds_left, build_row, names_platform}
 use Rattle.macho_c.specs.Commands.{commands_in}
 use Rattle.macho_c.specs.Cursor.{start}
 use Rattle.macho_c.specs.Image.{only, id_in}
 use Rattle.macho_c.specs.Libraries.{loaded_by, libraries_left, library_row}
 use Rattle.macho_c.proofs.Counts.{no_more}
-use Rattle.macho_c.specs.Loads.{IsLoad, is_command, is_segment, is_library, is_build, loads_library, commands_from, commands_left, wanted_left}
+use Rattle.macho_c.specs.Loads.{IsLoad, is_command, is_segment, is_library, is_build, is_dyld_info, is_source_version, loads_library, version_min_platform, commands_from, commands_left, wanted_left}
 use Rattle.macho_c.specs.Rows.{HasHeaders}
 use Rattle.macho_c.specs.declared.load.Wanted.TheVariants as wanted
 
@@ -68,6 +71,12 @@ both : (a b : Bool) → (a ≡ true → b ≡ true) → (a && b) ≡ a
 both true b holds = holds refl
 both false b holds = refl
 
+pub dyld_info_structure : (cmd : ℕ) → is_dyld_info cmd ≡ true → structure_of cmd ≡ Some DyldInfoCommand
+dyld_info_structure cmd is = elim (cases_Bool (cmd == loader.LC_DYLD_INFO)) [
+  | inl info ↦ ap structure_of (eqb-true cmd loader.LC_DYLD_INFO info)
+  | inr other ↦ let only_form : cmd == loader.LC_DYLD_INFO_ONLY ≡ true = rw other at is in ap structure_of (eqb-true cmd loader.LC_DYLD_INFO_ONLY only_form)
+]
+
 module _ (image : List ℕ) (opened : IsOpened image) where
   among : (P : ℕ → Type 0) → ((c : ℕ) → Contains (commands_of image) c → P c) → All P (commands_of image)
   among P each k d less = each _ (All-contains_itself (commands_of image) k d less)
@@ -89,19 +98,58 @@ module _ (image : List ℕ) (opened : IsOpened image) where
       let whole = structure_inside image (commands_of image) (opened_keeps image opened) (opened_commands image opened) c DylibCommand has (library_structure (command_cmd image c) (and_parts _ _ is).0) in
       le-leb 24 (command_size image c) (omega (arith, whole)))))
 
-  pub builds_wanted : wanted_left wanted.Builds image start ≡ with_cmd image loader.LC_BUILD_VERSION (commands_of image)
+  -- a command of a structure is long enough for it
+  whole_structure : (s : Structure) (test : ℕ → Bool) → ((cmd : ℕ) → test cmd ≡ true → structure_of cmd ≡ Some s) → (c : ℕ) → Contains (commands_of image) c
+      → (test (command_cmd image c) && nat_le (structure_size s) (command_size image c)) ≡ test (command_cmd image c)
+  whole_structure s test listed c has =
+      both (test (command_cmd image c)) (nat_le (structure_size s) (command_size image c)) (λ is.
+      let whole = structure_inside image (commands_of image) (opened_keeps image opened) (opened_commands image opened) c s has (listed (command_cmd image c) is) in
+      le-leb (structure_size s) (command_size image c) (omega (arith, whole)))
+
+  by_cmd : (cmd : ℕ) (s : Structure) → structure_of cmd ≡ Some s → (other : ℕ) → (other == cmd) ≡ true → structure_of other ≡ Some s
+  by_cmd cmd s listed other is = ap structure_of (eqb-true other cmd is) ∙ listed
+
+  pub builds_wanted : wanted_left wanted.Builds image start ≡ builds_in image
   builds_wanted =
       ap (filter (is_build image)) (commands_all image opened)
-      ∙ filter_same (is_build image) (λ c. command_cmd image c == loader.LC_BUILD_VERSION) (commands_of image) (among _ (λ c has.
-      both (command_cmd image c == loader.LC_BUILD_VERSION) (nat_le 24 (command_size image c)) (λ is.
-      let listed : structure_of (command_cmd image c) ≡ Some BuildVersionCommand = ap structure_of (eqb-true (command_cmd image c) loader.LC_BUILD_VERSION is) in
-      let whole = structure_inside image (commands_of image) (opened_keeps image opened) (opened_commands image opened) c BuildVersionCommand has listed in
-      le-leb 24 (command_size image c) (omega (arith, whole)))))
+      ∙ filter_same (is_build image) (names_platform image) (commands_of image) (among _ (λ c has. by c has (version_min_platform (command_cmd image c))))
+    where
+      by : (c : ℕ) → Contains (commands_of image) c → (platform : Option ℕ)
+          → option_map_or (λ p. nat_le 16 (command_size image c)) platform ((command_cmd image c == loader.LC_BUILD_VERSION) && nat_le 24 (command_size image c))
+          ≡ option_map_or (λ p. nat_le 16 (command_size image c)) platform (command_cmd image c == loader.LC_BUILD_VERSION)
+      by c has (Some p) = refl
+      by c has None = whole_structure BuildVersionCommand (λ cmd. cmd == loader.LC_BUILD_VERSION) (by_cmd loader.LC_BUILD_VERSION BuildVersionCommand refl) c has
+
+  pub versions_wanted : wanted_left wanted.SourceVersions image start ≡ filter (is_source_version image) (commands_of image)
+  versions_wanted = ap (filter (is_source_version image)) (commands_all image opened)
+
+  -- all commands of a structure
+  structures_wanted : (s : Structure) (test : ℕ → Bool) → ((cmd : ℕ) → test cmd ≡ true → structure_of cmd ≡ Some s)
+      → filter (λ c. test (command_cmd image c) && nat_le (structure_size s) (command_size image c)) (commands_left image start) ≡ filter (λ c. test (command_cmd image c)) (commands_of image)
+  structures_wanted s test listed =
+      ap (filter (λ c. test (command_cmd image c) && nat_le (structure_size s) (command_size image c))) (commands_all image opened)
+      ∙ filter_same (λ c. test (command_cmd image c) && nat_le (structure_size s) (command_size image c)) (λ c. test (command_cmd image c)) (commands_of image) (among _ (whole_structure s test listed))
+
+  pub symtabs_wanted : wanted_left wanted.Symtabs image start ≡ bounding wanted.Symtabs image
+  symtabs_wanted = structures_wanted SymtabCommand (has_cmd wanted.Symtabs) (by_cmd loader.LC_SYMTAB SymtabCommand refl)
+
+  pub dysymtabs_wanted : wanted_left wanted.Dysymtabs image start ≡ bounding wanted.Dysymtabs image
+  dysymtabs_wanted = structures_wanted DysymtabCommand (has_cmd wanted.Dysymtabs) (by_cmd loader.LC_DYSYMTAB DysymtabCommand refl)
+
+  pub dyld_infos_wanted : wanted_left wanted.DyldInfos image start ≡ bounding wanted.DyldInfos image
+  dyld_infos_wanted = structures_wanted DyldInfoCommand (has_cmd wanted.DyldInfos) dyld_info_structure
+
+  pub encryption_infos_wanted : wanted_left wanted.EncryptionInfos image start ≡ bounding wanted.EncryptionInfos image
+  encryption_infos_wanted = structures_wanted EncryptionInfoCommand64 (has_cmd wanted.EncryptionInfos) (by_cmd loader.LC_ENCRYPTION_INFO_64 EncryptionInfoCommand64 refl)
 
   -- the libraries that are loaded are no more than the commands
   pub libraries_few : (place : ℕ) → length (libraries_left place image start) ≤ length (commands_in image)
   libraries_few place =
       no_more image (λ c. loads_library (command_cmd image c)) (library_row place image) (libraries_left place image start) (ap (map (library_row place image)) libraries_wanted)
+
+  -- the builds are no more than the commands
+  pub builds_few : length (builds_left image start) ≤ length (commands_in image)
+  builds_few = no_more image (names_platform image) (build_row image) (builds_left image start) (ap (map (build_row image)) builds_wanted)
 
   -- the first command that says what the image is as a library
   pub id_held : (c : Command) → option_map command_of (Some c) ≡ option_map (command_at image) (only image loader.LC_ID_DYLIB) → commands_end image < 2 ^ 33

@@ -81,7 +81,7 @@ fits_inside image start n each inside some = elim (cases_lt (length image) (star
 no_items : (image : List ℕ) (start each : ℕ) → items_inside image start each 0 ≡ []
 no_items image start each = elim (cases_Bool (nat_le (start + each * 0) (length image))) [ inl t ↦ rw t refl | inr f ↦ rw f refl ]
 
-items_counted : (image : List ℕ) (start each n : ℕ) → ¬ IsOutside image (start, n, each) → length (items_inside image start each n) ≡ n
+pub items_counted : (image : List ℕ) (start each n : ℕ) → ¬ IsOutside image (start, n, each) → length (items_inside image start each n) ≡ n
 items_counted image start each zero inside = ap length (no_items image start each)
 items_counted image start each (suc n) inside =
     let most = subst (λ size. start + size ≤ length image) (mul_comm (suc n) each) (fits_inside image start (suc n) each inside (omega arith)) in

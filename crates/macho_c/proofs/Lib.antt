@@ -2,12 +2,15 @@ pub mod AgreeNames
 pub mod AllCommands
 pub mod AllSymbols
 pub mod BadSlices
+pub mod BoundedTables
 pub mod Counts
 pub mod Data
 pub mod Ended
 pub mod Loads
+pub mod Numbered
 pub mod Opened
 pub mod PartFits
 pub mod Ranged
 pub mod Reached
+pub mod Relocated
 pub mod Supplied

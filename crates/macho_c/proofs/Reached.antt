@@ -1,10 +1,8 @@
 -- The sections of the segment that a cursor has reached.
-use Rattle.std.proofs.Common.{◌≡◌, ◌∙◌, ℕ, suc, ◌+◌, ◌*◌, ◌≤◌, ◌<◌, List, [], ◌∷◌, ◌++◌, length, map, drop, get_or, Bool, true, inl, inr, refl, sym, ap, ap₂, arith, add-one, drop-cons}
+use Rattle.std.proofs.Common.{◌≡◌, ◌∙◌, ℕ, ◌+◌, ◌*◌, ◌≤◌, ◌<◌, List, [], ◌∷◌, ◌++◌, map, drop, Bool, true, inl, inr, refl, sym, ap₂, arith}
 use Rattle.std.specs.Prelude.{◌&&◌, nat_le, flat_map, if◌then◌else◌}
 use Rattle.std.specs.List.{range_with_len}
 use Rattle.std.proofs.lemmas.Bool.{cases_Bool, and_from, le-leb}
-use Rattle.std.proofs.lemmas.List.{drop_all}
-use Rattle.std.proofs.lemmas.List.FromFn.{length-map-range_with_len, get_or-map-range_with_len}
 use Rattle.std.proofs.lemmas.Simd.{map-map}
 use Rattle.macho_fields.specs.Segment.{nsects}
 use Rattle.macho_c.specs.Loads.{is_command, is_segment, wanted_left}
@@ -13,6 +11,7 @@ use Rattle.macho_c.specs.declared.cursor.KesvuotCursor.{KesvuotCursor}
 use Rattle.macho_c.specs.declared.load.Wanted.{Wanted}
 use Rattle.macho_c.specs.declared.load.Wanted.TheVariants as wanted
 use Rattle.macho_c.specs.declared.sections.KesvuotSection.{KesvuotSection}
+use Rattle.macho_c.proofs.Numbered.{none_past, next_row}
 
 module _ (place : ℕ) (image : List ℕ) (segment : ℕ) where
   -- a segment with its sections can be there
@@ -22,16 +21,6 @@ module _ (place : ℕ) (image : List ℕ) (segment : ℕ) where
   rows_are : section_rows place image segment ≡ map (λ k. section_row place image segment (segment + 72 + 80 * k)) (range_with_len 0 (nsects image segment))
   rows_are = map-map (section_row place image segment) (λ k. segment + 72 + 80 * k) (range_with_len 0 (nsects image segment))
 
-  rows_counted : length (section_rows place image segment) ≡ nsects image segment
-  rows_counted = ap length rows_are ∙ length-map-range_with_len (λ k. section_row place image segment (segment + 72 + 80 * k)) 0 (nsects image segment)
-
-  row_read : (k : ℕ) → k < nsects image segment → drop k (section_rows place image segment) ≡ section_row place image segment (segment + 72 + 80 * k) ∷ drop (k + 1) (section_rows place image segment)
-  row_read k less =
-      let d = section_row place image segment (segment + 72 + 80 * k) in
-      let here : get_or (section_rows place image segment) k d ≡ d = ap (λ rows. get_or rows k d) rows_are ∙ get_or-map-range_with_len (λ j. section_row place image segment (segment + 72 + 80 * j)) 0 (nsects image segment) k k d less (omega arith) in
-      let held : k < length (section_rows place image segment) = omega (arith, rows_counted) in
-      rw (add-one, drop-cons (section_rows place image segment) k d) (ap (λ row. row ∷ drop (suc k) (section_rows place image segment)) here)
-
   abbrev pub reached : ℕ → List KesvuotSection
   reached k = if holds then drop k (section_rows place image segment) else []
 
@@ -40,13 +29,13 @@ module _ (place : ℕ) (image : List ℕ) (segment : ℕ) where
 
   pub none_reached : (k : ℕ) → count ≤ k → reached k ≡ []
   none_reached k most = elim (cases_Bool holds) [
-    | inl is ↦ rw is (drop_all k (section_rows place image segment) (let many : nsects image segment ≤ k = rw is at most in omega (arith, rows_counted)))
+    | inl is ↦ rw is (none_past (λ j. section_row place image segment (segment + 72 + 80 * j)) (nsects image segment) (section_rows place image segment) rows_are k (rw is at most))
     | inr none ↦ rw none refl
   ]
 
   pub next_reached : (k : ℕ) → k < count → reached k ≡ section_row place image segment (segment + 72 + 80 * k) ∷ reached (k + 1)
   next_reached k less = elim (cases_Bool holds) [
-    | inl is ↦ rw is (row_read k (rw is at less))
+    | inl is ↦ rw is (next_row (λ j. section_row place image segment (segment + 72 + 80 * j)) (nsects image segment) (section_rows place image segment) rows_are k (rw is at less))
     | inr none ↦ absurd (let wrong : k < 0 = rw none at less in omega arith)
   ]
 

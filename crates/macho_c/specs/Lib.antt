@@ -1,4 +1,5 @@
 pub mod Address
+pub mod BoundedTables
 pub mod Builds
 pub mod Commands
 pub mod Cursor
@@ -8,10 +9,12 @@ pub mod Libraries
 pub mod Linkedit
 pub mod Loads
 pub mod Names
+pub mod Relocations
 pub mod Rows
 pub mod RuleNumbers
 pub mod Sections
 pub mod Segments
+pub mod SourceVersion
 pub mod Spans
 pub mod Status
 pub mod Symbols

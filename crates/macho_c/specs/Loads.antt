@@ -1,9 +1,11 @@
 -- The load commands of any bytes: as many as can be walked to. (mach-o/loader.h: load_command)
-use Rattle.std.specs.Prelude.{◌≡◌, ℕ, zero, suc, ◌+◌, ◌-◌, ◌*◌, ◌%◌, ◌^◌, ◌≤◌, ◌<◌, ◌==◌, ◌&&◌, List, [], ◌∷◌, length, filter, nat_le, nat_lt, if◌then◌else◌, Bool, true, not}
+use Rattle.std.specs.Prelude.{◌≡◌, ℕ, zero, suc, ◌+◌, ◌-◌, ◌*◌, ◌%◌, ◌^◌, ◌≤◌, ◌<◌, ◌==◌, ◌&&◌, ◌||◌, List, [], ◌∷◌, length, filter, nat_le, nat_lt, if◌then◌else◌, Bool, true, not, Option, Some, None, slice_get}
+use Rattle.std.specs.Option.{option_map_or}
 use Rattle.macho_fields.specs.Image.{command_cmd, command_size, command_count, commands_end}
 use Rattle.macho_fields.specs.LoadCommands.{names_library}
 use Rattle.macho_fields.specs.Segment.{nsects}
 use Rattle.macho_fields.specs.declared.header.loader.TheConstants as loader
+use Rattle.macho_c.specs.Cursor.{start}
 use Rattle.macho_c.specs.declared.cursor.KesvuotCursor.{KesvuotCursor}
 use Rattle.macho_c.specs.declared.load.Load.{Load}
 use Rattle.macho_c.specs.declared.load.Wanted.{Wanted}
@@ -51,14 +53,51 @@ is_segment image command =
 abbrev pub loads_library : ℕ → Bool
 loads_library cmd = names_library cmd && not (cmd == loader.LC_ID_DYLIB)
 
--- dylib_command and build_version_command have 24 bytes
+-- dylib_command has 24 bytes
 abbrev pub is_library : List ℕ → ℕ → Bool
 is_library image command =
     loads_library (command_cmd image command) && nat_le 24 (command_size image command)
 
+-- the platform of the version_min_command with this cmd: PLATFORM_MACOS (1) of LC_VERSION_MIN_MACOSX
+-- (0x24), PLATFORM_IOS (2) of LC_VERSION_MIN_IPHONEOS (0x25), PLATFORM_TVOS (3) of LC_VERSION_MIN_TVOS
+-- (0x2f), PLATFORM_WATCHOS (4) of LC_VERSION_MIN_WATCHOS (0x30)
+abbrev pub version_min_platform : ℕ → Option ℕ
+version_min_platform cmd =
+    if cmd == 36 then Some 1 else (if cmd == 37 then Some 2
+    else (if cmd == 47 then Some 3 else (if cmd == 48 then Some 4 else None)))
+
+-- build_version_command has 24 bytes, version_min_command 16
 abbrev pub is_build : List ℕ → ℕ → Bool
 is_build image command =
-    (command_cmd image command == loader.LC_BUILD_VERSION)
+    option_map_or (λ platform. nat_le 16 (command_size image command))
+    (version_min_platform (command_cmd image command))
+    ((command_cmd image command == loader.LC_BUILD_VERSION)
+    && nat_le 24 (command_size image command))
+
+-- LC_SOURCE_VERSION (0x2a): source_version_command has 16 bytes
+abbrev pub is_source_version : List ℕ → ℕ → Bool
+is_source_version image command =
+    (command_cmd image command == 42) && nat_le 16 (command_size image command)
+
+-- symtab_command has 24 bytes, dysymtab_command 80, dyld_info_command 48, encryption_info_command_64 24
+abbrev pub is_symtab : List ℕ → ℕ → Bool
+is_symtab image command =
+    (command_cmd image command == loader.LC_SYMTAB) && nat_le 24 (command_size image command)
+
+abbrev pub is_dysymtab : List ℕ → ℕ → Bool
+is_dysymtab image command =
+    (command_cmd image command == loader.LC_DYSYMTAB) && nat_le 80 (command_size image command)
+
+abbrev pub is_dyld_info : ℕ → Bool
+is_dyld_info cmd = (cmd == loader.LC_DYLD_INFO) || (cmd == loader.LC_DYLD_INFO_ONLY)
+
+abbrev pub has_dyld_info : List ℕ → ℕ → Bool
+has_dyld_info image command =
+    is_dyld_info (command_cmd image command) && nat_le 48 (command_size image command)
+
+abbrev pub is_encryption_info : List ℕ → ℕ → Bool
+is_encryption_info image command =
+    (command_cmd image command == loader.LC_ENCRYPTION_INFO_64)
     && nat_le 24 (command_size image command)
 
 abbrev pub is_wanted : Wanted → List ℕ → ℕ → Bool
@@ -66,10 +105,19 @@ is_wanted wanted.All image command = true
 is_wanted wanted.Segments image command = is_segment image command
 is_wanted wanted.Libraries image command = is_library image command
 is_wanted wanted.Builds image command = is_build image command
+is_wanted wanted.SourceVersions image command = is_source_version image command
+is_wanted wanted.Symtabs image command = is_symtab image command
+is_wanted wanted.Dysymtabs image command = is_dysymtab image command
+is_wanted wanted.DyldInfos image command = has_dyld_info image command
+is_wanted wanted.EncryptionInfos image command = is_encryption_info image command
 
 -- those that remain at a cursor
 abbrev pub wanted_left : Wanted → List ℕ → KesvuotCursor → List ℕ
 wanted_left wanted image cursor = filter (is_wanted wanted image) (commands_left image cursor)
+
+-- the first of all
+abbrev pub first_wanted : Wanted → List ℕ → Option ℕ
+first_wanted wanted image = slice_get (wanted_left wanted image start) 0
 
 -- What only proofs need.
 

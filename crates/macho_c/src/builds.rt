@@ -1,27 +1,28 @@
 //! The platforms that an image is built for.
 
-ghost use Rattle.std.specs.Prelude.{◌≡◌, ◌+◌, ◌≤◌, length, None};
+ghost use Rattle.std.specs.Prelude.{◌≡◌, None, IsTrue};
 ghost use Rattle.macho_fields.specs.Bytes.{bytes_of};
 ghost use Rattle.macho_c.specs.Builds.{build_row, builds_left, all_builds};
 ghost use Rattle.macho_c.specs.Cursor.{start, IsBatch};
 ghost use Rattle.macho_c.specs.Image.{image_in};
+ghost use Rattle.macho_c.specs.Loads.{IsLoad, is_build};
 ghost use Rattle.macho_c.specs.Rows.{HasHeaders};
 
 use crate::cursor::KesvuotCursor;
 use crate::image::KesvuotImage;
-use crate::load::{Wanted, next_wanted};
+use crate::load::{Load, Wanted, next_wanted, version_min_platform};
 use crate::table::{Table, fill};
 use macho_fields::{Bytes, Order};
 
-/// A platform and its versions. (`build_version_command`)
+/// A platform and its versions. (`build_version_command`, `version_min_command`)
 #[repr(C)]
 #[derive(Clone, Copy)]
 pub struct KesvuotBuild {
     pub platform: u32,
     pub minos: u32,
     pub sdk: u32,
-    /// Reserved: 0.
-    pub reserved: u32,
+    /// The `cmd` of its command, which is the platform of a `version_min_command`.
+    pub cmd: u32,
 }
 
 /// Writes the builds from the cursor on to the rows of the table, until either runs out, moves the
@@ -46,8 +47,8 @@ pub extern "C" fn kesvuot_read_builds(
 
 // The builds of an image.
 #[derive(Clone, Copy)]
-struct Builds<'a> {
-    image: Bytes<'a>,
+pub(crate) struct Builds<'a> {
+    pub(crate) image: Bytes<'a>,
 }
 
 impl<'a> Table for Builds<'a> {
@@ -60,20 +61,29 @@ impl<'a> Table for Builds<'a> {
 
     fn next(&self, cursor: &mut KesvuotCursor) -> Option<KesvuotBuild> {
         let load = next_wanted(self.image, cursor, Wanted::Builds)?;
-        Some(row_of(self.image, load.place))
+        Some(row_of(self.image, load))
     }
 }
 
-// The row of the `build_version_command` at a place.
-fn row_of(image: Bytes, place: u64) -> KesvuotBuild
-    requires { place + 24 ≤ length (bytes_of image) }
-    ensures { result ≡ build_row (bytes_of image.entry) place }
+// The row of a command that has the platform of a build.
+fn row_of(image: Bytes, load: Load) -> KesvuotBuild
+    requires load { IsLoad (bytes_of image) load }
+    requires build { IsTrue (is_build (bytes_of image) load.place) }
+    ensures { result ≡ build_row (bytes_of image.entry) load.place }
 {
-    KesvuotBuild {
-        platform: image.read_u32(Order::Little, place + PLATFORM),
-        minos: image.read_u32(Order::Little, place + MINOS),
-        sdk: image.read_u32(Order::Little, place + SDK),
-        reserved: 0,
+    match version_min_platform(load.cmd) {
+        Some(platform) => KesvuotBuild {
+            platform,
+            minos: image.read_u32(Order::Little, load.place + VERSION),
+            sdk: image.read_u32(Order::Little, load.place + VERSION_MIN_SDK),
+            cmd: load.cmd,
+        },
+        None => KesvuotBuild {
+            platform: image.read_u32(Order::Little, load.place + PLATFORM),
+            minos: image.read_u32(Order::Little, load.place + MINOS),
+            sdk: image.read_u32(Order::Little, load.place + SDK),
+            cmd: load.cmd,
+        },
     }
 }
 
@@ -83,3 +93,8 @@ const PLATFORM: u64 = 8;
 const MINOS: u64 = 12;
 
 const SDK: u64 = 16;
+
+// The offsets of the fields in `version_min_command`.
+const VERSION: u64 = 8;
+
+const VERSION_MIN_SDK: u64 = 12;

@@ -20,6 +20,7 @@ ghost use Rattle.macho_c.specs.Image.{bit as bit_of, groups_at as groups_in, no_
 ghost use Rattle.macho_c.specs.Rows.{IsBrokenImage, HasHeaders};
 ghost use Rattle.macho_c.specs.Status.{KESVUOT_OK, KESVUOT_REFUSED};
 
+use crate::builds::Builds;
 use crate::libraries::{KesvuotLibrary, Libraries, NO_LIBRARY, library_row};
 use crate::load::Load;
 use crate::span::{Held, KesvuotSpan, NO_SPAN, held_at};
@@ -237,7 +238,7 @@ fn row_of(image: &Image, place: u64) -> KesvuotImage
         segment_count: segment_count(image),
         section_count: image.section_count(),
         library_count: library_count(&held, image),
-        build_count: build_count(image),
+        build_count: build_count(&held, image),
         id: id(&held, image),
         cputype,
         cpusubtype,
@@ -342,11 +343,14 @@ fn capabilities(image: &Image) -> u32
 }
 
 // How many builds there are.
-fn build_count(image: &Image) -> u64
+fn build_count(held: &Held, image: &Image) -> u64
+    requires bytes { bytes_of held.now.bytes ≡ image.now }
+    requires opened { IsOpened image.now }
     ensures { result ≡ length (builds_in image.now) }
 {
     prove!(command_count(image) <= u32::MAX);
-    image.builds().count() as u64
+    let builds = Builds { image: held.bytes };
+    count(&builds)
 }
 
 // Which parts the image has.

@@ -6,6 +6,7 @@
 //! structures that it is passed. Structures hold plain numbers: bytes are named by their place in the file.
 
 mod address;
+mod bounded_tables;
 mod builds;
 mod commands;
 mod cursor;
@@ -17,9 +18,11 @@ mod linkedit;
 mod load;
 mod names;
 mod parts;
+mod relocations;
 mod rule;
 mod sections;
 mod segments;
+mod source_version;
 mod span;
 mod status;
 mod symbols;

@@ -1,18 +1,19 @@
 //! The load commands of any bytes, one after another: each is tested before it is read.
 
 ghost use Rattle.std.specs.Prelude.{◌≡◌, ◌+◌, ◌≤◌, length, if◌then◌else◌, Some, None, IfSome, IsTrue, true, false};
-ghost use Rattle.std.specs.Option.{option_map_or};
+ghost use Rattle.std.specs.Option.{option_map, option_map_or};
 ghost use Rattle.std.specs.Iterator.{YieldsFirstBy};
 ghost use Rattle.macho_fields.specs.Bytes.{bytes_of};
 ghost use Rattle.macho_fields.specs.Image.{command_cmd, command_size};
 ghost use Rattle.macho_c.specs.Loads.{is_command, is_wanted, next_place, loads_library, commands_left, wanted_left, IsLoad};
-ghost use Rattle.macho_c.specs.Loads.{is_segment, is_library, is_build};
+ghost use Rattle.macho_c.specs.Loads.{is_segment, is_library, is_build, is_dyld_info, first_wanted, version_min_platform};
 
-use crate::cursor::KesvuotCursor;
+use crate::cursor::{KesvuotCursor, START};
 use macho_fields::header::loader::segment_command_64::NSECTS;
 use macho_fields::header::loader::{
-    LC_BUILD_VERSION, LC_ID_DYLIB, LC_SEGMENT_64, LOAD_COMMAND_SIZE, MACH_HEADER_64_SIZE,
-    SECTION_64_SIZE, SEGMENT_COMMAND_64_SIZE,
+    LC_BUILD_VERSION, LC_DYLD_INFO, LC_DYLD_INFO_ONLY, LC_DYSYMTAB, LC_ENCRYPTION_INFO_64,
+    LC_ID_DYLIB, LC_SEGMENT_64, LC_SYMTAB, LOAD_COMMAND_SIZE, MACH_HEADER_64_SIZE, SECTION_64_SIZE,
+    SEGMENT_COMMAND_64_SIZE,
 };
 use macho_fields::{Bytes, Order, names_library};
 
@@ -23,10 +24,33 @@ const SIZEOFCMDS: u64 = 20;
 
 const CMDSIZE: u64 = 4;
 
-// The sizes of `dylib_command` and `build_version_command`.
+// The load commands that are not judged, and are read if they hold their structure.
+const LC_VERSION_MIN_MACOSX: u32 = 0x24;
+
+const LC_VERSION_MIN_IPHONEOS: u32 = 0x25;
+
+const LC_SOURCE_VERSION: u32 = 0x2a;
+
+const LC_VERSION_MIN_TVOS: u32 = 0x2f;
+
+const LC_VERSION_MIN_WATCHOS: u32 = 0x30;
+
+// The sizes of the structures.
 const DYLIB_COMMAND_SIZE: u64 = 24;
 
 const BUILD_VERSION_COMMAND_SIZE: u64 = 24;
+
+const VERSION_MIN_COMMAND_SIZE: u64 = 16;
+
+const SOURCE_VERSION_COMMAND_SIZE: u64 = 16;
+
+const SYMTAB_COMMAND_SIZE: u64 = 24;
+
+const DYSYMTAB_COMMAND_SIZE: u64 = 80;
+
+const DYLD_INFO_COMMAND_SIZE: u64 = 48;
+
+const ENCRYPTION_INFO_COMMAND_64_SIZE: u64 = 24;
 
 // A load command: it lies among the commands of the image. (`load_command`)
 #[derive(Clone, Copy)]
@@ -44,7 +68,23 @@ pub(crate) enum Wanted {
     Segments,
     // Those that the image loads: not what it is itself.
     Libraries,
+    // `LC_BUILD_VERSION`, and those that name the least version of one platform.
     Builds,
+    SourceVersions,
+    Symtabs,
+    Dysymtabs,
+    DyldInfos,
+    EncryptionInfos,
+}
+
+// The first load command that is wanted.
+pub(crate) fn first_wanted(image: Bytes, wanted: Wanted) -> Option<Load>
+    ensures first { option_map (λ load. load.place) result ≡ first_wanted wanted (bytes_of image.entry) }
+    ensures load { IfSome result (λ load. IsLoad (bytes_of image.entry) load
+        × IsTrue (is_wanted wanted (bytes_of image.entry) load.place)) }
+{
+    let mut cursor = START;
+    next_wanted(image, &mut cursor, wanted)
 }
 
 // The next load command that is wanted. The others before it are skipped.
@@ -123,7 +163,16 @@ fn is_wanted(image: Bytes, load: Load, wanted: Wanted) -> bool
         Wanted::All => true,
         Wanted::Segments => is_segment(image, load),
         Wanted::Libraries => loads_library(load.cmd) && load.size >= DYLIB_COMMAND_SIZE,
-        Wanted::Builds => load.cmd == LC_BUILD_VERSION && load.size >= BUILD_VERSION_COMMAND_SIZE,
+        Wanted::Builds => is_build(image, load),
+        Wanted::SourceVersions => {
+            load.cmd == LC_SOURCE_VERSION && load.size >= SOURCE_VERSION_COMMAND_SIZE
+        }
+        Wanted::Symtabs => load.cmd == LC_SYMTAB && load.size >= SYMTAB_COMMAND_SIZE,
+        Wanted::Dysymtabs => load.cmd == LC_DYSYMTAB && load.size >= DYSYMTAB_COMMAND_SIZE,
+        Wanted::DyldInfos => is_dyld_info(load.cmd) && load.size >= DYLD_INFO_COMMAND_SIZE,
+        Wanted::EncryptionInfos => {
+            load.cmd == LC_ENCRYPTION_INFO_64 && load.size >= ENCRYPTION_INFO_COMMAND_64_SIZE
+        }
     }
 }
 
@@ -145,3 +194,43 @@ pub(crate) fn loads_library(cmd: u32) -> bool
 {
     names_library(cmd) && cmd != LC_ID_DYLIB
 }
+
+// Whether a load command has the platform of a build.
+fn is_build(image: Bytes, load: Load) -> bool
+    requires { IsLoad (bytes_of image) load }
+    ensures { result ≡ is_build (bytes_of image.entry) load.place }
+{
+    match version_min_platform(load.cmd) {
+        Some(_) => load.size >= VERSION_MIN_COMMAND_SIZE,
+        None => load.cmd == LC_BUILD_VERSION && load.size >= BUILD_VERSION_COMMAND_SIZE,
+    }
+}
+
+// The platform of the `version_min_command` with this `cmd`.
+pub(crate) fn version_min_platform(cmd: u32) -> Option<u32>
+    ensures { result ≡ version_min_platform cmd }
+{
+    match cmd {
+        LC_VERSION_MIN_MACOSX => Some(PLATFORM_MACOS),
+        LC_VERSION_MIN_IPHONEOS => Some(PLATFORM_IOS),
+        LC_VERSION_MIN_TVOS => Some(PLATFORM_TVOS),
+        LC_VERSION_MIN_WATCHOS => Some(PLATFORM_WATCHOS),
+        _ => None,
+    }
+}
+
+// Whether a command with this `cmd` names the tables for the dynamic linker.
+fn is_dyld_info(cmd: u32) -> bool
+    ensures { result ≡ is_dyld_info cmd }
+{
+    cmd == LC_DYLD_INFO || cmd == LC_DYLD_INFO_ONLY
+}
+
+// The platforms of `version_min_command`.
+const PLATFORM_MACOS: u32 = 1;
+
+const PLATFORM_IOS: u32 = 2;
+
+const PLATFORM_TVOS: u32 = 3;
+
+const PLATFORM_WATCHOS: u32 = 4;

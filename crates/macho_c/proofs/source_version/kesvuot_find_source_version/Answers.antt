@@ -1,0 +1,13 @@
+use Rattle.macho_c.specs.Image.{image_in}
+use Rattle.macho_c.proofs.AllCommands.{has_opened, versions_wanted}
+use Rattle.macho_c.proofs.source_version.kesvuot_find_source_version.Goals as goal
+
+pub returns-in-Some-clause-all : goal.returns-in-Some-clause-all
+returns-in-Some-clause-all c = λ kept.
+    let image = image_in c.args.file.now c.args.image.now in
+    versions_wanted image (has_opened image kept)
+
+pub returns-in-None-clause-all : goal.returns-in-None-clause-all
+returns-in-None-clause-all c = λ kept.
+    let image = image_in c.args.file.now c.args.image.now in
+    versions_wanted image (has_opened image kept)
