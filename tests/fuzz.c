@@ -47,7 +47,7 @@ enum accepted { REFUSED = 0, ACCEPTED, ACCEPTED_STRICTLY };
 // Counters
 
 // The kinds from RULES on are the rules, by their numbers.
-enum { TABLES = 0, SLICES = 9, IMAGE, ADDRESS, DATA, NAME, RULES, KINDS = RULES + 64 };
+enum { TABLES = 0, SLICES = 9, IMAGE, ADDRESS, DATA, BOUNDED, NAME, RULES, KINDS = RULES + 64 };
 
 __attribute__((section("__libfuzzer_extra_counters"))) static uint8_t counters[64 * KINDS];
 
@@ -147,6 +147,9 @@ static const struct table tables[TABLE_COUNT] = {
     {read_symbols, sizeof(struct kesvuot_symbol), offsetof(struct kesvuot_image, symbol_count)},
     {read_indirects, sizeof(uint32_t), offsetof(struct kesvuot_image, indirect_count)},
 };
+
+// How many relocations of a section are read.
+enum { RELOCATIONS = 8 };
 
 // All rows of a table, and two more, which no call writes.
 struct rows {
@@ -265,6 +268,29 @@ static void check_covered(const struct held *held, const struct rows *all) {
     free(covered);
 }
 
+// Some relocations of a section, from an index on. The library reads none that end past the slice.
+static void check_relocations(const struct held *held, uint32_t reloff, uint32_t nreloc, uint64_t first,
+                              enum accepted accepted) {
+    struct kesvuot_relocation rows[RELOCATIONS + 1];
+    struct kesvuot_cursor cursor = {.items = first};
+    const struct kesvuot_span slice = held->image.slice;
+    memset(rows, UNWRITTEN, sizeof rows);
+    size_t count = kesvuot_read_relocations(OF(held), reloff, nreloc, &cursor, rows, RELOCATIONS);
+    uint64_t left = first < nreloc ? nreloc - first : 0;
+    CHECK(count == (left < RELOCATIONS ? left : RELOCATIONS) || (!accepted && count == 0));
+    CHECK(count == 0 || (reloff <= slice.size && (slice.size - reloff) / 8 >= nreloc));
+    CHECK(is_unwritten((const uint8_t *)&rows[count], sizeof *rows));
+    for (size_t k = 0; k < count; k++) {
+        const struct kesvuot_relocation *row = &rows[k];
+        uint32_t words[2];
+        memcpy(words, held->file.bytes + slice.offset + reloff + 8 * (first + k), sizeof words);
+        CHECK(row->address == words[0] && row->scattered == words[0] >> 31);
+        CHECK(row->symbolnum == (words[1] & 0xffffff) && row->pcrel == (words[1] >> 24 & 1));
+        CHECK(row->length == (words[1] >> 25 & 3) && row->external == (words[1] >> 27 & 1));
+        CHECK(row->type == words[1] >> 28);
+    }
+}
+
 static void check_sections(const struct held *held, const struct rows *all, enum accepted accepted) {
     const struct kesvuot_section *row = all->rows;
     for (size_t k = 0; k < all->count; k++, row++) {
@@ -277,6 +303,7 @@ static void check_sections(const struct held *held, const struct rows *all, enum
         if (accepted && !row->zero_fill) {
             check_part(held, row->bytes, row->offset, row->size);
         }
+        check_relocations(held, row->reloff, row->nreloc, 0, accepted);
     }
 }
 
@@ -309,7 +336,8 @@ static void check_libraries(const struct held *held, const struct rows *all) {
 static void check_builds(const struct rows *all) {
     const struct kesvuot_build *row = all->rows;
     for (size_t k = 0; k < all->count; k++, row++) {
-        CHECK(row->reserved == 0);
+        bool is_least = row->cmd == 0x24 || row->cmd == 0x25 || row->cmd == 0x2f || row->cmd == 0x30;
+        CHECK(row->cmd == LC_BUILD_VERSION || (is_least && row->platform >= 1 && row->platform <= 4));
     }
 }
 
@@ -350,6 +378,90 @@ static void check_all_data(const struct held *held, const struct rows *commands)
             check_part(held, data, dataoff, datasize);
         }
     }
+}
+
+// The tables by their numbers: the structure of the command that bounds each, where the fields lie in it, and the size
+// of an item.
+static const struct bounded {
+    const char *structure;
+    size_t at;
+    uint64_t item_size;
+} bounded_tables[KESVUOT_TABLE_ENCRYPTED + 1] = {
+    [KESVUOT_TABLE_SYMBOLS] = {"symtab_command", 8, 16},
+    [KESVUOT_TABLE_STRINGS] = {"symtab_command", 16, 1},
+    [KESVUOT_TABLE_CONTENTS] = {"dysymtab_command", 32, 8},
+    [KESVUOT_TABLE_MODULES] = {"dysymtab_command", 40, 56},
+    [KESVUOT_TABLE_REFERENCES] = {"dysymtab_command", 48, 4},
+    [KESVUOT_TABLE_INDIRECTS] = {"dysymtab_command", 56, 4},
+    [KESVUOT_TABLE_EXTERNAL_RELOCATIONS] = {"dysymtab_command", 64, 8},
+    [KESVUOT_TABLE_LOCAL_RELOCATIONS] = {"dysymtab_command", 72, 8},
+    [KESVUOT_TABLE_REBASE] = {"dyld_info_command", 8, 1},
+    [KESVUOT_TABLE_BIND] = {"dyld_info_command", 16, 1},
+    [KESVUOT_TABLE_WEAK_BIND] = {"dyld_info_command", 24, 1},
+    [KESVUOT_TABLE_LAZY_BIND] = {"dyld_info_command", 32, 1},
+    [KESVUOT_TABLE_EXPORT] = {"dyld_info_command", 40, 1},
+    [KESVUOT_TABLE_ENCRYPTED] = {"encryption_info_command_64", 8, 1},
+};
+
+static uint32_t check_bounded(const struct held *held, uint32_t table, struct kesvuot_span *bytes) {
+    *bytes = (struct kesvuot_span){1, 1};
+    uint32_t status = kesvuot_find_table(OF(held), table, bytes);
+    CHECK(status == KESVUOT_OK || (status == KESVUOT_NONE && is_empty(*bytes)));
+    CHECK(status == KESVUOT_NONE || (table >= KESVUOT_TABLE_SYMBOLS && table <= KESVUOT_TABLE_ENCRYPTED));
+    check_inside(held, *bytes);
+    reach(BOUNDED, status);
+    return status;
+}
+
+// The structure of the commands with this cmd, or null if they are not listed.
+static const char *structure_of(uint32_t cmd) {
+    for (size_t k = 0; k < LISTED_COUNT; k++) {
+        if (listed_commands[k].cmd == cmd) {
+            return listed_commands[k].structure;
+        }
+    }
+    return NULL;
+}
+
+// The first command of a structure, or null.
+static const struct kesvuot_command *first_with(const struct rows *commands, const char *structure) {
+    const struct kesvuot_command *row = commands->rows;
+    for (size_t k = 0; k < commands->count; k++, row++) {
+        const char *other = structure_of(row->cmd);
+        if (other != NULL && strcmp(other, structure) == 0) {
+            return row;
+        }
+    }
+    return NULL;
+}
+
+// The tables of an image that is accepted are those that its first commands bound.
+static void check_all_bounded(const struct held *held, const struct rows *commands) {
+    for (uint32_t table = KESVUOT_TABLE_SYMBOLS; table <= KESVUOT_TABLE_ENCRYPTED; table++) {
+        const struct bounded *bounded = &bounded_tables[table];
+        const struct kesvuot_command *row = first_with(commands, bounded->structure);
+        struct kesvuot_span bytes;
+        CHECK((check_bounded(held, table, &bytes) == KESVUOT_OK) == (row != NULL));
+        if (row != NULL) {
+            uint32_t fields[2];
+            memcpy(fields, bytes_at(held, row->bytes) + bounded->at, sizeof fields);
+            check_part(held, bytes, fields[0], bounded->item_size * fields[1]);
+        }
+    }
+}
+
+// The version of the sources is that of the first command which is long enough.
+static void check_source_version(const struct held *held, const struct rows *commands) {
+    const struct kesvuot_command *row = commands->rows, *end = row + commands->count;
+    uint64_t version = 1, wanted = 0;
+    while (row < end && (row->cmd != 0x2a || row->bytes.size < 16)) {
+        row++;
+    }
+    if (row < end) {
+        memcpy(&wanted, bytes_at(held, row->bytes) + 8, sizeof wanted);
+    }
+    CHECK(kesvuot_find_source_version(OF(held), &version) == (row < end ? KESVUOT_OK : KESVUOT_NONE));
+    CHECK(version == wanted);
 }
 
 // The commands lie one after the other.
@@ -417,12 +529,14 @@ static void check_tables(const struct held *held, enum accepted accepted) {
     check_libraries(held, &all[LIBRARIES]);
     check_builds(&all[BUILDS]);
     check_commands(held, &all[COMMANDS]);
+    check_source_version(held, &all[COMMANDS]);
     check_symbols(held, &all[SYMBOLS], accepted);
     check_indirects(held, &all[INDIRECTS], accepted);
     if (accepted) {
         check_addresses(held, &all[SEGMENTS]);
         check_section_addresses(held, &all[SEGMENTS], &all[SECTIONS]);
         check_all_data(held, &all[COMMANDS]);
+        check_all_bounded(held, &all[COMMANDS]);
     }
     if (accepted == ACCEPTED_STRICTLY) {
         check_covered(held, &all[SEGMENTS]);
@@ -472,6 +586,12 @@ static void check_any(const struct held *held, struct kesvuot_cursor cursor, siz
     check_address(held, held->image.base);
     check_data(held, LC_CODE_SIGNATURE, &data);
     check_data(held, (uint32_t)cursor.items, &data);
+    check_bounded(held, (uint32_t)cursor.items, &data);
+    check_bounded(held, 1 + (uint32_t)cursor.place % KESVUOT_TABLE_ENCRYPTED, &data);
+    check_relocations(held, (uint32_t)cursor.place, (uint32_t)cursor.segment, cursor.items, REFUSED);
+    uint64_t version;
+    uint32_t status = kesvuot_find_source_version(OF(held), &version);
+    CHECK(status == KESVUOT_OK || (status == KESVUOT_NONE && version == 0));
 }
 
 // The numbers of an image and of a cursor are set to bytes of the file, all or some.

@@ -61,7 +61,7 @@ enum {
     KESVUOT_OK = 0,
     KESVUOT_REFUSED = 1,   /* the bytes break a rule */
     KESVUOT_NO_MEMORY = 2, /* memory ran out: there is no verdict. kesvuot_verify says for which files this can be */
-    KESVUOT_NONE = 3,      /* there is no such rule, name, slice, command or address */
+    KESVUOT_NONE = 3,      /* there is no such rule, name, slice, command, table or address */
     KESVUOT_UNREAD = 4,    /* the slice is 32-bit or big-endian: nothing in it is judged */
     KESVUOT_ZERO = 5       /* the address is mapped, but to no byte of the file: a loader puts a zero there */
 };
@@ -276,8 +276,8 @@ struct kesvuot_cursor {  /* the numbers are the library's own, and any are safe 
     uint64_t place;      /* where the next load command begins in the slice */
     uint64_t commands;   /* how many load commands are before it */
     uint64_t segment;    /* where the LC_SEGMENT_64 of the next section begins in the slice */
-    uint64_t items;      /* of kesvuot_read_symbols and kesvuot_read_indirects the index of the next row, which you can
-                            also set; otherwise a count of sections */
+    uint64_t items;      /* of kesvuot_read_symbols, kesvuot_read_indirects and kesvuot_read_relocations the index of
+                            the next row, which you can also set; otherwise a count of sections */
 };
 
 struct kesvuot_segment {       /* LC_SEGMENT_64. No address is in two segments */
@@ -312,11 +312,14 @@ struct kesvuot_section {         /* section_64 */
     uint32_t zero_fill;          /* 1: a loader fills it with zeros. 0: it has bytes in the file */
 };
 
-struct kesvuot_build { /* build_version_command. An image can have several */
-    uint32_t platform; /* any number */
+struct kesvuot_build { /* build_version_command or version_min_command. An image can have several */
+    uint32_t platform; /* any number. Of a version_min_command PLATFORM_MACOS (1), PLATFORM_IOS (2), PLATFORM_TVOS (3)
+                          or PLATFORM_WATCHOS (4), by its cmd: dyld takes the last three in an x86_64 image as those of
+                          the simulator */
     uint32_t minos;    /* x << 16 | y << 8 | z. Any number */
     uint32_t sdk;      /* any number */
-    uint32_t reserved;
+    uint32_t cmd;      /* LC_BUILD_VERSION (0x32), LC_VERSION_MIN_MACOSX (0x24), LC_VERSION_MIN_IPHONEOS (0x25),
+                          LC_VERSION_MIN_TVOS (0x2f) or LC_VERSION_MIN_WATCHOS (0x30) */
 };
 
 struct kesvuot_command {       /* load_command */
@@ -342,6 +345,19 @@ struct kesvuot_symbol { /* nlist_64 */
     uint32_t reserved;
 };
 
+struct kesvuot_relocation { /* relocation_info of <mach-o/reloc.h>. No field of it is judged */
+    uint32_t address;       /* r_address, a signed number of 32 bits */
+    uint32_t symbolnum;     /* below 2^24: the index of a symbol if `external` is 1, else the number of a section */
+    uint8_t pcrel;          /* 0 or 1 */
+    uint8_t length;         /* 0 to 3: 1 << length bytes are relocated */
+    uint8_t external;       /* r_extern: 0 or 1 */
+    uint8_t type;           /* 0 to 15 */
+    uint32_t scattered;     /* the highest bit of `address`, R_SCATTERED. x86_64 does not use it. In an image of another
+                               architecture 1 means a scattered_relocation_info, whose fields are other bits of
+                               `address`, and whose r_value is the second word: type << 28 | external << 27 |
+                               length << 25 | pcrel << 24 | symbolnum */
+};
+
 size_t kesvuot_read_commands(const void *file, size_t size, const struct kesvuot_image *image,
                              struct kesvuot_cursor *cursor, struct kesvuot_command *rows, size_t max);
 size_t kesvuot_read_segments(const void *file, size_t size, const struct kesvuot_image *image,
@@ -351,6 +367,7 @@ size_t kesvuot_read_sections(const void *file, size_t size, const struct kesvuot
 /* The libraries that the image loads. What it is itself is `id` of the image. */
 size_t kesvuot_read_libraries(const void *file, size_t size, const struct kesvuot_image *image,
                               struct kesvuot_cursor *cursor, struct kesvuot_library *rows, size_t max);
+/* Each LC_BUILD_VERSION, and each LC_VERSION_MIN_.. of at least 16 bytes. RULES.md does not list the latter. */
 size_t kesvuot_read_builds(const void *file, size_t size, const struct kesvuot_image *image,
                            struct kesvuot_cursor *cursor, struct kesvuot_build *rows, size_t max);
 size_t kesvuot_read_symbols(const void *file, size_t size, const struct kesvuot_image *image,
@@ -360,6 +377,12 @@ size_t kesvuot_read_symbols(const void *file, size_t size, const struct kesvuot_
  * INDIRECT_SYMBOL_LOCAL or INDIRECT_SYMBOL_ABS or both. With one of these, the other bits are any number. */
 size_t kesvuot_read_indirects(const void *file, size_t size, const struct kesvuot_image *image,
                               struct kesvuot_cursor *cursor, uint32_t *rows, size_t max);
+
+/* The relocations of a section, by its reloff and nreloc. In an accepted file there are nreloc. There are none if they
+ * do not all lie in the slice. */
+size_t kesvuot_read_relocations(const void *file, size_t size, const struct kesvuot_image *image, uint32_t reloff,
+                                uint32_t nreloc, struct kesvuot_cursor *cursor, struct kesvuot_relocation *rows,
+                                size_t max);
 
 /* The name of a symbol, by its strx.
  * OK: the name, which ends before the first zero byte of the strings from strx on. It can be empty.
@@ -377,6 +400,42 @@ uint32_t kesvuot_symbol_name(const void *file, size_t size, const struct kesvuot
  * rule. After NONE the span is empty. */
 uint32_t kesvuot_find_data(const void *file, size_t size, const struct kesvuot_image *image, uint32_t cmd,
                            struct kesvuot_span *data);
+
+/* The tables of an image, with the fields that bound each, and what its items are. */
+enum {
+    /* of LC_SYMTAB */
+    KESVUOT_TABLE_SYMBOLS = 1, /* symoff, nsyms: nlist_64 of 16 bytes */
+    KESVUOT_TABLE_STRINGS = 2, /* stroff, strsize: bytes */
+    /* of LC_DYSYMTAB */
+    KESVUOT_TABLE_CONTENTS = 3,             /* tocoff, ntoc: dylib_table_of_contents of 8 bytes */
+    KESVUOT_TABLE_MODULES = 4,              /* modtaboff, nmodtab: dylib_module_64 of 56 bytes */
+    KESVUOT_TABLE_REFERENCES = 5,           /* extrefsymoff, nextrefsyms: dylib_reference of 4 bytes */
+    KESVUOT_TABLE_INDIRECTS = 6,            /* indirectsymoff, nindirectsyms: uint32_t */
+    KESVUOT_TABLE_EXTERNAL_RELOCATIONS = 7, /* extreloff, nextrel: relocation_info of 8 bytes */
+    KESVUOT_TABLE_LOCAL_RELOCATIONS = 8,    /* locreloff, nlocrel: relocation_info of 8 bytes */
+    /* of LC_DYLD_INFO or LC_DYLD_INFO_ONLY, in bytes */
+    KESVUOT_TABLE_REBASE = 9,     /* rebase_off, rebase_size */
+    KESVUOT_TABLE_BIND = 10,      /* bind_off, bind_size */
+    KESVUOT_TABLE_WEAK_BIND = 11, /* weak_bind_off, weak_bind_size */
+    KESVUOT_TABLE_LAZY_BIND = 12, /* lazy_bind_off, lazy_bind_size */
+    KESVUOT_TABLE_EXPORT = 13,    /* export_off, export_size */
+    /* of LC_ENCRYPTION_INFO_64, in bytes */
+    KESVUOT_TABLE_ENCRYPTED = 14 /* cryptoff, cryptsize */
+};
+
+/* A table of an image, by one of these numbers. Of several such commands it is a table of the first, be it LC_DYLD_INFO
+ * or LC_DYLD_INFO_ONLY. The linked profile accepts no second one of these two.
+ * OK: all bytes of the table. If it has no items, there are none, whatever its offset is.
+ * NONE: the image has no such command, or there is no such number. In a file that was not accepted, also if the table
+ * ends past the image. After NONE the span is empty. */
+uint32_t kesvuot_find_table(const void *file, size_t size, const struct kesvuot_image *image, uint32_t table,
+                            struct kesvuot_span *bytes);
+
+/* The version a.b.c.d.e of the sources, by the first LC_SOURCE_VERSION of at least 16 bytes: a << 40 | b << 30 |
+ * c << 20 | d << 10 | e. Any number: RULES.md does not list the command.
+ * OK: the version is written. NONE: the image has no such command, and the version is 0. */
+uint32_t kesvuot_find_source_version(const void *file, size_t size, const struct kesvuot_image *image,
+                                     uint64_t *version);
 
 /* What is at an address, before any slide.
  * OK: the bytes from there to the end of what its segment has in the file.
@@ -405,6 +464,7 @@ KESVUOT_HOLDS(sizeof(struct kesvuot_section) == 96);
 KESVUOT_HOLDS(sizeof(struct kesvuot_build) == 16);
 KESVUOT_HOLDS(sizeof(struct kesvuot_command) == 40);
 KESVUOT_HOLDS(sizeof(struct kesvuot_symbol) == 24);
+KESVUOT_HOLDS(sizeof(struct kesvuot_relocation) == 16);
 KESVUOT_HOLDS(offsetof(struct kesvuot_verdict, rule) == 16);
 KESVUOT_HOLDS(offsetof(struct kesvuot_image, symbols) == 32);
 KESVUOT_HOLDS(offsetof(struct kesvuot_image, command_count) == 80);
@@ -418,6 +478,7 @@ KESVUOT_HOLDS(offsetof(struct kesvuot_section, offset) == 64);
 KESVUOT_HOLDS(offsetof(struct kesvuot_library, cmd) == 16);
 KESVUOT_HOLDS(offsetof(struct kesvuot_command, cmd) == 32);
 KESVUOT_HOLDS(offsetof(struct kesvuot_symbol, desc) == 16);
+KESVUOT_HOLDS(offsetof(struct kesvuot_relocation, scattered) == 12);
 #undef KESVUOT_HOLDS
 #endif
 

@@ -343,6 +343,133 @@ static void try_data(void) {
     CHECK(find_address(&image, UINT64_MAX, &data) == KESVUOT_NONE && is_at(data, 0, 0));
 }
 
+// An image whose tables have different places and sizes, with relocations, and with commands that name versions. RULES.md
+// does not list LC_SOURCE_VERSION (0x2a) and LC_VERSION_MIN_.. (0x24, 0x25, 0x2f, 0x30): one of each is too short.
+static const uint32_t TABLES[] = {
+    0xfeedfacf, 0x0100000c, 0, 2, 15, 512, 0, 0,
+    // LC_SEGMENT_64 with a section, whose 3 relocations are at 584
+    0x19, 152, 0, 0, 0, 0, 0, 0, 0, 0, 0, 0, 0, 0, 0, 0, 1, 0,
+    0, 0, 0, 0, 0, 0, 0, 0, 0, 0, 0, 0, 0, 0, 584, 3, 0, 0, 0, 0,
+    // LC_SYMTAB and LC_DYSYMTAB
+    0x2, 24, 552, 1, 551, 3,
+    0xb, 80, 0, 0, 0, 0, 0, 0, 1, 2, 2, 1, 3, 3, 552, 5, 5, 4, 6, 5,
+    // LC_DYLD_INFO_ONLY, and an LC_DYLD_INFO after it
+    0x80000022, 48, 7, 7, 8, 9, 9, 11, 10, 13, 11, 15,
+    0x22, 48, 0, 1, 0, 1, 0, 1, 0, 1, 0, 1,
+    // LC_ENCRYPTION_INFO_64, up to the end
+    0x2c, 24, 591, 17, 0, 0,
+    // LC_SOURCE_VERSION: too short, 16777215.1023.1.2.1023, and another one
+    0x2a, 8, 0x2a, 16, 0xc01003ff | 2 << 10, 0xffffffff, 0x2a, 16, 1, 0,
+    // LC_VERSION_MIN_TVOS, LC_VERSION_MIN_IPHONEOS that is too short, LC_BUILD_VERSION, LC_VERSION_MIN_WATCHOS,
+    // LC_VERSION_MIN_MACOSX, LC_VERSION_MIN_IPHONEOS
+    0x2f, 16, 1, 2, 0x25, 8, 0x32, 24, 3, 4, 5, 0, 0x30, 16, 6, 7, 0x24, 16, 8, 9, 0x25, 16, 10, 11,
+    // two words of zeros, a symbol, and four more
+    0, 0, 0, 0, 0, 0, 0, 0, 0, 0,
+    // relocations
+    0x1234, 0xd5654321, 8, 0x2abcdef, 0xfffffff0, 0xf8000000,
+};
+enum { TABLES_SIZE = sizeof TABLES, TABLE_COUNT = KESVUOT_TABLE_ENCRYPTED };
+
+// Where each table lies, by its number, and how many bytes it has.
+static const struct kesvuot_span TABLE_SPANS[TABLE_COUNT + 1] = {
+    {0, 0}, {552, 16}, {551, 3}, {1, 2 * 8}, {2, 56}, {3, 3 * 4}, {552, 5 * 4}, {5, 4 * 8},
+    {6, 5 * 8}, {7, 7}, {8, 9}, {9, 11}, {10, 13}, {11, 15}, {591, 17},
+};
+
+static struct kesvuot_image image_of_tables(const void *bytes, size_t size) {
+    struct kesvuot_verdict verdict;
+    struct kesvuot_image image;
+    CHECK(kesvuot_verify(bytes, size, &verdict) == KESVUOT_OK);
+    CHECK(kesvuot_read_image(bytes, size, 0, &image) == KESVUOT_OK);
+    return image;
+}
+
+static void try_no_table(const void *bytes, size_t size, const struct kesvuot_image *image, uint32_t table) {
+    struct kesvuot_span span = {1, 1};
+    CHECK(kesvuot_find_table(bytes, size, image, table, &span) == KESVUOT_NONE && is_at(span, 0, 0));
+}
+
+static void try_bounded_tables(void) {
+    struct kesvuot_span span;
+    struct kesvuot_image image = image_of_tables(TABLES, TABLES_SIZE);
+    for (uint32_t table = 1; table <= TABLE_COUNT; table++) {
+        CHECK(kesvuot_find_table(TABLES, TABLES_SIZE, &image, table, &span) == KESVUOT_OK);
+        CHECK(is_at(span, TABLE_SPANS[table].offset, TABLE_SPANS[table].size));
+    }
+    const uint32_t none[] = {0, TABLE_COUNT + 1, 0x22, UINT32_MAX};
+    for (size_t index = 0; index < sizeof none / sizeof *none; index++) {
+        try_no_table(TABLES, TABLES_SIZE, &image, none[index]);
+    }
+    // The last table ends past a slice that is one byte shorter, and the others do not.
+    image.slice.size--;
+    try_no_table(TABLES, TABLES_SIZE, &image, KESVUOT_TABLE_ENCRYPTED);
+    CHECK(kesvuot_find_table(TABLES, TABLES_SIZE, &image, KESVUOT_TABLE_EXPORT, &span) == KESVUOT_OK && span.size == 15);
+    // A bare header has no tables.
+    CHECK(kesvuot_read_image(mixed.bytes, mixed.size, 1, &image) == KESVUOT_OK);
+    for (uint32_t table = 0; table <= TABLE_COUNT + 1; table++) {
+        try_no_table(mixed.bytes, mixed.size, &image, table);
+    }
+}
+
+// A table without items has no bytes, wherever it is. The contents are named by the words 60 and 61.
+static void try_empty_table(void) {
+    uint32_t words[TABLES_SIZE / sizeof *TABLES];
+    struct kesvuot_span span;
+    memcpy(words, TABLES, TABLES_SIZE);
+    CHECK(words[60] == 1 && words[61] == 2);
+    words[60] = UINT32_MAX;
+    words[61] = 0;
+    const struct kesvuot_image image = image_of_tables(words, TABLES_SIZE);
+    CHECK(kesvuot_find_table(words, TABLES_SIZE, &image, KESVUOT_TABLE_CONTENTS, &span) == KESVUOT_OK);
+    CHECK(is_at(span, 0, 0));
+}
+
+static size_t read_relocations(const struct kesvuot_image *image, uint32_t nreloc, uint64_t first, size_t max,
+                               struct kesvuot_relocation *rows) {
+    struct kesvuot_cursor cursor = {0, 0, 0, first};
+    const size_t count = kesvuot_read_relocations(TABLES, TABLES_SIZE, image, 584, nreloc, &cursor, rows, max);
+    CHECK(cursor.items == first + count);
+    return count;
+}
+
+static void try_relocations(void) {
+    static const struct kesvuot_relocation wanted[] = {
+        {0x1234, 0x654321, 1, 2, 0, 13, 0}, {8, 0xabcdef, 0, 1, 0, 0, 0}, {0xfffffff0, 0, 0, 0, 1, 15, 1}};
+    const struct kesvuot_image image = image_of_tables(TABLES, TABLES_SIZE);
+    struct kesvuot_relocation rows[4];
+    for (size_t max = 0; max <= 4; max++) {
+        for (size_t first = 0; first <= 3; first++) {
+            const size_t left = 3 - first, count = left < max ? left : max;
+            memset(rows, UNWRITTEN, sizeof rows);
+            CHECK(read_relocations(&image, 3, first, max, rows) == count);
+            CHECK(memcmp(rows, wanted + first, count * sizeof *rows) == 0);
+            CHECK(is_filled(rows + count, sizeof rows - count * sizeof *rows, UNWRITTEN));
+        }
+    }
+    CHECK(read_relocations(&image, 2, 0, 4, rows) == 2 && read_relocations(&image, 0, 0, 4, rows) == 0);
+    // Four would end past the image.
+    CHECK(read_relocations(&image, 4, 0, 4, rows) == 0 && read_relocations(&image, UINT32_MAX, 0, 4, rows) == 0);
+    CHECK(read_relocations(&image, 3, 4, 4, rows) == 0 && read_relocations(&image, 3, UINT64_MAX, 4, rows) == 0);
+}
+
+static void try_versions(void) {
+    static const struct kesvuot_build wanted[] = {
+        {3, 1, 2, 0x2f}, {3, 4, 5, 0x32}, {4, 6, 7, 0x30}, {1, 8, 9, 0x24}, {2, 10, 11, 0x25}};
+    enum { BUILDS = sizeof wanted / sizeof *wanted };
+    struct kesvuot_image image = image_of_tables(TABLES, TABLES_SIZE);
+    struct kesvuot_build rows[BUILDS + 1];
+    struct kesvuot_cursor cursor = {0};
+    uint64_t version = 0;
+    CHECK(image.build_count == BUILDS);
+    CHECK(kesvuot_read_builds(TABLES, TABLES_SIZE, &image, &cursor, rows, BUILDS + 1) == BUILDS);
+    CHECK(memcmp(rows, wanted, sizeof wanted) == 0);
+    CHECK(kesvuot_find_source_version(TABLES, TABLES_SIZE, &image, &version) == KESVUOT_OK);
+    CHECK(version >> 40 == 16777215 && (version >> 30 & 1023) == 1023 && (version >> 20 & 1023) == 1);
+    CHECK((version >> 10 & 1023) == 2 && (version & 1023) == 1023);
+    CHECK(kesvuot_read_image(mixed.bytes, mixed.size, 1, &image) == KESVUOT_OK);
+    CHECK(kesvuot_find_source_version(mixed.bytes, mixed.size, &image, &version) == KESVUOT_NONE && version == 0);
+}
+
 // A structure of zeros is not an image, and every call returns so. Nor is one whose slice ends past the file.
 static void try_no_image(void) {
     struct kesvuot_image none;
@@ -352,6 +479,9 @@ static void try_no_image(void) {
         none.slice.size = size;
         try_tables(&none);
         CHECK(find_data(&none, 0x1d, &data) == KESVUOT_NONE && is_at(data, 0, 0));
+        for (uint32_t table = 0; table <= TABLE_COUNT; table++) {
+            try_no_table(library.bytes, library.size, &none, table);
+        }
         CHECK(find_address(&none, 0, &data) == KESVUOT_NONE && is_at(data, 0, 0));
     }
 }
@@ -376,6 +506,10 @@ int main(int count, char **words) {
         try_sections_of_symbols(&image);
     }
     try_data();
+    try_bounded_tables();
+    try_empty_table();
+    try_relocations();
+    try_versions();
     try_no_image();
     release(library);
     release(mixed);

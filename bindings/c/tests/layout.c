@@ -9,7 +9,7 @@
 #include <stdlib.h>
 #include <string.h>
 
-enum { ROWS = 64 };
+enum { ROWS = 64, LC_BUILD_VERSION = 0x32 };
 
 static struct file file;
 
@@ -86,6 +86,9 @@ static void write_builds(FILE *out, const struct kesvuot_image *image) {
     size_t count;
     while ((count = kesvuot_read_builds(file.bytes, file.size, image, &cursor, rows, ROWS)) > 0) {
         for (size_t index = 0; index < count; index++) {
+            if (rows[index].cmd != LC_BUILD_VERSION) {
+                continue;
+            }
             fprintf(out, "  build platform %" PRIu32, rows[index].platform);
             write_version(out, "min", rows[index].minos);
             write_version(out, "sdk", rows[index].sdk);

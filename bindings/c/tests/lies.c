@@ -100,16 +100,46 @@ static void take_tables(const struct kesvuot_image *image, size_t size) {
     TAKE_TABLE(struct kesvuot_section, kesvuot_read_sections,
                (take(row->name, size), take(row->segment, size), take(row->bytes, size)));
     TAKE_TABLE(struct kesvuot_library, kesvuot_read_libraries, take(row->name, size));
-    TAKE_TABLE(struct kesvuot_build, kesvuot_read_builds, CHECK(row->reserved == 0));
+    TAKE_TABLE(struct kesvuot_build, kesvuot_read_builds, CHECK(row->cmd > 0));
     TAKE_TABLE(struct kesvuot_command, kesvuot_read_commands, (take(row->bytes, size), take(row->name, size)));
     TAKE_TABLE(struct kesvuot_symbol, kesvuot_read_symbols, take_name(image, size, row->strx));
     TAKE_TABLE(uint32_t, kesvuot_read_indirects, (void)row);
+}
+
+// The relocations of any section.
+static uint32_t reloff, nreloc;
+
+static size_t read_relocations(const uint8_t *bytes, size_t size, const struct kesvuot_image *image,
+                               struct kesvuot_cursor *cursor, struct kesvuot_relocation *rows, size_t max) {
+    return kesvuot_read_relocations(bytes, size, image, reloff, nreloc, cursor, rows, max);
+}
+
+static void take_relocations(const struct kesvuot_image *image, size_t size) {
+    const size_t max = draw_below(MOST_ROWS + 1);
+    reloff = (uint32_t)lie(draw_below(0x400));
+    nreloc = (uint32_t)lie(draw_below(12));
+    TAKE_TABLE(struct kesvuot_relocation, read_relocations,
+               (CHECK(row->symbolnum < 1 << 24 && row->pcrel < 2 && row->length < 4 && row->external < 2),
+                CHECK(row->type < 16 && row->scattered == row->address >> 31)));
+}
+
+static void take_bounded(const struct kesvuot_image *image, size_t size) {
+    struct kesvuot_span bytes;
+    const uint32_t table = (uint32_t)lie(draw_below(KESVUOT_TABLE_ENCRYPTED + 2));
+    const uint32_t status = kesvuot_find_table(file.bytes, size, image, table, &bytes);
+    CHECK(status == KESVUOT_OK || (status == KESVUOT_NONE && bytes.size == 0));
+    take(bytes, size);
+    uint64_t version = 1;
+    const uint32_t found = kesvuot_find_source_version(file.bytes, size, image, &version);
+    CHECK(found == KESVUOT_OK || (found == KESVUOT_NONE && version == 0));
 }
 
 static void take_all(const struct kesvuot_image *image, size_t size) {
     static const uint32_t cmds[] = {0x1d, 0x1e, 0x26, 0x29, 0x2b, 0x2e, 0x80000033, 0x80000034, 0x2, 0x19};
     struct kesvuot_span bytes;
     take_tables(image, size);
+    take_relocations(image, size);
+    take_bounded(image, size);
     take_name(image, size, (uint32_t)lie(draw_below(0x200)));
     kesvuot_find_data(file.bytes, size, image, cmds[draw_below(sizeof cmds / sizeof *cmds)], &bytes);
     take(bytes, size);

@@ -156,6 +156,25 @@ static size_t find_data(const struct file *file, const struct kesvuot_image *ima
     return kesvuot_find_data(file->bytes, file->size, image, LC_FUNCTION_STARTS, &data) == KESVUOT_OK;
 }
 
+static size_t read_relocations(const struct file *file, const struct kesvuot_image *image) {
+    static struct kesvuot_relocation rows[BATCH];
+    struct kesvuot_section section = {.nreloc = 0};
+    struct kesvuot_cursor first = {0}, cursor = {0};
+    kesvuot_read_sections(file->bytes, file->size, image, &first, &section, 1);
+    return kesvuot_read_relocations(file->bytes, file->size, image, section.reloff, section.nreloc, &cursor, rows,
+                                    BATCH);
+}
+
+static size_t find_table(const struct file *file, const struct kesvuot_image *image) {
+    struct kesvuot_span bytes;
+    return kesvuot_find_table(file->bytes, file->size, image, KESVUOT_TABLE_STRINGS, &bytes) == KESVUOT_OK;
+}
+
+static size_t find_source_version(const struct file *file, const struct kesvuot_image *image) {
+    uint64_t version;
+    return kesvuot_find_source_version(file->bytes, file->size, image, &version) == KESVUOT_OK;
+}
+
 static size_t find_address(const struct file *file, const struct kesvuot_image *image) {
     struct kesvuot_span bytes;
     return kesvuot_find_address(file->bytes, file->size, image, image->base, &bytes) == KESVUOT_OK;
@@ -165,5 +184,6 @@ const struct view views[VIEWS] = {
     {"read_commands", read_commands}, {"read_segments", read_segments}, {"read_sections", read_sections},
     {"read_libraries", read_libraries}, {"read_builds", read_builds}, {"read_symbols", read_symbols},
     {"read_indirects", read_indirects}, {"symbol_name", symbol_name}, {"find_data", find_data},
-    {"find_address", find_address},
+    {"find_address", find_address}, {"read_relocations", read_relocations}, {"find_table", find_table},
+    {"find_source_version", find_source_version},
 };
