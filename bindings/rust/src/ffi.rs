@@ -5,7 +5,7 @@
 use alloc::vec;
 use alloc::vec::Vec;
 use core::ffi::c_void;
-use core::{ptr, slice, str};
+use core::{cmp, ptr, slice, str};
 
 /// What a call returns. `NO_MEMORY` and `NONE` are the remaining statuses.
 pub const OK: u32 = 0;
@@ -150,7 +150,7 @@ structures! {
         platform: u32,
         minos: u32,
         sdk: u32,
-        reserved: u32,
+        cmd: u32,
     }
 
     kesvuot_command = Command {
@@ -168,6 +168,16 @@ structures! {
         r#type: u8,
         sect: u8,
         reserved: u32,
+    }
+
+    kesvuot_relocation = Relocation {
+        address: u32,
+        symbolnum: u32,
+        pcrel: u8,
+        length: u8,
+        external: u8,
+        r#type: u8,
+        scattered: u32,
     }
 }
 
@@ -208,6 +218,29 @@ extern "C" {
         cmd: u32,
         data: *mut Span,
     ) -> u32;
+    fn kesvuot_find_table(
+        file: *const c_void,
+        size: usize,
+        image: *const Image,
+        table: u32,
+        bytes: *mut Span,
+    ) -> u32;
+    fn kesvuot_find_source_version(
+        file: *const c_void,
+        size: usize,
+        image: *const Image,
+        version: *mut u64,
+    ) -> u32;
+    fn kesvuot_read_relocations(
+        file: *const c_void,
+        size: usize,
+        image: *const Image,
+        reloff: u32,
+        nreloc: u32,
+        cursor: *mut Cursor,
+        rows: *mut Relocation,
+        max: usize,
+    ) -> usize;
     fn kesvuot_find_address(
         file: *const c_void,
         size: usize,
@@ -374,6 +407,38 @@ pub fn find_data(file: &[u8], image: &Image, cmd: u32) -> (u32, Span) {
     (status, data)
 }
 
+/// The status, and where the table with this number is.
+pub fn find_table(file: &[u8], image: &Image, table: u32) -> (u32, Span) {
+    let (at, mut bytes) = (file.as_ptr().cast(), Span::default());
+    // SAFETY: as in `symbol_name`.
+    let status = unsafe { kesvuot_find_table(at, file.len(), image, table, &mut bytes) };
+    (status, bytes)
+}
+
+/// The status, and the version of the sources.
+pub fn find_source_version(file: &[u8], image: &Image) -> (u32, u64) {
+    let (at, mut version) = (file.as_ptr().cast(), 0);
+    // SAFETY: the file may be read, and nobody changes it meanwhile. The number may be written.
+    let status = unsafe { kesvuot_find_source_version(at, file.len(), image, &mut version) };
+    (status, version)
+}
+
+/// The relocations from this place on, of which there are so many. There are fewer if they do not all lie
+/// in the image.
+pub fn relocations(file: &[u8], image: &Image, reloff: u32, nreloc: u32) -> Vec<Relocation> {
+    // No file has more.
+    let most = cmp::min(nreloc as usize, file.len() / 8);
+    let (mut cursor, mut rows) = (Cursor::default(), vec![Relocation::default(); most]);
+    let (at, size, to) = (file.as_ptr().cast(), file.len(), rows.as_mut_ptr());
+    // SAFETY: the file may be read, and nobody changes it meanwhile. The cursor and the rows may be
+    // written, and stay initialized where they are not.
+    let written = unsafe {
+        kesvuot_read_relocations(at, size, image, reloff, nreloc, &mut cursor, to, rows.len())
+    };
+    rows.truncate(written);
+    rows
+}
+
 /// The status, and where the bytes from an address on are.
 pub fn find_address(file: &[u8], image: &Image, address: u64) -> (u32, Span) {
     let (at, mut bytes) = (file.as_ptr().cast(), Span::default());
@@ -391,7 +456,7 @@ mod tests {
     use std::string::String;
 
     use super::*;
-    use crate::Rule;
+    use crate::{Rule, Table};
 
     /// The numbers of the header that this crate has, as conditions in C.
     fn numbers() -> Vec<String> {
@@ -415,7 +480,20 @@ mod tests {
         let others = others
             .iter()
             .map(|(name, number)| format!("KESVUOT_{name} == {number}"));
-        rules.chain(others).collect()
+        let tables = Table::ALL.iter().map(|table| {
+            let name = constant(&format!("{table:?}"));
+            format!("KESVUOT_TABLE{name} == {}", table.number())
+        });
+        rules.chain(others).chain(tables).collect()
+    }
+
+    /// The name of a variant as C has it, with a `_` before each word.
+    fn constant(variant: &str) -> String {
+        let words = variant.chars().map(|letter| match letter {
+            'A'..='Z' => format!("_{letter}"),
+            _ => letter.to_uppercase().collect(),
+        });
+        words.collect()
     }
 
     /// Whether conditions in C hold. The error names those that do not.

@@ -3,7 +3,11 @@
 use core::fmt;
 
 use crate::ffi::{self, Raw, Span};
-use crate::parts::{Build, Command, Indirect, Library, Section, Segment, Symbol};
+use alloc::vec::Vec;
+
+use crate::parts::{
+    Build, Command, Indirect, Library, Relocation, Section, Segment, Symbol, Table,
+};
 use crate::rows::{Row, Rows};
 
 /// An image of an accepted file.
@@ -230,7 +234,36 @@ impl<'a> Image<'a> {
         Rows::new(*self, self.raw.library_count)
     }
 
-    /// The platforms that the image was built for, in command order.
+    /// The run paths, in command order: the folders in which the dynamic linker looks for libraries whose
+    /// name begins with `@rpath`.
+    pub fn run_paths(&self) -> impl Iterator<Item = &'a [u8]> {
+        const LC_RPATH: u32 = 0x8000_001c;
+        self.commands()
+            .filter(|command| command.cmd == LC_RPATH)
+            .map(|command| command.name)
+    }
+
+    /// The path of the dynamic linker, by the first `LC_LOAD_DYLINKER`, if there is one.
+    #[must_use]
+    pub fn dynamic_linker(&self) -> Option<&'a [u8]> {
+        const LC_LOAD_DYLINKER: u32 = 0xe;
+        self.commands()
+            .find(|command| command.cmd == LC_LOAD_DYLINKER)
+            .map(|command| command.name)
+    }
+
+    /// The version A.B.C.D.E of the sources, by the first `LC_SOURCE_VERSION` of at least 16 bytes, if there
+    /// is one. A is below 2^24, and each other number below 2^10.
+    #[must_use]
+    pub fn source_version(&self) -> Option<[u32; 5]> {
+        let (status, version) = ffi::find_source_version(self.file, &self.raw);
+        let part = |shift: u32| (version >> shift) as u32 & 0x3ff;
+        let first = (version >> 40) as u32;
+        (status == ffi::OK).then(|| [first, part(30), part(20), part(10), part(0)])
+    }
+
+    /// The platforms that the image was built for, in command order: each `LC_BUILD_VERSION`, and each
+    /// command that names the least version of a platform and has at least 16 bytes.
     #[must_use]
     pub fn builds(&self) -> Rows<'a, Build> {
         Rows::new(*self, self.raw.build_count)
@@ -323,6 +356,34 @@ impl<'a> Image<'a> {
     pub fn linkedit(&self, cmd: u32) -> Option<&'a [u8]> {
         let (status, data) = ffi::find_data(self.file, &self.raw, cmd);
         (status == ffi::OK).then(|| self.part(data))
+    }
+
+    /// A table of the image. `None` if no command bounds it. Of several such commands it is a table of the
+    /// first. Each call rescans the load commands.
+    ///
+    /// ```
+    /// # let path = concat!(env!("CARGO_MANIFEST_DIR"), "/../../tests/real/program");
+    /// # let file = std::fs::read(path)?;
+    /// # let image = kesvuot::verify(&file)?.image(0).unwrap();
+    /// use kesvuot::Table;
+    ///
+    /// let strings = image.table(Table::Strings).unwrap();
+    /// assert_eq!(strings.len() as u64, image.symtab().unwrap().strsize);
+    /// # Ok::<(), Box<dyn std::error::Error>>(())
+    /// ```
+    #[must_use]
+    pub fn table(&self, table: Table) -> Option<&'a [u8]> {
+        let (status, bytes) = ffi::find_table(self.file, &self.raw, table.number());
+        (status == ffi::OK).then(|| self.part(bytes))
+    }
+
+    /// The relocations of a section of this image, in their order.
+    #[must_use]
+    pub fn relocations(&self, section: &Section<'_>) -> Vec<Relocation> {
+        ffi::relocations(self.file, &self.raw, section.reloff, section.nreloc)
+            .into_iter()
+            .map(Relocation::from)
+            .collect()
     }
 
     /// What is at an address, before any slide. `None` if no segment has the address.

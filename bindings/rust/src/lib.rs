@@ -57,7 +57,7 @@ mod verified;
 
 pub use error::Error;
 pub use image::{Dysymtab, Image, Source, Symtab};
-pub use parts::{Build, Command, Indirect, Library, Section, Segment, Symbol};
+pub use parts::{Build, Command, Indirect, Library, Relocation, Section, Segment, Symbol, Table};
 pub use rows::Rows;
 pub use rule::{ParseRuleError, Rule};
 pub use verified::{Slice, Slices, Verified, VerifiedBuf};

@@ -189,16 +189,20 @@ impl<'a> Row<'a> for Library<'a> {
     }
 }
 
-/// A platform that an image was built for. (`build_version_command`)
+/// A platform that an image was built for. (`build_version_command`, `version_min_command`)
 #[derive(Clone, Copy, Debug, PartialEq, Eq)]
 #[non_exhaustive]
 pub struct Build {
-    /// The platform, such as `PLATFORM_MACOS`.
+    /// The platform, such as `PLATFORM_MACOS`. Of an `LC_VERSION_MIN_IPHONEOS`, `LC_VERSION_MIN_TVOS` or
+    /// `LC_VERSION_MIN_WATCHOS` it is that of the device, also in an image for its simulator.
     pub platform: u32,
     /// The least version X.Y.Z of the platform: X << 16 | Y << 8 | Z.
     pub minos: u32,
     /// The version of the SDK, in the same form.
     pub sdk: u32,
+    /// The type of its command: `LC_BUILD_VERSION` (0x32), or one of the four that name the least version
+    /// of a platform, such as `LC_VERSION_MIN_MACOSX` (0x24).
+    pub cmd: u32,
 }
 
 impl<'a> Row<'a> for Build {
@@ -209,8 +213,98 @@ impl<'a> Row<'a> for Build {
             platform: raw.platform,
             minos: raw.minos,
             sdk: raw.sdk,
+            cmd: raw.cmd,
         }
     }
+}
+
+/// A relocation. (`relocation_info` of `<mach-o/reloc.h>`) No rule judges its fields.
+#[derive(Clone, Copy, Debug, PartialEq, Eq)]
+#[non_exhaustive]
+pub struct Relocation {
+    /// `r_address`, as the file has its 32 bits.
+    pub address: u32,
+    /// `r_symbolnum`, of 24 bits: the index of a symbol if it `is_external`, otherwise the number of a
+    /// section.
+    pub symbolnum: u32,
+    /// `r_pcrel`
+    pub is_pcrel: bool,
+    /// `r_length`, from 0 to 3: 1 << `length` bytes are relocated.
+    pub length: u8,
+    /// `r_extern`
+    pub is_external: bool,
+    /// `r_type`, from 0 to 15.
+    pub kind: u8,
+    /// The highest bit of `address`, `R_SCATTERED`. In an image that is not for x86_64 it means that this
+    /// is a `scattered_relocation_info`, whose fields are other bits.
+    pub is_scattered: bool,
+}
+
+impl From<ffi::Relocation> for Relocation {
+    fn from(raw: ffi::Relocation) -> Self {
+        Relocation {
+            address: raw.address,
+            symbolnum: raw.symbolnum,
+            is_pcrel: raw.pcrel != 0,
+            length: raw.length,
+            is_external: raw.external != 0,
+            kind: raw.r#type,
+            is_scattered: raw.scattered != 0,
+        }
+    }
+}
+
+macro_rules! tables {
+    ($($(#[$doc:meta])* $name:ident = $number:literal,)*) => {
+        /// A table of an image, by the command that bounds it.
+        #[derive(Clone, Copy, Debug, PartialEq, Eq, Hash)]
+        #[non_exhaustive]
+        pub enum Table {
+            $($(#[$doc])* $name = $number,)*
+        }
+
+        impl Table {
+            /// All tables that this crate knows.
+            pub const ALL: &'static [Table] = &[$(Table::$name),*];
+
+            /// The number of the table in `kesvuot.h`.
+            #[must_use]
+            pub fn number(self) -> u32 {
+                self as u32
+            }
+        }
+    };
+}
+
+tables! {
+    /// `LC_SYMTAB`, `symoff` and `nsyms`: symbols of 16 bytes.
+    Symbols = 1,
+    /// `LC_SYMTAB`, `stroff` and `strsize`: the strings of the symbols.
+    Strings = 2,
+    /// `LC_DYSYMTAB`, `tocoff` and `ntoc`: `dylib_table_of_contents` of 8 bytes.
+    Contents = 3,
+    /// `LC_DYSYMTAB`, `modtaboff` and `nmodtab`: `dylib_module_64` of 56 bytes.
+    Modules = 4,
+    /// `LC_DYSYMTAB`, `extrefsymoff` and `nextrefsyms`: `dylib_reference` of 4 bytes.
+    References = 5,
+    /// `LC_DYSYMTAB`, `indirectsymoff` and `nindirectsyms`: indirect entries of 4 bytes.
+    Indirects = 6,
+    /// `LC_DYSYMTAB`, `extreloff` and `nextrel`: `relocation_info` of 8 bytes.
+    ExternalRelocations = 7,
+    /// `LC_DYSYMTAB`, `locreloff` and `nlocrel`: `relocation_info` of 8 bytes.
+    LocalRelocations = 8,
+    /// `LC_DYLD_INFO` or `LC_DYLD_INFO_ONLY`, `rebase_off` and `rebase_size`: bytes.
+    Rebase = 9,
+    /// The same command, `bind_off` and `bind_size`: bytes.
+    Bind = 10,
+    /// The same command, `weak_bind_off` and `weak_bind_size`: bytes.
+    WeakBind = 11,
+    /// The same command, `lazy_bind_off` and `lazy_bind_size`: bytes.
+    LazyBind = 12,
+    /// The same command, `export_off` and `export_size`: bytes.
+    Export = 13,
+    /// `LC_ENCRYPTION_INFO_64`, `cryptoff` and `cryptsize`: bytes.
+    Encrypted = 14,
 }
 
 /// A load command. (`load_command`)

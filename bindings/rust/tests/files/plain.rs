@@ -1,14 +1,23 @@
 //! The parts of an image, read from its bytes by the structures of `<mach-o/loader.h>` and
 //! `<mach-o/nlist.h>` alone, and compared with what the crate gives.
 
-use kesvuot::{Image, Library, Source};
+use kesvuot::{Image, Library, Source, Table};
 
 const LC_SYMTAB: u32 = 0x2;
 const LC_DYSYMTAB: u32 = 0xb;
 const LC_ID_DYLIB: u32 = 0xd;
 const LC_SEGMENT_64: u32 = 0x19;
 const LC_UUID: u32 = 0x1b;
+const LC_SOURCE_VERSION: u32 = 0x2a;
 const LC_BUILD_VERSION: u32 = 0x32;
+/// `version_min_command`: `LC_VERSION_MIN_MACOSX`, `_IPHONEOS`, `_TVOS` and `_WATCHOS`, and the platform of
+/// each.
+const LEAST_VERSIONS: [(u32, u32); 4] = [(0x24, 1), (0x25, 2), (0x2f, 3), (0x30, 4)];
+const LC_LOAD_DYLINKER: u32 = 0xe;
+const LC_RPATH: u32 = 0x8000_001c;
+/// `LC_DYLD_INFO` and `LC_DYLD_INFO_ONLY`.
+const DYLD_INFOS: [u32; 2] = [0x22, 0x8000_0022];
+const LC_ENCRYPTION_INFO_64: u32 = 0x2c;
 const LC_MAIN: u32 = 0x8000_0028;
 /// `dylib_command`: `LC_LOAD_DYLIB`, `LC_ID_DYLIB` and their kin.
 const LIBRARIES: [u32; 6] = [0xc, 0xd, 0x20, 0x8000_0018, 0x8000_001f, 0x8000_0023];
@@ -73,18 +82,27 @@ fn first_of<'a>(commands: &[Plain<'a>], cmd: u32) -> Option<&'a [u8]> {
     all_of(commands, cmd).next()
 }
 
+/// The name of a command that has one.
+fn name_of(bytes: &[u8]) -> &[u8] {
+    text(&bytes[word(bytes, 8) as usize..])
+}
+
 /// Compares all that the crate gives of an image.
 pub fn compare(image: &Image) {
     let commands = commands_of(image.bytes());
     compare_header(image, &commands);
     compare_commands(image, &commands);
     compare_libraries(image, &commands);
+    compare_builds(image, &commands);
+    compare_paths(image, &commands);
     compare_segments(image, &commands);
     compare_sections(image, &commands);
     compare_symbols(image, &commands);
     compare_groups(image, &commands);
     compare_indirects(image, &commands);
     compare_linkedit(image, &commands);
+    compare_bounded(image, &commands);
+    compare_relocations(image);
     compare_addresses(image, &commands);
 }
 
@@ -108,7 +126,7 @@ fn compare_commands(image: &Image, commands: &[Plain]) {
     let wanted = commands.iter().map(|command| {
         let has_name = LIBRARIES.contains(&command.cmd) || NAMED.contains(&command.cmd);
         let name = if has_name {
-            text(&command.bytes[word(command.bytes, 8) as usize..])
+            name_of(command.bytes)
         } else {
             b""
         };
@@ -134,7 +152,7 @@ fn compare_libraries(image: &Image, commands: &[Plain]) {
         .iter()
         .filter(|command| LIBRARIES.contains(&command.cmd));
     let wanted = libraries.map(|Plain { cmd, bytes, .. }| {
-        let name = text(&bytes[word(bytes, 8) as usize..]);
+        let name = name_of(bytes);
         (name, *cmd, word(bytes, 16), word(bytes, 20))
     });
     let (ids, loaded): (Vec<_>, Vec<_>) = wanted.partition(|wanted| wanted.1 == LC_ID_DYLIB);
@@ -143,13 +161,43 @@ fn compare_libraries(image: &Image, commands: &[Plain]) {
         loaded
     );
     assert_eq!(image.id().map(library_fields), ids.first().copied());
+}
 
-    let builds = all_of(commands, LC_BUILD_VERSION);
-    let wanted = builds.map(|bytes| (word(bytes, 8), word(bytes, 12), word(bytes, 16)));
+/// Platform, least version, SDK and `cmd` of a command that has them. No rule judges how long a
+/// `version_min_command` is.
+fn build_of(Plain { cmd, bytes, .. }: &Plain) -> Option<[u32; 4]> {
+    if *cmd == LC_BUILD_VERSION {
+        return Some([word(bytes, 8), word(bytes, 12), word(bytes, 16), *cmd]);
+    }
+    let (_, platform) = LEAST_VERSIONS.iter().find(|least| least.0 == *cmd)?;
+    (bytes.len() >= 16).then(|| [*platform, word(bytes, 8), word(bytes, 12), *cmd])
+}
+
+fn compare_builds(image: &Image, commands: &[Plain]) {
+    let wanted: Vec<_> = commands.iter().filter_map(build_of).collect();
+    assert_eq!(image.builds().len(), wanted.len());
     let found = image
         .builds()
-        .map(|found| (found.platform, found.minos, found.sdk));
-    assert_eq!(found.collect::<Vec<_>>(), wanted.collect::<Vec<_>>());
+        .map(|found| [found.platform, found.minos, found.sdk, found.cmd]);
+    assert_eq!(found.collect::<Vec<_>>(), wanted);
+
+    let version = all_of(commands, LC_SOURCE_VERSION)
+        .find(|bytes| bytes.len() >= 16)
+        .map(|bytes| long(bytes, 8));
+    let found = image.source_version().map(|found| {
+        let [first, rest @ ..] = found.map(u64::from);
+        assert!(rest.iter().all(|&part| part < 1024));
+        rest.iter()
+            .fold(first, |version, part| version * 1024 + part)
+    });
+    assert_eq!(found, version);
+}
+
+fn compare_paths(image: &Image, commands: &[Plain]) {
+    let paths: Vec<_> = all_of(commands, LC_RPATH).map(name_of).collect();
+    assert_eq!(image.run_paths().collect::<Vec<_>>(), paths);
+    let dylinker = first_of(commands, LC_LOAD_DYLINKER).map(name_of);
+    assert_eq!(image.dynamic_linker(), dylinker);
 }
 
 fn compare_segments(image: &Image, commands: &[Plain]) {
@@ -334,6 +382,60 @@ fn compare_linkedit(image: &Image, commands: &[Plain]) {
         u32::MAX,
     ] {
         assert_eq!(image.linkedit(cmd), None);
+    }
+}
+
+/// Each table by the offsets of its two fields in a command with one of these `cmd`s, and the size of an
+/// item.
+fn compare_bounded(image: &Image, commands: &[Plain]) {
+    let (symtab, dysymtab) = ([LC_SYMTAB; 2], [LC_DYSYMTAB; 2]);
+    let wanted = [
+        (Table::Symbols, symtab, 8, 16),
+        (Table::Strings, symtab, 16, 1),
+        (Table::Contents, dysymtab, 32, 8),
+        (Table::Modules, dysymtab, 40, 56),
+        (Table::References, dysymtab, 48, 4),
+        (Table::Indirects, dysymtab, 56, 4),
+        (Table::ExternalRelocations, dysymtab, 64, 8),
+        (Table::LocalRelocations, dysymtab, 72, 8),
+        (Table::Rebase, DYLD_INFOS, 8, 1),
+        (Table::Bind, DYLD_INFOS, 16, 1),
+        (Table::WeakBind, DYLD_INFOS, 24, 1),
+        (Table::LazyBind, DYLD_INFOS, 32, 1),
+        (Table::Export, DYLD_INFOS, 40, 1),
+        (Table::Encrypted, [LC_ENCRYPTION_INFO_64; 2], 8, 1),
+    ];
+    assert_eq!(wanted.map(|row| row.0), Table::ALL);
+    for (table, cmds, at, size) in wanted {
+        let bytes = commands
+            .iter()
+            .find(|command| cmds.contains(&command.cmd))
+            .map(|Plain { bytes, .. }| {
+                let count = u64::from(word(bytes, at + 4));
+                part(image.bytes(), word(bytes, at).into(), size * count)
+            });
+        assert_eq!(image.table(table), bytes, "{table:?}");
+    }
+}
+
+/// The bits of each `relocation_info`, from the lowest on.
+fn compare_relocations(image: &Image) {
+    for section in image.sections() {
+        let (start, count) = (section.reloff.into(), u64::from(section.nreloc));
+        let words = part(image.bytes(), start, 8 * count).chunks_exact(8);
+        let wanted = words.map(|bytes| (word(bytes, 0), word(bytes, 4)));
+        let found = image.relocations(&section);
+        let found = found.into_iter().map(|found| {
+            assert_eq!(found.is_scattered, found.address >= 1 << 31);
+            assert!(found.symbolnum < 1 << 24 && found.length < 4 && found.kind < 16);
+            let bits = found.symbolnum
+                | u32::from(found.is_pcrel) << 24
+                | u32::from(found.length) << 25
+                | u32::from(found.is_external) << 27
+                | u32::from(found.kind) << 28;
+            (found.address, bits)
+        });
+        assert_eq!(found.collect::<Vec<_>>(), wanted.collect::<Vec<_>>());
     }
 }
 
