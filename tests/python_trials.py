@@ -42,6 +42,20 @@ LC_LOAD_DYLINKER, LC_RPATH = 0xE, 0x8000_001C
 LC_SYMTAB, LC_DYSYMTAB = oracle.LC_SYMTAB, oracle.LC_DYSYMTAB
 # The commands whose data tests/*.reads and tests/real/*.reads show, in their order. The last one is of another kind.
 DATA_COMMANDS = (0x1D, 0x26, 0x29, 0x8000_0033, 0x8000_0034, LC_SYMTAB)
+# Of <mach-o/loader.h>: the version_min_commands, by their platforms.
+LEAST_VERSIONS = {0x24: 1, 0x25: 2, 0x2F: 3, 0x30: 4}
+LC_SOURCE_VERSION = 0x2A
+# The tables in the order of kesvuot.h: a structure, the fields that bound the table, and the size of an item.
+BOUNDED_TABLES = (
+    ("symtab_command", "symoff", "nsyms", 16), ("symtab_command", "stroff", "strsize", 1),
+    ("dysymtab_command", "tocoff", "ntoc", 8), ("dysymtab_command", "modtaboff", "nmodtab", 56),
+    ("dysymtab_command", "extrefsymoff", "nextrefsyms", 4), ("dysymtab_command", "indirectsymoff", "nindirectsyms", 4),
+    ("dysymtab_command", "extreloff", "nextrel", 8), ("dysymtab_command", "locreloff", "nlocrel", 8),
+    ("dyld_info_command", "rebase_off", "rebase_size", 1), ("dyld_info_command", "bind_off", "bind_size", 1),
+    ("dyld_info_command", "weak_bind_off", "weak_bind_size", 1),
+    ("dyld_info_command", "lazy_bind_off", "lazy_bind_size", 1),
+    ("dyld_info_command", "export_off", "export_size", 1),
+    ("encryption_info_command_64", "cryptoff", "cryptsize", 1))
 
 
 class Report:
@@ -319,7 +333,42 @@ def wanted_libraries(image, is_id):
 
 
 def wanted_builds(image):
-    return ((it.platform, it.minos, it.sdk) for it in image.listed if it.cmd == oracle.LC_BUILD_VERSION)
+    """Of each LC_BUILD_VERSION; and of each version_min_command that is long enough, by the platform of its cmd."""
+    for it in image.commands:
+        if it.cmd == oracle.LC_BUILD_VERSION:
+            yield *struct.unpack_from("<3I", image.data, it.place + 8), it.cmd
+        elif it.cmd in LEAST_VERSIONS and it.cmdsize >= 16:
+            yield LEAST_VERSIONS[it.cmd], *struct.unpack_from("<2I", image.data, it.place + 8), it.cmd
+
+
+def wanted_source_version(image):
+    for it in image.commands:
+        if it.cmd == LC_SOURCE_VERSION and it.cmdsize >= 16:
+            bits = f"{struct.unpack_from('<Q', image.data, it.place + 8)[0]:064b}"
+            return tuple(int(bits[start:end], 2) for start, end in ((0, 24), (24, 34), (34, 44), (44, 54), (54, 64)))
+    return None
+
+
+def wanted_paths(image, cmd):
+    return [wanted_name(image, it) for it in image.listed if it.cmd == cmd]
+
+
+def wanted_relocations(image, section):
+    """The bits of relocation_info, from the lowest on."""
+    for at in range(section.reloff, section.reloff + 8 * section.nreloc, 8) if section.nreloc else ():
+        address, bits = struct.unpack_from("<2I", image.data, at)
+        digits = f"{bits:032b}"[::-1]
+        fields = (int(digits[start:end][::-1], 2) for start, end in ((0, 24), (24, 25), (25, 27), (27, 28), (28, 32)))
+        yield address, *fields, int(address >= 1 << 31)
+
+
+def wanted_table(image, structure, place, count, size):
+    """The bytes of a table, by the names of the fields that bound it in the first command of this structure."""
+    for it in image.listed:
+        if oracle.LISTED[it.cmd][0] == structure:
+            start, length = getattr(it, place), size * getattr(it, count)
+            return image.data[start:start + length] if length else b""
+    return None
 
 
 def wanted_symbols(image):
@@ -392,6 +441,15 @@ def compare_image(found, wanted):
                        ("sections", wanted_sections(wanted)), ("libraries", wanted_libraries(wanted, False)),
                        ("builds", wanted_builds(wanted)), ("symbols", wanted_symbols(wanted))):
         yield name, list(map(as_bytes, getattr(found, name))), list(rows)
+    yield "source_version", found.source_version, wanted_source_version(wanted)
+    yield "run_paths", [path.tobytes() for path in found.run_paths], wanted_paths(wanted, LC_RPATH)
+    linker = [found.dynamic_linker.tobytes()] if found.dynamic_linker is not None else []
+    yield "dynamic_linker", linker, wanted_paths(wanted, LC_LOAD_DYLINKER)[:1]
+    for section, it in zip(found.sections, wanted.sections):
+        yield "relocations", list(found.relocations(section)), list(wanted_relocations(wanted, it))
+    for table, fields in zip(kesvuot.BoundedTable, BOUNDED_TABLES):
+        part = found.table(table)
+        yield f"table {table.name}", None if part is None else part.tobytes(), wanted_table(wanted, *fields)
     yield "names", [found.name(symbol).tobytes() for symbol in found.symbols], list(wanted_names(wanted))
     yield "id", found.id and as_bytes(found.id), next(wanted_libraries(wanted, True), None)
     yield "capabilities", found.capabilities, wanted.header.cpusubtype >> 24
@@ -472,6 +530,8 @@ def plain_image_lines(part):
     if part["uuid"] is not None:
         yield f"  uuid {part['uuid']}"
     for build in part["builds"]:
+        if build["cmd"] != oracle.LC_BUILD_VERSION:
+            continue
         yield (f"  build platform {build['platform']} min {oracle.version(build['minos'])} "
                f"sdk {oracle.version(build['sdk'])}")
     for it in part["segments"]:
@@ -700,7 +760,7 @@ def judge_texts_of_rows(report, data):
                 "align=4, reloff=0, nreloc=0, flags=2147484672, reserved1=0, reserved2=0, zero_fill=False)")
     report.case("a library", str(image.libraries[0]),
                 "Library(name=b'/usr/lib/libdemo.dylib', cmd=12, current=66051, compatible=66048)")
-    report.case("a build", str(image.builds[0]), "Build(platform=1, minos=720896, sdk=720896)")
+    report.case("a build", str(image.builds[0]), "Build(platform=1, minos=720896, sdk=720896, cmd=50)")
     command = next(command for command in image.commands if command.cmd == LC_LOAD_DYLINKER)
     report.case("a command", str(command),
                 f"Command(bytes=<{len(command.bytes)} bytes>, name=b'/usr/lib/dyld', place={command.place}, cmd=14)")

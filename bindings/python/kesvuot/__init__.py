@@ -37,11 +37,11 @@ ImportError where it is not found. The package needs CPython 3.8 or later.
 """
 
 from ._files import (
-    Dysymtab, File, Image, Refused, Slice, Source, SourceKind, Symtab, command_name, library_version, platform_name,
-    verify, verify_linked)
+    BoundedTable, Dysymtab, File, Image, Refused, Slice, Source, SourceKind, Symtab, command_name, library_version,
+    platform_name, verify, verify_linked)
 from ._opcodes import Bind, OpcodeError, Rebase
-from ._rows import Build, Command, Library, Section, Segment, Symbol, Table
+from ._rows import Build, Command, Library, Relocation, Section, Segment, Symbol, Table
 
 __all__ = ["verify", "verify_linked", "library_version", "command_name", "platform_name", "Refused", "File", "Slice",
            "Image", "Source", "SourceKind", "Table", "Segment", "Section", "Library", "Build", "Command", "Symbol",
-           "Symtab", "Dysymtab", "Rebase", "Bind", "OpcodeError"]
+           "Relocation", "BoundedTable", "Symtab", "Dysymtab", "Rebase", "Bind", "OpcodeError"]

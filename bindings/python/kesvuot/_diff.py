@@ -18,8 +18,9 @@ from ._reports import reason_text, shown
 
 SAME, DIFFERENT, NOT_COMPARED = range(3)
 LC_SYMTAB, LC_DYSYMTAB = 0x2, 0xB
-# Of these fields are compared, and not all bytes: LC_SEGMENT_64, LC_UUID, LC_BUILD_VERSION, LC_MAIN, and libraries.
-READ = {0x19, 0x1B, 0x32, 0x8000_0028, *LIBRARIES}
+# Of these fields are compared, and not all bytes: LC_SEGMENT_64, LC_UUID, LC_BUILD_VERSION, LC_MAIN, LC_VERSION_MIN_..,
+# and libraries.
+READ = {0x19, 0x1B, 0x32, 0x8000_0028, 0x24, 0x25, 0x2F, 0x30, *LIBRARIES}
 FIELDS = {
     LC_SYMTAB: "symoff nsyms stroff strsize".split(),
     LC_DYSYMTAB: "ilocalsym nlocalsym iextdefsym nextdefsym iundefsym nundefsym tocoff ntoc modtaboff nmodtab "

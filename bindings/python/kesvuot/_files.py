@@ -12,7 +12,10 @@ from uuid import UUID
 from . import _library, _opcodes, _rows
 from ._library import CHANGED, IMAGE, SPAN, TEXT, VERDICT, Bytes, Data, address_of, load
 from ._opcodes import Bind, Rebase
-from ._rows import Build, Command, Library, Reader, Section, Segment, Symbol, Table, WalkedReader
+from ._rows import (
+    Build, Command, Library, Reader, Relocation, Section, Segment, Symbol, Table, WalkedReader)
+
+LC_LOAD_DYLINKER, LC_RPATH = 0xE, 0x8000_001C
 
 # Room for the layout of most files. A longer one takes a second call.
 LAYOUT_ROOM = 1 << 14
@@ -54,6 +57,25 @@ class Dysymtab(NamedTuple):
     nundefsym: int
     indirectsymoff: int
     nindirectsyms: int
+
+
+class BoundedTable(enum.Enum):
+    """A table of an image, by the two fields of a command that bound it, and what its items are."""
+
+    SYMBOLS = 1  # symoff, nsyms of LC_SYMTAB: nlist_64 of 16 bytes
+    STRINGS = 2  # stroff, strsize: bytes
+    CONTENTS = 3  # tocoff, ntoc of LC_DYSYMTAB: dylib_table_of_contents of 8 bytes
+    MODULES = 4  # modtaboff, nmodtab: dylib_module_64 of 56 bytes
+    REFERENCES = 5  # extrefsymoff, nextrefsyms: dylib_reference of 4 bytes
+    INDIRECTS = 6  # indirectsymoff, nindirectsyms: indirect entries of 4 bytes
+    EXTERNAL_RELOCATIONS = 7  # extreloff, nextrel: relocation_info of 8 bytes
+    LOCAL_RELOCATIONS = 8  # locreloff, nlocrel: relocation_info of 8 bytes
+    REBASE = 9  # rebase_off, rebase_size of LC_DYLD_INFO or LC_DYLD_INFO_ONLY: bytes
+    BIND = 10  # bind_off, bind_size
+    WEAK_BIND = 11  # weak_bind_off, weak_bind_size
+    LAZY_BIND = 12  # lazy_bind_off, lazy_bind_size
+    EXPORT = 13  # export_off, export_size
+    ENCRYPTED = 14  # cryptoff, cryptsize of LC_ENCRYPTION_INFO_64: bytes
 
 
 class SourceKind(enum.Enum):
@@ -157,8 +179,29 @@ class Image(Slice):
 
     @cached_property
     def builds(self) -> Table[Build]:
-        """Each LC_BUILD_VERSION."""
+        """The platforms that it was built for: each LC_BUILD_VERSION, and each command of at least 16 bytes that names
+        the least version of a platform, such as LC_VERSION_MIN_MACOSX."""
         return self._walked(_rows.BUILDS, self._counts[4])
+
+    @cached_property
+    def source_version(self) -> Optional[Tuple[int, int, int, int, int]]:
+        """The version of the sources, by the first LC_SOURCE_VERSION of at least 16 bytes, or None without one."""
+        written = ctypes.c_uint64()
+        status = load().kesvuot_find_source_version(
+            self._data.address, len(self._data), self._image, ctypes.byref(written))
+        number = written.value
+        parts = number >> 40, number >> 30 & 0x3FF, number >> 20 & 0x3FF, number >> 10 & 0x3FF, number & 0x3FF
+        return parts if status == _library.OK else None
+
+    @cached_property
+    def run_paths(self) -> Tuple[memoryview, ...]:
+        """The path of each LC_RPATH, in the order of their commands."""
+        return tuple(command.name for command in self.commands if command.cmd == LC_RPATH)
+
+    @cached_property
+    def dynamic_linker(self) -> Optional[memoryview]:
+        """The path of the first LC_LOAD_DYLINKER, or None without one."""
+        return next((command.name for command in self.commands if command.cmd == LC_LOAD_DYLINKER), None)
 
     @cached_property
     def symbols(self) -> Table[Symbol]:
@@ -202,6 +245,17 @@ class Image(Slice):
         INDIRECT_SYMBOL_ABS (0x40000000) or both."""
         count = self.dysymtab.nindirectsyms if self.dysymtab else 0
         return Table(Reader(self._data, self._image, _rows.INDIRECTS).read, range(count))
+
+    def relocations(self, section: Section) -> Table[Relocation]:
+        """The relocations of a section of this image."""
+        numbers = section.reloff, section.nreloc
+        return Table(Reader(self._data, self._image, _rows.RELOCATIONS, *numbers).read, range(section.nreloc))
+
+    def table(self, table: BoundedTable) -> Optional[memoryview]:
+        """A table of the image, or None if no command bounds it. Of several such commands it is a table of the first.
+        Each call rescans the load commands."""
+        status, found = self._span(load().kesvuot_find_table, table.value)
+        return found if status == _library.OK else None
 
     def linkedit(self, cmd: SupportsIndex) -> Optional[memoryview]:
         """The data of the first linkedit_data_command with this `cmd`, such as LC_CODE_SIGNATURE (0x1d). None if there

@@ -68,6 +68,9 @@ def _declare(library: Any) -> None:
         "read_image": (u32, [pointer, size, u64, pointer]),
         "symbol_name": (u32, [pointer, size, pointer, u32, pointer]),
         "find_data": (u32, [pointer, size, pointer, u32, pointer]),
+        "find_table": (u32, [pointer, size, pointer, u32, pointer]),
+        "find_source_version": (u32, [pointer, size, pointer, pointer]),
+        "read_relocations": (size, [pointer, size, pointer, u32, u32, pointer, pointer, size]),
         "find_address": (u32, [pointer, size, pointer, u64, pointer])}
     for table in ("segments", "sections", "libraries", "builds", "commands", "symbols", "indirects"):
         calls[f"read_{table}"] = (size, [pointer, size, pointer, pointer, pointer, size])

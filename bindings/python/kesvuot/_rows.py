@@ -81,11 +81,14 @@ class Library(NamedTuple):
 
 
 class Build(NamedTuple):
-    """An LC_BUILD_VERSION."""
+    """A build_version_command, or a version_min_command, which names its platform by its `cmd`: LC_VERSION_MIN_MACOSX
+    (0x24), LC_VERSION_MIN_IPHONEOS (0x25), LC_VERSION_MIN_TVOS (0x2f) or LC_VERSION_MIN_WATCHOS (0x30). The platform of
+    the last three is that of the device, also in an image for its simulator."""
 
     platform: int
     minos: int
     sdk: int
+    cmd: int
 
 
 class Command(NamedTuple):
@@ -113,6 +116,20 @@ class Symbol(NamedTuple):
     type: int
     sect: int
     section: Optional[int]
+
+
+class Relocation(NamedTuple):
+    """A relocation_info of <mach-o/reloc.h>. No rule judges its fields. `external` is r_extern: `symbolnum` is the index
+    of a symbol, and otherwise the number of a section. `scattered` is the highest bit of `address`, R_SCATTERED: in an
+    image that is not for x86_64 it means a scattered_relocation_info, whose fields are other bits."""
+
+    address: int
+    symbolnum: int
+    pcrel: bool
+    length: int
+    external: bool
+    type: int
+    scattered: bool
 
 
 class Kind(NamedTuple):
@@ -154,14 +171,19 @@ def _indirects(_data: Bytes, rows: Fields) -> Iterator[int]:
     return (value for value, in rows)
 
 
-# In the forms of kesvuot.h, each 2Q at the start is a span, x is reserved or not taken, and ?3x is a number that is 0
-# or 1.
+def _relocations(_data: Bytes, rows: Fields) -> Iterator[Relocation]:
+    return map(Relocation._make, rows)
+
+
+# In the forms of kesvuot.h, each 2Q at the start is a span, x is reserved or not taken, and ? and ?3x are numbers that
+# are 0 or 1.
 SEGMENTS = Kind("kesvuot_read_segments", Struct("@4Q2Q8x3Q3I4x"), _segments)
 SECTIONS = Kind("kesvuot_read_sections", Struct("@6Q2Q7I?3x"), _sections)
 LIBRARIES = Kind("kesvuot_read_libraries", Struct("@2Q3I4x"), _libraries)
-BUILDS = Kind("kesvuot_read_builds", Struct("@3I4x"), _builds)
+BUILDS = Kind("kesvuot_read_builds", Struct("@4I"), _builds)
 SYMBOLS = Kind("kesvuot_read_symbols", Struct("@QIIHBB4x"), _symbols)
 INDIRECTS = Kind("kesvuot_read_indirects", Struct("@I"), _indirects)
+RELOCATIONS = Kind("kesvuot_read_relocations", Struct("@2I?B?B?3x"), _relocations)
 
 
 def commands_of(image: int) -> Kind:
@@ -175,20 +197,22 @@ def commands_of(image: int) -> Kind:
 
 
 class Reader:
-    """Reads rows of a table from the library, which finds each by its index."""
+    """Reads rows of a table from the library, which finds each by its index. `numbers` are what the call gets besides
+    the image."""
 
-    def __init__(self, data: Bytes, image: Any, kind: Kind) -> None:
+    def __init__(self, data: Bytes, image: Any, kind: Kind, *numbers: int) -> None:
         self._data = data
         self._image = image
         self._kind = kind
+        self._numbers = numbers
 
     def _write(self, first: int, count: int) -> memoryview:
         """Rows as the library writes them, from an index on. There are fewer if the bytes have changed."""
         size = self._kind.form.size
         rows, cursor = ctypes.create_string_buffer(count * size), CURSOR.pack(0, 0, 0, first)
         written = getattr(load(), self._kind.call)(
-            self._data.address, len(self._data), self._image, ctypes.create_string_buffer(cursor, CURSOR.size), rows,
-            count)
+            self._data.address, len(self._data), self._image, *self._numbers,
+            ctypes.create_string_buffer(cursor, CURSOR.size), rows, count)
         return memoryview(rows).cast("B")[:written * size]
 
     def _make(self, rows: memoryview) -> Iterator[Any]:
