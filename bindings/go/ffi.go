@@ -153,6 +153,8 @@ type (
 	commandRow  = C.struct_kesvuot_command
 	symbolRow   = C.struct_kesvuot_symbol
 	indirectRow = C.uint32_t
+
+	relocationRow = C.struct_kesvuot_relocation
 )
 
 const (
@@ -215,6 +217,37 @@ func readLinkedit(image *Image, cmd uint32) ([]byte, bool) {
 	status := C.kesvuot_find_data(unsafe.Pointer(&image.file[0]), C.size_t(len(image.file)), &image.numbers,
 		C.uint32_t(cmd), &data)
 	return partOf(image.file, data), status == C.KESVUOT_OK
+}
+
+// readRelocations returns the relocations from this place in the image on. There are fewer if they do not all lie in
+// it.
+func readRelocations(image *Image, reloff, nreloc uint32) []relocationRow {
+	// No file has more.
+	count := len(image.file) / 8
+	if uint64(nreloc) < uint64(count) {
+		count = int(nreloc)
+	}
+	if count == 0 {
+		return nil
+	}
+	rows := make([]relocationRow, count)
+	written := C.kesvuot_read_relocations(unsafe.Pointer(&image.file[0]), C.size_t(len(image.file)), &image.numbers,
+		C.uint32_t(reloff), C.uint32_t(nreloc), new(cursor), &rows[0], C.size_t(count))
+	return rows[:written]
+}
+
+func readBounded(image *Image, table Table) ([]byte, bool) {
+	var found span
+	status := C.kesvuot_find_table(unsafe.Pointer(&image.file[0]), C.size_t(len(image.file)), &image.numbers,
+		C.uint32_t(table), &found)
+	return partOf(image.file, found), status == C.KESVUOT_OK
+}
+
+func readSourceVersion(image *Image) (uint64, bool) {
+	var version C.uint64_t
+	status := C.kesvuot_find_source_version(unsafe.Pointer(&image.file[0]), C.size_t(len(image.file)), &image.numbers,
+		&version)
+	return uint64(version), status == C.KESVUOT_OK
 }
 
 func readAt(image *Image, address uint64) Source {

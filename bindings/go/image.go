@@ -159,6 +159,83 @@ func (image *Image) Linkedit(cmd uint32) (data []byte, ok bool) {
 	return readLinkedit(image, cmd)
 }
 
+// A Table is a table of an image, by the two fields of a command that bound it.
+type Table uint32
+
+// The tables, with their fields, and what their items are.
+const (
+	// SymbolTable has the symbols, of 16 bytes: symoff and nsyms of LC_SYMTAB.
+	SymbolTable Table = 1
+	// StringTable has the strings of the symbols: stroff and strsize of LC_SYMTAB.
+	StringTable Table = 2
+	// ContentsTable has dylib_table_of_contents of 8 bytes: tocoff and ntoc of LC_DYSYMTAB.
+	ContentsTable Table = 3
+	// ModuleTable has dylib_module_64 of 56 bytes: modtaboff and nmodtab of LC_DYSYMTAB.
+	ModuleTable Table = 4
+	// ReferenceTable has dylib_reference of 4 bytes: extrefsymoff and nextrefsyms of LC_DYSYMTAB.
+	ReferenceTable Table = 5
+	// IndirectTable has the indirect entries, of 4 bytes: indirectsymoff and nindirectsyms of LC_DYSYMTAB.
+	IndirectTable Table = 6
+	// ExternalRelocationTable has relocation_info of 8 bytes: extreloff and nextrel of LC_DYSYMTAB.
+	ExternalRelocationTable Table = 7
+	// LocalRelocationTable has relocation_info of 8 bytes: locreloff and nlocrel of LC_DYSYMTAB.
+	LocalRelocationTable Table = 8
+	// RebaseTable has bytes: rebase_off and rebase_size of LC_DYLD_INFO or LC_DYLD_INFO_ONLY.
+	RebaseTable Table = 9
+	// BindTable has bytes: bind_off and bind_size of the same command.
+	BindTable Table = 10
+	// WeakBindTable has bytes: weak_bind_off and weak_bind_size of the same command.
+	WeakBindTable Table = 11
+	// LazyBindTable has bytes: lazy_bind_off and lazy_bind_size of the same command.
+	LazyBindTable Table = 12
+	// ExportTable has bytes: export_off and export_size of the same command.
+	ExportTable Table = 13
+	// EncryptedTable has bytes: cryptoff and cryptsize of LC_ENCRYPTION_INFO_64.
+	EncryptedTable Table = 14
+)
+
+// Table returns a table of the image. It is not ok if no command bounds it. Of several such commands it is a table of
+// the first. Each call rescans the load commands.
+func (image *Image) Table(table Table) (bytes []byte, ok bool) {
+	return readBounded(image, table)
+}
+
+// SourceVersion returns the version A.B.C.D.E of the sources, by the first LC_SOURCE_VERSION of at least 16 bytes. It
+// is not ok if there is none.
+func (image *Image) SourceVersion() (version [5]uint32, ok bool) {
+	number, ok := readSourceVersion(image)
+	version[0] = uint32(number >> 40)
+	for index, shift := range [4]uint{30, 20, 10, 0} {
+		version[index+1] = uint32(number >> shift & 0x3ff)
+	}
+	return version, ok
+}
+
+// RunPaths returns the path of each LC_RPATH, in command order.
+func (image *Image) RunPaths() [][]byte {
+	return image.namesOf(0x8000001c)
+}
+
+// DynamicLinker returns the path of the first LC_LOAD_DYLINKER. It is not ok if there is none.
+func (image *Image) DynamicLinker() (path []byte, ok bool) {
+	paths := image.namesOf(0xe)
+	if len(paths) == 0 {
+		return nil, false
+	}
+	return paths[0], true
+}
+
+// namesOf returns the names of the commands with this cmd.
+func (image *Image) namesOf(cmd uint32) [][]byte {
+	var names [][]byte
+	for _, command := range image.Commands() {
+		if command.Cmd == cmd {
+			names = append(names, command.Name)
+		}
+	}
+	return names
+}
+
 // PlaceOf returns the offset in the file at which a part of the image begins, such as a name. It is not ok if the bytes
 // are from elsewhere, or there are none.
 func (image *Image) PlaceOf(part []byte) (place uint64, ok bool) {

@@ -141,6 +141,7 @@ func compare(t *testing.T, image *Image, file []byte, plain *macho.File) {
 	compareSegments(t, image, plain)
 	compareSections(t, image, plain)
 	compareSymbols(t, image, plain)
+	compareTables(t, image)
 }
 
 func compareCommands(t *testing.T, image *Image, plain *macho.File) {
@@ -246,7 +247,10 @@ func TestHeader(t *testing.T) {
 	same(t, "the base", fmt.Sprintf("%#x %v", base, ok), "0x100000000 true")
 	entry, ok := image.Entry()
 	same(t, "the entry", fmt.Sprintf("%#x %v", entry, ok), "0x100000440 true")
-	same(t, "the builds", image.Builds(), []Build{{1, 11 << 16, 11 << 16}})
+	same(t, "the builds", image.Builds(), []Build{{1, 11 << 16, 11 << 16, 0x32}})
+	linker, ok := image.DynamicLinker()
+	same(t, "the dynamic linker", fmt.Sprintf("%s %v", linker, ok), "/usr/lib/dyld true")
+	same(t, "the run paths", image.RunPaths(), [][]byte(nil))
 	same(t, "the libraries", image.Libraries(), []Library{{[]byte("/usr/lib/libdemo.dylib"), 0xc, 0x10203, 0x10200}})
 	same(t, "how many symbols", image.Symtab().Nsyms, uint64(5))
 }
@@ -311,6 +315,48 @@ func TestLinkedit(t *testing.T) {
 	}
 }
 
+// The offsets of the fields of each table in its command, its cmds, and the size of an item, by <mach-o/loader.h>.
+var bounded = []struct {
+	table Table
+	cmds  [2]uint32
+	at    int
+	size  uint32
+}{
+	{SymbolTable, [2]uint32{0x2, 0x2}, 8, 16}, {StringTable, [2]uint32{0x2, 0x2}, 16, 1},
+	{ContentsTable, [2]uint32{0xb, 0xb}, 32, 8}, {ModuleTable, [2]uint32{0xb, 0xb}, 40, 56},
+	{ReferenceTable, [2]uint32{0xb, 0xb}, 48, 4}, {IndirectTable, [2]uint32{0xb, 0xb}, 56, 4},
+	{ExternalRelocationTable, [2]uint32{0xb, 0xb}, 64, 8}, {LocalRelocationTable, [2]uint32{0xb, 0xb}, 72, 8},
+	{RebaseTable, [2]uint32{0x22, 0x80000022}, 8, 1}, {BindTable, [2]uint32{0x22, 0x80000022}, 16, 1},
+	{WeakBindTable, [2]uint32{0x22, 0x80000022}, 24, 1}, {LazyBindTable, [2]uint32{0x22, 0x80000022}, 32, 1},
+	{ExportTable, [2]uint32{0x22, 0x80000022}, 40, 1}, {EncryptedTable, [2]uint32{0x2c, 0x2c}, 8, 1},
+}
+
+// compareTables compares each table with what the fields of the first of its commands say, and the others are none.
+func compareTables(t *testing.T, image *Image) {
+	t.Helper()
+	for _, wanted := range bounded {
+		var part []byte
+		isThere := false
+		for _, command := range image.Commands() {
+			if !isThere && (command.Cmd == wanted.cmds[0] || command.Cmd == wanted.cmds[1]) {
+				place := binary.LittleEndian.Uint32(command.Bytes[wanted.at:])
+				count := binary.LittleEndian.Uint32(command.Bytes[wanted.at+4:])
+				if count > 0 {
+					part = image.Bytes[place:][:count*wanted.size]
+				}
+				isThere = true
+			}
+		}
+		found, ok := image.Table(wanted.table)
+		same(t, fmt.Sprint("table ", wanted.table), string(found), string(part))
+		same(t, fmt.Sprint("whether there is a table ", wanted.table), ok, isThere)
+	}
+	for _, none := range []Table{0, 15, 1<<32 - 1} {
+		_, ok := image.Table(none)
+		same(t, "no table", ok, false)
+	}
+}
+
 // words returns the bytes of 32-bit numbers.
 func words(numbers ...uint32) []byte {
 	var file bytes.Buffer
@@ -345,6 +391,47 @@ func TestSectionsOfSymbols(t *testing.T) {
 		found = append(found, symbol.Section)
 	}
 	same(t, "the sections", found, wanted)
+}
+
+// An executable of commands that RULES.md does not list, and one of them is too short.
+func TestVersions(t *testing.T) {
+	image := verified(t, words(0xfeedfacf, 0x01000007, 3, 2, 6, 16+16+8+16+16+8, 0, 0,
+		0x24, 16, 0xa0e00, 0xa0f00, 0x30, 16, 0x20100, 0x30000, 0x25, 8, 0x2f, 16, 9<<16, 10<<16,
+		0x2a, 16, 5|4<<10|3<<20|2<<30, 1<<8, 0x2a, 8)).Images()[0]
+	same(t, "the builds", image.Builds(),
+		[]Build{{1, 0xa0e00, 0xa0f00, 0x24}, {4, 0x20100, 0x30000, 0x30}, {3, 9 << 16, 10 << 16, 0x2f}})
+	version, ok := image.SourceVersion()
+	same(t, "the version of the sources", fmt.Sprint(version, ok), "[1 2 3 4 5] true")
+	image = verified(t, words(0xfeedfacf, 0x01000007, 3, 2, 1, 8, 0, 0, 0x2a, 8)).Images()[0]
+	version, ok = image.SourceVersion()
+	same(t, "a short command", fmt.Sprint(version, ok), "[0 0 0 0 0] false")
+}
+
+// The relocations of a section, and what Go's own reader says of them.
+func TestRelocations(t *testing.T) {
+	file := words(0xfeedfacf, 0x01000007, 3, 2, 1, 152, 0, 0, 0x19, 152)
+	file = append(file, words(append(make([]uint32, 14), 1, 0)...)...)
+	file = append(file, make([]byte, 56)...)
+	file = append(file, words(184, 3, 0, 0, 0, 0)...)
+	file = append(file, words(0x1234, 0x5<<28|1<<27|2<<25|1<<24|0x654321, 8, 0xf<<28|3<<25, 0xfffffff0, 1<<27)...)
+	image := verified(t, file).Images()[0]
+	plain, err := macho.NewFile(bytes.NewReader(file))
+	if err != nil {
+		t.Fatal(err)
+	}
+	section := image.Sections()[0]
+	found := []macho.Reloc{}
+	for _, it := range image.Relocations(&section)[:2] {
+		same(t, "it is not scattered", it.Scattered, false)
+		found = append(found, macho.Reloc{Addr: it.Address, Value: it.Symbolnum, Type: it.Type, Len: it.Length,
+			Pcrel: it.Pcrel, Extern: it.External})
+	}
+	same(t, "the relocations", found, plain.Sections[0].Relocs[:2])
+	same(t, "the last", image.Relocations(&section)[2], Relocation{Address: 0xfffffff0, External: true, Scattered: true})
+	section.Nreloc = 4
+	same(t, "relocations past the image", len(image.Relocations(&section)), 0)
+	section.Nreloc = 0
+	same(t, "no relocations", len(image.Relocations(&section)), 0)
 }
 
 func TestBatches(t *testing.T) {
@@ -433,6 +520,9 @@ func TestChangedBytes(t *testing.T) {
 		collect(image.Symbols())
 		image.At(0x100000440)
 		image.Linkedit(0x26)
+		image.Table(StringTable)
+		image.SourceVersion()
+		image.Relocations(&Section{Reloff: 8, Nreloc: 1 << 31})
 	}
 }
 
@@ -501,7 +591,11 @@ func readAll(t *testing.T, file *File) {
 	for _, image := range file.Images() {
 		symbols := collect(image.Symbols())
 		same(t, "how many symbols", len(symbols), int(image.numbers.symbol_count))
+		compareTables(t, image)
 		sections := image.Sections()
+		for index := range sections {
+			same(t, "how many relocations", len(image.Relocations(&sections[index])), int(sections[index].Nreloc))
+		}
 		for _, symbol := range symbols {
 			if symbol.Section >= 0 {
 				same(t, "the section of a symbol", symbol.Section, int(symbol.Sect)-1)

@@ -102,17 +102,21 @@ func (image *Image) newLibrary(row *libraryRow) Library {
 	return Library{image.part(row.name), uint32(row.cmd), uint32(row.current), uint32(row.compatible)}
 }
 
-// A Build is an LC_BUILD_VERSION. Minos and SDK are versions X.Y.Z: X << 16 | Y << 8 | Z.
+// A Build is an LC_BUILD_VERSION, or a command that names the least version of a platform, by its Cmd:
+// LC_VERSION_MIN_MACOSX (0x24), LC_VERSION_MIN_IPHONEOS (0x25), LC_VERSION_MIN_TVOS (0x2f) or LC_VERSION_MIN_WATCHOS
+// (0x30). The platform of the last three is that of the device, also in an image for its simulator. Minos and SDK are
+// versions X.Y.Z: X << 16 | Y << 8 | Z.
 type Build struct {
-	Platform, Minos, SDK uint32
+	Platform, Minos, SDK, Cmd uint32
 }
 
-// Builds returns the platforms that the image was built for, in command order.
+// Builds returns the platforms that the image was built for, in command order. A command that names the least version
+// of a platform is among them if it has at least 16 bytes.
 func (image *Image) Builds() []Build {
 	rows := readTable[buildRow](image, buildTable, image.numbers.build_count)
 	builds := make([]Build, len(rows))
 	for index, row := range rows {
-		builds[index] = Build{uint32(row.platform), uint32(row.minos), uint32(row.sdk)}
+		builds[index] = Build{uint32(row.platform), uint32(row.minos), uint32(row.sdk), uint32(row.cmd)}
 	}
 	return builds
 }
@@ -137,6 +141,38 @@ func (image *Image) Commands() []Command {
 		commands[index] = Command{image.part(row.bytes), image.part(row.name), place, uint32(row.cmd)}
 	}
 	return commands
+}
+
+// A Relocation is a relocation_info of <mach-o/reloc.h>. No rule judges its fields.
+type Relocation struct {
+	Address uint32
+	// Symbolnum, below 2^24, is the index of a symbol if it is External, and otherwise the number of a section.
+	Symbolnum uint32
+	Pcrel     bool
+	// 1 << Length bytes are relocated. Length is from 0 to 3, and Type from 0 to 15.
+	Length, Type uint8
+	External     bool
+	// Scattered is the highest bit of Address, R_SCATTERED. In an image that is not for x86_64 it means a
+	// scattered_relocation_info, whose fields are other bits.
+	Scattered bool
+}
+
+// Relocations returns the relocations of a section of this image.
+func (image *Image) Relocations(section *Section) []Relocation {
+	rows := readRelocations(image, section.Reloff, section.Nreloc)
+	relocations := make([]Relocation, len(rows))
+	for index, row := range rows {
+		relocations[index] = Relocation{
+			Address:   uint32(row.address),
+			Symbolnum: uint32(row.symbolnum),
+			Pcrel:     row.pcrel != 0,
+			Length:    uint8(row.length),
+			Type:      uint8(row._type),
+			External:  row.external != 0,
+			Scattered: row.scattered != 0,
+		}
+	}
+	return relocations
 }
 
 // A Symbol is an nlist_64. Its name is Image.Name.
