@@ -200,6 +200,70 @@ static inline const char *kesvuot_platform_name(uint32_t platform) {
     return kesvuot_find_platform(platform, &name) == KESVUOT_OK ? name.at : NULL;
 }
 
+/* Why a file is refused */
+
+/* The index of nothing. */
+#define KESVUOT_NO_INDEX UINT32_MAX
+
+/* What a part of a file is, and what its index counts: `kind` of struct kesvuot_part. An index is KESVUOT_NO_INDEX if
+ * nothing is said of it. */
+enum {
+    KESVUOT_PART_NONE = 0,            /* no part: all numbers are 0 */
+    KESVUOT_PART_FILE = 1,            /* all bytes of the file */
+    KESVUOT_PART_MAGIC = 2,           /* the first 4 bytes of the file or, with its index, of a slice */
+    KESVUOT_PART_FAT_HEADER = 3,      /* fat_header */
+    KESVUOT_PART_FAT_TABLE = 4,       /* fat_header and all entries */
+    KESVUOT_PART_FAT_ARCH = 5,        /* fat_arch or fat_arch_64, with the index of its slice */
+    KESVUOT_PART_SLICE = 6,           /* the bytes of the slice with this index */
+    KESVUOT_PART_HEADER = 7,          /* mach_header_64 */
+    KESVUOT_PART_HEADERS = 8,         /* mach_header_64, and the sizeofcmds bytes after it */
+    KESVUOT_PART_COMMAND = 9,         /* load_command: all cmdsize bytes. The index is that of kesvuot_read_commands */
+    KESVUOT_PART_SEGMENT = 10,        /* the file bytes of a segment, with the index of kesvuot_read_segments */
+    KESVUOT_PART_SEGMENT_MEMORY = 11, /* its addresses: vmsize from vmaddr on */
+    KESVUOT_PART_SECTION = 12,        /* section_64, with the index of kesvuot_read_sections */
+    KESVUOT_PART_SECTION_BYTES = 13,  /* the bytes of a section in the file */
+    KESVUOT_PART_SECTION_MEMORY = 14, /* its addresses: size from addr on */
+    KESVUOT_PART_RELOCATIONS = 15,    /* its relocations */
+    KESVUOT_PART_TABLE = 16,          /* a table that a command bounds. The index counts its tables in the order of
+                                         "Bounded tables" in RULES.md: of LC_SYMTAB 0 the symbols, 1 the strings */
+    KESVUOT_PART_GROUP = 17,          /* indices of symbols: 0 the local, 1 the external, 2 the undefined ones */
+    KESVUOT_PART_NAME = 18,           /* the bytes from the start of a name to where it has to end */
+    KESVUOT_PART_SYMBOL = 19,         /* nlist_64, with the index of kesvuot_read_symbols */
+    KESVUOT_PART_INDIRECT = 20,       /* an indirect entry, with the index of kesvuot_read_indirects */
+    KESVUOT_PART_OPCODE = 21,         /* an opcode with its operands, or one byte if they are not known */
+    KESVUOT_PART_BYTE = 22            /* one byte */
+};
+
+/* A structure, or what a structure describes. A part lies where the file says, which can be past the file. */
+struct kesvuot_part {
+    uint64_t start;     /* its offset in the file; of ..MEMORY its first address, and of GROUP its first index */
+    uint64_t size;
+    uint64_t described; /* the offset in the file of the structure that describes it, which can be itself */
+    uint32_t kind;      /* KESVUOT_PART_.. */
+    uint32_t index;
+};
+
+struct kesvuot_explanation {
+    struct kesvuot_part at;     /* the structure that has the place, or the byte there. It lies in the file */
+    struct kesvuot_part first;  /* what breaks the rule */
+    struct kesvuot_part second; /* with which it conflicts, or in which it should lie */
+    uint64_t value;             /* the numbers that the rule compares */
+    uint64_t limit;
+    uint32_t slice;             /* the index of the slice that has the place, or whose entry is there */
+    uint32_t command;           /* the index of the load command that has the place */
+    uint32_t section;           /* the index of the section whose structure has the place */
+    uint32_t symbol;            /* the index of the symbol that is at the place */
+};
+
+/* Explains a refusal: what is at the place of the verdict, which parts conflict there, and which numbers. Pass the
+ * bytes that were judged, by whichever call. LIBRARY.md of the source has a table of what each rule gives.
+ * A number of 2^64 or more is given as 2^64 - 1. An index that there is not is KESVUOT_NO_INDEX.
+ * OK: all fields are written. NONE: no rule has the number `rule`, or nothing that the rule is about is at `place`, as
+ * after OK. All indices are then KESVUOT_NO_INDEX, and all other fields 0.
+ * The call does not judge the file again. It takes no memory, and time in proportion to the headers and the streams. */
+uint32_t kesvuot_explain(const void *file, size_t size, const struct kesvuot_verdict *verdict,
+                         struct kesvuot_explanation *explanation);
+
 /* An image
  *
  * <mach-o/loader.h> and <mach-o/nlist.h> explain the fields. The offset of a span counts from the start of the file.
@@ -456,6 +520,8 @@ uint32_t kesvuot_find_address(const void *file, size_t size, const struct kesvuo
 KESVUOT_HOLDS(sizeof(struct kesvuot_span) == 16);
 KESVUOT_HOLDS(sizeof(struct kesvuot_verdict) == 24);
 KESVUOT_HOLDS(sizeof(struct kesvuot_text) == 16);
+KESVUOT_HOLDS(sizeof(struct kesvuot_part) == 32);
+KESVUOT_HOLDS(sizeof(struct kesvuot_explanation) == 128);
 KESVUOT_HOLDS(sizeof(struct kesvuot_library) == 32);
 KESVUOT_HOLDS(sizeof(struct kesvuot_image) == 232);
 KESVUOT_HOLDS(sizeof(struct kesvuot_cursor) == 32);
@@ -466,6 +532,9 @@ KESVUOT_HOLDS(sizeof(struct kesvuot_command) == 40);
 KESVUOT_HOLDS(sizeof(struct kesvuot_symbol) == 24);
 KESVUOT_HOLDS(sizeof(struct kesvuot_relocation) == 16);
 KESVUOT_HOLDS(offsetof(struct kesvuot_verdict, rule) == 16);
+KESVUOT_HOLDS(offsetof(struct kesvuot_part, kind) == 24);
+KESVUOT_HOLDS(offsetof(struct kesvuot_explanation, value) == 96);
+KESVUOT_HOLDS(offsetof(struct kesvuot_explanation, slice) == 112);
 KESVUOT_HOLDS(offsetof(struct kesvuot_image, symbols) == 32);
 KESVUOT_HOLDS(offsetof(struct kesvuot_image, command_count) == 80);
 KESVUOT_HOLDS(offsetof(struct kesvuot_image, id) == 120);

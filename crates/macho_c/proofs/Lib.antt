@@ -14,3 +14,5 @@ pub mod Ranged
 pub mod Reached
 pub mod Relocated
 pub mod Supplied
+pub mod SymbolsAt
+pub mod Walked

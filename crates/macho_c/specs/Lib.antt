@@ -2,13 +2,17 @@ pub mod Address
 pub mod BoundedTables
 pub mod Builds
 pub mod Commands
+pub mod Compared
 pub mod Cursor
+pub mod Explain
+pub mod Explained
 pub mod Image
 pub mod Layout
 pub mod Libraries
 pub mod Linkedit
 pub mod Loads
 pub mod Names
+pub mod Parts
 pub mod Relocations
 pub mod Rows
 pub mod RuleNumbers

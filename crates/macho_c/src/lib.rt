@@ -10,6 +10,7 @@ mod bounded_tables;
 mod builds;
 mod commands;
 mod cursor;
+mod explain;
 mod image;
 mod indirects;
 mod layout;

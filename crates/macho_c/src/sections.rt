@@ -109,7 +109,7 @@ fn next_reached(image: &Held, cursor: &mut KesvuotCursor) -> Option<KesvuotSecti
 }
 
 // How many sections the segment at a place has, or 0 where no segment can be.
-fn nsects_at(image: Bytes, segment: u64) -> u64
+pub(crate) fn nsects_at(image: Bytes, segment: u64) -> u64
     ensures count { result ≡ nsects_at (bytes_of image.entry) segment }
     ensures inside { 0 < result → segment + 72 + 80 * result ≤ length (bytes_of image.entry) }
     ensures near { result < 2 ^ 32 }
@@ -126,7 +126,7 @@ fn nsects_at(image: Bytes, segment: u64) -> u64
 }
 
 // The row of a section.
-fn row_of(image: &Held, segment: u64, section: u64) -> KesvuotSection
+pub(crate) fn row_of(image: &Held, segment: u64, section: u64) -> KesvuotSection
     requires segment { segment + 72 ≤ length (bytes_of image.now.bytes) }
     requires section { section + 80 ≤ length (bytes_of image.now.bytes) }
     ensures { result ≡ section_row image.now.place (bytes_of image.now.bytes) segment section }

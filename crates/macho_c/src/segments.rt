@@ -81,7 +81,7 @@ impl<'a> Table for Segments<'a> {
 }
 
 // The row of a segment, with the number of the sections before its own.
-fn row_of(image: &Held, segment: u64, sections: u64) -> KesvuotSegment
+pub(crate) fn row_of(image: &Held, segment: u64, sections: u64) -> KesvuotSegment
     requires { segment + 72 ≤ length (bytes_of image.now.bytes) }
     ensures { result ≡ segment_row image.now.place (bytes_of image.now.bytes) sections segment }
 {
@@ -107,7 +107,7 @@ fn row_of(image: &Held, segment: u64, sections: u64) -> KesvuotSegment
 }
 
 // The last of the addresses from `start` on: below 2^64, and 0 where there are none.
-fn last_address(start: u64, size: u64) -> u64
+pub(crate) fn last_address(start: u64, size: u64) -> u64
     ensures { result ≡ last_address start size }
 {
     if size == 0 {

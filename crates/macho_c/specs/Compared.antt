@@ -1,0 +1,130 @@
+-- What an explanation has of each rule: the numbers that the rule compares, and of overlaps what both parts
+-- share. (docs/LIBRARY.md)
+use Rattle.std.specs.Prelude.{◌≡◌, ℕ, ◌+◌, ◌-◌, ◌*◌, ◌^◌, ◌≤◌, ◌<◌, ◌⊎◌, min, List, length, Some, slice_get, true}
+use Rattle.macho_fields.specs.Image.{command_cmd, command_size, commands_of}
+use Rattle.macho_fields.specs.Segment.{vmaddr, vmsize, fileoff, filesize, section_address, section_size, section_offset, reloff, nreloc, section_count}
+use Rattle.macho_fields.specs.Symbol.{n_strx, n_sect}
+use Rattle.macho_fields.specs.Universal.{FileSlice, slices_of}
+use Rattle.macho_fields.specs.declared.header.loader.TheConstants as loader
+use Rattle.macho_fields.specs.declared.rule.Rule.{Rule}
+use Rattle.macho_fields.specs.declared.rule.Rule.TheVariants as rule
+use Rattle.macho_linked.specs.Kinds.{share_kind}
+use Rattle.macho_linked.specs.Limits.{budget_of, library_count}
+use Rattle.macho_c.specs.Explain.{all_loads, IsCommandAt, IsSectionAt, IsSymbolAt, no_index, word_at}
+use Rattle.macho_c.specs.Segments.{last_address}
+use Rattle.macho_c.specs.declared.explain.conflict.Conflict.{Conflict}
+use Rattle.macho_c.specs.declared.explain.part.KesvuotPart.{KesvuotPart}
+use Rattle.macho_c.specs.declared.explain.spot.Spot.{Spot}
+
+-- a number as it is written: the largest of 64 bits where it has more
+abbrev pub written : ℕ → ℕ
+written number = min number (2 ^ 64 - 1)
+
+-- both parts have the bytes, or addresses, from the value up to the limit
+pub record Share (conflict : Conflict) : Type 0 where
+  pub some : conflict.value ≤ conflict.limit
+  pub first_from : conflict.first.start ≤ conflict.value
+  pub first_to : conflict.limit < conflict.first.start + conflict.first.size
+  pub second_from : conflict.second.start ≤ conflict.value
+  pub second_to : conflict.limit < conflict.second.start + conflict.second.size
+
+-- The addresses of the section are not those of its segment: it begins before, or ends past them.
+abbrev pub ShowsOutsideMemory : List ℕ → ℕ → ℕ → ℕ → ℕ → Type 0
+ShowsOutsideMemory image segment section value limit =
+    ((value ≡ section_address image section) × (limit ≡ vmaddr image segment) × (value < limit))
+    ⊎ ((value ≡ last_address (section_address image section) (section_size image section))
+    × (limit ≡ last_address (vmaddr image segment) (vmsize image segment)))
+
+-- Where the bytes of the section begin, and where by its segment; or where they end, and those of the
+-- segment, or the image.
+abbrev pub ShowsMisplaced : List ℕ → ℕ → ℕ → ℕ → ℕ → Type 0
+ShowsMisplaced image segment section value limit =
+    let end = section_offset image section + section_size image section in
+    ((value ≡ section_offset image section)
+    × (limit ≡ written (fileoff image segment + (section_address image section - vmaddr image segment))))
+    ⊎ ((value ≡ written end)
+    × ((limit ≡ written (fileoff image segment + filesize image segment)) ⊎ (limit ≡ length image)))
+
+-- An element shares bytes with an earlier one, or ends past the image.
+abbrev pub SharesOrPasses : List ℕ → Conflict → Type 0
+SharesOrPasses image conflict = Share conflict ⊎ (conflict.limit ≡ length image)
+
+-- what is shown of a rule of an image that is broken at a place of it
+abbrev pub Shows : Rule → List ℕ → ℕ → Conflict → Type 0
+Shows rule.HeaderTruncated image place c = (c.value ≡ 32) × (c.limit ≡ length image)
+Shows rule.FileType image place c = c.value ≡ word_at image 12
+Shows rule.CommandsOutside image place c =
+    (c.value ≡ 32 + word_at image 20) × (c.limit ≡ length image)
+Shows rule.CommandsEnd image place c = c.limit ≡ 32 + word_at image 20
+Shows rule.HeaderSegment image place c = c.value ≡ 32 + word_at image 20
+Shows rule.CommandShort image place c = c.value ≡ command_size image place
+Shows rule.CommandRepeated image place c =
+    (c.value ≡ command_cmd image place) × (c.limit ≡ command_cmd image place)
+    × (c.second.index < c.first.index)
+Shows rule.Name image place c = c.value ≡ word_at image (place + 8)
+Shows rule.SegmentAddress image place c =
+    (c.value ≡ vmsize image place) × (c.limit ≡ written (2 ^ 64 - vmaddr image place))
+Shows rule.SegmentSize image place c =
+    (c.value ≡ filesize image place) × (c.limit ≡ vmsize image place)
+Shows rule.SegmentFile image place c =
+    (c.value ≡ written (fileoff image place + filesize image place)) × (c.limit ≡ length image)
+Shows rule.SegmentOverlap image place c = Share c
+Shows rule.SectionAddress image place c =
+    (segment : ℕ) × ShowsOutsideMemory image segment place c.value c.limit
+Shows rule.SectionFile image place c =
+    (segment : ℕ) × ShowsMisplaced image segment place c.value c.limit
+Shows rule.SectionRelocs image place c =
+    (c.value ≡ reloff image place + 8 * nreloc image place) × (c.limit ≡ length image)
+Shows rule.SymbolName image place c = c.value ≡ n_strx image place
+Shows rule.SymbolSection image place c =
+    (c.value ≡ n_sect image place) × (c.limit ≡ section_count image (commands_of image))
+Shows rule.IndirectIndex image place c = c.value ≡ word_at image place
+Shows rule.SegmentFileOverlap image place c = Share c
+Shows rule.ElementOverlap image place c = SharesOrPasses image c
+Shows rule.StrayByte image place c = (slice_get image place ≡ Some c.value) × (c.limit ≡ 0)
+Shows rule.CommandSlack image place c = (slice_get image place ≡ Some c.value) × (c.limit ≡ 0)
+Shows rule.UnclaimedByte image place c = (slice_get image place ≡ Some c.value) × (c.limit ≡ 0)
+Shows rule.TableRepeated image place c =
+    (c.value ≡ command_cmd image place) × (share_kind c.limit c.value ≡ true)
+    × (c.second.index < c.first.index)
+Shows rule.FunctionVariants image place c = c.value ≡ command_cmd image place
+Shows rule.RebaseOpcode image place c = (slice_get image place ≡ Some c.value) × (c.limit ≡ 143)
+Shows rule.BindOpcode image place c = (slice_get image place ≡ Some c.value) × (c.limit ≡ 207)
+Shows rule.RebaseTotal image place c = c.limit ≡ written (budget_of image)
+Shows rule.BindTotal image place c = c.limit ≡ written (budget_of image)
+Shows rule.BindLibrary image place c = c.limit ≡ library_count image
+Shows other image place c = Unit {0}
+
+-- the slice with the index has P
+abbrev pub OfSlice : List ℕ → ℕ → (FileSlice → Type 0) → Type 0
+OfSlice file index P = (slice : FileSlice) × (slice_get (slices_of file) index ≡ Some slice) × P slice
+
+-- what is shown of a rule of the file that is broken at a place, by the slice with the index
+abbrev pub ShowsFile : Rule → List ℕ → ℕ → ℕ → Conflict → Type 0
+ShowsFile rule.Magic file place index c = (place ≡ 0) × (c.limit ≡ loader.MH_MAGIC_64)
+ShowsFile rule.FatTruncated file place index c = (place ≡ 4) × (c.limit ≡ length file)
+ShowsFile rule.FatSliceOutside file place index c =
+    OfSlice file index (λ slice. (c.value ≡ written (slice.start + slice.size)) × (c.limit ≡ length file))
+ShowsFile rule.FatSliceInTable file place index c =
+    OfSlice file index (λ slice. c.value ≡ slice.start)
+ShowsFile rule.FatAlign file place index c = OfSlice file index (λ slice. c.value ≡ slice.start)
+ShowsFile rule.FatOverlap file place index c = Share c × (c.second.index < c.first.index)
+ShowsFile rule.FatDuplicate file place index c =
+    (c.value ≡ c.limit) × (c.second.index < c.first.index)
+ShowsFile rule.FatSliceMagic file place index c = OfSlice file index (λ slice. slice.start ≡ place)
+ShowsFile rule.FatEmpty file place index c = place ≡ 4
+ShowsFile rule.FatStrayByte file place index c =
+    (slice_get file place ≡ Some c.value) × (c.limit ≡ 0)
+ShowsFile other file place index c = Unit {0}
+
+-- The indices are those of what has the place. Of a walk over the commands that breaks off, it is the index
+-- that a command would have there.
+pub record IsSpot (image : List ℕ) (place : ℕ) (spot : Spot) : Type 0 where
+  pub command : (spot.command ≡ no_index) ⊎ IsCommandAt image spot.command place
+      ⊎ (spot.command ≡ length (all_loads image))
+  pub section : (spot.section ≡ no_index) ⊎ IsSectionAt image spot.section place
+  pub symbol : (spot.symbol ≡ no_index) ⊎ IsSymbolAt image spot.symbol place
+
+-- what is found at a place of an image
+abbrev pub IsFound : Rule → List ℕ → ℕ → Spot × Conflict → Type 0
+IsFound rule image place found = IsSpot image place found.0 × Shows rule image place found.1
