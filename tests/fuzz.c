@@ -694,6 +694,27 @@ static void check_verdict(uint32_t status, const struct kesvuot_verdict *verdict
     }
 }
 
+// The refusal is explained, by a structure that has the place and lies in the file. Another rule and another place may
+// be explained or not.
+static void check_explanation(const uint8_t *file, size_t size, const struct kesvuot_verdict *verdict) {
+    struct kesvuot_explanation found;
+    for (uint32_t other = 0; other < 4; other++) {
+        struct kesvuot_verdict asked = *verdict;
+        asked.rule = (asked.rule + 7 * other) % (KESVUOT_BIND_NAMES + 2);
+        asked.place += other;
+        memset(&found, UNWRITTEN, sizeof found);
+        const uint32_t status = kesvuot_explain(file, size, &asked, &found);
+        CHECK(status == KESVUOT_OK || (status == KESVUOT_NONE && other > 0));
+        if (status == KESVUOT_OK) {
+            CHECK(found.at.start <= asked.place && asked.place - found.at.start <= found.at.size);
+            CHECK(found.at.start <= size && found.at.size <= size - found.at.start);
+            CHECK(found.at.kind > KESVUOT_PART_NONE && found.at.kind <= KESVUOT_PART_BYTE);
+        } else {
+            CHECK(found.at.kind == KESVUOT_PART_NONE && found.slice == KESVUOT_NO_INDEX);
+        }
+    }
+}
+
 // The linked verdict of a file that is refused strictly is the same.
 static void check_linked(const uint8_t *file, size_t size, uint32_t strict_status,
                          const struct kesvuot_verdict *strict) {
@@ -707,6 +728,9 @@ static void check_linked(const uint8_t *file, size_t size, uint32_t strict_statu
         CHECK(is_linked(linked.rule));
     }
     reach(RULES + linked.rule, linked.place);
+    if (status == KESVUOT_REFUSED) {
+        check_explanation(file, size, &linked);
+    }
 }
 
 // The strict verdict of a file that breaks another rule is the same.

@@ -30,6 +30,7 @@ from types import SimpleNamespace
 
 TOP = Path(__file__).resolve().parent.parent
 sys.path[:0] = [str(TOP / "bindings" / "python"), str(TOP / "bench"), str(TOP / "tests")]
+import explanations  # pylint: disable=wrong-import-position
 import images  # pylint: disable=wrong-import-position
 import kesvuot  # pylint: disable=wrong-import-position
 import oracle  # pylint: disable=wrong-import-position
@@ -120,6 +121,38 @@ def judge_vectors(report):
             judge_by_hand(report, path.name, vectors, profile)
             if oracle_trials.is_whole(path, profile):
                 compare_program(report, path.name, [(vector.name, vector.data) for vector in vectors], profile)
+
+
+def explanation(data, profile):
+    """The rule and the place of a refusal, and all that explains it; or None."""
+    try:
+        judge(data, profile)
+    except kesvuot.Refused as refused:
+        return refused.rule, refused.place, kesvuot.explain(data, refused)
+    return None
+
+
+def wanted_explanation(data, rule, place):
+    """The same in the form of the library."""
+    def part(numbers):
+        return None if numbers.kind == "none" else kesvuot.Part(
+            numbers.kind.replace("_", "-"), index(numbers.index), numbers.start, numbers.size, numbers.described)
+
+    def index(number):
+        return None if number == explanations.NO_INDEX else number
+    found = explanations.explain(data, rule, place)
+    return kesvuot.Explanation(*map(part, found[:3]), found.value, found.limit, *map(index, found[5:]))
+
+
+def explain_vectors(report):
+    """Each refusal is explained as tests/explanations.py works it out a second time."""
+    found = [(vector.name, vector.data, explanation(vector.data, profile)) for profile in oracle.PROFILES
+             for _, vectors in oracle_trials.read_all_vectors(profile) for vector in vectors]
+    report.alike("explanations", "refusals", ((name, said[2], wanted_explanation(data, *said[:2]))
+                                              for name, data, said in found if said))
+    report.case("rules that are explained", len({said[0] for _, _, said in found if said}), 53)
+    other = kesvuot.Refused("section-file", 1 << 64), kesvuot.Refused("no-rule", 0), kesvuot.Refused("magic", 1)
+    report.case("no refusals of these bytes", [kesvuot.explain(b"", refused) for refused in other], [None, None, None])
 
 
 def judge_by_hand(report, name, vectors, profile):
@@ -1086,6 +1119,7 @@ def main(words):
     all_kinds, mixed = (Path(path).read_bytes() for path in words[:2])
     (_, program, layout), _ = oracle_trials.read_real()
     judge_vectors(report)
+    explain_vectors(report)
     judge_texts(report)
     compare_reads(report, all_kinds)
     compare_mixed(report, mixed)

@@ -158,6 +158,31 @@ static void try_layouts(void) {
     try_no_layout(library.bytes, library.size - 1);
 }
 
+// A rule that there is not, places at which nothing is, and the end of a file that is cut off.
+static void try_explanations(void) {
+    const size_t cut = library.size - 1;
+    struct kesvuot_verdict verdict;
+    struct kesvuot_explanation found;
+    CHECK(kesvuot_verify(library.bytes, cut, &verdict) == KESVUOT_REFUSED && verdict.rule == KESVUOT_FAT_SLICE_OUTSIDE);
+    CHECK(kesvuot_explain(library.bytes, cut, &verdict, &found) == KESVUOT_OK);
+    // The second entry of the table, a fat_arch of 20 bytes, and its slice, which ends with the file.
+    CHECK(found.at.kind == KESVUOT_PART_FAT_ARCH && found.at.start == 28 && found.at.size == 20);
+    CHECK(found.first.kind == KESVUOT_PART_SLICE && found.first.index == 1 && found.first.described == 28);
+    CHECK(found.first.start + found.first.size == library.size && found.second.kind == KESVUOT_PART_FILE);
+    CHECK(found.value == library.size && found.limit == cut && found.slice == 1);
+    CHECK(found.command == KESVUOT_NO_INDEX && found.section == KESVUOT_NO_INDEX && found.symbol == KESVUOT_NO_INDEX);
+    const struct kesvuot_verdict none[] = {{.rule = 0}, {.rule = KESVUOT_BIND_NAMES + 1}, {.rule = UINT32_MAX},
+        {.rule = KESVUOT_MAGIC, .place = 1}, {.rule = KESVUOT_SEGMENT_FILE, .place = UINT64_MAX}};
+    for (size_t index = 0; index < sizeof none / sizeof *none; index++) {
+        memset(&found, UNWRITTEN, sizeof found);
+        CHECK(kesvuot_explain(library.bytes, cut, &none[index], &found) == KESVUOT_NONE);
+        CHECK(found.at.kind == KESVUOT_PART_NONE && found.value == 0 && found.limit == 0 && found.first.start == 0);
+        CHECK(found.slice == KESVUOT_NO_INDEX && found.at.index == KESVUOT_NO_INDEX);
+    }
+    CHECK(kesvuot_explain(NULL, 0, &(struct kesvuot_verdict){.rule = KESVUOT_MAGIC}, &found) == KESVUOT_OK);
+    CHECK(found.at.kind == KESVUOT_PART_MAGIC && found.at.size == 0 && found.limit == 0xfeedfacf);
+}
+
 static void try_images(void) {
     struct kesvuot_image image = unwritten_image();
     CHECK(kesvuot_read_image(library.bytes, library.size, 1, &image) == KESVUOT_OK);
@@ -496,6 +521,7 @@ int main(int count, char **words) {
     try_names_of_numbers();
     try_verdicts();
     try_layouts();
+    try_explanations();
     try_images();
     try_slices_of_two_kinds();
     for (uint64_t slice = 0; slice < 2; slice++) {

@@ -10,7 +10,7 @@ enum { MOST_ROWS = 9 };
 
 static struct file file;
 static uint64_t seed;
-static unsigned long calls, handed_out, opened;
+static unsigned long calls, handed_out, opened, explained;
 
 // xorshift64
 static uint64_t draw(void) {
@@ -134,12 +134,42 @@ static void take_bounded(const struct kesvuot_image *image, size_t size) {
     CHECK(found == KESVUOT_OK || (found == KESVUOT_NONE && version == 0));
 }
 
+// Explains any rule at any place, or the first broken one.
+static void take_explanation(size_t size) {
+    struct kesvuot_verdict verdict = {0};
+    struct kesvuot_explanation found, none;
+    memset(&found, UNWRITTEN, sizeof found);
+    memset(&none, 0, sizeof none);
+    none.at.index = none.first.index = none.second.index = KESVUOT_NO_INDEX;
+    none.slice = none.command = none.section = none.symbol = KESVUOT_NO_INDEX;
+    if (draw_below(2)) {
+        kesvuot_verify_linked(file.bytes, size, &verdict);
+    }
+    if (!verdict.rule || draw_below(4) == 0) {
+        verdict.rule = (uint32_t)(draw_below(8) ? draw_below(KESVUOT_BIND_NAMES + 2) : draw());
+        verdict.place = lie(draw_below(2) ? verdict.place : 4 * draw_below(0x100));
+    }
+    verdict.slices = draw();
+    const uint32_t status = kesvuot_explain(file.bytes, size, &verdict, &found);
+    calls++;
+    if (status == KESVUOT_OK) {
+        explained++;
+        CHECK(found.at.kind > KESVUOT_PART_NONE && found.at.kind <= KESVUOT_PART_BYTE);
+        CHECK(found.at.start <= verdict.place && verdict.place - found.at.start <= found.at.size);
+        CHECK(found.at.start <= size && found.at.size <= size - found.at.start);
+        CHECK(found.first.kind <= KESVUOT_PART_BYTE && found.second.kind <= KESVUOT_PART_BYTE);
+    } else {
+        CHECK(status == KESVUOT_NONE && memcmp(&found, &none, sizeof none) == 0);
+    }
+}
+
 static void take_all(const struct kesvuot_image *image, size_t size) {
     static const uint32_t cmds[] = {0x1d, 0x1e, 0x26, 0x29, 0x2b, 0x2e, 0x80000033, 0x80000034, 0x2, 0x19};
     struct kesvuot_span bytes;
     take_tables(image, size);
     take_relocations(image, size);
     take_bounded(image, size);
+    take_explanation(size);
     take_name(image, size, (uint32_t)lie(draw_below(0x200)));
     kesvuot_find_data(file.bytes, size, image, cmds[draw_below(sizeof cmds / sizeof *cmds)], &bytes);
     take(bytes, size);
@@ -193,7 +223,7 @@ int main(int count, char **words) {
         try_file(strtol(words[2], NULL, 10));
         release(file);
     }
-    printf("calls %lu, images %lu, handed out %lu\n", calls, opened, handed_out);
-    CHECK(opened > 0 && handed_out > 0);
+    printf("calls %lu, images %lu, handed out %lu, explained %lu\n", calls, opened, handed_out, explained);
+    CHECK(opened > 0 && handed_out > 0 && explained > 0);
     return print_counts("lies");
 }

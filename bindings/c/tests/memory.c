@@ -112,6 +112,19 @@ static void try_layout(struct file file) {
     CHECK(memcmp(text, wanted, ROOM) == 0);
 }
 
+// Any rule at any of the first places.
+static void try_explanations(struct file file) {
+    struct kesvuot_verdict verdict = {0};
+    struct kesvuot_explanation found;
+    asked = 0;
+    for (verdict.rule = KESVUOT_MAGIC; verdict.rule <= KESVUOT_BIND_NAMES; verdict.rule++) {
+        for (verdict.place = 0; verdict.place < file.size && verdict.place < 1024; verdict.place += 4) {
+            kesvuot_explain(file.bytes, file.size, &verdict, &found);
+        }
+    }
+    CHECK(asked == 0);
+}
+
 static void try_views(struct file file) {
     struct kesvuot_image image;
     asked = 0;
@@ -131,6 +144,7 @@ int main(int count, char **words) {
         try_verdict(kesvuot_verify_linked, file, images_of(file));
         try_layout(file);
         try_views(file);
+        try_explanations(file);
         release(file);
     }
     printf("refused allocations %lu\n", refusals);

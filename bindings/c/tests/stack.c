@@ -37,6 +37,17 @@ static void layout(void) {
     kesvuot_layout(file.bytes, file.size, text, sizeof text, &needed);
 }
 
+// Each rule, at the places where the first structures are.
+static void explain(void) {
+    struct kesvuot_explanation found;
+    for (uint32_t rule = KESVUOT_MAGIC; rule <= KESVUOT_BIND_NAMES; rule++) {
+        for (uint64_t place = 0; place < 512; place += 8) {
+            const struct kesvuot_verdict verdict = {.place = place, .rule = rule};
+            kesvuot_explain(file.bytes, file.size, &verdict, &found);
+        }
+    }
+}
+
 static void first_image(void) {
     kesvuot_read_image(file.bytes, file.size, 0, &image);
 }
@@ -48,6 +59,7 @@ static const struct {
              {"verify_strictly", verify_strictly},
              {"verify_linked", verify_linked},
              {"layout", layout},
+             {"explain", explain},
              {"read_image", first_image}};
 enum { CALLS = sizeof calls / sizeof *calls, ALL = CALLS + VIEWS };
 

@@ -381,7 +381,7 @@ def _judge(data: Data, call: Any) -> File:
     status = call(file.address, len(file.view), verdict)
     place, slices, rule = VERDICT.unpack(verdict)
     if status == _library.REFUSED:
-        raise Refused(_rule_name(rule), place)
+        raise Refused(rule_name(rule), place)
     if status != _library.OK:
         raise MemoryError("no memory to judge the file")
     return File(file, slices)
@@ -399,7 +399,8 @@ def platform_name(platform: SupportsIndex) -> Optional[str]:
     return _name(load().kesvuot_find_platform, operator.index(platform))
 
 
-def _rule_name(rule: int) -> str:
+def rule_name(rule: int) -> str:
+    """The name of the rule with this number, empty if there is none."""
     return _name(load().kesvuot_find_rule, rule) or ""
 
 

@@ -16,13 +16,14 @@ SONAME, MAJOR = "libkesvuot.so.2", 2
 ARCHIVED = "/share/kesvuot/python/kesvuot"
 OK, REFUSED, NO_MEMORY, NONE, UNREAD, ZERO = range(6)
 HAS_UUID, HAS_BASE, HAS_ENTRY, HAS_SYMTAB, HAS_DYSYMTAB, HAS_ID = 1, 2, 4, 8, 16, 32
-NO_SECTION = 0xFFFF_FFFF
+NO_SECTION = NO_INDEX = 0xFFFF_FFFF
 
 # x is reserved.
 SPAN = struct.Struct("@2Q")
 CURSOR = struct.Struct("@4Q")
 TEXT = struct.Struct("@PN")
 VERDICT = struct.Struct("@2QI4x")
+EXPLANATION = struct.Struct("@3Q2I3Q2I3Q2I2Q4I")
 IMAGE = struct.Struct("@2Q13Q2Q3I4x12I16s16x")
 
 CHANGED = "the bytes have changed after the verdict"
@@ -64,6 +65,7 @@ def _declare(library: Any) -> None:
         "verify": (u32, [pointer, size, pointer]),
         "verify_strictly": (u32, [pointer, size, pointer]),
         "verify_linked": (u32, [pointer, size, pointer]),
+        "explain": (u32, [pointer, size, pointer, pointer]),
         "layout": (u32, [pointer, size, pointer, size, pointer]),
         "read_image": (u32, [pointer, size, u64, pointer]),
         "symbol_name": (u32, [pointer, size, pointer, u32, pointer]),

@@ -1,0 +1,687 @@
+"""What explains a refusal, worked out a second time: from the table of docs/LIBRARY.md, over the parser of
+tests/oracle.py and nothing of the library. `explain` returns all numbers of a `struct kesvuot_explanation`.
+
+A function of a rule takes the image, or the file, and the place in it. It returns what is at the place, the two parts,
+and the two numbers that are compared. A part is its kind, its index, its start, its size, and where it is described, all
+of the slice; `in_file` adds where the slice begins.
+"""
+
+from __future__ import annotations
+
+import sys
+from pathlib import Path
+from typing import Any, NamedTuple, Optional
+
+sys.path.insert(0, str(Path(__file__).resolve().parent))
+import oracle  # pylint: disable=wrong-import-position
+
+NO_INDEX, MOST = 2 ** 32 - 1, 2 ** 64 - 1
+KINDS = """none file magic fat_header fat_table fat_arch slice header headers command segment segment_memory section
+section_bytes section_memory relocations table group name symbol indirect opcode byte""".split()
+# What has addresses or indices in place of offsets.
+OF_NUMBERS = {"segment_memory", "section_memory", "group"}
+
+
+class Part(NamedTuple):
+    kind: str = "none"
+    index: int = NO_INDEX
+    start: int = 0
+    size: int = 0
+    described: int = 0
+
+
+class Explanation(NamedTuple):
+    at: Part
+    first: Part
+    second: Part
+    value: int
+    limit: int
+    slice: int = NO_INDEX
+    command: int = NO_INDEX
+    section: int = NO_INDEX
+    symbol: int = NO_INDEX
+
+
+NONE = Part()
+
+
+def structure(kind: str, start: int, size: int, index: int = NO_INDEX) -> Part:
+    return Part(kind, index, start, size, start)
+
+
+def little(data: bytes, place: int, width: int = 4) -> int:
+    return int.from_bytes(data[place:place + width], "little")
+
+
+def most(number: int) -> int:
+    return min(number, MOST)
+
+
+def explain(data: bytes, rule: str, place: int) -> Explanation:
+    """What explains that the file breaks the rule at the place."""
+    file = oracle.File(data)
+    name = rule.replace("-", "_")
+    if name in OF_FILE:
+        found = OF_FILE[name](file, place)
+        return found._replace(value=most(found.value), limit=most(found.limit))
+    index = slice_with(file, place - (rule == "command-walk"))
+    image = file.slices[index]
+    found = OF_IMAGE[name](image, place - image.start)
+    parts = [in_file(file, image, index, part) for part in found[:3]]
+    shared = found.first.kind not in OF_NUMBERS and is_sharing(found)
+    numbers = [most(number + image.start if shared else number) for number in (found.value, found.limit)]
+    return found._replace(at=parts[0], first=parts[1], second=parts[2], value=numbers[0], limit=numbers[1], slice=index)
+
+
+def is_sharing(found: Explanation) -> bool:
+    """Whether the numbers are those of shared bytes."""
+    one, other = found.first, found.second
+    first, end = max(one.start, other.start), min(one.start + one.size, other.start + other.size)
+    return first < end and (found.value, found.limit) == (first, end - 1) and other.kind != "slice"
+
+
+def in_file(file: Any, image: Any, index: int, part: Part) -> Part:
+    """The part of the slice as one of the file."""
+    if part.kind == "slice":
+        return slice_part(file, index)
+    if part.kind in ("none", "fat_arch"):
+        return part
+    start = part.start if part.kind in OF_NUMBERS else most(part.start + image.start)
+    return part._replace(start=start, size=most(part.size), described=part.described + image.start)
+
+
+def of_numbers(numbers: list[int]) -> Explanation:
+    """The explanation that has these numbers: those of three parts (kind, index, start, size, described), and the
+    others."""
+    parts = [Part(KINDS[numbers[at]], *numbers[at + 1:at + 5]) for at in (0, 5, 10)]
+    return Explanation(parts[0], parts[1], parts[2], *numbers[15:])
+
+
+# The file
+
+
+def slice_with(file: Any, place: int) -> int:
+    return next(index for index, image in enumerate(file.slices)
+                if image.is_64_bit and image.start <= place < image.start + image.length)
+
+
+def entry_at(file: Any, place: int) -> int:
+    return next(index for index, entry in enumerate(file.entries) if entry.place == place)
+
+
+def entry_part(file: Any, index: int) -> Part:
+    return structure("fat_arch", file.entries[index].place, oracle.SIZES[file.entry_structure], index)
+
+
+def slice_part(file: Any, index: int) -> Part:
+    if not file.is_universal:
+        return Part("slice", 0, 0, len(file.data), 0)
+    entry = file.entries[index]
+    return Part("slice", index, entry.offset, entry.size, entry.place)
+
+
+def table_part(file: Any) -> Part:
+    return structure("fat_table", 0, file.table_end)
+
+
+def first_word(data: bytes) -> int:
+    return little(data, 0) if len(data) >= 4 else 0
+
+
+def magic(file: Any, _: int) -> Explanation:
+    return Explanation(structure("magic", 0, min(4, len(file.data))), NONE, NONE, first_word(file.data), 0xfeedfacf)
+
+
+def fat_header(file: Any) -> Part:
+    return structure("fat_header", 0, min(8, len(file.data)))
+
+
+def fat_truncated(file: Any, _: int) -> Explanation:
+    first = structure("fat_header", 0, 8) if len(file.data) < 8 else table_part(file)
+    return Explanation(fat_header(file), first, structure("file", 0, len(file.data)), first.size, len(file.data))
+
+
+def fat_empty(file: Any, _: int) -> Explanation:
+    return Explanation(fat_header(file), table_part(file), NONE, 0, 1)
+
+
+def of_entry(file: Any, place: int, second: Part, value: int, limit: int) -> Explanation:
+    index = entry_at(file, place)
+    return Explanation(entry_part(file, index), slice_part(file, index), second, value, limit, index)
+
+
+def fat_slice_outside(file: Any, place: int) -> Explanation:
+    entry = file.entries[entry_at(file, place)]
+    whole = structure("file", 0, len(file.data))
+    return of_entry(file, place, whole, entry.offset + entry.size, len(file.data))
+
+
+def fat_slice_in_table(file: Any, place: int) -> Explanation:
+    return of_entry(file, place, table_part(file), file.entries[entry_at(file, place)].offset, file.table_end)
+
+
+def fat_align(file: Any, place: int) -> Explanation:
+    entry = file.entries[entry_at(file, place)]
+    return of_entry(file, place, NONE, entry.offset, 2 ** entry.align if entry.align < 64 else 0)
+
+
+def fat_overlap(file: Any, place: int) -> Explanation:
+    own = slice_part(file, entry_at(file, place))
+    for index in range(own.index):
+        other = slice_part(file, index)
+        found = shared_by(own, other)
+        if found:
+            return of_entry(file, place, other, *found)
+    raise ValueError("no overlap")
+
+
+def fat_duplicate(file: Any, place: int) -> Explanation:
+    def number(entry: Any) -> int:
+        return entry.cputype << 32 | oracle.masked(entry.cpusubtype)
+    own = number(file.entries[entry_at(file, place)])
+    other = next(index for index, entry in enumerate(file.entries) if number(entry) == own)
+    return of_entry(file, place, slice_part(file, other), own, own)
+
+
+def fat_slice_magic(file: Any, place: int) -> Explanation:
+    known = (oracle.MH_MAGIC_64, oracle.MH_MAGIC_64_BIG, oracle.MH_MAGIC, oracle.MH_MAGIC_BIG)
+    index, image = next((index, image) for index, image in enumerate(file.slices)
+                        if image.start == place and image.data[:4] not in known)
+    at = structure("magic", place, min(4, image.length), index)
+    return Explanation(at, slice_part(file, index), NONE, first_word(image.data), 0xfeedfacf, index)
+
+
+def fat_stray_byte(file: Any, place: int) -> Explanation:
+    parts = [table_part(file)] + [slice_part(file, index) for index in range(len(file.entries))]
+    return byte_between(file.data, place, parts)
+
+
+# Parts that share, and what is next to a byte
+
+
+def shared_by(one: Part, other: Part) -> Optional[tuple[int, int]]:
+    first, end = max(one.start, other.start), min(one.start + one.size, other.start + other.size)
+    return (first, end - 1) if first < end else None
+
+
+def byte_between(data: bytes, place: int, parts: list[Part]) -> Explanation:
+    parts = [part for part in parts if part.size > 0]
+    before = [part for part in parts if part.start + part.size <= place]
+    after = [part for part in parts if part.start > place]
+    return Explanation(structure("byte", place, 1),
+                       max(before, key=lambda part: part.start + part.size, default=NONE),
+                       min(after, key=lambda part: part.start, default=NONE), data[place], 0)
+
+
+# Parts of an image
+
+
+def header_part(image: Any) -> Part:
+    return structure("header", 0, min(32, image.length))
+
+
+def headers_part(image: Any) -> Part:
+    return structure("headers", 0, image.commands_end)
+
+
+SLICE = Part("slice")
+
+
+def walked(image: Any) -> list[Any]:
+    """The commands up to the first bad one."""
+    found: list[Any] = []
+    place = 32
+    while len(found) < image.header.ncmds and place + 8 <= image.commands_end:
+        command = oracle.read(image.data, place, "load_command")
+        if command.cmdsize < 8 or command.cmdsize % 8 or place + command.cmdsize > image.commands_end:
+            break
+        found.append(command)
+        place += command.cmdsize
+    return found
+
+
+def command_part(image: Any, place: int) -> Part:
+    """The command that has the place."""
+    return next((structure("command", command.place, command.cmdsize, index)
+                 for index, command in enumerate(walked(image))
+                 if command.place <= place < command.place + command.cmdsize), NONE)
+
+
+def first_with(image: Any, *cmds: int) -> Part:
+    return next((structure("command", command.place, command.cmdsize, index)
+                 for index, command in enumerate(walked(image)) if command.cmd in cmds), NONE)
+
+
+def of_command(image: Any, place: int, first: Part, second: Part, value: int, limit: int) -> Explanation:
+    at = command_part(image, place)
+    return Explanation(at, first, second, value, limit, command=at.index)
+
+
+def segment_index(image: Any, segment: Any) -> int:
+    return [other.place for other in image.segments].index(segment.place)
+
+
+def segment_part(image: Any, segment: Any) -> Part:
+    return Part("segment", segment_index(image, segment), segment.fileoff, segment.filesize, segment.place)
+
+
+def memory_part(image: Any, segment: Any) -> Part:
+    return Part("segment_memory", segment_index(image, segment), segment.vmaddr, segment.vmsize, segment.place)
+
+
+def segment_at(image: Any, place: int) -> Any:
+    return next(segment for segment in image.segments if segment.place == place)
+
+
+def section_index(image: Any, place: int) -> int:
+    return [section.place for section in image.sections].index(place)
+
+
+def table_parts(image: Any, command: Any) -> list[Part]:
+    """The tables of a listed command, or the data of another one."""
+    structure_name = oracle.LISTED[command.cmd][0] if command.cmd in oracle.LISTED else None
+    if structure_name:
+        rows = oracle.BOUNDED_TABLES.get(structure_name, [])
+    elif command.cmd in oracle.UNLISTED_DATA and command.cmdsize >= 16:
+        structure_name, *row = oracle.UNLISTED_DATA[command.cmd]
+        rows = [row]
+    else:
+        return []
+    fields = oracle.read(image.data, command.place, structure_name)
+    return [Part("table", index, getattr(fields, start), getattr(fields, count) * width, command.place)
+            for index, (start, count, width) in enumerate(rows)]
+
+
+def symtab_tables(image: Any) -> list[Part]:
+    symtab = image.only(oracle.LC_SYMTAB)
+    return table_parts(image, symtab) if symtab else [NONE, NONE]
+
+
+def element_parts(image: Any) -> list[Part]:
+    parts = [headers_part(image)]
+    sections = {segment.place: segment.sections for segment in image.segments}
+    for command in image.commands:
+        for section in sections.get(command.place, []):
+            index = section_index(image, section.place)
+            size = 0 if oracle.is_zero_fill(section) else section.size
+            parts.append(Part("section_bytes", index, section.offset, size, section.place))
+            parts.append(Part("relocations", index, section.reloff, 8 * section.nreloc, section.place))
+        if command.cmd != oracle.LC_ENCRYPTION_INFO_64:
+            parts += table_parts(image, command)
+    return parts
+
+
+# The rules of the header and the load commands
+
+
+def of_header(image: Any, first: Part, second: Part, value: int, limit: int) -> Explanation:
+    return Explanation(header_part(image), first, second, value, limit)
+
+
+def header_truncated(image: Any, _: int) -> Explanation:
+    return of_header(image, structure("header", 0, 32), SLICE, 32, image.length)
+
+
+def arch_mismatch(image: Any, _: int) -> Explanation:
+    def number(fields: Any) -> int:
+        return fields.cputype << 32 | oracle.masked(fields.cpusubtype)
+    size = oracle.SIZES["fat_arch_64" if hasattr(image.entry, "reserved") else "fat_arch"]
+    entry_of = structure("fat_arch", image.entry.place, size, (image.entry.place - 8) // size)
+    return of_header(image, structure("header", 0, 32), entry_of, number(image.header), number(image.entry))
+
+
+def file_type(image: Any, _: int) -> Explanation:
+    return of_header(image, NONE, NONE, image.header.filetype, 0)
+
+
+def commands_outside(image: Any, _: int) -> Explanation:
+    return of_header(image, headers_part(image), SLICE, image.commands_end, image.length)
+
+
+def command_walk(image: Any, place: int) -> Explanation:
+    index = len(walked(image))
+    at = structure("command", place, min(8, image.length - place), index)
+    end = image.commands_end
+    if place + 8 > end:
+        first, second, numbers = structure("command", place, 8, index), headers_part(image), (place + 8, end)
+    else:
+        size = little(image.data, place + 4)
+        first = structure("command", place, size, index)
+        is_size = size >= 8 and size % 8 == 0
+        second, numbers = (headers_part(image), (place + size, end)) if is_size else (NONE, (size, 8))
+    return Explanation(at, first, second, *numbers, command=index)
+
+
+def command_short(image: Any, place: int) -> Explanation:
+    command = oracle.read(image.data, place, "load_command")
+    least = oracle.least_size(image, command)
+    return of_command(image, place, command_part(image, place), NONE, command.cmdsize, least)
+
+
+def command_repeated(image: Any, place: int) -> Explanation:
+    cmd = little(image.data, place)
+    return of_command(image, place, command_part(image, place), first_with(image, cmd), cmd, cmd)
+
+
+def dylib_id(image: Any, _: int) -> Explanation:
+    own = first_with(image, oracle.LC_ID_DYLIB)
+    names_itself = oracle.FILETYPES[image.header.filetype][0]
+    return of_header(image, NONE, own, int(own != NONE), int(names_itself))
+
+
+def name(image: Any, place: int) -> Explanation:
+    command, offset = command_part(image, place), little(image.data, place + 8)
+    least = oracle.LISTED[little(image.data, place)][2]
+    if offset < least:
+        return of_command(image, place, NONE, NONE, offset, least)
+    rest = Part("name", NO_INDEX, place + offset, max(0, command.size - offset), place)
+    return of_command(image, place, rest, command, offset, command.size)
+
+
+# The rules of segments and sections
+
+
+def segment_address(image: Any, place: int) -> Explanation:
+    segment = segment_at(image, place)
+    return of_command(image, place, memory_part(image, segment), NONE, segment.vmsize, 2 ** 64 - segment.vmaddr)
+
+
+def segment_size(image: Any, place: int) -> Explanation:
+    segment = segment_at(image, place)
+    return of_command(image, place, segment_part(image, segment), memory_part(image, segment), segment.filesize,
+                      segment.vmsize)
+
+
+def segment_file(image: Any, place: int) -> Explanation:
+    segment = segment_at(image, place)
+    end = segment.fileoff + segment.filesize
+    return of_command(image, place, segment_part(image, segment), SLICE, end, image.length)
+
+
+def segment_sharing(image: Any, place: int, part_of: Any) -> Explanation:
+    own = part_of(image, segment_at(image, place))
+    for segment in image.segments[:own.index]:
+        found = shared_by(own, part_of(image, segment))
+        if found:
+            return of_command(image, place, own, part_of(image, segment), *found)
+    raise ValueError("no overlap")
+
+
+def segment_overlap(image: Any, place: int) -> Explanation:
+    return segment_sharing(image, place, memory_part)
+
+
+def segment_file_overlap(image: Any, place: int) -> Explanation:
+    return segment_sharing(image, place, segment_part)
+
+
+def of_section(image: Any, place: int, first: Part, second: Part, value: int, limit: int) -> Explanation:
+    index = section_index(image, place)
+    return Explanation(structure("section", place, 80, index), first, second, value, limit,
+                       command=command_part(image, place).index, section=index)
+
+
+def section_address(image: Any, place: int) -> Explanation:
+    section = image.sections[section_index(image, place)]
+    segment = section.segment
+    own = Part("section_memory", section_index(image, place), section.addr, section.size, place)
+    numbers = section.addr, segment.vmaddr
+    if section.addr >= segment.vmaddr:
+        numbers = section.addr + section.size - 1, segment.vmaddr + segment.vmsize - 1
+    return of_section(image, place, own, memory_part(image, segment), *numbers)
+
+
+def section_file(image: Any, place: int) -> Explanation:
+    section = image.sections[section_index(image, place)]
+    segment = section.segment
+    own = Part("section_bytes", section_index(image, place), section.offset, section.size, place)
+    end = section.offset + section.size
+    if segment.vmsize == 0:
+        return of_section(image, place, own, SLICE, end, image.length)
+    wanted = segment.fileoff + section.addr - segment.vmaddr
+    numbers = (section.offset, wanted) if section.offset != wanted else (end, segment.fileoff + segment.filesize)
+    return of_section(image, place, own, segment_part(image, segment), *numbers)
+
+
+def section_relocs(image: Any, place: int) -> Explanation:
+    section = image.sections[section_index(image, place)]
+    size = 8 * section.nreloc
+    own = Part("relocations", section_index(image, place), section.reloff, size, place)
+    return of_section(image, place, own, SLICE, section.reloff + size, image.length)
+
+
+# The rules of tables, symbols and the entry
+
+
+def listed_at(image: Any, place: int) -> Any:
+    return next(command for command in image.listed if command.place == place)
+
+
+def table_range(image: Any, place: int) -> Explanation:
+    table = next(part for part in table_parts(image, listed_at(image, place))
+                 if part.size > 0 and part.start + part.size > image.length)
+    return of_command(image, place, table, SLICE, table.start + table.size, image.length)
+
+
+def symbol_group(image: Any, place: int) -> Explanation:
+    for index in range(3):
+        first, count = (little(image.data, place + 8 + 8 * index + 4 * half) for half in (0, 1))
+        if count and first + count > image.symbol_count:
+            group = Part("group", index, first, count, place)
+            return of_command(image, place, group, symtab_tables(image)[0], first + count, image.symbol_count)
+    raise ValueError("no group")
+
+
+def of_symbol(image: Any, place: int, first: Part, second: Part, value: int, limit: int) -> Explanation:
+    index = (place - image.only(oracle.LC_SYMTAB).symoff) // 16
+    return Explanation(structure("symbol", place, 16, index), first, second, value, limit, symbol=index)
+
+
+def symbol_name(image: Any, place: int) -> Explanation:
+    strings, strx = symtab_tables(image)[1], little(image.data, place)
+    rest = Part("name", NO_INDEX, strings.start + strx, max(0, strings.size - strx), place)
+    return of_symbol(image, place, rest, strings, strx, strings.size)
+
+
+def symbol_section(image: Any, place: int) -> Explanation:
+    return of_symbol(image, place, NONE, NONE, image.data[place + 5], len(image.sections))
+
+
+def indirect_index(image: Any, place: int) -> Explanation:
+    index = (place - image.only(oracle.LC_DYSYMTAB).indirectsymoff) // 4
+    return Explanation(structure("indirect", place, 4, index), NONE, symtab_tables(image)[0],
+                       little(image.data, place), image.symbol_count)
+
+
+def entry(image: Any, place: int) -> Explanation:
+    entryoff = little(image.data, place + 8, 8)
+    base = image.base_segment
+    if base is None:
+        return of_command(image, place, NONE, NONE, entryoff, 0)
+    address = base.vmaddr + entryoff
+    for segment in image.segments:
+        if segment.vmaddr <= address < segment.vmaddr + segment.vmsize:
+            return of_command(image, place, memory_part(image, base), memory_part(image, segment), address,
+                              segment.vmaddr + segment.filesize)
+    return of_command(image, place, memory_part(image, base), NONE, address, 0)
+
+
+# The strict profile
+
+
+def commands_end(image: Any, _: int) -> Explanation:
+    commands = walked(image)
+    last = command_part(image, commands[-1].place) if commands else NONE
+    end = last.start + last.size if commands else 32
+    return of_header(image, last, headers_part(image), end, image.commands_end)
+
+
+def header_segment(image: Any, _: int) -> Explanation:
+    found = [segment_part(image, segment) for segment in image.segments
+             if segment.vmsize > 0 and segment.fileoff == 0]
+    second = found[0] if found else NONE
+    return of_header(image, headers_part(image), second, image.commands_end, second.size)
+
+
+def element_overlap(image: Any, place: int) -> Explanation:
+    parts = element_parts(image)
+    is_section = place in [section.place for section in image.sections]
+    of_place = of_section if is_section else of_command
+    for number, part in enumerate(parts):
+        if part.described == place and part.kind != "headers":
+            for other in parts[:number]:
+                found = shared_by(part, other)
+                if found:
+                    return of_place(image, place, part, other, *found)
+            if part.size > 0 and part.start + part.size > image.length:
+                return of_place(image, place, part, SLICE, part.start + part.size, image.length)
+    raise ValueError("no overlap")
+
+
+def in_command(image: Any, place: int, found: Explanation) -> Explanation:
+    return found._replace(command=command_part(image, place).index)
+
+
+def stray_byte(image: Any, place: int) -> Explanation:
+    parts = [segment_part(image, segment) for segment in image.segments]
+    return in_command(image, place, byte_between(image.data, place, parts))
+
+
+def encrypted_range(image: Any, place: int) -> Explanation:
+    table = table_parts(image, listed_at(image, place))[0]
+    if table.start < image.commands_end:
+        return of_command(image, place, table, headers_part(image), table.start, image.commands_end)
+    for segment in image.segments:
+        if segment.fileoff <= table.start < segment.fileoff + segment.filesize:
+            return of_command(image, place, table, segment_part(image, segment), table.start + table.size,
+                              segment.fileoff + segment.filesize)
+    return of_command(image, place, table, NONE, table.start, 0)
+
+
+def command_slack(image: Any, place: int) -> Explanation:
+    command = command_part(image, place)
+    return Explanation(structure("byte", place, 1), command, NONE, image.data[place], 0, command=command.index)
+
+
+def unclaimed_byte(image: Any, place: int) -> Explanation:
+    return in_command(image, place, byte_between(image.data, place, element_parts(image)))
+
+
+# The linked profile
+
+
+def table_repeated(image: Any, place: int) -> Explanation:
+    def kinds(cmd: int) -> set[str]:
+        return {kind for _, _, kind, _ in oracle.LINKED_TABLES.get(cmd, [])}
+    own = little(image.data, place)
+    earlier = next(command for command in image.commands if kinds(command.cmd) & kinds(own))
+    return of_command(image, place, command_part(image, place), command_part(image, earlier.place), own, earlier.cmd)
+
+
+def function_variants(image: Any, place: int) -> Explanation:
+    return of_command(image, place, NONE, NONE, little(image.data, place), 0)
+
+
+def table_home(image: Any, place: int) -> Explanation:
+    named = oracle.linkedit_segments(image)
+    tables = {table.start: table for table in oracle.linked_tables(image) if table.command == place}
+    for part in table_parts(image, listed_at(image, place)):
+        if part.size == 0:
+            continue
+        end = part.start + part.size
+        if not named:
+            return of_command(image, place, part, NONE, end, 0)
+        for segment in named:
+            if not oracle.is_home(segment, tables[part.start]):
+                return of_command(image, place, part, segment_part(image, segment), end,
+                                  segment.fileoff + segment.filesize)
+        for command in image.listed:
+            if command.cmd == oracle.LC_ENCRYPTION_INFO_64:
+                found = shared_by(part, table_parts(image, command)[0])
+                if found:
+                    return of_command(image, place, part, table_parts(image, command)[0], *found)
+    raise ValueError("no table")
+
+
+def header_home(image: Any, _: int) -> Explanation:
+    base = image.base_segment
+    second = segment_part(image, base) if base else NONE
+    return of_header(image, headers_part(image), second, base.initprot if base else 0, oracle.VM_PROT_READ)
+
+
+def stream_with(image: Any, place: int) -> tuple[Any, Part]:
+    """The stream that has the place, and the table that it is."""
+    table = next(table for table in oracle.linked_tables(image) if table.stream and table.start <= place < table.end)
+    part = next(part for part in table_parts(image, listed_at(image, table.command)) if part.start == table.start)
+    return table, part
+
+
+def opcode_at(image: Any, place: int) -> Part:
+    """The opcode that begins at the place: up to the next one, and one byte if it is not known."""
+    table, _ = stream_with(image, place)
+    opcodes, broken = oracle.decode(image, table)
+    places = [opcode.place for opcode in opcodes] + ([broken] if broken is not None else [])
+    if place == broken:
+        return structure("opcode", place, 1)
+    later = [other for other in places if other > place]
+    return structure("opcode", place, (min(later) if later else table.end) - place)
+
+
+def of_opcode(image: Any, place: int, second: Part, value: int, limit: int) -> Explanation:
+    return Explanation(opcode_at(image, place), stream_with(image, place)[1], second, value, limit)
+
+
+def rebase_opcode(image: Any, place: int) -> Explanation:
+    return of_opcode(image, place, NONE, image.data[place], 0x8f)
+
+
+def bind_opcode(image: Any, place: int) -> Explanation:
+    return of_opcode(image, place, NONE, image.data[place], 0xcf)
+
+
+def runs_up_to(image: Any, place: int) -> list[Any]:
+    table, _ = stream_with(image, place)
+    return [run for run in oracle.runs(image, table) if run.place <= place]
+
+
+def bad_slot(image: Any, place: int) -> Explanation:
+    run = runs_up_to(image, place)[-1]
+    end = run.cursor + (run.count - 1) * (8 + run.skip) + 8
+    if run.segment is None or run.segment >= len(image.segments):
+        return of_opcode(image, place, NONE, end, 0)
+    segment = image.segments[run.segment]
+    return of_opcode(image, place, segment_part(image, segment), end,
+                     segment.filesize if oracle.is_writable(segment) else 0)
+
+
+def total(image: Any, place: int) -> Explanation:
+    return of_opcode(image, place, NONE, sum(run.count for run in runs_up_to(image, place)), oracle.budget(image))
+
+
+def bind_library(image: Any, place: int) -> Explanation:
+    table, _ = stream_with(image, place)
+    opcode = next(opcode for opcode in oracle.decode(image, table)[0] if opcode.place == place)
+    return of_opcode(image, place, NONE, oracle.ordinal_of(opcode) % 2 ** 64, oracle.library_count(image))
+
+
+def bind_symbol(image: Any, place: int) -> Explanation:
+    return of_opcode(image, place, NONE, runs_up_to(image, place)[-1].count, 0)
+
+
+def bind_names(image: Any, place: int) -> Explanation:
+    named = sum(image.data.index(0, run.symbol) + 1 - run.symbol for run in runs_up_to(image, place)
+                if run.count > 0 and run.is_new and run.symbol is not None)
+    return of_opcode(image, place, NONE, named, stream_with(image, place)[1].size)
+
+
+OF_FILE = {rule.__name__: rule for rule in (
+    magic, fat_truncated, fat_slice_outside, fat_slice_in_table, fat_align, fat_overlap, fat_duplicate,
+    fat_slice_magic, fat_empty, fat_stray_byte)}
+OF_IMAGE = {rule.__name__: rule for rule in (
+    header_truncated, arch_mismatch, file_type, commands_outside, command_walk, command_short, command_repeated,
+    dylib_id, name, segment_address, segment_size, segment_file, segment_overlap, section_address, section_file,
+    section_relocs, table_range, symbol_group, symbol_name, symbol_section, indirect_index, entry, commands_end,
+    header_segment, segment_file_overlap, element_overlap, stray_byte, encrypted_range, command_slack, unclaimed_byte,
+    table_repeated, function_variants, table_home, header_home, rebase_opcode, bind_opcode, bind_library, bind_symbol,
+    bind_names)}
+OF_IMAGE.update(rebase_slot=bad_slot, bind_slot=bad_slot, rebase_total=total, bind_total=total)
