@@ -55,10 +55,15 @@ const (
 	linked
 )
 
-func judge(file []byte, rules profile) (*File, error) {
+// checkVersion panics if the structures here are not those of the library.
+func checkVersion() {
 	if found, _, _ := LibraryVersion(); found != major {
 		panic("kesvuot: the library has another major version")
 	}
+}
+
+func judge(file []byte, rules profile) (*File, error) {
+	checkVersion()
 	bytes, size := atLeastOne(file), C.size_t(len(file))
 	var verdict C.struct_kesvuot_verdict
 	var status C.uint32_t
@@ -85,6 +90,49 @@ func ruleName(rule C.uint32_t) string {
 	var name C.struct_kesvuot_text
 	C.kesvuot_find_rule(rule, &name)
 	return C.GoStringN(name.at, C.int(name.size))
+}
+
+// ruleNumber returns the number of the rule with this name, or 0 if no rule has it.
+func ruleNumber(name string) C.uint32_t {
+	for rule := C.uint32_t(1); ; rule++ {
+		switch ruleName(rule) {
+		case name:
+			return rule
+		case "":
+			return 0
+		}
+	}
+}
+
+func explain(file []byte, refused *Refused) (Explanation, bool) {
+	checkVersion()
+	bytes, size := atLeastOne(file), C.size_t(len(file))
+	verdict := C.struct_kesvuot_verdict{place: C.uint64_t(refused.Place), rule: ruleNumber(refused.Rule)}
+	var found C.struct_kesvuot_explanation
+	if C.kesvuot_explain(unsafe.Pointer(&bytes[0]), size, &verdict, &found) != C.KESVUOT_OK {
+		return Explanation{}, false
+	}
+	return Explanation{
+		At:      newPart(&found.at),
+		First:   newPart(&found.first),
+		Second:  newPart(&found.second),
+		Value:   uint64(found.value),
+		Limit:   uint64(found.limit),
+		Slice:   uint32(found.slice),
+		Command: uint32(found.command),
+		Section: uint32(found.section),
+		Symbol:  uint32(found.symbol),
+	}, true
+}
+
+func newPart(part *C.struct_kesvuot_part) Part {
+	return Part{
+		Kind:      PartKind(part.kind),
+		Index:     uint32(part.index),
+		Start:     uint64(part.start),
+		Size:      uint64(part.size),
+		Described: uint64(part.described),
+	}
 }
 
 // CommandName returns the name of the load commands with this cmd, such as "LC_SEGMENT_64", or "" if the library knows

@@ -89,6 +89,39 @@ func TestRefusedLinked(t *testing.T) {
 	same(t, "an opcode that is not known", err, error(&Refused{"bind-opcode", 0x3008}))
 }
 
+func TestExplain(t *testing.T) {
+	// The LC_SEGMENT_64 of __DATA, whose bytes end past the file that was cut.
+	cut := readReal(t, "program")[:12000]
+	_, err := Verify(cut)
+	var refused *Refused
+	if !errors.As(err, &refused) {
+		t.Fatalf("found %v", err)
+	}
+	found, ok := Explain(cut, refused)
+	same(t, "whether it is explained", ok, true)
+	segment := readSegment(cut, refused.Place)
+	same(t, "the segment", found.First, Part{SegmentBytes, found.First.Index, segment.Offset, segment.Filesz, 0x198})
+	same(t, "the command", found.At, Part{LoadCommand, found.Command, 0x198, uint64(segment.Len), 0x198})
+	same(t, "the slice", found.Second, Part{SliceBytes, 0, 0, 12000, 0})
+	same(t, "the end", []uint64{found.Value, found.Limit}, []uint64{segment.Offset + segment.Filesz, 12000})
+	same(t, "the other indices", []uint32{found.Slice, found.Section, found.Symbol}, []uint32{0, NoIndex, NoIndex})
+	for _, other := range []*Refused{{"section-file", 0x198}, {"no-rule", 0}, {"magic", 1}} {
+		_, ok = Explain(cut, other)
+		same(t, other.Rule, ok, false)
+	}
+	found, ok = Explain(nil, &Refused{"magic", 0})
+	same(t, "no bytes", fmt.Sprint(found.At.Kind == Magic, found.At.Size, ok), "true 0 true")
+}
+
+// readSegment returns the fields of the segment at a place, as Go's own reader has them.
+func readSegment(file []byte, place uint64) macho.Segment64 {
+	var segment macho.Segment64
+	if err := binary.Read(bytes.NewReader(file[place:]), binary.LittleEndian, &segment); err != nil {
+		panic(err)
+	}
+	return segment
+}
+
 func TestLayout(t *testing.T) {
 	for _, name := range []string{"program", "library"} {
 		layout, err := verified(t, readReal(t, name)).Layout()

@@ -24,6 +24,9 @@ pub const HAS_ID: u32 = 32;
 /// `KESVUOT_NO_SECTION`
 pub const NO_SECTION: u32 = u32::MAX;
 
+/// `KESVUOT_NO_INDEX`
+pub const NO_INDEX: u32 = u32::MAX;
+
 /// Declares structures, and lists for the tests how C must lay them out.
 macro_rules! structures {
     ($($tag:ident = $name:ident { $($field:ident: $type:ty,)* })*) => {
@@ -71,6 +74,26 @@ structures! {
         slices: u64,
         rule: u32,
         reserved: u32,
+    }
+
+    kesvuot_part = Part {
+        start: u64,
+        size: u64,
+        described: u64,
+        kind: u32,
+        index: u32,
+    }
+
+    kesvuot_explanation = Explanation {
+        at: Part,
+        first: Part,
+        second: Part,
+        value: u64,
+        limit: u64,
+        slice: u32,
+        command: u32,
+        section: u32,
+        symbol: u32,
     }
 
     kesvuot_image = Image {
@@ -196,6 +219,12 @@ extern "C" {
     fn kesvuot_verify(file: *const c_void, size: usize, verdict: *mut Verdict) -> u32;
     fn kesvuot_verify_strictly(file: *const c_void, size: usize, verdict: *mut Verdict) -> u32;
     fn kesvuot_verify_linked(file: *const c_void, size: usize, verdict: *mut Verdict) -> u32;
+    fn kesvuot_explain(
+        file: *const c_void,
+        size: usize,
+        verdict: *const Verdict,
+        explanation: *mut Explanation,
+    ) -> u32;
     fn kesvuot_layout(
         file: *const c_void,
         size: usize,
@@ -293,13 +322,18 @@ pub fn platform(number: u32) -> Option<&'static str> {
 /// Room for the layout of most files. A longer one takes a second call.
 const LAYOUT_ROOM: usize = 1 << 14;
 
+/// The structures here are those of a library of this major version.
+fn check_version() {
+    let version = version();
+    assert_eq!(version >> 16, MAJOR, "libkesvuot has version {version:#x}");
+}
+
 type Judge = unsafe extern "C" fn(*const c_void, usize, *mut Verdict) -> u32;
 
 /// Calls one of the calls that judge, if the structures here are those of the library. Returns
 /// the status and the verdict.
 fn judge(call: Judge, file: &[u8]) -> (u32, Verdict) {
-    let version = version();
-    assert_eq!(version >> 16, MAJOR, "libkesvuot has version {version:#x}");
+    check_version();
     let mut verdict = Verdict::default();
     // SAFETY: the file may be read, and nobody changes it meanwhile. The verdict may be written.
     let status = unsafe { call(file.as_ptr().cast(), file.len(), &mut verdict) };
@@ -316,6 +350,20 @@ pub fn verify_strictly(file: &[u8]) -> (u32, Verdict) {
 
 pub fn verify_linked(file: &[u8]) -> (u32, Verdict) {
     judge(kesvuot_verify_linked, file)
+}
+
+/// The status, and what explains that the file breaks the rule with this number at a place.
+pub fn explain(file: &[u8], rule: u32, place: u64) -> (u32, Explanation) {
+    check_version();
+    let verdict = Verdict {
+        place,
+        rule,
+        ..Verdict::default()
+    };
+    let (at, mut found) = (file.as_ptr().cast(), Explanation::default());
+    // SAFETY: the file may be read, and nobody changes it meanwhile. The explanation may be written.
+    let status = unsafe { kesvuot_explain(at, file.len(), &verdict, &mut found) };
+    (status, found)
 }
 
 /// The status, and the layout of the file, empty unless the status is `OK`.
@@ -456,7 +504,7 @@ mod tests {
     use std::string::String;
 
     use super::*;
-    use crate::{Rule, Table};
+    use crate::{PartKind, Rule, Table};
 
     /// The numbers of the header that this crate has, as conditions in C.
     fn numbers() -> Vec<String> {
@@ -476,7 +524,12 @@ mod tests {
             ("HAS_DYSYMTAB", HAS_DYSYMTAB),
             ("HAS_ID", HAS_ID),
             ("NO_SECTION", NO_SECTION),
+            ("NO_INDEX", NO_INDEX),
         ];
+        let kinds = PartKind::ALL.iter().map(|(kind, number)| {
+            let name = constant(&format!("{kind:?}"));
+            format!("KESVUOT_PART{name} == {number}")
+        });
         let others = others
             .iter()
             .map(|(name, number)| format!("KESVUOT_{name} == {number}"));
@@ -484,7 +537,11 @@ mod tests {
             let name = constant(&format!("{table:?}"));
             format!("KESVUOT_TABLE{name} == {}", table.number())
         });
-        rules.chain(others).chain(tables).collect()
+        rules
+            .chain(others)
+            .chain(kinds)
+            .chain(tables)
+            .collect()
     }
 
     /// The name of a variant as C has it, with a `_` before each word.

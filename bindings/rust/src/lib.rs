@@ -47,6 +47,7 @@ extern crate alloc;
 extern crate std;
 
 mod error;
+mod explain;
 #[allow(unsafe_code)]
 mod ffi;
 mod image;
@@ -56,6 +57,7 @@ mod rule;
 mod verified;
 
 pub use error::Error;
+pub use explain::{explain, Explanation, Part, PartKind};
 pub use image::{Dysymtab, Image, Source, Symtab};
 pub use parts::{Build, Command, Indirect, Library, Relocation, Section, Segment, Symbol, Table};
 pub use rows::Rows;

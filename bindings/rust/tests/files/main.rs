@@ -9,7 +9,7 @@ mod plain;
 use std::path::Path;
 use std::{env, fs, thread};
 
-use kesvuot::{Error, Rule, Verified, VerifiedBuf};
+use kesvuot::{Error, PartKind, Rule, Verified, VerifiedBuf};
 
 /// What is wanted of each file of a list, and the file.
 fn trials(list: &str) -> Vec<(String, String)> {
@@ -45,10 +45,54 @@ fn judge_all(list: &str, verify: fn(&[u8]) -> Result<Verified<'_>, Error>) {
                 verified.images().for_each(|image| plain::compare(&image));
                 accepted += 1;
             }
-            Err(error) => assert_eq!(wanted, &error.to_string()),
+            Err(error) => {
+                assert_eq!(wanted, &error.to_string());
+                explain(&file, error);
+            }
         }
     }
     assert!(0 < accepted && accepted < trials.len());
+}
+
+/// A refusal is explained, by a structure that has the place and lies in the file.
+fn explain(file: &[u8], error: Error) {
+    if let Error::Refused { rule, place } = error {
+        let at = kesvuot::explain(file, rule, place).unwrap().at.unwrap();
+        assert!((at.start..=at.start + at.size).contains(&place));
+        assert!(at.start + at.size <= file.len() as u64);
+    }
+}
+
+#[test]
+fn explanations() {
+    let file = fs::read(path_of_real("library")).unwrap();
+    let cut = &file[..file.len() - 1];
+    let found = kesvuot::explain(cut, Rule::FatSliceOutside, 28).unwrap();
+    // The second slice, as in `slices` below. Its entry is a `fat_arch` of 20 bytes.
+    let (at, first, second) = (
+        found.at.unwrap(),
+        found.first.unwrap(),
+        found.second.unwrap(),
+    );
+    assert_eq!(
+        (at.kind, at.index, at.start, at.size, at.described),
+        (PartKind::FatArch, Some(1), 28, 20, 28)
+    );
+    assert_eq!(
+        (first.kind, first.index, first.start, first.size),
+        (PartKind::Slice, Some(1), 4240, 16768)
+    );
+    assert_eq!(
+        (second.kind, second.index, second.size),
+        (PartKind::File, None, cut.len() as u64)
+    );
+    assert_eq!((found.value, found.limit), (4240 + 16768, cut.len() as u64));
+    assert_eq!(
+        (found.slice, found.command, found.section, found.symbol),
+        (Some(1), None, None, None)
+    );
+    assert_eq!(kesvuot::explain(cut, Rule::FatSliceOutside, 27), None);
+    assert_eq!(kesvuot::explain(cut, Rule::Unknown(0), 0), None);
 }
 
 /// Compares the layout of a file with the one in another file.

@@ -1,0 +1,65 @@
+package kesvuot
+
+// A PartKind is what a Part is. The names of the kinds and what their indices count are those of kesvuot.h.
+type PartKind uint32
+
+// The kinds of parts. NoPart is the kind of a Part that is none, of which all other fields are 0 or NoIndex.
+const (
+	NoPart        PartKind = 0
+	WholeFile     PartKind = 1
+	Magic         PartKind = 2
+	FatHeader     PartKind = 3
+	FatTable      PartKind = 4
+	FatArch       PartKind = 5
+	SliceBytes    PartKind = 6
+	Header        PartKind = 7
+	Headers       PartKind = 8
+	LoadCommand   PartKind = 9
+	SegmentBytes  PartKind = 10
+	SegmentMemory PartKind = 11
+	SectionHeader PartKind = 12
+	SectionBytes  PartKind = 13
+	SectionMemory PartKind = 14
+	Relocations   PartKind = 15
+	TableBytes    PartKind = 16
+	SymbolGroup   PartKind = 17
+	NameBytes     PartKind = 18
+	SymbolEntry   PartKind = 19
+	IndirectEntry PartKind = 20
+	Opcode        PartKind = 21
+	OneByte       PartKind = 22
+)
+
+// NoIndex is the index of nothing.
+const NoIndex = 1<<32 - 1
+
+// A Part is a structure, or what a structure describes. It lies where the file says, which can be past the file.
+type Part struct {
+	Kind PartKind
+	// Index is which one it is of its kind, or NoIndex.
+	Index uint32
+	// Start is its offset in the file; of memory its first address, and of a group its first index. Size is how many
+	// bytes, addresses or indices it has.
+	Start, Size uint64
+	// Described is the offset in the file of the structure that describes it, which can be itself.
+	Described uint64
+}
+
+// An Explanation says why a file is refused. LIBRARY.md has a table of what each rule gives.
+type Explanation struct {
+	// At is the structure that has the place, or the byte there. It lies in the file.
+	At Part
+	// First is what breaks the rule, and Second with what it conflicts or in which it should lie.
+	First, Second Part
+	// Value and Limit are the numbers that the rule compares.
+	Value, Limit uint64
+	// Slice, Command, Section and Symbol are the indices of those that have the place, each or NoIndex.
+	Slice, Command, Section, Symbol uint32
+}
+
+// Explain explains a refusal of these bytes, by whichever call. The file is not judged again. It returns false if the
+// refusal is not one of these bytes, as far as that is seen: no rule has the name, or nothing that the rule is about is
+// at the place.
+func Explain(file []byte, refused *Refused) (Explanation, bool) {
+	return explain(file, refused)
+}

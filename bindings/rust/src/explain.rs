@@ -1,0 +1,177 @@
+//! Why a file is refused.
+
+use crate::{ffi, Rule};
+
+macro_rules! kinds {
+    ($($(#[$doc:meta])* $name:ident = $number:literal,)*) => {
+        /// What a [`Part`] is, and what its index counts.
+        #[derive(Clone, Copy, Debug, PartialEq, Eq, Hash)]
+        #[non_exhaustive]
+        pub enum PartKind {
+            $($(#[$doc])* $name,)*
+            /// A kind of a newer library, by its number in `kesvuot.h`.
+            Unknown(u32),
+        }
+
+        impl PartKind {
+            /// The kind with this number, `KESVUOT_PART_..`. 0 is no part.
+            fn from_number(number: u32) -> Option<PartKind> {
+                match number {
+                    0 => None,
+                    $($number => Some(PartKind::$name),)*
+                    _ => Some(PartKind::Unknown(number)),
+                }
+            }
+
+            /// The kinds with their numbers.
+            #[cfg(test)]
+            pub(crate) const ALL: &'static [(PartKind, u32)] = &[$((PartKind::$name, $number)),*];
+        }
+    };
+}
+
+kinds! {
+    /// All bytes of the file.
+    File = 1,
+    /// The first 4 bytes of the file or, with its index, of a slice.
+    Magic = 2,
+    /// `fat_header`
+    FatHeader = 3,
+    /// `fat_header` and all entries.
+    FatTable = 4,
+    /// `fat_arch` or `fat_arch_64`, with the index of its slice.
+    FatArch = 5,
+    /// The bytes of the slice with this index.
+    Slice = 6,
+    /// `mach_header_64`
+    Header = 7,
+    /// `mach_header_64`, and the `sizeofcmds` bytes after it.
+    Headers = 8,
+    /// `load_command`: all `cmdsize` bytes. The index is that of [`commands`](crate::Image::commands).
+    Command = 9,
+    /// The file bytes of a segment, with its index in [`segments`](crate::Image::segments).
+    Segment = 10,
+    /// Its addresses: `vmsize` from `vmaddr` on.
+    SegmentMemory = 11,
+    /// `section_64`, with its index in [`sections`](crate::Image::sections).
+    Section = 12,
+    /// The bytes of a section in the file.
+    SectionBytes = 13,
+    /// Its addresses: `size` from `addr` on.
+    SectionMemory = 14,
+    /// Its relocations.
+    Relocations = 15,
+    /// A table that a command bounds. The index counts its tables in the order of "Bounded tables" in
+    /// `docs/RULES.md`: of `LC_SYMTAB` 0 the symbols, 1 the strings.
+    Table = 16,
+    /// Indices of symbols: 0 the local ones, 1 the external ones, 2 the undefined ones.
+    Group = 17,
+    /// The bytes from the start of a name to where it has to end.
+    Name = 18,
+    /// `nlist_64`, with its index in [`symbols`](crate::Image::symbols).
+    Symbol = 19,
+    /// An indirect entry, with its index in [`indirects`](crate::Image::indirects).
+    Indirect = 20,
+    /// An opcode with its operands, or one byte if they are not known.
+    Opcode = 21,
+    /// One byte.
+    Byte = 22,
+}
+
+/// A structure, or what a structure describes. It lies where the file says, which can be past the
+/// file.
+#[derive(Clone, Copy, Debug, PartialEq, Eq, Hash)]
+#[non_exhaustive]
+pub struct Part {
+    /// What it is.
+    pub kind: PartKind,
+    /// Which one it is of its kind.
+    pub index: Option<u32>,
+    /// Its offset in the file; of memory its first address, and of a group its first index.
+    pub start: u64,
+    /// How many bytes, addresses or indices it has.
+    pub size: u64,
+    /// The offset in the file of the structure that describes it, which can be itself.
+    pub described: u64,
+}
+
+impl Part {
+    fn new(part: &ffi::Part) -> Option<Part> {
+        Some(Part {
+            kind: PartKind::from_number(part.kind)?,
+            index: index(part.index),
+            start: part.start,
+            size: part.size,
+            described: part.described,
+        })
+    }
+}
+
+/// Why a file is refused. `docs/LIBRARY.md` has a table of what each rule gives.
+#[derive(Clone, Copy, Debug, PartialEq, Eq, Hash)]
+#[non_exhaustive]
+pub struct Explanation {
+    /// The structure that has the place, or the byte there. It lies in the file.
+    pub at: Option<Part>,
+    /// What breaks the rule.
+    pub first: Option<Part>,
+    /// With which it conflicts, or in which it should lie.
+    pub second: Option<Part>,
+    /// The first of the two numbers that the rule compares.
+    pub value: u64,
+    /// The other one.
+    pub limit: u64,
+    /// The index of the slice that has the place, or whose entry is there.
+    pub slice: Option<u32>,
+    /// The index of the load command that has the place.
+    pub command: Option<u32>,
+    /// The index of the section whose structure has the place.
+    pub section: Option<u32>,
+    /// The index of the symbol that is at the place.
+    pub symbol: Option<u32>,
+}
+
+/// Explains a refusal of these bytes, as [`Error::Refused`](crate::Error::Refused) has it. The file is
+/// not judged again. `None` if it is not a refusal of these bytes, as far as that is seen: no rule has
+/// the number, or nothing that the rule is about is at the place.
+///
+/// ```
+/// use kesvuot::{Error, PartKind};
+///
+/// # let path = concat!(env!("CARGO_MANIFEST_DIR"), "/../../tests/real/program");
+/// # let file = &std::fs::read(path)?[..12000];
+/// if let Err(Error::Refused { rule, place }) = kesvuot::verify(file) {
+///     let explanation = kesvuot::explain(file, rule, place).unwrap();
+///     assert_eq!(explanation.first.unwrap().kind, PartKind::Segment);
+///     // The segment ends past the file.
+///     assert_eq!((explanation.value, explanation.limit), (0x3000, 12000));
+/// }
+/// # Ok::<(), std::io::Error>(())
+/// ```
+///
+/// # Panics
+///
+/// If the library that is linked is of another major version.
+#[must_use]
+pub fn explain(file: &[u8], rule: Rule, place: u64) -> Option<Explanation> {
+    let (status, found) = ffi::explain(file, rule.number(), place);
+    if status != ffi::OK {
+        return None;
+    }
+    Some(Explanation {
+        at: Part::new(&found.at),
+        first: Part::new(&found.first),
+        second: Part::new(&found.second),
+        value: found.value,
+        limit: found.limit,
+        slice: index(found.slice),
+        command: index(found.command),
+        section: index(found.section),
+        symbol: index(found.symbol),
+    })
+}
+
+/// The index, if there is one.
+fn index(number: u32) -> Option<u32> {
+    (number != ffi::NO_INDEX).then_some(number)
+}
