@@ -15,16 +15,15 @@ from ._names import (
     FILETYPES, LC_ID_DYLIB, LIBRARIES, command_name, platform_name, protection_text, version_text)
 from ._output import GREEN, RED, Output, coloured, say
 from ._reports import reason_text, shown
+from ._structures import LISTED, STRUCTURES
 
 SAME, DIFFERENT, NOT_COMPARED = range(3)
 LC_SYMTAB, LC_DYSYMTAB = 0x2, 0xB
 # Of these fields are compared, and not all bytes: LC_SEGMENT_64, LC_UUID, LC_BUILD_VERSION, LC_MAIN, LC_VERSION_MIN_..,
 # and libraries.
 READ = {0x19, 0x1B, 0x32, 0x8000_0028, 0x24, 0x25, 0x2F, 0x30, *LIBRARIES}
-FIELDS = {
-    LC_SYMTAB: "symoff nsyms stroff strsize".split(),
-    LC_DYSYMTAB: "ilocalsym nlocalsym iextdefsym nextdefsym iundefsym nundefsym tocoff ntoc modtaboff nmodtab "
-                 "extrefsymoff nextrefsyms indirectsymoff nindirectsyms extreloff nextrel locreloff nlocrel".split()}
+# All but cmd and cmdsize.
+FIELDS = {cmd: [field.name for field in STRUCTURES[LISTED[cmd]][2:]] for cmd in (LC_SYMTAB, LC_DYSYMTAB)}
 # So many bytes of a command are shown, and of a longer one a hash.
 SHOWN_BYTES = 40
 

@@ -12,6 +12,7 @@ from typing import Any, Dict, Iterable, Iterator, List, NamedTuple, Optional, Se
 from ._files import ARCHITECTURES, File, Image
 from ._layout import plain
 from ._names import FILETYPES, LC_ID_DYLIB, LC_LOAD_DYLINKER, LC_RPATH, LIBRARIES, command_name, protection_text
+from ._structures import LISTED, UNLISTED, number_in, size_of, structure_of
 
 # fat.h: an entry of a universal file, by its magic number: cputype, cpusubtype, offset, size, align.
 FAT_ENTRIES = {b"\xca\xfe\xba\xbe": Struct(">5I"), b"\xca\xfe\xba\xbf": Struct(">2I2Q2I")}
@@ -21,8 +22,6 @@ MH_MAGIC_64 = b"\xcf\xfa\xed\xfe"
 HEADER, COMMAND = Struct("<8I"), Struct("<2I")
 COMMAND_ALIGN = 8
 SEGMENT, SECTION = Struct("<24x4Q3I4x"), Struct("<32x2Q5I12x")
-# The offset and the size of a note_command.
-NOTE = Struct("<2Q")
 LC_SEGMENT_64, LC_ENCRYPTION_INFO_64, LC_NOTE, LC_BUILD_VERSION = 0x19, 0x2C, 0x31, 0x32
 ZERO_FILL_TYPES = {0x1, 0xC, 0x12}
 EXECUTE = 4
@@ -32,28 +31,41 @@ NAMED = {*LIBRARIES, LC_LOAD_DYLINKER, 0xF, LC_RPATH, 0x27}
 
 Range = Tuple[int, int]
 
-# The tables of a command, as in RULES.md: a name, where in the command the offset and the count are, and the bytes of
-# an entry.
-Tables = Tuple[Tuple[str, int, int, int], ...]
-DYLD_INFO: Tables = (("rebase opcodes", 8, 12, 1), ("bind opcodes", 16, 20, 1), ("weak bind opcodes", 24, 28, 1),
-                     ("lazy bind opcodes", 32, 36, 1), ("export trie", 40, 44, 1))
+class TableForm(NamedTuple):
+    """A table that a command names, as in RULES.md: a name, the fields that have the offset and the count, and the bytes
+    of an entry."""
+
+    name: str
+    start: str
+    count: str
+    width: int = 1
+
+
+TABLES_OF_STRUCTURES: Dict[str, Tuple[TableForm, ...]] = {
+    "symtab_command": (TableForm("symbols", "symoff", "nsyms", 16), TableForm("strings", "stroff", "strsize")),
+    "dysymtab_command": (
+        TableForm("table of contents", "tocoff", "ntoc", 8), TableForm("modules", "modtaboff", "nmodtab", 56),
+        TableForm("external references", "extrefsymoff", "nextrefsyms", 4),
+        TableForm("indirect symbols", "indirectsymoff", "nindirectsyms", 4),
+        TableForm("external relocations", "extreloff", "nextrel", 8),
+        TableForm("local relocations", "locreloff", "nlocrel", 8)),
+    "dyld_info_command": (
+        TableForm("rebase opcodes", "rebase_off", "rebase_size"), TableForm("bind opcodes", "bind_off", "bind_size"),
+        TableForm("weak bind opcodes", "weak_bind_off", "weak_bind_size"),
+        TableForm("lazy bind opcodes", "lazy_bind_off", "lazy_bind_size"),
+        TableForm("export trie", "export_off", "export_size")),
+    "encryption_info_command_64": (TableForm("encrypted range", "cryptoff", "cryptsize"),),
+    "note_command": (TableForm("note", "offset", "size"),),
+    "twolevel_hints_command": (TableForm("two-level hints", "offset", "nhints", 4),)}
 LINKEDIT_DATA = {
     0x1D: "code signature", 0x1E: "segment split info", 0x26: "function starts", 0x29: "data in code",
     0x2B: "code signing requirements", 0x2E: "optimization hints", 0x36: "atom info", 0x37: "function variants",
     0x38: "function variant fixups", 0x8000_0033: "exports trie", 0x8000_0034: "chained fixups"}
-TABLES: Dict[int, Tables] = {
-    0x2: (("symbols", 8, 12, 16), ("strings", 16, 20, 1)),
-    0xB: (("table of contents", 32, 36, 8), ("modules", 40, 44, 56), ("external references", 48, 52, 4),
-          ("indirect symbols", 56, 60, 4), ("external relocations", 64, 68, 8), ("local relocations", 72, 76, 8)),
-    0x16: (("two-level hints", 8, 12, 4),), 0x22: DYLD_INFO, 0x8000_0022: DYLD_INFO,
-    **{cmd: ((name, 8, 12, 1),) for cmd, name in LINKEDIT_DATA.items()}}
+TABLES: Dict[int, Tuple[TableForm, ...]] = {
+    **{cmd: TABLES_OF_STRUCTURES.get(structure, ()) for cmd, structure in (*LISTED.items(), *UNLISTED.items())},
+    **{cmd: (TableForm(name, "dataoff", "datasize"),) for cmd, name in LINKEDIT_DATA.items()}}
 
-# The size of the structure of each listed command; and of those with records, where their count is, and their size.
-STRUCTURE_SIZES: Dict[int, int] = {
-    **dict.fromkeys(LIBRARIES, 24), **dict.fromkeys((LC_LOAD_DYLINKER, 0xF, LC_RPATH, 0x27), 12),
-    **dict.fromkeys((0x1D, 0x1E, 0x26, 0x29, 0x2B, 0x2E, 0x8000_0033, 0x8000_0034), 16), 0x2: 24, 0xB: 80,
-    LC_SEGMENT_64: 72, 0x1B: 24, 0x22: 48, 0x8000_0022: 48, LC_ENCRYPTION_INFO_64: 24, LC_NOTE: 40,
-    LC_BUILD_VERSION: 24, 0x8000_0028: 24}
+# Of the listed commands with records: where their count is, and their size.
 RECORDS = {LC_SEGMENT_64: (64, SECTION.size), LC_BUILD_VERSION: (20, 8)}
 
 # Between runs of nonzero bytes that are drawn as one there are fewer zeros than this, or than one in so many of a gap.
@@ -87,18 +99,19 @@ ELEMENTS = frozenset(("universal header", "headers", "section", "relocations", "
 def parts_of(data: memoryview, file: Optional[File] = None) -> List[Part]:
     """The parts of a file, which is given if it was accepted: then its load commands are those that the library
     reads."""
-    parts = list(_slices(data))
+    parts = list(slices_of(data))
     for part in parts[:]:
         if part.kind == "slice" and part.slice is not None:
             image = file.slices[part.slice] if file else None
-            parts += _image_parts(data, part, image if isinstance(image, Image) else None)
+            parts += image_parts(data, part, image if isinstance(image, Image) else None)
     return parts + list(_rest(data, parts))
 
 
 # Slices
 
 
-def _slices(data: memoryview) -> Iterator[Part]:
+def slices_of(data: memoryview) -> Iterator[Part]:
+    """The slices, and the table that has them."""
     entry = FAT_ENTRIES.get(bytes(data[:4]))
     if entry is None:
         yield _slice(data, 0, 0, len(data), None)
@@ -149,7 +162,8 @@ class Walk(NamedTuple):
     is_whole: bool
 
 
-def _image_parts(data: memoryview, part: Part, accepted: Optional[Image]) -> Iterator[Part]:
+def image_parts(data: memoryview, part: Part, accepted: Optional[Image] = None) -> Iterator[Part]:
+    """The parts of an image, which is a slice."""
     image = data[part.start:part.start + part.size]
     if len(image) < HEADER.size:
         return
@@ -212,9 +226,9 @@ def _command_part(part: Part, command: Any) -> Part:
 def _slack(command: Any) -> Iterator[Range]:
     """The ranges of a listed command that are past its structure and its records, and outside its name."""
     data = command.bytes
-    if command.cmd not in STRUCTURE_SIZES or len(data) <= STRUCTURE_SIZES[command.cmd]:
+    if command.cmd not in LISTED or len(data) <= size_of(LISTED[command.cmd]):
         return
-    end = STRUCTURE_SIZES[command.cmd]
+    end = size_of(LISTED[command.cmd])
     if command.cmd in RECORDS:
         count_at, size = RECORDS[command.cmd]
         end += size * int.from_bytes(data[count_at:count_at + 4], "little")
@@ -237,17 +251,14 @@ def _described(part: Part, command: Any) -> Iterator[Part]:
             yield from _segment_parts(part, command)
         return
     described = part._replace(described=part.start + command.place)
-    for name, start_at, count_at, size in TABLES.get(command.cmd, ()):
-        if len(command.bytes) >= count_at + 4:
-            count = int.from_bytes(command.bytes[count_at:count_at + 4], "little")
-            start = int.from_bytes(command.bytes[start_at:start_at + 4], "little")
-            note = f"{count} entries of {size} bytes" if size > 1 else ""
-            yield from _table(described, name, start, count * size, note)
-    if command.cmd == LC_ENCRYPTION_INFO_64 and len(command.bytes) >= 16:
-        range_of = _table(described, "encrypted range", *COMMAND.unpack_from(command.bytes, 8))
-        yield from (it._replace(kind="encrypted range", column=3) for it in range_of)
-    elif command.cmd == LC_NOTE and len(command.bytes) >= 40:
-        yield from _table(described, f"note of {_text(command.bytes[8:24])}", *NOTE.unpack_from(command.bytes, 24))
+    structure = structure_of(command.cmd, len(command.bytes))
+    for form in TABLES.get(command.cmd, ()) if structure != "load_command" else ():
+        start, count = (number_in(command.bytes, structure, field) for field in (form.start, form.count))
+        name = f"note of {_text(command.bytes[8:24])}" if command.cmd == LC_NOTE else form.name
+        note = f"{count} entries of {form.width} bytes" if form.width > 1 else ""
+        for table in _table(described, name, start, count * form.width, note):
+            is_encrypted = command.cmd == LC_ENCRYPTION_INFO_64
+            yield table._replace(kind="encrypted range", column=3) if is_encrypted else table
 
 
 def _table(part: Part, name: str, start: int, size: int, note: str = "") -> Iterator[Part]:

@@ -1,0 +1,89 @@
+"""The structures of <mach-o/fat.h>, <mach-o/loader.h> and <mach-o/nlist.h>, with their fields by name."""
+
+from __future__ import annotations
+
+from typing import Dict, List, NamedTuple, Tuple
+
+from ._names import LC_LOAD_DYLINKER, LC_RPATH, LIBRARIES
+
+
+class Field(NamedTuple):
+    """A field: its place in the structure, and how many bytes it has."""
+
+    name: str
+    start: int
+    width: int
+
+
+def _fields(words: str) -> Tuple[Field, ...]:
+    """The fields of these names, one after the other: each of 4 bytes, if no other number follows its name."""
+    fields: List[Field] = []
+    place = 0
+    for word in words.split():
+        name, _, width = word.partition(":")
+        fields.append(Field(name, place, int(width or 4)))
+        place += fields[-1].width
+    return tuple(fields)
+
+
+# Those of a universal file are big-endian, and all others little-endian.
+STRUCTURES: Dict[str, Tuple[Field, ...]] = {name: _fields(words) for name, words in {
+    "fat_header": "magic nfat_arch",
+    "fat_arch": "cputype cpusubtype offset size align",
+    "fat_arch_64": "cputype cpusubtype offset:8 size:8 align reserved",
+    "mach_header_64": "magic cputype cpusubtype filetype ncmds sizeofcmds flags reserved",
+    "load_command": "cmd cmdsize",
+    "segment_command_64":
+        "cmd cmdsize segname:16 vmaddr:8 vmsize:8 fileoff:8 filesize:8 maxprot initprot nsects flags",
+    "section_64": "sectname:16 segname:16 addr:8 size:8 offset align reloff nreloc flags reserved1 reserved2 reserved3",
+    "symtab_command": "cmd cmdsize symoff nsyms stroff strsize",
+    "dysymtab_command":
+        "cmd cmdsize ilocalsym nlocalsym iextdefsym nextdefsym iundefsym nundefsym tocoff ntoc modtaboff nmodtab "
+        "extrefsymoff nextrefsyms indirectsymoff nindirectsyms extreloff nextrel locreloff nlocrel",
+    "dylib_command": "cmd cmdsize name timestamp current_version compatibility_version",
+    "dylinker_command": "cmd cmdsize name",
+    "rpath_command": "cmd cmdsize path",
+    "twolevel_hints_command": "cmd cmdsize offset nhints",
+    "uuid_command": "cmd cmdsize uuid:16",
+    "linkedit_data_command": "cmd cmdsize dataoff datasize",
+    "dyld_info_command":
+        "cmd cmdsize rebase_off rebase_size bind_off bind_size weak_bind_off weak_bind_size lazy_bind_off "
+        "lazy_bind_size export_off export_size",
+    "encryption_info_command_64": "cmd cmdsize cryptoff cryptsize cryptid pad",
+    "note_command": "cmd cmdsize data_owner:16 offset:8 size:8",
+    "build_version_command": "cmd cmdsize platform minos sdk ntools",
+    "entry_point_command": "cmd cmdsize entryoff:8 stacksize:8",
+    "nlist_64": "n_strx n_type:1 n_sect:1 n_desc:2 n_value:8"}.items()}
+BIG_ENDIAN = frozenset(("fat_header", "fat_arch", "fat_arch_64"))
+
+# The structure of each command that docs/RULES.md lists, and of those others that have data.
+LISTED: Dict[int, str] = {
+    0x2: "symtab_command", 0xB: "dysymtab_command", **dict.fromkeys(LIBRARIES, "dylib_command"),
+    **dict.fromkeys((LC_LOAD_DYLINKER, 0xF, 0x27), "dylinker_command"), LC_RPATH: "rpath_command",
+    0x19: "segment_command_64", 0x1B: "uuid_command",
+    **dict.fromkeys((0x1D, 0x1E, 0x26, 0x29, 0x2B, 0x2E, 0x8000_0033, 0x8000_0034), "linkedit_data_command"),
+    **dict.fromkeys((0x22, 0x8000_0022), "dyld_info_command"), 0x2C: "encryption_info_command_64",
+    0x31: "note_command", 0x32: "build_version_command", 0x8000_0028: "entry_point_command"}
+UNLISTED = {0x16: "twolevel_hints_command", **dict.fromkeys((0x36, 0x37, 0x38), "linkedit_data_command")}
+
+
+def size_of(structure: str) -> int:
+    last = STRUCTURES[structure][-1]
+    return last.start + last.width
+
+
+def structure_of(cmd: int, size: int) -> str:
+    """The structure of a command of so many bytes: that of its kind, if it has as many."""
+    name = LISTED.get(cmd) or UNLISTED.get(cmd, "load_command")
+    return name if size_of(name) <= size else "load_command"
+
+
+def field_of(structure: str, name: str) -> Field:
+    return next(field for field in STRUCTURES[structure] if field.name == name)
+
+
+def number_in(data: memoryview, structure: str, name: str) -> int:
+    """The number in a field of the structure that these bytes begin with, 0 where the bytes are not there."""
+    field = field_of(structure, name)
+    order = "big" if structure in BIG_ENDIAN else "little"
+    return int.from_bytes(data[field.start:field.start + field.width], order)
