@@ -38,7 +38,7 @@ of the archive that the package is in, or from where the system finds it. It is 
 ImportError where it is not found. The package needs CPython 3.8 or later.
 """
 
-from ._explain import Explanation, Part, explain
+from ._explanation import Explanation, Part, explain
 from ._files import (
     BoundedTable, Dysymtab, File, Image, Refused, Slice, Source, SourceKind, Symtab, command_name, library_version,
     platform_name, verify, verify_linked)
