@@ -3,8 +3,10 @@
 from __future__ import annotations
 
 import os
+import re
 import sys
 from pathlib import Path
+from typing import Iterator, NamedTuple
 
 from .calling import TOP, call
 
@@ -67,6 +69,24 @@ def mixed() -> bytes:
 
 def all_kinds() -> bytes:
     return bytes_of(ALL_KINDS)
+
+
+class Judged(NamedTuple):
+    """A vector with its verdict: the rule that it breaks, empty if it is accepted, and the place."""
+
+    name: str
+    data: bytes
+    rule: str = ""
+    place: int = 0
+
+
+def judged_vectors() -> Iterator[Judged]:
+    """All vectors, with the verdicts of their profiles."""
+    for file in (*sorted((TOP / "crates/macho_trials/data").glob("*.txt")), TOP / "tests/linked.txt"):
+        for vector in images.read_vectors(file):
+            verdict = re.fullmatch("refused: ([a-z-]+) at 0x([0-9a-f]+)", vector.wanted)
+            named = f"{file.name}: {vector.name}"
+            yield Judged(named, vector.data, verdict[1], int(verdict[2], 16)) if verdict else Judged(named, vector.data)
 
 
 def header() -> bytes:

@@ -18,7 +18,7 @@ STATUSES = {ACCEPTED: 0, SKIPPED: 0, REFUSED: 1, NO_VERDICT: 2}
 # What is asked of an accepted file, besides the verdict: nothing, its text, or its slices as objects. And of the bytes
 # of a refused one.
 Extra = Optional[Callable[[File], Any]]
-ExtraOfRefused = Optional[Callable[[Contents], Any]]
+ExtraOfRefused = Optional[Callable[[Contents, Refused], Any]]
 
 
 class Outcome(NamedTuple):
@@ -144,7 +144,7 @@ def judge(target: Target, choice: Choice) -> Outcome:
         kind = other_kind(refused.rule, refused.place, data)
         word = SKIPPED if kind and choice.skips_other_kinds else REFUSED
         return Outcome(path, word, size, rule=refused.rule, place=refused.place, kind=kind,
-                       extra=choice.of_refused and choice.of_refused(data))
+                       extra=choice.of_refused and choice.of_refused(data, refused))
     except NotMachO:
         return Outcome(path, SKIPPED)
     except Exception as error:  # pylint: disable=broad-except # one file without a verdict is not all of them

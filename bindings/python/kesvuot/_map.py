@@ -5,16 +5,20 @@ from __future__ import annotations
 import json
 import os
 import pkgutil
-from typing import Any, Callable, Dict, FrozenSet, Iterable, Iterator, List, NamedTuple
+from typing import Any, Dict, Iterable, Iterator, List, NamedTuple, Optional
 
+from ._case import is_same
 from ._check import NO_VERDICT, REFUSED, Choice, Outcome, Target, judge
-from ._files import File
+from ._explanation import Explanation, Part as FilePart
+from ._files import File, Refused
 from ._names import size_text
 from ._output import Output, WriteFailed, say
 from ._parts import Part, parts_of
 from ._profiles import link
+from ._reading import Contents
 from ._reports import reason_text, rule_text, shown
 from ._rules import RULES
+from ._stories import Told, told_of
 
 # The page, and where in it the map is put.
 PAGE, PLACE = "map.html", "@MAP@"
@@ -25,18 +29,19 @@ STANDARD_OUTPUT = "-"
 
 
 class Marks(NamedTuple):
-    """The indices of the parts that a refusal is about, and of those with which they conflict, as far as the rule says
-    which they are."""
+    """The index of the part that breaks the rule, and of that with which it conflicts, or in which it should lie. Of
+    each there is one or none."""
 
     broken: List[int]
     others: List[int]
 
 
 class Mapped(NamedTuple):
-    """The parts of a file, and how many bytes of it were read."""
+    """The parts of a file, how many bytes of it were read, and what is told of it if it was refused."""
 
     parts: List[Part]
     size: int
+    told: Optional[Told] = None
 
 
 def map_file(path: str, profile: str, target: str) -> int:
@@ -44,9 +49,7 @@ def map_file(path: str, profile: str, target: str) -> int:
     if _is_same(path, target):
         say(f"{shown(target)}: the map would replace the file")
         return Outcome(path, NO_VERDICT).status
-    choice = Choice(profile, walks=False, extra=_mapped,
-                    of_refused=lambda data: Mapped(parts_of(memoryview(data)), len(data)))
-    outcome = judge(Target(path), choice)
+    outcome = judge(Target(path), Choice(profile, walks=False, extra=_mapped, of_refused=_mapped_refused))
     if outcome.word == NO_VERDICT:
         say(f"{shown(path)}: {outcome.reason}")
     else:
@@ -56,6 +59,10 @@ def map_file(path: str, profile: str, target: str) -> int:
 
 def _mapped(file: File) -> Mapped:
     return Mapped(parts_of(file.data, file), len(file.data))
+
+
+def _mapped_refused(data: Contents, refused: Refused) -> Mapped:
+    return Mapped(parts_of(memoryview(data)), len(data), told_of(data, refused))
 
 
 def _is_same(path: str, target: str) -> bool:
@@ -84,7 +91,8 @@ def page_of(outcome: Outcome, profile: str) -> Iterator[str]:
     """The page, in pieces."""
     before, _, after = (pkgutil.get_data(__package__, PAGE) or b"").decode("utf-8").partition(PLACE)
     parts: List[Part] = outcome.extra.parts
-    marks = marks_of(outcome.rule, outcome.place, parts) if outcome.word == REFUSED else Marks([], [])
+    told = outcome.extra.told
+    marks = marks_of(told.case.explanation, parts) if told else Marks([], [])
     kept = _kept(parts, marks)
     yield before
     yield from _json(_object(outcome, profile, marks, kept), [parts[number] for number in kept])
@@ -121,9 +129,10 @@ def _object(outcome: Outcome, profile: str, marks: Marks, kept: List[int]) -> Di
         rule = RULES[outcome.rule]
         places = {number: place for place, number in enumerate(kept)}
         broken, others = ([places[number] for number in some if number in places] for some in marks)
+        told = outcome.extra.told
         whole.update(verdict=reason_text(outcome), rule=outcome.rule, place=outcome.place, text=rule_text(outcome.rule),
-                     why=rule.why, cause=rule.cause, remedy=rule.remedy, link=link(outcome.rule), broken=broken,
-                     others=others)
+                     says=told.story.says if told else "", why=rule.why, cause=rule.cause, remedy=rule.remedy,
+                     link=link(outcome.rule), broken=broken, others=others)
     return whole
 
 
@@ -148,87 +157,24 @@ def _part_object(part: Part, size: int) -> Dict[str, Any]:
 # The parts that conflict
 
 
-def marks_of(rule: str, place: int, parts: List[Part]) -> Marks:
-    """What is marked in a file that breaks a rule at a place."""
-    broken = _at_place(rule, place, parts)
-    find = OTHERS.get(rule, lambda number, parts: iter(()))
-    found = {number: list(find(number, parts)) for number in broken}
-    if any(found.values()):
-        # A structure may describe several parts.
-        broken = [number for number in broken if found[number]]
-    return Marks(broken, sorted({other for number in broken for other in found[number]} - set(broken)))
+def marks_of(explanation: Explanation, parts: List[Part]) -> Marks:
+    """What is marked in a refused file."""
+    it = explanation
+    # The parts before and after a byte have nothing to do with it, nor has that with the base, from which an entry
+    # counts, with the entry.
+    is_base = it.first and it.first.kind == "segment-memory" and it.first.described != it.at.described
+    if it.at.kind == "byte":
+        return Marks(_holding(it.at.start, parts), [])
+    broken = [] if is_base else _same(it.first, parts)
+    broken = broken or _same(it.at, parts) or _holding(it.at.start, parts)
+    return Marks(broken, sorted(set(_same(it.second, parts)) - set(broken)))
 
 
-def _at_place(rule: str, place: int, parts: List[Part]) -> List[int]:
-    """Those parts that the structure at the place describes, or otherwise the least part that has the place."""
-    wanted = DESCRIBED.get(rule)
-    described = [number for number, part in enumerate(parts) if part.described == place
-                 and (wanted is None or part.kind in wanted)]
-    if described:
-        return described
+def _same(wanted: Optional[FilePart], parts: List[Part]) -> List[int]:
+    return [] if wanted is None else [number for number, part in enumerate(parts) if is_same(part, wanted)][:1]
+
+
+def _holding(place: int, parts: List[Part]) -> List[int]:
+    """The least part that has a place: of some of one size the last, as of bytes that are all of a gap."""
     holding = [number for number, part in enumerate(parts) if part.start <= place < part.start + part.size]
-    return [min(holding, key=lambda number: parts[number].size)] if holding else []
-
-
-Find = Callable[[int, List[Part]], Iterator[int]]
-
-# What of that which a command or a section describes a rule is about.
-ELEMENT_KINDS = frozenset(("section", "relocations", "table"))
-SEGMENT_KINDS, SECTION_KINDS = frozenset(("segment",)), frozenset(("section",))
-SLICE_KINDS = frozenset(("slice", "slice not read"))
-DESCRIBED: Dict[str, FrozenSet[str]] = {
-    **dict.fromkeys(("segment-address", "segment-size", "segment-file", "segment-overlap", "segment-file-overlap"),
-                    SEGMENT_KINDS),
-    **dict.fromkeys(("section-address", "section-file"), SECTION_KINDS), "section-relocs": frozenset(("relocations",)),
-    **dict.fromkeys(("fat-slice-outside", "fat-slice-in-table", "fat-align", "fat-overlap", "fat-duplicate"),
-                    SLICE_KINDS),
-    "table-range": frozenset(("table", "encrypted range")), "element-overlap": ELEMENT_KINDS,
-    "encrypted-range": frozenset(("encrypted range",)), "table-repeated": frozenset(("command",)),
-    "table-home": frozenset(("table",))}
-
-
-def _shares_bytes(kinds: FrozenSet[str]) -> Find:
-    """Finds earlier parts of these kinds that share a byte of the file."""
-    def find(number: int, parts: List[Part]) -> Iterator[int]:
-        part = parts[number]
-        return (other for other in range(number) if parts[other].kind in kinds
-                and max(part.start, parts[other].start) < min(_end(part), _end(parts[other])))
-    return find
-
-
-def _end(part: Part) -> int:
-    return part.start + part.size
-
-
-def _shares_addresses(number: int, parts: List[Part]) -> Iterator[int]:
-    part = parts[number]
-    return (other for other in range(number) if parts[other].kind == "segment" and parts[other].slice == part.slice
-            and max(part.address, parts[other].address)
-            < min(part.address + part.memory, parts[other].address + parts[other].memory))
-
-
-def _same_arch(number: int, parts: List[Part]) -> Iterator[int]:
-    arch = parts[number].name.partition(":")[2]
-    return (other for other in range(number) if parts[other].kind in SLICE_KINDS
-            and parts[other].name.partition(":")[2] == arch)
-
-
-def _its_segment(number: int, parts: List[Part]) -> Iterator[int]:
-    """The segment of a section is the last one before it."""
-    return iter([other for other in range(number) if parts[other].kind == "segment"][-1:])
-
-
-def _named(kind: str, name: str) -> Find:
-    """Finds the parts of this kind and name in the same slice."""
-    def find(number: int, parts: List[Part]) -> Iterator[int]:
-        return (other for other, part in enumerate(parts) if part.kind == kind and part.name == name
-                and part.slice == parts[number].slice)
-    return find
-
-
-OTHERS: Dict[str, Find] = {
-    "fat-overlap": _shares_bytes(SLICE_KINDS), "fat-duplicate": _same_arch, "segment-overlap": _shares_addresses,
-    "section-address": _its_segment, "section-file": _its_segment, "symbol-name": _named("table", "strings"),
-    "symbol-group": _named("table", "symbols"), "indirect-index": _named("table", "symbols"),
-    "segment-file-overlap": _shares_bytes(SEGMENT_KINDS), "element-overlap": _shares_bytes(ELEMENT_KINDS | {"headers"}),
-    "table-home": _named("segment", "__LINKEDIT")}
+    return [min(holding, key=lambda number: (parts[number].size, -number))] if holding else []

@@ -33,6 +33,15 @@ COMMANDS = {
     0x8000_0022: "DYLD_INFO_ONLY", 0x8000_0023: "LOAD_UPWARD_DYLIB", 0x8000_0028: "MAIN",
     0x8000_0033: "DYLD_EXPORTS_TRIE", 0x8000_0034: "DYLD_CHAINED_FIXUPS", 0x8000_0035: "FILESET_ENTRY"}
 
+# The opcodes of LC_DYLD_INFO by their upper four bits: without REBASE_OPCODE_, and without BIND_OPCODE_.
+REBASE_OPCODES = (
+    "DONE", "SET_TYPE_IMM", "SET_SEGMENT_AND_OFFSET_ULEB", "ADD_ADDR_ULEB", "ADD_ADDR_IMM_SCALED",
+    "DO_REBASE_IMM_TIMES", "DO_REBASE_ULEB_TIMES", "DO_REBASE_ADD_ADDR_ULEB", "DO_REBASE_ULEB_TIMES_SKIPPING_ULEB")
+BIND_OPCODES = (
+    "DONE", "SET_DYLIB_ORDINAL_IMM", "SET_DYLIB_ORDINAL_ULEB", "SET_DYLIB_SPECIAL_IMM",
+    "SET_SYMBOL_TRAILING_FLAGS_IMM", "SET_TYPE_IMM", "SET_ADDEND_SLEB", "SET_SEGMENT_AND_OFFSET_ULEB", "ADD_ADDR_ULEB",
+    "DO_BIND", "DO_BIND_ADD_ADDR_ULEB", "DO_BIND_ADD_ADDR_IMM_SCALED", "DO_BIND_ULEB_TIMES_SKIPPING_ULEB")
+
 # VM_PROT_READ, VM_PROT_WRITE and VM_PROT_EXECUTE.
 PROTECTIONS = ("read", "write", "execute")
 
@@ -41,6 +50,12 @@ UNITS = ("B", "KiB", "MiB", "GiB", "TiB", "PiB", "EiB")
 
 def command_name(cmd: int) -> str:
     return f"LC_{COMMANDS[cmd]}" if cmd in COMMANDS else f"command {cmd:#x}"
+
+
+def opcode_name(byte: int, rebases: bool) -> str:
+    """The name of an opcode, or its byte."""
+    family, names = ("REBASE", REBASE_OPCODES) if rebases else ("BIND", BIND_OPCODES)
+    return f"{family}_OPCODE_{names[byte >> 4]}" if byte >> 4 < len(names) else f"the byte {byte:02x}"
 
 
 def platform_name(number: int) -> str:
@@ -55,6 +70,10 @@ def version_text(number: int) -> str:
 def protection_text(bits: int) -> str:
     words = [word for number, word in enumerate(PROTECTIONS) if bits >> number & 1]
     return ", ".join(words) or "no access"
+
+
+def count_text(number: int, word: str) -> str:
+    return f"{number} {word}{'' if number == 1 else 's'}"
 
 
 def size_text(size: int) -> str:

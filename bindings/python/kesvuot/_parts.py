@@ -32,8 +32,8 @@ NAMED = {*LIBRARIES, LC_LOAD_DYLINKER, 0xF, LC_RPATH, 0x27}
 Range = Tuple[int, int]
 
 class TableForm(NamedTuple):
-    """A table that a command names, as in RULES.md: a name, the fields that have the offset and the count, and the bytes
-    of an entry."""
+    """A table that a command names, as in RULES.md: a name, the fields that have the offset and the count, and the
+    bytes of an entry."""
 
     name: str
     start: str
@@ -204,10 +204,10 @@ def _walk(image: memoryview, ncmds: int, end: int) -> Walk:
 
 
 def _name_of(cmd: int, command: memoryview) -> memoryview:
-    """The name that a command has, up to its first zero, or to the end of the command."""
-    if cmd not in NAMED or len(command) < 12:
-        return command[:0]
+    """The name that a command has past its structure, up to its first zero, or to the end of the command."""
     start = int.from_bytes(command[8:12], "little")
+    if cmd not in NAMED or start < size_of(LISTED[cmd]):
+        return command[:0]
     end = bytes(command).find(0, start)
     return command[start:end if end >= 0 else len(command)]
 

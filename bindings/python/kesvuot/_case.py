@@ -1,0 +1,230 @@
+"""A refused file with its explanation: the names of its parts, and the fields that the rule reads."""
+
+from __future__ import annotations
+
+from functools import cached_property
+from typing import Dict, Iterator, List, NamedTuple, Optional, Tuple
+
+from ._explanation import Explanation, Part as FilePart
+from ._files import Refused
+from ._layout import plain
+from ._names import opcode_name
+from ._parts import FAT_ENTRIES, TABLES, Part, image_parts, slices_of
+from ._structures import STRUCTURES, field_of, number_in, size_of, structure_of
+
+# A longer name is cut. One of the file can have any length.
+NAME_LENGTH = 80
+
+# What `_parts` calls that which has a part, or describes it.
+COMMANDS, SEGMENTS, SECTIONS = ("command", "broken walk"), ("segment",), ("section",)
+SLICES, TABLE_KINDS = ("slice", "slice not read"), ("table", "encrypted range")
+KINDS: Dict[str, Tuple[str, ...]] = {
+    "command": COMMANDS, "segment": SEGMENTS, "segment-memory": SEGMENTS,
+    "section": SECTIONS, "section-bytes": SECTIONS, "section-memory": SECTIONS,
+    "relocations": ("relocations",), "table": TABLE_KINDS, "headers": ("headers",),
+    "header": ("header",), "slice": SLICES, "fat-arch": ("entry",),
+    "fat-header": ("universal header",), "fat-table": ("universal header",),
+    "name": COMMANDS, "group": COMMANDS}
+PLAIN_NAMES = {
+    "file": "the file", "magic": "the first bytes", "fat-header": "the fat_header",
+    "fat-table": "the universal table", "header": "the mach_header_64", "headers": "the headers",
+    "name": "the name", "byte": "the byte"}
+# What `_parts` calls a segment and a section without names.
+NAMELESS = ("", "(no name)", ",")
+RELOCATIONS_OF = "relocations of "
+GROUPS = ("local", "defined", "undefined")
+
+# The fields that say where a part is.
+FIELDS = {
+    "fat-table": "nfat_arch", "slice": "offset size", "headers": "sizeofcmds",
+    "command": "cmd cmdsize", "segment": "fileoff filesize", "segment-memory": "vmaddr vmsize",
+    "section-bytes": "offset size", "section-memory": "addr size", "relocations": "reloff nreloc"}
+GROUP_FIELDS = ("ilocalsym nlocalsym", "iextdefsym nextdefsym", "iundefsym nundefsym")
+# Those that a rule reads besides: of the structure at the place, and of that of the second part.
+MORE_FIELDS: Dict[str, Tuple[str, str]] = {
+    "fat-align": ("align", ""), "fat-empty": ("nfat_arch", ""),
+    **dict.fromkeys(("fat-duplicate", "arch-mismatch"), ("cputype cpusubtype", "cputype cpusubtype")),
+    **dict.fromkeys(("file-type", "dylib-id"), ("filetype", "")), "commands-end": ("ncmds", ""),
+    "command-short": ("nsects ntools", ""), "function-variants": ("cmd cmdsize", ""),
+    "name": ("cmdsize name path", ""), "segment-size": ("vmsize", ""),
+    "section-file": ("addr", "vmaddr"),
+    "symbol-section": ("n_type n_sect", ""), "entry": ("entryoff", "filesize initprot"),
+    "header-segment": ("", "vmsize"), "table-home": ("", "vmsize initprot flags"), "header-home": ("", "initprot"),
+    **dict.fromkeys(("rebase-slot", "bind-slot"), ("", "vmsize initprot"))}
+
+
+class Spot(NamedTuple):
+    """A structure in the file, with the fields that the rule reads, in their order."""
+
+    structure: str
+    start: int
+    fields: Tuple[str, ...]
+
+
+class Case:
+    """A refused file."""
+
+    def __init__(self, data: memoryview, refused: Refused, explanation: Explanation) -> None:
+        self.data = data
+        self.rule = refused.rule
+        self.place = refused.place
+        self.explanation = explanation
+        self.entry = FAT_ENTRIES.get(bytes(data[:4])) if refused.rule != "magic" else None
+
+    # Names
+
+    @cached_property
+    def parts(self) -> List[Part]:
+        """The slices, and the parts of that in which the place lies, as far as the headers can be followed."""
+        parts = list(slices_of(self.data))
+        holder = next((part for part in parts if part.kind == "slice" and part.slice == self.explanation.slice), None)
+        return [*parts, *(image_parts(self.data, holder) if holder else ())]
+
+    @property
+    def slice(self) -> Part:
+        """The slice that the place is about, or the first one."""
+        return next(part for part in self.parts if part.kind in SLICES and part.slice == (self.explanation.slice or 0))
+
+    @property
+    def arch(self) -> str:
+        """The architecture of the slice of a universal file that the place is about, if it is about one."""
+        has_slice = self.entry is not None and self.explanation.slice is not None
+        return self.slice.name.partition(": ")[2] if has_slice else ""
+
+    @property
+    def counts_from_slice(self) -> bool:
+        """Whether the fields that the rule reads have offsets that count from the start of a slice of a universal
+        file."""
+        return self.arch != "" and self.explanation.at.kind not in ("fat-arch", "magic")
+
+    def found(self, wanted: FilePart) -> Optional[Part]:
+        """The part of the map that has a part, or is described by the same structure."""
+        return next((part for part in self.parts if is_same(part, wanted)), None)
+
+    def name(self, wanted: FilePart) -> str:
+        """What a part is called."""
+        if wanted.kind in PLAIN_NAMES:
+            return PLAIN_NAMES[wanted.kind]
+        if wanted.kind == "symbol":
+            return f"symbol {wanted.index}{self._symbol_name(wanted)}"
+        if wanted.kind == "opcode":
+            return opcode_name(self.data[wanted.start], self.rule.startswith("rebase-"))
+        if wanted.kind == "indirect":
+            return f"indirect entry {wanted.index}"
+        if wanted.kind == "group":
+            return f"the group of {GROUPS[wanted.index or 0]} symbols"
+        part = self.found(wanted)
+        return self._named(wanted, cut(part.name) if part else "")
+
+    @cached_property
+    def names(self) -> Tuple[str, str]:
+        """What the two parts are called: with the places of their structures, where two are called the same."""
+        parts = self.explanation.first, self.explanation.second
+        one, other = (self.name(part) if part is not None else "" for part in parts)
+        if parts[0] and parts[1] and one == other and parts[0].described != parts[1].described:
+            one, other = (f"{one} (of the structure at {part.described:#x})" for part in parts if part)
+        return one, other
+
+    def _named(self, wanted: FilePart, name: str) -> str:
+        """What a part with a name is called."""
+        if wanted.kind == "slice":
+            return f"slice {wanted.index} ({name.partition(': ')[2] or 'not read'})" if self.entry else "the file"
+        if wanted.kind == "fat-arch":
+            return f"entry {wanted.index} ({name.partition(': ')[2]})"
+        if wanted.kind == "command":
+            return f"command {wanted.index}" + (f" ({name.rstrip()})" if name.startswith("LC_") else "")
+        if wanted.kind == "table":
+            return f"the {name or 'table'}"
+        name = name.partition(RELOCATIONS_OF)[2] if wanted.kind == "relocations" else name
+        kind = f"the {RELOCATIONS_OF}section" if wanted.kind == "relocations" else \
+            "segment" if KINDS[wanted.kind] == SEGMENTS else "section"
+        return f"{kind} {wanted.index if name in NAMELESS else name}"
+
+    def _symbol_name(self, symbol: FilePart) -> str:
+        """The name of a symbol, if it ends in the strings."""
+        strings = next((part for part in self.parts if part.kind == "table" and part.name == "strings"), None)
+        start = number_in(self.data[symbol.start:], "nlist_64", "n_strx")
+        if not strings or not start:
+            return ""
+        table = self.data[strings.start:strings.start + strings.size]
+        end = bytes(table[start:start + NAME_LENGTH + 1]).find(0)
+        return f" ({plain(table[start:start + end])})" if end > 0 else ""
+
+    # Fields
+
+    def structure(self, part: FilePart) -> Optional[Tuple[str, int]]:
+        """The structure that describes a part, and where it begins."""
+        kind, place = part.kind, part.described
+        if kind in ("fat-header", "fat-table"):
+            return "fat_header", 0
+        if kind in ("fat-arch", "slice"):
+            return ("fat_arch" if self.data[3] == 0xBE else "fat_arch_64", place) if self.entry else None
+        if kind in ("header", "headers"):
+            return "mach_header_64", place
+        if kind in ("section", "section-bytes", "section-memory", "relocations"):
+            return "section_64", place
+        if kind == "symbol" or (kind == "name" and self.explanation.symbol is not None):
+            return "nlist_64", place
+        if kind in ("command", "segment", "segment-memory", "table", "group",
+                    "name"):
+            return structure_of(*self._command(place)), place
+        return None
+
+    def _command(self, place: int) -> Tuple[int, int]:
+        """The cmd and the cmdsize of a command."""
+        head = self.data[place:place + 8]
+        return number_in(head, "load_command", "cmd"), number_in(head, "load_command", "cmdsize")
+
+    def _fields(self, part: FilePart, structure: str) -> str:
+        """The fields that say where a part is."""
+        if part.kind == "table":
+            form = TABLES[self._command(part.described)[0]][part.index or 0]
+            return f"{form.start} {form.count}"
+        if part.kind == "group":
+            return GROUP_FIELDS[part.index or 0]
+        if part.kind == "name":
+            return "name path n_strx"
+        return FIELDS.get(part.kind, "") if structure != "fat_header" else "nfat_arch"
+
+    @cached_property
+    def spots(self) -> List[Spot]:
+        """The structures, each with the fields that the rule reads. The first is that at the place, if there is one."""
+        it, more = self.explanation, MORE_FIELDS.get(self.rule, ("", ""))
+        names: Dict[Tuple[str, int], str] = {}
+        for part, others in ((it.at, more[0]), (it.first, ""), (it.second, more[1])):
+            found = self.structure(part) if part else None
+            if part and found:
+                said = self._fields(part, found[0]) if part is not it.at or part == it.first else ""
+                names[found] = f"{names.get(found, '')} {said} {others}"
+        return [Spot(*found, tuple(field.name for field in STRUCTURES[found[0]] if field.name in wanted.split()))
+                for found, wanted in names.items() if wanted.split() or found[1] == it.at.described]
+
+    def number(self, name: str, spot: int = 0) -> int:
+        """The number in a field of one of the structures."""
+        structure, start, _ = self.spots[spot]
+        return number_in(self.data[start:start + size_of(structure)], structure, name)
+
+    def fields(self, spot: Spot) -> Iterator[Tuple[str, int, int, int]]:
+        """The fields of a structure: the name, the place in the file, the size, and the number of each."""
+        data = self.data[spot.start:spot.start + size_of(spot.structure)]
+        for name in spot.fields:
+            field = field_of(spot.structure, name)
+            if field.start + field.width <= len(data):
+                yield name, spot.start + field.start, field.width, number_in(data, spot.structure, name)
+
+
+def cut(text: str) -> str:
+    return text if len(text) <= NAME_LENGTH else f"{text[:NAME_LENGTH]}.."
+
+
+def is_same(part: Part, wanted: FilePart) -> bool:
+    """Whether a part of the map has a part of the explanation, or is described by the same structure."""
+    if part.kind not in KINDS.get(wanted.kind, ()):
+        return False
+    if wanted.kind in ("slice", "fat-arch"):
+        return part.slice == wanted.index
+    if wanted.kind == "table":
+        return part.described == wanted.described and part.start == wanted.start
+    return part.kind == "universal header" or part.described == wanted.described
+
+

@@ -1,0 +1,421 @@
+"""What a refused file is told to have wrong, by each rule: in a sentence, with the numbers that the rule compares."""
+
+from __future__ import annotations
+
+from typing import Callable, Dict, List, NamedTuple, Optional, Tuple
+
+from . import _kinds, _names
+from ._case import Case
+from ._explanation import Part as FilePart, explain
+from ._files import Refused
+from ._names import count_text, protection_text
+from ._parts import arch_name
+from ._reading import Contents
+from ._structures import number_in
+
+Number = Tuple[str, int]
+
+NO_PART = FilePart("", None, 0, 0, 0)
+LC_ID_DYLIB = "LC_ID_DYLIB"
+READ, WRITE = 1, 2
+SG_PROTECTED_VERSION_1 = 8
+POINTER = 1
+# The least ordinal of a library, BIND_SPECIAL_DYLIB_WEAK_LOOKUP.
+LEAST_ORDINAL = -3
+
+
+class Story(NamedTuple):
+    """A sentence, and the numbers with what they are."""
+
+    says: str
+    numbers: List[Number]
+
+
+class Teller:
+    """The words for a case: its names and numbers."""
+
+    def __init__(self, case: Case) -> None:
+        self.case = case
+        it = case.explanation
+        self.at_part, self.first_part, self.second_part = (part or NO_PART for part in (it.at, it.first, it.second))
+        self.at = case.name(self.at_part)
+        self.first, self.second = case.names
+        self.value, self.limit = it.value, it.limit
+        # What a part should end in: the slice, which is the whole file if there is no other.
+        self.whole = f"slice {it.slice}" if case.entry else "the file"
+
+    def story(self, says: str, value: str = "", limit: str = "") -> Story:
+        """A story, with the names of its two numbers, if they have some."""
+        numbers = [(name, number) for name, number in ((value, self.value), (limit, self.limit)) if name]
+        return Story(says[0].upper() + says[1:], numbers)
+
+    def goes_past(self, what: str, verb: str, value: str) -> Story:
+        """A part ends past the slice."""
+        return self.story(f"{what} {verb} at {self.value:#x}, past the end of {self.whole}, {self.limit:#x}.", value,
+                          f"length of {self.whole}")
+
+    def shares(self) -> Story:
+        """Two parts share bytes or addresses, from `value` up to and with `limit`."""
+        is_memory = self.first_part.kind == "segment-memory"
+        one, some = ("address", "addresses") if is_memory else ("byte", "bytes")
+        shared = f"{some} {self.value:#x} up to {self.limit + 1:#x}" if self.value < self.limit else \
+            f"{one} {self.value:#x}"
+        return self.story(f"{self.first} and {self.second} share the {shared}.", f"first shared {one}",
+                          f"last shared {one}")
+
+    def lies_between(self, says: str) -> Story:
+        """A byte lies between two parts, of which either may not be there."""
+        sides = [f"{word} {part}" for word, part in (("after", self.first), ("before", self.second)) if part]
+        return self.story(f"the byte {self.value:02x} {says}{', ' if sides else ''}{' and '.join(sides)}.", "byte")
+
+
+def _arch(number: int) -> str:
+    return arch_name(number >> 32, number & 0xFFFF_FFFF)
+
+
+def _are(number: int, word: str) -> str:
+    return f"{'is' if number == 1 else 'are'} {count_text(number, word)}"
+
+
+def _filetype(number: int) -> str:
+    name = _names.FILETYPES.get(number) or _kinds.FILETYPES.get(number)
+    return f"{number}{f' ({name})' if name else ''}"
+
+
+# Rules of the file
+
+
+def _magic(it: Teller) -> Story:
+    size = len(it.case.data)
+    if size < 4:
+        return it.story(f"the file has {count_text(size, 'byte')}, and a magic number has 4.")
+    return it.story(f"the file begins with {it.case.data[:4].hex(' ')}, which is none of the magic numbers that are "
+                    "judged.", "magic number", "MH_MAGIC_64")
+
+
+def _fat_truncated(it: Teller) -> Story:
+    if it.first_part.kind == "fat-header":
+        return it.story(f"the file has {it.limit} bytes, and a fat_header has 8.", "size of a fat_header",
+                        "length of the file")
+    return it.story(f"the universal table, with nfat_arch {it.case.number('nfat_arch')}, ends at {it.value:#x}, past "
+                    f"the end of the file, {it.limit:#x}.", "end of the table", "length of the file")
+
+
+def _fat_slice_outside(it: Teller) -> Story:
+    return it.story(f"{it.first} ends at {it.value:#x}, past the end of the file, {it.limit:#x}.", "offset + size",
+                    "length of the file")
+
+
+def _fat_slice_in_table(it: Teller) -> Story:
+    return it.story(f"{it.first} begins at {it.value:#x}, in the universal table, which ends at {it.limit:#x}.",
+                    "offset", "end of the table")
+
+
+def _fat_align(it: Teller) -> Story:
+    align = it.case.number("align")
+    return it.story(f"{it.first} begins at {it.value:#x}, which is no multiple of 2^{align}.", "offset",
+                    "2^align" if it.limit else "")
+
+
+def _fat_duplicate(it: Teller) -> Story:
+    return it.story(f"{it.first} and {it.second} have the same architecture.")
+
+
+def _fat_slice_magic(it: Teller) -> Story:
+    start = bytes(it.case.data[it.at_part.start:it.at_part.start + it.at_part.size])
+    if len(start) < 4:
+        return it.story(f"slice {it.first_part.index} has {count_text(len(start), 'byte')}, and a magic number has 4.")
+    return it.story(f"slice {it.first_part.index} begins with {start.hex(' ')}, which is no magic number of an image.",
+                    "magic number", "MH_MAGIC_64")
+
+
+def _fat_empty(it: Teller) -> Story:
+    slices = count_text(it.case.number("nfat_arch"), "slice")
+    return it.story(f"the file has {slices}, and no 64-bit little-endian image.",
+                    "64-bit slices", "least number of them")
+
+
+# Rules of the header and the load commands
+
+
+def _header_truncated(it: Teller) -> Story:
+    return it.story(f"{it.second} has {it.limit} bytes, and a mach_header_64 has 32.", "size of a mach_header_64",
+                    f"length of {it.whole}")
+
+
+def _arch_mismatch(it: Teller) -> Story:
+    return it.story(f"the header is for {_arch(it.value)}, and entry {it.second_part.index} of the universal table "
+                    f"for {_arch(it.limit)}.")
+
+
+def _file_type(it: Teller) -> Story:
+    judged = ", ".join(map(_filetype, _names.FILETYPES))
+    return it.story(f"the filetype is {_filetype(it.value)}. Those that are judged are {judged}.", "filetype")
+
+
+def _command_walk(it: Teller) -> Story:
+    index, start = it.first_part.index, it.first_part.start - it.case.slice.start
+    if not it.second:
+        why = "below 8" if it.value < 8 else "no multiple of 8"
+        return it.story(f"command {index} has a cmdsize of {it.value}, which is {why}.", "cmdsize", "least cmdsize")
+    if start + 8 > it.limit:
+        return it.story(f"there is no room for command {index}, which would begin at {start:#x}: the load commands end "
+                        f"at {it.limit:#x}.", "end of its first 8 bytes", "32 + sizeofcmds")
+    return it.story(f"command {index} ends at {it.value:#x}, past the end of the load commands, {it.limit:#x}.",
+                    "end of the command", "32 + sizeofcmds")
+
+
+def _command_short(it: Teller) -> Story:
+    return it.story(f"{it.first} has a cmdsize of {it.value}, and needs {it.limit} bytes.", "cmdsize",
+                    "least cmdsize")
+
+
+def _command_repeated(it: Teller) -> Story:
+    return it.story(f"{it.first} comes after {it.second}, and an image has at most one of this kind.", "cmd")
+
+
+def _dylib_id(it: Teller) -> Story:
+    filetype = _filetype(it.case.number("filetype"))
+    if it.second:
+        return it.story(f"the image has an {LC_ID_DYLIB}, {it.second}, and none of filetype {filetype} has one.")
+    return it.story(f"the image has no {LC_ID_DYLIB}, and each of filetype {filetype} has one.")
+
+
+def _name(it: Teller) -> Story:
+    if not it.second:
+        return it.story(f"the name of {it.at} begins at {it.value}, in its structure, which has {it.limit} bytes.",
+                        "name offset", "least name offset")
+    if it.value >= it.limit:
+        return it.story(f"the name of {it.at} begins at {it.value}, and the command has {it.limit} bytes.",
+                        "name offset", "cmdsize")
+    return it.story(f"the name of {it.at} does not end: no byte from {it.first_part.start:#x} up to the end of the "
+                    "command is 0.", "name offset", "cmdsize")
+
+
+# Rules of segments and sections
+
+
+def _segment_address(it: Teller) -> Story:
+    return it.story(f"{it.first} has {it.value:#x} addresses from {it.first_part.start:#x} on, and they go past 2^64.",
+                    "vmsize", "2^64 - vmaddr")
+
+
+def _segment_size(it: Teller) -> Story:
+    return it.story(f"{it.first} has {it.value:#x} bytes in the file, and {it.limit:#x} addresses for them.",
+                    "filesize", "vmsize")
+
+
+def _section_address(it: Teller) -> Story:
+    if it.value < it.limit:
+        return it.story(f"{it.first} begins at address {it.value:#x}, and {it.second}, which has it, at {it.limit:#x}.",
+                        "addr", "vmaddr")
+    return it.story(f"the last address of {it.first} is {it.value:#x}, and that of {it.second}, which has it, is "
+                    f"{it.limit:#x}.", "last address of the section", "last address of the segment")
+
+
+def _section_file(it: Teller) -> Story:
+    if it.second_part.kind == "slice":
+        return it.goes_past(f"the bytes of {it.first}", "end", "offset + size")
+    if it.value == it.case.number("offset"):
+        return it.story(f"the bytes of {it.first} begin at {it.value:#x}. By its address they should begin at "
+                        f"{it.limit:#x}.", "offset", "fileoff + addr - vmaddr")
+    return it.story(f"the bytes of {it.first} end at {it.value:#x}, past those of {it.second}, which end at "
+                    f"{it.limit:#x}.", "offset + size", "fileoff + filesize")
+
+
+# Rules of tables and symbols, and of the entry
+
+
+def _symbol_group(it: Teller) -> Story:
+    return it.story(f"{it.first} goes up to symbol {it.value}, and there {_are(it.limit, 'symbol')}.",
+                    "first index + count", "number of symbols")
+
+
+def _symbol_name(it: Teller) -> Story:
+    if it.value >= it.limit:
+        return it.story(f"the name of {it.at} begins at {it.value:#x} of the strings, which have {it.limit:#x} bytes.",
+                        "n_strx", "strsize")
+    return it.story(f"the name of {it.at} does not end: no byte from {it.first_part.start:#x} up to the end of the "
+                    "strings is 0.", "n_strx", "strsize")
+
+
+def _symbol_section(it: Teller) -> Story:
+    return it.story(f"{it.at} is in section {it.value}, and sections are numbered from 1 up to {it.limit}."
+                    if it.limit else f"{it.at} is in section {it.value}, and there is no section.", "n_sect",
+                    "number of sections")
+
+
+def _indirect_index(it: Teller) -> Story:
+    return it.story(f"{it.at} is for symbol {it.value}, and there {_are(it.limit, 'symbol')}.", "index",
+                    "number of symbols")
+
+
+def _entry(it: Teller) -> Story:
+    if not it.first:
+        return it.story("no mapped segment has the start of the file, from whose address the entry counts.", "entryoff")
+    if not it.second:
+        return it.story(f"the entry is at address {it.value:#x}, which is in no segment.", "entry address")
+    if it.value >= it.limit:
+        return it.story(f"the entry is at address {it.value:#x} of {it.second}, whose bytes in the file end at "
+                        f"{it.limit:#x}.", "entry address", "vmaddr + filesize")
+    return it.story(f"the entry is at address {it.value:#x} of {it.second}, which is not executable: "
+                    f"{protection_text(_segment_number(it, 'initprot'))}.", "entry address", "vmaddr + filesize")
+
+
+def _segment_number(it: Teller, field: str) -> int:
+    """A number of the command of the second part, which is a segment."""
+    return number_in(it.case.data[it.second_part.described:], "segment_command_64", field)
+
+
+# The strict profile
+
+
+def _commands_end(it: Teller) -> Story:
+    what = f"the last one, {it.first}, ends at {it.value:#x}" if it.first else "there is none"
+    return it.story(f"the load commands end at {it.limit:#x}, and {what}.", "end of the last command",
+                    "32 + sizeofcmds")
+
+
+def _header_segment(it: Teller) -> Story:
+    if not it.second:
+        return it.story(f"no mapped segment has the headers, which end at {it.value:#x}.", "32 + sizeofcmds")
+    return it.story(f"{it.second} has the first {it.limit:#x} bytes, and the headers have {it.value:#x}.",
+                    "32 + sizeofcmds", "filesize")
+
+
+def _element_overlap(it: Teller) -> Story:
+    if it.second_part.kind == "slice":
+        return it.goes_past(f"the range of {it.first}", "ends", "end of the range")
+    return it.shares()
+
+
+def _encrypted_range(it: Teller) -> Story:
+    if it.second_part.kind == "headers":
+        return it.story(f"the encrypted range begins at {it.value:#x}, in the headers, which end at {it.limit:#x}.",
+                        "cryptoff", "32 + sizeofcmds")
+    if not it.second:
+        return it.story(f"the encrypted range begins at {it.value:#x}, which is in no segment.", "cryptoff")
+    return it.story(f"the encrypted range ends at {it.value:#x}, past the bytes of {it.second}, which end at "
+                    f"{it.limit:#x}.", "cryptoff + cryptsize", "fileoff + filesize")
+
+
+# The linked profile
+
+
+def _table_home(it: Teller) -> Story:
+    if it.second_part.kind == "table":
+        return it.shares()
+    if not it.second:
+        return it.story(f"there is no segment __LINKEDIT, which {it.first} should lie in.", "end of the table")
+    flags, initprot = _segment_number(it, "flags"), _segment_number(it, "initprot")
+    is_inside = it.second_part.start <= it.first_part.start and it.first_part.end <= it.second_part.end
+    faults = [fault for fault, is_so in (
+        ("does not have all their bytes", not is_inside), ("is not mapped", not _segment_number(it, "vmsize")),
+        ("cannot be read", not initprot & READ), ("can be written", initprot & WRITE),
+        ("is encrypted", flags & SG_PROTECTED_VERSION_1)) if is_so]
+    return it.story(f"the bytes of {it.first} should lie in {it.second}, which {' and '.join(faults)}.",
+                    "end of the table", "fileoff + filesize")
+
+
+def _header_home(it: Teller) -> Story:
+    if not it.second:
+        return it.story("no mapped segment has the headers, which a loader reads.")
+    how = "can be written" if it.value & WRITE else "cannot be read"
+    return it.story(f"{it.second} has the headers, which a loader reads, and {how}.", "initprot")
+
+
+def _opcode(it: Teller) -> Story:
+    """An opcode that is not known, or is broken."""
+    byte, numbers = it.value, ("byte", "greatest opcode")
+    if byte > it.limit:
+        return it.story(f"no opcode has the byte {byte:02x}.", *numbers)
+    if "SET_TYPE_IMM" in it.at and byte & 0xF != POINTER:
+        return it.story(f"{it.at} sets the type {byte & 0xF}, and {POINTER}, a pointer, is the one that is judged.",
+                        *numbers)
+    if it.at.endswith("_DONE"):
+        return it.story(f"{it.at} ends {it.first}, and a byte after it is not 0.", *numbers)
+    what = "the name" if "SYMBOL" in it.at else "a number"
+    return it.story(f"{what} of {it.at} does not end in {it.first}, or is too large.", *numbers)
+
+
+def _slot(it: Teller) -> Story:
+    numbers = "end of the last pointer in the segment", "writable bytes of the segment"
+    if not it.second:
+        return it.story(f"{it.at} writes to a segment that is not set, or that there is not.", *numbers)
+    if not _segment_number(it, "vmsize") or not _segment_number(it, "initprot") & WRITE:
+        return it.story(f"{it.at} writes to {it.second}, which cannot be written: "
+                        f"{protection_text(_segment_number(it, 'initprot'))}.", *numbers)
+    return it.story(f"{it.at} writes up to {it.value:#x} of {it.second}, which has {it.limit:#x} bytes in the file.",
+                    *numbers)
+
+
+def _total(it: Teller) -> Story:
+    asked = count_text(it.value, "pointer")
+    return it.story(f"up to and with {it.at}, {it.first} ask for {asked}, and the writable segments have room for "
+                    f"{it.limit}.", "pointers asked for", "pointers in writable segments")
+
+
+def _bind_library(it: Teller) -> Story:
+    ordinal = it.value - (1 << 64) if it.value >> 63 and "SPECIAL" in it.at else it.value
+    why = f"the least is {LEAST_ORDINAL}" if ordinal < 0 else f"the image loads {it.limit}"
+    return it.story(f"{it.at} sets library {ordinal}, and {why}.", "ordinal", "number of libraries")
+
+
+def _bind_symbol(it: Teller) -> Story:
+    return it.story(f"{it.at} binds {count_text(it.value, 'pointer')}, and no name is set.", "count")
+
+
+def _bind_names(it: Teller) -> Story:
+    return it.story(f"up to and with {it.at}, names of {it.value} bytes are looked up, and {it.first} have "
+                    f"{it.limit} bytes.", "bytes of names", "bytes of the stream")
+
+
+def _function_variants(it: Teller) -> Story:
+    return it.story(f"by {it.at} newer loaders write to the image, and no rule reads what it names.", "cmd")
+
+
+def _table_repeated(it: Teller) -> Story:
+    return it.story(f"{it.first} names linked data of a kind that {it.second} names as well.", "cmd of the later",
+                    "cmd of the earlier")
+
+
+STORIES: Dict[str, Callable[[Teller], Story]] = {
+    "magic": _magic, "fat-truncated": _fat_truncated, "fat-slice-outside": _fat_slice_outside,
+    "fat-slice-in-table": _fat_slice_in_table, "fat-align": _fat_align, "fat-overlap": Teller.shares,
+    "fat-duplicate": _fat_duplicate, "fat-slice-magic": _fat_slice_magic, "fat-empty": _fat_empty,
+    "header-truncated": _header_truncated, "arch-mismatch": _arch_mismatch, "file-type": _file_type,
+    "commands-outside": lambda it: it.goes_past("the range of the load commands", "ends", "32 + sizeofcmds"),
+    "command-walk": _command_walk, "command-short": _command_short, "command-repeated": _command_repeated,
+    "dylib-id": _dylib_id, "name": _name, "segment-address": _segment_address, "segment-size": _segment_size,
+    "segment-file": lambda it: it.goes_past(f"the bytes of {it.first}", "end", "fileoff + filesize"),
+    "segment-overlap": Teller.shares, "section-address": _section_address, "section-file": _section_file,
+    "section-relocs": lambda it: it.goes_past(f"the range of {it.first}", "ends", "reloff + 8 * nreloc"),
+    "table-range": lambda it: it.goes_past(f"the range of {it.first}", "ends", "end of the table"),
+    "symbol-group": _symbol_group, "symbol-name": _symbol_name, "symbol-section": _symbol_section,
+    "indirect-index": _indirect_index, "entry": _entry,
+    "fat-stray-byte": lambda it: it.lies_between("is in no slice"), "commands-end": _commands_end,
+    "header-segment": _header_segment, "segment-file-overlap": Teller.shares, "element-overlap": _element_overlap,
+    "stray-byte": lambda it: it.lies_between("is in no segment"), "encrypted-range": _encrypted_range,
+    "command-slack": lambda it: it.story(f"the byte {it.value:02x} of {it.first} is past its structure, its records "
+                                         "and its name.", "byte"),
+    "unclaimed-byte": lambda it: it.lies_between("is in no part that the headers describe"),
+    "table-repeated": _table_repeated, "function-variants": _function_variants, "table-home": _table_home,
+    "header-home": _header_home, "rebase-opcode": _opcode, "rebase-slot": _slot, "rebase-total": _total,
+    "bind-opcode": _opcode, "bind-library": _bind_library, "bind-symbol": _bind_symbol, "bind-slot": _slot,
+    "bind-total": _total, "bind-names": _bind_names}
+
+
+class Told(NamedTuple):
+    """A refused file, and what is told of it."""
+
+    case: Case
+    story: Story
+
+
+def told_of(data: Contents, refused: Refused) -> Optional[Told]:
+    """What is told of a file that was refused, or None if the verdict is not of these bytes."""
+    found = explain(data, refused)
+    if found is None:
+        return None
+    case = Case(memoryview(data), refused, found)
+    return Told(case, STORIES[case.rule](Teller(case)))
