@@ -11,12 +11,12 @@ _kesvuot() {
         --include | --exclude | --jobs) return ;;
         *)
             if ((COMP_CWORD == 1)) && [[ $current != */* ]]; then
-                words="check show diff map --help --version"
+                words="check explain show diff map --help --version"
             elif [[ $current == -* ]]; then
                 case ${COMP_WORDS[1]} in
                     check) words="--exclude --format --help --include --jobs --mmap --no-progress --profile --quiet
                         --skip-other-kinds" ;;
-                    show) words="--help --json --profile" ;;
+                    explain | show) words="--help --json --profile" ;;
                     diff) words="--help --profile" ;;
                     map) words="--help --output --profile" ;;
                 esac

@@ -1,9 +1,10 @@
 # Completion of kesvuot(1) for fish.
 
-set -l commands check show diff map
+set -l commands check explain show diff map
 set -l none "not __fish_seen_subcommand_from $commands"
 
 complete -c kesvuot -n $none -a check -d 'Judge files and folders'
+complete -c kesvuot -n $none -a explain -d 'Say why a file is refused'
 complete -c kesvuot -n $none -a show -d 'Show the layout of a file'
 complete -c kesvuot -n $none -a diff -d 'Compare the layouts of two files'
 complete -c kesvuot -n $none -a map -d 'Draw a file and its address space'
@@ -21,6 +22,7 @@ complete -c kesvuot -n '__fish_seen_subcommand_from check' -l mmap -d 'Map files
 complete -c kesvuot -n '__fish_seen_subcommand_from check' -s q -l quiet -d 'Print only files that are not accepted'
 complete -c kesvuot -n '__fish_seen_subcommand_from check' -l no-progress -d 'Show no bar'
 
+complete -c kesvuot -n '__fish_seen_subcommand_from explain' -l json -d 'Print an object'
 complete -c kesvuot -n '__fish_seen_subcommand_from show' -l json -d 'Print an object with all fields'
 
 complete -c kesvuot -n '__fish_seen_subcommand_from map' -s o -l output -r -F -d 'The file to write'

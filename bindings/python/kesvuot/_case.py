@@ -3,15 +3,16 @@
 from __future__ import annotations
 
 from functools import cached_property
-from typing import Dict, Iterator, List, NamedTuple, Optional, Tuple
+from typing import Any, Dict, Iterator, List, NamedTuple, Optional, Tuple
 
 from ._explanation import Explanation, Part as FilePart
 from ._files import Refused
 from ._layout import plain
 from ._names import opcode_name
-from ._parts import FAT_ENTRIES, TABLES, Part, image_parts, slices_of
+from ._parts import FAT_ENTRIES, TABLES, Part, TableForm, image_parts, slices_of
 from ._structures import STRUCTURES, field_of, number_in, size_of, structure_of
 
+LC_SYMTAB = 0x2
 # A longer name is cut. One of the file can have any length.
 NAME_LENGTH = 80
 
@@ -75,10 +76,17 @@ class Case:
 
     @cached_property
     def parts(self) -> List[Part]:
-        """The slices, and the parts of that in which the place lies, as far as the headers can be followed."""
+        """The slices; and of that which the place is about the headers, and what is described by those commands that
+        have to do with it, as far as the headers can be followed."""
+        it = self.explanation
+        places = {self.place, *(part.described for part in (it.at, it.first, it.second) if part)}
+
+        def is_wanted(place: int, command: Any) -> bool:
+            return command.cmd == LC_SYMTAB or any(place <= it < place + len(command.bytes) for it in places)
+
         parts = list(slices_of(self.data))
-        holder = next((part for part in parts if part.kind == "slice" and part.slice == self.explanation.slice), None)
-        return [*parts, *(image_parts(self.data, holder) if holder else ())]
+        holder = next((part for part in parts if part.kind == "slice" and part.slice == it.slice), None)
+        return [*parts, *(image_parts(self.data, holder, is_wanted=is_wanted) if holder else ())]
 
     @property
     def slice(self) -> Part:
@@ -134,7 +142,8 @@ class Case:
         if wanted.kind == "command":
             return f"command {wanted.index}" + (f" ({name.rstrip()})" if name.startswith("LC_") else "")
         if wanted.kind == "table":
-            return f"the {name or 'table'}"
+            # A table without bytes is no part of the map.
+            return f"the {name or self._table(wanted).name}"
         name = name.partition(RELOCATIONS_OF)[2] if wanted.kind == "relocations" else name
         kind = f"the {RELOCATIONS_OF}section" if wanted.kind == "relocations" else \
             "segment" if KINDS[wanted.kind] == SEGMENTS else "section"
@@ -175,11 +184,13 @@ class Case:
         head = self.data[place:place + 8]
         return number_in(head, "load_command", "cmd"), number_in(head, "load_command", "cmdsize")
 
+    def _table(self, part: FilePart) -> TableForm:
+        return TABLES[self._command(part.described)[0]][part.index or 0]
+
     def _fields(self, part: FilePart, structure: str) -> str:
         """The fields that say where a part is."""
         if part.kind == "table":
-            form = TABLES[self._command(part.described)[0]][part.index or 0]
-            return f"{form.start} {form.count}"
+            return f"{self._table(part).start} {self._table(part).count}"
         if part.kind == "group":
             return GROUP_FIELDS[part.index or 0]
         if part.kind == "name":

@@ -7,7 +7,7 @@ import re
 from bisect import bisect_right
 from itertools import chain
 from struct import Struct
-from typing import Any, Dict, Iterable, Iterator, List, NamedTuple, Optional, Sequence, Tuple
+from typing import Any, Callable, Dict, Iterable, Iterator, List, NamedTuple, Optional, Sequence, Tuple
 
 from ._files import ARCHITECTURES, File, Image
 from ._layout import plain
@@ -162,8 +162,10 @@ class Walk(NamedTuple):
     is_whole: bool
 
 
-def image_parts(data: memoryview, part: Part, accepted: Optional[Image] = None) -> Iterator[Part]:
-    """The parts of an image, which is a slice."""
+def image_parts(data: memoryview, part: Part, accepted: Optional[Image] = None,
+                is_wanted: Optional[Callable[[int, Any], bool]] = None) -> Iterator[Part]:
+    """The parts of an image, which is a slice: those of all commands, or of those that are wanted, by their places in
+    the file."""
     image = data[part.start:part.start + part.size]
     if len(image) < HEADER.size:
         return
@@ -173,12 +175,14 @@ def image_parts(data: memoryview, part: Part, accepted: Optional[Image] = None) 
     yield Part("header", "mach_header_64", 3, part.start, HEADER.size, part.slice, part.start)
     end = HEADER.size
     for command in walk.commands:
+        end = command.place + len(command.bytes)
+        if is_wanted and not is_wanted(part.start + command.place, command):
+            continue
         yield _command_part(part, command)
         yield from _described(part, command)
         for start, stop in _slack(command):
             place = part.start + command.place
             yield from _runs(data, (place + start, place + stop), part.slice, False)
-        end = command.place + len(command.bytes)
     if not walk.is_whole:
         size = int.from_bytes(image[end + 4:end + 8], "little")
         yield Part("broken walk", "where the load commands cannot be followed", 3, part.start + end, size, part.slice,
@@ -190,7 +194,7 @@ def image_parts(data: memoryview, part: Part, accepted: Optional[Image] = None) 
 def _walk(image: memoryview, ncmds: int, end: int) -> Walk:
     """The commands as far as each has a cmdsize that can be, and lies among the commands and in the image."""
     commands: List[Step] = []
-    place, end = HEADER.size, min(end, len(image))
+    place, end, no_name = HEADER.size, min(end, len(image)), image[:0]
     while len(commands) < ncmds:
         if place + COMMAND.size > end:
             return Walk(commands, False)
@@ -198,15 +202,16 @@ def _walk(image: memoryview, ncmds: int, end: int) -> Walk:
         if size < COMMAND.size or size % COMMAND_ALIGN or place + size > end:
             return Walk(commands, False)
         command = image[place:place + size]
-        commands.append(Step(command, _name_of(cmd, command), place, cmd))
+        commands.append(Step(command, _name_of(cmd, command) if cmd in NAMED else no_name, place, cmd))
         place += size
     return Walk(commands, True)
 
 
 def _name_of(cmd: int, command: memoryview) -> memoryview:
-    """The name that a command has past its structure, up to its first zero, or to the end of the command."""
+    """The name that a command of a kind with names has past its structure, up to its first zero, or to the end of the
+    command."""
     start = int.from_bytes(command[8:12], "little")
-    if cmd not in NAMED or start < size_of(LISTED[cmd]):
+    if start < size_of(LISTED[cmd]):
         return command[:0]
     end = bytes(command).find(0, start)
     return command[start:end if end >= 0 else len(command)]

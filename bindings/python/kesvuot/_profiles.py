@@ -12,18 +12,24 @@ from ._rules import RULES
 
 
 class Profile(NamedTuple):
-    """What judges a file by a profile, the page that explains the rules which it adds, and what the help says of them.
-    The page is installed in share/doc/kesvuot."""
+    """What judges a file by a profile, the page that explains the rules which it adds, and what the help says of them;
+    what these rules judge; and where it is said what the profile leaves open. The pages are installed in
+    share/doc/kesvuot."""
 
     verify: Callable[[Data], File]
     page: str
     text: str
+    adds: str
+    leaves: str
 
 
 PROFILES: Dict[str, Profile] = {
-    "layout": Profile(_files.verify, "RULES.md", "as macho-check (the default)"),
-    "strict": Profile(partial(_files.verify, strict=True), "RULES.md", "as macho-strict, with more"),
-    "linked": Profile(_files.verify_linked, "LINKED.md", "as macho-linked, with still more")}
+    "layout": Profile(_files.verify, "RULES.md", "as macho-check (the default)",
+                      "where the parts that the headers describe lie", "RULES.md#not-judged"),
+    "strict": Profile(partial(_files.verify, strict=True), "RULES.md", "as macho-strict, with more",
+                      "bytes that no header accounts for, or that two parts share", "RULES.md#the-strict-profile"),
+    "linked": Profile(_files.verify_linked, "LINKED.md", "as macho-linked, with still more",
+                      "where linked data lies, and the opcodes of LC_DYLD_INFO", "LINKED.md#what-is-still-open")}
 DEFAULT = "layout"
 
 

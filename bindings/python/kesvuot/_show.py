@@ -10,7 +10,8 @@ from ._check import ACCEPTED, NO_VERDICT, Choice, Outcome, Target, judge
 from ._files import File, Image, Slice
 from ._layout import layout_objects, libraries_of, plain
 from ._names import (
-    FILETYPES, LC_LOAD_DYLINKER, LC_RPATH, LIBRARIES, platform_name, protection_text, size_text, version_text)
+    FILETYPES, LC_LOAD_DYLINKER, LC_RPATH, LIBRARIES, count_text, platform_name, protection_text, size_text,
+    version_text)
 from ._output import Output, say
 from ._reports import check_object, reason_text, shown
 
@@ -28,7 +29,7 @@ def show(path: str, profile: str, as_json: bool) -> int:
     if as_json:
         output.write(json.dumps(_object(outcome, profile), indent=1) + "\n")
     elif outcome.word == ACCEPTED:
-        output.write(f"{shown(path)}: accepted, {size_text(outcome.size)}, {_count(outcome.slices, 'slice')}\n")
+        output.write(f"{shown(path)}: accepted, {size_text(outcome.size)}, {count_text(outcome.slices, 'slice')}\n")
         for line in outcome.extra:
             output.write(f"{line}\n".replace(" \n", "\n"))
     elif outcome.word == NO_VERDICT:
@@ -46,10 +47,6 @@ def _object(outcome: Outcome, profile: str) -> Dict[str, Any]:
     return whole
 
 
-def _count(number: int, word: str) -> str:
-    return f"{number} {word}{'' if number == 1 else 's'}"
-
-
 def _lines(file: File) -> Iterator[str]:
     for part in file.slices:
         yield ""
@@ -60,16 +57,16 @@ def _slice_lines(part: Slice) -> Iterator[str]:
     kind = FILETYPES.get(part.filetype, "") if isinstance(part, Image) else "image that is not judged"
     yield f"slice {part.index}: {part.arch} {kind}, {size_text(len(part.bytes))} at {part.place:#x}"
     if isinstance(part, Image):
-        yield from _table(partial(_properties, part))
+        yield from columns(partial(_properties, part))
         if len(part.segments):
             yield ""
-            yield from _table(partial(_segments, part))
+            yield from columns(partial(_segments, part))
         if libraries_of(part):
             yield ""
-            yield from _table(partial(_libraries, part))
+            yield from columns(partial(_libraries, part))
 
 
-def _table(rows: Callable[[], Iterator[Cells]]) -> Iterator[str]:
+def columns(rows: Callable[[], Iterator[Cells]]) -> Iterator[str]:
     """Rows with columns of one width. They are read twice, because there may be millions."""
     widths: List[int] = []
     for row in rows():

@@ -11,6 +11,7 @@ from typing import Any, Callable, Dict, List
 from . import _check, library_version
 from ._check import ACCEPTED, NO_VERDICT, REFUSED, Choice, Outcome, Summary, judge_all
 from ._diff import diff
+from ._explain import explain_file
 from ._files import File
 from ._layout import slice_objects
 from ._map import STANDARD_OUTPUT, map_file
@@ -38,6 +39,7 @@ examples:
   kesvuot check --exclude '*.class' -q build     only those that are not accepted
   kesvuot check --format sarif dist >kesvuot.sarif
   curl -s URL | kesvuot check -                  standard input
+  kesvuot explain dist/cut                       why a file is refused
   kesvuot show program                           the layout of an accepted file
   kesvuot diff program program.stripped          what strip has changed
   kesvuot map program -o map.html                a page that shows where everything is
@@ -217,7 +219,11 @@ judges those files that begin with a magic number of Mach-O, and follows no link
     parser.add_argument("--no-progress", action="store_true", help="show no bar on a terminal")
 
 
-# show, diff and map
+# explain, show, diff and map
+
+
+def _explain(words: argparse.Namespace) -> int:
+    return explain_file(words.file, words.profile, words.json)
 
 
 def _show(words: argparse.Namespace) -> int:
@@ -230,6 +236,14 @@ def _diff(words: argparse.Namespace) -> int:
 
 def _map(words: argparse.Namespace) -> int:
     return map_file(words.file, words.profile, words.output)
+
+
+def _add_explain(commands: Any) -> None:
+    parser = _add_command(commands, "explain", _explain, "say why a file is refused", """\
+Says of a refused file which parts of it are in conflict, and shows the numbers and the bytes, what usually breaks the
+rule, and what to do. Of an accepted file it says what was not judged.""")
+    parser.add_argument("--json", action="store_true", help="print an object with all of that")
+    parser.add_argument("file", metavar="FILE", help="a file, or - for standard input")
 
 
 def _add_show(commands: Any) -> None:
@@ -260,7 +274,7 @@ refused file it shows where the rule is broken, and the parts as far as the head
 # All commands
 
 COMMANDS: Dict[str, Callable[[Any], None]] = {
-    "check": _add_check, "show": _add_show, "diff": _add_diff, "map": _add_map}
+    "check": _add_check, "explain": _add_explain, "show": _add_show, "diff": _add_diff, "map": _add_map}
 
 
 class _Version(argparse.Action):
