@@ -46,6 +46,7 @@ extern crate alloc;
 #[cfg(any(feature = "std", test))]
 extern crate std;
 
+pub mod constants;
 mod error;
 mod explain;
 #[allow(unsafe_code)]

@@ -3,6 +3,7 @@
 use core::fmt;
 use core::ops::Range;
 
+use crate::constants::{INDIRECT_SYMBOL_ABS, INDIRECT_SYMBOL_LOCAL, N_SECT, N_STAB, N_TYPE};
 use crate::rows::Row;
 use crate::{ffi, Image};
 
@@ -375,9 +376,6 @@ impl Symbol {
     /// that has a `section`.
     #[must_use]
     pub fn section_index(&self) -> Option<usize> {
-        const N_STAB: u8 = 0xe0;
-        const N_TYPE: u8 = 0x0e;
-        const N_SECT: u8 = 0x0e;
         let is_defined = self.kind & N_STAB == 0 && self.kind & N_TYPE == N_SECT;
         self.section.filter(|_| is_defined)
     }
@@ -413,8 +411,6 @@ impl Indirect {
     /// The index of the symbol. `None` if the entry is marked local or absolute.
     #[must_use]
     pub fn symbol_index(self) -> Option<u64> {
-        const INDIRECT_SYMBOL_LOCAL: u32 = 0x8000_0000;
-        const INDIRECT_SYMBOL_ABS: u32 = 0x4000_0000;
         let is_marked = self.value & (INDIRECT_SYMBOL_LOCAL | INDIRECT_SYMBOL_ABS) != 0;
         (!is_marked).then(|| u64::from(self.value))
     }

@@ -1,0 +1,112 @@
+package kesvuot
+
+// Constants of the headers of the system, by their own names. Made by packaging/constants.
+const (
+	// The load commands. (mach-o/loader.h)
+	LC_SEGMENT                  = 0x1
+	LC_SYMTAB                   = 0x2
+	LC_SYMSEG                   = 0x3
+	LC_THREAD                   = 0x4
+	LC_UNIXTHREAD               = 0x5
+	LC_LOADFVMLIB               = 0x6
+	LC_IDFVMLIB                 = 0x7
+	LC_IDENT                    = 0x8
+	LC_FVMFILE                  = 0x9
+	LC_PREPAGE                  = 0xa
+	LC_DYSYMTAB                 = 0xb
+	LC_LOAD_DYLIB               = 0xc
+	LC_ID_DYLIB                 = 0xd
+	LC_LOAD_DYLINKER            = 0xe
+	LC_ID_DYLINKER              = 0xf
+	LC_PREBOUND_DYLIB           = 0x10
+	LC_ROUTINES                 = 0x11
+	LC_SUB_FRAMEWORK            = 0x12
+	LC_SUB_UMBRELLA             = 0x13
+	LC_SUB_CLIENT               = 0x14
+	LC_SUB_LIBRARY              = 0x15
+	LC_TWOLEVEL_HINTS           = 0x16
+	LC_PREBIND_CKSUM            = 0x17
+	LC_SEGMENT_64               = 0x19
+	LC_ROUTINES_64              = 0x1a
+	LC_UUID                     = 0x1b
+	LC_CODE_SIGNATURE           = 0x1d
+	LC_SEGMENT_SPLIT_INFO       = 0x1e
+	LC_LAZY_LOAD_DYLIB          = 0x20
+	LC_ENCRYPTION_INFO          = 0x21
+	LC_DYLD_INFO                = 0x22
+	LC_VERSION_MIN_MACOSX       = 0x24
+	LC_VERSION_MIN_IPHONEOS     = 0x25
+	LC_FUNCTION_STARTS          = 0x26
+	LC_DYLD_ENVIRONMENT         = 0x27
+	LC_DATA_IN_CODE             = 0x29
+	LC_SOURCE_VERSION           = 0x2a
+	LC_DYLIB_CODE_SIGN_DRS      = 0x2b
+	LC_ENCRYPTION_INFO_64       = 0x2c
+	LC_LINKER_OPTION            = 0x2d
+	LC_LINKER_OPTIMIZATION_HINT = 0x2e
+	LC_VERSION_MIN_TVOS         = 0x2f
+	LC_VERSION_MIN_WATCHOS      = 0x30
+	LC_NOTE                     = 0x31
+	LC_BUILD_VERSION            = 0x32
+	LC_ATOM_INFO                = 0x36
+	LC_FUNCTION_VARIANTS        = 0x37
+	LC_FUNCTION_VARIANT_FIXUPS  = 0x38
+	LC_TARGET_TRIPLE            = 0x39
+	LC_LOAD_WEAK_DYLIB          = 0x80000018
+	LC_RPATH                    = 0x8000001c
+	LC_REEXPORT_DYLIB           = 0x8000001f
+	LC_DYLD_INFO_ONLY           = 0x80000022
+	LC_LOAD_UPWARD_DYLIB        = 0x80000023
+	LC_MAIN                     = 0x80000028
+	LC_DYLD_EXPORTS_TRIE        = 0x80000033
+	LC_DYLD_CHAINED_FIXUPS      = 0x80000034
+	LC_FILESET_ENTRY            = 0x80000035
+
+	// The platforms of a build. (mach-o/loader.h)
+	PLATFORM_MACOS             = 1
+	PLATFORM_IOS               = 2
+	PLATFORM_TVOS              = 3
+	PLATFORM_WATCHOS           = 4
+	PLATFORM_BRIDGEOS          = 5
+	PLATFORM_MACCATALYST       = 6
+	PLATFORM_IOSSIMULATOR      = 7
+	PLATFORM_TVOSSIMULATOR     = 8
+	PLATFORM_WATCHOSSIMULATOR  = 9
+	PLATFORM_DRIVERKIT         = 10
+	PLATFORM_VISIONOS          = 11
+	PLATFORM_VISIONOSSIMULATOR = 12
+
+	// The filetypes that are judged. (mach-o/loader.h)
+	MH_EXECUTE = 2
+	MH_DYLIB   = 6
+	MH_BUNDLE  = 8
+
+	// The type in the flags of a section: those of zero-fill sections. (mach-o/loader.h)
+	SECTION_TYPE            = 0xff
+	S_ZEROFILL              = 0x1
+	S_GB_ZEROFILL           = 0xc
+	S_THREAD_LOCAL_ZEROFILL = 0x12
+
+	// The marks of an indirect entry. (mach-o/loader.h)
+	INDIRECT_SYMBOL_LOCAL = 0x80000000
+	INDIRECT_SYMBOL_ABS   = 0x40000000
+
+	// The type of a symbol: two masks, and the value of the second one of a section's symbol. (mach-o/nlist.h)
+	N_STAB = 0xe0
+	N_TYPE = 0xe
+	N_SECT = 0xe
+
+	// The processors of the 64-bit architectures. (mach/machine.h)
+	CPU_TYPE_X86_64        = 0x1000007
+	CPU_TYPE_ARM64         = 0x100000c
+	CPU_SUBTYPE_MASK       = 0xff000000
+	CPU_SUBTYPE_X86_64_ALL = 3
+	CPU_SUBTYPE_X86_64_H   = 8
+	CPU_SUBTYPE_ARM64_ALL  = 0
+	CPU_SUBTYPE_ARM64E     = 2
+
+	// The bits of a protection. (mach/vm_prot.h)
+	VM_PROT_READ    = 1
+	VM_PROT_WRITE   = 2
+	VM_PROT_EXECUTE = 4
+)

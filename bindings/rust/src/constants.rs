@@ -1,0 +1,111 @@
+//! Constants of the headers of the system, by their own names. Made by `packaging/constants`.
+
+#![allow(missing_docs)]
+
+// The load commands. (mach-o/loader.h)
+pub const LC_SEGMENT: u32 = 0x1;
+pub const LC_SYMTAB: u32 = 0x2;
+pub const LC_SYMSEG: u32 = 0x3;
+pub const LC_THREAD: u32 = 0x4;
+pub const LC_UNIXTHREAD: u32 = 0x5;
+pub const LC_LOADFVMLIB: u32 = 0x6;
+pub const LC_IDFVMLIB: u32 = 0x7;
+pub const LC_IDENT: u32 = 0x8;
+pub const LC_FVMFILE: u32 = 0x9;
+pub const LC_PREPAGE: u32 = 0xa;
+pub const LC_DYSYMTAB: u32 = 0xb;
+pub const LC_LOAD_DYLIB: u32 = 0xc;
+pub const LC_ID_DYLIB: u32 = 0xd;
+pub const LC_LOAD_DYLINKER: u32 = 0xe;
+pub const LC_ID_DYLINKER: u32 = 0xf;
+pub const LC_PREBOUND_DYLIB: u32 = 0x10;
+pub const LC_ROUTINES: u32 = 0x11;
+pub const LC_SUB_FRAMEWORK: u32 = 0x12;
+pub const LC_SUB_UMBRELLA: u32 = 0x13;
+pub const LC_SUB_CLIENT: u32 = 0x14;
+pub const LC_SUB_LIBRARY: u32 = 0x15;
+pub const LC_TWOLEVEL_HINTS: u32 = 0x16;
+pub const LC_PREBIND_CKSUM: u32 = 0x17;
+pub const LC_SEGMENT_64: u32 = 0x19;
+pub const LC_ROUTINES_64: u32 = 0x1a;
+pub const LC_UUID: u32 = 0x1b;
+pub const LC_CODE_SIGNATURE: u32 = 0x1d;
+pub const LC_SEGMENT_SPLIT_INFO: u32 = 0x1e;
+pub const LC_LAZY_LOAD_DYLIB: u32 = 0x20;
+pub const LC_ENCRYPTION_INFO: u32 = 0x21;
+pub const LC_DYLD_INFO: u32 = 0x22;
+pub const LC_VERSION_MIN_MACOSX: u32 = 0x24;
+pub const LC_VERSION_MIN_IPHONEOS: u32 = 0x25;
+pub const LC_FUNCTION_STARTS: u32 = 0x26;
+pub const LC_DYLD_ENVIRONMENT: u32 = 0x27;
+pub const LC_DATA_IN_CODE: u32 = 0x29;
+pub const LC_SOURCE_VERSION: u32 = 0x2a;
+pub const LC_DYLIB_CODE_SIGN_DRS: u32 = 0x2b;
+pub const LC_ENCRYPTION_INFO_64: u32 = 0x2c;
+pub const LC_LINKER_OPTION: u32 = 0x2d;
+pub const LC_LINKER_OPTIMIZATION_HINT: u32 = 0x2e;
+pub const LC_VERSION_MIN_TVOS: u32 = 0x2f;
+pub const LC_VERSION_MIN_WATCHOS: u32 = 0x30;
+pub const LC_NOTE: u32 = 0x31;
+pub const LC_BUILD_VERSION: u32 = 0x32;
+pub const LC_ATOM_INFO: u32 = 0x36;
+pub const LC_FUNCTION_VARIANTS: u32 = 0x37;
+pub const LC_FUNCTION_VARIANT_FIXUPS: u32 = 0x38;
+pub const LC_TARGET_TRIPLE: u32 = 0x39;
+pub const LC_LOAD_WEAK_DYLIB: u32 = 0x8000_0018;
+pub const LC_RPATH: u32 = 0x8000_001c;
+pub const LC_REEXPORT_DYLIB: u32 = 0x8000_001f;
+pub const LC_DYLD_INFO_ONLY: u32 = 0x8000_0022;
+pub const LC_LOAD_UPWARD_DYLIB: u32 = 0x8000_0023;
+pub const LC_MAIN: u32 = 0x8000_0028;
+pub const LC_DYLD_EXPORTS_TRIE: u32 = 0x8000_0033;
+pub const LC_DYLD_CHAINED_FIXUPS: u32 = 0x8000_0034;
+pub const LC_FILESET_ENTRY: u32 = 0x8000_0035;
+
+// The platforms of a build. (mach-o/loader.h)
+pub const PLATFORM_MACOS: u32 = 1;
+pub const PLATFORM_IOS: u32 = 2;
+pub const PLATFORM_TVOS: u32 = 3;
+pub const PLATFORM_WATCHOS: u32 = 4;
+pub const PLATFORM_BRIDGEOS: u32 = 5;
+pub const PLATFORM_MACCATALYST: u32 = 6;
+pub const PLATFORM_IOSSIMULATOR: u32 = 7;
+pub const PLATFORM_TVOSSIMULATOR: u32 = 8;
+pub const PLATFORM_WATCHOSSIMULATOR: u32 = 9;
+pub const PLATFORM_DRIVERKIT: u32 = 10;
+pub const PLATFORM_VISIONOS: u32 = 11;
+pub const PLATFORM_VISIONOSSIMULATOR: u32 = 12;
+
+// The filetypes that are judged. (mach-o/loader.h)
+pub const MH_EXECUTE: u32 = 2;
+pub const MH_DYLIB: u32 = 6;
+pub const MH_BUNDLE: u32 = 8;
+
+// The type in the flags of a section: those of zero-fill sections. (mach-o/loader.h)
+pub const SECTION_TYPE: u32 = 0xff;
+pub const S_ZEROFILL: u32 = 0x1;
+pub const S_GB_ZEROFILL: u32 = 0xc;
+pub const S_THREAD_LOCAL_ZEROFILL: u32 = 0x12;
+
+// The marks of an indirect entry. (mach-o/loader.h)
+pub const INDIRECT_SYMBOL_LOCAL: u32 = 0x8000_0000;
+pub const INDIRECT_SYMBOL_ABS: u32 = 0x4000_0000;
+
+// The type of a symbol: two masks, and the value of the second one of a section's symbol. (mach-o/nlist.h)
+pub const N_STAB: u8 = 0xe0;
+pub const N_TYPE: u8 = 0xe;
+pub const N_SECT: u8 = 0xe;
+
+// The processors of the 64-bit architectures. (mach/machine.h)
+pub const CPU_TYPE_X86_64: u32 = 0x100_0007;
+pub const CPU_TYPE_ARM64: u32 = 0x100_000c;
+pub const CPU_SUBTYPE_MASK: u32 = 0xff00_0000;
+pub const CPU_SUBTYPE_X86_64_ALL: u32 = 3;
+pub const CPU_SUBTYPE_X86_64_H: u32 = 8;
+pub const CPU_SUBTYPE_ARM64_ALL: u32 = 0;
+pub const CPU_SUBTYPE_ARM64E: u32 = 2;
+
+// The bits of a protection. (mach/vm_prot.h)
+pub const VM_PROT_READ: u32 = 1;
+pub const VM_PROT_WRITE: u32 = 2;
+pub const VM_PROT_EXECUTE: u32 = 4;
