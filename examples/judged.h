@@ -53,6 +53,9 @@ static inline int print_refusal(const char *path, const struct kesvuot_verdict *
 static inline int judge(const char *path, struct judged *file) {
     struct kesvuot_verdict verdict;
     *file = (struct judged){.bytes = NULL};
+    if (!kesvuot_is_compatible()) {
+        return fail("libkesvuot", "it is of another version than its header");
+    }
     FILE *stream = fopen(path, "rb");
     if (stream == NULL) {
         return fail(path, "it cannot be opened");

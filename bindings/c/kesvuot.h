@@ -50,6 +50,14 @@ extern "C" {
 /* The version of the linked library: major << 16 | minor << 8 | patch. */
 uint32_t kesvuot_version(void);
 
+/* Whether the linked library fits this header: it has the same major version, and at least the same minor one. A shared
+ * library has its major version in its soname, which the loader compares. With the static library nothing else does: a
+ * program that links it can ask once, when it starts. */
+static inline int kesvuot_is_compatible(void) {
+    const uint32_t version = kesvuot_version();
+    return version >> 16 == KESVUOT_VERSION >> 16 && version >> 8 >= KESVUOT_VERSION >> 8;
+}
+
 /* Some bytes of the file: `size` bytes, of which the first is at `offset`. An empty span has the offset 0. */
 struct kesvuot_span {
     uint64_t offset;

@@ -37,7 +37,7 @@ static void try_no_rule(uint32_t rule) {
 
 static void try_version_and_rules(void) {
     struct kesvuot_text name;
-    CHECK(kesvuot_version() == KESVUOT_VERSION);
+    CHECK(kesvuot_version() == KESVUOT_VERSION && kesvuot_is_compatible());
     uint32_t rule = KESVUOT_MAGIC;
     for (; kesvuot_find_rule(rule, &name) == KESVUOT_OK; rule++) {
         CHECK(name.size == strlen(name.at) && name.size > 0);
