@@ -142,7 +142,7 @@ module _ (image : List ℕ) (unbroken : NothingBreaks (BreaksImage image None)) 
   abbrev strings_size : ℕ
   strings_size = field_of (λ (t : Symtab). t.strsize) (symtab_in image)
 
-  name_found : (p strx : ℕ) → Contains (symbols_of image (commands_of image)) p → n_strx image p ≡ strx → strx ≢ 0
+  pub name_found : (p strx : ℕ) → Contains (symbols_of image (commands_of image)) p → n_strx image p ≡ strx → strx ≢ 0
       → first_string (drop strx (part_or_none strings strings_size image)) ≡ Some (string_from (strings + strx) image)
   name_found p strx has is some =
       let (fits, ends) = has_string (only image loader.LC_SYMTAB) refl p has (λ none. some (sym is ∙ none)) in
@@ -170,19 +170,19 @@ module _ (file : List ℕ) (row : KesvuotImage) (shows : ShowsUnbroken file row)
   image = image_in file row
 
   -- whatever the architecture
-  unbroken : NothingBreaks (BreaksImage image None)
+  pub unbroken : NothingBreaks (BreaksImage image None)
   unbroken r place broken = let (all, arch, none) = shows in none r place (image_alone image arch r place broken)
 
-  -- the rows by its numbers are those of the whole image
+  -- the symbols by its numbers are those of the whole image
+  pub table_same : items_inside image row.symbols 16 row.symbol_count ≡ symbols_of image (commands_of image)
+  table_same =
+      ap₂ (λ start n. items_inside image start 16 n) shows.0.tables.symbols shows.0.tables.symbol_count
+      ∙ table_shown image 16 (symtab_at image) (λ (t : Symtab). t.symoff) (λ (t : Symtab). t.nsyms) (only image loader.LC_SYMTAB)
+
   pub symbols_same : symbol_rows image row ≡ all_symbols image
   symbols_same =
       map-map (symbol_row row.section_count) (symbol_at image) (items_inside image row.symbols 16 row.symbol_count)
-      ∙ ap₂ (λ n places. map (λ p. symbol_row n (symbol_at image p)) places) shows.0.counts.sections table
-    where
-      table : items_inside image row.symbols 16 row.symbol_count ≡ symbols_of image (commands_of image)
-      table =
-          ap₂ (λ start n. items_inside image start 16 n) shows.0.tables.symbols shows.0.tables.symbol_count
-          ∙ table_shown image 16 (symtab_at image) (λ (t : Symtab). t.symoff) (λ (t : Symtab). t.nsyms) (only image loader.LC_SYMTAB)
+      ∙ ap₂ (λ n places. map (λ p. symbol_row n (symbol_at image p)) places) shows.0.counts.sections table_same
 
   pub indirects_same : indirect_rows image row ≡ all_indirects image
   indirects_same =

@@ -7,12 +7,16 @@ pub mod Counts
 pub mod Data
 pub mod Ended
 pub mod Loads
+pub mod NamedSymbols
+pub mod NearestSymbol
 pub mod Numbered
 pub mod Opened
 pub mod PartFits
 pub mod Ranged
 pub mod Reached
 pub mod Relocated
+pub mod ShownSymbols
 pub mod Supplied
+pub mod SymbolWalks
 pub mod SymbolsAt
 pub mod Walked

@@ -21,5 +21,7 @@ pub mod Segments
 pub mod SourceVersion
 pub mod Spans
 pub mod Status
+pub mod SymbolIndex
+pub mod SymbolNames
 pub mod Symbols
 pub mod Verdict

@@ -1,5 +1,5 @@
--- The names of load commands and platforms. (mach-o/loader.h)
-use Rattle.std.specs.Prelude.{◌≡◌, ℕ, ◌==◌, List, [], ◌∷◌, ◌++◌, codes, find, Option, MatchOption}
+-- The names of load commands and platforms (mach-o/loader.h), and of architectures (mach/machine.h).
+use Rattle.std.specs.Prelude.{◌≡◌, ℕ, ◌+◌, ◌*◌, ◌^◌, ◌==◌, List, [], ◌∷◌, ◌++◌, codes, find, Option, MatchOption}
 use Rattle.std.specs.Option.{option_map}
 use Rattle.macho_c.specs.declared.names.Named.{Named}
 use Rattle.macho_c.specs.Status.{KESVUOT_OK, KESVUOT_NONE}
@@ -93,6 +93,34 @@ platform_names =
     (10, codes "PLATFORM_DRIVERKIT") ∷
     (11, codes "PLATFORM_VISIONOS") ∷
     (12, codes "PLATFORM_VISIONOSSIMULATOR") ∷
+    []
+
+-- An architecture by one number: the cputype, and in the low 32 bits the cpusubtype without its
+-- capability byte.
+abbrev pub arch_number : ℕ → ℕ → ℕ
+arch_number cputype cpusubtype = cputype * 2 ^ 32 + cpusubtype
+
+-- the architectures, by the names that lipo prints
+abbrev pub arch_names : List (ℕ × List ℕ)
+arch_names =
+    (arch_number 7 3, codes "i386") ∷
+    (arch_number 0x1000007 3, codes "x86_64") ∷
+    (arch_number 0x1000007 8, codes "x86_64h") ∷
+    (arch_number 12 5, codes "armv4t") ∷
+    (arch_number 12 6, codes "armv6") ∷
+    (arch_number 12 7, codes "armv5e") ∷
+    (arch_number 12 8, codes "xscale") ∷
+    (arch_number 12 9, codes "armv7") ∷
+    (arch_number 12 11, codes "armv7s") ∷
+    (arch_number 12 12, codes "armv7k") ∷
+    (arch_number 12 14, codes "armv6m") ∷
+    (arch_number 12 15, codes "armv7m") ∷
+    (arch_number 12 16, codes "armv7em") ∷
+    (arch_number 0x100000c 0, codes "arm64") ∷
+    (arch_number 0x100000c 2, codes "arm64e") ∷
+    (arch_number 0x200000c 1, codes "arm64_32") ∷
+    (arch_number 18 0, codes "ppc") ∷
+    (arch_number 0x1000012 0, codes "ppc64") ∷
     []
 
 -- What only proofs need.

@@ -26,6 +26,8 @@ mod segments;
 mod source_version;
 mod span;
 mod status;
+mod symbol_index;
+mod symbol_names;
 mod symbols;
 mod table;
 mod verdict;

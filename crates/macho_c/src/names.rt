@@ -1,11 +1,14 @@
-//! The names of load commands and platforms, as the headers of the system have them.
-//! (`mach-o/loader.h`)
+//! The names of load commands and platforms, as the headers of the system have them
+//! (`mach-o/loader.h`), and of architectures, as `lipo` prints them (`mach/machine.h`).
 
 ghost use Rattle.std.specs.Prelude.{◌≡◌, ◌==◌, ◌-◌, find, length, take};
 ghost use Rattle.std.specs.Option.{option_map};
+ghost use Rattle.macho_fields.specs.Universal.{masked};
 ghost use Rattle.macho_c.specs.Names.{IsName, IsFound, name_in, command_names, platform_names};
+ghost use Rattle.macho_c.specs.Names.{arch_names, arch_number};
 
 use crate::status::{NONE, OK};
+use macho_fields::header::machine::CPU_SUBTYPE_MASK;
 
 /// Writes the name of the load commands with this `cmd`, borrowed from the library. A zero byte, which is
 /// not counted, follows it in memory. The status is `OK`, or `NONE` where the command has no name here.
@@ -42,11 +45,29 @@ pub extern "C" fn kesvuot_find_platform(platform: u32, name: &mut &'static [u8])
     }
 }
 
+/// Writes the name of an architecture, as `kesvuot_find_command` does that of a command. The capability
+/// byte of the `cpusubtype` does not matter.
+#[unsafe(no_mangle)]
+pub extern "C" fn kesvuot_find_arch(cputype: u32, cpusubtype: u32, name: &mut &'static [u8]) -> u32
+    ensures { IsName arch_names (arch_number cputype (masked cpusubtype)) result name.new.now }
+{
+    match arch_name(arch_number(cputype, cpusubtype & !CPU_SUBTYPE_MASK)) {
+        Some(text) => {
+            *name = before_last(text.as_bytes());
+            OK
+        }
+        None => {
+            *name = &[];
+            NONE
+        }
+    }
+}
+
 // The name of the load commands with this `cmd`, and a zero byte.
 fn command_name(cmd: u32) -> Option<&'static str>
     ensures { option_map (λ name. name.now) result ≡ name_in command_names cmd }
 {
-    match find_named(COMMANDS, cmd) {
+    match find_named(COMMANDS, u64::from(cmd)) {
         Some(command) => Some(command.name),
         None => None,
     }
@@ -56,10 +77,27 @@ fn command_name(cmd: u32) -> Option<&'static str>
 fn platform_name(platform: u32) -> Option<&'static str>
     ensures { option_map (λ name. name.now) result ≡ name_in platform_names platform }
 {
-    match find_named(PLATFORMS, platform) {
+    match find_named(PLATFORMS, u64::from(platform)) {
         Some(platform) => Some(platform.name),
         None => None,
     }
+}
+
+// The name of the architecture with this number, and a zero byte.
+fn arch_name(arch: u64) -> Option<&'static str>
+    ensures { option_map (λ name. name.now) result ≡ name_in arch_names arch }
+{
+    match find_named(ARCHITECTURES, arch) {
+        Some(arch) => Some(arch.name),
+        None => None,
+    }
+}
+
+// The number of an architecture in its table: the `cputype`, and in the low 32 bits the `cpusubtype`.
+fn arch_number(cputype: u32, cpusubtype: u32) -> u64
+    ensures { result ≡ arch_number cputype cpusubtype }
+{
+    u64::from(cputype) * (1 << 32) + u64::from(cpusubtype)
 }
 
 // The bytes before the last: none of no bytes.
@@ -75,19 +113,19 @@ fn before_last(bytes: &'static [u8]) -> &'static [u8]
 // A number and its name, which a zero byte ends.
 #[derive(Clone, Copy)]
 struct Named {
-    number: u32,
+    number: u64,
     name: &'static str,
 }
 
 // The first entry of a table that has this number.
-fn find_named(table: &'static [Named], number: u32) -> Option<Named>
+fn find_named(table: &'static [Named], number: u64) -> Option<Named>
     ensures { IsFound table.now number result }
 {
     first_numbered(table, number)
 }
 
 // The same, found by an iterator.
-fn first_numbered(table: &'static [Named], number: u32) -> Option<Named>
+fn first_numbered(table: &'static [Named], number: u64) -> Option<Named>
     ensures { result ≡ find (λ named. named.number == number) table.now }
 {
     table.iter().copied().find(|named| named.number == number)
@@ -378,5 +416,81 @@ const PLATFORMS: &[Named] = &[
     Named {
         number: 12,
         name: "PLATFORM_VISIONOSSIMULATOR\0",
+    },
+];
+
+// The architectures, by their numbers.
+const ARCHITECTURES: &[Named] = &[
+    Named {
+        number: 0x0000_0007_0000_0003,
+        name: "i386\0",
+    },
+    Named {
+        number: 0x0100_0007_0000_0003,
+        name: "x86_64\0",
+    },
+    Named {
+        number: 0x0100_0007_0000_0008,
+        name: "x86_64h\0",
+    },
+    Named {
+        number: 0x0000_000c_0000_0005,
+        name: "armv4t\0",
+    },
+    Named {
+        number: 0x0000_000c_0000_0006,
+        name: "armv6\0",
+    },
+    Named {
+        number: 0x0000_000c_0000_0007,
+        name: "armv5e\0",
+    },
+    Named {
+        number: 0x0000_000c_0000_0008,
+        name: "xscale\0",
+    },
+    Named {
+        number: 0x0000_000c_0000_0009,
+        name: "armv7\0",
+    },
+    Named {
+        number: 0x0000_000c_0000_000b,
+        name: "armv7s\0",
+    },
+    Named {
+        number: 0x0000_000c_0000_000c,
+        name: "armv7k\0",
+    },
+    Named {
+        number: 0x0000_000c_0000_000e,
+        name: "armv6m\0",
+    },
+    Named {
+        number: 0x0000_000c_0000_000f,
+        name: "armv7m\0",
+    },
+    Named {
+        number: 0x0000_000c_0000_0010,
+        name: "armv7em\0",
+    },
+    Named {
+        number: 0x0100_000c_0000_0000,
+        name: "arm64\0",
+    },
+    Named {
+        number: 0x0100_000c_0000_0002,
+        name: "arm64e\0",
+    },
+    Named {
+        number: 0x0200_000c_0000_0001,
+        name: "arm64_32\0",
+    },
+    Named {
+        number: 0x0000_0012_0000_0000,
+        name: "ppc\0",
+    },
+    Named {
+        number: 0x0100_0012_0000_0000,
+        name: "ppc64\0",
     },
 ];

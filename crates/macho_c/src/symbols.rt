@@ -7,6 +7,7 @@ ghost use Rattle.macho_c.specs.Cursor.{start, IsBatch};
 ghost use Rattle.macho_c.specs.Image.{image_in, ShowsUnbroken};
 ghost use Rattle.macho_c.specs.Symbols.{symbol_row, symbols_left, HasAllSymbols};
 ghost use Rattle.macho_c.specs.Symbols.{name_at, section_of, IsName, NamesSymbols};
+ghost use Rattle.macho_c.specs.Spans.{part_or_none};
 
 use crate::cursor::KesvuotCursor;
 use crate::image::KesvuotImage;
@@ -36,6 +37,17 @@ pub struct KesvuotSymbol {
     /// Reserved: 0.
     pub reserved: u32,
 }
+
+/// No symbol.
+pub(crate) const NO_SYMBOL: KesvuotSymbol = KesvuotSymbol {
+    value: 0,
+    strx: 0,
+    section: NO_SECTION,
+    desc: 0,
+    kind: 0,
+    sect: 0,
+    reserved: 0,
+};
 
 /// Writes the symbols from the cursor on to the rows of the table, until either runs out, moves the
 /// cursor past them, and returns how many it wrote. Later rows are unchanged. It does not scan the
@@ -93,18 +105,26 @@ fn string_at<'a>(bytes: Bytes<'a>, image: &KesvuotImage, strx: u32) -> Option<&'
     if strx == 0 {
         return None;
     }
+    first_string(rest(strings(bytes, image), u64::from(strx)))
+}
+
+// The strings of an image, by the numbers of its struct: none where they do not lie inside it.
+pub(crate) fn strings<'a>(bytes: Bytes<'a>, image: &KesvuotImage) -> &'a [u8]
+    ensures { result.now ≡ part_or_none image.now.strings image.now.strings_size
+        (bytes_of bytes.entry) }
+{
     let strings = Span {
         start: image.strings,
         len: image.strings_size,
     };
-    first_string(rest(part_or_none(bytes, strings), u64::from(strx)))
+    part_or_none(bytes, strings)
 }
 
 // The symbols of an image, by the numbers of its struct.
 #[derive(Clone, Copy)]
-struct SymbolTable<'a> {
-    bytes: Bytes<'a>,
-    image: &'a KesvuotImage,
+pub(crate) struct SymbolTable<'a> {
+    pub(crate) bytes: Bytes<'a>,
+    pub(crate) image: &'a KesvuotImage,
 }
 
 impl<'a> Table for SymbolTable<'a> {
@@ -125,7 +145,7 @@ impl<'a> Table for SymbolTable<'a> {
 }
 
 // The row of a symbol of an image with so many sections.
-fn row_of(symbol: Symbol, sections: u64) -> KesvuotSymbol
+pub(crate) fn row_of(symbol: Symbol, sections: u64) -> KesvuotSymbol
     ensures { result ≡ symbol_row sections symbol }
 {
     KesvuotSymbol {
