@@ -6,80 +6,62 @@
 //
 //     0xADDRESS SYMBOL + 0xOFFSET (SEGMENT,SECTION)
 //
-// with the section's symbol at the greatest address up to ADDRESS; if several have this address, the last in the table.
-// It is `0xADDRESS ? (SEGMENT,SECTION)` if there is no such symbol, and `0xADDRESS ?` if no section has the address.
+// with the nearest symbol at or before ADDRESS; if several have its address, the last in the table. It is `0xADDRESS ?` if
+// there is none, or if ADDRESS is not in the symbol's section.
 //
 //     cc -std=c99 -O2 -Ibindings/c -o build/symbolize examples/symbolize.c build/lib/libkesvuot.a
 //
-// The file may be from a stranger. The library judges it once. After that no offset, count or index of the file is
-// tested. For many addresses, sort the symbols once instead.
+// The file may be from a stranger. The library judges it once. After that no offset, count or index of the file is tested.
 #include <ctype.h>
 #include <errno.h>
 
 #include "judged.h"
 
-enum { BATCH = 256, N_STAB = 0xe0, N_TYPE = 0x0e, N_SECT = 0x0e }; // N_..: mach-o/nlist.h
+// An image with its sections, and the index of its symbols.
+struct tables {
+    struct kesvuot_image image;
+    struct kesvuot_section *sections;
+    uint32_t *index;
+    size_t count;
+};
 
-// Finds the section of an address, and its index. segment-overlap and section-address: no section of another segment has
-// it. section-address: no range passes 2^64.
-static bool find_section(const struct judged *file, const struct kesvuot_image *image, uint64_t address,
-                         struct kesvuot_section *section, uint64_t *index) {
-    struct kesvuot_segment segment;
-    struct kesvuot_cursor of_segments = {0}, of_sections = {0};
-    *index = 0;
-    while (kesvuot_read_segments(file->bytes, file->size, image, &of_segments, &segment, 1) == 1) {
-        bool is_mapped = address >= segment.vmaddr && address - segment.vmaddr < segment.vmsize;
-        for (uint32_t k = 0; k < segment.section_count; k++, ++*index) {
-            kesvuot_read_sections(file->bytes, file->size, image, &of_sections, section, 1);
-            if (is_mapped && address >= section->addr && address - section->addr < section->size) {
-                return true;
-            }
-        }
-    }
-    return false;
-}
-
-// Finds the last symbol of a section at or before an address.
-static bool find_symbol(const struct judged *file, const struct kesvuot_image *image, uint64_t section,
-                        uint64_t address, struct kesvuot_symbol *found) {
-    struct kesvuot_symbol rows[BATCH];
+static bool read_tables(const struct judged *file, struct tables *tables) {
     struct kesvuot_cursor cursor = {0};
-    bool is_found = false;
-    for (size_t count; (count = kesvuot_read_symbols(file->bytes, file->size, image, &cursor, rows, BATCH)) > 0;) {
-        for (size_t k = 0; k < count; k++) {
-            bool names_section = (rows[k].type & N_STAB) == 0 && (rows[k].type & N_TYPE) == N_SECT;
-            if (names_section && rows[k].section == section && rows[k].value <= address &&
-                (!is_found || rows[k].value >= found->value)) {
-                *found = rows[k];
-                is_found = true;
-            }
-        }
+    for (uint64_t k = 0; kesvuot_read_image(file->bytes, file->size, k, &tables->image) != KESVUOT_OK;) {
+        k++; // fat-empty: some slice is read.
     }
-    return is_found;
+    const size_t sections = tables->image.section_count, symbols = tables->image.symbol_count;
+    tables->sections = calloc(sections + 1, sizeof *tables->sections);
+    tables->index = calloc(symbols + 1, sizeof *tables->index);
+    if (tables->sections == NULL || tables->index == NULL) {
+        return false;
+    }
+    kesvuot_read_sections(file->bytes, file->size, &tables->image, &cursor, tables->sections, sections);
+    tables->count = kesvuot_index_symbols(file->bytes, file->size, &tables->image, tables->index, symbols);
+    return true;
 }
 
-static void print_line(const struct judged *file, const struct kesvuot_image *image, uint64_t address) {
-    struct kesvuot_section section;
+static void print_line(const struct judged *file, const struct tables *tables, uint64_t address) {
+    const struct kesvuot_image *image = &tables->image;
     struct kesvuot_symbol symbol;
     struct kesvuot_span name;
-    uint64_t index;
-    bool has_section = find_section(file, image, address, &section, &index);
+    size_t at;
+    uint32_t status = kesvuot_find_symbol(file->bytes, file->size, image, tables->index, tables->count, address, &symbol,
+                                          &at);
+    // symbol-section: each symbol of the index is in a section that exists.
+    const struct kesvuot_section *section = status == KESVUOT_OK ? &tables->sections[symbol.section] : NULL;
     printf("0x%" PRIx64 " ", address);
-    if (has_section && find_symbol(file, image, index, address, &symbol)) {
-        kesvuot_symbol_name(file->bytes, file->size, image, symbol.strx, &name);
-        print_name(file, name);
-        printf(" + 0x%" PRIx64, address - symbol.value);
-    } else {
-        putchar('?');
+    if (section == NULL || address < section->addr || address - section->addr >= section->size) {
+        puts("?");
+        return;
     }
-    if (has_section) {
-        printf(" (");
-        print_name(file, section.segment);
-        putchar(',');
-        print_name(file, section.name);
-        putchar(')');
-    }
-    putchar('\n');
+    kesvuot_symbol_name(file->bytes, file->size, image, symbol.strx, &name);
+    print_name(file, name);
+    printf(" + 0x%" PRIx64 " (", address - symbol.value);
+    print_name(file, section->segment);
+    putchar(',');
+    print_name(file, section->name);
+    puts(")");
 }
 
 // Reads an address. strtoull alone would also accept signs and blanks.
@@ -92,21 +74,22 @@ static bool read_address(const char *word, uint64_t *address) {
 
 int main(int argc, char **argv) {
     struct judged file;
-    struct kesvuot_image image;
+    struct tables tables = {.sections = NULL};
     if (argc < 3) {
         return fail("usage", "symbolize FILE ADDRESS..");
     }
     int status = judge(argv[1], &file);
-    // fat-empty: some slice is read.
-    for (uint64_t k = 0; status == ACCEPTED && kesvuot_read_image(file.bytes, file.size, k, &image) != KESVUOT_OK;) {
-        k++;
+    if (status == ACCEPTED && !read_tables(&file, &tables)) {
+        status = fail(argv[1], "there is no memory for its tables");
     }
     for (uint64_t address; status == ACCEPTED && *(argv + 2) != NULL; argv++) {
         if (!read_address(argv[2], &address)) {
             status = fail(argv[2], "not an address");
         } else {
-            print_line(&file, &image, address);
+            print_line(&file, &tables, address);
         }
     }
+    free(tables.sections);
+    free(tables.index);
     return finish(&file, status);
 }

@@ -83,16 +83,14 @@ def read_symbols(nm: str, path: Path) -> list[Symbol]:
 
 def line_of(address: int, sections: list[Section], symbols: list[Symbol]) -> str:
     """The line of an address."""
-    section = next((section for section in sections if section.has(address)), None)
-    if section is None:
-        return f"{address:#x} ?"
     nearest = None
     for symbol in symbols:
-        if (symbol.segment, symbol.section) == section[:2] and symbol.value <= address:
-            if nearest is None or symbol.value >= nearest.value:
-                nearest = symbol
-    text = f"{nearest.name} + {address - nearest.value:#x}" if nearest else "?"
-    return f"{address:#x} {text} ({section.segment},{section.name})"
+        if symbol.value <= address and (nearest is None or symbol.value >= nearest.value):
+            nearest = symbol
+    for section in sections:
+        if nearest and section[:2] == (nearest.segment, nearest.section) and section.has(address):
+            return f"{address:#x} {nearest.name} + {address - nearest.value:#x} ({section.segment},{section.name})"
+    return f"{address:#x} ?"
 
 
 def print_lines(path: Path, nm: str, objdump: str) -> None:

@@ -512,6 +512,80 @@ static void check_symbols(const struct held *held, const struct rows *all, enum 
     }
 }
 
+// Whether an index has this entry at a position, and its symbol begins at or before the address.
+static bool begins_by(const struct kesvuot_symbol *rows, size_t count, uint32_t entry, uint64_t address) {
+    return entry < count && rows[entry].value <= address;
+}
+
+// Looks for an address by an index of any numbers. The rows are all symbols.
+static void check_found(const struct held *held, const struct rows *all, const uint32_t *index, size_t count,
+                        uint64_t address) {
+    const struct kesvuot_symbol *rows = all->rows;
+    struct kesvuot_symbol symbol;
+    size_t at = 1;
+    if (kesvuot_find_symbol(OF(held), index, count, address, &symbol, &at) == KESVUOT_OK) {
+        CHECK(at < count && begins_by(rows, all->count, index[at], address));
+        CHECK(memcmp(&symbol, &rows[index[at]], sizeof symbol) == 0);
+        CHECK(at + 1 == count || !begins_by(rows, all->count, index[at + 1], address));
+    } else {
+        CHECK(at == 0 && symbol.value == 0 && symbol.section == KESVUOT_NO_SECTION);
+        CHECK(count == 0 || !begins_by(rows, all->count, index[0], address));
+    }
+}
+
+// The index has the symbols of sections, by ascending values, and of one value by ascending indices.
+static void check_index(const struct held *held, const struct rows *all) {
+    const struct kesvuot_symbol *rows = all->rows;
+    uint32_t *index = calloc(all->count + 1, sizeof *index);
+    CHECK(index != NULL);
+    size_t wanted = 0, count = kesvuot_index_symbols(OF(held), index, all->count);
+    for (size_t k = 0; k < all->count; k++) {
+        wanted += (rows[k].type & N_STAB) == 0 && (rows[k].type & N_TYPE) == N_SECT;
+    }
+    CHECK(count == wanted);
+    for (size_t k = 0; k < count; k++) {
+        CHECK(index[k] < all->count);
+        const struct kesvuot_symbol *row = &rows[index[k]], *last = &rows[index[k > 0 ? k - 1 : 0]];
+        CHECK((row->type & N_STAB) == 0 && (row->type & N_TYPE) == N_SECT);
+        CHECK(k == 0 || last->value < row->value || (last->value == row->value && index[k - 1] < index[k]));
+        if (k < 9) {
+            check_found(held, all, index, count, row->value);
+            check_found(held, all, index, count, row->value - 1);
+        }
+    }
+    check_found(held, all, index, count, UINT64_MAX);
+    free(index);
+}
+
+// The first symbol with the name of one of them, by all rows.
+static void check_named(const struct held *held, const struct rows *all, size_t number) {
+    const struct kesvuot_symbol *rows = all->rows;
+    struct kesvuot_symbol symbol;
+    struct kesvuot_span name, other;
+    uint64_t first = 0, found = 1;
+    if (kesvuot_symbol_name(OF(held), rows[number].strx, &name) != KESVUOT_OK) {
+        return;
+    }
+    const uint8_t *bytes = bytes_at(held, name);
+    // As in check_symbols.
+    for (; first < all->count && first < 99; first++) {
+        if ((rows[first].type & N_STAB) == 0 &&
+            kesvuot_symbol_name(OF(held), rows[first].strx, &other) == KESVUOT_OK && other.size == name.size &&
+            memcmp(bytes_at(held, other), bytes, name.size) == 0) {
+            break;
+        }
+    }
+    if (first == 99 && first < all->count) {
+        return;
+    }
+    uint32_t status = kesvuot_find_name(OF(held), bytes, name.size, &symbol, &found);
+    CHECK((status == KESVUOT_OK) == (first < all->count));
+    CHECK(found == (status == KESVUOT_OK ? first : 0));
+    CHECK(status == KESVUOT_NONE || memcmp(&symbol, &rows[found], sizeof symbol) == 0);
+    // A zero byte is in no name.
+    CHECK(is_empty(name) || kesvuot_find_name(OF(held), bytes, name.size + 1, &symbol, &found) == KESVUOT_NONE);
+}
+
 static void check_indirects(const struct held *held, const struct rows *all, enum accepted accepted) {
     const uint32_t *row = all->rows;
     for (size_t k = 0; k < all->count; k++, row++) {
@@ -531,6 +605,10 @@ static void check_tables(const struct held *held, enum accepted accepted) {
     check_commands(held, &all[COMMANDS]);
     check_source_version(held, &all[COMMANDS]);
     check_symbols(held, &all[SYMBOLS], accepted);
+    check_index(held, &all[SYMBOLS]);
+    for (size_t k = 0; k < 9 && k < all[SYMBOLS].count; k++) {
+        check_named(held, &all[SYMBOLS], k);
+    }
     check_indirects(held, &all[INDIRECTS], accepted);
     if (accepted) {
         check_addresses(held, &all[SEGMENTS]);
@@ -554,6 +632,20 @@ static void check_address(const struct held *held, uint64_t address) {
     CHECK(status == KESVUOT_OK || ((status == KESVUOT_ZERO || status == KESVUOT_NONE) && is_empty(bytes)));
     check_inside(held, bytes);
     reach(ADDRESS, status);
+}
+
+// An index of any numbers, and a name of bytes of the file.
+static void check_any_symbol(const struct held *held, struct kesvuot_cursor cursor) {
+    const uint32_t index[] = {(uint32_t)cursor.items, (uint32_t)cursor.place, 0, (uint32_t)cursor.commands};
+    struct kesvuot_symbol symbol;
+    uint64_t number;
+    size_t at;
+    uint32_t status = kesvuot_find_symbol(OF(held), index, 4, cursor.segment, &symbol, &at);
+    CHECK(status == KESVUOT_OK ? at < 4 && symbol.value <= cursor.segment : status == KESVUOT_NONE && at == 0);
+    CHECK(kesvuot_index_symbols(OF(held), NULL, 0) <= held->file.size);
+    const size_t size = held->file.size < 3 ? held->file.size : 3;
+    status = kesvuot_find_name(OF(held), held->file.bytes + (held->file.size - size) / 2, size, &symbol, &number);
+    CHECK(status == KESVUOT_OK ? symbol.strx > 0 : status == KESVUOT_NONE && number == 0);
 }
 
 static void check_any(const struct held *held, struct kesvuot_cursor cursor, size_t max) {
@@ -592,6 +684,7 @@ static void check_any(const struct held *held, struct kesvuot_cursor cursor, siz
     uint64_t version;
     uint32_t status = kesvuot_find_source_version(OF(held), &version);
     CHECK(status == KESVUOT_OK || (status == KESVUOT_NONE && version == 0));
+    check_any_symbol(held, cursor);
 }
 
 // The numbers of an image and of a cursor are set to bytes of the file, all or some.

@@ -69,7 +69,7 @@ enum {
     KESVUOT_OK = 0,
     KESVUOT_REFUSED = 1,   /* the bytes break a rule */
     KESVUOT_NO_MEMORY = 2, /* memory ran out: there is no verdict. kesvuot_verify says for which files this can be */
-    KESVUOT_NONE = 3,      /* there is no such rule, name, slice, command, table or address */
+    KESVUOT_NONE = 3,      /* there is no such rule, name, slice, command, table, symbol or address */
     KESVUOT_UNREAD = 4,    /* the slice is 32-bit or big-endian: nothing in it is judged */
     KESVUOT_ZERO = 5       /* the address is mapped, but to no byte of the file: a loader puts a zero there */
 };
@@ -272,6 +272,17 @@ struct kesvuot_explanation {
 uint32_t kesvuot_explain(const void *file, size_t size, const struct kesvuot_verdict *verdict,
                          struct kesvuot_explanation *explanation);
 
+/* The name of the architecture of a slice, such as "x86_64" or "arm64e", as LLVM's lipo prints it. The capability byte
+ * of the cpusubtype does not matter.
+ * OK: the name is written. NONE: the library knows no name for the numbers, and the name is empty. */
+uint32_t kesvuot_find_arch(uint32_t cputype, uint32_t cpusubtype, struct kesvuot_text *name);
+
+/* The same as a string, or a null pointer. */
+static inline const char *kesvuot_arch_name(uint32_t cputype, uint32_t cpusubtype) {
+    struct kesvuot_text name;
+    return kesvuot_find_arch(cputype, cpusubtype, &name) == KESVUOT_OK ? name.at : NULL;
+}
+
 /* An image
  *
  * <mach-o/loader.h> and <mach-o/nlist.h> explain the fields. The offset of a span counts from the start of the file.
@@ -464,6 +475,43 @@ size_t kesvuot_read_relocations(const void *file, size_t size, const struct kesv
 uint32_t kesvuot_symbol_name(const void *file, size_t size, const struct kesvuot_image *image, uint32_t strx,
                              struct kesvuot_span *name);
 
+/* Symbols by address
+ *
+ * An index names the symbols whose value is an address by their indices in the table of symbols, in the order of these
+ * addresses. Such a symbol has the type N_SECT, and is no debugging entry (N_STAB). Of symbols at one address, the one
+ * that is first in the table comes first. The caller has the memory of an index: image.symbol_count entries are enough.
+ *
+ *     size_t count = kesvuot_index_symbols(file, size, &image, index, max), at;
+ *     struct kesvuot_symbol symbol;
+ *     if (count <= max && kesvuot_find_symbol(file, size, &image, index, count, address, &symbol, &at) == KESVUOT_OK)
+ *         ; // address is symbol.value + (address - symbol.value), and index[at + 1] begins past it, if at + 1 < count
+ */
+
+/* Writes the index of an image, and returns how many entries it has. If that is more than `max`, nothing is written.
+ * It takes time in proportion to count * log(count) at most, and no memory. */
+size_t kesvuot_index_symbols(const void *file, size_t size, const struct kesvuot_image *image, uint32_t *index,
+                             size_t max);
+
+/* The nearest symbol at or before an address, before any slide, by an index that kesvuot_index_symbols has written. Of
+ * several symbols at one address it is the last in the table. It may be of another section than the address, or its end
+ * may be before the address: the format has no sizes of symbols.
+ * OK: the symbol, and in `at` the position of its entry: index[at] is its index in the table.
+ * NONE: no symbol of the index begins at or before the address. All fields are 0, but `section`, which is
+ * KESVUOT_NO_SECTION.
+ * With any other numbers in the index, the call finds an entry whose symbol begins at or before the address, while the
+ * next entry's, if there is one, does not. It makes a binary search, and reads no load commands. */
+uint32_t kesvuot_find_symbol(const void *file, size_t size, const struct kesvuot_image *image, const uint32_t *index,
+                             size_t count, uint64_t address, struct kesvuot_symbol *symbol, size_t *at);
+
+/* The first symbol in the table with this name, of `name_size` bytes, that is no debugging entry (N_STAB). It need not
+ * be defined in the image: look at its type.
+ * OK: the symbol, and in `number` its index in the table.
+ * NONE: there is no such symbol. All fields are 0, but `section`, which is KESVUOT_NO_SECTION.
+ * A symbol with strx 0 has no name, not an empty one. The call goes over all symbols, and compares at most name_size + 1
+ * bytes of each: for many names, read the symbols once. */
+uint32_t kesvuot_find_name(const void *file, size_t size, const struct kesvuot_image *image, const void *name,
+                           size_t name_size, struct kesvuot_symbol *symbol, uint64_t *number);
+
 /* The data of the first linkedit_data_command with this cmd, such as LC_CODE_SIGNATURE (0x1d) or LC_FUNCTION_STARTS
  * (0x26).
  * OK: all datasize bytes from dataoff on. If datasize is 0, there are none, whatever dataoff is.
@@ -518,52 +566,6 @@ uint32_t kesvuot_find_source_version(const void *file, size_t size, const struct
 uint32_t kesvuot_find_address(const void *file, size_t size, const struct kesvuot_image *image, uint64_t address,
                               struct kesvuot_span *bytes);
 
-/* The layout of the structures in the library, which is for 64-bit machines. C99 and C++98 cannot check it. */
-#if (defined(__cplusplus) && __cplusplus >= 201103L) || (defined(__STDC_VERSION__) && __STDC_VERSION__ >= 201112L)
-#ifdef __cplusplus
-#define KESVUOT_HOLDS(condition) static_assert(condition, #condition)
-#else
-#define KESVUOT_HOLDS(condition) _Static_assert(condition, #condition)
-#endif
-KESVUOT_HOLDS(sizeof(struct kesvuot_span) == 16);
-KESVUOT_HOLDS(sizeof(struct kesvuot_verdict) == 24);
-KESVUOT_HOLDS(sizeof(struct kesvuot_text) == 16);
-KESVUOT_HOLDS(sizeof(struct kesvuot_part) == 32);
-KESVUOT_HOLDS(sizeof(struct kesvuot_explanation) == 128);
-KESVUOT_HOLDS(sizeof(struct kesvuot_library) == 32);
-KESVUOT_HOLDS(sizeof(struct kesvuot_image) == 232);
-KESVUOT_HOLDS(sizeof(struct kesvuot_cursor) == 32);
-KESVUOT_HOLDS(sizeof(struct kesvuot_segment) == 96);
-KESVUOT_HOLDS(sizeof(struct kesvuot_section) == 96);
-KESVUOT_HOLDS(sizeof(struct kesvuot_build) == 16);
-KESVUOT_HOLDS(sizeof(struct kesvuot_command) == 40);
-KESVUOT_HOLDS(sizeof(struct kesvuot_symbol) == 24);
-KESVUOT_HOLDS(sizeof(struct kesvuot_relocation) == 16);
-KESVUOT_HOLDS(offsetof(struct kesvuot_verdict, rule) == 16);
-KESVUOT_HOLDS(offsetof(struct kesvuot_part, kind) == 24);
-KESVUOT_HOLDS(offsetof(struct kesvuot_explanation, value) == 96);
-KESVUOT_HOLDS(offsetof(struct kesvuot_explanation, slice) == 112);
-KESVUOT_HOLDS(offsetof(struct kesvuot_image, symbols) == 32);
-KESVUOT_HOLDS(offsetof(struct kesvuot_image, command_count) == 80);
-KESVUOT_HOLDS(offsetof(struct kesvuot_image, id) == 120);
-KESVUOT_HOLDS(offsetof(struct kesvuot_image, cputype) == 152);
-KESVUOT_HOLDS(offsetof(struct kesvuot_image, groups) == 176);
-KESVUOT_HOLDS(offsetof(struct kesvuot_image, uuid) == 200);
-KESVUOT_HOLDS(offsetof(struct kesvuot_segment, vmaddr) == 32);
-KESVUOT_HOLDS(offsetof(struct kesvuot_segment, section_count) == 80);
-KESVUOT_HOLDS(offsetof(struct kesvuot_section, offset) == 64);
-KESVUOT_HOLDS(offsetof(struct kesvuot_library, cmd) == 16);
-KESVUOT_HOLDS(offsetof(struct kesvuot_command, cmd) == 32);
-KESVUOT_HOLDS(offsetof(struct kesvuot_symbol, desc) == 16);
-KESVUOT_HOLDS(offsetof(struct kesvuot_relocation, scattered) == 12);
-#undef KESVUOT_HOLDS
-#endif
-
-#ifdef __cplusplus
-}
-#endif
-
-#endif
 /* Constants of the headers of the system. packaging/constants prints them from the sources of the library. */
 
 /* The load commands. (mach-o/loader.h) */
@@ -676,3 +678,49 @@ KESVUOT_HOLDS(offsetof(struct kesvuot_relocation, scattered) == 12);
 
 /* The end of the constants. */
 
+/* The layout of the structures in the library, which is for 64-bit machines. C99 and C++98 cannot check it. */
+#if (defined(__cplusplus) && __cplusplus >= 201103L) || (defined(__STDC_VERSION__) && __STDC_VERSION__ >= 201112L)
+#ifdef __cplusplus
+#define KESVUOT_HOLDS(condition) static_assert(condition, #condition)
+#else
+#define KESVUOT_HOLDS(condition) _Static_assert(condition, #condition)
+#endif
+KESVUOT_HOLDS(sizeof(struct kesvuot_span) == 16);
+KESVUOT_HOLDS(sizeof(struct kesvuot_verdict) == 24);
+KESVUOT_HOLDS(sizeof(struct kesvuot_text) == 16);
+KESVUOT_HOLDS(sizeof(struct kesvuot_part) == 32);
+KESVUOT_HOLDS(sizeof(struct kesvuot_explanation) == 128);
+KESVUOT_HOLDS(sizeof(struct kesvuot_library) == 32);
+KESVUOT_HOLDS(sizeof(struct kesvuot_image) == 232);
+KESVUOT_HOLDS(sizeof(struct kesvuot_cursor) == 32);
+KESVUOT_HOLDS(sizeof(struct kesvuot_segment) == 96);
+KESVUOT_HOLDS(sizeof(struct kesvuot_section) == 96);
+KESVUOT_HOLDS(sizeof(struct kesvuot_build) == 16);
+KESVUOT_HOLDS(sizeof(struct kesvuot_command) == 40);
+KESVUOT_HOLDS(sizeof(struct kesvuot_symbol) == 24);
+KESVUOT_HOLDS(sizeof(struct kesvuot_relocation) == 16);
+KESVUOT_HOLDS(offsetof(struct kesvuot_verdict, rule) == 16);
+KESVUOT_HOLDS(offsetof(struct kesvuot_part, kind) == 24);
+KESVUOT_HOLDS(offsetof(struct kesvuot_explanation, value) == 96);
+KESVUOT_HOLDS(offsetof(struct kesvuot_explanation, slice) == 112);
+KESVUOT_HOLDS(offsetof(struct kesvuot_image, symbols) == 32);
+KESVUOT_HOLDS(offsetof(struct kesvuot_image, command_count) == 80);
+KESVUOT_HOLDS(offsetof(struct kesvuot_image, id) == 120);
+KESVUOT_HOLDS(offsetof(struct kesvuot_image, cputype) == 152);
+KESVUOT_HOLDS(offsetof(struct kesvuot_image, groups) == 176);
+KESVUOT_HOLDS(offsetof(struct kesvuot_image, uuid) == 200);
+KESVUOT_HOLDS(offsetof(struct kesvuot_segment, vmaddr) == 32);
+KESVUOT_HOLDS(offsetof(struct kesvuot_segment, section_count) == 80);
+KESVUOT_HOLDS(offsetof(struct kesvuot_section, offset) == 64);
+KESVUOT_HOLDS(offsetof(struct kesvuot_library, cmd) == 16);
+KESVUOT_HOLDS(offsetof(struct kesvuot_command, cmd) == 32);
+KESVUOT_HOLDS(offsetof(struct kesvuot_symbol, desc) == 16);
+KESVUOT_HOLDS(offsetof(struct kesvuot_relocation, scattered) == 12);
+#undef KESVUOT_HOLDS
+#endif
+
+#ifdef __cplusplus
+}
+#endif
+
+#endif

@@ -67,13 +67,40 @@ static void try_platform(uint32_t platform, const char *wanted) {
     try_name(status, text, kesvuot_platform_name(platform), wanted);
 }
 
+static void try_arch(uint32_t cputype, uint32_t cpusubtype, const char *wanted) {
+    struct kesvuot_text text;
+    const uint32_t status = kesvuot_find_arch(cputype, cpusubtype, &text);
+    try_name(status, text, kesvuot_arch_name(cputype, cpusubtype), wanted);
+}
+
+// By mach/machine.h, and the names that LLVM's lipo prints.
+static void try_architectures(void) {
+    try_arch(7, 3, "i386");
+    try_arch(0x01000007, 3, "x86_64");
+    try_arch(0x01000007, 8, "x86_64h");
+    try_arch(12, 9, "armv7");
+    try_arch(12, 11, "armv7s");
+    try_arch(0x0100000c, 0, "arm64");
+    try_arch(0x0100000c, 2, "arm64e");
+    try_arch(0x0200000c, 1, "arm64_32");
+    try_arch(18, 0, "ppc");
+    // With capabilities, and the constants.
+    try_arch(0x01000007, 0x80000003, "x86_64");
+    try_arch(KESVUOT_CPU_TYPE_ARM64, KESVUOT_CPU_SUBTYPE_ARM64E | KESVUOT_CPU_SUBTYPE_MASK, "arm64e");
+    const uint32_t none[][2] = {{0, 0}, {3, 7}, {0x01000007, 4}, {0x0100000c, 7}, {0x0100000c, 0x01000000 - 1},
+                                {0x03000007, 3}, {UINT32_MAX, UINT32_MAX}};
+    for (size_t index = 0; index < sizeof none / sizeof *none; index++) {
+        try_arch(none[index][0], none[index][1], NULL);
+    }
+}
+
 // By mach-o/loader.h. 0x18 and 0x1c are without the bit LC_REQ_DYLD.
 static void try_names_of_numbers(void) {
     try_command(0x1, "LC_SEGMENT");
     try_command(0x19, "LC_SEGMENT_64");
     try_command(0x1d, "LC_CODE_SIGNATURE");
     try_command(0x80000028, "LC_MAIN");
-    try_command(0x80000034, "LC_DYLD_CHAINED_FIXUPS");
+    try_command(KESVUOT_LC_DYLD_CHAINED_FIXUPS, "LC_DYLD_CHAINED_FIXUPS");
     const uint32_t none[] = {0, 0x18, 0x1c, 0x28, 0x7fffffff, UINT32_MAX};
     for (size_t index = 0; index < sizeof none / sizeof *none; index++) {
         try_command(none[index], NULL);
@@ -511,6 +538,146 @@ static void try_no_image(void) {
     }
 }
 
+// Symbols by address and by name
+
+// An executable of one section at 0x1000, whose symbols are not in the order of their addresses.
+struct symbols {
+    uint32_t header[8], segment[18], section[20], symtab[6];
+    struct {
+        uint32_t strx;
+        uint8_t type, sect;
+        uint16_t desc;
+        uint64_t value;
+    } rows[7];
+    char strings[11];
+};
+
+enum { MADE_SIZE = 208 + 7 * 16 + 11 };
+
+static const struct symbols made = {
+    {0xfeedfacf, 0x01000007, 3, 2, 2, 72 + 80 + 24, 0, 0},
+    {0x19, 72 + 80, 'A', 0, 0, 0, 0x1000, 0, 0x100, 0, 0, 0, 0, 0, 7, 5, 1, 0},
+    {'a', 0, 0, 0, 'A', 0, 0, 0, 0x1000, 0, 0x100, 0, 0, 0, 0, 0, 1, 0, 0, 0},
+    {2, 24, 208, 7, 208 + 7 * 16, 11},
+    {{4, 0x0f, 1, 0, 0x1080},  // _b
+     {1, 0x24, 1, 0, 0x1000},  // _a: a debugging entry
+     {1, 0x0f, 1, 0, 0x1010},  // _a
+     {7, 0x0e, 1, 0, 0x1080},  // _ab
+     {4, 0x01, 0, 0, 0x1001},  // _b: undefined
+     {0, 0x0e, 1, 0, 0x1000},  // without a name
+     {3, 0x02, 0, 0, 0x1005}}, // an empty name: absolute
+    "\0_a\0_b\0_ab"};
+static const uint32_t made_index[] = {5, 2, 0, 3};
+enum { MADE_COUNT = 4 };
+
+static bool is_no_symbol(struct kesvuot_symbol symbol) {
+    struct kesvuot_symbol none;
+    memset(&none, 0, sizeof none);
+    none.section = KESVUOT_NO_SECTION;
+    return memcmp(&symbol, &none, sizeof none) == 0;
+}
+
+// The row of the made file with this index is the symbol.
+static bool is_made(struct kesvuot_symbol symbol, size_t number) {
+    return symbol.value == made.rows[number].value && symbol.strx == made.rows[number].strx &&
+           symbol.type == made.rows[number].type && symbol.sect == made.rows[number].sect &&
+           symbol.section == (symbol.sect ? 0 : KESVUOT_NO_SECTION);
+}
+
+static void try_index(struct file file, const struct kesvuot_image *image) {
+    for (size_t room = 0; room <= MADE_COUNT + 2; room++) {
+        const struct file given = room_of(room * sizeof(uint32_t), AT_END);
+        CHECK(kesvuot_index_symbols(file.bytes, file.size, image, (uint32_t *)(void *)given.bytes, room) == MADE_COUNT);
+        const size_t written = room < MADE_COUNT ? 0 : sizeof made_index;
+        CHECK(memcmp(given.bytes, made_index, written) == 0);
+        CHECK(is_filled(given.bytes + written, given.size - written, UNWRITTEN));
+        release(given);
+    }
+    CHECK(kesvuot_index_symbols(file.bytes, file.size, image, NULL, 0) == MADE_COUNT);
+}
+
+// Finds by an index of any numbers the entry at a position, or none.
+static void try_address(struct file file, const struct kesvuot_image *image, const uint32_t *index, size_t count,
+                        uint64_t address, size_t wanted) {
+    struct kesvuot_symbol symbol;
+    size_t at = UNWRITTEN;
+    memset(&symbol, UNWRITTEN, sizeof symbol);
+    const uint32_t status = kesvuot_find_symbol(file.bytes, file.size, image, index, count, address, &symbol, &at);
+    if (wanted < count) {
+        CHECK(status == KESVUOT_OK && at == wanted && is_made(symbol, index[wanted]));
+    } else {
+        CHECK(status == KESVUOT_NONE && at == 0 && is_no_symbol(symbol));
+    }
+}
+
+static void try_symbols_by_address(struct file file, const struct kesvuot_image *image) {
+    const struct {
+        uint64_t address;
+        size_t wanted;
+    } answers[] = {{0, MADE_COUNT}, {0xfff, MADE_COUNT}, {0x1000, 0}, {0x100f, 0}, {0x1010, 1}, {0x107f, 1},
+                   {0x1080, 3}, {0x1081, 3}, {UINT64_MAX, 3}};
+    for (size_t k = 0; k < sizeof answers / sizeof *answers; k++) {
+        try_address(file, image, made_index, MADE_COUNT, answers[k].address, answers[k].wanted);
+        try_address(file, image, NULL, 0, answers[k].address, 0);
+    }
+    // Other numbers: of no symbol, and in another order.
+    const uint32_t past[] = {5, 7, UINT32_MAX}, other[] = {6, 4, 0};
+    try_address(file, image, past, 3, 0x1000, 0);
+    try_address(file, image, past + 1, 2, UINT64_MAX, 2);
+    try_address(file, image, other, 3, 0x1001, 1);
+    try_address(file, image, other, 3, UINT64_MAX, 2);
+    struct kesvuot_image without = *image;
+    without.symbol_count = UINT64_MAX;
+    try_address(file, &without, made_index, MADE_COUNT, UINT64_MAX, MADE_COUNT);
+    CHECK(kesvuot_index_symbols(file.bytes, file.size, &without, NULL, 0) == 0);
+}
+
+static void try_symbol_named(struct file file, const struct kesvuot_image *image, const char *name, size_t size,
+                             size_t wanted) {
+    struct kesvuot_symbol symbol;
+    uint64_t number = UNWRITTEN;
+    memset(&symbol, UNWRITTEN, sizeof symbol);
+    const uint32_t status = kesvuot_find_name(file.bytes, file.size, image, name, size, &symbol, &number);
+    if (wanted < 7) {
+        CHECK(status == KESVUOT_OK && number == wanted && is_made(symbol, wanted));
+    } else {
+        CHECK(status == KESVUOT_NONE && number == 0 && is_no_symbol(symbol));
+    }
+}
+
+static void try_symbols_by_name(struct file file, const struct kesvuot_image *image) {
+    try_symbol_named(file, image, "_a", 2, 2);
+    try_symbol_named(file, image, "_b", 2, 0);
+    try_symbol_named(file, image, "_ab", 3, 3);
+    try_symbol_named(file, image, "", 0, 6);
+    try_symbol_named(file, image, NULL, 0, 6);
+    try_symbol_named(file, image, "_", 1, 7);
+    try_symbol_named(file, image, "_a", 3, 7);
+    try_symbol_named(file, image, "_b\0_ab", 6, 7);
+    try_symbol_named(file, image, "_abc", 4, 7);
+    // The last string has no zero byte, so it is no name.
+    struct kesvuot_image cut = *image;
+    cut.strings_size--;
+    try_symbol_named(file, &cut, "_ab", 3, 7);
+    try_symbol_named(file, &cut, "_b", 2, 0);
+    cut.strings_size = 0;
+    try_symbol_named(file, &cut, "", 0, 7);
+    cut.symbol_count = 0;
+    try_symbol_named(file, &cut, "_a", 2, 7);
+}
+
+static void try_symbols(void) {
+    struct kesvuot_verdict verdict;
+    struct kesvuot_image image;
+    const struct file file = file_of(&made, MADE_SIZE, AT_END);
+    CHECK(kesvuot_verify(file.bytes, file.size, &verdict) == KESVUOT_OK);
+    CHECK(kesvuot_read_image(file.bytes, file.size, 0, &image) == KESVUOT_OK);
+    try_index(file, &image);
+    try_symbols_by_address(file, &image);
+    try_symbols_by_name(file, &image);
+    release(file);
+}
+
 int main(int count, char **words) {
     if (count != 3) {
         stop("usage", "calls LIBRARY MIXED");
@@ -519,6 +686,7 @@ int main(int count, char **words) {
     mixed = read_file(words[2], side_or_block(AT_END));
     try_version_and_rules();
     try_names_of_numbers();
+    try_architectures();
     try_verdicts();
     try_layouts();
     try_explanations();
@@ -537,6 +705,7 @@ int main(int count, char **words) {
     try_relocations();
     try_versions();
     try_no_image();
+    try_symbols();
     release(library);
     release(mixed);
     return print_counts("calls");

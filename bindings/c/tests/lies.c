@@ -163,6 +163,31 @@ static void take_explanation(size_t size) {
     }
 }
 
+// Searches an index of the library, or of any numbers, and then for a name that is bytes of the file.
+static void take_symbols(const struct kesvuot_image *image, size_t size) {
+    uint32_t index[MOST_ROWS];
+    struct kesvuot_symbol symbol;
+    uint64_t number;
+    size_t at, count = draw_below(MOST_ROWS + 1);
+    const size_t wanted = kesvuot_index_symbols(file.bytes, size, image, index, count);
+    CHECK(wanted <= size);
+    if (wanted > count || draw_below(2)) {
+        for (size_t k = 0; k < count; k++) {
+            index[k] = (uint32_t)lie(draw_below(12));
+        }
+    } else {
+        count = wanted;
+    }
+    const uint64_t address = draw_below(2) ? lie(image->base) : image->base + draw_below(0x20000);
+    uint32_t status = kesvuot_find_symbol(file.bytes, size, image, index, count, address, &symbol, &at);
+    CHECK(status == KESVUOT_OK ? at < count && symbol.value <= address : status == KESVUOT_NONE && at == 0);
+    const size_t start = draw_below(size + 1), most = size - start;
+    status = kesvuot_find_name(file.bytes, size, image, file.bytes + start, draw_below(most < 9 ? most + 1 : 9), &symbol,
+                               &number);
+    CHECK(status == KESVUOT_OK ? symbol.strx > 0 && number < size : status == KESVUOT_NONE && number == 0);
+    calls++;
+}
+
 static void take_all(const struct kesvuot_image *image, size_t size) {
     static const uint32_t cmds[] = {0x1d, 0x1e, 0x26, 0x29, 0x2b, 0x2e, 0x80000033, 0x80000034, 0x2, 0x19};
     struct kesvuot_span bytes;
@@ -171,6 +196,7 @@ static void take_all(const struct kesvuot_image *image, size_t size) {
     take_bounded(image, size);
     take_explanation(size);
     take_name(image, size, (uint32_t)lie(draw_below(0x200)));
+    take_symbols(image, size);
     kesvuot_find_data(file.bytes, size, image, cmds[draw_below(sizeof cmds / sizeof *cmds)], &bytes);
     take(bytes, size);
     const uint64_t address = draw_below(2) ? lie(image->base) : image->base + draw_below(0x20000);

@@ -180,10 +180,35 @@ static size_t find_address(const struct file *file, const struct kesvuot_image *
     return kesvuot_find_address(file->bytes, file->size, image, image->base, &bytes) == KESVUOT_OK;
 }
 
+enum { MOST_SYMBOLS = 1 << 20 };
+
+static uint32_t symbol_index[MOST_SYMBOLS];
+
+static size_t index_symbols(const struct file *file, const struct kesvuot_image *image) {
+    return kesvuot_index_symbols(file->bytes, file->size, image, symbol_index, MOST_SYMBOLS);
+}
+
+static size_t find_symbol(const struct file *file, const struct kesvuot_image *image) {
+    struct kesvuot_symbol symbol;
+    size_t at = 0;
+    const size_t count = index_symbols(file, image);
+    kesvuot_find_symbol(file->bytes, file->size, image, symbol_index, count < MOST_SYMBOLS ? count : MOST_SYMBOLS,
+                        UINT64_MAX, &symbol, &at);
+    return at;
+}
+
+static size_t find_name(const struct file *file, const struct kesvuot_image *image) {
+    static const char name[] = "_no symbol";
+    struct kesvuot_symbol symbol;
+    uint64_t number;
+    return kesvuot_find_name(file->bytes, file->size, image, name, sizeof name - 1, &symbol, &number) == KESVUOT_OK;
+}
+
 const struct view views[VIEWS] = {
     {"read_commands", read_commands}, {"read_segments", read_segments}, {"read_sections", read_sections},
     {"read_libraries", read_libraries}, {"read_builds", read_builds}, {"read_symbols", read_symbols},
     {"read_indirects", read_indirects}, {"symbol_name", symbol_name}, {"find_data", find_data},
     {"find_address", find_address}, {"read_relocations", read_relocations}, {"find_table", find_table},
-    {"find_source_version", find_source_version},
+    {"find_source_version", find_source_version}, {"index_symbols", index_symbols}, {"find_symbol", find_symbol},
+    {"find_name", find_name},
 };
