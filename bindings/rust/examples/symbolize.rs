@@ -7,8 +7,8 @@
 //!
 //!     0xADDRESS SYMBOL + 0xOFFSET (SEGMENT,SECTION)
 //!
-//! with the section's symbol at the greatest address up to ADDRESS; if several have this address,
-//! the last in the table. It is `0xADDRESS ? (SEGMENT,SECTION)` if there is no such symbol, and
+//! with the nearest symbol at or before ADDRESS; if several have its address, the last in the table.
+//! It is `0xADDRESS ? (SEGMENT,SECTION)` if there is none, or it is of another section, and
 //! `0xADDRESS ?` if no section has the address.
 //!
 //!     cd bindings/rust
@@ -24,29 +24,23 @@ use std::path::Path;
 use std::process::ExitCode;
 use std::{env, fmt, fs};
 
-use kesvuot::{Image, Section, Segment, Symbol};
+use kesvuot::{Image, Section, Segment, Symbol, SymbolIndex};
 
-/// The tables of an image. Of the symbols these are the ones that name an address of a section: the
-/// index of the section, the address, and the index of the symbol, in this order.
+/// The tables of an image.
 struct Tables<'a> {
     image: Image<'a>,
     segments: Vec<Segment<'a>>,
     sections: Vec<Section<'a>>,
-    symbols: Vec<(usize, u64, u64)>,
+    symbols: SymbolIndex<'a>,
 }
 
 impl<'a> Tables<'a> {
     fn of(image: Image<'a>) -> Self {
-        let mut symbols: Vec<_> = (0..)
-            .zip(image.symbols())
-            .filter_map(|(index, symbol)| Some((symbol.section_index()?, symbol.value, index)))
-            .collect();
-        symbols.sort_unstable();
         Tables {
             image,
             segments: image.segments().collect(),
             sections: image.sections().collect(),
-            symbols,
+            symbols: image.symbol_index(),
         }
     }
 
@@ -62,16 +56,10 @@ impl<'a> Tables<'a> {
         })
     }
 
-    /// The last symbol of a section at or before an address. symbol-section: each symbol is in a
-    /// section that exists.
+    /// The nearest symbol at or before an address, if it is of this section.
     fn symbol_at(&self, section: usize, address: u64) -> Option<Symbol> {
-        let end = self
-            .symbols
-            .partition_point(|&(index, value, _)| (index, value) <= (section, address));
-        match self.symbols[..end].last() {
-            Some(&(index, _, symbol)) if index == section => self.image.symbol(symbol),
-            _ => None,
-        }
+        let symbol = self.symbols.symbol_at(address)?;
+        (symbol.section == Some(section)).then_some(symbol)
     }
 
     fn write_line(&self, out: &mut impl Write, address: u64) -> io::Result<()> {

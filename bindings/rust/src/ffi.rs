@@ -216,6 +216,7 @@ extern "C" {
     fn kesvuot_find_rule(rule: u32, name: *mut Text) -> u32;
     fn kesvuot_find_command(cmd: u32, name: *mut Text) -> u32;
     fn kesvuot_find_platform(platform: u32, name: *mut Text) -> u32;
+    fn kesvuot_find_arch(cputype: u32, cpusubtype: u32, name: *mut Text) -> u32;
     fn kesvuot_verify(file: *const c_void, size: usize, verdict: *mut Verdict) -> u32;
     fn kesvuot_verify_strictly(file: *const c_void, size: usize, verdict: *mut Verdict) -> u32;
     fn kesvuot_verify_linked(file: *const c_void, size: usize, verdict: *mut Verdict) -> u32;
@@ -277,6 +278,32 @@ extern "C" {
         address: u64,
         bytes: *mut Span,
     ) -> u32;
+    fn kesvuot_index_symbols(
+        file: *const c_void,
+        size: usize,
+        image: *const Image,
+        index: *mut u32,
+        max: usize,
+    ) -> usize;
+    fn kesvuot_find_symbol(
+        file: *const c_void,
+        size: usize,
+        image: *const Image,
+        index: *const u32,
+        count: usize,
+        address: u64,
+        symbol: *mut Symbol,
+        at: *mut usize,
+    ) -> u32;
+    fn kesvuot_find_name(
+        file: *const c_void,
+        size: usize,
+        image: *const Image,
+        name: *const c_void,
+        name_size: usize,
+        symbol: *mut Symbol,
+        number: *mut u64,
+    ) -> u32;
 }
 
 /// The major version of the library whose structures these are.
@@ -288,15 +315,13 @@ pub fn version() -> u32 {
     unsafe { kesvuot_version() }
 }
 
-/// A name of the library for a number. `None` if it has none.
-fn name_by(call: unsafe extern "C" fn(u32, *mut Text) -> u32, number: u32) -> Option<&'static str> {
+/// A name of the library, which a call writes. `None` if it has none.
+fn name_by(call: impl FnOnce(&mut Text) -> u32) -> Option<&'static str> {
     let mut name = Text {
         at: ptr::null(),
         size: 0,
     };
-    // SAFETY: the name may be written.
-    let status = unsafe { call(number, &mut name) };
-    if status != OK {
+    if call(&mut name) != OK {
         return None;
     }
     // SAFETY: with this status, it is a constant of the library, of so many bytes.
@@ -306,17 +331,26 @@ fn name_by(call: unsafe extern "C" fn(u32, *mut Text) -> u32, number: u32) -> Op
 
 /// The name of the rule with this number. `None` if there is no such rule.
 pub fn rule(number: u32) -> Option<&'static str> {
-    name_by(kesvuot_find_rule, number)
+    // SAFETY: the name may be written.
+    name_by(|name| unsafe { kesvuot_find_rule(number, name) })
 }
 
 /// The name of the load commands with this `cmd`.
 pub fn command(cmd: u32) -> Option<&'static str> {
-    name_by(kesvuot_find_command, cmd)
+    // SAFETY: the name may be written.
+    name_by(|name| unsafe { kesvuot_find_command(cmd, name) })
 }
 
 /// The name of a platform.
 pub fn platform(number: u32) -> Option<&'static str> {
-    name_by(kesvuot_find_platform, number)
+    // SAFETY: the name may be written.
+    name_by(|name| unsafe { kesvuot_find_platform(number, name) })
+}
+
+/// The name of an architecture.
+pub fn arch(cputype: u32, cpusubtype: u32) -> Option<&'static str> {
+    // SAFETY: the name may be written.
+    name_by(|name| unsafe { kesvuot_find_arch(cputype, cpusubtype, name) })
 }
 
 /// Room for the layout of most files. A longer one takes a second call.
@@ -493,6 +527,50 @@ pub fn find_address(file: &[u8], image: &Image, address: u64) -> (u32, Span) {
     // SAFETY: as in `symbol_name`.
     let status = unsafe { kesvuot_find_address(at, file.len(), image, address, &mut bytes) };
     (status, bytes)
+}
+
+/// Writes the index of the symbols to a list that has room for it, and returns how many entries it has.
+pub fn index_symbols(file: &[u8], image: &Image, index: &mut [u32]) -> usize {
+    let (at, max) = (file.as_ptr().cast(), index.len());
+    // SAFETY: the file may be read, and nobody changes it meanwhile. The index may be written.
+    unsafe { kesvuot_index_symbols(at, file.len(), image, index.as_mut_ptr(), max) }
+}
+
+/// The status, the nearest symbol at or before an address, and the position of its entry in the index.
+pub fn find_symbol(
+    file: &[u8],
+    image: &Image,
+    index: &[u32],
+    address: u64,
+) -> (u32, Symbol, usize) {
+    let (at, mut symbol, mut position) = (file.as_ptr().cast(), Symbol::default(), 0);
+    let (entries, count) = (index.as_ptr(), index.len());
+    // SAFETY: the file and the index may be read, and nobody changes them meanwhile. The symbol and
+    // the position may be written.
+    let status = unsafe {
+        kesvuot_find_symbol(
+            at,
+            file.len(),
+            image,
+            entries,
+            count,
+            address,
+            &mut symbol,
+            &mut position,
+        )
+    };
+    (status, symbol, position)
+}
+
+/// The status, the first symbol with a name, and its index in the table.
+pub fn find_name(file: &[u8], image: &Image, name: &[u8]) -> (u32, Symbol, u64) {
+    let (at, mut symbol, mut number) = (file.as_ptr().cast(), Symbol::default(), 0);
+    let (start, size) = (name.as_ptr().cast(), name.len());
+    // SAFETY: the file and the name may be read, and nobody changes them meanwhile. The symbol and
+    // the number may be written.
+    let status =
+        unsafe { kesvuot_find_name(at, file.len(), image, start, size, &mut symbol, &mut number) };
+    (status, symbol, number)
 }
 
 #[cfg(test)]

@@ -9,6 +9,7 @@ use crate::parts::{
     Build, Command, Indirect, Library, Relocation, Section, Segment, Symbol, Table,
 };
 use crate::rows::{Row, Rows};
+use crate::symbol_index::SymbolIndex;
 
 /// An image of an accepted file.
 ///
@@ -125,6 +126,13 @@ impl<'a> Image<'a> {
     #[must_use]
     pub fn capabilities(&self) -> u32 {
         self.raw.capabilities
+    }
+
+    /// The name of the architecture, such as `arm64e`, as LLVM's `lipo` prints it. `None` if the library
+    /// knows none.
+    #[must_use]
+    pub fn arch(&self) -> Option<&'static str> {
+        ffi::arch(self.raw.cputype, self.raw.cpusubtype)
     }
 
     /// `filetype` of the header, such as `MH_EXECUTE`.
@@ -320,6 +328,33 @@ impl<'a> Image<'a> {
     #[must_use]
     pub fn symbol(&self, index: u64) -> Option<Symbol> {
         self.row(index)
+    }
+
+    /// The first symbol in the table with this name, and its index. It is no debugging entry
+    /// (`N_STAB`), and need not be defined in the image. `None` if there is none.
+    ///
+    /// The call goes over all symbols, and compares at most one byte more of each than the name has.
+    ///
+    /// ```
+    /// # let path = concat!(env!("CARGO_MANIFEST_DIR"), "/../../tests/real/program");
+    /// # let file = std::fs::read(path)?;
+    /// # let image = kesvuot::verify(&file)?.image(0).unwrap();
+    /// let (index, symbol) = image.symbol_named("_start").unwrap();
+    /// assert_eq!(symbol.value, 0x1_0000_0440);
+    /// assert_eq!(image.symbol(index), Some(symbol));
+    /// assert_eq!(image.symbol_named("_star"), None);
+    /// # Ok::<(), Box<dyn std::error::Error>>(())
+    /// ```
+    #[must_use]
+    pub fn symbol_named(&self, name: impl AsRef<[u8]>) -> Option<(u64, Symbol)> {
+        let (status, symbol, number) = ffi::find_name(self.file, &self.raw, name.as_ref());
+        (status == ffi::OK).then(|| (number, Symbol::new(symbol, self)))
+    }
+
+    /// The symbols by address: sort them once, and look up many addresses.
+    #[must_use]
+    pub fn symbol_index(&self) -> SymbolIndex<'a> {
+        SymbolIndex::of(*self)
     }
 
     /// The indirect entries, in the order of the table.

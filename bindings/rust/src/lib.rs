@@ -51,18 +51,24 @@ mod error;
 mod explain;
 #[allow(unsafe_code)]
 mod ffi;
+#[cfg(feature = "std")]
+mod file;
 mod image;
 mod parts;
 mod rows;
 mod rule;
+mod symbol_index;
 mod verified;
 
 pub use error::Error;
 pub use explain::{explain, Explanation, Part, PartKind};
+#[cfg(feature = "std")]
+pub use file::{verify_file, FileError};
 pub use image::{Dysymtab, Image, Source, Symtab};
 pub use parts::{Build, Command, Indirect, Library, Relocation, Section, Segment, Symbol, Table};
 pub use rows::Rows;
 pub use rule::{ParseRuleError, Rule};
+pub use symbol_index::SymbolIndex;
 pub use verified::{Slice, Slices, Verified, VerifiedBuf};
 
 /// Judges a file by the rules of the layout.
@@ -131,6 +137,18 @@ pub fn command_name(cmd: u32) -> Option<&'static str> {
 #[must_use]
 pub fn platform_name(platform: u32) -> Option<&'static str> {
     ffi::platform(platform)
+}
+
+/// The name of an architecture, such as `arm64e`, as LLVM's `lipo` prints it. The capability byte of the
+/// `cpusubtype` does not matter. `None` if the library knows none.
+///
+/// ```
+/// assert_eq!(kesvuot::arch_name(0x0100_000c, 0x8000_0002), Some("arm64e"));
+/// assert_eq!(kesvuot::arch_name(0x0100_000c, 7), None);
+/// ```
+#[must_use]
+pub fn arch_name(cputype: u32, cpusubtype: u32) -> Option<&'static str> {
+    ffi::arch(cputype, cpusubtype)
 }
 
 /// The version of the library that is linked: major, minor and patch.

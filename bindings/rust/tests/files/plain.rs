@@ -1,7 +1,7 @@
 //! The parts of an image, read from its bytes by the structures of `<mach-o/loader.h>` and
 //! `<mach-o/nlist.h>` alone, and compared with what the crate gives.
 
-use kesvuot::{Image, Library, Source, Table};
+use kesvuot::{Image, Library, Source, Symbol, Table};
 
 const LC_SYMTAB: u32 = 0x2;
 const LC_DYSYMTAB: u32 = 0xb;
@@ -98,6 +98,7 @@ pub fn compare(image: &Image) {
     compare_segments(image, &commands);
     compare_sections(image, &commands);
     compare_symbols(image, &commands);
+    compare_lookups(image);
     compare_groups(image, &commands);
     compare_indirects(image, &commands);
     compare_linkedit(image, &commands);
@@ -302,6 +303,55 @@ fn compare_symbols(image: &Image, commands: &[Plain]) {
         image.symbols().last()
     );
     assert_eq!(image.symbol(nsyms), None);
+}
+
+/// Of symbols with an index, the nearest at or before an address.
+fn nearest(symbols: &[(u64, Symbol)], address: u64) -> Option<(u64, Symbol)> {
+    symbols
+        .iter()
+        .filter(|(_, symbol)| symbol.value <= address)
+        .max_by_key(|(index, symbol)| (symbol.value, *index))
+        .copied()
+}
+
+/// The symbols by address and by name, each of which goes over all symbols here. So only some are looked
+/// up.
+fn compare_lookups(image: &Image) {
+    let all: Vec<_> = (0..).zip(image.symbols()).collect();
+    let is_plain = |symbol: &Symbol| symbol.kind & 0xe0 == 0;
+    let mut found: Vec<_> = all
+        .iter()
+        .filter(|(_, symbol)| is_plain(symbol) && symbol.kind & 0x0e == 0x0e)
+        .copied()
+        .collect();
+    let index = image.symbol_index();
+    for (_, symbol) in found.iter().take(9) {
+        for address in [
+            symbol.value,
+            symbol.value.wrapping_sub(1),
+            symbol.value.wrapping_add(1),
+        ] {
+            let wanted = nearest(&found, address);
+            assert_eq!(index.symbol_at(address), wanted.map(|(_, symbol)| symbol));
+            let position = index.position_at(address);
+            let number = position.map(|position| u64::from(index.indices()[position]));
+            assert_eq!(number, wanted.map(|(number, _)| number));
+        }
+    }
+    found.sort_by_key(|(index, symbol)| (symbol.value, *index));
+    let indices = found.iter().map(|(index, _)| *index as u32);
+    assert_eq!(index.indices(), indices.collect::<Vec<_>>());
+    let names = all.iter().filter_map(|(_, symbol)| image.name(symbol));
+    for name in names.take(9) {
+        // Each name is read up to its end: not those of all symbols.
+        let named = all
+            .iter()
+            .take(99)
+            .find(|(_, other)| is_plain(other) && image.name(other) == Some(name));
+        if named.is_some() || all.len() <= 99 {
+            assert_eq!(image.symbol_named(name), named.copied());
+        }
+    }
 }
 
 fn compare_groups(image: &Image, commands: &[Plain]) {
