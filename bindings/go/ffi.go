@@ -150,6 +150,14 @@ func PlatformName(platform uint32) string {
 	return C.GoStringN(name.at, C.int(name.size))
 }
 
+// ArchName returns the name of an architecture, such as "arm64e", as LLVM's lipo prints it, or "" if the library knows
+// none. The capability byte of the cpusubtype does not matter.
+func ArchName(cpuType, cpuSubtype uint32) string {
+	var name C.struct_kesvuot_text
+	C.kesvuot_find_arch(C.uint32_t(cpuType), C.uint32_t(cpuSubtype), &name)
+	return C.GoStringN(name.at, C.int(name.size))
+}
+
 // Room for the layout of most files. A longer one takes a second call.
 const layoutRoom = 1 << 14
 
@@ -310,6 +318,42 @@ func readAt(image *Image, address uint64) Source {
 	default:
 		return Source{Kind: Unmapped}
 	}
+}
+
+// An indexEntry is the index of a symbol.
+type indexEntry = C.uint32_t
+
+// readIndex returns the indices of the symbols whose value is an address, by ascending addresses. There are none if the
+// bytes have changed so that there is no room.
+func readIndex(image *Image) []indexEntry {
+	room := C.size_t(image.numbers.symbol_count)
+	index := make([]indexEntry, room+1)
+	count := C.kesvuot_index_symbols(unsafe.Pointer(&image.file[0]), C.size_t(len(image.file)), &image.numbers,
+		&index[0], room)
+	if count > room {
+		return nil
+	}
+	return index[:count]
+}
+
+// findSymbol returns the nearest symbol at or before an address, by an index.
+func findSymbol(image *Image, index []indexEntry, address uint64) (row symbolRow, ok bool) {
+	if len(index) == 0 {
+		return row, false
+	}
+	var at C.size_t
+	status := C.kesvuot_find_symbol(unsafe.Pointer(&image.file[0]), C.size_t(len(image.file)), &image.numbers, &index[0],
+		C.size_t(len(index)), C.uint64_t(address), &row, &at)
+	return row, status == C.KESVUOT_OK
+}
+
+// findName returns the first symbol with a name.
+func findName(image *Image, name string) (row symbolRow, ok bool) {
+	bytes := atLeastOne([]byte(name))
+	var number C.uint64_t
+	status := C.kesvuot_find_name(unsafe.Pointer(&image.file[0]), C.size_t(len(image.file)), &image.numbers,
+		unsafe.Pointer(&bytes[0]), C.size_t(len(name)), &row, &number)
+	return row, status == C.KESVUOT_OK
 }
 
 // placeIn returns where a part of the bytes begins in them, and whether it is a part of them. One of no bytes is none.

@@ -1,6 +1,9 @@
 package kesvuot
 
-import "fmt"
+import (
+	"fmt"
+	"sync"
+)
 
 // An Image is a 64-bit image of an accepted file. Offsets count from the start of the image, but Place from the start
 // of the file. Addresses are those before any slide.
@@ -20,6 +23,9 @@ type Image struct {
 
 	file    []byte
 	numbers numbers
+	// The symbols by address, which the first look-up sorts.
+	sorting sync.Once
+	index   []indexEntry
 }
 
 func newImage(file []byte, slice Slice, numbers *numbers) *Image {

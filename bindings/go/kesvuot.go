@@ -30,6 +30,8 @@ package kesvuot
 import (
 	"errors"
 	"fmt"
+	"io"
+	"os"
 )
 
 // ErrMemory says that memory ran out. There is no verdict, and nothing is claimed about the file.
@@ -64,6 +66,42 @@ func VerifyStrictly(file []byte) (*File, error) {
 // says what that means. Whatever is accepted here is accepted by VerifyStrictly. The error is a *Refused, or ErrMemory.
 func VerifyLinked(file []byte) (*File, error) {
 	return judge(file, linked)
+}
+
+// The most bytes of a file that is read. macho-check has the same limit.
+const limit = 1 << 32
+
+// VerifyFile reads a file into memory, and judges it as Verify does. Links are followed. A folder, a pipe, a socket or a
+// device is not read, and neither is a file of more than 4 GiB. The error is a *Refused, ErrMemory, or one of reading.
+// For the other profiles judge the Bytes of the result.
+func VerifyFile(path string) (*File, error) {
+	bytes, err := readFile(path, limit)
+	if err != nil {
+		return nil, err
+	}
+	return Verify(bytes)
+}
+
+// readFile returns the bytes of a regular file, of which there are no more than the limit.
+func readFile(path string, limit int64) ([]byte, error) {
+	// To open a pipe would wait for its writer, and to open a device may do something.
+	known, err := os.Stat(path)
+	if err != nil {
+		return nil, err
+	}
+	if !known.Mode().IsRegular() {
+		return nil, &os.PathError{Op: "read", Path: path, Err: errors.New("not a regular file")}
+	}
+	file, err := os.Open(path)
+	if err != nil {
+		return nil, err
+	}
+	defer file.Close()
+	bytes, err := io.ReadAll(io.LimitReader(file, limit+1))
+	if err == nil && int64(len(bytes)) > limit {
+		err = &os.PathError{Op: "read", Path: path, Err: fmt.Errorf("more than %d bytes", limit)}
+	}
+	return bytes, err
 }
 
 // A File was accepted.

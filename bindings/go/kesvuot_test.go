@@ -11,6 +11,7 @@ import (
 	"reflect"
 	"strings"
 	"sync"
+	"syscall"
 	"testing"
 )
 
@@ -293,6 +294,81 @@ func TestNames(t *testing.T) {
 	same(t, "no command", CommandName(0x28), "")
 	same(t, "a platform", PlatformName(1), "PLATFORM_MACOS")
 	same(t, "no platform", PlatformName(0), "")
+	same(t, "an architecture", ArchName(0x0100000c, 0x80000002), "arm64e")
+	same(t, "no architecture", ArchName(0x0100000c, 7), "")
+	same(t, "constants", []string{CommandName(LC_MAIN), PlatformName(PLATFORM_MACOS), ArchName(CPU_TYPE_X86_64, 3)},
+		[]string{"LC_MAIN", "PLATFORM_MACOS", "x86_64"})
+}
+
+func TestFilesByTheirPaths(t *testing.T) {
+	path := filepath.Join(real, "program")
+	file, err := VerifyFile(path)
+	same(t, "a file", []any{file.Bytes(), err}, []any{readReal(t, "program"), error(nil)})
+	folder := t.TempDir()
+	none, text := filepath.Join(folder, "none"), filepath.Join(folder, "text")
+	if err := os.WriteFile(text, []byte("no image"), 0o600); err != nil {
+		t.Fatal(err)
+	}
+	_, err = VerifyFile(text)
+	same(t, "no image", err, error(&Refused{"magic", 0}))
+	_, err = VerifyFile(none)
+	same(t, "no file", errors.Is(err, os.ErrNotExist), true)
+	_, err = readFile(text, 7)
+	same(t, "a long file", err.Error(), "read "+text+": more than 7 bytes")
+	pipe := filepath.Join(folder, "pipe")
+	if err := syscall.Mkfifo(pipe, 0o600); err != nil {
+		t.Fatal(err)
+	}
+	for _, path := range []string{folder, pipe, os.DevNull} {
+		_, err = VerifyFile(path)
+		same(t, path, err.Error(), "read "+path+": not a regular file")
+	}
+}
+
+// nearest returns the nearest symbol at or before an address, by its definition in kesvuot.h.
+func nearest(symbols []Symbol, address uint64) (found Symbol, ok bool) {
+	found.Section = -1
+	for _, symbol := range symbols {
+		isAddress := symbol.Type&N_STAB == 0 && symbol.Type&N_TYPE == N_SECT
+		if isAddress && symbol.Value <= address && (!ok || symbol.Value >= found.Value) {
+			found, ok = symbol, true
+		}
+	}
+	return found, ok
+}
+
+func compareLookups(t *testing.T, image *Image) {
+	t.Helper()
+	symbols := collect(image.Symbols())
+	for _, symbol := range symbols {
+		for _, address := range []uint64{symbol.Value - 1, symbol.Value, symbol.Value + 1} {
+			found, ok := image.SymbolAt(address)
+			wanted, wantedOK := nearest(symbols, address)
+			same(t, fmt.Sprintf("%#x", address), []any{found, ok}, []any{wanted, wantedOK})
+		}
+		name := string(image.Name(symbol))
+		found, ok := image.SymbolNamed(name)
+		same(t, name, []any{found, ok}, []any{symbol, true})
+		_, ok = image.SymbolNamed(name + "?")
+		same(t, "another name", ok, false)
+	}
+	_, ok := image.SymbolNamed("")
+	same(t, "no name", ok, false)
+}
+
+// The symbols of the real files have names of their own, and none is a debugging entry.
+func TestLookups(t *testing.T) {
+	for _, name := range []string{"program", "library"} {
+		for _, image := range verified(t, readReal(t, name)).Images() {
+			compareLookups(t, image)
+		}
+	}
+	image := verified(t, withSections([2]uint8{0x24, 1}, [2]uint8{1, 0}, [2]uint8{0xe, 2}, [2]uint8{0xf, 1})).Images()[0]
+	found, ok := image.SymbolAt(1<<64 - 1)
+	same(t, "the last of one address", []any{found.Type, ok}, []any{uint8(0xf), true})
+	image = verified(t, withSections([2]uint8{0x24, 1})).Images()[0]
+	_, ok = image.SymbolAt(1<<64 - 1)
+	same(t, "a debugging entry alone", ok, false)
 }
 
 func TestAddresses(t *testing.T) {
