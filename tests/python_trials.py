@@ -488,6 +488,7 @@ def compare_image(found, wanted):
     yield "capabilities", found.capabilities, wanted.header.cpusubtype >> 24
     yield "indirects", list(found.indirects), wanted_indirects(wanted)
     yield from compare_groups(found, wanted)
+    yield from compare_lookups(found, wanted)
     # A number that is not of 32 bits is no cmd.
     for cmd in {command.cmd for command in wanted.commands} | set(DATA_COMMANDS) | {-1, 0x1_0000_0026}:
         data = found.linkedit(cmd)
@@ -505,6 +506,32 @@ def compare_groups(found, wanted):
                                ("defined_symbols", dysymtab.iextdefsym, dysymtab.nextdefsym),
                                ("undefined_symbols", dysymtab.iundefsym, dysymtab.nundefsym)):
         yield name, list(map(as_bytes, getattr(found, name))), symbols[first:first + count]
+
+
+# How many symbols are looked up: each look-up goes over all symbols here.
+LOOKED_UP = 9
+
+
+def is_plain(symbol):
+    """Whether a symbol is no debugging entry (N_STAB)."""
+    return symbol[3] & 0xE0 == 0
+
+
+def compare_lookups(found, wanted):
+    """The symbols by address, of those that have N_SECT, and by name."""
+    symbols, names = list(wanted_symbols(wanted)), list(wanted_names(wanted))
+    indexed = [(symbol[0], number) for number, symbol in enumerate(symbols)
+               if is_plain(symbol) and symbol[3] & 0xE == 0xE]
+    addresses = {value + past for value, _ in indexed[:LOOKED_UP] for past in (-1, 0, 1)}
+    for address in addresses | {-1, 0, 2 ** 64 - 1, 2 ** 64}:
+        nearest = max((it for it in indexed if it[0] <= address), default=None)
+        symbol = found.symbol_at(address)
+        yield f"symbol at {address:#x}", symbol and as_bytes(symbol), nearest and symbols[nearest[1]]
+    named = {name for symbol, name in zip(symbols[:LOOKED_UP], names) if symbol[1]}
+    for name in named | {b"", b"_no symbol", b"_\0"}:
+        first = (symbol for symbol, other in zip(symbols, names) if symbol[1] and is_plain(symbol) and other == name)
+        symbol = found.symbol_named(name)
+        yield f"symbol {name!r:.99}", symbol and as_bytes(symbol), next(first, None)
 
 
 def compare_slice(found, wanted):
@@ -767,6 +794,71 @@ def judge_numbers(report, data):
                 ["__TEXT", "__DATA_CONST"])
     for name, call in {"an address": image.at, "a cmd": image.linkedit, "an index": image.segments.__getitem__}.items():
         report.case(f"a float is no number: {name}", raised(TypeError, lambda call=call: call(1.0)), True)
+
+
+def judge_lookups(report, data):
+    """Symbols of one address, of no address, and names that are texts."""
+    image = kesvuot.verify(with_sections([(0x24, 1), (0x1, 0), (0xE, 2), (0xF, 1)])).images[0]
+    report.case("the last symbol of one address", image.symbol_at(0).type, 0xF)
+    image = kesvuot.verify(with_sections([(0x24, 1)])).images[0]
+    report.case("a debugging entry alone", image.symbol_at(2 ** 64 - 1), None)
+    image = kesvuot.verify(with_sections([])).images[0]
+    report.case("no symbols", (image.symbol_at(0), image.symbol_named(b"")), (None, None))
+    image = kesvuot.verify(data).images[0]
+    names = ["_start", b"_start", bytearray(b"_start"), memoryview(b"?_start")[1:]]
+    report.case("a name in all forms", [image.symbol_named(name).value for name in names], [0x100000440] * 4)
+    report.case("an address that is no int, for its symbol", image.symbol_at(Number(0x10000045A)).value, 0x100000440)
+    report.case("a name of no bytes", raised(TypeError, lambda: image.symbol_named(5)), True)
+
+
+def judge_names_of_numbers(report):
+    """By the headers, and by the names that LLVM's lipo prints."""
+    constants = kesvuot.constants
+    report.case("a command", kesvuot.command_name(constants.LC_MAIN), "LC_MAIN")
+    report.case("a platform", kesvuot.platform_name(constants.PLATFORM_MACOS), "PLATFORM_MACOS")
+    arm64e = (constants.CPU_TYPE_ARM64, constants.CPU_SUBTYPE_ARM64E)
+    report.case("an architecture", [kesvuot.arch_name(*arm64e), kesvuot.arch_name(arm64e[0], 0x8000_0002)],
+                ["arm64e"] * 2)
+    none = [(0, 0), (7, 4), (-1, 3), (1 << 32 | 7, 3), (7, 1 << 32)]
+    report.case("no architecture", [kesvuot.arch_name(*numbers) for numbers in none], [None] * len(none))
+
+
+def kind_of_error(call):
+    """The error of a call that fails."""
+    try:
+        call()
+    except (OSError, kesvuot.Refused) as error:
+        return type(error).__name__, str(error)
+    return None
+
+
+def judge_paths(report, data):
+    """Files by their paths."""
+    with tempfile.TemporaryDirectory() as folder:
+        path = Path(folder) / "file"
+        path.write_bytes(data)
+        for form in (path, str(path), os.fsencode(path)):
+            report.case(f"a file by a {type(form).__name__}", bytes(kesvuot.verify_file(form).data) == data, True)
+        path.write_bytes(data + b"more")
+        report.case("a longer file", kesvuot.verify_file(path).slice_count, 1)
+        report.case("a longer file, strictly", kind_of_error(lambda: kesvuot.verify_file(path, strict=True)),
+                    ("Refused", "stray-byte at 0x30f0"))
+        path.write_bytes(b"")
+        report.case("an empty file", kind_of_error(lambda: kesvuot.verify_file(path)), ("Refused", "magic at 0x0"))
+        with open(path, "r+b") as file:
+            file.truncate((1 << 32) + 1)
+        report.case("a file that is too long", kind_of_error(lambda: kesvuot.verify_file(path)),
+                    ("OSError", f"[Errno 27] more than 4294967296 bytes: {str(path)!r}"))
+        path.unlink()
+        report.case("no file", kind_of_error(lambda: kesvuot.verify_file(path)),
+                    ("FileNotFoundError", f"[Errno 2] No such file or directory: {str(path)!r}"))
+        os.mkfifo(path)
+        report.case("a pipe", kind_of_error(lambda: kesvuot.verify_file(str(path))),
+                    ("OSError", f"[Errno 22] not a regular file: {str(path)!r}"))
+        report.case("a folder", kind_of_error(lambda: kesvuot.verify_file(folder)),
+                    ("IsADirectoryError", f"[Errno 21] Is a directory: {folder!r}"))
+    report.case("a device", kind_of_error(lambda: kesvuot.verify_file("/dev/null")),
+                ("OSError", "[Errno 22] not a regular file: '/dev/null'"))
 
 
 def judge_sources(report, data):
@@ -1131,6 +1223,9 @@ def main(words):
     judge_exceptions(report, program)
     judge_sections_of_symbols(report)
     judge_numbers(report, program)
+    judge_lookups(report, program)
+    judge_names_of_numbers(report)
+    judge_paths(report, program)
     judge_sources(report, program)
     judge_texts_of_rows(report, program)
     judge_tables(report)

@@ -11,7 +11,8 @@
             for segment in image.segments:
                 print(segment.name.tobytes(), len(segment.bytes))
 
-`explain(data, refused)` says which structures, parts and numbers a refusal is about.
+`kesvuot.verify_file(path)` reads the file, too. `explain(data, refused)` says which structures, parts and numbers a
+refusal is about. `kesvuot.constants` has the numbers of <mach-o/loader.h> and its kin, such as LC_SEGMENT_64.
 
 `data` is bytes, a bytearray, an mmap, or any other object whose bytes are in one piece. Names and contents are
 read-only memoryviews of it. Nothing is copied, and `data` lives for as long as a view of it does. A view compares with
@@ -38,14 +39,15 @@ of the archive that the package is in, or from where the system finds it. It is 
 ImportError where it is not found. The package needs CPython 3.8 or later.
 """
 
+from . import constants
 from ._explanation import Explanation, Part, explain
 from ._files import (
-    BoundedTable, Dysymtab, File, Image, Refused, Slice, Source, SourceKind, Symtab, command_name, library_version,
-    platform_name, verify, verify_linked)
+    BoundedTable, Dysymtab, File, Image, Refused, Slice, Source, SourceKind, Symtab, arch_name, command_name,
+    library_version, platform_name, verify, verify_file, verify_linked)
 from ._opcodes import Bind, OpcodeError, Rebase
 from ._rows import Build, Command, Library, Relocation, Section, Segment, Symbol, Table
 
-__all__ = ["verify", "verify_linked", "explain", "library_version", "command_name", "platform_name", "Refused",
-           "Explanation", "Part", "File", "Slice", "Image", "Source", "SourceKind", "Table", "Segment", "Section",
-           "Library", "Build", "Command", "Symbol", "Relocation", "BoundedTable", "Symtab", "Dysymtab", "Rebase", "Bind",
-           "OpcodeError"]
+__all__ = ["verify", "verify_file", "verify_linked", "explain", "library_version", "arch_name", "command_name",
+           "platform_name", "constants", "Refused", "Explanation", "Part", "File", "Slice", "Image", "Source", "SourceKind",
+           "Table", "Segment", "Section", "Library", "Build", "Command", "Symbol", "Relocation", "BoundedTable", "Symtab",
+           "Dysymtab", "Rebase", "Bind", "OpcodeError"]

@@ -5,11 +5,12 @@ from __future__ import annotations
 import ctypes
 import enum
 import operator
+import os
 from functools import cached_property
-from typing import Any, Iterator, NamedTuple, Optional, SupportsIndex, Tuple
+from typing import Any, Iterator, NamedTuple, Optional, SupportsIndex, Tuple, Union
 from uuid import UUID
 
-from . import _library, _opcodes, _rows
+from . import _library, _opcodes, _reading, _rows
 from ._library import CHANGED, IMAGE, SPAN, TEXT, VERDICT, Bytes, Data, address_of, load
 from ._opcodes import Bind, Rebase
 from ._rows import (
@@ -220,6 +221,41 @@ class Image(Slice):
         status: int = call(self._data.address, len(self._data), self._image, key, span)
         return status, self._data.part(*SPAN.unpack(span))
 
+    def symbol_at(self, address: SupportsIndex) -> Optional[Symbol]:
+        """The nearest symbol of a section at or before an address, before any slide, that is no debugging entry; of
+        several at one address the last in the table. None if no symbol begins at or before the address. The symbol may
+        be of another section than the address, or end before it: the format has no sizes of symbols. The first call
+        sorts the symbols, and keeps 4 bytes for each."""
+        number = operator.index(address)
+        symbol = ctypes.create_string_buffer(_rows.SYMBOLS.form.size)
+        if number < 0:
+            return None
+        status = load().kesvuot_find_symbol(self._data.address, len(self._data), self._image, self._index,
+                                            len(self._index), min(number, (1 << 64) - 1), symbol,
+                                            ctypes.byref(ctypes.c_size_t()))
+        return _rows.symbol_of(self._data, symbol) if status == _library.OK else None
+
+    @cached_property
+    def _index(self) -> Any:
+        """The indices of the symbols whose value is an address, by ascending addresses."""
+        room = len(self.symbols)
+        index = (ctypes.c_uint32 * room)()
+        count = load().kesvuot_index_symbols(self._data.address, len(self._data), self._image, index, room)
+        if count > room:
+            raise RuntimeError(CHANGED)
+        # The array keeps the memory of the entries that are left out.
+        return (ctypes.c_uint32 * count).from_buffer(index)
+
+    def symbol_named(self, name: Union[Data, str]) -> Optional[Symbol]:
+        """The first symbol in the table with this name, of bytes or of a text in UTF-8, that is no debugging entry. It
+        need not be defined in the image. None if there is none. Each call goes over all symbols: for many names, read
+        `symbols` once."""
+        wanted = Bytes(name.encode("utf-8") if isinstance(name, str) else name)
+        symbol = ctypes.create_string_buffer(_rows.SYMBOLS.form.size)
+        status = load().kesvuot_find_name(self._data.address, len(self._data), self._image, wanted.address, len(wanted),
+                                          symbol, ctypes.byref(ctypes.c_uint64()))
+        return _rows.symbol_of(self._data, symbol) if status == _library.OK else None
+
     @cached_property
     def local_symbols(self) -> Table[Symbol]:
         """The group of local symbols of LC_DYSYMTAB, none without it."""
@@ -368,6 +404,13 @@ def verify(data: Data, strict: bool = False) -> File:
     return _judge(data, load().kesvuot_verify_strictly if strict else load().kesvuot_verify)
 
 
+def verify_file(path: Union[str, bytes, "os.PathLike[str]", "os.PathLike[bytes]"], strict: bool = False) -> File:
+    """Reads a file into memory, and judges it as `verify` does. Links are followed. Raises OSError if it cannot be
+    read, is a folder, a pipe, a socket or a device, or has more than 4 GiB, as `macho-check` does not read it then.
+    `File.data` are its bytes."""
+    return verify(_reading.read_regular(path), strict)
+
+
 def verify_linked(data: Data) -> File:
     """Judges a file by the rules of the strict profile, and then by those of docs/LINKED.md: where the linked data of
     an image lies, and what the opcodes of LC_DYLD_INFO and LC_DYLD_INFO_ONLY ask a dynamic loader for. Raises what
@@ -399,14 +442,20 @@ def platform_name(platform: SupportsIndex) -> Optional[str]:
     return _name(load().kesvuot_find_platform, operator.index(platform))
 
 
+def arch_name(cputype: SupportsIndex, cpusubtype: SupportsIndex) -> Optional[str]:
+    """The name of an architecture, such as "arm64e", as LLVM's lipo prints it. The capability byte of the cpusubtype
+    does not matter. None if the library knows none."""
+    return _name(load().kesvuot_find_arch, operator.index(cputype), operator.index(cpusubtype))
+
+
 def rule_name(rule: int) -> str:
     """The name of the rule with this number, empty if there is none."""
     return _name(load().kesvuot_find_rule, rule) or ""
 
 
-def _name(call: Any, number: int) -> Optional[str]:
-    """A constant text of the library for a number."""
+def _name(call: Any, *numbers: int) -> Optional[str]:
+    """A constant text of the library for a number, or for two."""
     name = ctypes.create_string_buffer(TEXT.size)
-    if not 0 <= number < 1 << 32 or call(number, name) != _library.OK:
+    if not all(0 <= number < 1 << 32 for number in numbers) or call(*numbers, name) != _library.OK:
         return None
     return ctypes.string_at(*TEXT.unpack(name)).decode("ascii")

@@ -62,6 +62,7 @@ def _declare(library: Any) -> None:
         "find_rule": (u32, [u32, pointer]),
         "find_command": (u32, [u32, pointer]),
         "find_platform": (u32, [u32, pointer]),
+        "find_arch": (u32, [u32, u32, pointer]),
         "verify": (u32, [pointer, size, pointer]),
         "verify_strictly": (u32, [pointer, size, pointer]),
         "verify_linked": (u32, [pointer, size, pointer]),
@@ -73,7 +74,10 @@ def _declare(library: Any) -> None:
         "find_table": (u32, [pointer, size, pointer, u32, pointer]),
         "find_source_version": (u32, [pointer, size, pointer, pointer]),
         "read_relocations": (size, [pointer, size, pointer, u32, u32, pointer, pointer, size]),
-        "find_address": (u32, [pointer, size, pointer, u64, pointer])}
+        "find_address": (u32, [pointer, size, pointer, u64, pointer]),
+        "index_symbols": (size, [pointer, size, pointer, pointer, size]),
+        "find_symbol": (u32, [pointer, size, pointer, pointer, size, u64, pointer, pointer]),
+        "find_name": (u32, [pointer, size, pointer, pointer, size, pointer, pointer])}
     for table in ("segments", "sections", "libraries", "builds", "commands", "symbols", "indirects"):
         calls[f"read_{table}"] = (size, [pointer, size, pointer, pointer, pointer, size])
     for name, (result, arguments) in calls.items():

@@ -3,10 +3,11 @@ says that nobody else can write to it."""
 
 from __future__ import annotations
 
+import errno
 import mmap
 import os
 import stat
-from typing import Union
+from typing import Any, Union
 
 # The most bytes of a file that is judged. macho-check has the same limit.
 LIMIT = 1 << 32
@@ -47,6 +48,30 @@ def read_given(path: str, maps: bool = False) -> Contents:
 def read_found(path: str, maps: bool = False) -> Contents:
     """The bytes of what was found in a folder. A link is not followed, and no pipe waited for. Raises NotMachO too."""
     return _open_and_read(path, os.O_NOFOLLOW | os.O_NONBLOCK, maps, is_found=True)
+
+
+def read_regular(path: Any) -> Contents:
+    """The bytes of a regular file, as much of them as a verdict needs. Raises OSError if there is none, or if it has
+    more bytes than the limit."""
+    path = os.fspath(path)
+    # Opening a device may do something, and opening a pipe waits for its writer.
+    _check_regular(os.stat(path), path)
+    descriptor = os.open(path, os.O_RDONLY | os.O_CLOEXEC | os.O_NOCTTY | os.O_NONBLOCK)
+    try:
+        known = os.fstat(descriptor)
+        _check_regular(known, path)
+        return _read(descriptor, known)
+    except Unread as error:
+        raise OSError(errno.EFBIG, str(error), path) from error
+    finally:
+        os.close(descriptor)
+
+
+def _check_regular(known: os.stat_result, path: Any) -> None:
+    if stat.S_ISDIR(known.st_mode):
+        raise IsADirectoryError(errno.EISDIR, os.strerror(errno.EISDIR), path)
+    if not stat.S_ISREG(known.st_mode):
+        raise OSError(errno.EINVAL, "not a regular file", path)
 
 
 def _open_and_read(path: str, flags: int, maps: bool, is_found: bool = False) -> Contents:

@@ -186,6 +186,11 @@ INDIRECTS = Kind("kesvuot_read_indirects", Struct("@I"), _indirects)
 RELOCATIONS = Kind("kesvuot_read_relocations", Struct("@2I?B?B?3x"), _relocations)
 
 
+def symbol_of(data: Bytes, written: Any) -> Symbol:
+    """The symbol of a row that the library has written."""
+    return next(_symbols(data, [SYMBOLS.form.unpack(written)]))
+
+
 def commands_of(image: int) -> Kind:
     """The load commands of the image that begins here in the file."""
     def make(data: Bytes, rows: Fields) -> Iterator[Command]:
