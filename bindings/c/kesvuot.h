@@ -484,7 +484,7 @@ uint32_t kesvuot_symbol_name(const void *file, size_t size, const struct kesvuot
  *     size_t count = kesvuot_index_symbols(file, size, &image, index, max), at;
  *     struct kesvuot_symbol symbol;
  *     if (count <= max && kesvuot_find_symbol(file, size, &image, index, count, address, &symbol, &at) == KESVUOT_OK)
- *         ; // address is symbol.value + (address - symbol.value), and index[at + 1] begins past it, if at + 1 < count
+ *         ; // the symbol begins at symbol.value; the next one, index[at + 1] if at + 1 < count, past the address
  */
 
 /* Writes the index of an image, and returns how many entries it has. If that is more than `max`, nothing is written.
