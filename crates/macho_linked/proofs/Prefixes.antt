@@ -1,20 +1,20 @@
 -- What an opcode says does not depend on the bytes after its operands.
 use Rattle.std.proofs.Common.{◌≡◌, ℕ, ◌+◌, ◌-◌, ◌≤◌, ◌<◌, ◌==◌, ◌&&◌, ◌⊎◌, ◌++◌, Bool, true, false, List, length, take, drop, get_or, slice_get, Option, Some, None, refl, sym, ap, ◌∙◌, subst, arith, inl, inr, length-drop, length-append}
-use Rattle.std.specs.Prelude.{cond, nat_lt, nat_le, bit_and, ℤ}
+use Rattle.std.specs.Prelude.{cond, nat_lt, nat_le, ℤ}
 use Rattle.std.specs.List.{position_or_len}
 use Rattle.std.specs.Option.{option_map, option_and_then}
-use Rattle.std.proofs.lemmas.Bool.{cases_Bool, lt-ltb, ltb-true, le-leb, leb-true, eqb-true, and_parts}
+use Rattle.std.proofs.lemmas.Bool.{cases_Bool, lt-ltb, ltb-true, le-leb, leb-true, and_parts}
 use Rattle.std.proofs.lemmas.List.{get_or_append_left, take-append-le, drop-append-le, length-take}
 use Rattle.std.proofs.lemmas.List.Sums.{position_or_len_is, fails_before_first, passes_at_first}
 use Rattle.std.proofs.lemmas.Option.{slice_get_within, slice_get-get_or, get_or_from_slice_get}
 use Rattle.macho_fields.specs.Field.{string_from}
 use Rattle.macho_linked.specs.Dyld.{IsLast}
 use Rattle.macho_linked.specs.Numbers.{number_bytes, unsigned_at, signed_at}
-use Rattle.macho_linked.specs.Steps.{with_number, with_count_and_skip, with_addend, with_name, rebase_step, bind_step, opcode_step, step_at}
+use Rattle.macho_linked.specs.Steps.{with_number, with_count_and_skip, with_addend, with_name, opcode_step, step_at}
 use Rattle.macho_linked.specs.declared.step.Opcodes.{Opcodes}
-use Rattle.macho_linked.specs.declared.step.Opcodes.TheVariants as opcodes
 use Rattle.macho_linked.specs.declared.step.Step.{Step}
 use Rattle.macho_linked.specs.declared.step.Step.TheVariants as step
+use Rattle.macho_linked.proofs.OpcodeCases.{Operands, opcode_alike}
 use Rattle.macho_linked.proofs.Within.{IsWithin, unsigned_within}
 
 -- the first byte that passes is the same in a longer list
@@ -64,14 +64,6 @@ module _ (xs ys : List ℕ) where
   module _ (Last : Type 0) (next : ℕ) (inside : next ≤ length xs) where
     equal : (x : Option (Step × ℕ)) → Same Last x x
     equal x = record { same = λ r is. inr is }
-
-    case : (b : Bool) (x y v w : Option (Step × ℕ)) → Same Last x v → Same Last y w → Same Last (cond b x y) (cond b v w)
-    case true x y v w first second = first
-    case false x y v w first second = second
-
-    case_last : (b : Bool) (x y v w : Option (Step × ℕ)) → (b ≡ true → Last) → Same Last y w → Same Last (cond b x y) (cond b v w)
-    case_last true x y v w last second = record { same = λ r is. inl (last refl) }
-    case_last false x y v w last second = second
 
     num_by : (say : ℕ → Step) (place : ℕ) → place ≤ length xs → (read : Option (ℕ × ℕ)) → unsigned_at xs place ≡ read → (r : Step × ℕ) → option_map (λ n. (say n.0, n.1)) read ≡ Some r
         → with_number say (xs ++ ys) place ≡ Some r
@@ -128,47 +120,19 @@ module _ (xs ys : List ℕ) where
     named flags = record { same = λ r is. inr (name_longer flags r is) }
 
   -- the opcodes
-  rebase_same : (next byte : ℕ) → next ≤ length xs → Same (IsLast opcodes.Rebase byte) (rebase_step xs byte next) (rebase_step (xs ++ ys) byte next)
-  unfolding rebase_step
-  rebase_same next byte inside =
-      let either = (λ (code : ℕ). case (IsLast opcodes.Rebase byte) next inside (bit_and byte 0xf0 == code)) in
-      let number = (λ (say : ℕ → Step). num (IsLast opcodes.Rebase byte) next inside say) in
-      let plain = (λ (x : Option (Step × ℕ)). equal (IsLast opcodes.Rebase byte) next inside x) in
-      case_last (IsLast opcodes.Rebase byte) next inside (bit_and byte 0xf0 == 0x0) _ _ _ _ (λ is. eqb-true (bit_and byte 0xf0) 0 is)
-      (either 0x10 _ _ _ _ (plain _)
-      (either 0x20 _ _ _ _ (number _)
-      (either 0x30 _ _ _ _ (number _)
-      (either 0x40 _ _ _ _ (plain _)
-      (either 0x50 _ _ _ _ (plain _)
-      (either 0x60 _ _ _ _ (number _)
-      (either 0x70 _ _ _ _ (number _)
-      (either 0x80 _ _ _ _ (nums (IsLast opcodes.Rebase byte) next inside) (plain None)))))))))
-
-  bind_same : (Last : Type 0) (next byte : ℕ) → next ≤ length xs → Same Last (bind_step xs byte next) (bind_step (xs ++ ys) byte next)
-  unfolding bind_step
-  bind_same Last next byte inside =
-      let either = (λ (code : ℕ). case Last next inside (bit_and byte 0xf0 == code)) in
-      let number = (λ (say : ℕ → Step). num Last next inside say) in
-      let plain = (λ (x : Option (Step × ℕ)). equal Last next inside x) in
-      either 0x10 _ _ _ _ (plain _)
-      (either 0x20 _ _ _ _ (number _)
-      (either 0x30 _ _ _ _ (plain _)
-      (either 0x40 _ _ _ _ (named Last next inside _)
-      (either 0x50 _ _ _ _ (plain _)
-      (either 0x60 _ _ _ _ (added Last next inside)
-      (either 0x70 _ _ _ _ (number _)
-      (either 0x80 _ _ _ _ (number _)
-      (either 0x90 _ _ _ _ (plain _)
-      (either 0xa0 _ _ _ _ (number _)
-      (either 0xb0 _ _ _ _ (plain _)
-      (either 0xc0 _ _ _ _ (nums Last next inside) (plain None))))))))))))
+  operands_same : (Last : Type 0) (next : ℕ) → next ≤ length xs → Operands (Same Last) xs (xs ++ ys) next
+  operands_same Last next inside = record {
+    none = equal Last next inside None;
+    plain = λ s is. equal Last next inside (Some (s, next));
+    number = λ say each. num Last next inside say;
+    numbers = nums Last next inside;
+    addend = added Last next inside;
+    name = λ flags. named Last next inside flags;
+  }
 
   opcode_same : (of : Opcodes) (next byte : ℕ) → next ≤ length xs → Same (IsLast of byte) (opcode_step of xs byte next) (opcode_step of (xs ++ ys) byte next)
-  opcode_same opcodes.Rebase next byte inside = rebase_same next byte inside
-  opcode_same opcodes.Bind next byte inside =
-      case_last (IsLast opcodes.Bind byte) next inside (bit_and byte 0xf0 == 0) _ _ _ _ (λ is. eqb-true (bit_and byte 0xf0) 0 is) (bind_same (IsLast opcodes.Bind byte) next byte inside)
-  opcode_same opcodes.LazyBind next byte inside =
-      case (IsLast opcodes.LazyBind byte) next inside (bit_and byte 0xf0 == 0) _ _ _ _ (equal (IsLast opcodes.LazyBind byte) next inside _) (bind_same (IsLast opcodes.LazyBind byte) next byte inside)
+  opcode_same of next byte inside =
+      opcode_alike (Same (IsLast of byte)) xs (xs ++ ys) next (operands_same (IsLast of byte) next inside) byte of (λ last. record { same = λ r is. inl last })
 
   byte_there : (place byte : ℕ) → slice_get xs place ≡ Some byte → slice_get (xs ++ ys) place ≡ Some byte
   byte_there place byte is =

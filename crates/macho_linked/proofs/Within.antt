@@ -1,6 +1,6 @@
 -- An opcode and its operands lie in the stream.
 use Rattle.std.proofs.Common.{◌≡◌, ℕ, ◌+◌, ◌≤◌, ◌<◌, ◌==◌, Bool, true, false, List, length, take, drop, slice_get, Option, Some, None, MatchOption, inl, inr, refl, subst, arith, length-drop}
-use Rattle.std.specs.Prelude.{nat_lt, cond, bit_and}
+use Rattle.std.specs.Prelude.{nat_lt, cond}
 use Rattle.std.specs.List.{list_all, position_or_len}
 use Rattle.std.specs.Option.{option_map, option_and_then}
 use Rattle.std.proofs.lemmas.Bool.{cases_lt, lt-ltb, le-ltb}
@@ -8,11 +8,11 @@ use Rattle.std.proofs.lemmas.List.{length-take}
 use Rattle.std.proofs.lemmas.Option.{slice_get_within}
 use Rattle.macho_fields.specs.Field.{string_from}
 use Rattle.macho_linked.specs.Numbers.{number_bytes, unsigned_at, signed_at}
-use Rattle.macho_linked.specs.Steps.{with_number, with_count_and_skip, with_addend, with_name, pointer_type, last_step, rebase_step, bind_step, opcode_step, step_at}
+use Rattle.macho_linked.specs.Steps.{with_number, with_count_and_skip, with_addend, with_name, last_step, opcode_step, step_at}
 use Rattle.macho_linked.specs.declared.step.Opcodes.{Opcodes}
-use Rattle.macho_linked.specs.declared.step.Opcodes.TheVariants as opcodes
 use Rattle.macho_linked.specs.declared.step.Step.{Step}
 use Rattle.macho_linked.specs.declared.step.Step.TheVariants as step
+use Rattle.macho_linked.proofs.OpcodeCases.{Operands, opcode_alike}
 
 -- what is read at a place ends past it, or at it, and in the stream
 abbrev pub IsWithin : {X : Type 0} → List ℕ → ℕ → Option (X × ℕ) → Type 0
@@ -82,9 +82,6 @@ module _ (stream : List ℕ) (next : ℕ) (inside : next ≤ length stream) wher
   last : IsWithin stream next (last_step stream next)
   last = either stream next (list_all (λ byte. byte == 0) (drop next stream)) _ _ (inside, omega arith) tt
 
-  pointer : (wanted imm : ℕ) → IsWithin stream next (pointer_type wanted imm next)
-  pointer wanted imm = either stream next (imm == wanted) _ _ (omega arith, inside) tt
-
 skip_within : (stream : List ℕ) (next : ℕ) → next ≤ length stream → (read : Option (ℕ × ℕ)) → IsWithin stream next read
     → IsWithin stream next (option_and_then (λ count. with_number (step.Write count.0) stream count.1) read)
 skip_within stream next inside None is = tt
@@ -95,77 +92,25 @@ count_and_skip stream next inside = skip_within stream next inside _ (unsigned_w
 
 -- The opcodes
 
-record Ends (stream : List ℕ) (next : ℕ) (read : Option (Step × ℕ)) : Type 0 where
-  within : IsWithin stream next read
+operands_within : (stream : List ℕ) (next : ℕ) → next ≤ length stream → Operands (λ x y. IsWithin stream next x) stream stream next
+operands_within stream next inside = record {
+  none = tt;
+  plain = λ s is. plain stream next inside s;
+  number = λ say each. number stream next inside say;
+  numbers = count_and_skip stream next inside;
+  addend = addend stream next inside;
+  name = λ flags. name stream next inside flags;
+}
 
-abbrev Case : List ℕ → ℕ → Type 0
-Case stream next =
-    (b : Bool) (x y : Option (Step × ℕ)) → Ends stream next x → Ends stream next y → Ends stream next (cond b x y)
-
-case : (stream : List ℕ) (next : ℕ) → Case stream next
-case stream next b x y first second = record { within = either stream next b x y first.within second.within }
-
-module _ (stream : List ℕ) (next : ℕ) (inside : next ≤ length stream) where
-  none : Ends stream next None
-  none = record { within = tt }
-
-  same : (s : Step) → Ends stream next (Some (s, next))
-  same s = record { within = plain stream next inside s }
-
-  num : (say : ℕ → Step) → Ends stream next (with_number say stream next)
-  num say = record { within = number stream next inside say }
-
-  nums : Ends stream next (with_count_and_skip stream next)
-  nums = record { within = count_and_skip stream next inside }
-
-  ended : Ends stream next (last_step stream next)
-  ended = record { within = last stream next inside }
-
-  rebase_within : (byte : ℕ) → Ends stream next (rebase_step stream byte next)
-  unfolding rebase_step
-  rebase_within byte =
-      let either = (λ (code : ℕ). case stream next (bit_and byte 0xf0 == code)) in
-      let pointed = (λ (wanted imm : ℕ). let p : Ends stream next (pointer_type wanted imm next) = record { within = pointer stream next inside wanted imm } in p) in
-      either 0x0 _ _ ended
-      (either 0x10 _ _ (pointed _ _)
-      (either 0x20 _ _ (num _)
-      (either 0x30 _ _ (num _)
-      (either 0x40 _ _ (same _)
-      (either 0x50 _ _ (same _)
-      (either 0x60 _ _ (num _)
-      (either 0x70 _ _ (num _)
-      (either 0x80 _ _ nums none))))))))
-
-  bind_within : (byte : ℕ) → Ends stream next (bind_step stream byte next)
-  unfolding bind_step
-  bind_within byte =
-      let either = (λ (code : ℕ). case stream next (bit_and byte 0xf0 == code)) in
-      let pointed = (λ (wanted imm : ℕ). let p : Ends stream next (pointer_type wanted imm next) = record { within = pointer stream next inside wanted imm } in p) in
-      let named = (λ (flags : ℕ). let p : Ends stream next (with_name flags stream next) = record { within = name stream next inside flags } in p) in
-      let added : Ends stream next (with_addend stream next) = record { within = addend stream next inside } in
-      either 0x10 _ _ (same _)
-      (either 0x20 _ _ (num _)
-      (either 0x30 _ _ (same _)
-      (either 0x40 _ _ (named _)
-      (either 0x50 _ _ (pointed _ _)
-      (either 0x60 _ _ added
-      (either 0x70 _ _ (num _)
-      (either 0x80 _ _ (num _)
-      (either 0x90 _ _ (same _)
-      (either 0xa0 _ _ (num _)
-      (either 0xb0 _ _ (same _)
-      (either 0xc0 _ _ nums none)))))))))))
-
-  opcode_within : (of : Opcodes) (byte : ℕ) → Ends stream next (opcode_step of stream byte next)
-  opcode_within opcodes.Rebase byte = rebase_within byte
-  opcode_within opcodes.Bind byte = case stream next (bit_and byte 0xf0 == 0) _ _ ended (bind_within byte)
-  opcode_within opcodes.LazyBind byte = case stream next (bit_and byte 0xf0 == 0) _ _ (same _) (bind_within byte)
+opcode_within : (of : Opcodes) (stream : List ℕ) (next : ℕ) → next ≤ length stream → (byte : ℕ) → IsWithin stream next (opcode_step of stream byte next)
+opcode_within of stream next inside byte =
+    opcode_alike (λ x y. IsWithin stream next x) stream stream next (operands_within stream next inside) byte of (λ is. last stream next inside)
 
 byte_within : (of : Opcodes) (stream : List ℕ) (place : ℕ) (byte : Option ℕ) → slice_get stream place ≡ byte
     → IsWithin stream (place + 1) (option_and_then (λ b. opcode_step of stream b (place + 1)) byte)
 byte_within of stream place None is = tt
 byte_within of stream place (Some byte) is =
-    let inside = slice_get_within stream place byte is in (opcode_within stream (place + 1) (omega arith) of byte).within
+    let inside = slice_get_within stream place byte is in opcode_within of stream (place + 1) (omega arith) byte
 
 step_at_within : (of : Opcodes) (stream : List ℕ) (place : ℕ) → IsWithin stream (place + 1) (step_at of stream place)
 unfolding step_at
