@@ -12,7 +12,7 @@ use Rattle.macho_fields.specs.Image.{command_cmd, commands_of}
 use Rattle.macho_fields.specs.Layers.{NothingBreaks}
 use Rattle.macho_fields.specs.LoadCommands.{dyld_info_tables}
 use Rattle.macho_fields.specs.Rules as layout
-use Rattle.macho_fields.specs.Segment.{vmaddr, vmsize, fileoff, filesize, Supplies}
+use Rattle.macho_fields.specs.Segment.{all_segments, vmaddr, vmsize, fileoff, filesize, Supplies}
 use Rattle.macho_fields.specs.Symbol.{table_at, tables_of}
 use Rattle.macho_fields.specs.Universal.{slices_of, slice_bytes}
 use Rattle.macho_fields.specs.declared.rule.Rule.TheVariants as rule
@@ -36,15 +36,15 @@ use Rattle.macho_linked.specs.Harmless.{streams_of, IsStream, WritesAt, IsHarmle
 use Rattle.macho_linked.specs.Homes.{bytes_of_table, Encrypts, IsHome, IsAstray, HasHome, IsHomeless}
 use Rattle.macho_linked.specs.Images.{dyld_info, bounded_at}
 use Rattle.macho_linked.specs.Rules.{BreaksFile, BreaksSlice, BreaksImage, IsLinkedUnbroken}
-use Rattle.macho_linked.specs.Segments.{all_segments, is_writable, is_constant, IsLinkedit}
-use Rattle.macho_linked.specs.Steps.{step_at, Follow, AreSteps}
+use Rattle.macho_linked.specs.Segments.{is_writable, is_constant, IsLinkedit}
+use Rattle.macho_linked.specs.Steps.{step_at, AreStepsFrom, AreSteps}
 use Rattle.macho_linked.specs.declared.cursor.Cursor.{Cursor}
 use Rattle.macho_linked.specs.declared.step.Opcodes.{Opcodes}
 use Rattle.macho_linked.specs.declared.step.Step.{Step}
 use Rattle.macho_linked.specs.declared.step.Step.TheVariants as step
 use Rattle.macho_linked.proofs.Harmless.{harmless_image}
 use Rattle.macho_linked.proofs.Prefixes.{step_same}
-use Rattle.macho_linked.proofs.StepChains.{follow_more, follow_on}
+use Rattle.macho_linked.proofs.StepChains.{steps_more, steps_on}
 use Rattle.macho_linked.proofs.TableSurveys.{info_is, table_inside, named}
 use Rattle.macho_linked.proofs.Within.{step_within}
 
@@ -210,10 +210,10 @@ module _ (image : List ℕ) (kept : NothingBreaks (BreaksImage image)) (unbroken
       opcode_there : (place : ℕ) (before : List Step) → AreSteps of stream before place → place < length stream → (r : Step × ℕ) × (step_at of stream place ≡ Some r)
       opcode_there place before chain less =
           let (steps, all) = harmless.decoded of stream are in
-          let (rest, on, is) = follow_on of stream before steps 0 place (length stream) chain all (omega arith) in
+          let (rest, on, is) = steps_on of stream before steps 0 place (length stream) chain all (omega arith) in
           next rest on
         where
-          next : (rest : List Step) → Follow of stream place rest (length stream) → (r : Step × ℕ) × (step_at of stream place ≡ Some r)
+          next : (rest : List Step) → AreStepsFrom of stream place rest (length stream) → (r : Step × ℕ) × (step_at of stream place ≡ Some r)
           next [] same = absurd (omega (arith, same, less))
           next (first ∷ rest) (after, at, on) = ((first, after), at)
 
@@ -260,7 +260,7 @@ module _ (image : List ℕ) (kept : NothingBreaks (BreaksImage image)) (unbroken
           before = (
             steps ++ said ∷ [],
             omega (arith, longer_by, count),
-            follow_more of stream steps 0 a.place said b.place chain at,
+            steps_more of stream steps 0 a.place said b.place chain at,
             cursor ∙ (ap (λ (c : Cursor). moved c said) is ∙ sym (fold_push moved start steps said)),
           );
           still = λ s k has mapped constant plain below not_encrypted.

@@ -10,7 +10,7 @@ use Rattle.macho_fields.specs.Field.{part}
 use Rattle.macho_fields.specs.First.{IsUnbroken}
 use Rattle.macho_fields.specs.Layers.{NothingBreaks}
 use Rattle.macho_fields.specs.Rules as layout
-use Rattle.macho_fields.specs.Segment.{filesize}
+use Rattle.macho_fields.specs.Segment.{all_segments, filesize}
 use Rattle.macho_fields.specs.Symbol.{table_at}
 use Rattle.macho_fields.specs.Universal.{slices_of, slice_bytes}
 use Rattle.macho_fields.specs.declared.rule.Rule.TheVariants as rule
@@ -24,15 +24,15 @@ use Rattle.macho_linked.specs.Homes.{IsHome}
 use Rattle.macho_linked.specs.Images.{dyld_info, bounded_at, Undecoded, NoLibrary, NoName, NoSlot, TooMany, InTable, InRebases, InBinds, InBindsOf}
 use Rattle.macho_linked.specs.Limits.{room, rooms_of, budget_of, library_count}
 use Rattle.macho_linked.specs.Rules.{BreaksFile, BreaksSlice, BreaksImage, IsLinkedUnbroken}
-use Rattle.macho_linked.specs.Segments.{all_segments, is_writable}
-use Rattle.macho_linked.specs.Steps.{step_at, Follow, AreSteps}
+use Rattle.macho_linked.specs.Segments.{is_writable}
+use Rattle.macho_linked.specs.Steps.{step_at, AreStepsFrom, AreSteps}
 use Rattle.macho_linked.specs.Streams.{pointers, EndsInRoom, reach}
 use Rattle.macho_linked.specs.declared.step.Opcodes.{Opcodes}
 use Rattle.macho_linked.specs.declared.step.Opcodes.TheVariants as opcodes
 use Rattle.macho_linked.specs.declared.step.Step.{Step}
 use Rattle.macho_linked.specs.declared.step.Step.TheVariants as step
 use Rattle.macho_spans.specs.declared.span.Span.{Span}
-use Rattle.macho_linked.proofs.StepChains.{follow_more}
+use Rattle.macho_linked.proofs.StepChains.{steps_more}
 use Rattle.macho_linked.proofs.Within.{step_within}
 
 -- a segment whose room is not empty is there, and can be written
@@ -141,7 +141,7 @@ module _ (image : List ℕ) (kept : NothingBreaks (BreaksImage image)) where
           decode_next place before chain less
           (λ here after at.
           let within = step_within of stream place here after at in
-          decode fuel after (before ++ here ∷ []) (follow_more of stream before 0 place here after chain at) within.1 (omega (arith, within.0, enough)))
+          decode fuel after (before ++ here ∷ []) (steps_more of stream before 0 place here after chain at) within.1 (omega (arith, within.0, enough)))
           (step_at of stream place) refl
       | inr past ↦ (before, subst (AreSteps of stream before) (let same : place ≡ length stream = omega arith in same) chain)
     ]
@@ -181,12 +181,12 @@ module _ (image : List ℕ) (kept : NothingBreaks (BreaksImage image)) where
         (s, there, can, omega (arith, end, size, off, far))
 
     -- no more pointers than the budget
-    counted : (steps before : List Step) (place next : ℕ) → AreSteps of stream before place → Follow of stream place steps next → pointers before ≤ budget_of image
+    counted : (steps before : List Step) (place next : ℕ) → AreSteps of stream before place → AreStepsFrom of stream place steps next → pointers before ≤ budget_of image
         → pointers (before ++ steps) ≤ budget_of image
     counted [] before place next chain on few = subst (λ (all : List Step). pointers all ≤ budget_of image) (sym (append-nil before)) few
     counted (first ∷ steps) before place next chain (after, at, on) few =
         subst (λ (all : List Step). pointers all ≤ budget_of image) (append_assoc before (first ∷ []) steps)
-        (counted steps (before ++ first ∷ []) after next (follow_more of stream before 0 place first after chain at) on more)
+        (counted steps (before ++ first ∷ []) after next (steps_more of stream before 0 place first after chain at) on more)
       where
         sum : pointers (before ++ first ∷ []) ≡ pointers before + writes first
         sum =

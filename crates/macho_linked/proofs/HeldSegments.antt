@@ -5,7 +5,7 @@ use Rattle.macho_fields.specs.declared.header.loader.TheConstants as loader
 use Rattle.macho_fields.specs.declared.load_command.Structure.TheVariants.{SegmentCommand64}
 use Rattle.macho_image.specs.Opened.{IsOpened}
 use Rattle.macho_image.specs.Segment.{SegmentView}
-use Rattle.macho_linked.specs.Segments.{all_segments}
+use Rattle.macho_fields.specs.Segment.{all_segments}
 use Rattle.macho_fields.proofs.LoadCommands.{structure_by_cmd}
 use Rattle.macho_fields.proofs.Opened.{command_inside, structure_inside}
 use Rattle.macho_fields.proofs.Parts.{with_cmd_is, with_cmd_among}

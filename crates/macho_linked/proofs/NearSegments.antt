@@ -8,7 +8,7 @@ use Rattle.macho_fields.specs.Field.{string_from}
 use Rattle.macho_linked.specs.Cursor.{start, moved, cursor_after}
 use Rattle.macho_linked.specs.Limits.{AreRooms}
 use Rattle.macho_linked.specs.Numbers.{unsigned_at, signed_at}
-use Rattle.macho_linked.specs.Steps.{with_number, opcode_step, step_at, Follow, AreSteps}
+use Rattle.macho_linked.specs.Steps.{with_number, opcode_step, step_at, AreStepsFrom, AreSteps}
 use Rattle.macho_linked.specs.Streams.{EndsInRoom, WritesOutside, reach}
 use Rattle.macho_linked.specs.declared.cursor.Cursor.{Cursor}
 use Rattle.macho_linked.specs.declared.step.Opcodes.{Opcodes}
@@ -72,14 +72,14 @@ moved_near cursor (step.SetSegment segment offset) near is = λ s same. let at :
 moved_near cursor (step.Write count skip) near is = elim (cases_Bool (count == 0)) [ inl t ↦ rw t near | inr f ↦ rw f near ]
 moved_near cursor other near is = near
 
-follow_near : (of : Opcodes) (stream : List ℕ) (steps : List Step) (from next : ℕ) (cursor : Cursor) → Follow of stream from steps next → IsNear cursor.segment
+steps_near : (of : Opcodes) (stream : List ℕ) (steps : List Step) (from next : ℕ) (cursor : Cursor) → AreStepsFrom of stream from steps next → IsNear cursor.segment
     → IsNear (fold moved cursor steps).segment
-follow_near of stream [] from next cursor is near = near
-follow_near of stream (first ∷ steps) from next cursor (after, at, rest) near =
-    follow_near of stream steps after next (moved cursor first) rest (moved_near cursor first near (step_near of stream from first after at))
+steps_near of stream [] from next cursor is near = near
+steps_near of stream (first ∷ steps) from next cursor (after, at, rest) near =
+    steps_near of stream steps after next (moved cursor first) rest (moved_near cursor first near (step_near of stream from first after at))
 
 pub cursor_near : (of : Opcodes) (stream : List ℕ) (steps : List Step) (place : ℕ) → AreSteps of stream steps place → IsNear (cursor_after steps).segment
-cursor_near of stream steps place are = follow_near of stream steps 0 place start are (λ s wrong. cc)
+cursor_near of stream steps place are = steps_near of stream steps 0 place start are (λ s wrong. cc)
 
 -- of such a segment the room is among the first 16
 module _ (rooms found : List ℕ) (are : AreRooms rooms found) where

@@ -11,7 +11,7 @@ use Rattle.macho_fields.specs.declared.header.loader.TheConstants as loader
 use Rattle.macho_image.specs.Opened.{IsOpened}
 use Rattle.macho_image.specs.Segment.{SegmentView, segment_at}
 use Rattle.macho_rules.proofs.Judged.{opened_facts, opened_commands}
-use Rattle.macho_linked.specs.Segments.{all_segments}
+use Rattle.macho_fields.specs.Segment.{all_segments}
 use Rattle.macho_linked.specs.Limits.{room, rooms_of, budget_of, AreRooms}
 
 abbrev pub view_room : SegmentView → ℕ

@@ -4,10 +4,10 @@ use Rattle.std.specs.Prelude.{IsSomeAnd}
 use Rattle.std.specs.List.{find}
 use Rattle.std.specs.Option.{option_map}
 use Rattle.std.proofs.lemmas.Bool.{cases_Bool}
-use Rattle.macho_fields.specs.Segment.{shows_start}
+use Rattle.macho_fields.specs.Segment.{all_segments, shows_start}
 use Rattle.macho_image.specs.Segment.{SegmentView, segment_at}
 use Rattle.macho_linked.specs.Homes.{HasSafeBase}
-use Rattle.macho_linked.specs.Segments.{all_segments, is_constant}
+use Rattle.macho_linked.specs.Segments.{is_constant}
 
 abbrev pub shows : SegmentView → Bool
 shows s = shows_start s.image s.place

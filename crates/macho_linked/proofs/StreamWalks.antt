@@ -5,14 +5,14 @@ use Rattle.std.proofs.lemmas.List.{append-nil}
 use Rattle.std.proofs.lemmas.List.Sums.{fold_push, sum_by-append, sum_by-cons}
 use Rattle.macho_fields.specs.FirstPlace.{IsNoted, IsLeastPlace}
 use Rattle.macho_linked.specs.Cursor.{start, moved, cursor_after, writes, looks_up, looked_up}
-use Rattle.macho_linked.specs.Steps.{step_at, Follow, AreSteps}
-use Rattle.macho_linked.specs.Streams.{At, pointers, names, IsUndecoded, NamesNoLibrary, LacksName, WritesOutside, PassesBudget, PassesNames, IsSurveyOf}
+use Rattle.macho_linked.specs.Steps.{step_at, AreStepsFrom, AreSteps}
+use Rattle.macho_linked.specs.Streams.{At, pointers, names, IsUndecoded, NamesNoLibrary, LacksName, WritesOutside, PassesBudget, PassesNames, IsStreamSurvey}
 use Rattle.macho_linked.specs.declared.cursor.Cursor.{Cursor}
 use Rattle.macho_linked.specs.declared.step.Opcodes.{Opcodes}
 use Rattle.macho_linked.specs.declared.step.Step.{Step}
 use Rattle.macho_linked.specs.declared.stream.Limits.{Limits}
 use Rattle.macho_linked.specs.declared.stream.StreamSurvey.{StreamSurvey}
-use Rattle.macho_linked.proofs.StepChains.{same_step, follow_rises, follow_more, follow_on}
+use Rattle.macho_linked.proofs.StepChains.{same_step, steps_rise, steps_more, steps_on}
 use Rattle.macho_linked.proofs.Within.{step_within}
 
 -- what is found is the least place with P below an end, and so of all
@@ -70,10 +70,10 @@ module _ (done : List Step → ℕ) (P : Cursor → ℕ → Step → Type 0) (of
   -- no step goes past a place without one
   pub none_past : step_at of stream place ≡ None → (late : ℕ) → place ≤ late → At done P of stream late → ⊥
   none_past none late less (others, next, after, chain, at, has) =
-      let (rest, on, is) = follow_on of stream before others 0 place late are chain less in
+      let (rest, on, is) = steps_on of stream before others 0 place late are chain less in
       nothing rest on
     where
-      nothing : (rest : List Step) → Follow of stream place rest late → ⊥
+      nothing : (rest : List Step) → AreStepsFrom of stream place rest late → ⊥
       nothing [] same = let at_place : step_at of stream place ≡ Some (next, after) = rw same at in cc
       nothing (first ∷ rest) (end, here, on) = cc
 
@@ -87,28 +87,28 @@ module _ (done : List Step → ℕ) (P : Cursor → ℕ → Step → Type 0) (of
     pub at_here : At done P of stream place → P (cursor_after before) (done before) here
     at_here (others, next, end, chain, there, has) =
         let same = (same_step _ here next after end at there).0 in
-        let (rest, on, is) = follow_on of stream before others 0 place place are chain (omega arith) in
+        let (rest, on, is) = steps_on of stream before others 0 place place are chain (omega arith) in
         all_same rest on is same
       where
-        all_same : (rest : List Step) → Follow of stream place rest place → others ≡ before ++ rest → here ≡ next → P (cursor_after before) (done before) here
+        all_same : (rest : List Step) → AreStepsFrom of stream place rest place → others ≡ before ++ rest → here ≡ next → P (cursor_after before) (done before) here
         all_same [] on is same =
             subst (λ (steps : List Step). P (cursor_after steps) (done steps) here) (is ∙ append-nil before)
             (subst (P (cursor_after others) (done others)) (sym same) has)
         all_same (first ∷ rest) (end_of, begins, on) is same =
             let within = step_within of stream place first end_of begins in
-            let more = follow_rises of stream rest end_of place on in absurd (omega arith)
+            let more = steps_rise of stream rest end_of place on in absurd (omega arith)
 
     -- and there is none up to its end
     pub none_between : (between : ℕ) → place < between → between < after → At done P of stream between → ⊥
     none_between between past less (others, next, end, chain, there, has) =
-        let (rest, on, is) = follow_on of stream before others 0 place between are chain (omega arith) in
+        let (rest, on, is) = steps_on of stream before others 0 place between are chain (omega arith) in
         nothing rest on
       where
-        nothing : (rest : List Step) → Follow of stream place rest between → ⊥
+        nothing : (rest : List Step) → AreStepsFrom of stream place rest between → ⊥
         nothing [] same = omega arith
         nothing (first ∷ rest) (end_of, begins, on) =
             let same = (same_step _ here first after end_of at begins).1 in
-            let more = follow_rises of stream rest end_of between on in omega arith
+            let more = steps_rise of stream rest end_of between on in omega arith
 
 -- Where a walk begins, goes on and ends
 
@@ -156,7 +156,7 @@ module _ (of : Opcodes) (stream : List ℕ) (limits : Limits) (place : ℕ) (cur
         short = short_more within.0;
         steps = (
           before ++ here ∷ [],
-          follow_more of stream before 0 place here after are at,
+          steps_more of stream before 0 place here after are at,
           moves ∙ (ap (λ c. moved c here) cursor_is ∙ sym (fold_push moved start before here)),
           counts ∙ more before written_is,
           finds ∙ more_names before cursor_is named_is,
@@ -201,10 +201,10 @@ module _ (of : Opcodes) (stream : List ℕ) (limits : Limits) (place : ℕ) (cur
   decoded : (early : ℕ) → early < place → IsUndecoded of stream early → ⊥
   decoded early less ((others, chain), inside, none) =
       let (before, are, cursor_is, written_is, named_is) = walked.steps in
-      let (rest, on, is) = follow_on of stream others before 0 early place chain are (omega arith) in
+      let (rest, on, is) = steps_on of stream others before 0 early place chain are (omega arith) in
       nothing rest on
     where
-      nothing : (rest : List Step) → Follow of stream early rest place → ⊥
+      nothing : (rest : List Step) → AreStepsFrom of stream early rest place → ⊥
       nothing [] same = omega arith
       nothing (first ∷ rest) (end, here, on) = cc
 
@@ -214,7 +214,7 @@ module _ (of : Opcodes) (stream : List ℕ) (limits : Limits) (place : ℕ) (cur
   found_all done P old found is below past = subst (IsLeastPlace (At done P of stream)) (sym is) (below_all (At done P of stream) place old below past)
 
   -- the stream ends at the place
-  pub walk_ended : length stream ≤ place → IsSurveyOf of stream limits survey
+  pub walk_ended : length stream ≤ place → IsStreamSurvey of stream limits survey
   walk_ended end =
       let (before, are, cursor_is, written_is, named_is) = walked.steps in record {
         opcode = subst (IsLeastPlace (IsUndecoded of stream)) (sym walked.opcode) all_decoded;
@@ -234,7 +234,7 @@ module _ (of : Opcodes) (stream : List ℕ) (limits : Limits) (place : ℕ) (cur
   -- the opcode at the place says nothing
   pub walk_stuck : place < length stream → step_at of stream place ≡ None → (found : StreamSurvey) → found.opcode ≡ Some place
       → found.library ≡ survey.library → found.symbol ≡ survey.symbol → found.slot ≡ survey.slot → found.total ≡ survey.total → found.names ≡ survey.names
-      → IsSurveyOf of stream limits found
+      → IsStreamSurvey of stream limits found
   walk_stuck inside none found opcode library symbol slot total named_same =
       let (before, are, cursor_is, written_is, named_is) = walked.steps in record {
         opcode = subst (IsLeastPlace (IsUndecoded of stream)) (sym opcode) (((before, are), inside, none), no_earlier);

@@ -27,7 +27,7 @@ use Rattle.macho_rules.proofs.Verdicts.{unbroken_opened}
 use Rattle.macho_linked.specs.Images.{Undecoded, NoLibrary, NoName, NoSlot, TooMany, TooLong, InTable, AreLeast, FitsAt, lesser, moved, dyld_info}
 use Rattle.macho_linked.specs.Limits.{AreRooms, rooms_of, budget_of, library_count}
 use Rattle.macho_linked.specs.Cursor.{cursor_after}
-use Rattle.macho_linked.specs.Streams.{At, pointers, names, NamesNoLibrary, LacksName, WritesOutside, PassesBudget, PassesNames, IsSurveyOf}
+use Rattle.macho_linked.specs.Streams.{At, pointers, names, NamesNoLibrary, LacksName, WritesOutside, PassesBudget, PassesNames, IsStreamSurvey}
 use Rattle.macho_linked.specs.declared.cursor.Cursor.{Cursor}
 use Rattle.macho_linked.specs.declared.step.Opcodes.{Opcodes}
 use Rattle.macho_linked.specs.declared.step.Step.{Step}
@@ -90,7 +90,7 @@ pub at_inside : (done : List Step → ℕ) (P : Cursor → ℕ → Step → Type
 at_inside done P of stream place (before, next, after, are, at, has) = let within = step_within of stream place next after at in omega arith
 
 -- The places of a survey fit where those of the stream do
-pub survey_fits : (of : Opcodes) (stream : List ℕ) (limits : Limits) (survey : StreamSurvey) (start : ℕ) → IsSurveyOf of stream limits survey → start + length stream < 2 ^ 64
+pub survey_fits : (of : Opcodes) (stream : List ℕ) (limits : Limits) (survey : StreamSurvey) (start : ℕ) → IsStreamSurvey of stream limits survey → start + length stream < 2 ^ 64
     → FitsAt start survey
 survey_fits of stream limits survey start are fits = record {
   opcode = fits_moved _ start (length stream) _ (λ place undecoded. undecoded.1) fits are.opcode;
@@ -113,7 +113,7 @@ module _ (image : List ℕ) (of : Opcodes) (table : ℕ × ℕ × ℕ) (limits :
   )
 
   -- what a walk over its bytes finds are the least places in the table
-  pub least_in_table : (survey : StreamSurvey) → IsSurveyOf of stream limits survey → AreLeast (InTable of image table) (moved table.0 survey)
+  pub least_in_table : (survey : StreamSurvey) → IsStreamSurvey of stream limits survey → AreLeast (InTable of image table) (moved table.0 survey)
   least_in_table survey are = record {
     opcode = least_moved (Undecoded image of stream) table.0 _ are.opcode;
     library = least_moved (NoLibrary image of stream) table.0 _ (subst (λ (n : ℕ). IsLeastPlace (At pointers (NamesNoLibrary n) of stream) survey.library) libraries are.library);

@@ -5,13 +5,13 @@ use Rattle.std.specs.Prelude.{◌≡◌, ℕ, zero, suc, ◌+◌, ◌*◌, ◌�
 use Rattle.std.specs.List.{range_with_len}
 use Rattle.macho_fields.specs.Field.{part}
 use Rattle.macho_fields.specs.Image.{commands_of}
-use Rattle.macho_fields.specs.Segment.{vmaddr, vmsize, fileoff, filesize}
+use Rattle.macho_fields.specs.Segment.{all_segments, vmaddr, vmsize, fileoff, filesize}
 use Rattle.macho_fields.specs.Universal.{slices_of, slice_bytes, IsImage}
 use Rattle.macho_linked.specs.Cursor.{start, moved, cursor_after, writes}
 use Rattle.macho_linked.specs.Harmless.{streams_of}
 use Rattle.macho_linked.specs.Homes.{Encrypts}
 use Rattle.macho_linked.specs.Images.{dyld_info}
-use Rattle.macho_linked.specs.Segments.{all_segments, is_writable, is_constant, is_protected, IsLinkedit}
+use Rattle.macho_linked.specs.Segments.{is_writable, is_constant, is_protected, IsLinkedit}
 use Rattle.macho_linked.specs.Steps.{step_at, AreSteps}
 use Rattle.macho_linked.specs.declared.cursor.Cursor.{Cursor}
 use Rattle.macho_linked.specs.declared.opcode.TheConstants as opcode

@@ -2,14 +2,14 @@
 -- where. The memory of a loader is no part of it.
 use Rattle.std.specs.Prelude.{◌≡◌, ℕ, ◌+◌, ◌*◌, ◌≤◌, ◌<◌, List, [], ◌∷◌, length, All, Contains, Some, true, slice_get, IsSomeAnd}
 use Rattle.macho_fields.specs.Field.{part}
-use Rattle.macho_fields.specs.Segment.{filesize, Supplies}
+use Rattle.macho_fields.specs.Segment.{all_segments, filesize, Supplies}
 use Rattle.macho_fields.specs.Symbol.{table_at}
 use Rattle.macho_fields.specs.Universal.{slices_of, slice_bytes, IsImage}
 use Rattle.macho_linked.specs.Cursor.{cursor_after}
 use Rattle.macho_linked.specs.Homes.{IsHome}
 use Rattle.macho_linked.specs.Images.{dyld_info, bounded_at}
 use Rattle.macho_linked.specs.Limits.{budget_of, library_count}
-use Rattle.macho_linked.specs.Segments.{all_segments, is_writable}
+use Rattle.macho_linked.specs.Segments.{is_writable}
 use Rattle.macho_linked.specs.Steps.{step_at, AreSteps}
 use Rattle.macho_linked.specs.Streams.{pointers}
 use Rattle.macho_linked.specs.declared.step.Opcodes.{Opcodes}

@@ -3,17 +3,17 @@
 use Rattle.std.specs.Prelude.{◌≡◌, ℕ, ◌<◌, List, Any, Contains, true, false, IsSomeAnd}
 use Rattle.std.specs.List.{find}
 use Rattle.macho_fields.specs.Image.{command_cmd, commands_of}
-use Rattle.macho_fields.specs.Segment.{vmsize, fileoff, filesize, shows_start}
+use Rattle.macho_fields.specs.Segment.{all_segments, vmsize, fileoff, filesize, shows_start}
 use Rattle.macho_fields.specs.Symbol.{tables_of}
 use Rattle.macho_fields.specs.declared.header.loader.TheConstants as loader
 use Rattle.macho_linked.specs.Kinds.{names_linked_data}
-use Rattle.macho_linked.specs.Segments.{all_segments, is_constant, is_protected, IsLinkedit}
+use Rattle.macho_linked.specs.Segments.{is_constant, is_protected, IsLinkedit}
 use Rattle.macho_spans.specs.Span.{IsInside, Shares}
 use Rattle.macho_spans.specs.declared.span.Span.{Span}
 
--- the bytes of a segment in the file
-abbrev pub file_part : List ℕ → ℕ → Span
-file_part image segment =
+-- the bytes that a segment has in the file
+abbrev pub bytes_of_segment : List ℕ → ℕ → Span
+bytes_of_segment image segment =
     record { start = fileoff image segment; len = filesize image segment }
 
 -- A segment is a home of some bytes: it is mapped, can be read and not written, is not decrypted, and
@@ -21,7 +21,7 @@ file_part image segment =
 abbrev pub IsHome : Span → List ℕ → ℕ → Type 0
 IsHome table image segment =
     (0 < vmsize image segment) × (is_constant image segment ≡ true)
-    × (is_protected image segment ≡ false) × IsInside table (file_part image segment)
+    × (is_protected image segment ≡ false) × IsInside table (bytes_of_segment image segment)
 
 -- loaders look for them in the segment, and it is no home of them
 abbrev pub IsAstray : Span → List ℕ → ℕ → Type 0

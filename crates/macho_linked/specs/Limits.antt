@@ -3,9 +3,9 @@ use Rattle.std.specs.Prelude.{◌≡◌, ℕ, ◌/◌, ◌<◌, ◌==◌, ◌&&�
 use Rattle.std.specs.List.{sum_by}
 use Rattle.macho_fields.specs.Image.{command_cmd, commands_of}
 use Rattle.macho_fields.specs.LoadCommands.{names_library}
-use Rattle.macho_fields.specs.Segment.{filesize}
+use Rattle.macho_fields.specs.Segment.{all_segments, filesize}
 use Rattle.macho_fields.specs.declared.header.loader.TheConstants as loader
-use Rattle.macho_linked.specs.Segments.{all_segments, is_writable}
+use Rattle.macho_linked.specs.Segments.{is_writable}
 use Rattle.macho_linked.specs.declared.step.TheConstants as size
 use Rattle.macho_linked.specs.declared.stream.TheConstants as stream
 

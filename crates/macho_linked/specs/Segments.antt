@@ -1,15 +1,11 @@
 -- What the name, the protection and the flags of a segment say of the linked data in it.
 -- (mach-o/loader.h: segment_command_64; mach/vm_prot.h)
 use Rattle.std.specs.Prelude.{◌≡◌, ℕ, ◌+◌, ◌&&◌, not, nat_lt, List, Bool, bit_and, codes}
-use Rattle.macho_fields.specs.Image.{commands_of, word}
-use Rattle.macho_fields.specs.Segment.{segments_of, vmsize, initprot}
+use Rattle.macho_fields.specs.Image.{word}
+use Rattle.macho_fields.specs.Segment.{vmsize, initprot}
 use Rattle.macho_fields.specs.declared.header.vm_prot.TheConstants as vm_prot
 use Rattle.macho_image.specs.Segment.{segment_name}
 use Rattle.macho_linked.specs.declared.segment.TheConstants as flag
-
--- the segments of an image
-abbrev pub all_segments : List ℕ → List ℕ
-all_segments image = segments_of image (commands_of image)
 
 -- it is mapped, and initprot allows writing
 abbrev pub is_writable : List ℕ → ℕ → Bool

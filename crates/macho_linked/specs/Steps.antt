@@ -103,11 +103,11 @@ step_at of stream place =
 
 -- The steps of a stream, from a place on: each begins where the one before it ends, and the last one ends
 -- at next, which is start if there is none.
-abbrev pub Follow : Opcodes → List ℕ → ℕ → List Step → ℕ → Type 0
-Follow of stream start [] next = start ≡ next
-Follow of stream start (first ∷ steps) next =
-    (after : ℕ) × (step_at of stream start ≡ Some (first, after)) × Follow of stream after steps next
+abbrev pub AreStepsFrom : Opcodes → List ℕ → ℕ → List Step → ℕ → Type 0
+AreStepsFrom of stream start [] next = start ≡ next
+AreStepsFrom of stream start (first ∷ steps) next =
+    (after : ℕ) × (step_at of stream start ≡ Some (first, after)) × AreStepsFrom of stream after steps next
 
 -- these are all steps of a stream before a place, of which the first is at its start
 abbrev pub AreSteps : Opcodes → List ℕ → List Step → ℕ → Type 0
-AreSteps of stream steps place = Follow of stream 0 steps place
+AreSteps of stream steps place = AreStepsFrom of stream 0 steps place

@@ -70,7 +70,7 @@ abbrev pub PassesNames : ℕ → Cursor → ℕ → Step → Type 0
 PassesNames most cursor named next = (0 < writes next) × (most < named + looks_up cursor next)
 
 -- where one stream breaks each of its rules first
-pub record IsSurveyOf (of : Opcodes) (stream : List ℕ) (limits : Limits) (survey : StreamSurvey) : Type 0 where
+pub record IsStreamSurvey (of : Opcodes) (stream : List ℕ) (limits : Limits) (survey : StreamSurvey) : Type 0 where
   pub opcode : IsLeastPlace (IsUndecoded of stream) survey.opcode
   pub library : IsLeastPlace (At pointers (NamesNoLibrary limits.libraries) of stream) survey.library
   pub symbol : IsLeastPlace (At pointers LacksName of stream) survey.symbol

@@ -9,7 +9,8 @@ ghost use Rattle.macho_fields.specs.LoadCommands.{width_size};
 ghost use Rattle.macho_fields.specs.Symbol.{table_at, tables_of};
 ghost use Rattle.macho_image.specs.Opened.{IsOpened};
 ghost use Rattle.macho_linked.specs.Homes.{bytes_of_table, Encrypts, IsHome, IsAstray, HasHome, IsHomeless, HasHomeless, BreaksTableHome, HasLinkedData, HasSafeBase, BreaksHeaderHome};
-ghost use Rattle.macho_linked.specs.Segments.{all_segments, IsLinkedit};
+ghost use Rattle.macho_fields.specs.Segment.{all_segments};
+ghost use Rattle.macho_linked.specs.Segments.{IsLinkedit};
 ghost use Rattle.macho_spans.specs.Span.{Shares};
 
 use crate::kinds::names_linked_data;

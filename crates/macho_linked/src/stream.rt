@@ -3,7 +3,7 @@
 ghost use Rattle.std.specs.Prelude.{◌≡◌, ◌-◌, ◌^◌, ◌<◌, min, IsTrue};
 ghost use Rattle.macho_fields.specs.Bytes.{bytes_of};
 ghost use Rattle.macho_fields.specs.FirstPlace.{IsNoted};
-ghost use Rattle.macho_linked.specs.Streams.{IsSurveyOf};
+ghost use Rattle.macho_linked.specs.Streams.{IsStreamSurvey};
 ghost use Rattle.macho_linked.specs.Streams.{reach as reach_of};
 
 use crate::cursor::Cursor;
@@ -46,7 +46,7 @@ pub struct StreamSurvey {
 
 /// Goes over the steps of a stream, once.
 pub fn survey(opcodes: Opcodes, stream: Bytes, limits: &Limits) -> StreamSurvey
-    ensures { IsSurveyOf opcodes (bytes_of stream.entry) limits.now result }
+    ensures { IsStreamSurvey opcodes (bytes_of stream.entry) limits.now result }
 {
     let mut survey = StreamSurvey::unbroken();
     let mut cursor = Cursor::new();

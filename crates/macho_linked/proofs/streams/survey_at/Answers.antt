@@ -7,7 +7,7 @@ use Rattle.macho_image.proofs.ReadParts.{length-part}
 use Rattle.macho_spans.specs.declared.span.Span.{Span}
 use Rattle.macho_linked.specs.Homes.{bytes_of_table}
 use Rattle.macho_linked.specs.Images.{bounded_at, moved, AreLeast, InTable}
-use Rattle.macho_linked.specs.Streams.{IsSurveyOf}
+use Rattle.macho_linked.specs.Streams.{IsStreamSurvey}
 use Rattle.macho_linked.proofs.TableSurveys.{survey_fits, least_in_table, none_in_table, table_inside, fields_inside}
 use Rattle.macho_linked.proofs.streams.survey_at.Goals as goal
 
@@ -56,6 +56,6 @@ returns c =
     let same : c.span_of-table.result ≡ bytes_of_table table = c.span_of-table.ensures ∙ ap (λ (f : TableFields). bytes_of_table (table_at image c.args.command f)) c.bounded_at.ensures in
     let stream : bytes_of c.slice-stream.result ≡ part table.0 table.1 image =
     c.slice-stream.ensures ∙ (ap (part c.span_of-table.result.start c.span_of-table.result.len) c.bytes.ensures.bytes ∙ ap (λ (s : Span). part s.start s.len image) same) in
-    let are = subst (λ (bytes : List ℕ). IsSurveyOf c.args.opcodes bytes c.args.limits.now c.survey.result) stream c.survey.ensures in
+    let are = subst (λ (bytes : List ℕ). IsStreamSurvey c.args.opcodes bytes c.args.limits.now c.survey.result) stream c.survey.ensures in
     let least = least_in_table image c.args.opcodes table c.args.limits.now c.requires.rooms c.requires.libraries c.requires.budget c.survey.result are in
     subst (AreLeast (InTable c.args.opcodes image table)) (sym (c.moved.ensures ∙ ap (λ (s : Span). moved s.start c.survey.result) same)) least
