@@ -11,6 +11,7 @@ use Rattle.macho_fields.specs.declared.header.loader.TheConstants as loader
 use Rattle.macho_image.specs.Opened.{IsOpened}
 use Rattle.macho_image.specs.Segment.{SegmentView, segment_at}
 use Rattle.macho_rules.proofs.Judged.{opened_facts, opened_commands}
+use Rattle.macho_rules.proofs.Surveys.{walked_on, walked_all}
 use Rattle.macho_fields.specs.Segment.{all_segments}
 use Rattle.macho_linked.specs.Limits.{room, rooms_of, budget_of, AreRooms}
 
@@ -24,6 +25,12 @@ pub record AreFound (seen : List SegmentView) (sizes : List ℕ) (index budget :
   pub same : (k : ℕ) → k < 16 → get_or sizes k 0 ≡ get_or (map view_room seen) k 0
   pub sum : budget ≡ sum_by (λ s. view_room s / 8) seen
   pub few : budget ≤ length seen * 2 ^ 61
+
+-- and of all segments where a walk over them has come
+pub record AreRoomed (all left : List SegmentView) (sizes : List ℕ) (index budget : ℕ) : Type 0 where
+  pub seen : List SegmentView
+  pub reached : all ≡ seen ++ left
+  pub found : AreFound seen sizes index budget
 
 get_more : (xs : List ℕ) (x k : ℕ) → (k ≡ length xs → ⊥) → get_or (xs ++ x ∷ []) k 0 ≡ get_or xs k 0
 get_more [] x zero apart = absurd (apart refl)
@@ -39,7 +46,7 @@ all_zero (zero ∷ sizes) zeros (suc k) = all_zero sizes zeros k
 all_zero (suc n ∷ sizes) zeros k =
     let other : (suc n == 0) ≡ false = ne_eqb (suc n) 0 (λ wrong. omega arith) in absurd (false≢true (rw other at zeros))
 
-pub found_none : (sizes : List ℕ) → length sizes ≡ 16 → list_all (λ size. size == 0) sizes ≡ true → AreFound [] sizes 0 0
+found_none : (sizes : List ℕ) → length sizes ≡ 16 → list_all (λ size. size == 0) sizes ≡ true → AreFound [] sizes 0 0
 found_none sizes all zeros = record {
   count = refl;
   all = all;
@@ -69,7 +76,7 @@ module _ (seen : List SegmentView) (sizes : List ℕ) (index budget : ℕ) (s : 
   more_few = let few = found.few in omega (arith, few, more_length, fits)
 
   -- it has a place among the first
-  pub found_more : index < 16 → AreFound (seen ++ s ∷ []) (set sizes index size) (index + 1) (budget + size / 8)
+  found_more : index < 16 → AreFound (seen ++ s ∷ []) (set sizes index size) (index + 1) (budget + size / 8)
   found_more room_left =
       let here : index ≡ length seen = omega (arith, found.count) in record {
         count = omega (arith, more_length, found.count);
@@ -98,7 +105,7 @@ module _ (seen : List SegmentView) (sizes : List ℕ) (index budget : ℕ) (s : 
           rw (more_rooms, get_more (map view_room seen) size k (λ same. apart (omega arith)), get_or-set_other sizes index k size 0 apart) (found.same k below)
 
   -- it has none
-  pub found_past : 16 ≤ index → AreFound (seen ++ s ∷ []) sizes index (budget + size / 8)
+  found_past : 16 ≤ index → AreFound (seen ++ s ∷ []) sizes index (budget + size / 8)
   found_past full =
       let count : length (map view_room seen) ≡ length seen = length-map seen view_room in record {
         count = omega (arith, more_length, found.count);
@@ -122,7 +129,7 @@ filter_short : (p : ℕ → Bool) (xs : List ℕ) → length (filter p xs) ≤ l
 filter_short p [] = omega arith
 filter_short p (x ∷ xs) = let more = filter_short p xs in elim (cases_Bool (p x)) [ inl t ↦ rw t (omega arith) | inr f ↦ rw f (omega arith) ]
 
-pub segments_few : (image : List ℕ) → IsOpened image → length image < 2 ^ 64 → length (all_segments image) < 2 ^ 61
+segments_few : (image : List ℕ) → IsOpened image → length image < 2 ^ 64 → length (all_segments image) < 2 ^ 61
 segments_few image opened short =
     let facts = opened_facts image opened in
     let inside : commands_end image ≤ length image = facts.inside in
@@ -132,17 +139,16 @@ segments_few image opened short =
     omega (arith, fit, few, inside, short)
 
 -- so with one more it fits
-pub budget_fits : (image : List ℕ) (all seen left : List SegmentView) (sizes : List ℕ) (index budget size : ℕ) → IsOpened image → length image < 2 ^ 64
-    → all ≡ map (segment_at image) (all_segments image) → all ≡ seen ++ left → AreFound seen sizes index budget → size < 2 ^ 64
-    → budget + size / 8 < 2 ^ 128
-budget_fits image all seen left sizes index budget size opened short are reached found fits =
+pub budget_fits : (image : List ℕ) (all left : List SegmentView) (sizes : List ℕ) (index budget size : ℕ) → IsOpened image → length image < 2 ^ 64
+    → all ≡ map (segment_at image) (all_segments image) → AreRoomed all left sizes index budget → size < 2 ^ 64 → budget + size / 8 < 2 ^ 128
+budget_fits image all left sizes index budget size opened short are walked fits =
     let few = segments_few image opened short in
     let count : length all ≡ length (all_segments image) = ap length are ∙ length-map (all_segments image) (segment_at image) in
-    let parts : length all ≡ length seen + length left = ap length reached ∙ length-append seen left in
-    let sum = found.few in omega (arith, few, count, parts, sum, fits)
+    let parts : length all ≡ length walked.seen + length left = ap length walked.reached ∙ length-append walked.seen left in
+    let sum = walked.found.few in omega (arith, few, count, parts, sum, fits)
 
 -- all segments are found
-pub found_all : (image : List ℕ) (all : List SegmentView) (sizes : List ℕ) (index budget : ℕ) → all ≡ map (segment_at image) (all_segments image)
+found_all : (image : List ℕ) (all : List SegmentView) (sizes : List ℕ) (index budget : ℕ) → all ≡ map (segment_at image) (all_segments image)
     → AreFound all sizes index budget → AreRooms (rooms_of image) sizes × (budget ≡ budget_of image)
 found_all image all sizes index budget are found = (
   λ k below. found.same k below ∙ ap (λ rooms. get_or rooms k 0) (ap (map view_room) are ∙ mapped (all_segments image)),
@@ -158,3 +164,28 @@ found_all image all sizes index budget are found = (
     summed (place ∷ places) =
         sum_by-cons (λ (s : SegmentView). view_room s / 8) (segment_at image place) (map (segment_at image) places)
         ∙ (ap (λ n. room image place / 8 + n) (summed places) ∙ sym (sum_by-cons (λ place. room image place / 8) place places))
+
+-- A walk over the segments
+
+pub rooms_start : (all : List SegmentView) (sizes : List ℕ) → length sizes ≡ 16 → list_all (λ size. size == 0) sizes ≡ true → AreRoomed all all sizes 0 0
+rooms_start all sizes size zeros = record { seen = []; reached = refl; found = found_none sizes size zeros }
+
+module _ (all left rest : List SegmentView) (s : SegmentView) (is : left ≡ s ∷ rest) (sizes : List ℕ) (index budget size : ℕ) (same : size ≡ view_room s) (fits : size < 2 ^ 64)
+    (walked : AreRoomed all left sizes index budget) where
+  abbrev passed : List SegmentView
+  passed = walked.seen ++ s ∷ []
+
+  on : all ≡ passed ++ rest
+  on = walked_on all walked.seen left s rest walked.reached is
+
+  pub rooms_more : index < 16 → AreRoomed all rest (set sizes index size) (index + 1) (budget + size / 8)
+  rooms_more few = record { seen = passed; reached = on; found = found_more walked.seen sizes index budget s size same fits walked.found few }
+
+  pub rooms_past : 16 ≤ index → AreRoomed all rest sizes index (budget + size / 8)
+  rooms_past full = record { seen = passed; reached = on; found = found_past walked.seen sizes index budget s size same fits walked.found full }
+
+-- after the last segment
+pub rooms_all : (image : List ℕ) (all left : List SegmentView) (sizes : List ℕ) (index budget : ℕ) → all ≡ map (segment_at image) (all_segments image) → left ≡ []
+    → AreRoomed all left sizes index budget → AreRooms (rooms_of image) sizes × (budget ≡ budget_of image)
+rooms_all image all left sizes index budget are none walked =
+    found_all image walked.seen sizes index budget (sym (walked_all all walked.seen left walked.reached none) ∙ are) walked.found

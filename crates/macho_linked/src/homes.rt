@@ -1,35 +1,36 @@
 //! Where the tables of linked data lie: a loader reads them in memory while it writes, so it must find them
 //! there as they are in the file. (`mach-o/loader.h`)
 
-ghost use Rattle.std.specs.Prelude.{◌≡◌, ◌↔◌, ◌+◌, ◌*◌, ◌^◌, ◌≤◌, ◌<◌, length, IsTrue, Any, Contains};
-ghost use Rattle.macho_fields.specs.Bytes.{bytes_of};
+ghost use Rattle.std.specs.Prelude.{◌≡◌, ◌↔◌, ◌+◌, ◌≤◌, ◌<◌, [], length, IsTrue, Any, if◌then◌else◌};
+ghost use Rattle.std.specs.Option.{option_map_or};
 ghost use Rattle.macho_fields.specs.FirstPlace.{IsLeastPlace};
-ghost use Rattle.macho_fields.specs.Image.{command_cmd, commands_of};
-ghost use Rattle.macho_fields.specs.LoadCommands.{width_size};
-ghost use Rattle.macho_fields.specs.Symbol.{table_at, tables_of};
-ghost use Rattle.macho_image.specs.Opened.{IsOpened};
-ghost use Rattle.macho_linked.specs.Homes.{bytes_of_table, Encrypts, IsHome, IsAstray, HasHome, IsHomeless, HasHomeless, BreaksTableHome, HasLinkedData, HasSafeBase, BreaksHeaderHome};
+ghost use Rattle.macho_fields.specs.Image.{commands_of};
+ghost use Rattle.macho_fields.specs.LoadCommands.{structure_of, table_fields as fields_of, width_size};
 ghost use Rattle.macho_fields.specs.Segment.{all_segments};
+ghost use Rattle.macho_fields.specs.Symbol.{table_at, tables_of};
+ghost use Rattle.macho_image.specs.Command.{command_of};
+ghost use Rattle.macho_image.specs.Opened.{IsCommandOf};
+ghost use Rattle.macho_linked.specs.Homes.{bytes_of_table, Encrypts, IsHome, IsAstray, HasHome, IsHomeless, HasHomeless, BreaksTableHome, HasLinkedData, HasSafeBase, BreaksHeaderHome};
+ghost use Rattle.macho_linked.specs.Kinds.{names_linked_data as linked_data_of};
 ghost use Rattle.macho_linked.specs.Segments.{IsLinkedit};
 ghost use Rattle.macho_spans.specs.Span.{Shares};
 
-use crate::kinds::names_linked_data;
+use crate::kinds::{names_linked_data, place_of};
 use crate::segment::{is_constant, is_linkedit, is_protected};
 use macho_fields::header::loader::{LC_ENCRYPTION_INFO_64, SEGMENT_COMMAND_64_SIZE};
 use macho_fields::{Span, TableFields, structure_of};
-use macho_image::{Image, Segment};
+use macho_image::{Command, Image, Segment};
 
 /// The place of the first command that names a table of linked data without a home: a loader does not find
 /// it in a segment named `__LINKEDIT`, can write it, or finds other bytes than those of the file.
 pub fn table_home(image: &Image) -> Option<u64>
     ensures { IsLeastPlace (BreaksTableHome image.now) result }
 {
-    for command in image.commands() {
-        if names_homeless(image, command.cmd, command.place) {
-            return Some(command.place);
-        }
-    }
-    None
+    place_of(
+        image
+            .commands()
+            .find(|command| has_homeless(image, command)),
+    )
 }
 
 /// The place 0, if a command names a table of linked data, and the image has no base, or its segment can
@@ -48,85 +49,60 @@ pub fn header_home(image: &Image) -> Option<u64>
 fn has_linked_data(image: &Image) -> bool
     ensures { IsTrue result ↔ Any (HasLinkedData image.now) (commands_of image.now) }
 {
-    for command in image.commands() {
-        if names_table(image, command.cmd, command.place) {
-            return true;
-        }
-    }
-    false
+    image.commands().any(|command| has_table(image, &command))
 }
 
-// Whether the command at the place `command`, whose number is `cmd`, names a table of linked data that has
-// bytes.
-fn names_table(image: &Image, cmd: u32, command: u64) -> bool
-    requires opened { IsOpened image.now }
-    requires listed { Contains (commands_of image.now) command }
-    requires cmd { cmd ≡ command_cmd image.now command }
-    ensures { IsTrue result ↔ HasLinkedData image.now command }
+// Whether the command names a table of linked data that has bytes.
+fn has_table(image: &Image, command: &Command) -> bool
+    requires { IsCommandOf image.now (command_of command.now) }
+    ensures { IsTrue result ↔ HasLinkedData image.now command.now.place }
 {
-    names_linked_data(cmd) && has_table(image, cmd, command)
-}
-
-// Whether the command at the place `command`, whose number is `cmd`, names a table of linked data that has
-// bytes and no home.
-fn names_homeless(image: &Image, cmd: u32, command: u64) -> bool
-    requires opened { IsOpened image.now }
-    requires listed { Contains (commands_of image.now) command }
-    requires cmd { cmd ≡ command_cmd image.now command }
-    ensures { IsTrue result ↔ HasHomeless image.now command }
-{
-    names_linked_data(cmd) && has_homeless(image, cmd, command)
-}
-
-// Whether one of the tables that the command at the place `command` names, whose number is `cmd`, has
-// bytes.
-fn has_table(image: &Image, cmd: u32, command: u64) -> bool
-    requires opened { IsOpened image.now }
-    requires listed { Contains (commands_of image.now) command }
-    requires cmd { cmd ≡ command_cmd image.now command }
-    ensures { IsTrue result ↔ Any (λ table. 0 < table.1) (tables_of image.now command) }
-{
-    let Some(structure) = structure_of(cmd) else {
-        return false;
-    };
-    let bytes = image.bytes();
-    for fields in structure.tables() {
-        if fields.item_count(bytes, command) > 0 {
-            return true;
-        }
-    }
-    false
+    linked_fields(command.cmd)
+        .iter()
+        .any(|fields| span_of(image, command.place, *fields).len > 0)
 }
 
 // Whether the base is that of a segment which can be read and not written.
 fn has_safe_base(image: &Image) -> bool
     ensures { IsTrue result ↔ HasSafeBase image.now }
 {
-    for segment in image.segments() {
-        if segment.shows_start() {
-            return is_constant(&segment);
-        }
+    let base = image.segments().find(|segment| segment.shows_start());
+    match base {
+        Some(segment) => is_constant(&segment),
+        None => false,
     }
-    false
 }
 
-// Whether one of the tables that the command at the place `command` names, whose number is `cmd`, has
-// bytes and no home.
-fn has_homeless(image: &Image, cmd: u32, command: u64) -> bool
-    requires opened { IsOpened image.now }
-    requires listed { Contains (commands_of image.now) command }
-    requires cmd { cmd ≡ command_cmd image.now command }
-    ensures { IsTrue result ↔ Any (IsHomeless image.now) (tables_of image.now command) }
+// Whether the command names a table of linked data that has bytes and no home.
+fn has_homeless(image: &Image, command: &Command) -> bool
+    requires { IsCommandOf image.now (command_of command.now) }
+    ensures { IsTrue result ↔ HasHomeless image.now command.now.place }
 {
-    let Some(structure) = structure_of(cmd) else {
-        return false;
-    };
-    for fields in structure.tables() {
-        if is_homeless(image, command, *fields) {
-            return true;
-        }
+    linked_fields(command.cmd)
+        .iter()
+        .any(|fields| is_homeless(image, command.place, *fields))
+}
+
+// The fields that bound the tables of linked data of a command with this `cmd`.
+fn linked_fields(cmd: u32) -> &'static [TableFields]
+    ensures { result.now
+        ≡ (if linked_data_of cmd then option_map_or fields_of (structure_of cmd) [] else []) }
+{
+    if names_linked_data(cmd) {
+        table_fields(cmd)
+    } else {
+        &[]
     }
-    false
+}
+
+// The fields that bound the tables of a command with this `cmd`.
+fn table_fields(cmd: u32) -> &'static [TableFields]
+    ensures { result.now ≡ option_map_or fields_of (structure_of cmd) [] }
+{
+    match structure_of(cmd) {
+        Some(structure) => structure.tables(),
+        None => &[],
+    }
 }
 
 // Whether the table that these fields of the command bound has bytes and no home.
@@ -162,24 +138,14 @@ fn has_home(image: &Image, table: Span) -> bool
 fn has_linkedit(image: &Image) -> bool
     ensures { IsTrue result ↔ Any (IsLinkedit image.now) (all_segments image.now) }
 {
-    for segment in image.segments() {
-        if is_linkedit(&segment) {
-            return true;
-        }
-    }
-    false
+    image.segments().any(|segment| is_linkedit(&segment))
 }
 
 // Whether loaders look for the table in some segment that is no home of it.
 fn has_astray(image: &Image, table: Span) -> bool
     ensures { IsTrue result ↔ Any (IsAstray table image.now) (all_segments image.now) }
 {
-    for segment in image.segments() {
-        if is_astray(&segment, table) {
-            return true;
-        }
-    }
-    false
+    image.segments().any(|segment| is_astray(&segment, table))
 }
 
 // Whether loaders look for the table in the segment, and it is no home of it.
@@ -206,41 +172,28 @@ fn is_home(segment: &Segment, table: Span) -> bool
 fn is_encrypted(image: &Image, table: Span) -> bool
     ensures { IsTrue result ↔ Any (Encrypts table image.now) (commands_of image.now) }
 {
-    for command in image.commands() {
-        if encrypts(image, command.cmd, command.place, table) {
-            return true;
-        }
-    }
-    false
+    image
+        .commands()
+        .any(|command| encrypts(image, &command, table))
 }
 
-// Whether the command at the place `command`, whose number is `cmd`, has an encrypted range with a byte of
-// the table.
-fn encrypts(image: &Image, cmd: u32, command: u64, table: Span) -> bool
-    requires opened { IsOpened image.now }
-    requires listed { Contains (commands_of image.now) command }
-    requires cmd { cmd ≡ command_cmd image.now command }
-    ensures { IsTrue result ↔ Encrypts table image.now command }
+// Whether the command has an encrypted range with a byte of the table.
+fn encrypts(image: &Image, command: &Command, table: Span) -> bool
+    requires { IsCommandOf image.now (command_of command.now) }
+    ensures { IsTrue result ↔ Encrypts table image.now command.now.place }
 {
-    cmd == LC_ENCRYPTION_INFO_64 && shares_range(image, cmd, command, table)
+    command.cmd == LC_ENCRYPTION_INFO_64 && shares_range(image, command, table)
 }
 
-// Whether one of the ranges that the command at the place `command` bounds, whose number is `cmd`, has a
-// byte of the table.
-fn shares_range(image: &Image, cmd: u32, command: u64, table: Span) -> bool
-    requires opened { IsOpened image.now }
-    requires listed { Contains (commands_of image.now) command }
-    requires cmd { cmd ≡ command_cmd image.now command }
+// Whether one of the ranges that the command bounds has a byte of the table.
+fn shares_range(image: &Image, command: &Command, table: Span) -> bool
+    requires { IsCommandOf image.now (command_of command.now) }
     ensures { IsTrue result
-        ↔ Any (λ range. Shares (bytes_of_table range) table) (tables_of image.now command) }
+        ↔ Any (λ range. Shares (bytes_of_table range) table)
+        (tables_of image.now command.now.place) }
 {
-    let Some(structure) = structure_of(cmd) else {
-        return false;
-    };
-    for fields in structure.tables() {
-        if span_of(image, command, *fields).shares(&table) {
-            return true;
-        }
-    }
-    false
+    table_fields(command.cmd).iter().any(|fields| {
+        let range = span_of(image, command.place, *fields);
+        range.shares(&table)
+    })
 }

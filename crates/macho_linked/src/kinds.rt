@@ -1,10 +1,11 @@
 //! The commands that name linked data, of which an image has at most one of each kind, and those that no
 //! rule can judge. (`mach-o/loader.h`)
 
-ghost use Rattle.std.specs.Prelude.{◌≡◌, ◌<◌, ◌↔◌, IsTrue, Contains, true};
+ghost use Rattle.std.specs.Prelude.{◌≡◌, ◌<◌, ◌↔◌, IsTrue, true};
+ghost use Rattle.std.specs.Option.{option_map};
 ghost use Rattle.macho_fields.specs.FirstPlace.{IsLeastPlace};
-ghost use Rattle.macho_fields.specs.Image.{command_cmd, commands_of};
-ghost use Rattle.macho_image.specs.Opened.{IsOpened};
+ghost use Rattle.macho_image.specs.Command.{command_of};
+ghost use Rattle.macho_image.specs.Opened.{IsCommandOf};
 ghost use Rattle.macho_linked.specs.Kinds.{is_fixups as is_fixups_of, is_exports as is_exports_of, is_alone as is_alone_of, names_linked_data as names_linked_data_of, share_kind as share_kind_of, names_variants as names_variants_of, RepeatsEarlier, BreaksTableRepeated, BreaksFunctionVariants};
 
 use macho_fields::header::loader::{
@@ -18,24 +19,14 @@ use macho_image::{Command, Image};
 pub fn table_repeated(image: &Image) -> Option<u64>
     ensures { IsLeastPlace (BreaksTableRepeated image.now) result }
 {
-    for command in image.commands() {
-        if repeats(image, command.cmd, command.place) {
-            return Some(command.place);
-        }
-    }
-    None
+    place_of(image.commands().find(|command| repeats(image, command)))
 }
 
 /// The place of the first command with variants of functions, or with what is written for them.
 pub fn function_variants(image: &Image) -> Option<u64>
     ensures { IsLeastPlace (BreaksFunctionVariants image.now) result }
 {
-    for command in image.commands() {
-        if names_variants(command.cmd) {
-            return Some(command.place);
-        }
-    }
-    None
+    place_of(image.commands().find(|command| names_variants(command.cmd)))
 }
 
 /// Whether a command with this `cmd` names linked data.
@@ -45,37 +36,31 @@ pub fn names_linked_data(cmd: u32) -> bool
     is_fixups(cmd) || is_exports(cmd) || is_alone(cmd)
 }
 
-// Whether an earlier command names linked data of a kind of the one at the place `command`, whose number
-// is `cmd`. A command that names none is not compared, so the work is linear.
-fn repeats(image: &Image, cmd: u32, command: u64) -> bool
-    requires opened { IsOpened image.now }
-    requires listed { Contains (commands_of image.now) command }
-    requires cmd { cmd ≡ command_cmd image.now command }
-    ensures { IsTrue result ↔ RepeatsEarlier image.now command }
+// Whether an earlier command names linked data of a kind of this one. A command that names none is not
+// compared, so the work is linear.
+fn repeats(image: &Image, command: &Command) -> bool
+    requires { IsCommandOf image.now (command_of command.now) }
+    ensures { IsTrue result ↔ RepeatsEarlier image.now command.now.place }
 {
-    names_linked_data(cmd) && repeats_earlier(image, cmd, command)
+    names_linked_data(command.cmd) && repeats_earlier(image, command)
 }
 
-// Whether an earlier command names linked data of a kind of the one at the place `command`, whose number
-// is `cmd`.
-fn repeats_earlier(image: &Image, cmd: u32, command: u64) -> bool
-    requires cmd { cmd ≡ command_cmd image.now command }
-    ensures { IsTrue result ↔ RepeatsEarlier image.now command }
+// Whether an earlier command names linked data of a kind of this one.
+fn repeats_earlier(image: &Image, command: &Command) -> bool
+    requires { IsCommandOf image.now (command_of command.now) }
+    ensures { IsTrue result ↔ RepeatsEarlier image.now command.now.place }
 {
-    for earlier in image.commands() {
-        if is_repeated(&earlier, cmd, command) {
-            return true;
-        }
-    }
-    false
+    image
+        .commands()
+        .any(|earlier| is_repeated(&earlier, command))
 }
 
-// Whether the command comes before the place `command`, and is of a kind of those with this `cmd`.
-fn is_repeated(earlier: &Command, cmd: u32, command: u64) -> bool
-    ensures { IsTrue result
-        ↔ ((earlier.now.place < command) × (share_kind_of earlier.now.cmd cmd ≡ true)) }
+// Whether the command comes before the other one, and is of a kind of it.
+fn is_repeated(earlier: &Command, command: &Command) -> bool
+    ensures { IsTrue result ↔ ((earlier.now.place < command.now.place)
+        × (share_kind_of earlier.now.cmd command.now.cmd ≡ true)) }
 {
-    earlier.place < command && share_kind(earlier.cmd, cmd)
+    earlier.place < command.place && share_kind(earlier.cmd, command.cmd)
 }
 
 // Whether commands with these `cmd` name linked data of a common kind.
@@ -119,4 +104,14 @@ fn names_variants(cmd: u32) -> bool
     ensures { result ≡ names_variants_of cmd }
 {
     matches!(cmd, LC_FUNCTION_VARIANTS | LC_FUNCTION_VARIANT_FIXUPS)
+}
+
+// The place of a command, if there is one.
+pub(crate) fn place_of(command: Option<Command>) -> Option<u64>
+    ensures { result ≡ option_map (λ found. found.place) command.entry }
+{
+    match command {
+        Some(found) => Some(found.place),
+        None => None,
+    }
 }

@@ -44,13 +44,10 @@ fn library_count(image: &Image) -> u64
 {
     // The commands lie in the image, so their number is below 2^64.
     prove!(image.bytes().len() <= u64::MAX);
-    let mut count = 0;
-    for command in image.commands() {
-        if loads_library(command.cmd) {
-            count += 1;
-        }
-    }
-    count
+    image
+        .commands()
+        .filter(|command| loads_library(command.cmd))
+        .count() as u64
 }
 
 // Whether a command with this `cmd` names a library that is loaded.

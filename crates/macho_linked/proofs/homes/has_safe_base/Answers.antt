@@ -1,22 +1,18 @@
-use Rattle.std.proofs.Common.{[], sym, ◌∙◌}
+use Rattle.std.proofs.Common.{sym, ap, ◌∙◌, rules, tests}
+use Rattle.std.specs.Option.{option_map}
 use Rattle.std.proofs.lemmas.Bool.{false≢true}
-use Rattle.macho_linked.proofs.SafeBases.{none_passed, pass_one, base_found, base_missing}
+use Rattle.std.proofs.lemmas.Iterator.Search.{find_from_yields_List}
+use Rattle.macho_image.specs.Segment.{SegmentView}
+use Rattle.macho_linked.proofs.Found.{segments_yield}
+use Rattle.macho_linked.proofs.SafeBases.{shows, base_found, base_missing}
 use Rattle.macho_linked.proofs.homes.has_safe_base.Goals as goal
 
-pub loop-segment-init : goal.loop-segment-init
-loop-segment-init c = (tt, tt, none_passed _)
+pub returns-in-Some : goal.returns-in-Some
+returns-in-Some c =
+    let found = find_from_yields_List shows _ _ c.find-base.result c.find-base.ensures.ran (segments_yield c.args.image.now c.segments.ensures.segments) (λ s b q k. search (rules, tests)) in
+    base_found c.args.image.now _ c.segments.ensures.segments c.in-Some.segment c.is_constant.result (sym (ap (option_map (λ (s : SegmentView). s)) c.in-Some.is) ∙ found) c.is_constant.ensures
 
-pub loop-segment-preserved : goal.loop-segment-preserved
-loop-segment-preserved c =
-    (tt, tt, pass_one _ _ _ c.in-Some.segment c.in-Some.ensures.steps (sym c.shows_start.ensures ∙ c.if-shows_start.false) c.loop-segment.invariant.2)
-
-pub returns-then-shows_start : goal.returns-then-shows_start
-returns-then-shows_start c =
-    let are = c.into_iter-segment-iterator.ensures.into_iter_gives ∙ c.segments-segment-items.ensures.segments in
-    base_found c.args.image.now _ _ _ are c.loop-segment.invariant.2 c.in-Some.segment c.is_constant.result c.in-Some.ensures.steps
-    (sym c.shows_start.ensures ∙ c.if-shows_start.true) c.is_constant.ensures
-
-pub returns : goal.returns
-returns c =
-    let are = c.into_iter-segment-iterator.ensures.into_iter_gives ∙ c.segments-segment-items.ensures.segments in
-    (λ wrong. absurd (false≢true wrong), λ safe. absurd (base_missing c.args.image.now _ _ [] are c.loop-segment.invariant.2 c.in-None.ensures.steps.0 safe))
+pub returns-in-None : goal.returns-in-None
+returns-in-None c =
+    let found = find_from_yields_List shows _ _ c.find-base.result c.find-base.ensures.ran (segments_yield c.args.image.now c.segments.ensures.segments) (λ s b q k. search (rules, tests)) in
+    (λ wrong. absurd (false≢true wrong), λ safe. absurd (base_missing c.args.image.now _ c.segments.ensures.segments (sym (ap (option_map (λ (s : SegmentView). s)) c.in-None.is) ∙ found) safe))

@@ -1,40 +1,16 @@
-use Rattle.std.proofs.Common.{◌<◌, ℕ, refl, sym, ap, ◌∙◌, arith}
-use Rattle.std.proofs.lemmas.Bool.{false≢true}
-use Rattle.macho_fields.specs.LoadCommands.{structure_of}
-use Rattle.macho_linked.proofs.CommandTables.{none_at_first, none_of_all, one_has, none_unlisted, fields_held}
+use Rattle.std.proofs.Common.{◌<◌, rules, tests}
+use Rattle.std.proofs.lemmas.Iterator.{YieldsList-from_slice}
+use Rattle.macho_image.specs.Command.{command_of}
+use Rattle.macho_linked.specs.Kinds.{names_linked_data}
+use Rattle.macho_linked.proofs.Found.{each_table, any_table}
 use Rattle.macho_linked.proofs.homes.has_table.Goals as goal
 
-abbrev HasBytes : ℕ × ℕ × ℕ → Type 0
-HasBytes table = 0 < table.1
-
-pub returns-in_default : goal.returns-in_default
-returns-in_default c =
-    let none = sym (ap structure_of c.requires.cmd) ∙ (sym c.structure_of.ensures ∙ c.in_default.is) in
-    (λ wrong. absurd (false≢true wrong), λ any. absurd (none_unlisted HasBytes c.args.image.now c.args.command none any))
-
-pub loop-fields-init : goal.loop-fields-init
-loop-fields-init c = none_at_first HasBytes c.args.image.now c.args.command c.tables-fields-items.result.now
-
-pub item_count-requires : goal.item_count-requires
-item_count-requires c =
-    let listed = sym (ap structure_of c.requires.cmd) ∙ (sym c.structure_of.ensures ∙ c.in-Some.is) in
-    let (place, count) = fields_held HasBytes c.args.image.now c.args.command c.in-Some.structure c.tables-fields-items.result.now listed c.tables-fields-items.ensures.tables c.requires.opened
-    c.requires.listed c.loop-fields.fields-index _ c.loop-fields-test.true in
-    rw c.bytes-bytes.ensures.bytes count
-
-pub returns-then-item_count-gt0 : goal.returns-then-item_count-gt0
-returns-then-item_count-gt0 c =
-    let listed = sym (ap structure_of c.requires.cmd) ∙ (sym c.structure_of.ensures ∙ c.in-Some.is) in
-    let same = rw c.bytes-bytes.ensures.bytes at c.item_count.ensures.count in
-    let has = rw same at c.if-item_count-gt0.true in
-    let any = one_has HasBytes c.args.image.now c.args.command c.in-Some.structure c.tables-fields-items.result.now listed c.tables-fields-items.ensures.tables c.loop-fields.fields-index _
-    c.loop-fields-test.true has in
-    (λ _. any, λ _. refl)
+pub any-requires-clause-callable : goal.any-requires-clause-callable
+any-requires-clause-callable c =
+    each_table c.args.image.now (command_of c.args.command.now) c.requires names_linked_data c.linked_fields.result.now c.linked_fields.ensures (YieldsList-from_slice c.linked_fields.result.now (cc))
+    (λ y q k. search (rules, tests)) (λ y inside. search rules)
 
 pub returns : goal.returns
 returns c =
-    let listed = sym (ap structure_of c.requires.cmd) ∙ (sym c.structure_of.ensures ∙ c.in-Some.is) in (
-      λ wrong. absurd (false≢true wrong),
-      λ any. absurd (none_of_all HasBytes c.args.image.now c.args.command c.in-Some.structure c.tables-fields-items.result.now listed c.tables-fields-items.ensures.tables c.loop-fields.fields-index
-          (omega arith) c.loop-fields.invariant any),
-    )
+    any_table c.args.image.now (command_of c.args.command.now) c.requires names_linked_data c.linked_fields.result.now c.linked_fields.ensures (YieldsList-from_slice c.linked_fields.result.now (cc)) (λ table. 0 < table.1) c.any.result c.any.ensures.ran
+    (λ y b q k. search (rules, tests))
