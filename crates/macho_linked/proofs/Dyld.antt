@@ -1,51 +1,43 @@
 -- The plain dyld follows the opcodes of the file, and writes nothing that it reads.
-use Rattle.std.proofs.Common.{◌≡◌, ℕ, suc, zero, ◌+◌, ◌-◌, ◌≤◌, ◌<◌, List, [], ◌∷◌, ◌++◌, length, lit<, take, drop, get_or, slice_get, Any, Contains, Option, Some, None, Bool, true, refl, sym, ap, ◌∙◌, subst, arith, inl, inr, length-append}
+use Rattle.std.proofs.Common.{◌≡◌, ℕ, suc, zero, ◌+◌, ◌-◌, ◌≤◌, ◌<◌, List, [], ◌∷◌, ◌++◌, length, take, drop, get_or, slice_get, Any, Contains, Option, Some, None, Bool, true, refl, sym, ap, ◌∙◌, subst, arith, inl, inr, length-append}
 use Rattle.std.specs.Prelude.{slice_index, not, nat_lt}
 use Rattle.std.proofs.lemmas.Bool.{cases_lt, cases_eq, false≢true, ltb-true, and_parts}
 use Rattle.std.proofs.lemmas.List.{ext_get_or, get_or-take, get_or-drop, length-take, length-take-le, take-append-drop}
 use Rattle.std.proofs.lemmas.List.FromFn.{get_or-map-range_with_len, length-map-range_with_len}
 use Rattle.std.proofs.lemmas.List.Sums.{fold_push}
-use Rattle.std.proofs.lemmas.Option.{slice_get-get_or, slice_get_within, get_or_from_slice_get}
+use Rattle.std.proofs.lemmas.Option.{slice_get_within, get_or_from_slice_get}
 use Rattle.macho_fields.specs.Field.{part}
 use Rattle.macho_fields.specs.First.{IsUnbroken}
 use Rattle.macho_fields.specs.Image.{command_cmd, commands_of}
 use Rattle.macho_fields.specs.Layers.{NothingBreaks}
-use Rattle.macho_fields.specs.LoadCommands.{dyld_info_tables}
 use Rattle.macho_fields.specs.Rules as layout
 use Rattle.macho_fields.specs.Segment.{all_segments, vmaddr, vmsize, fileoff, filesize, Supplies}
 use Rattle.macho_fields.specs.Symbol.{table_at, tables_of}
-use Rattle.macho_fields.specs.Universal.{slices_of, slice_bytes}
 use Rattle.macho_fields.specs.declared.rule.Rule.TheVariants as rule
 use Rattle.macho_fields.proofs.Options.{some_of, of_some}
-use Rattle.macho_fields.proofs.Parts.{with_cmd_is}
-use Rattle.macho_fields.proofs.Ranks.{image_alone}
-use Rattle.macho_fields.specs.declared.header.loader.TheConstants as loader
-use Rattle.macho_fields.specs.Image.{with_cmd}
-use Rattle.macho_image.specs.Command.{first_with_cmd}
-use Rattle.std.specs.Option.{option_map_or}
 use Rattle.macho_linked.specs.Kinds.{names_linked_data}
-use Rattle.macho_fields.proofs.Scopes.{of_slice}
 use Rattle.macho_image.proofs.ReadParts.{length-part}
 use Rattle.macho_rules.proofs.Judged.{opened_commands}
-use Rattle.macho_rules.proofs.Searches.{any_of, one_of}
+use Rattle.macho_rules.proofs.Searches.{mapped_has, any_of, one_of}
 use Rattle.macho_rules.proofs.Verdicts.{unbroken_opened, unbroken_image_sound}
 use Rattle.macho_spans.specs.Span.{Covers, Shares}
 use Rattle.macho_linked.specs.Cursor.{start, moved, cursor_after, writes}
 use Rattle.macho_linked.specs.Dyld.{State, bytes_from, Takes, IsLast, slot, Moves, Reaches, IsKept, IsAt, IsSafe, IsFollowedSafely, AreFollowedSafely}
-use Rattle.macho_linked.specs.Harmless.{streams_of, IsStream, WritesAt, IsHarmless}
+use Rattle.macho_linked.specs.Harmless.{all_streams, streams_of, IsStream, WritesAt, IsHarmless}
 use Rattle.macho_linked.specs.Homes.{bytes_of_table, Encrypts, IsHome, IsAstray, HasHome, IsHomeless}
-use Rattle.macho_linked.specs.Images.{dyld_info, bounded_at}
-use Rattle.macho_linked.specs.Rules.{BreaksFile, BreaksSlice, BreaksImage, IsLinkedUnbroken}
+use Rattle.macho_linked.specs.Images.{dyld_info, opcodes_of, fields_of}
+use Rattle.macho_linked.specs.Rules.{BreaksImage, IsLinkedUnbroken}
 use Rattle.macho_linked.specs.Segments.{is_writable, is_constant, IsLinkedit}
 use Rattle.macho_linked.specs.Steps.{step_at, AreStepsFrom, AreSteps}
 use Rattle.macho_linked.specs.declared.cursor.Cursor.{Cursor}
 use Rattle.macho_linked.specs.declared.step.Opcodes.{Opcodes}
 use Rattle.macho_linked.specs.declared.step.Step.{Step}
 use Rattle.macho_linked.specs.declared.step.Step.TheVariants as step
-use Rattle.macho_linked.proofs.Harmless.{harmless_image}
+use Rattle.macho_linked.specs.declared.streams.Stream.{Stream}
+use Rattle.macho_linked.proofs.Harmless.{harmless_image, of_images}
 use Rattle.macho_linked.proofs.Prefixes.{step_same}
 use Rattle.macho_linked.proofs.StepChains.{steps_more, steps_on}
-use Rattle.macho_linked.proofs.TableSurveys.{info_is, table_inside, named}
+use Rattle.macho_linked.proofs.TableSurveys.{info_has, stream_named, stream_inside}
 use Rattle.macho_linked.proofs.Within.{step_within}
 
 -- Two lists that agree as far as both go: an opcode that one has is that of the other, but for the last
@@ -107,37 +99,17 @@ module _ (image : List ℕ) (kept : NothingBreaks (BreaksImage image)) (unbroken
       false≢true (subst (λ (b : Bool). not b ≡ true) can cannot)
 
   -- the command that names the streams names linked data
-  first_names : (cmd : ℕ) → names_linked_data cmd ≡ true → (command : ℕ) → first_with_cmd image cmd (commands_of image) ≡ Some command → names_linked_data (command_cmd image command) ≡ true
-  first_names cmd names command is =
-      let has : Contains (with_cmd image cmd (commands_of image)) command =
-      (0, slice_get_within (with_cmd image cmd (commands_of image)) 0 command is, get_or_from_slice_get (with_cmd image cmd (commands_of image)) 0 command command is) in
-      ap names_linked_data (with_cmd_is image (commands_of image) cmd command has) ∙ names
-
-  info_names : (command : ℕ) → dyld_info image ≡ Some command → names_linked_data (command_cmd image command) ≡ true
-  info_names command is = either (first_with_cmd image loader.LC_DYLD_INFO_ONLY (commands_of image)) refl is
-    where
-      either : (only : Option ℕ) → first_with_cmd image loader.LC_DYLD_INFO_ONLY (commands_of image) ≡ only
-          → option_map_or (λ c. Some c) only (first_with_cmd image loader.LC_DYLD_INFO (commands_of image)) ≡ Some command → names_linked_data (command_cmd image command) ≡ true
-      either None none same = first_names loader.LC_DYLD_INFO refl command same
-      either (Some other) some same = first_names loader.LC_DYLD_INFO_ONLY refl command (some ∙ same)
+  info_names : (command : ℕ) → dyld_info image ≡ Some command → Contains (commands_of image) command × (names_linked_data (command_cmd image command) ≡ true)
+  info_names = info_has image (λ cmd. names_linked_data cmd ≡ true) refl refl
 
   -- a table of the command, and where it lies
   abbrev IsTableOf : ℕ → ℕ × ℕ × ℕ → Type 0
   IsTableOf command table = Contains (tables_of image command) table × (0 < table.1 → table.0 + table.1 ≤ length image)
 
-  bounded_is : (command : ℕ) → dyld_info image ≡ Some command → (field : ℕ) → Contains dyld_info_tables (bounded_at field) → IsTableOf command (table_at image command (bounded_at field))
-  bounded_is command info field has =
-      let (listed, cmd) = info_is image command info in (
-        named image unbroken command listed cmd (bounded_at field) has,
-        λ some. table_inside image unbroken command listed cmd (bounded_at field) has refl some,
-      )
-
-  stream_is : (of : Opcodes) (table : ℕ × ℕ × ℕ) (command : ℕ) → dyld_info image ≡ Some command → (k : ℕ) → k < 4 → get_or (streams_of image command) k (of, table) ≡ (of, table) → IsTableOf command table
-  stream_is of table command info zero less at = subst (IsTableOf command) (ap (λ (s : Opcodes × (ℕ × ℕ × ℕ)). s.1) at) (bounded_is command info 8 (0, lit< tt, refl))
-  stream_is of table command info (suc zero) less at = subst (IsTableOf command) (ap (λ (s : Opcodes × (ℕ × ℕ × ℕ)). s.1) at) (bounded_is command info 16 (1, lit< tt, refl))
-  stream_is of table command info (suc (suc zero)) less at = subst (IsTableOf command) (ap (λ (s : Opcodes × (ℕ × ℕ × ℕ)). s.1) at) (bounded_is command info 24 (2, lit< tt, refl))
-  stream_is of table command info (suc (suc (suc zero))) less at = subst (IsTableOf command) (ap (λ (s : Opcodes × (ℕ × ℕ × ℕ)). s.1) at) (bounded_is command info 32 (3, lit< tt, refl))
-  stream_is of table command info (suc (suc (suc (suc k)))) less at = absurd (omega arith)
+  stream_is : (of : Opcodes) (table : ℕ × ℕ × ℕ) (command : ℕ) → dyld_info image ≡ Some command → Contains (streams_of image command) (of, table) → IsTableOf command table
+  stream_is of table command info has =
+      let (one, among, same) = mapped_has (λ (s : Stream). (opcodes_of s, table_at image command (fields_of s))) all_streams (of, table) has in
+      subst (λ (s : Opcodes × (ℕ × ℕ × ℕ)). IsTableOf command s.1) same (stream_named image unbroken command info one, stream_inside image unbroken command info one)
 
   -- One stream
   module _ (of : Opcodes) (table : ℕ × ℕ × ℕ) (home : ℕ) (is_at : IsAt image of table home) where
@@ -154,7 +126,7 @@ module _ (image : List ℕ) (kept : NothingBreaks (BreaksImage image)) (unbroken
 
     -- its command
     found : (command : ℕ) × (dyld_info image ≡ Some command) × IsTableOf command table
-    found = let (command, info, (k, less, at)) = some_of At (dyld_info image) is_at.named in (command, info, stream_is of table command info k less at)
+    found = let (command, info, has) = some_of At (dyld_info image) is_at.named in (command, info, stream_is of table command info has)
 
     sized : 0 < table.1 → length stream ≡ table.1
     sized some = let (command, info, (has, inside)) = found in length-part table.0 table.1 image (inside some)
@@ -197,9 +169,9 @@ module _ (image : List ℕ) (kept : NothingBreaks (BreaksImage image)) (unbroken
           no_home : ¬ ¬ HasHome (bytes_of_table table) image
           no_home none =
               let (command, info, (has, inside)) = found in
-              let (listed, cmd) = info_is image command info in
+              let (listed, names) = info_names command info in
               let near = short k less in
-              kept rule.TableHome command (listed, (info_names command info, any_of (IsHomeless image) (tables_of image command) table has (omega (arith, near), none)))
+              kept rule.TableHome command (listed, (names, any_of (IsHomeless image) (tables_of image command) table has (omega (arith, near), none)))
 
           lost : ¬ (memory (home + k) ≡ get_or stream k 0) → HasHome (bytes_of_table table) image → ⊥
           lost apart home_is =
@@ -317,10 +289,4 @@ module _ (image : List ℕ) (kept : NothingBreaks (BreaksImage image)) (unbroken
 
 -- a file
 pub file_followed_safely : (file : List ℕ) → IsUnbroken file → IsLinkedUnbroken file → AreFollowedSafely file
-file_followed_safely file unbroken linked k d less image =
-    let slice = get_or (slices_of file) k d in
-    let at = slice_get-get_or (slices_of file) k d less in
-    followed_safely (slice_bytes file slice)
-    (λ r place broken. linked (record { scope = suc k; rule = r; place = place }) (of_slice BreaksFile BreaksSlice file k slice at image r place broken))
-    (λ r place broken. unbroken (record { scope = suc k; rule = r; place = place })
-    (of_slice layout.BreaksFile layout.BreaksImage file k slice at image r place (image_alone (slice_bytes file slice) slice.arch r place broken)))
+file_followed_safely = of_images IsFollowedSafely followed_safely

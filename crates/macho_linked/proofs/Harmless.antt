@@ -1,5 +1,5 @@
 -- An image that breaks no rule asks a loader for harmless writes alone.
-use Rattle.std.proofs.Common.{◌≡◌, ℕ, suc, zero, ◌+◌, ◌-◌, ◌≤◌, ◌<◌, List, [], ◌∷◌, ◌++◌, length, get_or, slice_get, Contains, Option, Some, None, Bool, true, refl, sym, ◌∙◌, subst, arith, inl, inr}
+use Rattle.std.proofs.Common.{◌≡◌, ℕ, suc, zero, ◌+◌, ◌-◌, ◌≤◌, ◌<◌, List, [], ◌∷◌, ◌++◌, length, get_or, slice_get, All, Contains, Option, Some, None, Bool, true, refl, sym, ◌∙◌, subst, arith, inl, inr}
 use Rattle.std.specs.Prelude.{slice_index, not}
 use Rattle.std.proofs.Math.Nat.{mul-le-mul_right}
 use Rattle.std.proofs.lemmas.Bool.{cases_Bool, cases_lt, cases_eq, false≢true, and_parts}
@@ -12,16 +12,17 @@ use Rattle.macho_fields.specs.Layers.{NothingBreaks}
 use Rattle.macho_fields.specs.Rules as layout
 use Rattle.macho_fields.specs.Segment.{all_segments, filesize}
 use Rattle.macho_fields.specs.Symbol.{table_at}
-use Rattle.macho_fields.specs.Universal.{slices_of, slice_bytes}
+use Rattle.macho_fields.specs.Universal.{slices_of, slice_bytes, IsImage}
 use Rattle.macho_fields.specs.declared.rule.Rule.TheVariants as rule
 use Rattle.macho_fields.proofs.Options.{some_of, of_some}
 use Rattle.macho_fields.proofs.Ranks.{image_alone}
 use Rattle.macho_fields.proofs.Scopes.{of_slice}
+use Rattle.macho_rules.proofs.Searches.{mapped_has}
 use Rattle.macho_rules.proofs.Verdicts.{unbroken_image_sound}
 use Rattle.macho_linked.specs.Cursor.{cursor_after, writes}
-use Rattle.macho_linked.specs.Harmless.{streams_of, IsStream, SaysAt, IsSlot, IsHarmless, AreHarmless}
+use Rattle.macho_linked.specs.Harmless.{all_streams, streams_of, IsStream, SaysAt, IsSlot, IsHarmless, AreHarmless}
 use Rattle.macho_linked.specs.Homes.{IsHome}
-use Rattle.macho_linked.specs.Images.{dyld_info, bounded_at, Undecoded, NoLibrary, NoName, NoSlot, TooMany, InTable, InRebases, InBinds, InBindsOf}
+use Rattle.macho_linked.specs.Images.{dyld_info, Undecoded, NoLibrary, NoName, NoSlot, TooMany, InTable, InStream, InRebases, InBinds, InBindsOf, opcodes_of, fields_of}
 use Rattle.macho_linked.specs.Limits.{room, rooms_of, budget_of, library_count}
 use Rattle.macho_linked.specs.Rules.{BreaksFile, BreaksSlice, BreaksImage, IsLinkedUnbroken}
 use Rattle.macho_linked.specs.Segments.{is_writable}
@@ -31,6 +32,8 @@ use Rattle.macho_linked.specs.declared.step.Opcodes.{Opcodes}
 use Rattle.macho_linked.specs.declared.step.Opcodes.TheVariants as opcodes
 use Rattle.macho_linked.specs.declared.step.Step.{Step}
 use Rattle.macho_linked.specs.declared.step.Step.TheVariants as step
+use Rattle.macho_linked.specs.declared.streams.Stream.{Stream}
+use Rattle.macho_linked.specs.declared.streams.Stream.TheVariants as streams
 use Rattle.macho_spans.specs.declared.span.Span.{Span}
 use Rattle.macho_linked.proofs.StepChains.{steps_more}
 use Rattle.macho_linked.proofs.Within.{step_within}
@@ -61,35 +64,18 @@ module _ (image : List ℕ) where
 module _ (image : List ℕ) (kept : NothingBreaks (BreaksImage image)) where
   -- a rule that is broken in no stream of the image is not broken in the bytes of one
   module _ (Rule : List ℕ → Opcodes → List ℕ → ℕ → Type 0) (rebases : (place : ℕ) → InRebases image Rule place → ⊥) (binds : (place : ℕ) → InBinds image Rule place → ⊥) where
-    found : (of : Opcodes) (table : ℕ × ℕ × ℕ) (place command : ℕ) → dyld_info image ≡ Some command → InTable of image table Rule place
-        → (k : ℕ) → k < 4 → get_or (streams_of image command) k (of, table) ≡ (of, table) → ⊥
-    found of table place command info here zero less at =
-        rebases place (of_some (λ c. InTable opcodes.Rebase image (table_at image c (bounded_at 8)) Rule place) (dyld_info image) command info (back at))
-      where
-        back : {s : Opcodes × (ℕ × ℕ × ℕ)} → s ≡ (of, table) → InTable s.0 image s.1 Rule place
-        back {s} is = subst (λ (r : Opcodes × (ℕ × ℕ × ℕ)). InTable r.0 image r.1 Rule place) (sym is) here
-    found of table place command info here (suc zero) less at =
-        binds place (of_some (λ c. InBindsOf image c Rule place) (dyld_info image) command info (inl (inl (back at))))
-      where
-        back : {s : Opcodes × (ℕ × ℕ × ℕ)} → s ≡ (of, table) → InTable s.0 image s.1 Rule place
-        back {s} is = subst (λ (r : Opcodes × (ℕ × ℕ × ℕ)). InTable r.0 image r.1 Rule place) (sym is) here
-    found of table place command info here (suc (suc zero)) less at =
-        binds place (of_some (λ c. InBindsOf image c Rule place) (dyld_info image) command info (inl (inr (back at))))
-      where
-        back : {s : Opcodes × (ℕ × ℕ × ℕ)} → s ≡ (of, table) → InTable s.0 image s.1 Rule place
-        back {s} is = subst (λ (r : Opcodes × (ℕ × ℕ × ℕ)). InTable r.0 image r.1 Rule place) (sym is) here
-    found of table place command info here (suc (suc (suc zero))) less at =
-        binds place (of_some (λ c. InBindsOf image c Rule place) (dyld_info image) command info (inr (back at)))
-      where
-        back : {s : Opcodes × (ℕ × ℕ × ℕ)} → s ≡ (of, table) → InTable s.0 image s.1 Rule place
-        back {s} is = subst (λ (r : Opcodes × (ℕ × ℕ × ℕ)). InTable r.0 image r.1 Rule place) (sym is) here
-    found of table place command info here (suc (suc (suc (suc k)))) less at = absurd (omega arith)
+    found : (place command : ℕ) → dyld_info image ≡ Some command → (one : Stream) → InStream one image command Rule place → ⊥
+    found place command info streams.Rebase here = rebases place (of_some (λ c. InStream streams.Rebase image c Rule place) (dyld_info image) command info here)
+    found place command info streams.Bind here = binds place (of_some (λ c. InBindsOf image c Rule place) (dyld_info image) command info (inl (inl here)))
+    found place command info streams.WeakBind here = binds place (of_some (λ c. InBindsOf image c Rule place) (dyld_info image) command info (inl (inr here)))
+    found place command info streams.LazyBind here = binds place (of_some (λ c. InBindsOf image c Rule place) (dyld_info image) command info (inr here))
 
     in_none : (of : Opcodes) (stream : List ℕ) → IsStream image of stream → (offset : ℕ) → Rule image of stream offset → ⊥
     in_none of stream are offset broken =
-        let (command, info, (table, (k, less, at), is)) = some_of (λ c. (table : ℕ × ℕ × ℕ) × Contains (streams_of image c) (of, table) × (stream ≡ part table.0 table.1 image)) (dyld_info image) are.bounded in
+        let (command, info, (table, has, is)) = some_of (λ c. (table : ℕ × ℕ × ℕ) × Contains (streams_of image c) (of, table) × (stream ≡ part table.0 table.1 image)) (dyld_info image) are.bounded in
+        let (one, among, same) = mapped_has (λ (s : Stream). (opcodes_of s, table_at image command (fields_of s))) all_streams (of, table) has in
         let here : InTable of image table Rule (table.0 + offset) = (offset, refl, subst (λ (bytes : List ℕ). Rule image of bytes offset) is broken) in
-        found of table (table.0 + offset) command info here k less at
+        found (table.0 + offset) command info one (subst (λ (r : Opcodes × (ℕ × ℕ × ℕ)). InTable r.0 image r.1 Rule (table.0 + offset)) (sym same) here)
 
   -- a rule of binds
   module _ (Rule : List ℕ → Opcodes → List ℕ → ℕ → Type 0) (binds : (place : ℕ) → InBinds image Rule place → ⊥) where
@@ -98,17 +84,17 @@ module _ (image : List ℕ) (kept : NothingBreaks (BreaksImage image)) where
 
     no_rebase : (place : ℕ) → InRebases image OfBinds place → ⊥
     no_rebase place broken =
-        let (command, info, (offset, at, has)) = some_of (λ c. InTable opcodes.Rebase image (table_at image c (bounded_at 8)) OfBinds place) (dyld_info image) broken in has.1 refl
+        let (command, info, (offset, at, has)) = some_of (λ c. InStream streams.Rebase image c OfBinds place) (dyld_info image) broken in has.1 refl
 
-    plain : (of : Opcodes) (table : ℕ × ℕ × ℕ) (place : ℕ) → InTable of image table OfBinds place → InTable of image table Rule place
-    plain of table place (offset, at, has) = (offset, at, has.0)
+    plain : (one : Stream) (command place : ℕ) → InStream one image command OfBinds place → InStream one image command Rule place
+    plain one command place (offset, at, has) = (offset, at, has.0)
 
     no_bind : (place : ℕ) → InBinds image OfBinds place → ⊥
     no_bind place broken =
         let (command, info, here) = some_of (λ c. InBindsOf image c OfBinds place) (dyld_info image) broken in
         binds place (of_some (λ c. InBindsOf image c Rule place) (dyld_info image) command info (elim here [
-          | inl two ↦ elim two [ inl bind ↦ inl (inl (plain opcodes.Bind (table_at image command (bounded_at 16)) place bind)) | inr weak ↦ inl (inr (plain opcodes.Bind (table_at image command (bounded_at 24)) place weak)) ]
-          | inr lazy ↦ inr (plain opcodes.LazyBind (table_at image command (bounded_at 32)) place lazy)
+          | inl two ↦ elim two [ inl bind ↦ inl (inl (plain streams.Bind command place bind)) | inr weak ↦ inl (inr (plain streams.WeakBind command place weak)) ]
+          | inr lazy ↦ inr (plain streams.LazyBind command place lazy)
         ]))
 
     in_no_bind : (of : Opcodes) (stream : List ℕ) → IsStream image of stream → ¬ (of ≡ opcodes.Rebase) → (offset : ℕ) → Rule image of stream offset → ⊥
@@ -222,12 +208,16 @@ module _ (image : List ℕ) (kept : NothingBreaks (BreaksImage image)) where
         no_home home table (subst (λ (n : ℕ). is_writable image n ≡ true) same can) is_home;
   }
 
--- a file
-pub harmless_file : (file : List ℕ) → IsUnbroken file → IsLinkedUnbroken file → AreHarmless file
-harmless_file file unbroken linked k d less image =
+-- what holds of each image that breaks no rule holds of the images of such a file
+pub of_images : (P : List ℕ → Type 0) → ((image : List ℕ) → NothingBreaks (BreaksImage image) → NothingBreaks (layout.BreaksImage image None) → P image)
+    → (file : List ℕ) → IsUnbroken file → IsLinkedUnbroken file → All (λ slice. IsImage (slice_bytes file slice) → P (slice_bytes file slice)) (slices_of file)
+of_images P each file unbroken linked k d less image =
     let slice = get_or (slices_of file) k d in
     let at = slice_get-get_or (slices_of file) k d less in
-    harmless_image (slice_bytes file slice)
+    each (slice_bytes file slice)
     (λ r place broken. linked (record { scope = suc k; rule = r; place = place }) (of_slice BreaksFile BreaksSlice file k slice at image r place broken))
     (λ r place broken. unbroken (record { scope = suc k; rule = r; place = place })
     (of_slice layout.BreaksFile layout.BreaksImage file k slice at image r place (image_alone (slice_bytes file slice) slice.arch r place broken)))
+
+pub harmless_file : (file : List ℕ) → IsUnbroken file → IsLinkedUnbroken file → AreHarmless file
+harmless_file = of_images IsHarmless harmless_image

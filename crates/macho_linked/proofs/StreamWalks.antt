@@ -6,7 +6,7 @@ use Rattle.std.proofs.lemmas.List.Sums.{fold_push, sum_by-append, sum_by-cons}
 use Rattle.macho_fields.specs.FirstPlace.{IsNoted, IsLeastPlace}
 use Rattle.macho_linked.specs.Cursor.{start, moved, cursor_after, writes, looks_up, looked_up}
 use Rattle.macho_linked.specs.Steps.{step_at, AreStepsFrom, AreSteps}
-use Rattle.macho_linked.specs.Streams.{At, pointers, names, IsUndecoded, NamesNoLibrary, LacksName, WritesOutside, PassesBudget, PassesNames, IsStreamSurvey}
+use Rattle.macho_linked.specs.Streams.{At, pointers, names, IsUndecoded, NamesNoLibrary, LacksName, WritesOutside, PassesBudget, PassesNames, IsStreamSurvey, unbroken}
 use Rattle.macho_linked.specs.declared.cursor.Cursor.{Cursor}
 use Rattle.macho_linked.specs.declared.step.Opcodes.{Opcodes}
 use Rattle.macho_linked.specs.declared.step.Step.{Step}
@@ -112,24 +112,19 @@ module _ (done : List Step → ℕ) (P : Cursor → ℕ → Step → Type 0) (of
 
 -- Where a walk begins, goes on and ends
 
-pub walk_start : (of : Opcodes) (stream : List ℕ) (limits : Limits) (cursor : Cursor) (survey : StreamSurvey) → cursor ≡ start
-    → survey.opcode ≡ None → survey.library ≡ None → survey.symbol ≡ None → survey.slot ≡ None → survey.total ≡ None → survey.names ≡ None
-    → IsWalked of stream limits 0 cursor 0 0 survey
-walk_start of stream limits cursor survey begins opcode library symbol slot total named = record {
+pub walk_start : (of : Opcodes) (stream : List ℕ) (limits : Limits) → IsWalked of stream limits 0 start 0 0 unbroken
+walk_start of stream limits = record {
   inside = omega arith;
   few = omega arith;
   short = omega arith;
-  steps = ([], refl, begins, refl, refl);
-  opcode = opcode;
-  library = none_below _ library;
-  symbol = none_below _ symbol;
-  slot = none_below _ slot;
-  total = none_below _ total;
-  names = none_below _ named;
+  steps = ([], refl, refl, refl, refl);
+  opcode = refl;
+  library = λ place below. absurd (omega arith);
+  symbol = λ place below. absurd (omega arith);
+  slot = λ place below. absurd (omega arith);
+  total = λ place below. absurd (omega arith);
+  names = λ place below. absurd (omega arith);
 }
-  where
-    none_below : (P : ℕ → Type 0) {found : Option ℕ} → found ≡ None → IsLeastBelow P 0 found
-    none_below P is = let none : IsLeastBelow P 0 None = (λ place below. absurd (omega arith)) in subst (IsLeastBelow P 0) (sym is) none
 
 -- one step more looks up its name too
 looked_up_more : (cursor : Cursor) (before : List Step) (here : Step) → looked_up cursor (before ++ here ∷ []) ≡ looked_up cursor before + looks_up (fold moved cursor before) here
@@ -208,22 +203,27 @@ module _ (of : Opcodes) (stream : List ℕ) (limits : Limits) (place : ℕ) (cur
       nothing [] same = omega arith
       nothing (first ∷ rest) (end, here, on) = cc
 
-  -- what is found of a rule where no step follows
-  found_all : (done : List Step → ℕ) (P : Cursor → ℕ → Step → Type 0) (old found : Option ℕ) → found ≡ old → IsLeastBelow (At done P of stream) place old
-      → ((late : ℕ) → place ≤ late → At done P of stream late → ⊥) → IsLeastPlace (At done P of stream) found
-  found_all done P old found is below past = subst (IsLeastPlace (At done P of stream)) (sym is) (below_all (At done P of stream) place old below past)
+  -- what is found where no step follows
+  module _ (opcode : Option ℕ) (least : IsLeastPlace (IsUndecoded of stream) opcode)
+      (past : (done : List Step → ℕ) (P : Cursor → ℕ → Step → Type 0) (late : ℕ) → place ≤ late → At done P of stream late → ⊥) where
+    found_all : (done : List Step → ℕ) (P : Cursor → ℕ → Step → Type 0) (found : Option ℕ) → IsLeastBelow (At done P of stream) place found → IsLeastPlace (At done P of stream) found
+    found_all done P found below = below_all (At done P of stream) place found below (past done P)
+
+    walk_over : IsStreamSurvey of stream limits (record survey { opcode = opcode })
+    walk_over = record {
+      opcode = least;
+      library = found_all pointers (NamesNoLibrary limits.libraries) survey.library walked.library;
+      symbol = found_all pointers LacksName survey.symbol walked.symbol;
+      slot = found_all pointers (WritesOutside limits.rooms) survey.slot walked.slot;
+      total = found_all pointers (PassesBudget limits.budget) survey.total walked.total;
+      names = found_all names (PassesNames (length stream)) survey.names walked.names;
+    }
 
   -- the stream ends at the place
   pub walk_ended : length stream ≤ place → IsStreamSurvey of stream limits survey
   walk_ended end =
-      let (before, are, cursor_is, written_is, named_is) = walked.steps in record {
-        opcode = subst (IsLeastPlace (IsUndecoded of stream)) (sym walked.opcode) all_decoded;
-        library = found_all pointers (NamesNoLibrary limits.libraries) _ _ refl walked.library (none_outside pointers (NamesNoLibrary limits.libraries) of stream place before are end);
-        symbol = found_all pointers LacksName _ _ refl walked.symbol (none_outside pointers LacksName of stream place before are end);
-        slot = found_all pointers (WritesOutside limits.rooms) _ _ refl walked.slot (none_outside pointers (WritesOutside limits.rooms) of stream place before are end);
-        total = found_all pointers (PassesBudget limits.budget) _ _ refl walked.total (none_outside pointers (PassesBudget limits.budget) of stream place before are end);
-        names = found_all names (PassesNames (length stream)) _ _ refl walked.names (none_outside names (PassesNames (length stream)) of stream place before are end);
-      }
+      let (before, are, cursor_is, written_is, named_is) = walked.steps in
+      walk_over survey.opcode (subst (IsLeastPlace (IsUndecoded of stream)) (sym walked.opcode) all_decoded) (λ done P. none_outside done P of stream place before are end)
     where
       all_decoded : IsLeastPlace (IsUndecoded of stream) None
       all_decoded = λ other undecoded. elim (cases_lt other place) [
@@ -232,18 +232,10 @@ module _ (of : Opcodes) (stream : List ℕ) (limits : Limits) (place : ℕ) (cur
       ]
 
   -- the opcode at the place says nothing
-  pub walk_stuck : place < length stream → step_at of stream place ≡ None → (found : StreamSurvey) → found.opcode ≡ Some place
-      → found.library ≡ survey.library → found.symbol ≡ survey.symbol → found.slot ≡ survey.slot → found.total ≡ survey.total → found.names ≡ survey.names
-      → IsStreamSurvey of stream limits found
-  walk_stuck inside none found opcode library symbol slot total named_same =
-      let (before, are, cursor_is, written_is, named_is) = walked.steps in record {
-        opcode = subst (IsLeastPlace (IsUndecoded of stream)) (sym opcode) (((before, are), inside, none), no_earlier);
-        library = found_all pointers (NamesNoLibrary limits.libraries) _ _ library walked.library (none_past pointers (NamesNoLibrary limits.libraries) of stream place before are none);
-        symbol = found_all pointers LacksName _ _ symbol walked.symbol (none_past pointers LacksName of stream place before are none);
-        slot = found_all pointers (WritesOutside limits.rooms) _ _ slot walked.slot (none_past pointers (WritesOutside limits.rooms) of stream place before are none);
-        total = found_all pointers (PassesBudget limits.budget) _ _ total walked.total (none_past pointers (PassesBudget limits.budget) of stream place before are none);
-        names = found_all names (PassesNames (length stream)) _ _ named_same walked.names (none_past names (PassesNames (length stream)) of stream place before are none);
-      }
+  pub walk_stuck : place < length stream → step_at of stream place ≡ None → IsStreamSurvey of stream limits (record survey { opcode = Some place })
+  walk_stuck inside none =
+      let (before, are, cursor_is, written_is, named_is) = walked.steps in
+      walk_over (Some place) (((before, are), inside, none), no_earlier) (λ done P. none_past done P of stream place before are none)
     where
       no_earlier : (other : ℕ) → IsUndecoded of stream other → place ≤ other
       no_earlier other undecoded = elim (cases_lt other place) [ inl early ↦ absurd (decoded other early undecoded) | inr late ↦ late ]

@@ -1,5 +1,5 @@
 -- From what a walk over the bytes of a stream finds to the places in the image.
-use Rattle.std.proofs.Common.{◌≡◌, ◌↔◌, ℕ, ◌+◌, ◌*◌, ◌^◌, ◌≤◌, ◌<◌, ◌⊎◌, List, length, min, Contains, Option, Some, None, refl, sym, ap, ◌∙◌, subst, arith, inl, inr}
+use Rattle.std.proofs.Common.{◌≡◌, ◌↔◌, ℕ, ◌+◌, ◌*◌, ◌^◌, ◌≤◌, ◌<◌, ◌⊎◌, List, length, min, Contains, Option, Some, None, lit<, refl, sym, ◌∙◌, subst, arith, inl, inr}
 use Rattle.std.specs.Prelude.{IfSome, IsSomeAnd}
 use Rattle.std.specs.Option.{option_map, option_map_or}
 use Rattle.std.proofs.lemmas.Bool.{cases_lt}
@@ -15,35 +15,27 @@ use Rattle.macho_fields.specs.Symbol.{table_at, tables_of, IsOutside}
 use Rattle.macho_fields.specs.declared.load_command.Structure.TheVariants.{DyldInfoCommand}
 use Rattle.macho_fields.specs.declared.load_command.TableFields.{TableFields}
 use Rattle.macho_fields.specs.declared.rule.Rule.TheVariants as rule
-use Rattle.macho_fields.proofs.Lists.{contains_mapped}
-use Rattle.macho_fields.proofs.LoadCommands.{tables_listed}
+use Rattle.macho_fields.proofs.LoadCommands.{table_listed}
 use Rattle.macho_fields.proofs.Opened.{table_fields_inside}
 use Rattle.macho_fields.proofs.Parts.{with_cmd_among, with_cmd_is}
 use Rattle.macho_fields.specs.declared.header.loader.TheConstants as loader
-use Rattle.macho_image.specs.Command.{CommandView, command_at, first_with_cmd}
+use Rattle.macho_image.specs.Command.{first_with_cmd}
 use Rattle.macho_rules.proofs.Judged.{opened_facts, opened_commands}
 use Rattle.macho_rules.proofs.Searches.{any_of}
 use Rattle.macho_rules.proofs.Verdicts.{unbroken_opened}
-use Rattle.macho_linked.specs.Images.{Undecoded, NoLibrary, NoName, NoSlot, TooMany, TooLong, InTable, AreLeast, FitsAt, lesser, moved, dyld_info}
+use Rattle.macho_linked.specs.Images.{Undecoded, NoLibrary, NoName, NoSlot, TooMany, TooLong, InTable, AreLeast, FitsAt, fields_of, joined, lesser, moved, dyld_info}
 use Rattle.macho_linked.specs.Limits.{AreRooms, rooms_of, budget_of, library_count}
 use Rattle.macho_linked.specs.Cursor.{cursor_after}
-use Rattle.macho_linked.specs.Streams.{At, pointers, names, NamesNoLibrary, LacksName, WritesOutside, PassesBudget, PassesNames, IsStreamSurvey}
+use Rattle.macho_linked.specs.Streams.{At, pointers, names, NamesNoLibrary, LacksName, WritesOutside, PassesBudget, PassesNames, IsStreamSurvey, unbroken}
 use Rattle.macho_linked.specs.declared.cursor.Cursor.{Cursor}
 use Rattle.macho_linked.specs.declared.step.Opcodes.{Opcodes}
 use Rattle.macho_linked.specs.declared.step.Step.{Step}
 use Rattle.macho_linked.specs.declared.stream.Limits.{Limits}
 use Rattle.macho_linked.specs.declared.stream.StreamSurvey.{StreamSurvey}
+use Rattle.macho_linked.specs.declared.streams.Stream.{Stream}
+use Rattle.macho_linked.specs.declared.streams.Stream.TheVariants as streams
 use Rattle.macho_linked.proofs.NearSegments.{cursor_near, outside_same}
 use Rattle.macho_linked.proofs.Within.{step_within}
-
--- a survey that has found nothing
-pub record IsUnbroken (survey : StreamSurvey) : Type 0 where
-  pub opcode : survey.opcode ≡ None
-  pub library : survey.library ≡ None
-  pub symbol : survey.symbol ≡ None
-  pub slot : survey.slot ≡ None
-  pub total : survey.total ≡ None
-  pub names : survey.names ≡ None
 
 -- Least places
 
@@ -51,28 +43,20 @@ least_same : (P Q : ℕ → Type 0) (found : Option ℕ) → ((place : ℕ) → 
 least_same P Q None same none = λ place broken. none place ((same place).1 broken)
 least_same P Q (Some first) same (here, least) = ((same first).0 here, λ place broken. least place ((same place).1 broken))
 
-pub least_nowhere : (P : ℕ → Type 0) (found : Option ℕ) → found ≡ None → ((place : ℕ) → P place → ⊥) → IsLeastPlace P found
-least_nowhere P None is none = none
-least_nowhere P (Some place) is none = cc
-
 -- those of two streams
-pub least_joined : (P Q : ℕ → Type 0) (one other found : Option ℕ) → found ≡ lesser one other → IsLeastPlace P one → IsLeastPlace Q other
-    → IsLeastPlace (λ place. P place ⊎ Q place) found
-least_joined P Q one other found is first second = subst (IsLeastPlace (λ place. P place ⊎ Q place)) (sym is) (joined one other first second)
-  where
-    joined : (one other : Option ℕ) → IsLeastPlace P one → IsLeastPlace Q other → IsLeastPlace (λ place. P place ⊎ Q place) (lesser one other)
-    joined None None no_p no_q = λ place broken. elim broken [ inl p ↦ no_p place p | inr q ↦ no_q place q ]
-    joined None (Some b) no_p (here, least) = (inr here, λ place broken. elim broken [ inl p ↦ absurd (no_p place p) | inr q ↦ least place q ])
-    joined (Some a) None (here, least) no_q = (inl here, λ place broken. elim broken [ inl p ↦ least place p | inr q ↦ absurd (no_q place q) ])
-    joined (Some a) (Some b) (here, least) (there, lowest) =
-        elim (cases_lt a b) [
-          | inl less ↦
-              let same : min a b ≡ a = omega arith in
-              rw same (inl here, λ place broken. elim broken [ inl p ↦ least place p | inr q ↦ let low = lowest place q in omega arith ])
-          | inr more ↦
-              let same : min a b ≡ b = omega arith in
-              rw same (inr there, λ place broken. elim broken [ inl p ↦ let low = least place p in omega arith | inr q ↦ lowest place q ])
-        ]
+least_joined : (P Q : ℕ → Type 0) (one other : Option ℕ) → IsLeastPlace P one → IsLeastPlace Q other → IsLeastPlace (λ place. P place ⊎ Q place) (lesser one other)
+least_joined P Q None None no_p no_q = λ place broken. elim broken [ inl p ↦ no_p place p | inr q ↦ no_q place q ]
+least_joined P Q None (Some b) no_p (here, least) = (inr here, λ place broken. elim broken [ inl p ↦ absurd (no_p place p) | inr q ↦ least place q ])
+least_joined P Q (Some a) None (here, least) no_q = (inl here, λ place broken. elim broken [ inl p ↦ least place p | inr q ↦ absurd (no_q place q) ])
+least_joined P Q (Some a) (Some b) (here, least) (there, lowest) =
+    elim (cases_lt a b) [
+      | inl less ↦
+          let same : min a b ≡ a = omega arith in
+          rw same (inl here, λ place broken. elim broken [ inl p ↦ least place p | inr q ↦ let low = lowest place q in omega arith ])
+      | inr more ↦
+          let same : min a b ≡ b = omega arith in
+          rw same (inr there, λ place broken. elim broken [ inl p ↦ let low = least place p in omega arith | inr q ↦ lowest place q ])
+    ]
 
 -- places that are counted from another start
 least_moved : (P : ℕ → Type 0) (start : ℕ) (found : Option ℕ) → IsLeastPlace P found
@@ -86,14 +70,50 @@ fits_moved : (P : ℕ → Type 0) (start size : ℕ) (found : Option ℕ) → ((
 fits_moved P start size None inside fits none = tt
 fits_moved P start size (Some first) inside fits (here, least) = let within = inside first here in omega arith
 
-pub at_inside : (done : List Step → ℕ) (P : Cursor → ℕ → Step → Type 0) (of : Opcodes) (stream : List ℕ) (place : ℕ) → At done P of stream place → place < length stream
+-- The rules of a stream are broken at places in it
+
+abbrev pub IsStreamRule : List ℕ → (List ℕ → Opcodes → List ℕ → ℕ → Type 0) → Type 0
+IsStreamRule image Rule = (of : Opcodes) (stream : List ℕ) (place : ℕ) → Rule image of stream place → place < length stream
+
+at_inside : (done : List Step → ℕ) (P : Cursor → ℕ → Step → Type 0) (of : Opcodes) (stream : List ℕ) (place : ℕ) → At done P of stream place → place < length stream
 at_inside done P of stream place (before, next, after, are, at, has) = let within = step_within of stream place next after at in omega arith
+
+module _ (image : List ℕ) where
+  pub undecoded : IsStreamRule image Undecoded
+  undecoded of stream place broken = broken.1
+
+  pub no_library : IsStreamRule image NoLibrary
+  no_library = at_inside pointers (NamesNoLibrary (library_count image))
+
+  pub no_name : IsStreamRule image NoName
+  no_name = at_inside pointers LacksName
+
+  pub no_slot : IsStreamRule image NoSlot
+  no_slot = at_inside pointers (WritesOutside (rooms_of image))
+
+  pub too_many : IsStreamRule image TooMany
+  too_many = at_inside pointers (PassesBudget (budget_of image))
+
+  pub too_long : IsStreamRule image TooLong
+  too_long of stream = at_inside names (PassesNames (length stream)) of stream
+
+  -- where none is broken, nothing is found
+  pub least_unbroken : (In : (List ℕ → Opcodes → List ℕ → ℕ → Type 0) → ℕ → Type 0)
+      → ((Rule : List ℕ → Opcodes → List ℕ → ℕ → Type 0) → IsStreamRule image Rule → (place : ℕ) → ¬ In Rule place) → AreLeast In unbroken
+  least_unbroken In none = record {
+    opcode = none Undecoded undecoded;
+    library = none NoLibrary no_library;
+    symbol = none NoName no_name;
+    slot = none NoSlot no_slot;
+    total = none TooMany too_many;
+    names = none TooLong too_long;
+  }
 
 -- The places of a survey fit where those of the stream do
 pub survey_fits : (of : Opcodes) (stream : List ℕ) (limits : Limits) (survey : StreamSurvey) (start : ℕ) → IsStreamSurvey of stream limits survey → start + length stream < 2 ^ 64
     → FitsAt start survey
 survey_fits of stream limits survey start are fits = record {
-  opcode = fits_moved _ start (length stream) _ (λ place undecoded. undecoded.1) fits are.opcode;
+  opcode = fits_moved _ start (length stream) _ (λ place broken. broken.1) fits are.opcode;
   library = fits_moved _ start (length stream) _ (at_inside pointers (NamesNoLibrary limits.libraries) of stream) fits are.library;
   symbol = fits_moved _ start (length stream) _ (at_inside pointers LacksName of stream) fits are.symbol;
   slot = fits_moved _ start (length stream) _ (at_inside pointers (WritesOutside limits.rooms) of stream) fits are.slot;
@@ -123,110 +143,98 @@ module _ (image : List ℕ) (of : Opcodes) (table : ℕ × ℕ × ℕ) (limits :
     names = least_moved (TooLong image of stream) table.0 _ are.names;
   }
 
-  -- a table without bytes breaks none
-  nowhere : table.1 ≡ 0 → (Rule : List ℕ → Opcodes → List ℕ → ℕ → Type 0) → ((place : ℕ) → Rule image of stream place → place < length stream) → (place : ℕ) → InTable of image table Rule place → ⊥
-  nowhere none Rule inside place (offset, is, has) =
-      let within = inside offset has in
-      let empty : length (part table.0 table.1 image) ≡ 0 = rw none refl in omega (arith, within, empty)
+-- a table without bytes breaks none
+pub none_in_table : (image : List ℕ) (of : Opcodes) (table : ℕ × ℕ × ℕ) → table.1 ≡ 0 → AreLeast (InTable of image table) unbroken
+none_in_table image of table none =
+    least_unbroken image (InTable of image table)
+    (λ Rule inside place (offset, is, has).
+    let within = inside of (part table.0 table.1 image) offset has in
+    let empty : length (part table.0 table.1 image) ≡ 0 = rw none refl in omega (arith, within, empty))
 
-  pub none_in_table : table.1 ≡ 0 → (survey : StreamSurvey) → IsUnbroken survey → AreLeast (InTable of image table) survey
-  none_in_table none survey un = record {
-    opcode = least_nowhere _ _ un.opcode (nowhere none Undecoded (λ place undecoded. undecoded.1));
-    library = least_nowhere _ _ un.library (nowhere none NoLibrary (at_inside pointers (NamesNoLibrary (library_count image)) of stream));
-    symbol = least_nowhere _ _ un.symbol (nowhere none NoName (at_inside pointers LacksName of stream));
-    slot = least_nowhere _ _ un.slot (nowhere none NoSlot (at_inside pointers (WritesOutside (rooms_of image)) of stream));
-    total = least_nowhere _ _ un.total (nowhere none TooMany (at_inside pointers (PassesBudget (budget_of image)) of stream));
-    names = least_nowhere _ _ un.names (nowhere none TooLong (at_inside names (PassesNames (length stream)) of stream));
-  }
+-- The command that names the streams
 
--- The tables of the command that names the streams
-module _ (image : List ℕ) (unbroken : NothingBreaks (BreaksImage image None)) (command : ℕ) (listed : Contains (commands_of image) command)
-    (is : structure_of (command_cmd image command) ≡ Some DyldInfoCommand) (fields : TableFields) (has : Contains dyld_info_tables fields) where
-  pub named : Contains (tables_of image command) (table_at image command fields)
-  named =
-      subst (λ (tables : List (ℕ × ℕ × ℕ)). Contains tables (table_at image command fields)) (sym (tables_listed image command DyldInfoCommand is))
-      (contains_mapped (table_at image command) dyld_info_tables fields has)
+module _ (image : List ℕ) where
+  -- it is one of the image, with a number of these
+  named_first : (P : ℕ → Type 0) (cmd : ℕ) → P cmd → (command : ℕ) → first_with_cmd image cmd (commands_of image) ≡ Some command
+      → Contains (commands_of image) command × P (command_cmd image command)
+  named_first P cmd has command is =
+      let among : Contains (with_cmd image cmd (commands_of image)) command =
+      (0, slice_get_within (with_cmd image cmd (commands_of image)) 0 command is, get_or_from_slice_get (with_cmd image cmd (commands_of image)) 0 command command is) in
+      (with_cmd_among image (commands_of image) cmd command among, subst P (sym (with_cmd_is image (commands_of image) cmd command among)) has)
+
+  pub info_has : (P : ℕ → Type 0) → P loader.LC_DYLD_INFO → P loader.LC_DYLD_INFO_ONLY → (command : ℕ) → dyld_info image ≡ Some command
+      → Contains (commands_of image) command × P (command_cmd image command)
+  info_has P plain only command is = either (first_with_cmd image loader.LC_DYLD_INFO_ONLY (commands_of image)) refl is
+    where
+      either : (first : Option ℕ) → first_with_cmd image loader.LC_DYLD_INFO_ONLY (commands_of image) ≡ first
+          → option_map_or (λ c. Some c) first (first_with_cmd image loader.LC_DYLD_INFO (commands_of image)) ≡ Some command
+          → Contains (commands_of image) command × P (command_cmd image command)
+      either None none same = named_first P loader.LC_DYLD_INFO plain command same
+      either (Some other) some same = named_first P loader.LC_DYLD_INFO_ONLY only command (some ∙ same)
+
+-- one of its streams
+module _ (image : List ℕ) (keeps : NothingBreaks (BreaksImage image None)) (command : ℕ) (info : dyld_info image ≡ Some command) (one : Stream) where
+  abbrev bounds : ℕ × ℕ × ℕ
+  bounds = table_at image command (fields_of one)
+
+  its_fields : (s : Stream) → Contains dyld_info_tables (fields_of s)
+  its_fields streams.Rebase = (0, lit< tt, refl)
+  its_fields streams.Bind = (1, lit< tt, refl)
+  its_fields streams.WeakBind = (2, lit< tt, refl)
+  its_fields streams.LazyBind = (3, lit< tt, refl)
+
+  byte_items : (s : Stream) → (fields_of s).item_size ≡ 1
+  byte_items streams.Rebase = refl
+  byte_items streams.Bind = refl
+  byte_items streams.WeakBind = refl
+  byte_items streams.LazyBind = refl
+
+  is_info : Contains (commands_of image) command × (structure_of (command_cmd image command) ≡ Some DyldInfoCommand)
+  is_info = info_has image (λ n. structure_of n ≡ Some DyldInfoCommand) refl refl command info
+
+  pub stream_named : Contains (tables_of image command) bounds
+  stream_named = table_listed image command DyldInfoCommand (fields_of one) is_info.1 (its_fields one)
 
   -- one that has bytes lies in the image
-  pub table_inside : fields.item_size ≡ 1 → 0 < (table_at image command fields).1 → (table_at image command fields).0 + (table_at image command fields).1 ≤ length image
-  table_inside one some =
-      let table = table_at image command fields in
-      elim (cases_lt (length image) (table.0 + table.1 * table.2)) [
+  pub stream_inside : 0 < bounds.1 → bounds.0 + bounds.1 ≤ length image
+  stream_inside some =
+      elim (cases_lt (length image) (bounds.0 + bounds.1 * bounds.2)) [
         | inl out ↦
-            absurd (unbroken rule.TableRange command (inr (commands_of image, opened_commands image (unbroken_opened image unbroken), (listed, any_of (IsOutside image) (tables_of image command) table named (some, out)))))
-        | inr inside ↦ let size : table.1 * fields.item_size ≡ table.1 = rw one (omega arith) in omega (arith, inside, size)
+            absurd (keeps rule.TableRange command (inr (commands_of image, opened_commands image (unbroken_opened image keeps), (is_info.0, any_of (IsOutside image) (tables_of image command) bounds stream_named (some, out)))))
+        | inr inside ↦ let size : bounds.1 * bounds.2 ≡ bounds.1 = rw (byte_items one) (omega arith) in omega (arith, inside, size)
       ]
 
   -- the fields that bound it lie in the image
   abbrev LieInside : TableFields → Type 0
   LieInside f = (command + f.place + width_size f.width ≤ length image) × (command + f.count + width_size f.width ≤ length image)
 
-  pub fields_inside : LieInside fields
+  pub fields_inside : LieInside (fields_of one)
   fields_inside =
-      let opened = unbroken_opened image unbroken in
-      All-contains LieInside dyld_info_tables fields (table_fields_inside image (commands_of image) (opened_facts image opened) (opened_commands image opened) command DyldInfoCommand listed is) has
+      let opened = unbroken_opened image keeps in
+      All-contains LieInside dyld_info_tables (fields_of one) (table_fields_inside image (commands_of image) (opened_facts image opened) (opened_commands image opened) command DyldInfoCommand is_info.0 is_info.1) (its_fields one)
 
 -- What all streams of an image break
-module _ (X : ℕ → (List ℕ → Opcodes → List ℕ → ℕ → Type 0) → ℕ → Type 0) (survey : StreamSurvey) where
-  abbrev Somewhere : Option ℕ → Type 0
-  Somewhere info = AreLeast (λ Rule place. IsSomeAnd info (λ command. X command Rule place)) survey
 
-  -- nothing, where no command names them
-  pub least_of_none : (info : Option ℕ) → info ≡ None → IsUnbroken survey → Somewhere info
-  least_of_none None is un = record {
-    opcode = least_nowhere _ _ un.opcode (λ place broken. broken);
-    library = least_nowhere _ _ un.library (λ place broken. broken);
-    symbol = least_nowhere _ _ un.symbol (λ place broken. broken);
-    slot = least_nowhere _ _ un.slot (λ place broken. broken);
-    total = least_nowhere _ _ un.total (λ place broken. broken);
-    names = least_nowhere _ _ un.names (λ place broken. broken);
-  }
-  least_of_none (Some command) is un = absurd (cc)
+-- nothing, where no command names them
+pub least_of_none : (image : List ℕ) (X : ℕ → (List ℕ → Opcodes → List ℕ → ℕ → Type 0) → ℕ → Type 0) (info : Option ℕ) → info ≡ None
+    → AreLeast (λ Rule place. IsSomeAnd info (λ command. X command Rule place)) unbroken
+least_of_none image X None is = least_unbroken image (λ Rule place. ⊥) (λ Rule inside place broken. broken)
+least_of_none image X (Some command) is = absurd (cc)
 
-  -- what those of the command break
-  pub least_of_some : (info : Option ℕ) (command : ℕ) → info ≡ Some command → AreLeast (X command) survey → Somewhere info
-  least_of_some None command is are = absurd (cc)
-  least_of_some (Some other) command is are = let same : other ≡ command = cc in subst (λ (n : ℕ). AreLeast (X n) survey) (sym same) are
+-- what those of the command break
+pub least_of_some : (X : ℕ → (List ℕ → Opcodes → List ℕ → ℕ → Type 0) → ℕ → Type 0) (survey : StreamSurvey) (info : Option ℕ) (command : ℕ) → info ≡ Some command
+    → AreLeast (X command) survey → AreLeast (λ Rule place. IsSomeAnd info (λ command. X command Rule place)) survey
+least_of_some X survey None command is are = absurd (cc)
+least_of_some X survey (Some other) command is are = let same : other ≡ command = cc in subst (λ (n : ℕ). AreLeast (X n) survey) (sym same) are
 
 -- what two streams break
-pub survey_joined : (A B : (List ℕ → Opcodes → List ℕ → ℕ → Type 0) → ℕ → Type 0) (one other found : StreamSurvey)
-    → found.opcode ≡ lesser one.opcode other.opcode → found.library ≡ lesser one.library other.library → found.symbol ≡ lesser one.symbol other.symbol
-    → found.slot ≡ lesser one.slot other.slot → found.total ≡ lesser one.total other.total → found.names ≡ lesser one.names other.names
-    → AreLeast A one → AreLeast B other → AreLeast (λ Rule place. A Rule place ⊎ B Rule place) found
-survey_joined A B one other found opcode library symbol slot total names_are first second = record {
-  opcode = least_joined (A Undecoded) (B Undecoded) _ _ _ opcode first.opcode second.opcode;
-  library = least_joined (A NoLibrary) (B NoLibrary) _ _ _ library first.library second.library;
-  symbol = least_joined (A NoName) (B NoName) _ _ _ symbol first.symbol second.symbol;
-  slot = least_joined (A NoSlot) (B NoSlot) _ _ _ slot first.slot second.slot;
-  total = least_joined (A TooMany) (B TooMany) _ _ _ total first.total second.total;
-  names = least_joined (A TooLong) (B TooLong) _ _ _ names_are first.names second.names;
+pub survey_joined : (A B : (List ℕ → Opcodes → List ℕ → ℕ → Type 0) → ℕ → Type 0) (one other : StreamSurvey)
+    → AreLeast A one → AreLeast B other → AreLeast (λ Rule place. A Rule place ⊎ B Rule place) (joined one other)
+survey_joined A B one other first second = record {
+  opcode = least_joined (A Undecoded) (B Undecoded) _ _ first.opcode second.opcode;
+  library = least_joined (A NoLibrary) (B NoLibrary) _ _ first.library second.library;
+  symbol = least_joined (A NoName) (B NoName) _ _ first.symbol second.symbol;
+  slot = least_joined (A NoSlot) (B NoSlot) _ _ first.slot second.slot;
+  total = least_joined (A TooMany) (B TooMany) _ _ first.total second.total;
+  names = least_joined (A TooLong) (B TooLong) _ _ first.names second.names;
 }
-
--- The command that names the streams
-module _ (image : List ℕ) where
-  -- it is one of the image, of its structure
-  abbrev IsInfo : ℕ → Type 0
-  IsInfo command = Contains (commands_of image) command × (structure_of (command_cmd image command) ≡ Some DyldInfoCommand)
-
-  first_is : (cmd : ℕ) → structure_of cmd ≡ Some DyldInfoCommand → (command : ℕ) → first_with_cmd image cmd (commands_of image) ≡ Some command → IsInfo command
-  first_is cmd names command is =
-      let has : Contains (with_cmd image cmd (commands_of image)) command =
-      (0, slice_get_within (with_cmd image cmd (commands_of image)) 0 command is, get_or_from_slice_get (with_cmd image cmd (commands_of image)) 0 command command is) in
-      (with_cmd_among image (commands_of image) cmd command has, ap structure_of (with_cmd_is image (commands_of image) cmd command has) ∙ names)
-
-  pub info_is : (command : ℕ) → dyld_info image ≡ Some command → IsInfo command
-  info_is command is = either (first_with_cmd image loader.LC_DYLD_INFO_ONLY (commands_of image)) refl is
-    where
-      either : (only : Option ℕ) → first_with_cmd image loader.LC_DYLD_INFO_ONLY (commands_of image) ≡ only
-          → option_map_or (λ c. Some c) only (first_with_cmd image loader.LC_DYLD_INFO (commands_of image)) ≡ Some command → IsInfo command
-      either None none same = first_is loader.LC_DYLD_INFO refl command same
-      either (Some other) some same = first_is loader.LC_DYLD_INFO_ONLY refl command (some ∙ same)
-
-  -- a command is found by its place
-  pub found_at : (o : Option ℕ) (v : CommandView) → Some v ≡ option_map (command_at image) o → Some v.place ≡ o
-  found_at None v is = absurd (cc)
-  found_at (Some place) v is = let same : v ≡ command_at image place = cc in ap (λ (w : CommandView). Some w.place) same
-
-  pub found_none : (o : Option ℕ) → ◌≡◌ {A = Option CommandView} None (option_map (command_at image) o) → ◌≡◌ {A = Option ℕ} None o
-  found_none None is = refl
-  found_none (Some place) is = absurd (cc)

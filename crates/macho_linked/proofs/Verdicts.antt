@@ -1,30 +1,40 @@
 -- From the answers on the images of a file to the linked verdict.
-use Rattle.std.proofs.Common.{ℕ, ◌+◌, List, inl, inr}
+use Rattle.std.proofs.Common.{ℕ, suc, ◌+◌, ◌≤◌, List, length, arith, inl, inr}
 use Rattle.macho_fields.specs.First.{IsUnbroken}
 use Rattle.macho_fields.specs.Layers.{NothingBreaks}
 use Rattle.macho_fields.specs.declared.rule.Break.{Break}
-use Rattle.macho_fields.proofs.Scopes.{KeptScopes, none_kept, one_more, scope_first}
+use Rattle.macho_fields.specs.Universal.{slices_of}
+use Rattle.macho_fields.proofs.Scopes.{KeptScopes, none_kept, one_more, all_kept, scope_first}
 use Rattle.macho_rules.specs.declared.refusal.Refusal.{Refusal}
 use Rattle.macho_rules.specs.declared.refusal.Refusal.TheVariants as refusal
 use Rattle.macho_strict.specs.First.{IsStrictlyUnbroken}
 use Rattle.macho_strict.specs.Verdict.{IsStrictRefusal}
-use Rattle.macho_linked.specs.Rules.{BreaksFile, BreaksSlice, IsBrokenIn, IsFirstLinkedBroken}
+use Rattle.macho_linked.specs.Rules.{BreaksFile, BreaksSlice, IsBrokenIn, IsLinkedUnbroken, IsFirstLinkedBroken}
 use Rattle.macho_linked.specs.Verdict.{IsLinkedRefusal, IsScopeBreak}
 
 -- nothing is broken in the first n scopes
 abbrev pub KeptLinked : List ℕ → ℕ → Type 0
 KeptLinked file n = KeptScopes BreaksFile BreaksSlice file n
 
-pub one_kept : (file : List ℕ) (n : ℕ) → KeptLinked file n → NothingBreaks (IsBrokenIn file n) → KeptLinked file (n + 1)
+one_kept : (file : List ℕ) (n : ℕ) → KeptLinked file n → NothingBreaks (IsBrokenIn file n) → KeptLinked file (n + 1)
 one_kept = one_more BreaksFile BreaksSlice
 
 -- the file itself breaks none
 pub file_kept : (file : List ℕ) → KeptLinked file 1
 file_kept file = one_kept file 0 (none_kept BreaksFile BreaksSlice file) (λ r place broken. broken)
 
--- the first of a scope is the first of the file, where nothing is broken in the scopes before it
-pub scope_broken : (file : List ℕ) (n : ℕ) → KeptLinked file n → (b : Break) → IsScopeBreak file n b → IsFirstLinkedBroken file b
-scope_broken file n kept b (found, least, same, at) = scope_first BreaksFile BreaksSlice file n found b kept least same at
+-- a slice breaks none, where those before it do not
+pub slice_kept : (file : List ℕ) (k : ℕ) → KeptLinked file (k + 1) → NothingBreaks (IsBrokenIn file (suc k)) → KeptLinked file (k + 1 + 1)
+slice_kept file k kept none scope r place less = one_kept file (suc k) (λ s q p few. kept s q p (omega arith)) none scope r place (omega arith)
+
+-- its first is the first of the file
+pub slice_broken : (file : List ℕ) (k : ℕ) → KeptLinked file (k + 1) → (b : Break) → IsScopeBreak file (suc k) b → IsFirstLinkedBroken file b
+slice_broken file k kept b (found, least, same, at) =
+    scope_first BreaksFile BreaksSlice file (suc k) found b (λ s q p few. kept s q p (omega arith)) least same at
+
+-- where none of them does, the file breaks none
+pub slices_kept : (file : List ℕ) (n : ℕ) → length (slices_of file) ≤ n → KeptLinked file (n + 1) → IsLinkedUnbroken file
+slices_kept file n all kept = all_kept BreaksFile BreaksSlice file (λ scope r place less. kept scope r place (omega (arith, all, less)))
 
 -- a refusal by the strict verdict is one of the linked
 pub strict_refused : (file : List ℕ) (r : Refusal) → IsStrictRefusal file r → IsLinkedRefusal file r

@@ -1,13 +1,13 @@
 -- What the opcodes of an image that breaks no rule ask of a dynamic loader: which pointers it writes, and
 -- where. The memory of a loader is no part of it.
-use Rattle.std.specs.Prelude.{◌≡◌, ℕ, ◌+◌, ◌*◌, ◌≤◌, ◌<◌, List, [], ◌∷◌, length, All, Contains, Some, true, slice_get, IsSomeAnd}
+use Rattle.std.specs.Prelude.{◌≡◌, ℕ, ◌+◌, ◌*◌, ◌≤◌, ◌<◌, List, [], ◌∷◌, length, map, All, Contains, Some, true, slice_get, IsSomeAnd}
 use Rattle.macho_fields.specs.Field.{part}
 use Rattle.macho_fields.specs.Segment.{all_segments, filesize, Supplies}
 use Rattle.macho_fields.specs.Symbol.{table_at}
 use Rattle.macho_fields.specs.Universal.{slices_of, slice_bytes, IsImage}
 use Rattle.macho_linked.specs.Cursor.{cursor_after}
 use Rattle.macho_linked.specs.Homes.{IsHome}
-use Rattle.macho_linked.specs.Images.{dyld_info, bounded_at}
+use Rattle.macho_linked.specs.Images.{dyld_info, opcodes_of, fields_of}
 use Rattle.macho_linked.specs.Limits.{budget_of, library_count}
 use Rattle.macho_linked.specs.Segments.{is_writable}
 use Rattle.macho_linked.specs.Steps.{step_at, AreSteps}
@@ -17,15 +17,17 @@ use Rattle.macho_linked.specs.declared.step.Opcodes.TheVariants as opcodes
 use Rattle.macho_linked.specs.declared.step.Step.{Step}
 use Rattle.macho_linked.specs.declared.step.Step.TheVariants as step
 use Rattle.macho_linked.specs.declared.step.TheConstants as size
+use Rattle.macho_linked.specs.declared.streams.Stream.{Stream}
+use Rattle.macho_linked.specs.declared.streams.Stream.TheVariants as streams
 use Rattle.macho_spans.specs.declared.span.Span.{Span}
 
 -- the streams of a command: their opcodes, and the tables that are their bytes
+abbrev pub all_streams : List Stream
+all_streams = streams.Rebase ∷ streams.Bind ∷ streams.WeakBind ∷ streams.LazyBind ∷ []
+
 abbrev pub streams_of : List ℕ → ℕ → List (Opcodes × (ℕ × ℕ × ℕ))
 streams_of image command =
-    (opcodes.Rebase, table_at image command (bounded_at 8))
-    ∷ (opcodes.Bind, table_at image command (bounded_at 16))
-    ∷ (opcodes.Bind, table_at image command (bounded_at 24))
-    ∷ (opcodes.LazyBind, table_at image command (bounded_at 32)) ∷ []
+    map (λ one. (opcodes_of one, table_at image command (fields_of one))) all_streams
 
 -- the bytes of one of the streams of an image
 pub record IsStream (image : List ℕ) (of : Opcodes) (stream : List ℕ) : Type 0 where

@@ -15,6 +15,8 @@ use Rattle.macho_linked.specs.Streams.{At, pointers, names, IsUndecoded, NamesNo
 use Rattle.macho_linked.specs.declared.step.Opcodes.{Opcodes}
 use Rattle.macho_linked.specs.declared.step.Opcodes.TheVariants as opcodes
 use Rattle.macho_linked.specs.declared.stream.StreamSurvey.{StreamSurvey}
+use Rattle.macho_linked.specs.declared.streams.Stream.{Stream}
+use Rattle.macho_linked.specs.declared.streams.Stream.TheVariants as streams
 
 -- the command that names the streams of an image, of which there is at most one after table-repeated
 abbrev pub dyld_info : List ℕ → Option ℕ
@@ -27,6 +29,18 @@ dyld_info image =
 -- each follows it.
 abbrev pub bounded_at : ℕ → TableFields
 bounded_at place = word_table place (place + 4) 1
+
+-- what the opcodes of a stream are, and the fields that bound it
+abbrev pub opcodes_of : Stream → Opcodes
+opcodes_of streams.Rebase = opcodes.Rebase
+opcodes_of streams.LazyBind = opcodes.LazyBind
+opcodes_of other = opcodes.Bind
+
+abbrev pub fields_of : Stream → TableFields
+fields_of streams.Rebase = bounded_at 8
+fields_of streams.Bind = bounded_at 16
+fields_of streams.WeakBind = bounded_at 24
+fields_of streams.LazyBind = bounded_at 32
 
 -- The rules of a stream of an image
 
@@ -53,18 +67,22 @@ abbrev pub InTable : Opcodes → List ℕ → ℕ × ℕ × ℕ → (List ℕ �
 InTable of image table Rule place =
     (offset : ℕ) × (place ≡ table.0 + offset) × Rule image of (part table.0 table.1 image) offset
 
+-- of a stream of a command
+abbrev pub InStream : Stream → List ℕ → ℕ → (List ℕ → Opcodes → List ℕ → ℕ → Type 0) → ℕ → Type 0
+InStream one image command Rule place =
+    InTable (opcodes_of one) image (table_at image command (fields_of one)) Rule place
+
 -- of the rebase stream
 abbrev pub InRebases : List ℕ → (List ℕ → Opcodes → List ℕ → ℕ → Type 0) → ℕ → Type 0
 InRebases image Rule place =
     IsSomeAnd (dyld_info image)
-    (λ command. InTable opcodes.Rebase image (table_at image command (bounded_at 8)) Rule place)
+    (λ command. InStream streams.Rebase image command Rule place)
 
 -- of the bind, the weak and the lazy stream of a command
 abbrev pub InBindsOf : List ℕ → ℕ → (List ℕ → Opcodes → List ℕ → ℕ → Type 0) → ℕ → Type 0
 InBindsOf image command Rule place =
-    (InTable opcodes.Bind image (table_at image command (bounded_at 16)) Rule place
-    ⊎ InTable opcodes.Bind image (table_at image command (bounded_at 24)) Rule place)
-    ⊎ InTable opcodes.LazyBind image (table_at image command (bounded_at 32)) Rule place
+    (InStream streams.Bind image command Rule place ⊎ InStream streams.WeakBind image command Rule place)
+    ⊎ InStream streams.LazyBind image command Rule place
 
 abbrev pub InBinds : List ℕ → (List ℕ → Opcodes → List ℕ → ℕ → Type 0) → ℕ → Type 0
 InBinds image Rule place = IsSomeAnd (dyld_info image) (λ command. InBindsOf image command Rule place)
@@ -83,6 +101,17 @@ abbrev pub lesser : Option ℕ → Option ℕ → Option ℕ
 lesser None other = other
 lesser (Some one) None = Some one
 lesser (Some one) (Some other) = Some (min one other)
+
+-- the lesser places of two surveys
+abbrev pub joined : StreamSurvey → StreamSurvey → StreamSurvey
+joined one other = record {
+  opcode = lesser one.opcode other.opcode;
+  library = lesser one.library other.library;
+  symbol = lesser one.symbol other.symbol;
+  slot = lesser one.slot other.slot;
+  total = lesser one.total other.total;
+  names = lesser one.names other.names;
+}
 
 -- a survey whose places are counted from another start, and that these fit 64 bits
 abbrev pub moved : ℕ → StreamSurvey → StreamSurvey

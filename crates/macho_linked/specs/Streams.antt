@@ -77,3 +77,14 @@ pub record IsStreamSurvey (of : Opcodes) (stream : List ℕ) (limits : Limits) (
   pub slot : IsLeastPlace (At pointers (WritesOutside limits.rooms) of stream) survey.slot
   pub total : IsLeastPlace (At pointers (PassesBudget limits.budget) of stream) survey.total
   pub names : IsLeastPlace (At names (PassesNames (length stream)) of stream) survey.names
+
+-- a survey of a stream that breaks none
+abbrev pub unbroken : StreamSurvey
+unbroken = record {
+  opcode = None;
+  library = None;
+  symbol = None;
+  slot = None;
+  total = None;
+  names = None;
+}

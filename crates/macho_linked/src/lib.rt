@@ -1,6 +1,6 @@
 #![tactic(auto)]
-//! Parts of the linked profile, which is in preparation: the numbers and steps of the streams that a
-//! dynamic loader follows, where each rule of a stream is first broken, and where linked data lies.
+//! The linked profile: where the linked data of an image lies, and what the opcodes that a dynamic loader
+//! follows ask it to write.
 
 mod check;
 pub mod cursor;

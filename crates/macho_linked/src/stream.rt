@@ -3,8 +3,7 @@
 ghost use Rattle.std.specs.Prelude.{◌≡◌, ◌-◌, ◌^◌, ◌<◌, min, IsTrue};
 ghost use Rattle.macho_fields.specs.Bytes.{bytes_of};
 ghost use Rattle.macho_fields.specs.FirstPlace.{IsNoted};
-ghost use Rattle.macho_linked.specs.Streams.{IsStreamSurvey};
-ghost use Rattle.macho_linked.specs.Streams.{reach as reach_of};
+ghost use Rattle.macho_linked.specs.Streams.{reach as reach_of, IsStreamSurvey};
 
 use crate::cursor::Cursor;
 use crate::step::{Opcodes, POINTER_SIZE, Step, step_at};
@@ -69,19 +68,14 @@ pub fn survey(opcodes: Opcodes, stream: Bytes, limits: &Limits) -> StreamSurvey
 }
 
 impl StreamSurvey {
-    ghost use Rattle.std.specs.Prelude.{◌≡◌, ◌+◌, ◌^◌, ◌≤◌, ◌<◌, None};
+    ghost use Rattle.std.specs.Prelude.{◌≡◌, ◌+◌, ◌^◌, ◌≤◌, ◌<◌};
     ghost use Rattle.macho_fields.specs.FirstPlace.{IsNoted};
     ghost use Rattle.macho_linked.specs.Cursor.{writes};
-    ghost use Rattle.macho_linked.specs.Streams.{NamesNoLibrary, LacksName, WritesOutside, PassesBudget, PassesNames};
+    ghost use Rattle.macho_linked.specs.Streams.{unbroken, NamesNoLibrary, LacksName, WritesOutside, PassesBudget, PassesNames};
 
     // No rule is broken.
     pub(crate) fn unbroken() -> StreamSurvey
-        ensures opcode { result.opcode ≡ None }
-        ensures library { result.library ≡ None }
-        ensures symbol { result.symbol ≡ None }
-        ensures slot { result.slot ≡ None }
-        ensures total { result.total ≡ None }
-        ensures names { result.names ≡ None }
+        ensures { result ≡ unbroken }
     {
         StreamSurvey {
             opcode: None,

@@ -1,19 +1,17 @@
 //! The streams of an image, and where they first break each of their rules. (`mach-o/loader.h`:
 //! `dyld_info_command`)
 
-ghost use Rattle.std.specs.Prelude.{◌≡◌, ◌+◌, ◌^◌, ◌<◌, IfSome, Contains, Some};
+ghost use Rattle.std.specs.Prelude.{◌≡◌, ◌+◌, ◌^◌, ◌<◌, IfSome, Some};
 ghost use Rattle.std.specs.Option.{option_map};
-ghost use Rattle.macho_fields.specs.Image.{command_cmd, commands_of};
-ghost use Rattle.macho_fields.specs.LoadCommands.{structure_of, dyld_info_tables};
+ghost use Rattle.macho_fields.specs.Image.{commands_of};
 ghost use Rattle.macho_fields.specs.Layers.{NothingBreaks};
 ghost use Rattle.macho_fields.specs.Rules.{BreaksImage as Breaks};
-ghost use Rattle.macho_fields.specs.Symbol.{table_at};
-ghost use Rattle.macho_fields.specs.declared.load_command.Structure.TheVariants.{DyldInfoCommand};
 ghost use Rattle.macho_image.specs.Command.{first_with_cmd};
-ghost use Rattle.macho_linked.specs.Images.{dyld_info as dyld_info_of, bounded_at as bounded_at_of, lesser as lesser_of, AreLeast, InTable};
+ghost use Rattle.macho_linked.specs.Images.{dyld_info as dyld_info_of, bounded_at as bounded_at_of, lesser as lesser_of, AreLeast, InStream};
 ghost use Rattle.macho_linked.specs.Limits.{AreRooms, rooms_of, budget_of, library_count};
 
 use crate::homes::span_of;
+use crate::kinds::place_of;
 use crate::step::Opcodes;
 use crate::stream::{Limits, StreamSurvey, survey};
 use macho_fields::header::loader::dyld_info_command::{
@@ -51,10 +49,10 @@ impl Survey {
             };
         };
         let limits = Limits::of(image);
-        let rebases = survey_at(image, command, REBASE_OFF, Opcodes::Rebase, &limits);
-        let binds = survey_at(image, command, BIND_OFF, Opcodes::Bind, &limits);
-        let weak = survey_at(image, command, WEAK_BIND_OFF, Opcodes::Bind, &limits);
-        let lazy = survey_at(image, command, LAZY_BIND_OFF, Opcodes::LazyBind, &limits);
+        let rebases = survey_of(image, command, Stream::Rebase, &limits);
+        let binds = survey_of(image, command, Stream::Bind, &limits);
+        let weak = survey_of(image, command, Stream::WeakBind, &limits);
+        let lazy = survey_of(image, command, Stream::LazyBind, &limits);
         Survey {
             rebases,
             binds: binds.joined(weak).joined(lazy),
@@ -64,8 +62,7 @@ impl Survey {
 
 impl StreamSurvey {
     ghost use Rattle.std.specs.Prelude.{◌≡◌};
-    ghost use Rattle.std.specs.Option.{option_map};
-    ghost use Rattle.macho_linked.specs.Images.{lesser, moved, FitsAt};
+    ghost use Rattle.macho_linked.specs.Images.{joined, moved, FitsAt};
 
     // The same with places that are counted from another start.
     fn moved(self, start: u64) -> StreamSurvey
@@ -84,12 +81,7 @@ impl StreamSurvey {
 
     // The lesser places of two streams.
     fn joined(self, other: StreamSurvey) -> StreamSurvey
-        ensures opcode { result.opcode ≡ lesser self.opcode other.opcode }
-        ensures library { result.library ≡ lesser self.library other.library }
-        ensures symbol { result.symbol ≡ lesser self.symbol other.symbol }
-        ensures slot { result.slot ≡ lesser self.slot other.slot }
-        ensures total { result.total ≡ lesser self.total other.total }
-        ensures names { result.names ≡ lesser self.names other.names }
+        ensures { result ≡ joined self other }
     {
         StreamSurvey {
             opcode: lesser(self.opcode, other.opcode),
@@ -116,37 +108,61 @@ fn dyld_info(image: &Image) -> Option<u64>
 fn first_place(image: &Image, cmd: u32) -> Option<u64>
     ensures { result ≡ first_with_cmd image.now cmd (commands_of image.now) }
 {
-    match image.first_command(cmd) {
-        Some(command) => Some(command.place),
-        None => None,
-    }
+    place_of(image.first_command(cmd))
 }
 
-// Goes over the stream whose start is in the field at `field` of the command at `command`.
-fn survey_at(
-    image: &Image,
-    command: u64,
-    field: u64,
-    opcodes: Opcodes,
-    limits: &Limits,
-) -> StreamSurvey
+// Goes over one stream of the command at `command`.
+fn survey_of(image: &Image, command: u64, stream: Stream, limits: &Limits) -> StreamSurvey
     requires unbroken { NothingBreaks (Breaks image.now None) }
-    requires listed { Contains (commands_of image.now) command }
-    requires cmd { structure_of (command_cmd image.now command) ≡ Some DyldInfoCommand }
-    requires field { Contains dyld_info_tables (bounded_at_of field) }
-    requires near { field < 2 ^ 32 }
+    requires info { dyld_info_of image.now ≡ Some command }
     requires rooms { AreRooms (rooms_of image.now) limits.now.rooms }
     requires libraries { limits.now.libraries ≡ library_count image.now }
     requires budget { limits.now.budget ≡ budget_of image.now }
-    ensures { AreLeast (InTable opcodes image.now (table_at image.now command (bounded_at_of field)))
-        result }
+    ensures { AreLeast (InStream stream image.now command) result }
 {
-    let table = span_of(image, command, bounded_at(field));
+    let table = span_of(image, command, stream.fields());
     if table.len == 0 {
         return StreamSurvey::unbroken();
     }
-    let stream = image.bytes().slice(table);
-    survey(opcodes, stream, limits).moved(table.start)
+    let bytes = image.bytes().slice(table);
+    survey(stream.opcodes(), bytes, limits).moved(table.start)
+}
+
+// A stream, by the fields of its command that bound it.
+#[derive(Clone, Copy, Debug, PartialEq, Eq)]
+enum Stream {
+    Rebase,
+    Bind,
+    WeakBind,
+    LazyBind,
+}
+
+impl Stream {
+    ghost use Rattle.std.specs.Prelude.{◌≡◌};
+    ghost use Rattle.macho_linked.specs.Images.{opcodes_of, fields_of};
+
+    // What its opcodes are.
+    fn opcodes(self) -> Opcodes
+        ensures { result ≡ opcodes_of self }
+    {
+        match self {
+            Stream::Rebase => Opcodes::Rebase,
+            Stream::Bind | Stream::WeakBind => Opcodes::Bind,
+            Stream::LazyBind => Opcodes::LazyBind,
+        }
+    }
+
+    // The fields that bound it.
+    fn fields(self) -> TableFields
+        ensures { result ≡ fields_of self }
+    {
+        match self {
+            Stream::Rebase => bounded_at(REBASE_OFF),
+            Stream::Bind => bounded_at(BIND_OFF),
+            Stream::WeakBind => bounded_at(WEAK_BIND_OFF),
+            Stream::LazyBind => bounded_at(LAZY_BIND_OFF),
+        }
+    }
 }
 
 // The fields that bound a stream: that at `place` with its start, and its size just past it.

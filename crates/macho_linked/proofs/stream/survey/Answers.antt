@@ -1,4 +1,4 @@
-use Rattle.std.proofs.Common.{◌≡◌, ◌+◌, ◌∙◌, refl, sym, ap, arith}
+use Rattle.std.proofs.Common.{◌≡◌, ◌+◌, ◌∙◌, sym, ap, arith}
 use Rattle.std.specs.Prelude.{◌<◌, ◌^◌}
 use Rattle.macho_fields.specs.Bytes.{bytes_of}
 use Rattle.macho_linked.specs.Cursor.{writes, looks_up}
@@ -7,14 +7,11 @@ use Rattle.macho_linked.proofs.Within.{step_within}
 use Rattle.macho_linked.proofs.stream.survey.Goals as goal
 
 pub loop-place-init : goal.loop-place-init
-loop-place-init c =
-    let empty = c.unbroken-survey.ensures in
-    walk_start _ _ _ _ _ c.new-cursor.ensures empty.opcode empty.library empty.symbol empty.slot empty.total empty.names
+loop-place-init c = rw (c.new-cursor.ensures, c.unbroken-survey.ensures) (walk_start c.args.opcodes (bytes_of c.args.stream) c.args.limits.now)
 
 pub returns-in_default : goal.returns-in_default
 returns-in_default c =
-    walk_stuck _ _ _ _ _ _ _ _ c.loop-place.invariant (omega (arith, c.len.ensures.count, c.loop-place-test.true)) (sym c.in_default.ensures) _
-    refl refl refl refl refl refl
+    walk_stuck _ _ _ _ _ _ _ _ c.loop-place.invariant (omega (arith, c.len.ensures.count, c.loop-place-test.true)) (sym c.in_default.ensures)
 
 pub loop-place-smaller : goal.loop-place-smaller
 loop-place-smaller c =
