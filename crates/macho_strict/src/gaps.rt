@@ -1,6 +1,6 @@
 //! The bytes between spans.
 
-ghost use Rattle.std.specs.Prelude.{◌≡◌, true};
+ghost use Rattle.std.specs.Prelude.{◌≡◌, ◌≢◌, ◌≤◌, ◌<◌, ℕ, length, slice_index, true};
 ghost use Rattle.std.specs.List.Sorted.{IsNonDecreasingBy};
 ghost use Rattle.macho_fields.specs.Bytes.{bytes_of};
 ghost use Rattle.macho_fields.specs.FirstPlace.{IsLeastPlace};
@@ -52,9 +52,26 @@ fn first_no_padding(bytes: Bytes, span: Span) -> Option<u64>
         if bytes.read_u8(place) != NOP {
             return Some(place);
         }
-        start = place + 1;
+        start = nops_end(bytes, place + 1, end);
     }
     None
+}
+
+// The first place from `start` on that has no NOP, or `end` if all up to there have one.
+fn nops_end(bytes: Bytes, start: u64, end: u64) -> u64
+    requires order { start ≤ end }
+    requires inside { end ≤ length (bytes_of bytes) }
+    ensures after { start ≤ result }
+    ensures before { result ≤ end }
+    ensures nops { (place : ℕ) → start ≤ place → place < result
+        → slice_index (bytes_of bytes.entry) place ≡ 0x90 }
+    ensures other { result < end → slice_index (bytes_of bytes.entry) result ≢ 0x90 }
+{
+    let mut place = start;
+    while place < end && bytes.read_u8(place) == NOP {
+        place += 1;
+    }
+    place
 }
 
 // What lies between spans that are passed by their starts. Empty spans are skipped.
