@@ -258,7 +258,7 @@ struct kesvuot_explanation {
     uint64_t value;             /* the numbers that the rule compares */
     uint64_t limit;
     uint32_t slice;             /* the index of the slice that has the place, or whose entry is there */
-    uint32_t command;           /* the index of the load command that has the place */
+    uint32_t command;           /* the index of the load command that has the place, or that is missing there */
     uint32_t section;           /* the index of the section whose structure has the place */
     uint32_t symbol;            /* the index of the symbol that is at the place */
 };

@@ -13,7 +13,6 @@ use Rattle.macho_linked.specs.Limits.{budget_of, library_count}
 use Rattle.macho_c.specs.Explain.{all_loads, IsCommandAt, IsSectionAt, IsSymbolAt, no_index, word_at}
 use Rattle.macho_c.specs.Segments.{last_address}
 use Rattle.macho_c.specs.declared.explain.conflict.Conflict.{Conflict}
-use Rattle.macho_c.specs.declared.explain.part.KesvuotPart.{KesvuotPart}
 use Rattle.macho_c.specs.declared.explain.spot.Spot.{Spot}
 
 -- a number as it is written: the largest of 64 bits where it has more

@@ -1,10 +1,10 @@
 -- What explains a refusal: what is at the place, and the numbers that a rule compares. (kesvuot.h: struct
 -- kesvuot_explanation)
-use Rattle.std.specs.Prelude.{◌≡◌, ◌≢◌, ℕ, ◌+◌, ◌-◌, ◌*◌, ◌^◌, ◌≤◌, ◌<◌, ◌⊎◌, List, length, map, take, Option, Some, slice_get, Bool, true, false}
+use Rattle.std.specs.Prelude.{◌≡◌, ℕ, ◌+◌, ◌-◌, ◌*◌, ◌^◌, ◌≤◌, ◌<◌, List, map, take, Some, slice_get, true}
 use Rattle.std.specs.List.{sum_by}
 use Rattle.std.specs.Option.{unwrap_or}
 use Rattle.macho_fields.specs.Field.{field}
-use Rattle.macho_fields.specs.Image.{command_cmd, command_size, commands_of}
+use Rattle.macho_fields.specs.Image.{command_size, commands_of}
 use Rattle.macho_fields.specs.Segment.{vmaddr, vmsize, fileoff, filesize, section_address, section_size, section_offset, reloff, nreloc}
 use Rattle.macho_fields.specs.Universal.{FileSlice}
 use Rattle.macho_fields.specs.declared.bytes.Order.TheVariants.{Little}

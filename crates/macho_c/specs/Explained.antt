@@ -35,11 +35,11 @@ abbrev pub conflict_in : KesvuotExplanation → Conflict
 conflict_in e =
     record { first = e.first; second = e.second; value = e.value; limit = e.limit }
 
--- The slice with the index begins at the place or before it. What is found is what the image in it has there.
+-- The slice with the index has the place, or ends there. What is found is what the image in it has there.
 abbrev pub IsOfImage : Rule → List ℕ → ℕ → KesvuotExplanation → Type 0
 IsOfImage r file place e =
     (slice : FileSlice) × (slice_get (slices_of file) e.slice ≡ Some slice)
-    × (p : ℕ) × (place ≡ slice.start + p)
+    × (p : ℕ) × (place ≡ slice.start + p) × (p ≤ slice.size)
     × IsFound r (image_of file slice) p (spot_in e, conflict_in e)
 
 -- What is found is what the file has there.

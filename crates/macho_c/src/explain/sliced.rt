@@ -1,6 +1,6 @@
 //! The rules of an image: which slice has the place, and what is there.
 
-ghost use Rattle.std.specs.Prelude.{◌≡◌, ◌+◌, slice_get, IfSome, Some};
+ghost use Rattle.std.specs.Prelude.{◌≡◌, ◌+◌, ◌≤◌, slice_get, IfSome, Some};
 ghost use Rattle.macho_fields.specs.Bytes.{bytes_of};
 ghost use Rattle.macho_fields.specs.declared.rule.Rule.{Rule};
 ghost use Rattle.macho_fields.specs.Universal.{slices_of};
@@ -55,7 +55,9 @@ pub(crate) fn explain_image(file: &[u8], rule: Rule, place: u64) -> Option<Kesvu
 }
 
 // A byte of the image that breaks a rule at a place. A walk can end just past the image.
-fn byte_of(rule: Rule, place: u64) -> Option<u64> {
+fn byte_of(rule: Rule, place: u64) -> Option<u64>
+    ensures { IfSome result (λ byte. (byte ≤ place) × (place ≤ byte + 1)) }
+{
     if rule == Rule::CommandWalk {
         place.checked_sub(1)
     } else {

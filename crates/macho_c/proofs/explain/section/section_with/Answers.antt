@@ -1,6 +1,5 @@
-use Rattle.std.proofs.Common.{◌≡◌, ◌+◌, ◌*◌, ◌/◌, ◌<◌, ◌≤◌, ap, sym, arith, subst, ◌∙◌}
+use Rattle.std.proofs.Common.{◌≡◌, ◌+◌, ◌/◌, ◌<◌, ap, arith, subst, ◌∙◌}
 use Rattle.macho_fields.specs.Bytes.{bytes_of}
-use Rattle.macho_c.specs.Explain.{sections_before}
 use Rattle.macho_c.specs.Sections.{nsects_at}
 use Rattle.macho_c.specs.declared.sections.KesvuotSection.{KesvuotSection}
 use Rattle.macho_c.proofs.explain.section.section_with.Goals as goal
