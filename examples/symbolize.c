@@ -6,12 +6,13 @@
 //
 //     0xADDRESS SYMBOL + 0xOFFSET (SEGMENT,SECTION)
 //
-// with the nearest symbol at or before ADDRESS; if several have its address, the last in the table. It is `0xADDRESS ?` if
-// there is none, or if ADDRESS is not in the symbol's section.
+// with the nearest symbol at or before ADDRESS; if several have its address, the last in the table. It is
+// `0xADDRESS ?` if there is none, or if ADDRESS is not in the symbol's section.
 //
 //     cc -std=c99 -O2 -Ibindings/c -o build/symbolize examples/symbolize.c build/lib/libkesvuot.a
 //
-// The file may be from a stranger. The library judges it once. After that no offset, count or index of the file is tested.
+// The file may be from a stranger. The library judges it once. After that no offset, count or index of the file is
+// tested.
 #include <ctype.h>
 #include <errno.h>
 
@@ -46,8 +47,8 @@ static void print_line(const struct judged *file, const struct tables *tables, u
     struct kesvuot_symbol symbol;
     struct kesvuot_span name;
     size_t at;
-    uint32_t status = kesvuot_find_symbol(file->bytes, file->size, image, tables->index, tables->count, address, &symbol,
-                                          &at);
+    uint32_t status = kesvuot_find_symbol(file->bytes, file->size, image, tables->index, tables->count, address,
+                                          &symbol, &at);
     // symbol-section: each symbol of the index is in a section that exists.
     const struct kesvuot_section *section = status == KESVUOT_OK ? &tables->sections[symbol.section] : NULL;
     printf("0x%" PRIx64 " ", address);

@@ -507,8 +507,8 @@ uint32_t kesvuot_find_symbol(const void *file, size_t size, const struct kesvuot
  * be defined in the image: look at its type.
  * OK: the symbol, and in `number` its index in the table.
  * NONE: there is no such symbol. All fields are 0, but `section`, which is KESVUOT_NO_SECTION.
- * A symbol with strx 0 has no name, not an empty one. The call goes over all symbols, and compares at most name_size + 1
- * bytes of each: for many names, read the symbols once. */
+ * A symbol with strx 0 has no name, not an empty one. The call goes over all symbols, and compares at most
+ * name_size + 1 bytes of each: for many names, read the symbols once. */
 uint32_t kesvuot_find_name(const void *file, size_t size, const struct kesvuot_image *image, const void *name,
                            size_t name_size, struct kesvuot_symbol *symbol, uint64_t *number);
 

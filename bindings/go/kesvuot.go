@@ -71,9 +71,9 @@ func VerifyLinked(file []byte) (*File, error) {
 // The most bytes of a file that is read. macho-check has the same limit.
 const limit = 1 << 32
 
-// VerifyFile reads a file into memory, and judges it as Verify does. Links are followed. A folder, a pipe, a socket or a
-// device is not read, and neither is a file of more than 4 GiB. The error is a *Refused, ErrMemory, or one of reading.
-// For the other profiles judge the Bytes of the result.
+// VerifyFile reads a file into memory, and judges it as Verify does. Links are followed. A folder, a pipe, a socket or
+// a device is not read, and neither is a file of more than 4 GiB. The error is a *Refused, ErrMemory, or one of
+// reading. For the other profiles judge the Bytes of the result.
 func VerifyFile(path string) (*File, error) {
 	bytes, err := readFile(path, limit)
 	if err != nil {

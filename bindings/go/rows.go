@@ -268,10 +268,10 @@ func (image *Image) Symbol(index uint64) (symbol Symbol, ok bool) {
 	return newSymbol(&rows[0]), true
 }
 
-// SymbolAt returns the nearest symbol of a section at or before an address, before any slide, that is no debugging entry;
-// of several at one address the last in the table. It is not ok if no symbol begins at or before the address. The symbol
-// may be of another section than the address, or end before it: the format has no sizes of symbols. The first call sorts
-// the symbols, and keeps 4 bytes for each.
+// SymbolAt returns the nearest symbol of a section at or before an address, before any slide, that is no debugging
+// entry; of several at one address the last in the table. It is not ok if no symbol begins at or before the address.
+// The symbol may be of another section than the address, or end before it: the format has no sizes of symbols. The
+// first call sorts the symbols, and keeps 4 bytes for each.
 func (image *Image) SymbolAt(address uint64) (symbol Symbol, ok bool) {
 	image.sorting.Do(func() { image.index = readIndex(image) })
 	row, ok := findSymbol(image, image.index, address)
@@ -281,8 +281,8 @@ func (image *Image) SymbolAt(address uint64) (symbol Symbol, ok bool) {
 	return newSymbol(&row), true
 }
 
-// SymbolNamed returns the first symbol in the table with this name that is no debugging entry. It need not be defined in
-// the image. It is not ok if there is none. Each call goes over all symbols: for many names, read Symbols once.
+// SymbolNamed returns the first symbol in the table with this name that is no debugging entry. It need not be defined
+// in the image. It is not ok if there is none. Each call goes over all symbols: for many names, read Symbols once.
 func (image *Image) SymbolNamed(name string) (symbol Symbol, ok bool) {
 	row, ok := findName(image, name)
 	if !ok {
