@@ -71,6 +71,10 @@ both : (a b : Bool) → (a ≡ true → b ≡ true) → (a && b) ≡ a
 both true b holds = holds refl
 both false b holds = refl
 
+-- the structure of the commands with one cmd
+pub by_cmd : (cmd : ℕ) (s : Structure) → structure_of cmd ≡ Some s → (other : ℕ) → (other == cmd) ≡ true → structure_of other ≡ Some s
+by_cmd cmd s listed other is = ap structure_of (eqb-true other cmd is) ∙ listed
+
 pub dyld_info_structure : (cmd : ℕ) → is_dyld_info cmd ≡ true → structure_of cmd ≡ Some DyldInfoCommand
 dyld_info_structure cmd is = elim (cases_Bool (cmd == loader.LC_DYLD_INFO)) [
   | inl info ↦ ap structure_of (eqb-true cmd loader.LC_DYLD_INFO info)
@@ -105,9 +109,6 @@ module _ (image : List ℕ) (opened : IsOpened image) where
       both (test (command_cmd image c)) (nat_le (structure_size s) (command_size image c)) (λ is.
       let whole = structure_inside image (commands_of image) (opened_keeps image opened) (opened_commands image opened) c s has (listed (command_cmd image c) is) in
       le-leb (structure_size s) (command_size image c) (omega (arith, whole)))
-
-  by_cmd : (cmd : ℕ) (s : Structure) → structure_of cmd ≡ Some s → (other : ℕ) → (other == cmd) ≡ true → structure_of other ≡ Some s
-  by_cmd cmd s listed other is = ap structure_of (eqb-true other cmd is) ∙ listed
 
   pub builds_wanted : wanted_left wanted.Builds image start ≡ builds_in image
   builds_wanted =

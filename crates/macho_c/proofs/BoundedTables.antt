@@ -1,8 +1,8 @@
 -- The tables that commands bound.
-use Rattle.std.proofs.Common.{◌≡◌, ◌∙◌, ℕ, zero, suc, ◌+◌, ◌*◌, ◌==◌, ◌≤◌, List, [], ◌∷◌, length, drop, Bool, true, false, cond, Option, None, Some, Contains, refl, ap, subst, inl, inr, arith, lit<}
+use Rattle.std.proofs.Common.{◌≡◌, ℕ, zero, suc, ◌+◌, ◌*◌, ◌==◌, ◌≤◌, List, [], ◌∷◌, length, drop, Bool, true, false, cond, Option, None, Some, Contains, refl, subst, inl, inr, arith, lit<}
 use Rattle.std.specs.Prelude.{find, filter, nat_le, slice_get, MatchOption, if◌then◌else◌}
 use Rattle.std.specs.Option.{option_map, option_and_then}
-use Rattle.std.proofs.lemmas.Bool.{and_parts, cases_lt, eqb-true, ne_eqb, false≢true, leb-true, le-leb}
+use Rattle.std.proofs.lemmas.Bool.{and_parts, cases_lt, ne_eqb, false≢true, leb-true, le-leb}
 use Rattle.std.proofs.lemmas.List.{length-take, length-drop}
 use Rattle.std.proofs.lemmas.List.Elements.{All-contains, All-contains_itself, All-filter, filter_passes}
 use Rattle.std.proofs.lemmas.Option.{same_Some}
@@ -31,7 +31,7 @@ use Rattle.macho_c.specs.declared.load.Load.{Load}
 use Rattle.macho_c.specs.declared.load.Wanted.{Wanted}
 use Rattle.macho_c.specs.declared.load.Wanted.TheVariants as wanted
 use Rattle.macho_c.specs.declared.span.KesvuotSpan.{KesvuotSpan}
-use Rattle.macho_c.proofs.AllCommands.{has_opened, dyld_info_structure, symtabs_wanted, dysymtabs_wanted, dyld_infos_wanted, encryption_infos_wanted}
+use Rattle.macho_c.proofs.AllCommands.{has_opened, by_cmd, dyld_info_structure, symtabs_wanted, dysymtabs_wanted, dyld_infos_wanted, encryption_infos_wanted}
 
 -- The list of the tables
 
@@ -123,14 +123,11 @@ module _ (image : List ℕ) (unbroken : NothingBreaks (BreaksImage image None)) 
   all_bounding wanted.EncryptionInfos bounds = encryption_infos_wanted image opened
   all_bounding other bounds = absurd (false≢true bounds)
 
-  by_cmd : (cmd : ℕ) (s : Structure) (other : ℕ) → structure_of cmd ≡ Some s → (other == cmd) ≡ true → structure_of other ≡ Some s
-  by_cmd cmd s other is same = ap structure_of (eqb-true other cmd same) ∙ is
-
   structure_is : (w : Wanted) → bounds_tables w ≡ true → (cmd : ℕ) → has_cmd w cmd ≡ true → structure_of cmd ≡ Some (structure_for w)
-  structure_is wanted.Symtabs bounds cmd is = by_cmd loader.LC_SYMTAB structure.SymtabCommand cmd refl is
-  structure_is wanted.Dysymtabs bounds cmd is = by_cmd loader.LC_DYSYMTAB structure.DysymtabCommand cmd refl is
+  structure_is wanted.Symtabs bounds cmd is = by_cmd loader.LC_SYMTAB structure.SymtabCommand refl cmd is
+  structure_is wanted.Dysymtabs bounds cmd is = by_cmd loader.LC_DYSYMTAB structure.DysymtabCommand refl cmd is
   structure_is wanted.DyldInfos bounds cmd is = dyld_info_structure cmd is
-  structure_is wanted.EncryptionInfos bounds cmd is = by_cmd loader.LC_ENCRYPTION_INFO_64 structure.EncryptionInfoCommand64 cmd refl is
+  structure_is wanted.EncryptionInfos bounds cmd is = by_cmd loader.LC_ENCRYPTION_INFO_64 structure.EncryptionInfoCommand64 refl cmd is
   structure_is other bounds cmd is = absurd (false≢true bounds)
 
   -- a table of a command that bounds it lies inside the image, or has no items
