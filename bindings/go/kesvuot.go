@@ -24,7 +24,8 @@
 //	require kesvuot v0.0.0
 //	replace kesvuot => FOLDER
 //
-// with the folder bindings/go. It needs cgo, and finds libkesvuot by pkg-config.
+// with the folder bindings/go. It needs cgo, and finds libkesvuot by pkg-config. After `make lib` that is by
+// PKG_CONFIG_PATH=.../build/lib, and the program finds the shared library by LD_LIBRARY_PATH=.../build/lib.
 package kesvuot
 
 import (
