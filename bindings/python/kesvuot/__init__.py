@@ -16,7 +16,7 @@ refusal is about. `kesvuot.constants` has the numbers of <mach-o/loader.h> and i
 
 `data` is bytes, a bytearray, an mmap, or any other object whose bytes are in one piece. Names and contents are
 read-only memoryviews of it. Nothing is copied, and `data` lives for as long as a view of it does. A view compares with
-bytes, as in `segment.name == b"__TEXT"`.
+bytes, as in `segment.name == b"__TEXT"`. A name of a bytearray cannot be a key of a dict: use `name.tobytes()`.
 
 THE BYTES MUST NOT CHANGE WHILE A CALL RUNS, or the process may crash. Nobody can change `bytes`. A call holds the GIL,
 so other Python threads cannot change a bytearray during it. Code that releases the GIL can, such as `readinto`,

@@ -39,7 +39,8 @@ class Refused(Exception):
 
 
 class Symtab(NamedTuple):
-    """LC_SYMTAB."""
+    """LC_SYMTAB: where the symbols and their names are in the image. `symoff` is any number if `nsyms` is 0, and so is
+    `stroff` if `strsize` is 0."""
 
     symoff: int
     nsyms: int
@@ -48,7 +49,8 @@ class Symtab(NamedTuple):
 
 
 class Dysymtab(NamedTuple):
-    """LC_DYSYMTAB: the groups of symbols, and the table of indirect entries."""
+    """LC_DYSYMTAB: the groups of symbols, and the table of indirect entries. An index or offset is any number if its
+    count is 0."""
 
     ilocalsym: int
     nlocalsym: int
@@ -105,8 +107,14 @@ class Source(NamedTuple):
 
 
 class Slice:
-    """A slice of a file, which begins at `place`. A 64-bit little-endian slice is an Image. What is in any other was
-    not judged, and it has no more than this. `cpusubtype` is without the capability byte."""
+    """A slice of a file. A 64-bit little-endian slice is an Image. What is in any other was not judged, and it has no
+    more than this:
+
+    `index`: its index in the file, from 0 on
+    `place`: where it begins in the file: 0 exactly if the file is not universal
+    `bytes`: its bytes
+    `cputype`, `cpusubtype`: those of the image, or of the universal table if it is no Image; the second without the
+    capability byte"""
 
     def __init__(self, data: Bytes, index: int, fields: Tuple[Any, ...]) -> None:
         self.index = index
@@ -128,8 +136,16 @@ class Slice:
 
 class Image(Slice):
     """A 64-bit image: the whole file, or a slice of it. Offsets count from its start, and addresses are those before
-    any slide. What the image does not have is None: `id` is what a library is itself. `capabilities` is the high byte of
-    the cpusubtype.
+    any slide. Besides what a Slice has:
+
+    `capabilities`: the high byte of the cpusubtype
+    `filetype`, `flags`: those of the header
+    `base`: the address of the header. None if no mapped segment has the first byte of the header. That all of the
+    headers are mapped is header-segment, a strict rule
+    `entry`: the address that LC_MAIN names, or None without one
+    `id`: a Library, what the image is as one by its LC_ID_DYLIB, or None without one
+    `uuid`: the uuid.UUID of LC_UUID, or None without one
+    `symtab`, `dysymtab`: a Symtab and a Dysymtab, or None without such a command
 
     Each table is read when a row of it is first asked for. Symbols and indirect entries are found by their index. Any
     other table is read in one walk over the load commands, and kept in the form of the library."""
@@ -175,7 +191,8 @@ class Image(Slice):
 
     @cached_property
     def libraries(self) -> Table[Library]:
-        """The libraries that it loads, in the order of their commands. LC_ID_DYLIB is `id`."""
+        """The libraries that it loads, in the order of their commands: each LC_LOAD_DYLIB, LC_LOAD_WEAK_DYLIB,
+        LC_REEXPORT_DYLIB, LC_LAZY_LOAD_DYLIB and LC_LOAD_UPWARD_DYLIB. LC_ID_DYLIB is `id`."""
         return self._walked(_rows.LIBRARIES, self._counts[3])
 
     @cached_property
@@ -212,7 +229,8 @@ class Image(Slice):
 
     def name(self, symbol: Symbol) -> memoryview:
         """The name of a symbol of this image, empty where `strx` is 0. The call searches for its end. In a hostile file
-        many symbols can share a long name: to look up all of them takes time in proportion to nsyms * strsize."""
+        many symbols can share a long name: to look up all of them takes time in proportion to nsyms * strsize. To list
+        all in linear time, add up the lengths of the names, and stop when the sum is more than 4 * strsize."""
         return self._span(load().kesvuot_symbol_name, symbol.strx)[1]
 
     def _span(self, call: Any, key: int) -> Tuple[int, memoryview]:
@@ -335,7 +353,8 @@ class Image(Slice):
 
 
 class File:
-    """A file that was accepted, as `verify` gives it. `data` is a read-only view of its bytes."""
+    """A file that was accepted, as `verify` gives it. `data` is a read-only view of its bytes, and `slice_count` is how
+    many slices it has: 1 if it is not universal."""
 
     def __init__(self, data: Bytes, slice_count: int) -> None:
         # A view of its own: the images point into the bytes even where a caller has released it.

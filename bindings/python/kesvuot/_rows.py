@@ -29,7 +29,14 @@ def _text(row: Any) -> str:
 
 
 class Segment(NamedTuple):
-    """An LC_SEGMENT_64. `bytes` are all `filesize` bytes from `fileoff` on."""
+    """An LC_SEGMENT_64.
+
+    `name`: any bytes
+    `bytes`: all `filesize` bytes from `fileoff` on
+    `vmaddr`, `vmsize`: its addresses, not aligned to a page: two segments can share one. `vmsize` 0: not mapped
+    `fileoff`: any number if `filesize` is 0
+    `first_section`, `section_count`: its sections, by their indices in `Image.sections`
+    `maxprot`, `initprot`: the protection that it may get, and the first: 1 to read, 2 to write, 4 to execute"""
 
     name: memoryview
     bytes: memoryview
@@ -47,8 +54,17 @@ class Segment(NamedTuple):
 
 
 class Section(NamedTuple):
-    """A section_64. `bytes` are all `size` bytes from `offset` on, and none if it is `zero_fill`. `segment` is the name
-    of its segment."""
+    """A section_64.
+
+    `name`, `segment`: its name, and that of its segment
+    `bytes`: all `size` bytes from `offset` on, and none if it is `zero_fill`
+    `addr`: its first address
+    `offset`: any number if `size` is 0 or it is `zero_fill`
+    `align`: the exponent of a power of 2, any number
+    `reloff`: any number if `nreloc` is 0
+    `flags`: its type in the low byte, and its attributes
+    `reserved1`, `reserved2`: any numbers, such as the index of an indirect entry
+    `zero_fill`: whether a loader fills it with zeros"""
 
     name: memoryview
     segment: memoryview
@@ -69,7 +85,11 @@ class Section(NamedTuple):
 
 
 class Library(NamedTuple):
-    """A dylib_command: a library that the image loads, or what it is itself."""
+    """A dylib_command: a library that the image loads, or what it is itself.
+
+    `name`: its path
+    `cmd`: LC_LOAD_DYLIB or one of its kin; of `Image.id` LC_ID_DYLIB
+    `current`, `compatible`: versions X.Y.Z: X << 16 | Y << 8 | Z"""
 
     name: memoryview
     cmd: int
@@ -83,7 +103,10 @@ class Library(NamedTuple):
 class Build(NamedTuple):
     """A build_version_command, or a version_min_command, which names its platform by its `cmd`: LC_VERSION_MIN_MACOSX
     (0x24), LC_VERSION_MIN_IPHONEOS (0x25), LC_VERSION_MIN_TVOS (0x2f) or LC_VERSION_MIN_WATCHOS (0x30). The platform of
-    the last three is that of the device, also in an image for its simulator."""
+    the last three is that of the device, also in an image for its simulator.
+
+    `platform`: a number that `platform_name` takes
+    `minos`, `sdk`: the least version of the platform, and that of the SDK, X.Y.Z: X << 16 | Y << 8 | Z"""
 
     platform: int
     minos: int
@@ -92,7 +115,8 @@ class Build(NamedTuple):
 
 
 class Command(NamedTuple):
-    """A load command, which begins at `place` in the image. `name` is that of a library, or a path, or empty."""
+    """A load command, which begins at `place` in the image. `bytes` are all `cmdsize` bytes. `name` is that of a
+    library, or a path, or empty."""
 
     bytes: memoryview
     name: memoryview
@@ -106,9 +130,14 @@ class Command(NamedTuple):
 class Symbol(NamedTuple):
     """An nlist_64. `Image.name` gives its name.
 
-    `section` is the index in `Image.sections` of the section with the number `sect`, or None if there is none. Do not
-    subtract 1 from `sect`: it is 0 (NO_SECT) if the symbol is in no section, and may be past the last section, such as
-    in a debugging entry (N_STAB)."""
+    `section` is the index in `Image.sections` of the section with the number `sect`, whatever the `type` is, or None if
+    there is none. The symbol is defined in that section only if its `type` is N_SECT and it is no debugging entry
+    (N_STAB): then this is always an index. Do not subtract 1 from `sect`: it is 0 (NO_SECT) if the symbol is in no
+    section, and may be past the last section, such as in a debugging entry.
+
+    `value`: any number; of a symbol that is defined in a section its address
+    `strx`: 0 if it has no name
+    `desc`, `type`: n_desc and n_type, any numbers"""
 
     value: int
     strx: int
