@@ -615,11 +615,7 @@ mod tests {
             let name = constant(&format!("{table:?}"));
             format!("KESVUOT_TABLE{name} == {}", table.number())
         });
-        rules
-            .chain(others)
-            .chain(kinds)
-            .chain(tables)
-            .collect()
+        rules.chain(others).chain(kinds).chain(tables).collect()
     }
 
     /// The name of a variant as C has it, with a `_` before each word.
