@@ -5,7 +5,7 @@
  *     struct kesvuot_segment rows[16];
  *     if (kesvuot_verify(file, size, &verdict) == KESVUOT_OK &&
  *         kesvuot_read_image(file, size, 0, &image) == KESVUOT_OK) {
- *         struct kesvuot_cursor cursor = {0};
+ *         struct kesvuot_cursor cursor = {0}; // In C++ write {}
  *         size_t count;
  *         while ((count = kesvuot_read_segments(file, size, &image, &cursor, rows, 16)) > 0)
  *             ; // the bytes of a segment: rows[0].bytes.size from (const char *)file + rows[0].bytes.offset on
@@ -74,8 +74,8 @@ enum {
     KESVUOT_ZERO = 5       /* the address is mapped, but to no byte of the file: a loader puts a zero there */
 };
 
-/* The rules, in the order in which they are judged. RULES.md says when each is broken, what usually breaks it, and what
- * its place is. */
+/* The rules, in the order in which this version judges them. RULES.md says when each is broken, what usually breaks it,
+ * and what its place is. */
 enum {
     /* of the file */
     KESVUOT_MAGIC = 1,
@@ -181,7 +181,7 @@ struct kesvuot_text {
     size_t size;
 };
 
-/* The name of a rule, such as "section-file".
+/* The name of a rule, such as "section-file". The rule of a verdict has one after REFUSED.
  * OK: the name is written. NONE: no rule has this number, and the name is empty: do not read through `at`. */
 uint32_t kesvuot_find_rule(uint32_t rule, struct kesvuot_text *name);
 
@@ -314,8 +314,10 @@ struct kesvuot_library {      /* dylib_command */
 };
 
 struct kesvuot_image {
-    struct kesvuot_span slice; /* the slice, in the file */
-    uint64_t base;             /* HAS_BASE: the address of the header, before any slide */
+    struct kesvuot_span slice; /* the slice, in the file. Its offset is 0 exactly if the file is not universal */
+    uint64_t base;             /* HAS_BASE: the address of the header, before any slide. Absent if no mapped segment has
+                                  the first byte of the header. That all of the headers are mapped is header-segment, a
+                                  strict rule */
     uint64_t entry;            /* HAS_ENTRY: base + entryoff of LC_MAIN, in an executable segment, and in the file */
     uint64_t symbols;          /* HAS_SYMTAB: symoff of LC_SYMTAB. Any number if symbol_count is 0 */
     uint64_t symbol_count;     /* nsyms: the table lies in the slice */
@@ -323,11 +325,11 @@ struct kesvuot_image {
     uint64_t strings_size;     /* strsize: the strings lie in the slice */
     uint64_t indirects;        /* HAS_DYSYMTAB: indirectsymoff of LC_DYSYMTAB. Any number if indirect_count is 0 */
     uint64_t indirect_count;   /* nindirectsyms: the table lies in the slice */
-    uint64_t command_count;    /* how many rows each table below has */
-    uint64_t segment_count;
-    uint64_t section_count;
-    uint64_t library_count;
-    uint64_t build_count;
+    uint64_t command_count;    /* how many rows kesvuot_read_commands writes in all */
+    uint64_t segment_count;    /* the same of kesvuot_read_segments */
+    uint64_t section_count;    /* of kesvuot_read_sections */
+    uint64_t library_count;    /* of kesvuot_read_libraries */
+    uint64_t build_count;      /* of kesvuot_read_builds */
     struct kesvuot_library id; /* HAS_ID: what the image is as a library. An MH_DYLIB has it, and other images do not */
     uint32_t cputype;          /* any number. In a universal file the table has the same, and so for cpusubtype */
     uint32_t cpusubtype;       /* without the high byte, CPU_SUBTYPE_MASK. Any number */
@@ -353,7 +355,7 @@ uint32_t kesvuot_read_image(const void *file, size_t size, uint64_t slice, struc
  *
  * Each call writes the next rows, up to `max`, moves the cursor past them, and returns how many it wrote. It does not
  * change the rows after those. If it wrote fewer than max, there are no more. A cursor of zeros is before the first row
- * of any table; use it for one table of one image. Batches of any size cost the same. */
+ * of any table: `= {0}`, in C++ `{}`. Use it for one table of one image. Batches of any size cost the same. */
 
 struct kesvuot_cursor {  /* the numbers are the library's own, and any are safe */
     uint64_t place;      /* where the next load command begins in the slice */
@@ -366,7 +368,7 @@ struct kesvuot_cursor {  /* the numbers are the library's own, and any are safe 
 struct kesvuot_segment {       /* LC_SEGMENT_64. No address is in two segments */
     struct kesvuot_span name;  /* any bytes. Two segments can have one name */
     struct kesvuot_span bytes; /* all filesize bytes from fileoff on */
-    uint64_t vmaddr;
+    uint64_t vmaddr;           /* not aligned to a page, and neither is vmsize: two segments can share a page */
     uint64_t vmsize;           /* 0: the segment is not mapped, and no address is in it */
     uint64_t last;             /* its last address, vmaddr + vmsize - 1: the sum alone can be 2^64. 0 if vmsize is 0 */
     uint64_t fileoff;          /* any number if filesize is 0 */
@@ -420,8 +422,9 @@ struct kesvuot_command {       /* load_command */
 struct kesvuot_symbol { /* nlist_64 */
     uint64_t value;     /* any number */
     uint32_t strx;      /* 0 if it has no name, otherwise less than strings_size. Pass it to kesvuot_symbol_name */
-    uint32_t section;   /* the index of its section in the table of sections, or KESVUOT_NO_SECTION. It is an index if
-                           the type is N_SECT and the symbol is no debugging entry (N_STAB) */
+    uint32_t section;   /* the index of the section with the number sect, whatever the type is, or KESVUOT_NO_SECTION if
+                           there is none. The symbol is defined in that section only if its type is N_SECT and it is no
+                           debugging entry (N_STAB): then this is always an index */
     uint16_t desc;      /* any number */
     uint8_t type;       /* any number */
     uint8_t sect;       /* n_sect, from which `section` is: 0 (NO_SECT), or a number from 1 on. Any number */
@@ -447,7 +450,8 @@ size_t kesvuot_read_segments(const void *file, size_t size, const struct kesvuot
                              struct kesvuot_cursor *cursor, struct kesvuot_segment *rows, size_t max);
 size_t kesvuot_read_sections(const void *file, size_t size, const struct kesvuot_image *image,
                              struct kesvuot_cursor *cursor, struct kesvuot_section *rows, size_t max);
-/* The libraries that the image loads. What it is itself is `id` of the image. */
+/* The libraries that the image loads, by LC_LOAD_DYLIB, LC_LOAD_WEAK_DYLIB, LC_REEXPORT_DYLIB, LC_LAZY_LOAD_DYLIB and
+ * LC_LOAD_UPWARD_DYLIB. What it is itself is `id` of the image. */
 size_t kesvuot_read_libraries(const void *file, size_t size, const struct kesvuot_image *image,
                               struct kesvuot_cursor *cursor, struct kesvuot_library *rows, size_t max);
 /* Each LC_BUILD_VERSION, and each LC_VERSION_MIN_.. of at least 16 bytes. RULES.md does not list the latter. */
@@ -471,7 +475,8 @@ size_t kesvuot_read_relocations(const void *file, size_t size, const struct kesv
  * OK: the name, which ends before the first zero byte of the strings from strx on. It can be empty.
  * NONE: strx is 0. In a file that was not accepted, also if no zero byte of the strings ends a name there.
  * The call searches for that byte. In a hostile file many symbols can share a long name: to look up all of them takes
- * time in proportion to symbol_count * strings_size, so look up those that you need. */
+ * time in proportion to symbol_count * strings_size, so look up those that you need. To list all in linear time, add up
+ * the sizes of the names, and stop when the sum is more than 4 * strings_size. */
 uint32_t kesvuot_symbol_name(const void *file, size_t size, const struct kesvuot_image *image, uint32_t strx,
                              struct kesvuot_span *name);
 

@@ -12,7 +12,7 @@ import (
 type Image struct {
 	// Bytes are those of the image.
 	Bytes []byte
-	// Place is where the image begins in the file.
+	// Place is where the image begins in the file: 0 exactly if the file is not universal.
 	Place uint64
 	// CPUType and CPUSubtype are those of the header, the second without the capability byte (CPU_SUBTYPE_MASK).
 	CPUType, CPUSubtype uint32
@@ -69,7 +69,8 @@ func (image *Image) ID() *Library {
 	return &library
 }
 
-// Base returns the address of the header, and whether a mapped segment has it.
+// Base returns the address of the header, and whether a mapped segment has the first byte of it. That all of the
+// headers are mapped is header-segment, a strict rule.
 func (image *Image) Base() (address uint64, ok bool) {
 	return uint64(image.numbers.base), image.has(hasBase)
 }
@@ -79,7 +80,8 @@ func (image *Image) Entry() (address uint64, ok bool) {
 	return uint64(image.numbers.entry), image.has(hasEntry)
 }
 
-// A Symtab is an LC_SYMTAB: where the symbols and their names are.
+// A Symtab is an LC_SYMTAB: where the symbols and their names are. Symoff is any number if Nsyms is 0, and so is Stroff
+// if Strsize is 0.
 type Symtab struct {
 	Symoff, Nsyms, Stroff, Strsize uint64
 }
@@ -97,7 +99,8 @@ func (image *Image) Symtab() *Symtab {
 	}
 }
 
-// A Dysymtab is an LC_DYSYMTAB: the groups of symbols, and where the indirect entries are.
+// A Dysymtab is an LC_DYSYMTAB: the groups of symbols, and where the indirect entries are. An index or offset is any
+// number if its count is 0.
 type Dysymtab struct {
 	Ilocalsym, Nlocalsym, Iextdefsym, Nextdefsym, Iundefsym, Nundefsym uint32
 	Indirectsymoff, Nindirectsyms                                      uint64

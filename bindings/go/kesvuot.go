@@ -10,8 +10,8 @@
 //		}
 //	}
 //
-// The verdict and all parts come from libkesvuot, whose calls are proved. All parts of an accepted file lie in the
-// bytes that were passed: there is no offset or count to test. They are slices of those bytes, and nothing is copied.
+// The verdict and all parts come from libkesvuot, whose calls are proved. The bytes of each part of an accepted file
+// lie in the bytes that were passed: test no part. They are slices of those bytes, and nothing is copied.
 // Numbers that RULES.md lists as not judged, and the fields of commands that it does not list, are whatever the file
 // says. Names and fields are those of <mach-o/loader.h> and <mach-o/nlist.h>. A name contains no zero byte.
 //
@@ -121,7 +121,7 @@ func (file *File) SliceCount() int { return file.sliceCount }
 type Slice struct {
 	// Bytes are those of the slice.
 	Bytes []byte
-	// Place is where the slice begins in the file.
+	// Place is where the slice begins in the file: 0 exactly if the file is not universal.
 	Place uint64
 	// CPUType and CPUSubtype are those of the image, or of the universal table if the slice is not read. The second is
 	// without the capability byte (CPU_SUBTYPE_MASK).

@@ -5,7 +5,8 @@ type Segment struct {
 	// Name is the name, such as "__TEXT".
 	Name []byte
 	// Bytes are all Filesize bytes from Fileoff on.
-	Bytes                             []byte
+	Bytes []byte
+	// Vmaddr and Vmsize are not aligned to a page: two segments can share one. Fileoff is any number if Filesize is 0.
 	Vmaddr, Vmsize, Fileoff, Filesize uint64
 	// FirstSection is the index of its first section in Sections, and SectionCount its nsects.
 	FirstSection                    uint64
@@ -48,8 +49,9 @@ type Section struct {
 	// Bytes are all Size bytes from Offset on. There are none if it is ZeroFill.
 	Bytes      []byte
 	Addr, Size uint64
-	Offset     uint32
-	// Align is the exponent of a power of 2. It is not judged, and may be any number.
+	// Offset is any number if Size is 0 or it is ZeroFill.
+	Offset uint32
+	// Align is the exponent of a power of 2. It is not judged, and may be any number. Reloff is any number if Nreloc is 0.
 	Align, Reloff, Nreloc, Flags, Reserved1, Reserved2 uint32
 	// ZeroFill says that a loader fills the section with zeros.
 	ZeroFill bool
@@ -88,7 +90,8 @@ type Library struct {
 	Current, Compatible uint32
 }
 
-// Libraries returns the libraries that the image loads, in command order. What it is itself is ID.
+// Libraries returns the libraries that the image loads, in command order: each LC_LOAD_DYLIB, LC_LOAD_WEAK_DYLIB,
+// LC_REEXPORT_DYLIB, LC_LAZY_LOAD_DYLIB and LC_LOAD_UPWARD_DYLIB. What it is itself is ID.
 func (image *Image) Libraries() []Library {
 	rows := readTable[libraryRow](image, libraryTable, image.numbers.library_count)
 	libraries := make([]Library, len(rows))
@@ -184,7 +187,9 @@ type Symbol struct {
 	// Type is n_type. Sect is n_sect, the number of a section, from 1 on. Do not subtract 1 from it: it is 0 (NO_SECT)
 	// if the symbol is in no section, and may be past the last section, such as in a debugging entry (N_STAB).
 	Type, Sect uint8
-	// Section is the index in Sections of the section with the number Sect, or -1 if the image has no such section.
+	// Section is the index in Sections of the section with the number Sect, whatever the Type is, or -1 if there is none.
+	// The symbol is defined in that section only if its Type is N_SECT and it is no debugging entry (N_STAB): then this is
+	// always an index.
 	Section int
 }
 
@@ -212,7 +217,8 @@ func (image *Image) Symbols() *Symbols {
 
 // Name returns the name of a symbol of this image. It is empty if Strx is 0. The call searches for the end of the name.
 // In a hostile file many symbols can share a long name: to look up all of them takes time in proportion to
-// Nsyms * Strsize.
+// Nsyms * Strsize. To list all in linear time, add up the lengths of the names, and stop when the sum is more than
+// 4 * Strsize.
 func (image *Image) Name(symbol Symbol) []byte { return readName(image, symbol.Strx) }
 
 // LocalSymbols goes over the local symbols of LC_DYSYMTAB, none without it.

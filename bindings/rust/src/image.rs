@@ -48,17 +48,19 @@ impl fmt::Debug for Source<'_> {
 #[derive(Clone, Copy, Debug, PartialEq, Eq)]
 #[non_exhaustive]
 pub struct Symtab {
-    /// Where the symbols begin.
+    /// Where the symbols begin. Any number if `nsyms` is 0.
     pub symoff: u64,
     /// How many symbols there are.
     pub nsyms: u64,
-    /// Where the string table begins.
+    /// Where the string table begins. Any number if `strsize` is 0.
     pub stroff: u64,
     /// How many bytes the string table has.
     pub strsize: u64,
 }
 
 /// The groups of symbols, and where the indirect entries are. (`dysymtab_command`)
+///
+/// An index or offset is any number if its count is 0.
 #[derive(Clone, Copy, Debug, PartialEq, Eq)]
 #[non_exhaustive]
 pub struct Dysymtab {
@@ -104,7 +106,7 @@ impl<'a> Image<'a> {
         self.part(self.raw.slice)
     }
 
-    /// Where the image begins in the file.
+    /// Where the image begins in the file: 0 exactly if the file is not universal.
     #[must_use]
     pub fn place(&self) -> u64 {
         self.raw.slice.offset
@@ -160,7 +162,8 @@ impl<'a> Image<'a> {
             .then(|| Library::new(self.raw.id, self))
     }
 
-    /// The address of the header, before any slide. `None` if no mapped segment has the header.
+    /// The address of the header, before any slide. `None` if no mapped segment has the first byte of the
+    /// header. That all of the headers are mapped is `header-segment`, a strict rule.
     #[must_use]
     pub fn base(&self) -> Option<u64> {
         self.has(ffi::HAS_BASE).then_some(self.raw.base)
@@ -235,7 +238,8 @@ impl<'a> Image<'a> {
         Rows::new(*self, self.raw.section_count)
     }
 
-    /// The libraries that the image loads, in command order. What it is itself is
+    /// The libraries that the image loads, in command order: each `LC_LOAD_DYLIB`, `LC_LOAD_WEAK_DYLIB`,
+    /// `LC_REEXPORT_DYLIB`, `LC_LAZY_LOAD_DYLIB` and `LC_LOAD_UPWARD_DYLIB`. What it is itself is
     /// [`id`](Image::id).
     #[must_use]
     pub fn libraries(&self) -> Rows<'a, Library<'a>> {
@@ -292,7 +296,8 @@ impl<'a> Image<'a> {
     /// The name of a symbol of this image. `None` if its `strx` is 0.
     ///
     /// The call searches for the end of the name. In a hostile file many symbols can share a long
-    /// name: to look up all of them takes time in proportion to `nsyms * strsize`.
+    /// name: to look up all of them takes time in proportion to `nsyms * strsize`. To list all in linear
+    /// time, add up the lengths of the names, and stop when the sum is more than `4 * strsize`.
     #[must_use]
     pub fn name(&self, symbol: &Symbol) -> Option<&'a [u8]> {
         let (status, name) = ffi::symbol_name(self.file, &self.raw, symbol.strx);

@@ -1,9 +1,9 @@
 //! Judges the layout of Mach-O files, and reads the parts of an accepted file.
 //!
 //! The verdict and all parts come from `libkesvuot`, whose calls are proved. After [`verify`] has
-//! accepted a file, every part that an [`Image`] returns lies in the bytes that you passed: there
-//! is no offset, count or index to test. Nothing is copied. Numbers that RULES.md lists as not
-//! judged, and the fields of commands that it does not list, are whatever the file says.
+//! accepted a file, the bytes of each part that an [`Image`] returns lie in the bytes that you
+//! passed: test no part. Nothing is copied. Numbers that RULES.md lists as not judged, and the fields
+//! of commands that it does not list, are whatever the file says.
 //!
 //! ```
 //! # let path = concat!(env!("CARGO_MANIFEST_DIR"), "/../../tests/real/program");

@@ -24,11 +24,12 @@ pub struct Segment<'a> {
     pub name: &'a [u8],
     /// All `filesize` bytes from `fileoff` on.
     pub bytes: &'a [u8],
-    /// The first address, before any slide.
+    /// The first address, before any slide. It is not aligned to a page, and neither is `vmsize`: two
+    /// segments can share a page.
     pub vmaddr: u64,
     /// How many addresses the segment has.
     pub vmsize: u64,
-    /// Where its bytes begin in the image.
+    /// Where its bytes begin in the image. Any number if `filesize` is 0.
     pub fileoff: u64,
     /// How many bytes it has in the file.
     pub filesize: u64,
@@ -102,11 +103,11 @@ pub struct Section<'a> {
     pub addr: u64,
     /// How many addresses the section has.
     pub size: u64,
-    /// Where its bytes begin in the image.
+    /// Where its bytes begin in the image. Any number if `size` is 0 or `bytes` is `None`.
     pub offset: u32,
-    /// Its alignment, as an exponent of 2.
+    /// Its alignment, as an exponent of 2. Any number.
     pub align: u32,
-    /// Where its relocations begin in the image.
+    /// Where its relocations begin in the image. Any number if `nreloc` is 0.
     pub reloff: u32,
     /// How many relocations it has.
     pub nreloc: u32,
@@ -365,8 +366,9 @@ pub struct Symbol {
     /// symbol is in no section, and may be past the last section, such as in a debugging entry
     /// (`N_STAB`).
     pub sect: u8,
-    /// The index in [`Image::sections`](crate::Image::sections) of the section with the number `sect`.
-    /// `None` if the image has no such section.
+    /// The index in [`Image::sections`](crate::Image::sections) of the section with the number `sect`,
+    /// whatever the type is, or `None` if there is none. The symbol is defined in that section only if
+    /// its type is `N_SECT` and it is no debugging entry (`N_STAB`): then this is always an index.
     pub section: Option<usize>,
 }
 

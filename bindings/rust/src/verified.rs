@@ -226,7 +226,7 @@ impl<'a> Slice<'a> {
         self.image.bytes()
     }
 
-    /// Where the slice begins in the file.
+    /// Where the slice begins in the file: 0 exactly if the file is not universal.
     #[must_use]
     pub fn place(&self) -> u64 {
         self.image.place()
