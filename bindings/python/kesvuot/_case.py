@@ -237,5 +237,3 @@ def is_same(part: Part, wanted: FilePart) -> bool:
     if wanted.kind == "table":
         return part.described == wanted.described and part.start == wanted.start
     return part.kind == "universal header" or part.described == wanted.described
-
-

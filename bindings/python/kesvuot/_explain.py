@@ -230,5 +230,3 @@ def _part_object(case: Case, part: Optional[FilePart]) -> Optional[Dict[str, Any
     structure = case.structure(part)
     return {"kind": part.kind, "name": case.name(part), "start": part.start, "size": part.size,
             "structure": structure and structure[0], "described": part.described, "index": part.index}
-
-
