@@ -1,6 +1,7 @@
 # shellcheck shell=sh disable=SC2034,SC2154 # ./macho-check and ./test read this, and set `top` first
-# The record of a built program: the kit, a hash of the sources, and a hash of the program, one per line. A program
-# that is not as recorded is not run. The record guards against mistakes, not against someone who can write to out/.
+# The record of a built program: the kit, a hash of the sources, a hash of the program, and a stamp of the sources, one
+# per line. A program that is not as recorded is not run. The record guards against mistakes, not against someone who
+# can write to out/.
 
 # take_program NAME: sets the paths of the program of a command, or of the library in both its forms, and of its record.
 take_program() {
@@ -37,6 +38,13 @@ hash_of_sources() {
     printf '%s\n' "$list" | LC_ALL=C sort | sha256sum
 }
 
+# Prints a hash of the names, sizes and times of change of all sources, in a third of the time. A write sets the time of
+# change, which no tool sets back, so sources with the recorded stamp are those that were hashed.
+stamp_of_sources() {
+    list=$(find_in_sources ! -type d -printf '%p %y %s %C@\n') || return
+    printf '%s\n' "$list" | LC_ALL=C sort | sha256sum
+}
+
 # Finds the kit and its name. `rt version` prints the kit's file KIT-ID too, but takes 0.2 s.
 find_kit() {
     rt=$(readlink -f -- "$(command -v rt)") || return
@@ -49,11 +57,12 @@ find_kit() {
 is_current() {
     reason="no build of it is recorded"
     [ -x "$program" ] && [ -r "$kept/record" ] || return
-    { read -r old_kit && read -r old_sources && read -r built && [ -n "$built" ]; } <"$kept/record" || return
+    { read -r old_kit && read -r old_sources && read -r built && read -r old_stamp && [ -n "$built" ]; } \
+        <"$kept/record" || return
     reason="it is not what was built"
     [ "$(hash_of_program)" = "$built" ] || return
     reason="the sources have changed"
-    [ "$(hash_of_sources)" = "$old_sources" ] || return
+    [ "$(stamp_of_sources)" = "$old_stamp" ] || [ "$(hash_of_sources)" = "$old_sources" ] || return
     reason="the kit has changed"
     ! find_kit || [ "$kit" = "$old_kit" ]
 }
@@ -66,7 +75,7 @@ made_of() {
 # begin_record FILE: notes the sources before a build. The time of the file is when the build started.
 begin_record() {
     started=$1
-    touch "$started" && before=$(made_of)
+    touch "$started" && stamp=$(stamp_of_sources) && before=$(made_of)
 }
 
 # Whether the sources are still as noted. An edit that was undone during the build shows in the time of its change.
@@ -76,5 +85,5 @@ is_unchanged() {
 
 # Records the program after it is built.
 write_record() {
-    built=$(hash_of_program) && mkdir -p "$kept" && printf '%s\n' "$before" "$built" >"$kept/record"
+    built=$(hash_of_program) && mkdir -p "$kept" && printf '%s\n' "$before" "$built" "$stamp" >"$kept/record"
 }
