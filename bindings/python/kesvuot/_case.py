@@ -11,8 +11,8 @@ from ._layout import plain
 from ._names import opcode_name
 from ._parts import FAT_ENTRIES, TABLES, Part, TableForm, image_parts, slices_of
 from ._structures import STRUCTURES, field_of, number_in, size_of, structure_of
+from .constants import LC_SYMTAB
 
-LC_SYMTAB = 0x2
 # A longer name is cut. One of the file can have any length.
 NAME_LENGTH = 80
 

@@ -12,13 +12,13 @@ from ._check import ACCEPTED, NO_VERDICT, Choice, Outcome, Target, judge
 from ._files import File, Image, Slice
 from ._layout import libraries_of, plain
 from ._names import (
-    FILETYPES, LC_ID_DYLIB, LIBRARIES, command_name, platform_name, protection_text, version_text)
+    FILETYPES, LIBRARIES, command_name, platform_name, protection_text, version_text)
 from ._output import GREEN, RED, Output, coloured, say
 from ._reports import reason_text, shown
 from ._structures import LISTED, STRUCTURES
+from .constants import LC_DYSYMTAB, LC_ID_DYLIB, LC_SYMTAB
 
 SAME, DIFFERENT, NOT_COMPARED = range(3)
-LC_SYMTAB, LC_DYSYMTAB = 0x2, 0xB
 # Of these fields are compared, and not all bytes: LC_SEGMENT_64, LC_UUID, LC_BUILD_VERSION, LC_MAIN, LC_VERSION_MIN_..,
 # and libraries.
 READ = {0x19, 0x1B, 0x32, 0x8000_0028, 0x24, 0x25, 0x2F, 0x30, *LIBRARIES}

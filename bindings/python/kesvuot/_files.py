@@ -15,8 +15,7 @@ from ._library import CHANGED, IMAGE, SPAN, TEXT, VERDICT, Bytes, Data, address_
 from ._opcodes import Bind, Rebase
 from ._rows import (
     Build, Command, Library, Reader, Relocation, Section, Segment, Symbol, Table, WalkedReader)
-
-LC_LOAD_DYLINKER, LC_RPATH = 0xE, 0x8000_001C
+from .constants import LC_LOAD_DYLINKER, LC_RPATH
 
 # Room for the layout of most files. A longer one takes a second call.
 LAYOUT_ROOM = 1 << 14

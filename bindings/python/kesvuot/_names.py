@@ -2,6 +2,9 @@
 
 from __future__ import annotations
 
+from . import constants
+from .constants import LC_ID_DYLIB
+
 # PLATFORM_*, for LC_BUILD_VERSION.
 PLATFORMS = {
     1: "macOS", 2: "iOS", 3: "tvOS", 4: "watchOS", 5: "bridgeOS", 6: "Mac Catalyst", 7: "iOS Simulator",
@@ -10,28 +13,13 @@ PLATFORMS = {
 # MH_*: those filetypes that are judged.
 FILETYPES = {2: "program", 6: "library", 8: "bundle"}
 
-LC_ID_DYLIB, LC_LOAD_DYLINKER, LC_RPATH = 0xD, 0xE, 0x8000_001C
-
 # What an image has to do with a library that it names.
 LIBRARIES = {
     LC_ID_DYLIB: "its own name", 0xC: "loaded", 0x8000_0018: "loaded if it is there", 0x8000_001F: "re-exported",
     0x20: "loaded when it is needed", 0x8000_0023: "loaded, upward"}
 
-# The load commands, without LC_.
-COMMANDS = {
-    0x1: "SEGMENT", 0x2: "SYMTAB", 0x3: "SYMSEG", 0x4: "THREAD", 0x5: "UNIXTHREAD", 0x6: "LOADFVMLIB", 0x7: "IDFVMLIB",
-    0x8: "IDENT", 0x9: "FVMFILE", 0xA: "PREPAGE", 0xB: "DYSYMTAB", 0xC: "LOAD_DYLIB", 0xD: "ID_DYLIB",
-    0xE: "LOAD_DYLINKER", 0xF: "ID_DYLINKER", 0x10: "PREBOUND_DYLIB", 0x11: "ROUTINES", 0x12: "SUB_FRAMEWORK",
-    0x13: "SUB_UMBRELLA", 0x14: "SUB_CLIENT", 0x15: "SUB_LIBRARY", 0x16: "TWOLEVEL_HINTS", 0x17: "PREBIND_CKSUM",
-    0x19: "SEGMENT_64", 0x1A: "ROUTINES_64", 0x1B: "UUID", 0x1D: "CODE_SIGNATURE", 0x1E: "SEGMENT_SPLIT_INFO",
-    0x20: "LAZY_LOAD_DYLIB", 0x21: "ENCRYPTION_INFO", 0x22: "DYLD_INFO", 0x24: "VERSION_MIN_MACOSX",
-    0x25: "VERSION_MIN_IPHONEOS", 0x26: "FUNCTION_STARTS", 0x27: "DYLD_ENVIRONMENT", 0x29: "DATA_IN_CODE",
-    0x2A: "SOURCE_VERSION", 0x2B: "DYLIB_CODE_SIGN_DRS", 0x2C: "ENCRYPTION_INFO_64", 0x2D: "LINKER_OPTION",
-    0x2E: "LINKER_OPTIMIZATION_HINT", 0x2F: "VERSION_MIN_TVOS", 0x30: "VERSION_MIN_WATCHOS", 0x31: "NOTE",
-    0x32: "BUILD_VERSION", 0x36: "ATOM_INFO", 0x37: "FUNCTION_VARIANTS", 0x38: "FUNCTION_VARIANT_FIXUPS",
-    0x39: "TARGET_TRIPLE", 0x8000_0018: "LOAD_WEAK_DYLIB", 0x8000_001C: "RPATH", 0x8000_001F: "REEXPORT_DYLIB",
-    0x8000_0022: "DYLD_INFO_ONLY", 0x8000_0023: "LOAD_UPWARD_DYLIB", 0x8000_0028: "MAIN",
-    0x8000_0033: "DYLD_EXPORTS_TRIE", 0x8000_0034: "DYLD_CHAINED_FIXUPS", 0x8000_0035: "FILESET_ENTRY"}
+# The load commands.
+COMMANDS = {number: name for name, number in vars(constants).items() if name.startswith("LC_")}
 
 # The opcodes of LC_DYLD_INFO by their upper four bits: without REBASE_OPCODE_, and without BIND_OPCODE_.
 REBASE_OPCODES = (
@@ -49,7 +37,7 @@ UNITS = ("B", "KiB", "MiB", "GiB", "TiB", "PiB", "EiB")
 
 
 def command_name(cmd: int) -> str:
-    return f"LC_{COMMANDS[cmd]}" if cmd in COMMANDS else f"command {cmd:#x}"
+    return COMMANDS.get(cmd, f"command {cmd:#x}")
 
 
 def opcode_name(byte: int, rebases: bool) -> str:

@@ -9,8 +9,8 @@ from typing import Any, Iterator, NamedTuple, Optional, Tuple
 
 from ._library import Bytes
 from ._rows import _text
+from .constants import LC_DYLD_INFO, LC_DYLD_INFO_ONLY
 
-LC_DYLD_INFO, LC_DYLD_INFO_ONLY = 0x22, 0x8000_0022
 # Of a dyld_info_command: where the offset and the size of each stream are.
 REBASE, BIND, WEAK_BIND, LAZY_BIND = 8, 16, 24, 32
 SPAN = Struct("<2I")

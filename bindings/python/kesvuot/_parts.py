@@ -11,8 +11,10 @@ from typing import Any, Callable, Dict, Iterable, Iterator, List, NamedTuple, Op
 
 from ._files import ARCHITECTURES, File, Image
 from ._layout import plain
-from ._names import FILETYPES, LC_ID_DYLIB, LC_LOAD_DYLINKER, LC_RPATH, LIBRARIES, command_name, protection_text
+from ._names import FILETYPES, LIBRARIES, command_name, protection_text
 from ._structures import LISTED, UNLISTED, number_in, size_of, structure_of
+from .constants import (
+    LC_BUILD_VERSION, LC_ENCRYPTION_INFO_64, LC_ID_DYLIB, LC_LOAD_DYLINKER, LC_NOTE, LC_RPATH, LC_SEGMENT_64)
 
 # fat.h: an entry of a universal file, by its magic number: cputype, cpusubtype, offset, size, align.
 FAT_ENTRIES = {b"\xca\xfe\xba\xbe": Struct(">5I"), b"\xca\xfe\xba\xbf": Struct(">2I2Q2I")}
@@ -22,7 +24,6 @@ MH_MAGIC_64 = b"\xcf\xfa\xed\xfe"
 HEADER, COMMAND = Struct("<8I"), Struct("<2I")
 COMMAND_ALIGN = 8
 SEGMENT, SECTION = Struct("<24x4Q3I4x"), Struct("<32x2Q5I12x")
-LC_SEGMENT_64, LC_ENCRYPTION_INFO_64, LC_NOTE, LC_BUILD_VERSION = 0x19, 0x2C, 0x31, 0x32
 ZERO_FILL_TYPES = {0x1, 0xC, 0x12}
 EXECUTE = 4
 RELOCATION_SIZE = 8

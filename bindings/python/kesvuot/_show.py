@@ -10,10 +10,11 @@ from ._check import ACCEPTED, NO_VERDICT, Choice, Outcome, Target, judge
 from ._files import File, Image, Slice
 from ._layout import layout_objects, libraries_of, plain
 from ._names import (
-    FILETYPES, LC_LOAD_DYLINKER, LC_RPATH, LIBRARIES, count_text, platform_name, protection_text, size_text,
+    FILETYPES, LIBRARIES, count_text, platform_name, protection_text, size_text,
     version_text)
 from ._output import Output, say
 from ._reports import check_object, reason_text, shown
+from .constants import LC_LOAD_DYLINKER, LC_RPATH
 
 # The form of the object of JSON (docs/layout.schema.json). A field may be added without a new version.
 LAYOUT_VERSION = 1

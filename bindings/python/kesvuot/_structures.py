@@ -4,7 +4,8 @@ from __future__ import annotations
 
 from typing import Dict, List, NamedTuple, Tuple
 
-from ._names import LC_LOAD_DYLINKER, LC_RPATH, LIBRARIES
+from ._names import LIBRARIES
+from .constants import LC_LOAD_DYLINKER, LC_RPATH
 
 
 class Field(NamedTuple):
