@@ -57,6 +57,12 @@ STRUCTURES = {
     "entry_point_command": "u32 cmd  u32 cmdsize  u64 entryoff  u64 stacksize",
     # mach-o/nlist.h
     "nlist_64": "u32 n_strx  u8 n_type  u8 n_sect  u16 n_desc  u64 n_value",
+    # mach-o/fixup-chains.h, without the arrays that follow
+    "dyld_chained_fixups_header": "u32 fixups_version  u32 starts_offset  u32 imports_offset  u32 symbols_offset"
+                                  "  u32 imports_count  u32 imports_format  u32 symbols_format",
+    "dyld_chained_starts_in_image": "u32 seg_count",
+    "dyld_chained_starts_in_segment": "u32 size  u16 page_size  u16 pointer_format  u64 segment_offset"
+                                      "  u32 max_valid_pointer  u16 page_count",
 }
 WIDTHS = {"u8": 1, "u16": 2, "u32": 4, "u64": 8, "16bytes": 16}
 
@@ -93,10 +99,15 @@ VM_PROT_READ, VM_PROT_WRITE, VM_PROT_EXECUTE = 1, 2, 4
 LC_SYMTAB, LC_DYSYMTAB, LC_ID_DYLIB, LC_SEGMENT_64 = 0x2, 0xb, 0xd, 0x19
 LC_UUID, LC_ENCRYPTION_INFO_64, LC_BUILD_VERSION, LC_MAIN = 0x1b, 0x2c, 0x32, 0x80000028
 LC_TWOLEVEL_HINTS, LC_ATOM_INFO, LC_FUNCTION_VARIANTS, LC_FUNCTION_VARIANT_FIXUPS = 0x16, 0x36, 0x37, 0x38
+LC_DYLD_CHAINED_FIXUPS = 0x80000034
 
 # Of the opcodes of LC_DYLD_INFO: the types that are judged.
 REBASE_TYPE_POINTER, BIND_TYPE_POINTER = 1, 1
 BIND_SPECIAL_DYLIB_WEAK_LOOKUP = -3
+
+# Of chained fixups: the sizes of a page; and how many ordinals, the greatest ones, are below 0.
+PAGE_SIZES = (0x1000, 0x4000)
+SPECIAL_ORDINALS = 15
 
 # The byte that Apple's linker fills the gaps of code with.
 NOP = b"\x90"
@@ -142,6 +153,15 @@ REBASE_OPCODES, BIND_OPCODES = [
      for opcode, byte, operands in rows_of(r"^\| `(%s_OPCODE_\w+)` \| (0x\w0) \|([a-z, ]*)\|" % family, "LINKED.md")}
     for family in ("REBASE", "BIND")
 ]
+
+# The imports of chained fixups, by `imports_format`: their bytes, and the bits of the ordinal and of the name's offset,
+# each from the first up to and with the last. And the pointer formats that are judged.
+IMPORT_FORMATS = {
+    int(number): (int(size), (int(ordinal), int(last_of_ordinal)), (int(offset), int(last_of_offset)))
+    for number, size, ordinal, last_of_ordinal, offset, last_of_offset in rows_of(
+        r"^\| (\d+) \| `dyld_chained_import\w*` \| (\d+) \| (\d+) to (\d+) \| (\d+) to (\d+) \|", "LINKED.md")
+}
+POINTER_FORMATS = {int(number) for number in rows_of(r"^\| (\d+) \| `DYLD_CHAINED_PTR_\w+` \|$", "LINKED.md")}
 
 # The data of the commands that have some but are not listed: the structure, the start, the count, the bytes per entry.
 UNLISTED_DATA = {
@@ -955,6 +975,120 @@ def bind_names(image):
                     yield run.place
                     break
 
+# Chained fixups. All places and ends are those in the slice.
+
+def chain_table(image):
+    """The chain table, or None. (After `table-repeated` there is at most one.)"""
+    command = image.only(LC_DYLD_CHAINED_FIXUPS)
+    if command is None or command.datasize == 0:
+        return None
+    return SimpleNamespace(start=command.dataoff, size=command.datasize, end=command.dataoff + command.datasize)
+
+def fixups_header(image, table):
+    return read(image.data, table.start, "dyld_chained_fixups_header")
+
+def chain_header(image):
+    """The header is not all in the table; or the version or one of the formats is not known."""
+    table = chain_table(image)
+    if table is None:
+        return
+    if table.size < SIZES["dyld_chained_fixups_header"]:
+        yield table.start
+        return
+    header = fixups_header(image, table)
+    if header.fixups_version != 0 or header.imports_format not in IMPORT_FORMATS or header.symbols_format != 0:
+        yield table.start
+
+def chain_starts(image):
+    """The array is not all in the table, or has more entries than there are segments; or the starts of a segment are
+    broken."""
+    table = chain_table(image)
+    if table is None:
+        return
+    array = table.start + fixups_header(image, table).starts_offset
+    entries = array + SIZES["dyld_chained_starts_in_image"]
+    if entries > table.end:
+        yield table.start
+        return
+    count = read(image.data, array, "dyld_chained_starts_in_image").seg_count
+    if count > len(image.segments) or entries + 4 * count > table.end:
+        yield array
+        return
+    end = 0
+    for segment, place in zip(image.segments, range(entries, entries + 4 * count, 4)):
+        entry = int.from_bytes(image.data[place:place + 4], "little")
+        if entry > 0:
+            if array + entry < end or not are_good_starts(image, table, segment, array + entry):
+                yield place
+                return
+            end = array + entry + read(image.data, array + entry, "dyld_chained_starts_in_segment").size
+
+def are_good_starts(image, table, segment, place):
+    """The starts at a place are in the table, are of a known kind, and say where the segment is, which is writable."""
+    if place + SIZES["dyld_chained_starts_in_segment"] > table.end:
+        return False
+    starts = read(image.data, place, "dyld_chained_starts_in_segment")
+    return (place + starts.size <= table.end
+            and SIZES["dyld_chained_starts_in_segment"] + 2 * starts.page_count <= starts.size
+            and starts.pointer_format in POINTER_FORMATS and starts.page_size in PAGE_SIZES
+            and image.base + starts.segment_offset == segment.vmaddr and is_writable(segment))
+
+def bits(number_of, first, last):
+    """The bits of a number from the first up to and with the last, as a number."""
+    return (number_of >> first) % 2 ** (last - first + 1)
+
+def ordinal_of_import(number_of, first, last):
+    """The ordinal in these bits of an import. The greatest ones are below 0."""
+    ordinal, modulus = bits(number_of, first, last), 2 ** (last - first + 1)
+    return ordinal - modulus if ordinal >= modulus - SPECIAL_ORDINALS else ordinal
+
+def imports(image):
+    """The imports: of each its place, its ordinal and where its name begins. (They are in the table after
+    `chain-imports`, which asks for none where they are not.)"""
+    table = chain_table(image)
+    if table is None:
+        return
+    header = fixups_header(image, table)
+    size, bits_of_ordinal, bits_of_offset = IMPORT_FORMATS[header.imports_format]
+    for k in range(header.imports_count):
+        place = table.start + header.imports_offset + k * size
+        number_of = int.from_bytes(image.data[place:place + size], "little")
+        yield SimpleNamespace(place=place, ordinal=ordinal_of_import(number_of, *bits_of_ordinal),
+                              name=table.start + header.symbols_offset + bits(number_of, *bits_of_offset))
+
+def chain_imports(image):
+    """The imports are not all in the table; or the name of one does not end there."""
+    table = chain_table(image)
+    if table is None:
+        return
+    header = fixups_header(image, table)
+    size, *_ = IMPORT_FORMATS[header.imports_format]
+    if header.imports_count > 0 and header.imports_offset + header.imports_count * size > table.size:
+        yield table.start
+        return
+    last_zero = image.data.rfind(0, table.start, table.end)
+    for one in imports(image):
+        if one.name > last_zero:
+            yield one.place
+            return
+
+def chain_total(image):
+    """The names of the imports up to and with this one, each with its zero byte, have more bytes than the table."""
+    table = chain_table(image)
+    total = 0
+    for one in imports(image):
+        total += image.data.index(0, one.name, table.end) + 1 - one.name
+        if total > table.size:
+            yield one.place
+            return
+
+def chain_library(image):
+    """The ordinal of the import is above the number of libraries, or below -3."""
+    count = library_count(image)
+    for one in imports(image):
+        if one.ordinal > count or one.ordinal < BIND_SPECIAL_DYLIB_WEAK_LOOKUP:
+            yield one.place
+
 # Order of judgment
 
 RULES_OF_THE_FILE = [
@@ -974,6 +1108,7 @@ STRICT_RULES_OF_AN_IMAGE = [
 LINKED_RULES_OF_AN_IMAGE = [
     table_repeated, function_variants, table_home, header_home, rebase_opcode, rebase_slot, rebase_total, bind_opcode,
     bind_library, bind_symbol, bind_slot, bind_total, bind_names,
+    chain_header, chain_starts, chain_imports, chain_total, chain_library,
 ]
 
 def first_of(file, rules_of_the_file, rules_of_an_image):
