@@ -117,7 +117,7 @@ def judge_vectors(report):
     linked = names_of(oracle.LINKED_RULES_OF_AN_IMAGE)
     report.case("rules that no vector breaks first", [rule for rule in linked if not rules[rule]], [])
     report.case("rules without which no vector breaks the promise", [rule for rule in linked if not astray[rule]],
-                ["table-repeated", "function-variants"])
+                ["function-variants"])
 
 def read_files(folders):
     paths = [REAL / "program", REAL / "library"]
@@ -214,7 +214,7 @@ def main():
     files = read_files(words.folders)
     corpus = [data for _, data in files if len(data) <= MOST_BYTES] + [v.data for v in read_vectors(VECTORS)]
     work = argparse.Namespace(
-        seed=words.seed, corpus=[data for data in corpus if table_mutants.streams(data)
+        seed=words.seed, corpus=[data for data in corpus if table_mutants.tables(data)
                                  and rule_of(verdict_on(data)) in ("accepted", "rebase-total", "bind-total")])
     if words.first:
         print("the first breach: %s" % find_breach(words.count), file=sys.stderr)

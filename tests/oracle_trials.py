@@ -262,8 +262,8 @@ def repeat_range(rng, data, _):
     return data[:place] + (start % 2 ** (8 * width)).to_bytes(width, "little") + count + data[place + 2 * width:]
 
 def change_table(rng, data, _):
-    """A stream of opcodes is changed, or what it depends on."""
-    return table_mutants.change(rng, data) if table_mutants.streams(data) else data
+    """A stream of opcodes or a chain table is changed, or what it depends on."""
+    return table_mutants.change(rng, data)
 
 # With how often each is taken; and the ways that are taken as well where a further profile is judged.
 WAYS = {set_field: 65, set_range: 8, cut: 5, splice: 8, exchange: 6, add_command: 8, wrap: 6, set_magic: 1}

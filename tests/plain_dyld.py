@@ -1,11 +1,13 @@
 """The plain dyld of docs/LINKED.md, under watch: it follows the opcodes of an image, checks nothing, and really writes.
+Of a chain table it reads the header, the imports and the starts, and does not follow the chains.
 
 Its memory is a copy of the file bytes of the mapped segments, with zeros after them, and with other bytes where a
 kernel decrypts some. What it does is compared with what the linked profile promises, and the first thing that breaks
-the promise raises `Breach`: a byte of a stream or of the headers that is read outside of them, that cannot be read, or
+the promise raises `Breach`: a byte of a table or of the headers that is read outside of them, that cannot be read, or
 that is no longer the file's; a write that is no whole pointer in the file bytes of one writable segment; a segment or a
-library that is not there; more writes of a stream than the budget, or more steps than its bytes and writes explain. So
-it ends on all files, and on one that breaks the rules it says how.
+library that is not there; pages that are not those of the segment, or cannot be written; more writes of a stream than
+the budget, or more steps than the bytes and writes explain. So it ends on all files, and on one that breaks the rules
+it says how.
 
 Of tests/oracle.py it takes the commands of an image, and nothing that decodes a stream.
 """
@@ -37,10 +39,19 @@ BIND_OPCODE_DO_BIND_ADD_ADDR_ULEB = 0xa0
 BIND_OPCODE_DO_BIND_ADD_ADDR_IMM_SCALED = 0xb0
 BIND_OPCODE_DO_BIND_ULEB_TIMES_SKIPPING_ULEB = 0xc0
 LC_DYLD_INFO, LC_DYLD_INFO_ONLY = 0x22, 0x80000022
+LC_DYLD_CHAINED_FIXUPS = 0x80000034
 LOADS = (0xc, 0x80000018, 0x8000001f, 0x20, 0x80000023)
 LC_ENCRYPTION_INFO_64 = 0x2c
 VM_PROT_READ, VM_PROT_WRITE = 1, 2
 SG_PROTECTED_VERSION_1 = 8
+
+# mach-o/fixup-chains.h. Of an import, by its format: its size, how many bits its ordinal has, and from which bit up to
+# which one the offset of its name is.
+DYLD_CHAINED_IMPORT, DYLD_CHAINED_IMPORT_ADDEND, DYLD_CHAINED_IMPORT_ADDEND64 = 1, 2, 3
+IMPORTS = {DYLD_CHAINED_IMPORT: (4, 8, 9, 32), DYLD_CHAINED_IMPORT_ADDEND: (8, 8, 9, 32),
+           DYLD_CHAINED_IMPORT_ADDEND64: (16, 16, 32, 64)}
+POINTER_FORMATS = {1: "ARM64E", 2: "64", 6: "64_OFFSET", 9: "ARM64E_USERLAND", 12: "ARM64E_USERLAND24"}
+PAGE_SIZES = (0x1000, 0x4000)
 
 POINTER = 8
 WORD = 2 ** 64
@@ -145,34 +156,37 @@ class Dyld:
             raise Breach("there is no name")
         return self.name_at(name)
 
-    # A stream, in memory. It is where the last segment named __LINKEDIT has it.
+    # A table, in memory. It is where the last segment named __LINKEDIT has it.
 
-    def begin(self, start, size):
+    def begin(self, start, size, steps_of_byte):
+        """Begins a table. So many steps for each of its bytes are promised, besides those for writes."""
         named = [segment for segment in self.image.segments if segment.segname.split(b"\0")[0] == b"__LINKEDIT"]
         if not named:
-            raise Breach("the stream at 0x%x is not found" % start)
+            raise Breach("the table at 0x%x is not found" % start)
         self.place = start
         self.start, self.end = start, start + size
+        self.steps = self.written = 0
+        self.steps_of_byte = steps_of_byte
         self.to_address = named[-1].vmaddr - named[-1].fileoff
 
-    def stream_byte(self, place):
+    def table_byte(self, place):
         if not self.start <= place < self.end:
-            raise Breach("0x%x is read, which is not in the stream" % place)
+            raise Breach("0x%x is read, which is not in the table" % place)
         byte = self.memory.read_judged((place + self.to_address) % WORD, 1)[0]
         if byte != self.image.data[place]:
-            raise Breach("the opcode at 0x%x has changed" % place)
+            raise Breach("the byte at 0x%x has changed" % place)
         return byte
 
     def step(self):
-        """A step more: of the bytes of the stream and of its names, and of the writes."""
+        """A step more: of the bytes of the table and of its names, and of the writes."""
         self.steps += 1
-        if self.steps > 2 * (self.end - self.start) + self.written + 1:
+        if self.steps > self.steps_of_byte * (self.end - self.start) + self.written + 1:
             raise Breach("%d bytes and %d writes took more steps" % (self.end - self.start, self.written))
 
     def next_byte(self):
         self.step()
         self.place += 1
-        return self.stream_byte(self.place - 1)
+        return self.table_byte(self.place - 1)
 
     def digits(self):
         """The low seven bits of each byte of a number, the first the lowest, and how many bits these are."""
@@ -203,7 +217,7 @@ class Dyld:
         name = bytearray()
         while True:
             self.step()
-            byte = self.stream_byte(place + len(name))
+            byte = self.table_byte(place + len(name))
             if byte == 0:
                 return bytes(name)
             name.append(byte)
@@ -304,9 +318,66 @@ class Dyld:
             else:
                 raise Breach("0x%02x is no opcode" % byte)
 
+    # A chain table
+
+    def number_at(self, place, width):
+        """A number of the table, at any place."""
+        content = bytearray()
+        for byte in range(place, place + width):
+            self.step()
+            content.append(self.table_byte(byte))
+        return int.from_bytes(content, "little")
+
+    def read_imports(self, first, count, form, symbols):
+        """Looks up each import."""
+        if form not in IMPORTS:
+            raise Breach("imports of format %d are not known" % form)
+        size, bits, name_bit, name_end = IMPORTS[form]
+        for k in range(count):
+            raw = self.number_at(first + k * size, size)
+            ordinal = raw % (1 << bits)
+            # The ordinals up to 0xf0, or 0xfff0, are those of libraries.
+            if ordinal > (1 << bits) - 16:
+                ordinal -= 1 << bits
+            self.look_up(ordinal, symbols + (raw % (1 << name_end) >> name_bit))
+
+    def read_starts(self, array):
+        """Reads the starts of each segment that has some."""
+        for k in range(self.number_at(array, 4)):
+            offset = self.number_at(array + 4 + 4 * k, 4)
+            if offset != 0:
+                self.read_pages(k, array + offset)
+
+    def read_pages(self, segment, starts):
+        """Reads where the pages of a segment are, and the start of each chain. No chain is followed."""
+        page_size, form = self.number_at(starts + 4, 2), self.number_at(starts + 6, 2)
+        if form not in POINTER_FORMATS or page_size not in PAGE_SIZES:
+            raise Breach("pointers of format %d in pages of %d bytes are not known" % (form, page_size))
+        address = (self.image.base + self.number_at(starts + 8, 8)) % WORD
+        if address != self.address_of(segment, 0):
+            raise Breach("0x%x is not where segment %d is" % (address, segment))
+        if self.memory.part_of(address, 1)[0].initprot & VM_PROT_WRITE == 0:
+            raise Breach("segment %d, of pointers, is not writable" % segment)
+        for page in range(self.number_at(starts + 20, 2)):
+            self.number_at(starts + 22 + 2 * page, 2)
+
+    def read_chains(self, start, size):
+        """Reads the table. A byte can be one of the header, an import, a name, the array and the starts: five steps."""
+        if size == 0:
+            return
+        self.begin(start, size, 5)
+        version, starts_offset, imports_offset, symbols_offset, count, form, symbols_format = (
+            self.number_at(start + 4 * k, 4) for k in range(7))
+        if version != 0 or symbols_format != 0:
+            raise Breach("a table of version %d with symbols of format %d is not known" % (version, symbols_format))
+        self.read_imports(start + imports_offset, count, form, start + symbols_offset)
+        self.read_starts(start + starts_offset)
+
     def load(self):
-        """Follows the streams of each command that names some."""
+        """Follows the streams of each command that names some, and reads each chain table."""
         for command in self.image.listed:
+            if command.cmd == LC_DYLD_CHAINED_FIXUPS:
+                self.read_chains(command.dataoff, command.datasize)
             if command.cmd in (LC_DYLD_INFO, LC_DYLD_INFO_ONLY):
                 self.follow("rebase", command.rebase_off, command.rebase_size)
                 self.follow("bind", command.bind_off, command.bind_size)
@@ -316,8 +387,7 @@ class Dyld:
     def follow(self, stream, start, size):
         if size == 0:
             return
-        self.begin(start, size)
-        self.steps = self.written = 0
+        self.begin(start, size, 2)
         if stream == "rebase":
             self.follow_rebases()
         else:

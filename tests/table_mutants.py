@@ -1,5 +1,6 @@
-"""Mutants of tables: of the streams of opcodes that LC_DYLD_INFO names, and of what they depend on. Each way changes a
-file and keeps its length, so most mutants break no rule of the layout or of the strict profile.
+"""Mutants of tables: of the streams of opcodes that LC_DYLD_INFO names, of the chain table of LC_DYLD_CHAINED_FIXUPS,
+and of what they depend on. Each way changes a file and keeps its length, so most mutants break no rule of the layout or
+of the strict profile.
 
 tests/dyld_trials.py uses them. Nothing of the oracle is used here, so that a mistake in it does not hide itself.
 """
@@ -8,12 +9,25 @@ from collections import namedtuple
 
 MAGIC_64 = bytes.fromhex("cffaedfe")
 LC_SEGMENT_64, LC_DYLD_INFO, LC_DYLD_INFO_ONLY = 0x19, 0x22, 0x80000022
+LC_DYLD_CHAINED_FIXUPS = 0x80000034
 LOADS = (0xc, 0x80000018, 0x8000001f, 0x20, 0x80000023)
 STREAMS = ("rebase", "bind", "weak", "lazy")
 WORD = 2 ** 64
 
 # A stream: its name, the place of its start in the command, and where its bytes are in the file.
 Stream = namedtuple("Stream", "name field start end")
+
+# A chain table: as of a stream, without a name.
+Chains = namedtuple("Chains", "field start end")
+
+# mach-o/fixup-chains.h. The size of a header, whose fields have 4 bytes each; the fields of the starts of a segment,
+# each with its offset and width, and their size; and the size of an import, by its format.
+HEADER_SIZE = 28
+STARTS_FIELDS = ((0, 4), (4, 2), (6, 2), (8, 8), (16, 4), (20, 2))
+STARTS_SIZE = 22
+IMPORT_SIZES = {1: 4, 2: 8, 3: 16}
+# No more than so many items of one kind are changed.
+MOST_ITEMS = 40
 
 # The operands of an opcode, by its upper four bits: `n` is a number, `s` a number with a sign, `t` a text.
 REBASE_OPERANDS = {0x20: "n", 0x30: "n", 0x60: "n", 0x70: "n", 0x80: "nn"}
@@ -52,6 +66,20 @@ def streams(data):
                     if 0 < size and start + size <= len(data):
                         found.append(Stream(name, field, start, start + size))
     return found
+
+def chains(data):
+    """The chain tables of a file that have bytes."""
+    found = []
+    for image in starts_of_images(data):
+        for place in commands(data, image):
+            if word(data, place) == LC_DYLD_CHAINED_FIXUPS and word(data, place + 4) >= 16:
+                start, size = image + word(data, place + 8), word(data, place + 12)
+                if 0 < size and start + size <= len(data):
+                    found.append(Chains(place + 8, start, start + size))
+    return found
+
+def tables(data):
+    return streams(data) + chains(data)
 
 def number_end(data, place, end):
     """Where a number ends, if it does before the end."""
@@ -228,14 +256,101 @@ def set_library(rng, data, _):
     place = rng.choice(places)
     return data[:place] + rng.choice((*LOADS, 0x7fffffff)).to_bytes(4, "little") + data[place + 4:]
 
+# The ways of a chain table
+
+def entries(data, table):
+    """The places of the entries of the array, roughly."""
+    array = table.start + word(data, table.start + 4)
+    return [array + 4 + 4 * k for k in range(min(word(data, array), MOST_ITEMS)) if array + 8 + 4 * k <= table.end]
+
+def imports(data, table):
+    """The places of the imports, roughly, and the size of each."""
+    size = IMPORT_SIZES.get(word(data, table.start + 20), 4)
+    first = table.start + word(data, table.start + 8)
+    count = min(word(data, table.start + 16), MOST_ITEMS)
+    return [first + k * size for k in range(count) if first + (k + 1) * size <= table.end], size
+
+def chain_fields(data, table):
+    """The numbers of a chain table, roughly: of each its place and its width."""
+    array = table.start + word(data, table.start + 4)
+    fields = [(table.start + offset, 4) for offset in range(0, HEADER_SIZE, 4)] + [(array, 4)]
+    for entry in entries(data, table):
+        fields.append((entry, 4))
+        starts = array + word(data, entry)
+        if starts > array:
+            fields += [(starts + offset, width) for offset, width in STARTS_FIELDS]
+            pages = min(word(data, starts + 20, 2), MOST_ITEMS)
+            fields += [(starts + STARTS_SIZE + 2 * page, 2) for page in range(pages)]
+    places, size = imports(data, table)
+    fields += [(place + offset, 4) for place in places for offset in range(0, size, 4)]
+    return [(place, width) for place, width in fields if place + width <= table.end]
+
+def set_word(data, place, number, width=4):
+    return data[:place] + (number % 2 ** (8 * width)).to_bytes(width, "little") + data[place + width:]
+
+def set_chain_field(rng, data, table):
+    """A number is another one: near what was there, near the size of the table or the room that is left, or special."""
+    fields = chain_fields(data, table)
+    if not fields:
+        return set_byte(rng, data, table)
+    place, width = rng.choice(fields)
+    before, size = word(data, place, width), table.end - table.start
+    near = rng.choice((0, -1, 1, -2, 2, -4, 4, -8, 8, 16, rng.randrange(-64, 64)))
+    number = rng.choice((before + near, before + near, size + near, table.end - place + near, near, rng.randrange(16),
+                         2 ** (8 * width - 1) + near, -rng.randrange(1, 20), 0x1000, 0x4000))
+    return set_word(data, place, number, width)
+
+def set_ordinal(rng, data, table):
+    """An import is of another library."""
+    places, _ = imports(data, table)
+    if not places:
+        return set_byte(rng, data, table)
+    place = rng.choice(places)
+    ordinal = rng.choice((0, 1, 2, 3, rng.randrange(256), 0xf0, 0xf1, 0xfc, 0xfd, 0xfe, 0xff))
+    if rng.random() < 0.3:
+        return set_word(data, place, ordinal | 0xff00 if ordinal >= 0xf0 else ordinal, 2)
+    return set_word(data, place, ordinal, 1)
+
+def repeat_import(rng, data, table):
+    """Imports are there again in place of others, once or often."""
+    places, size = imports(data, table)
+    if not places:
+        return set_byte(rng, data, table)
+    one = rng.choice(places)
+    content = data[one:one + size]
+    for place in rng.sample(places, rng.randrange(1, len(places) + 1)):
+        data = data[:place] + content + data[place + size:]
+    return data
+
+def exchange_entries(rng, data, table):
+    """The starts of two segments are exchanged, or those of one are those of the other."""
+    places = entries(data, table)
+    if len(places) < 2:
+        return set_byte(rng, data, table)
+    one, other = rng.sample(places, 2)
+    first, second = word(data, one), word(data, other)
+    data = set_word(data, one, second)
+    return set_word(data, other, first) if rng.random() < 0.7 else data
+
+def lose_zero(rng, data, table):
+    """A zero byte among the last ones is none, so a name goes on; or another one is zero."""
+    last = rng.choice((1, 2, 4, 16, table.end - table.start))
+    place = rng.randrange(max(table.start, table.end - last), table.end)
+    return set_word(data, place, 0 if data[place] else 0x61, 1)
+
 # With how often each is taken.
 WAYS = {set_number: 40, flip_bit: 20, set_byte: 15, add_opcode: 20, set_opcode: 20, remove_opcodes: 8,
         repeat_opcodes: 12, move_table: 4, move_tables: 2, set_protection: 3, set_size: 3, set_library: 1}
 
+CHAIN_WAYS = {set_chain_field: 50, flip_bit: 12, set_byte: 8, set_ordinal: 8, repeat_import: 8, exchange_entries: 4,
+              lose_zero: 8, move_table: 4, set_protection: 3, set_size: 3, set_library: 1}
+
 def change(rng, data):
     """The file with one change of a table, or of what it depends on."""
-    found = streams(data)
+    found = tables(data)
     if not found:
         return data
-    way = rng.choices(list(WAYS), list(WAYS.values()))[0]
-    return way(rng, data, rng.choice(found))
+    table = rng.choice(found)
+    ways = CHAIN_WAYS if isinstance(table, Chains) else WAYS
+    way = rng.choices(list(ways), list(ways.values()))[0]
+    return way(rng, data, table)
