@@ -228,6 +228,40 @@ struct nlist_64 {
 
 #define RELOCATION_INFO_SIZE 8u
 
+// mach-o/fixup-chains.h. An array of numbers of 32 bits follows the second structure.
+
+#define DYLD_CHAINED_IMPORT 1u
+#define DYLD_CHAINED_IMPORT_ADDEND 2u
+#define DYLD_CHAINED_IMPORT_ADDEND64 3u
+
+#define DYLD_CHAINED_PTR_ARM64E 1u
+#define DYLD_CHAINED_PTR_64 2u
+#define DYLD_CHAINED_PTR_64_OFFSET 6u
+#define DYLD_CHAINED_PTR_ARM64E_USERLAND 9u
+#define DYLD_CHAINED_PTR_ARM64E_USERLAND24 12u
+
+struct dyld_chained_fixups_header {
+    uint32_t fixups_version, starts_offset, imports_offset, symbols_offset, imports_count, imports_format,
+        symbols_format;
+};
+
+struct dyld_chained_starts_in_image {
+    uint32_t seg_count;
+};
+
+struct dyld_chained_starts_in_segment {
+    uint32_t size;
+    uint16_t page_size, pointer_format;
+    uint64_t segment_offset;
+    uint32_t max_valid_pointer;
+    uint16_t page_count, page_start[1];
+};
+
+#define ENTRY_OF_SEGMENT_SIZE sizeof(uint32_t)
+
+// How many ordinals, the greatest ones, are below 0.
+#define SPECIAL_ORDINALS 15u
+
 // The byte that Apple's linker fills the gaps of code with.
 #define NOP 0x90u
 
@@ -236,6 +270,7 @@ struct nlist_64 {
 static inline uint64_t read_little(const uint8_t *at, size_t width) {
     uint64_t wide;
     uint32_t narrow;
+    uint16_t half;
     if (width == sizeof wide) {
         memcpy(&wide, at, sizeof wide);
         return wide;
@@ -243,6 +278,10 @@ static inline uint64_t read_little(const uint8_t *at, size_t width) {
     if (width == sizeof narrow) {
         memcpy(&narrow, at, sizeof narrow);
         return narrow;
+    }
+    if (width == sizeof half) {
+        memcpy(&half, at, sizeof half);
+        return half;
     }
     return *at;
 }
@@ -2013,6 +2052,165 @@ static void judge_streams(const struct linked *linked, const uint8_t *command, c
     }
 }
 
+// A chain table: its place, and its bytes.
+struct chains {
+    const struct linked *linked;
+    uint64_t start, size;
+    const uint8_t *bytes;
+};
+
+#define HEADER_FIELD(chains, field) FIELD((chains)->bytes, dyld_chained_fixups_header, field)
+
+static bool breaks_chain_header(const struct chains *chains) {
+    if (chains->size < sizeof(struct dyld_chained_fixups_header)) {
+        return true;
+    }
+    uint64_t format = HEADER_FIELD(chains, imports_format);
+    return HEADER_FIELD(chains, fixups_version) != 0 || HEADER_FIELD(chains, symbols_format) != 0 ||
+        format < DYLD_CHAINED_IMPORT || format > DYLD_CHAINED_IMPORT_ADDEND64;
+}
+
+static inline bool is_pointer_format(uint64_t format) {
+    return format == DYLD_CHAINED_PTR_ARM64E || format == DYLD_CHAINED_PTR_64 || format == DYLD_CHAINED_PTR_64_OFFSET ||
+        format == DYLD_CHAINED_PTR_ARM64E_USERLAND || format == DYLD_CHAINED_PTR_ARM64E_USERLAND24;
+}
+
+static inline bool is_page_size(uint64_t size) {
+    return size == 0x1000 || size == 0x4000;
+}
+
+// Whether starts at an offset of the table are broken as those of a segment.
+static bool are_broken_starts(const struct chains *chains, uint64_t offset, const uint8_t *segment) {
+    uint64_t fixed = offsetof(struct dyld_chained_starts_in_segment, page_start);
+    if (!fits(offset, fixed, chains->size)) {
+        return true;
+    }
+    const uint8_t *starts = chains->bytes + offset;
+    uint64_t size = FIELD(starts, dyld_chained_starts_in_segment, size);
+    uint64_t page_start = WIDTH(dyld_chained_starts_in_segment, page_start[0]);
+    uint64_t base = chains->linked->image->base, vmaddr = FIELD(segment, segment_command_64, vmaddr);
+    return !fits(offset, size, chains->size) ||
+        fixed + page_start * FIELD(starts, dyld_chained_starts_in_segment, page_count) > size ||
+        !is_pointer_format(FIELD(starts, dyld_chained_starts_in_segment, pointer_format)) ||
+        !is_page_size(FIELD(starts, dyld_chained_starts_in_segment, page_size)) || vmaddr < base ||
+        vmaddr - base != FIELD(starts, dyld_chained_starts_in_segment, segment_offset) || !is_writable(segment);
+}
+
+// The starts of so many segments. The array begins at an offset of the table.
+static void judge_starts(const struct chains *chains, uint64_t array, uint64_t count) {
+    const struct image *image = chains->linked->image;
+    uint64_t place = sizeof(struct mach_header_64), end = 0;
+    uint64_t entry = array + sizeof(struct dyld_chained_starts_in_image);
+    for (uint64_t last = entry + ENTRY_OF_SEGMENT_SIZE * count; entry < last;) {
+        const uint8_t *command = image->bytes + place;
+        place += FIELD(command, load_command, cmdsize);
+        if (FIELD(command, load_command, cmd) != LC_SEGMENT_64) {
+            continue;
+        }
+        uint64_t offset = read_little(chains->bytes + entry, ENTRY_OF_SEGMENT_SIZE);
+        if (offset != 0) {
+            offset += array;
+            if (offset < end || are_broken_starts(chains, offset, command)) {
+                note_in(image, CHAIN_STARTS, chains->start + entry);
+                return;
+            }
+            end = offset + FIELD(chains->bytes + offset, dyld_chained_starts_in_segment, size);
+        }
+        entry += ENTRY_OF_SEGMENT_SIZE;
+    }
+}
+
+// chain-starts
+static void judge_array(const struct chains *chains) {
+    uint64_t array = HEADER_FIELD(chains, starts_offset), fixed = sizeof(struct dyld_chained_starts_in_image);
+    if (!fits(array, fixed, chains->size)) {
+        note_in(chains->linked->image, CHAIN_STARTS, chains->start);
+        return;
+    }
+    uint64_t count = FIELD(chains->bytes + array, dyld_chained_starts_in_image, seg_count);
+    if (count > chains->linked->segment_count ||
+        !fits(array + fixed, ENTRY_OF_SEGMENT_SIZE * count, chains->size)) {
+        note_in(chains->linked->image, CHAIN_STARTS, chains->start + array);
+        return;
+    }
+    judge_starts(chains, array, count);
+}
+
+// How an import is read: its size, the width of the number that has its bits, how many of these are the ordinal, and
+// from which bit on the offset of the name is.
+struct import_format {
+    uint64_t size, width;
+    unsigned ordinal_bits, name_bit;
+};
+
+static const struct import_format import_formats[] = {
+    [DYLD_CHAINED_IMPORT] = {4, 4, 8, 9},
+    [DYLD_CHAINED_IMPORT_ADDEND] = {8, 4, 8, 9},
+    [DYLD_CHAINED_IMPORT_ADDEND64] = {16, 8, 16, 32},
+};
+
+// The greatest ordinals are those below 0, of which the last few have a meaning. None is a library, however many there
+// are.
+static inline bool is_unknown_library(uint64_t ordinal, uint64_t greatest, uint64_t libraries) {
+    return ordinal > greatest - SPECIAL_ORDINALS ? ordinal <= greatest - SPECIAL_LIBRARIES : ordinal > libraries;
+}
+
+// chain-imports, chain-total and chain-library, in one walk over the imports, which are in the table. A name that
+// begins at the last zero byte of the table or before it ends there.
+static inline void judge_imports_of(const struct chains *chains, const struct import_format *format) {
+    const struct image *image = chains->linked->image;
+    uint64_t offset = HEADER_FIELD(chains, imports_offset), symbols = HEADER_FIELD(chains, symbols_offset), total = 0;
+    uint64_t greatest = ((uint64_t)1 << format->ordinal_bits) - 1, libraries = chains->linked->library_count;
+    const uint8_t *zero = memrchr(chains->bytes, 0, chains->size);
+    uint64_t ends = zero == NULL ? 0 : (uint64_t)(zero - chains->bytes) + 1;
+    for (uint64_t count = HEADER_FIELD(chains, imports_count); count > 0; count--, offset += format->size) {
+        uint64_t import = read_little(chains->bytes + offset, format->width);
+        uint64_t name = symbols + (import >> format->name_bit), ordinal = import & greatest;
+        if (name >= ends) {
+            note_in(image, CHAIN_IMPORTS, chains->start + offset);
+            return;
+        }
+        if (total <= chains->size) {
+            total += strlen((const char *)chains->bytes + name) + 1;
+            if (total > chains->size) {
+                note_in(image, CHAIN_TOTAL, chains->start + offset);
+            }
+        }
+        if (is_unknown_library(ordinal, greatest, libraries)) {
+            note_in(image, CHAIN_LIBRARY, chains->start + offset);
+        }
+    }
+}
+
+static void judge_imports(const struct chains *chains) {
+    const struct import_format *format = &import_formats[HEADER_FIELD(chains, imports_format)];
+    uint64_t count = HEADER_FIELD(chains, imports_count);
+    if (count == 0) {
+        return;
+    }
+    if (!fits(HEADER_FIELD(chains, imports_offset), count * format->size, chains->size)) {
+        note_in(chains->linked->image, CHAIN_IMPORTS, chains->start);
+        return;
+    }
+    judge_imports_of(chains, format);
+}
+
+// The rules of the chain table of an LC_DYLD_CHAINED_FIXUPS. Of size 0 there is none.
+static void judge_chains(const struct linked *linked, const uint8_t *command) {
+    uint64_t start = FIELD(command, linkedit_data_command, dataoff);
+    uint64_t size = FIELD(command, linkedit_data_command, datasize);
+    struct chains chains = {linked, start, size, linked->image->bytes + start};
+    if (size == 0) {
+        return;
+    }
+    if (breaks_chain_header(&chains)) {
+        note_in(linked->image, CHAIN_HEADER, start);
+        return;
+    }
+    judge_array(&chains);
+    judge_imports(&chains);
+}
+
 static void judge_image_linked(const struct image *image) {
     struct linked linked = {.image = image};
     survey_linked(&linked);
@@ -2027,6 +2225,8 @@ static void judge_image_linked(const struct image *image) {
         size_t slot = slot_of(FIELD(command, load_command, cmd));
         if (slot == SLOT(LC_DYLD_INFO) || slot == SLOT(LC_DYLD_INFO_ONLY)) {
             judge_streams(&linked, command, bounded_tables + listed_commands[slot].first_table);
+        } else if (slot == SLOT(LC_DYLD_CHAINED_FIXUPS)) {
+            judge_chains(&linked, command);
         }
     }
 }
