@@ -63,6 +63,8 @@ whose LC_MAIN names an address of no segment. That breaks the last rule, so all 
                                     three bytes
     plain-Nm                        a text in N MiB, and the opcodes of a linker: 750,000 rebases, three by each opcode,
                                     and 10,000 binds
+    chains-N                        chained fixups with N imports, each with a name of its own, up to a million; and a
+                                    hundredth of N writable segments, each with the starts of one page without a chain
 """
 
 from __future__ import annotations
@@ -72,6 +74,7 @@ import re
 import struct
 import sys
 from functools import partial
+from itertools import accumulate
 from pathlib import Path
 from typing import BinaryIO, Callable, Iterable, Iterator, Literal, NamedTuple
 
@@ -85,10 +88,11 @@ CPU_TYPE_ARM64, CPU_SUBTYPE_ARM64_ALL = 0x0100000C, 0
 MH_OBJECT, MH_EXECUTE = 1, 2
 LC_SYMTAB, LC_DYSYMTAB, LC_LOAD_DYLIB, LC_SEGMENT_64, LC_MAIN = 0x2, 0xB, 0xC, 0x19, 0x80000028
 LC_ENCRYPTION_INFO_64, LC_ATOM_INFO, LC_RPATH, LC_DYLD_INFO_ONLY = 0x2C, 0x36, 0x8000001C, 0x80000022
+LC_DYLD_CHAINED_FIXUPS = 0x80000034
 LC_UNLISTED = 0x7FFFFFFF
 VM_PROT_READ, VM_PROT_WRITE, VM_PROT_EXECUTE = 1, 2, 4
 HEADER_SIZE, SEGMENT_SIZE, SECTION_SIZE = 32, 72, 80
-ENCRYPTION_INFO_SIZE, ATOM_INFO_SIZE = 24, 16
+ENCRYPTION_INFO_SIZE, ATOM_INFO_SIZE, CHAINED_FIXUPS_SIZE = 24, 16, 16
 SYMTAB_SIZE, DYSYMTAB_SIZE, MAIN_SIZE, SYMBOL_SIZE = 24, 80, 24, 16
 LIBRARY_SIZE, DYLD_INFO_SIZE, POINTER_SIZE = 32, 48, 8
 FAT_HEADER_SIZE, FAT_ARCH_SIZE = 8, 20
@@ -96,6 +100,10 @@ S_ZEROFILL = 1
 RELOCATION_SIZE = 8
 N_SECT = 0xE
 NOP = 0x90
+
+# mach-o/fixup-chains.h
+DYLD_CHAINED_IMPORT, DYLD_CHAINED_PTR_64, DYLD_CHAINED_PTR_START_NONE = 1, 2, 0xFFFF
+FIXUPS_HEADER_SIZE, STARTS_SIZE, IMPORT_SIZE = 28, 24, 4
 
 BASE = 0x1_0000_0000
 FAR = 0x2_0000_0000
@@ -157,6 +165,25 @@ def dyld_info(start: int, sizes: Iterable[int]) -> bytes:
         fields += [start, size]
         start += size
     return struct.pack("<12I", LC_DYLD_INFO_ONLY, DYLD_INFO_SIZE, *fields, 0, 0)
+
+
+def chained_fixups(dataoff: int, datasize: int) -> bytes:
+    return struct.pack("<4I", LC_DYLD_CHAINED_FIXUPS, CHAINED_FIXUPS_SIZE, dataoff, datasize)
+
+
+def chain_table(starts: Iterable[bytes], names: Iterable[bytes]) -> bytes:
+    """The header, the array, the starts of each segment or none, the imports, all of the first library, and their
+    names."""
+    starts, names = list(starts), list(names)
+    places = list(accumulate(map(len, starts), initial=4 + 4 * len(starts)))
+    entries = [place if content else 0 for place, content in zip(places, starts)]
+    imports = [offset << 9 | 1 for offset in accumulate(map(len, names[:-1]), initial=0)]
+    imports_offset = FIXUPS_HEADER_SIZE + places[-1]
+    symbols_offset = imports_offset + IMPORT_SIZE * len(imports)
+    fields = 0, FIXUPS_HEADER_SIZE, imports_offset, symbols_offset, len(imports), DYLD_CHAINED_IMPORT, 0
+    numbers = [*fields, len(entries), *entries]
+    return b"".join((struct.pack(f"<{len(numbers)}I", *numbers), *starts, struct.pack(f"<{len(imports)}I", *imports),
+                     *names))
 
 
 def uleb(number: int) -> bytes:
@@ -522,6 +549,24 @@ def plain(out: BinaryIO, mebibytes: int) -> str:
     return with_opcodes(out, data_size, rebase=rebase, bind=bind, text_size=text_size)
 
 
+def chains(out: BinaryIO, count: int) -> str:
+    segments_count = count // 100
+    start = HEADER_SIZE + (segments_count + 2) * SEGMENT_SIZE + LIBRARY_SIZE + CHAINED_FIXUPS_SIZE + MAIN_SIZE
+    text_size = -(-start // PAGE) * PAGE
+    addresses = [BASE + text_size + PAGE * k for k in range(segments_count)]
+    starts = [struct.pack("<I2HQI2H", STARTS_SIZE, PAGE, DYLD_CHAINED_PTR_64, address - BASE, 0, 1,
+                          DYLD_CHAINED_PTR_START_NONE) for address in addresses]
+    table = chain_table([b"", *starts, b""], (b"_%06d\0" % k for k in range(count)))
+    commands = [segment(b"__TEXT", BASE, text_size, 0, start)]
+    for k, address in enumerate(addresses):
+        commands.append(segment(b"__DATA", address, PAGE, start + POINTER_SIZE * k, POINTER_SIZE,
+                                initprot=VM_PROT_READ | VM_PROT_WRITE))
+    place = start + POINTER_SIZE * segments_count
+    commands.append(segment(b"__LINKEDIT", 2 * FAR, len(table), place, len(table), initprot=VM_PROT_READ))
+    commands += [library(0), chained_fixups(place, len(table))]
+    return image(out, b"".join(commands), len(commands), [bytes(POINTER_SIZE * segments_count), table], accepted=True)
+
+
 # The commands of which a file has many.
 REPEATED = {"commands": unlisted, "libraries": libraries}
 
@@ -544,6 +589,7 @@ SIZED = {
     "opcodes": moves,
     "numbers": long_moves,
     "plain": plain,
+    "chains": chains,
 }
 
 
