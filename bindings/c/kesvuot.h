@@ -133,7 +133,12 @@ enum {
     KESVUOT_BIND_SYMBOL = 50,
     KESVUOT_BIND_SLOT = 51,
     KESVUOT_BIND_TOTAL = 52,
-    KESVUOT_BIND_NAMES = 53
+    KESVUOT_BIND_NAMES = 53,
+    KESVUOT_CHAIN_HEADER = 54,
+    KESVUOT_CHAIN_STARTS = 55,
+    KESVUOT_CHAIN_IMPORTS = 56,
+    KESVUOT_CHAIN_TOTAL = 57,
+    KESVUOT_CHAIN_LIBRARY = 58
 };
 
 /* The verdict on a file */
@@ -161,8 +166,9 @@ uint32_t kesvuot_verify(const void *file, size_t size, struct kesvuot_verdict *v
 uint32_t kesvuot_verify_strictly(const void *file, size_t size, struct kesvuot_verdict *verdict);
 
 /* Judges a file as kesvuot_verify_strictly does, and then by the rules of the linked profile: where the linked data of
- * an image lies, and what the opcodes of LC_DYLD_INFO and LC_DYLD_INFO_ONLY ask a dynamic loader for. LINKED.md says
- * what that means.
+ * an image lies, what the opcodes of LC_DYLD_INFO and LC_DYLD_INFO_ONLY ask a dynamic loader for, and what the header,
+ * the starts and the imports of LC_DYLD_CHAINED_FIXUPS are. LINKED.md says what that means. The pointers that are
+ * chained in the pages are not judged.
  * Every file that is OK here is also OK for kesvuot_verify_strictly.
  * Memory can run out wherever it can for kesvuot_verify_strictly, and nowhere else. */
 uint32_t kesvuot_verify_linked(const void *file, size_t size, struct kesvuot_verdict *verdict);

@@ -155,6 +155,18 @@ rules! {
     BindTotal = 52,
     /// Linked: the names that a bind stream looks up have more bytes than the stream.
     BindNames = 53,
+    /// Linked: the header of chained fixups is not all in their table, or is of no known version or
+    /// format.
+    ChainHeader = 54,
+    /// Linked: the starts of a segment's chains are not in the table of chained fixups, are of no
+    /// known format, or are none of a writable segment.
+    ChainStarts = 55,
+    /// Linked: the imports of chained fixups, or the name of one, do not end in their table.
+    ChainImports = 56,
+    /// Linked: the names of the imports have more bytes than the table of chained fixups.
+    ChainTotal = 57,
+    /// Linked: an import of chained fixups is of a library that is not there.
+    ChainLibrary = 58,
 }
 
 impl Rule {
