@@ -17,7 +17,8 @@ import oracle  # pylint: disable=wrong-import-position
 
 NO_INDEX, MOST = 2 ** 32 - 1, 2 ** 64 - 1
 KINDS = """none file magic fat_header fat_table fat_arch slice header headers command segment segment_memory section
-section_bytes section_memory relocations table group name symbol indirect opcode byte""".split()
+section_bytes section_memory relocations table group name symbol indirect opcode byte chain_header chain_array
+chain_entry chain_starts chain_import""".split()
 # What has addresses or indices in place of offsets.
 OF_NUMBERS = {"segment_memory", "section_memory", "group"}
 
@@ -674,6 +675,65 @@ def bind_names(image: Any, place: int) -> Explanation:
     return of_opcode(image, place, NONE, named, stream_with(image, place)[1].size)
 
 
+def of_chains(image: Any, at: Part, value: int, limit: int) -> Explanation:
+    """What is said of the table of chained fixups and a structure of it."""
+    return Explanation(at, table_parts(image, image.only(oracle.LC_DYLD_CHAINED_FIXUPS))[0], NONE, value, limit)
+
+
+def chain_header_part(table: Any) -> Part:
+    return structure("chain_header", table.start, min(oracle.SIZES["dyld_chained_fixups_header"], table.size))
+
+
+def chain_header(image: Any, _: int) -> Explanation:
+    table = oracle.chain_table(image)
+    return of_chains(image, chain_header_part(table), table.size, oracle.SIZES["dyld_chained_fixups_header"])
+
+
+def chain_starts(image: Any, place: int) -> Explanation:
+    table = oracle.chain_table(image)
+    starts_offset = oracle.fixups_header(image, table).starts_offset
+    if starts_offset + 4 > table.size:
+        return of_chains(image, chain_header_part(table), starts_offset + 4, table.size)
+    array = table.start + starts_offset
+    if place == array:
+        return of_chains(image, structure("chain_array", place, 4), little(image.data, place), len(image.segments))
+    index = (place - array - 4) // 4
+    starts, size = array + little(image.data, place), oracle.SIZES["dyld_chained_starts_in_segment"]
+    if starts + size <= table.end:
+        size = little(image.data, starts)
+    return Explanation(structure("chain_entry", place, 4, index), Part("chain_starts", index, starts, size, place),
+                       segment_part(image, image.segments[index]), starts + size - table.start, table.size)
+
+
+def of_import(image: Any, place: int, value: int, limit: int) -> Explanation:
+    table = oracle.chain_table(image)
+    header = oracle.fixups_header(image, table)
+    size, *_ = oracle.IMPORT_FORMATS[header.imports_format]
+    index = (place - table.start - header.imports_offset) // size
+    return of_chains(image, structure("chain_import", place, size, index), value, limit)
+
+
+def chain_imports(image: Any, place: int) -> Explanation:
+    table = oracle.chain_table(image)
+    header = oracle.fixups_header(image, table)
+    end = header.imports_offset + header.imports_count * oracle.IMPORT_FORMATS[header.imports_format][0]
+    if end > table.size:
+        return of_chains(image, chain_header_part(table), end, table.size)
+    one = next(one for one in oracle.imports(image) if one.place == place)
+    return of_import(image, place, one.name - table.start, table.size)
+
+
+def chain_total(image: Any, place: int) -> Explanation:
+    table = oracle.chain_table(image)
+    named = sum(image.data.index(0, one.name) + 1 - one.name for one in oracle.imports(image) if one.place <= place)
+    return of_import(image, place, named, table.size)
+
+
+def chain_library(image: Any, place: int) -> Explanation:
+    one = next(one for one in oracle.imports(image) if one.place == place)
+    return of_import(image, place, one.ordinal % 2 ** 64, oracle.library_count(image))
+
+
 OF_FILE = {rule.__name__: rule for rule in (
     magic, fat_truncated, fat_slice_outside, fat_slice_in_table, fat_align, fat_overlap, fat_duplicate,
     fat_slice_magic, fat_empty, fat_stray_byte)}
@@ -683,5 +743,5 @@ OF_IMAGE = {rule.__name__: rule for rule in (
     section_relocs, table_range, symbol_group, symbol_name, symbol_section, indirect_index, entry, commands_end,
     header_segment, segment_file_overlap, element_overlap, stray_byte, encrypted_range, command_slack, unclaimed_byte,
     table_repeated, function_variants, table_home, header_home, rebase_opcode, bind_opcode, bind_library, bind_symbol,
-    bind_names)}
+    bind_names, chain_header, chain_starts, chain_imports, chain_total, chain_library)}
 OF_IMAGE.update(rebase_slot=bad_slot, bind_slot=bad_slot, rebase_total=total, bind_total=total)

@@ -245,7 +245,13 @@ enum {
     KESVUOT_PART_SYMBOL = 19,         /* nlist_64, with the index of kesvuot_read_symbols */
     KESVUOT_PART_INDIRECT = 20,       /* an indirect entry, with the index of kesvuot_read_indirects */
     KESVUOT_PART_OPCODE = 21,         /* an opcode with its operands, or one byte if they are not known */
-    KESVUOT_PART_BYTE = 22            /* one byte */
+    KESVUOT_PART_BYTE = 22,           /* one byte */
+    KESVUOT_PART_CHAIN_HEADER = 23,   /* dyld_chained_fixups_header, or all of a table that has fewer bytes */
+    KESVUOT_PART_CHAIN_ARRAY = 24,    /* seg_count of dyld_chained_starts_in_image */
+    KESVUOT_PART_CHAIN_ENTRY = 25,    /* seg_info_offset of the segment with this index */
+    KESVUOT_PART_CHAIN_STARTS = 26,   /* dyld_chained_starts_in_segment of the segment with this index: all its size
+                                         bytes, or 22 if these are not all in the table */
+    KESVUOT_PART_CHAIN_IMPORT = 27    /* an import of chained fixups. The index counts from 0 */
 };
 
 /* A structure, or what a structure describes. A part lies where the file says, which can be past the file. */

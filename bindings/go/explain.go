@@ -28,6 +28,11 @@ const (
 	IndirectEntry PartKind = 20
 	Opcode        PartKind = 21
 	OneByte       PartKind = 22
+	ChainHeader   PartKind = 23
+	ChainArray    PartKind = 24
+	ChainEntry    PartKind = 25
+	ChainStarts   PartKind = 26
+	ChainImport   PartKind = 27
 )
 
 // NoIndex is the index of nothing.

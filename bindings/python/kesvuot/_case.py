@@ -29,7 +29,8 @@ KINDS: Dict[str, Tuple[str, ...]] = {
 PLAIN_NAMES = {
     "file": "the file", "magic": "the first bytes", "fat-header": "the fat_header",
     "fat-table": "the universal table", "header": "the mach_header_64", "headers": "the headers",
-    "name": "the name", "byte": "the byte"}
+    "name": "the name", "byte": "the byte", "chain-header": "the dyld_chained_fixups_header",
+    "chain-array": "the dyld_chained_starts_in_image"}
 # What `_parts` calls a segment and a section without names.
 NAMELESS = ("", "(no name)", ",")
 RELOCATIONS_OF = "relocations of "
@@ -39,7 +40,12 @@ GROUPS = ("local", "defined", "undefined")
 FIELDS = {
     "fat-table": "nfat_arch", "slice": "offset size", "headers": "sizeofcmds",
     "command": "cmd cmdsize", "segment": "fileoff filesize", "segment-memory": "vmaddr vmsize",
-    "section-bytes": "offset size", "section-memory": "addr size", "relocations": "reloff nreloc"}
+    "section-bytes": "offset size", "section-memory": "addr size", "relocations": "reloff nreloc",
+    "chain-starts": "size page_size pointer_format segment_offset page_count"}
+# The structures of chained fixups, by the parts that they are.
+CHAIN_STRUCTURES = {
+    "chain-header": "dyld_chained_fixups_header", "chain-array": "dyld_chained_starts_in_image",
+    "chain-starts": "dyld_chained_starts_in_segment"}
 GROUP_FIELDS = ("ilocalsym nlocalsym", "iextdefsym nextdefsym", "iundefsym nundefsym")
 # Those that a rule reads besides: of the structure at the place, and of that of the second part.
 MORE_FIELDS: Dict[str, Tuple[str, str]] = {
@@ -51,7 +57,10 @@ MORE_FIELDS: Dict[str, Tuple[str, str]] = {
     "section-file": ("addr", "vmaddr"),
     "symbol-section": ("n_type n_sect", ""), "entry": ("entryoff", "filesize initprot"),
     "header-segment": ("", "vmsize"), "table-home": ("", "vmsize initprot flags"), "header-home": ("", "initprot"),
-    **dict.fromkeys(("rebase-slot", "bind-slot"), ("", "vmsize initprot"))}
+    **dict.fromkeys(("rebase-slot", "bind-slot"), ("", "vmsize initprot")),
+    "chain-header": ("fixups_version imports_format symbols_format", ""),
+    "chain-starts": ("starts_offset seg_count", "vmaddr vmsize initprot"),
+    "chain-imports": ("imports_offset imports_count imports_format", "")}
 
 
 class Spot(NamedTuple):
@@ -119,6 +128,12 @@ class Case:
             return opcode_name(self.data[wanted.start], self.rule.startswith("rebase-"))
         if wanted.kind == "indirect":
             return f"indirect entry {wanted.index}"
+        if wanted.kind == "chain-entry":
+            return f"seg_info_offset[{wanted.index}]"
+        if wanted.kind == "chain-starts":
+            return f"the starts of segment {wanted.index}"
+        if wanted.kind == "chain-import":
+            return f"import {wanted.index}"
         if wanted.kind == "group":
             return f"the group of {GROUPS[wanted.index or 0]} symbols"
         part = self.found(wanted)
@@ -172,6 +187,8 @@ class Case:
             return "mach_header_64", place
         if kind in ("section", "section-bytes", "section-memory", "relocations"):
             return "section_64", place
+        if kind in CHAIN_STRUCTURES:
+            return CHAIN_STRUCTURES[kind], part.start
         if kind == "symbol" or (kind == "name" and self.explanation.symbol is not None):
             return "nlist_64", place
         if kind in ("command", "segment", "segment-memory", "table", "group",

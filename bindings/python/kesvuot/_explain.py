@@ -36,6 +36,7 @@ MEMORY = frozenset(("segment-memory", "section-memory"))
 MOST_NAMES = 20
 # The tables whose contents each profile judges in part, and those whose contents the linked profile judges.
 JUDGED_TABLES = {"symbols", "strings", "indirect symbols"}
+CHAINS = "chained fixups"
 STREAMS = {"rebase opcodes", "bind opcodes", "weak bind opcodes", "lazy bind opcodes"}
 
 Rows = List[Tuple[str, ...]]
@@ -73,6 +74,9 @@ def _not_judged(profile: str, file: File) -> Rows:
         if commands:
             rows.append((name, f"the fields of {_enumerated(commands)}"))
         tables = [it.name for it in image_parts(file.data, found, part) if _is_left(it.kind, it.name, profile)]
+        if profile == "linked" and CHAINS in tables:
+            tables.remove(CHAINS)
+            rows.append((name, f"the pointers of {CHAINS}"))
         if tables:
             rows.append((name, f"the contents of {_enumerated(tables)}"))
     return rows

@@ -13,7 +13,8 @@ from ._library import EXPLANATION, VERDICT, Bytes, Data, load
 # The kinds of parts from 1 on, as KESVUOT_PART_.. of kesvuot.h has them.
 KINDS = ("file", "magic", "fat-header", "fat-table", "fat-arch", "slice", "header", "headers", "command", "segment",
          "segment-memory", "section", "section-bytes", "section-memory", "relocations", "table", "group", "name",
-         "symbol", "indirect", "opcode", "byte")
+         "symbol", "indirect", "opcode", "byte", "chain-header", "chain-array", "chain-entry", "chain-starts",
+         "chain-import")
 
 
 class Part(NamedTuple):

@@ -2,7 +2,7 @@
 
 from __future__ import annotations
 
-from typing import Callable, Dict, List, NamedTuple, Optional, Tuple
+from typing import Callable, Collection, Dict, List, NamedTuple, Optional, Tuple
 
 from . import _kinds, _names
 from ._case import Case
@@ -22,6 +22,11 @@ SG_PROTECTED_VERSION_1 = 8
 POINTER = 1
 # The least ordinal of a library, BIND_SPECIAL_DYLIB_WEAK_LOOKUP.
 LEAST_ORDINAL = -3
+# What is known of chained fixups: the formats of imports, the bytes of each, and the formats and pages of pointers.
+IMPORT_SIZES = {1: 4, 2: 8, 3: 16}
+POINTER_FORMATS = (1, 2, 6, 9, 12)
+PAGE_SIZES = (0x1000, 0x4000)
+STARTS_SIZE, PAGE_START_SIZE, ENTRY_SIZE = 22, 2, 4
 
 
 class Story(NamedTuple):
@@ -356,9 +361,14 @@ def _total(it: Teller) -> Story:
 
 
 def _bind_library(it: Teller) -> Story:
-    ordinal = it.value - (1 << 64) if it.value >> 63 and "SPECIAL" in it.at else it.value
+    return _library(it, "sets", "SPECIAL" in it.at)
+
+
+def _library(it: Teller, verb: str, can_be_special: bool = True) -> Story:
+    """An ordinal of no library. A special one is below 0."""
+    ordinal = it.value - (1 << 64) if it.value >> 63 and can_be_special else it.value
     why = f"the least is {LEAST_ORDINAL}" if ordinal < 0 else f"the image loads {it.limit}"
-    return it.story(f"{it.at} sets library {ordinal}, and {why}.", "ordinal", "number of libraries")
+    return it.story(f"{it.at} {verb} library {ordinal}, and {why}.", "ordinal", "number of libraries")
 
 
 def _bind_symbol(it: Teller) -> Story:
@@ -368,6 +378,90 @@ def _bind_symbol(it: Teller) -> Story:
 def _bind_names(it: Teller) -> Story:
     return it.story(f"up to and with {it.at}, names of {it.value} bytes are looked up, and {it.first} have "
                     f"{it.limit} bytes.", "bytes of names", "bytes of the stream")
+
+
+def _chain_header(it: Teller) -> Story:
+    if it.value < it.limit:
+        return it.story(f"{it.first} have {count_text(it.value, 'byte')}, and {it.at} has {it.limit}.",
+                        "size of the table", "size of the header")
+    for field, known in (("fixups_version", (0,)), ("imports_format", IMPORT_SIZES), ("symbols_format", (0,))):
+        number = it.case.number(field)
+        if number not in known:
+            return it.story(f"{it.first} have {field} {number}, and {_known(known)}.")
+    return it.story(f"{it.at} is not known.")
+
+
+def _known(numbers: Collection[int]) -> str:
+    is_one = len(numbers) == 1
+    return f"{'the one that is known is' if is_one else 'those that are known are'} {', '.join(map(str, numbers))}"
+
+
+def _chain_starts(it: Teller) -> Story:
+    if it.at_part.kind == "chain-header":
+        begins = it.case.number("starts_offset")
+        return it.story(f"the array of segments begins at {begins:#x} of {it.first}, which have {it.limit:#x} bytes.",
+                        "starts_offset + 4", "size of the table")
+    if it.at_part.kind == "chain-array":
+        where = f"the image has {it.limit}" if it.value > it.limit else f"they end past the end of {it.first}"
+        return it.story(f"there are entries for {count_text(it.value, 'segment')}, and {where}.", "seg_count",
+                        "number of segments")
+    return it.story(_of_starts(it), "end of the starts", "size of the table")
+
+
+def _of_starts(it: Teller) -> str:
+    """What is wrong with the starts of a segment."""
+    def number(field: str) -> int:
+        return number_in(it.case.data[it.first_part.start:], "dyld_chained_starts_in_segment", field)
+
+    if it.value > it.limit:
+        return f"{it.first} end at {it.value:#x} of the table, which has {it.limit:#x} bytes."
+    needed = STARTS_SIZE + PAGE_START_SIZE * number("page_count")
+    if needed > number("size"):
+        return (f"{it.first} have {count_text(number('size'), 'byte')}, and need {needed} for "
+                f"{count_text(number('page_count'), 'page')}.")
+    if number("pointer_format") not in POINTER_FORMATS:
+        return f"{it.first} have pointer_format {number('pointer_format')}, and {_known(POINTER_FORMATS)}."
+    if number("page_size") not in PAGE_SIZES:
+        return f"{it.first} are of pages of {number('page_size'):#x} bytes, and not of 0x1000 or 0x4000."
+    if not _segment_number(it, "vmsize"):
+        return f"{it.second} has starts of chains, and is not mapped."
+    if not _segment_number(it, "initprot") & WRITE:
+        return (f"{it.second} has starts of chains, and cannot be written: "
+                f"{protection_text(_segment_number(it, 'initprot'))}.")
+    if it.first_part.start < _end_of_starts_before(it):
+        return f"{it.first} begin before those of an earlier segment end."
+    return (f"{it.first} say that the segment is {number('segment_offset'):#x} past the base, and its address is "
+            f"{_segment_number(it, 'vmaddr'):#x}.")
+
+
+def _end_of_starts_before(it: Teller) -> int:
+    """Where the starts end of the nearest segment before that has some, or 0."""
+    index, data = it.at_part.index or 0, it.case.data
+    array = it.at_part.start - ENTRY_SIZE * (index + 1)
+    for place in range(it.at_part.start - ENTRY_SIZE, array, -ENTRY_SIZE):
+        entry = int.from_bytes(data[place:place + ENTRY_SIZE], "little")
+        if entry:
+            return array + entry + number_in(data[array + entry:], "dyld_chained_starts_in_segment", "size")
+    return 0
+
+
+def _chain_imports(it: Teller) -> Story:
+    if it.at_part.kind == "chain-header":
+        imports = count_text(it.case.number("imports_count"), "import")
+        size = IMPORT_SIZES.get(it.case.number("imports_format"), 0)
+        return it.story(f"{imports} of {size} bytes would end at {it.value:#x} of {it.first}, which have "
+                        f"{it.limit:#x} bytes.", "end of the imports", "size of the table")
+    numbers = "offset of the name", "size of the table"
+    if it.value >= it.limit:
+        return it.story(f"the name of {it.at} begins at {it.value:#x} of {it.first}, which have {it.limit:#x} bytes.",
+                        *numbers)
+    return it.story(f"the name of {it.at} does not end: no byte from {it.first_part.start + it.value:#x} up to the end "
+                    f"of {it.first} is 0.", *numbers)
+
+
+def _chain_total(it: Teller) -> Story:
+    return it.story(f"up to and with {it.at}, the names of the imports have {it.value} bytes, and {it.first} have "
+                    f"{it.limit}.", "bytes of names", "size of the table")
 
 
 def _function_variants(it: Teller) -> Story:
@@ -402,7 +496,9 @@ STORIES: Dict[str, Callable[[Teller], Story]] = {
     "table-repeated": _table_repeated, "function-variants": _function_variants, "table-home": _table_home,
     "header-home": _header_home, "rebase-opcode": _opcode, "rebase-slot": _slot, "rebase-total": _total,
     "bind-opcode": _opcode, "bind-library": _bind_library, "bind-symbol": _bind_symbol, "bind-slot": _slot,
-    "bind-total": _total, "bind-names": _bind_names}
+    "bind-total": _total, "bind-names": _bind_names, "chain-header": _chain_header, "chain-starts": _chain_starts,
+    "chain-imports": _chain_imports, "chain-total": _chain_total,
+    "chain-library": lambda it: _library(it, "is of")}
 
 
 class Told(NamedTuple):

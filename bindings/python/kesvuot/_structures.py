@@ -1,4 +1,5 @@
-"""The structures of <mach-o/fat.h>, <mach-o/loader.h> and <mach-o/nlist.h>, with their fields by name."""
+"""The structures of <mach-o/fat.h>, <mach-o/loader.h>, <mach-o/nlist.h> and <mach-o/fixup-chains.h>, with their fields
+by name."""
 
 from __future__ import annotations
 
@@ -54,7 +55,12 @@ STRUCTURES: Dict[str, Tuple[Field, ...]] = {name: _fields(words) for name, words
     "note_command": "cmd cmdsize data_owner:16 offset:8 size:8",
     "build_version_command": "cmd cmdsize platform minos sdk ntools",
     "entry_point_command": "cmd cmdsize entryoff:8 stacksize:8",
-    "nlist_64": "n_strx n_type:1 n_sect:1 n_desc:2 n_value:8"}.items()}
+    "nlist_64": "n_strx n_type:1 n_sect:1 n_desc:2 n_value:8",
+    "dyld_chained_fixups_header":
+        "fixups_version starts_offset imports_offset symbols_offset imports_count imports_format symbols_format",
+    "dyld_chained_starts_in_image": "seg_count",
+    "dyld_chained_starts_in_segment":
+        "size page_size:2 pointer_format:2 segment_offset:8 max_valid_pointer page_count:2"}.items()}
 BIG_ENDIAN = frozenset(("fat_header", "fat_arch", "fat_arch_64"))
 
 # The structure of each command that docs/RULES.md lists, and of those others that have data.

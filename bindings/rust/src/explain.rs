@@ -76,6 +76,17 @@ kinds! {
     Opcode = 21,
     /// One byte.
     Byte = 22,
+    /// `dyld_chained_fixups_header`, or all of a table that has fewer bytes.
+    ChainHeader = 23,
+    /// `seg_count` of `dyld_chained_starts_in_image`.
+    ChainArray = 24,
+    /// `seg_info_offset` of the segment with this index.
+    ChainEntry = 25,
+    /// `dyld_chained_starts_in_segment` of the segment with this index: all its `size` bytes, or 22 if
+    /// these are not all in the table.
+    ChainStarts = 26,
+    /// An import of chained fixups. The index counts from 0.
+    ChainImport = 27,
 }
 
 /// A structure, or what a structure describes. It lies where the file says, which can be past the
