@@ -549,14 +549,15 @@ def plain(out: BinaryIO, mebibytes: int) -> str:
     return with_opcodes(out, data_size, rebase=rebase, bind=bind, text_size=text_size)
 
 
-def chains(out: BinaryIO, count: int) -> str:
-    segments_count = count // 100
+def with_chains(out: BinaryIO, segments_count: int, names_of_imports: Iterable[bytes]) -> str:
+    """An executable with so many writable segments of a pointer each, which have the starts of one page without a
+    chain, and imports of these names, with their zero bytes."""
     start = HEADER_SIZE + (segments_count + 2) * SEGMENT_SIZE + LIBRARY_SIZE + CHAINED_FIXUPS_SIZE + MAIN_SIZE
     text_size = -(-start // PAGE) * PAGE
     addresses = [BASE + text_size + PAGE * k for k in range(segments_count)]
     starts = [struct.pack("<I2HQI2H", STARTS_SIZE, PAGE, DYLD_CHAINED_PTR_64, address - BASE, 0, 1,
                           DYLD_CHAINED_PTR_START_NONE) for address in addresses]
-    table = chain_table([b"", *starts, b""], (b"_%06d\0" % k for k in range(count)))
+    table = chain_table([b"", *starts, b""], names_of_imports)
     commands = [segment(b"__TEXT", BASE, text_size, 0, start)]
     for k, address in enumerate(addresses):
         commands.append(segment(b"__DATA", address, PAGE, start + POINTER_SIZE * k, POINTER_SIZE,
@@ -565,6 +566,10 @@ def chains(out: BinaryIO, count: int) -> str:
     commands.append(segment(b"__LINKEDIT", 2 * FAR, len(table), place, len(table), initprot=VM_PROT_READ))
     commands += [library(0), chained_fixups(place, len(table))]
     return image(out, b"".join(commands), len(commands), [bytes(POINTER_SIZE * segments_count), table], accepted=True)
+
+
+def chains(out: BinaryIO, count: int) -> str:
+    return with_chains(out, count // 100, (b"_%06d\0" % k for k in range(count)))
 
 
 # The commands of which a file has many.
