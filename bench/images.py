@@ -63,8 +63,8 @@ whose LC_MAIN names an address of no segment. That breaks the last rule, so all 
                                     three bytes
     plain-Nm                        a text in N MiB, and the opcodes of a linker: 750,000 rebases, three by each opcode,
                                     and 10,000 binds
-    chains-N                        chained fixups with N imports, each with a name of its own, up to a million; and a
-                                    hundredth of N writable segments, each with the starts of one page without a chain
+    chains-N                        chained fixups with N imports, up to a million, each with a name of its own; and
+                                    N / 100 writable segments, each with the starts of one page without a chain
 """
 
 from __future__ import annotations
