@@ -177,6 +177,26 @@ pub unsigned_large : (stream : List ℕ) (place : ℕ) (bytes : List ℕ) → nu
 unfolding unsigned_at
 unsigned_large stream place bytes some large = rw (some, le-ltb _ _ large) refl
 
+no_more : {place : ℕ} → place + 0 ≡ place
+no_more = omega arith
+
+-- a number of one byte is that byte
+pub unsigned_digit : (stream : List ℕ) (place byte : ℕ) → slice_get stream place ≡ Some byte → byte < 0x80
+    → unsigned_at stream place ≡ Some (byte, place + 1)
+unsigned_digit stream place byte there small =
+    let (inside, is) = byte_there stream place 0 byte (rw no_more there) in
+    let whole = ended (drop place stream) 0 inside (lit< tt) (λ k below. absurd (omega arith)) (rw is small) in
+    let one = length-take-le 1 (drop place stream) (omega arith) in
+    let (digits, power, count) = digits_next (drop place stream) 0 0 1 byte (reading_none (drop place stream)) inside is in
+    let value : digits_value (take 1 (drop place stream)) ≡ byte = omega (arith, digits, small) in
+    let fits : digits_value (take 1 (drop place stream)) < 2 ^ 64 = rw value (omega (arith, small)) in
+    rw (value, one) at (unsigned_some stream place _ whole fits)
+
+-- where there is no byte, there is no number
+pub unsigned_missing : (stream : List ℕ) (place : ℕ) → slice_get stream place ≡ None → unsigned_at stream place ≡ None
+unsigned_missing stream place none =
+    unsigned_none stream place (cut _ 0 (byte_missing stream place 0 (rw no_more none)) (λ k below. absurd (omega arith)))
+
 pub signed_none : (stream : List ℕ) (place : ℕ) → number_bytes (drop place stream) ≡ None → signed_at stream place ≡ None
 unfolding signed_at
 signed_none stream place none = rw none refl

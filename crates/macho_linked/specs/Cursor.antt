@@ -3,6 +3,7 @@ use Rattle.std.specs.Prelude.{ℕ, ◌+◌, ◌*◌, ◌%◌, ◌^◌, ◌==◌,
 use Rattle.std.specs.List.{fold}
 use Rattle.std.specs.Option.{option_map_or}
 use Rattle.macho_linked.specs.declared.cursor.Cursor.{Cursor}
+use Rattle.macho_linked.specs.declared.cursor.Totals.{Totals}
 use Rattle.macho_linked.specs.declared.step.TheConstants as size
 use Rattle.macho_linked.specs.declared.step.Step.{Step}
 use Rattle.macho_linked.specs.declared.step.Step.TheVariants as step
@@ -46,6 +47,14 @@ abbrev pub looks_up : Cursor → Step → ℕ
 looks_up cursor next =
     if writes next == 0 then 0
     else (if cursor.is_new then option_map_or (λ name. name.len) cursor.name 0 else 0)
+
+-- how much no step does, and how much with one step more, at its cursor
+abbrev pub nothing : Totals
+nothing = record { pointers = 0; names = 0 }
+
+abbrev pub with_step : Totals → Cursor → Step → Totals
+with_step before cursor next =
+    record { pointers = before.pointers + writes next; names = before.names + looks_up cursor next }
 
 -- how many the steps look up of which the first is at a cursor
 abbrev pub looked_up : Cursor → List Step → ℕ

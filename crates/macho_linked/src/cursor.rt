@@ -19,6 +19,47 @@ pub struct Cursor {
     pub is_new: bool,
 }
 
+// How much the steps before a place do.
+#[derive(Clone, Copy)]
+pub(crate) struct Totals {
+    // How many pointers they write.
+    pub(crate) pointers: u128,
+    // How many bytes of names they look up.
+    pub(crate) names: u128,
+}
+
+impl Totals {
+    ghost use Rattle.std.specs.Prelude.{◌≡◌, ◌+◌, ◌^◌, ◌≤◌, ◌<◌};
+    ghost use Rattle.macho_linked.specs.Cursor.{nothing, with_step, writes, looks_up};
+
+    // Of no step.
+    pub(crate) fn new() -> Totals
+        ensures { result ≡ nothing }
+    {
+        Totals {
+            pointers: 0,
+            names: 0,
+        }
+    }
+
+    // With one step more, at its cursor.
+    pub(crate) fn with(self, cursor: Cursor, step: Step) -> Totals
+        requires pointers { self.pointers + 2 ^ 64 ≤ 2 ^ 128 }
+        requires names { self.names + 2 ^ 64 ≤ 2 ^ 128 }
+        ensures sums { result ≡ with_step self cursor step }
+        ensures pointers { writes step < 2 ^ 64 }
+        ensures names { looks_up cursor step < 2 ^ 64 }
+    {
+        match step {
+            Step::Write { count, .. } => Totals {
+                pointers: self.pointers + u128::from(count),
+                names: self.names + u128::from(cursor.looks_up(step)),
+            },
+            _ => self,
+        }
+    }
+}
+
 impl Cursor {
     ghost use Rattle.std.specs.Prelude.{◌≡◌};
     ghost use Rattle.macho_linked.specs.Cursor.{start, advanced, moved, written, looks_up};
@@ -35,29 +76,24 @@ impl Cursor {
         }
     }
 
-    /// What a step makes of the cursor.
-    pub fn moved(self, step: Step) -> Cursor
-        ensures { result ≡ moved self step }
+    /// Does what the step says.
+    pub fn follow(&mut self, step: Step)
+        ensures { self.new ≡ moved self.old step }
     {
         match step {
-            Step::Done => Cursor::new(),
-            Step::SetLibrary(_) | Step::SetSpecial(_) => Cursor {
-                is_new: true,
-                ..self
-            },
-            Step::SetSymbol { name, .. } => Cursor {
-                name: Some(name),
-                is_new: true,
-                ..self
-            },
-            Step::SetSegment { segment, offset } => Cursor {
-                segment: Some(segment),
-                offset,
-                ..self
-            },
-            Step::AddOffset(distance) => self.advanced(distance),
-            Step::Write { count, skip } => self.written(count, skip),
-            Step::SetPointer | Step::SetAddend(_) => self,
+            Step::Done => *self = Cursor::new(),
+            Step::SetLibrary(_) | Step::SetSpecial(_) => self.is_new = true,
+            Step::SetSymbol { name, .. } => {
+                self.name = Some(name);
+                self.is_new = true;
+            }
+            Step::SetSegment { segment, offset } => {
+                self.segment = Some(segment);
+                self.offset = offset;
+            }
+            Step::AddOffset(distance) => self.advance(distance),
+            Step::Write { count, skip } => self.write(count, skip),
+            Step::SetPointer | Step::SetAddend(_) => {}
         }
     }
 
@@ -74,27 +110,20 @@ impl Cursor {
         }
     }
 
-    // The cursor after so many pointers, which look the name up if it is new.
-    fn written(self, count: u64, skip: u64) -> Cursor
-        ensures { result ≡ written self count skip }
+    // Passes so many pointers, which look the name up if it is new.
+    fn write(&mut self, count: u64, skip: u64)
+        ensures { self.new ≡ written self.old count skip }
     {
-        let passed = self.advanced(count.wrapping_mul(skip.wrapping_add(POINTER_SIZE)));
-        if count == 0 {
-            return passed;
-        }
-        Cursor {
-            is_new: false,
-            ..passed
+        self.advance(count.wrapping_mul(skip.wrapping_add(POINTER_SIZE)));
+        if count > 0 {
+            self.is_new = false;
         }
     }
 
-    // The cursor with its offset grown by so much, modulo 2^64.
-    fn advanced(self, distance: u64) -> Cursor
-        ensures { result ≡ advanced self distance }
+    // Grows the offset by so much, modulo 2^64.
+    fn advance(&mut self, distance: u64)
+        ensures { self.new ≡ advanced self.old distance }
     {
-        Cursor {
-            offset: self.offset.wrapping_add(distance),
-            ..self
-        }
+        self.offset = self.offset.wrapping_add(distance);
     }
 }

@@ -134,8 +134,8 @@ fn has_home(image: &Image, table: Span) -> bool
     has_linkedit(image) && !has_astray(image, table) && !is_encrypted(image, table)
 }
 
-// Whether some segment is one in which loaders look for tables.
-fn has_linkedit(image: &Image) -> bool
+/// Whether some segment is one in which loaders look for tables.
+pub fn has_linkedit(image: &Image) -> bool
     ensures { IsTrue result ↔ Any (IsLinkedit image.now) (all_segments image.now) }
 {
     image.segments().any(|segment| is_linkedit(&segment))
@@ -156,9 +156,9 @@ fn is_astray(segment: &Segment, table: Span) -> bool
     is_linkedit(segment) && !is_home(segment, table)
 }
 
-// Whether the segment is a home of the table: mapped, read and not written, not decrypted, with the table
-// in its file bytes.
-fn is_home(segment: &Segment, table: Span) -> bool
+/// Whether the segment is a home of the table: mapped, read and not written, not decrypted, with the table
+/// in its file bytes.
+pub fn is_home(segment: &Segment, table: Span) -> bool
     requires { segment.now.place + SEGMENT_COMMAND_64_SIZE ≤ length segment.now.image }
     ensures { IsTrue result ↔ IsHome table segment.now.image segment.now.place }
 {

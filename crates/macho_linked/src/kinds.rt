@@ -63,8 +63,8 @@ fn is_repeated(earlier: &Command, command: &Command) -> bool
     earlier.place < command.place && share_kind(earlier.cmd, command.cmd)
 }
 
-// Whether commands with these `cmd` name linked data of a common kind.
-fn share_kind(cmd: u32, other: u32) -> bool
+/// Whether commands with these `cmd` name linked data of a common kind.
+pub fn share_kind(cmd: u32, other: u32) -> bool
     ensures { result ≡ share_kind_of cmd other }
 {
     (is_fixups(cmd) && is_fixups(other))

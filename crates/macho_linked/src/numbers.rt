@@ -24,6 +24,17 @@ const BASE: u128 = 0x80;
 pub fn read_uleb(bytes: Bytes, place: u64) -> Option<(u64, u64)>
     ensures { result ≡ unsigned_at (bytes_of bytes.entry) place }
 {
+    let first = bytes.u8_at(place)?;
+    if first < CONTINUES {
+        return Some((u64::from(first), place + 1));
+    }
+    read_long_uleb(bytes, place)
+}
+
+// Reads an unsigned number of any length. Most numbers have one byte, which needs less work.
+fn read_long_uleb(bytes: Bytes, place: u64) -> Option<(u64, u64)>
+    ensures { result ≡ unsigned_at (bytes_of bytes.entry) place }
+{
     let encoded = Encoded::read(bytes, place)?;
     let Ok(value) = u64::try_from(encoded.value) else {
         return None;

@@ -1,11 +1,11 @@
 //! The rules of one stream of opcodes, in one pass over it.
 
-ghost use Rattle.std.specs.Prelude.{◌≡◌, ◌-◌, ◌^◌, ◌<◌, min, IsTrue};
+ghost use Rattle.std.specs.Prelude.{◌≡◌, ◌-◌, ◌^◌, ◌<◌, min, Some, IsTrue};
 ghost use Rattle.macho_fields.specs.Bytes.{bytes_of};
 ghost use Rattle.macho_fields.specs.FirstPlace.{IsNoted};
 ghost use Rattle.macho_linked.specs.Streams.{reach as reach_of, IsStreamSurvey};
 
-use crate::cursor::Cursor;
+use crate::cursor::{Cursor, Totals};
 use crate::step::{Opcodes, POINTER_SIZE, Step, step_at};
 use macho_fields::Bytes;
 
@@ -49,19 +49,15 @@ pub fn survey(opcodes: Opcodes, stream: Bytes, limits: &Limits) -> StreamSurvey
 {
     let mut survey = StreamSurvey::unbroken();
     let mut cursor = Cursor::new();
-    let mut written: u128 = 0;
-    let mut named: u128 = 0;
+    let mut totals = Totals::new();
     let mut place = 0;
     while place < stream.len() {
         let Some((step, next)) = step_at(opcodes, stream, place) else {
             survey.opcode = Some(place);
             return survey;
         };
-        survey.note(place, cursor, written, step, limits);
-        survey.note_names(place, cursor, named, step, stream.len());
-        written += u128::from(step.writes());
-        named += u128::from(cursor.looks_up(step));
-        cursor = cursor.moved(step);
+        totals = survey.note(place, cursor, totals, step, limits, stream.len());
+        cursor.follow(step);
         place = next;
     }
     survey
@@ -70,7 +66,7 @@ pub fn survey(opcodes: Opcodes, stream: Bytes, limits: &Limits) -> StreamSurvey
 impl StreamSurvey {
     ghost use Rattle.std.specs.Prelude.{◌≡◌, ◌+◌, ◌^◌, ◌≤◌, ◌<◌};
     ghost use Rattle.macho_fields.specs.FirstPlace.{IsNoted};
-    ghost use Rattle.macho_linked.specs.Cursor.{writes};
+    ghost use Rattle.macho_linked.specs.Cursor.{with_step, writes, looks_up};
     ghost use Rattle.macho_linked.specs.Streams.{unbroken, NamesNoLibrary, LacksName, WritesOutside, PassesBudget, PassesNames};
 
     // No rule is broken.
@@ -87,20 +83,35 @@ impl StreamSurvey {
         }
     }
 
-    // Notes which rules the step at `place` breaks. So many pointers were written before.
-    fn note(&mut self, place: u64, cursor: Cursor, written: u128, step: Step, limits: &Limits)
-        requires { written + writes step < 2 ^ 128 }
+    // Notes which rules the step at `place` breaks. The steps before it have the totals `before`, and those
+    // with it are returned. The stream may look up so many bytes of names.
+    fn note(
+        &mut self,
+        place: u64,
+        cursor: Cursor,
+        before: Totals,
+        step: Step,
+        limits: &Limits,
+        most: u64,
+    ) -> Totals
+        requires pointers { before.pointers + 2 ^ 64 ≤ 2 ^ 128 }
+        requires names { before.names + 2 ^ 64 ≤ 2 ^ 128 }
         ensures opcode { self.new.opcode ≡ self.old.opcode }
-        ensures library { IsNoted (NamesNoLibrary limits.now.libraries cursor written step) place
-            self.old.library self.new.library }
-        ensures symbol { IsNoted (LacksName cursor written step) place
+        ensures library { IsNoted (NamesNoLibrary limits.now.libraries cursor before.pointers step)
+            place self.old.library self.new.library }
+        ensures symbol { IsNoted (LacksName cursor before.pointers step) place
             self.old.symbol self.new.symbol }
-        ensures slot { IsNoted (WritesOutside limits.now.rooms cursor written step) place
+        ensures slot { IsNoted (WritesOutside limits.now.rooms cursor before.pointers step) place
             self.old.slot self.new.slot }
-        ensures total { IsNoted (PassesBudget limits.now.budget cursor written step) place
+        ensures total { IsNoted (PassesBudget limits.now.budget cursor before.pointers step) place
             self.old.total self.new.total }
-        ensures names { self.new.names ≡ self.old.names }
+        ensures names { IsNoted (PassesNames most cursor before.names step) place
+            self.old.names self.new.names }
+        ensures totals { result ≡ with_step before cursor step }
+        ensures few { writes step < 2 ^ 64 }
+        ensures short { looks_up cursor step < 2 ^ 64 }
     {
+        let with = before.with(cursor, step);
         match step {
             Step::SetLibrary(ordinal) => note_if(
                 &mut self.library,
@@ -111,26 +122,12 @@ impl StreamSurvey {
             Step::Write { count, skip } if count > 0 => {
                 note_if(&mut self.symbol, cursor.name.is_none(), place);
                 note_if(&mut self.slot, !limits.has_room(cursor, count, skip), place);
-                let passes = written + u128::from(count) > limits.budget;
-                note_if(&mut self.total, passes, place);
+                note_if(&mut self.total, with.pointers > limits.budget, place);
+                note_if(&mut self.names, with.names > u128::from(most), place);
             }
             _ => {}
         }
-    }
-
-    // Notes whether with the step at `place` more bytes of names are looked up than `most`. So many were
-    // looked up before.
-    fn note_names(&mut self, place: u64, cursor: Cursor, named: u128, step: Step, most: u64)
-        requires { named + 2 ^ 64 ≤ 2 ^ 128 }
-        ensures names { IsNoted (PassesNames most cursor named step) place self.old.names self.new.names }
-        ensures opcode { self.new.opcode ≡ self.old.opcode }
-        ensures library { self.new.library ≡ self.old.library }
-        ensures symbol { self.new.symbol ≡ self.old.symbol }
-        ensures slot { self.new.slot ≡ self.old.slot }
-        ensures total { self.new.total ≡ self.old.total }
-    {
-        let passes = named + u128::from(cursor.looks_up(step)) > u128::from(most);
-        note_if(&mut self.names, step.writes() > 0 && passes, place);
+        with
     }
 }
 
@@ -139,8 +136,18 @@ fn note_if(found: &mut Option<u64>, is_broken: bool, place: u64)
     ensures { IsNoted (IsTrue is_broken) place found.old found.new }
 {
     if is_broken && found.is_none() {
-        *found = Some(place);
+        set(found, place);
     }
+}
+
+// Sets the place. It is no part of the loop, so that the survey stays in memory, and the loop has the
+// registers.
+#[cold]
+#[inline(never)]
+fn set(found: &mut Option<u64>, place: u64)
+    ensures { found.new ≡ Some place }
+{
+    *found = Some(place);
 }
 
 impl Limits {
@@ -148,6 +155,7 @@ impl Limits {
     ghost use Rattle.macho_linked.specs.Streams.{EndsInRoom, reach};
 
     // Whether so many pointers from the cursor on all end in the room of the segment that is set.
+    #[tactic(auto, using(crate::proofs::Reaches::capped_reach))]
     fn has_room(&self, cursor: Cursor, count: u64, skip: u64) -> bool
         requires { 0 < count }
         ensures { IsTrue result
@@ -163,14 +171,13 @@ impl Limits {
     }
 }
 
-// The offset past the last of so many pointers, or 2^128 - 1 if that is less.
+// The offset past the last of so many pointers. No segment has room for two with a stride of 2^64 - 1 or
+// more, so a greater one is taken for that.
 fn reach(offset: u64, count: u64, skip: u64) -> u128
     requires { 0 < count }
-    ensures { result ≡ min (reach_of offset count skip) (2 ^ 128 - 1) }
+    ensures { result ≡ reach_of offset count (min skip (2 ^ 64 - 1 - POINTER_SIZE)) }
 {
-    let stride = u128::from(POINTER_SIZE) + u128::from(skip);
+    let stride = POINTER_SIZE.saturating_add(skip);
     let first_end = u128::from(offset) + u128::from(POINTER_SIZE);
-    u128::from(count - 1)
-        .saturating_mul(stride)
-        .saturating_add(first_end)
+    u128::from(count - 1) * u128::from(stride) + first_end
 }

@@ -7,13 +7,10 @@ use crate::explain::sliced::Sliced;
 use crate::explain::table::{Bounded, table_by, tables_of};
 use crate::explain::walk::{Sought, walk_to};
 use crate::load::Load;
-use macho_fields::Span;
 use macho_fields::header::loader::LC_ENCRYPTION_INFO_64;
-use macho_image::{Image, Segment};
-use macho_linked::segment::{SG_PROTECTED_VERSION_1, is_constant, is_linkedit};
-
-// The offset of `flags` in `segment_command_64`.
-const FLAGS: u64 = 68;
+use macho_image::Image;
+use macho_linked::homes::{has_linkedit, is_home};
+use macho_linked::segment::is_linkedit;
 
 // The first table of a command that has no home, and why.
 pub(crate) fn table_home(sliced: &Sliced, load: Load) -> Option<Conflict> {
@@ -43,35 +40,16 @@ fn homeless(sliced: &Sliced, image: &Image, table: &Bounded) -> Option<Conflict>
     }
 }
 
-// Whether some segment is one in which loaders look for tables.
-fn has_linkedit(image: &Image) -> bool {
-    for segment in image.segments() {
-        if is_linkedit(&segment) {
-            return true;
-        }
-    }
-    false
-}
-
 // The first segment in which loaders look for the table, and which is no home of it.
 fn astray(sliced: &Sliced, image: &Image, table: &Bounded) -> Option<Conflict> {
     for segment in image.segments() {
-        if is_linkedit(&segment) && !is_home(sliced, &segment, table.span) {
+        if is_linkedit(&segment) && !is_home(&segment, table.span) {
             let part = segment_at(sliced, segment.place());
             let limit = segment.file_part().end();
             return Some(Conflict::past(table.part, part, table.end, limit));
         }
     }
     None
-}
-
-// Whether the segment is a home of the table.
-fn is_home(sliced: &Sliced, segment: &Segment, table: Span) -> bool {
-    let flags = sliced.word(segment.place().saturating_add(FLAGS));
-    segment.vmsize() > 0
-        && is_constant(segment)
-        && flags & SG_PROTECTED_VERSION_1 == 0
-        && table.inside(&segment.file_part())
 }
 
 // The first encrypted range that shares a byte with the table.

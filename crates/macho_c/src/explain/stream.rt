@@ -116,7 +116,7 @@ fn reach_opcode(stream: &Stream, offset: u64) -> Option<Reached> {
         }
         written = written.saturating_add(u128::from(step.writes()));
         named = named.saturating_add(u128::from(cursor.looks_up(step)));
-        cursor = cursor.moved(step);
+        cursor.follow(step);
         place = next;
     }
     None

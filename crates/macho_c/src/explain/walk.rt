@@ -2,7 +2,6 @@
 
 ghost use Rattle.std.specs.Prelude.{◌≡◌, ◌↔◌, length, IfSome, IsTrue};
 ghost use Rattle.macho_fields.specs.Bytes.{bytes_of};
-ghost use Rattle.macho_linked.specs.Kinds.{is_fixups as is_fixups_of, is_exports as is_exports_of, is_alone as is_alone_of, share_kind as share_kind_of};
 ghost use Rattle.macho_c.specs.Explain.{all_loads, IsWalked, Meets};
 
 use crate::cursor::START;
@@ -10,10 +9,8 @@ use crate::explain::part::NO_INDEX;
 use crate::load::{Load, Wanted, next_wanted};
 use crate::sections::nsects_at;
 use macho_fields::Bytes;
-use macho_fields::header::loader::{
-    LC_CODE_SIGNATURE, LC_DATA_IN_CODE, LC_DYLD_CHAINED_FIXUPS, LC_DYLD_EXPORTS_TRIE, LC_DYLD_INFO,
-    LC_DYLD_INFO_ONLY, LC_FUNCTION_STARTS, MACH_HEADER_64_SIZE,
-};
+use macho_fields::header::loader::MACH_HEADER_64_SIZE;
+use macho_linked::kinds::share_kind;
 
 // Which command is sought.
 #[derive(Clone, Copy)]
@@ -97,40 +94,4 @@ pub(crate) fn walk_end(image: Bytes) -> Option<WalkEnd>
         count,
         last,
     })
-}
-
-// Whether commands with these `cmd` name linked data of a common kind. (docs/LINKED.md)
-fn share_kind(cmd: u32, other: u32) -> bool
-    ensures { result ≡ share_kind_of cmd other }
-{
-    (is_fixups(cmd) && is_fixups(other))
-        || (is_exports(cmd) && is_exports(other))
-        || (is_alone(cmd) && cmd == other)
-}
-
-// Whether a command with this `cmd` names what a loader writes.
-fn is_fixups(cmd: u32) -> bool
-    ensures { result ≡ is_fixups_of cmd }
-{
-    matches!(
-        cmd,
-        LC_DYLD_INFO | LC_DYLD_INFO_ONLY | LC_DYLD_CHAINED_FIXUPS
-    )
-}
-
-// Whether a command with this `cmd` names what an image exports.
-fn is_exports(cmd: u32) -> bool
-    ensures { result ≡ is_exports_of cmd }
-{
-    matches!(cmd, LC_DYLD_INFO | LC_DYLD_INFO_ONLY | LC_DYLD_EXPORTS_TRIE)
-}
-
-// Whether a command with this `cmd` names linked data of a kind that no other one names.
-fn is_alone(cmd: u32) -> bool
-    ensures { result ≡ is_alone_of cmd }
-{
-    matches!(
-        cmd,
-        LC_FUNCTION_STARTS | LC_DATA_IN_CODE | LC_CODE_SIGNATURE
-    )
 }
