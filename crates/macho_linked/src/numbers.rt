@@ -21,6 +21,7 @@ const BASE: u128 = 0x80;
 
 /// Reads the unsigned number at `place`, a ULEB128. It returns the number and the first place past it, or
 /// `None` if the number does not end within the bytes, has more than [`MOST_BYTES`], or is 2^64 or more.
+#[inline(always)]
 pub fn read_uleb(bytes: Bytes, place: u64) -> Option<(u64, u64)>
     ensures { result ≡ unsigned_at (bytes_of bytes.entry) place }
 {

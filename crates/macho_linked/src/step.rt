@@ -82,6 +82,7 @@ impl Step {
 /// end, or if the opcode is not known, its type is no pointer, an operand does not end or is out of its
 /// range, or the opcode ends the stream and a byte that is not zero follows.
 #[tactic(auto, unfolding(crate::specs::Steps::step_at))]
+#[inline(always)]
 pub fn step_at(opcodes: Opcodes, stream: Bytes, place: u64) -> Option<(Step, u64)>
     ensures { result ≡ step_at_of opcodes (bytes_of stream.entry) place }
 {
@@ -98,6 +99,7 @@ pub fn step_at(opcodes: Opcodes, stream: Bytes, place: u64) -> Option<(Step, u64
 
 // What an opcode of the rebase stream says: its byte, and the first place past it.
 #[tactic(auto, unfolding(crate::specs::Steps::rebase_step))]
+#[inline(always)]
 fn rebase_step(stream: Bytes, byte: u8, next: u64) -> Option<(Step, u64)>
     ensures { result ≡ rebase_step_of (bytes_of stream.entry) byte next }
 {
@@ -118,6 +120,7 @@ fn rebase_step(stream: Bytes, byte: u8, next: u64) -> Option<(Step, u64)>
 
 // What an opcode of a bind stream says, but for DONE: its byte, and the first place past it.
 #[tactic(auto, unfolding(crate::specs::Steps::bind_step))]
+#[inline(always)]
 fn bind_step(stream: Bytes, byte: u8, next: u64) -> Option<(Step, u64)>
     ensures { result ≡ bind_step_of (bytes_of stream.entry) byte next }
 {
