@@ -52,8 +52,17 @@ impl FirstPlace {
         ensures { IsNoted (IsTrue is_broken) place self.old self.new }
     {
         if is_broken {
-            self.note(place);
+            self.note_broken(place);
         }
+    }
+
+    // Notes a place outside the loop that looks for it: a rule is seldom broken.
+    #[cold]
+    #[inline(never)]
+    fn note_broken(&mut self, place: u64)
+        ensures { self.new ≡ Some (unwrap_or self.old place) }
+    {
+        self.note(place);
     }
 
     /// The result of the rule: its break at the first place, if one is noted.
