@@ -9,7 +9,7 @@ ghost use Rattle.macho_fat.specs.Slices.{IsFatFault};
 
 use crate::fault::FatFault;
 use crate::rules::{Format, Magics, fat_truncated, magic};
-use crate::survey::Survey;
+use crate::survey::EntrySurvey;
 use crate::table::Table;
 use macho_fields::Bytes;
 use std::alloc::Global;
@@ -29,7 +29,7 @@ pub(crate) fn check_file<'a>(alloc: Global, file: Bytes<'a>) -> Result<Option<Ta
         Format::Image => return Ok(None),
         Format::Universal => fat_truncated(file)?,
     };
-    let survey = Survey::of(&table);
+    let survey = EntrySurvey::of(&table);
     survey.fat_slice_outside()?;
     survey.fat_slice_in_table()?;
     survey.fat_align()?;

@@ -14,12 +14,12 @@ use std::marker::Model;
 
 // A table, and what a walk over its entries has found.
 #[derive(Drop)]
-pub(crate) struct Survey<'t, 'a> {
+pub(crate) struct EntrySurvey<'t, 'a> {
     table: &'t Table<'a>,
     notes: Notes,
 }
 
-impl<'t, 'a> Model for Survey<'t, 'a> {
+impl<'t, 'a> Model for EntrySurvey<'t, 'a> {
     ghost use Rattle.std.specs.Prelude.{List, ℕ};
     ghost use Rattle.macho_fat.specs.TableWalk.{IsSurvey};
 
@@ -30,7 +30,7 @@ impl<'t, 'a> Model for Survey<'t, 'a> {
     ghost invariant = { λ survey. IsSurvey survey.table.now survey.notes };
 }
 
-impl<'t, 'a> Survey<'t, 'a> {
+impl<'t, 'a> EntrySurvey<'t, 'a> {
     ghost use Rattle.std.specs.Prelude.{◌≡◌};
     ghost use Rattle.macho_fields.specs.First.{rank};
     ghost use Rattle.macho_fields.specs.Layers.{KeptBelow, Continues};
@@ -41,14 +41,14 @@ impl<'t, 'a> Survey<'t, 'a> {
     ghost use Rattle.macho_fat.specs.TableWalk.{ContinuesOrFaults};
 
     // Scans the entries of a table once.
-    pub(crate) fn of(table: &'t Table<'a>) -> Survey<'t, 'a>
+    pub(crate) fn of(table: &'t Table<'a>) -> EntrySurvey<'t, 'a>
         ensures { result ≡ table.now }
     {
         let mut notes = Notes::none();
         for k in 0..table.count() {
             notes.note(table, k);
         }
-        Survey { table, notes }
+        EntrySurvey { table, notes }
     }
 
     // Each slice lies inside the file.

@@ -77,6 +77,8 @@ pub record AreLoaderConstants : Type 0 where
   pub LC_MAIN : loader.LC_MAIN ≡ 0x80000028
   pub LC_DYLD_EXPORTS_TRIE : loader.LC_DYLD_EXPORTS_TRIE ≡ 0x80000033
   pub LC_DYLD_CHAINED_FIXUPS : loader.LC_DYLD_CHAINED_FIXUPS ≡ 0x80000034
+  -- segment_command_64.flags: a kernel decrypts the pages of the segment
+  pub SG_PROTECTED_VERSION_1 : loader.SG_PROTECTED_VERSION_1 ≡ 0x8
   -- section_64.flags: the mask of the type, and the types without bytes in the file
   pub SECTION_TYPE : loader.SECTION_TYPE ≡ 0x000000ff
   pub S_ZEROFILL : loader.S_ZEROFILL ≡ 0x1

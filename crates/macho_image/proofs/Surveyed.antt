@@ -21,7 +21,7 @@ use Rattle.macho_image.specs.Command.{CommandView, command_of, command_at}
 use Rattle.macho_image.specs.Walk.{AreLandmarks, CanPass, HasPassed, IsAlone, IsAt, IsWholeAndMisnamed, Repeats, first_commands}
 use Rattle.macho_image.specs.declared.command.Command.{Command}
 use Rattle.macho_image.specs.declared.landmarks.Landmarks.{Landmarks}
-use Rattle.macho_image.specs.declared.survey.Survey.{Survey}
+use Rattle.macho_image.specs.declared.survey.CommandSurvey.{CommandSurvey}
 use Rattle.macho_image.specs.declared.walk.Candidate.{Candidate}
 use Rattle.macho_image.proofs.Alone.{is_alone, short_alone, bad_alone}
 use Rattle.macho_image.proofs.FirstWithCmd.{unlisted_is_not_unique}
@@ -76,7 +76,7 @@ module _ (image : List ℕ) (walked place : ℕ) (at : IsAt image walked place) 
     repeat_passed none = passed_over (Repeats image (walked + 1)) found (repeats_still found first) (λ repeats. none ((repeats_same place (omega arith)).1 repeats))
 
 -- the survey of what is opened can pass a good command
-pub can_pass : (candidate : Candidate) (survey : Survey) (walked place : ℕ) → survey.candidate ≡ candidate → IsAt (bytes_of candidate.bytes) walked place → IsGood (bytes_of candidate.bytes) place
+pub can_pass : (candidate : Candidate) (survey : CommandSurvey) (walked place : ℕ) → survey.candidate ≡ candidate → IsAt (bytes_of candidate.bytes) walked place → IsGood (bytes_of candidate.bytes) place
     → commands_end (bytes_of candidate.bytes) ≤ length (bytes_of candidate.bytes) → CanPass survey walked place
 can_pass candidate survey walked place same at good inside = record {
   at = subst (λ (o : Candidate). IsAt (bytes_of o.bytes) walked place) (sym same) at;
@@ -85,14 +85,14 @@ can_pass candidate survey walked place same at good inside = record {
 }
 
 -- A survey once its next command is tested for its size and its name
-pub record Marks (before : Survey) (walked : ℕ) (after : Survey) : Type 0 where
+pub record Marks (before : CommandSurvey) (walked : ℕ) (after : CommandSurvey) : Type 0 where
   pub candidate : after.candidate ≡ before.candidate
   pub landmarks : after.landmarks ≡ before.landmarks
   pub repeated : after.command_repeated ≡ before.command_repeated
   pub short : IsFirstOf (λ command. command) (IsShort (bytes_of before.candidate.bytes)) (first_commands (bytes_of before.candidate.bytes) (walked + 1)) after.command_short
   pub name : IsFirstOf (λ command. command) (IsWholeAndMisnamed (bytes_of before.candidate.bytes)) (first_commands (bytes_of before.candidate.bytes) (walked + 1)) after.name
 
-module _ (before : Survey) (walked place : ℕ) (can : CanPass before walked place) (passed : HasPassed before walked) where
+module _ (before : CommandSurvey) (walked place : ℕ) (can : CanPass before walked place) (passed : HasPassed before walked) where
   abbrev bytes : List ℕ
   bytes = bytes_of before.candidate.bytes
 
@@ -172,7 +172,7 @@ module _ (before : Survey) (walked place : ℕ) (can : CanPass before walked pla
         marks = none_noted (has_no_structure bytes place (λ (s : Structure). command_size bytes place < least_size bytes place s) at_place) (has_no_structure bytes place (IsBadName bytes place) at_place)
 
   -- the places of unique commands and of segments are noted, and what repeats
-  pub all_noted : (after : Survey) (landmarks : Landmarks) (repeated : Option ℕ) → Marks before walked after → AreLandmarks bytes (walked + 1) landmarks
+  pub all_noted : (after : CommandSurvey) (landmarks : Landmarks) (repeated : Option ℕ) → Marks before walked after → AreLandmarks bytes (walked + 1) landmarks
       → IsFirstOf (λ command. command) (Repeats bytes (walked + 1)) (first_commands bytes (walked + 1)) repeated
       → HasPassed (record after { landmarks = landmarks; command_repeated = repeated }) (walked + 1)
   all_noted after landmarks repeated marks are first =

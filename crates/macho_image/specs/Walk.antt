@@ -15,7 +15,7 @@ use Rattle.macho_image.specs.Command.{CommandView, first_with_cmd}
 use Rattle.macho_image.specs.Opened.{IsOpened}
 use Rattle.macho_image.specs.declared.landmarks.CommandRange.{CommandRange}
 use Rattle.macho_image.specs.declared.landmarks.Landmarks.{Landmarks}
-use Rattle.macho_image.specs.declared.survey.Survey.{Survey}
+use Rattle.macho_image.specs.declared.survey.CommandSurvey.{CommandSurvey}
 use Rattle.macho_image.specs.declared.unique.UniquePlaces.{UniquePlaces}
 use Rattle.macho_image.specs.declared.walk.Candidate.{Candidate}
 
@@ -88,13 +88,13 @@ pub record HasLandmarks (image : List ℕ) (landmarks : Landmarks) : Type 0 wher
   pub all : AreLandmarks image (command_count image) landmarks
 
 -- the next command, after so many, is at the place
-pub record CanPass (survey : Survey) (walked place : ℕ) : Type 0 where
+pub record CanPass (survey : CommandSurvey) (walked place : ℕ) : Type 0 where
   pub at : IsAt (bytes_of survey.candidate.bytes) walked place
   pub good : IsGood (bytes_of survey.candidate.bytes) place
   pub inside : commands_end (bytes_of survey.candidate.bytes) ≤ length (bytes_of survey.candidate.bytes)
 
 -- of that many first commands, the first that breaks each rule is noted
-pub record HasPassed (survey : Survey) (walked : ℕ) : Type 0 where
+pub record HasPassed (survey : CommandSurvey) (walked : ℕ) : Type 0 where
   pub landmarks : AreLandmarks (bytes_of survey.candidate.bytes) walked survey.landmarks
   pub short : IsFirstOf (λ command. command) (IsShort (bytes_of survey.candidate.bytes))
       (first_commands (bytes_of survey.candidate.bytes) walked) survey.command_short
@@ -103,7 +103,7 @@ pub record HasPassed (survey : Survey) (walked : ℕ) : Type 0 where
   pub name : IsFirstOf (λ command. command) (IsWholeAndMisnamed (bytes_of survey.candidate.bytes))
       (first_commands (bytes_of survey.candidate.bytes) walked) survey.name
 
-abbrev pub HasPassedAll : Survey → Type 0
+abbrev pub HasPassedAll : CommandSurvey → Type 0
 HasPassedAll survey = HasPassed survey (command_count (bytes_of survey.candidate.bytes))
 
 -- The walk over the commands

@@ -20,7 +20,7 @@ ghost use Rattle.macho_image.specs.Walk.{CanWalk, HasLandmarks};
 use crate::command::{Command, Commands};
 use crate::landmarks::{CommandRange, Landmarks};
 use crate::rules::dylib_id;
-use crate::survey::Survey;
+use crate::survey::CommandSurvey;
 use crate::walk::{
     Candidate, arch_mismatch, arch_of, commands_outside, end_of_commands, file_type,
     header_truncated, listed_file_type,
@@ -65,7 +65,7 @@ impl<'a> Image<'a> {
         arch_mismatch(candidate)?;
         file_type(candidate)?;
         commands_outside(candidate)?;
-        let mut survey = Survey::new(candidate);
+        let mut survey = CommandSurvey::new(candidate);
         survey.command_walk()?;
         survey.command_short()?;
         survey.command_repeated()?;

@@ -16,7 +16,7 @@ use macho_fields::{Break, FirstPlace, Rule, structure_of};
 // What the walk has found of the commands that it has passed: the first that breaks each rule of
 // listed commands, and where those are that views look for.
 #[derive(Clone, Copy)]
-pub(crate) struct Survey<'a> {
+pub(crate) struct CommandSurvey<'a> {
     candidate: Candidate<'a>,
     pub(crate) landmarks: Landmarks,
     command_short: FirstPlace,
@@ -25,13 +25,13 @@ pub(crate) struct Survey<'a> {
     name: FirstPlace,
 }
 
-impl<'a> Survey<'a> {
+impl<'a> CommandSurvey<'a> {
     // No command is passed.
-    pub(crate) fn new(candidate: Candidate<'a>) -> Survey<'a>
+    pub(crate) fn new(candidate: Candidate<'a>) -> CommandSurvey<'a>
         ensures candidate { result.candidate ≡ candidate.entry }
         ensures passed { HasPassed result 0 }
     {
-        Survey {
+        CommandSurvey {
             candidate,
             landmarks: Landmarks::new(),
             command_short: FirstPlace::none(),

@@ -8,7 +8,7 @@ ghost use Rattle.macho_rules.specs.Verdict.{IsImageRefusal};
 use crate::entry::entry;
 use crate::refusal::Refusal;
 use crate::segments::segment_overlap;
-use crate::survey::Survey;
+use crate::survey::SegmentSurvey;
 use crate::symbols::{SymbolSurvey, indirect_index};
 use crate::tables::{symbol_group, table_range};
 use macho_image::Image;
@@ -27,7 +27,7 @@ pub fn check_image(alloc: Global, image: &Image) -> Result<(), Refusal>
     ensures unbroken { OnOk result (NothingBreaks (BreaksImage image.now None)) }
     ensures refused { IfErr result (IsImageRefusal image.now None) }
 {
-    let survey = Survey::of(image);
+    let survey = SegmentSurvey::of(image);
     survey.judge_segments()?;
     segment_overlap(alloc, image, &survey)?;
     survey.judge_sections()?;

@@ -10,7 +10,7 @@ ghost use Rattle.macho_rules.specs.Mapped.{mapped_segments, memory_at, mapped_me
 ghost use Rattle.macho_spans.specs.Overlap.{IsUnordered};
 
 use crate::refusal::Refusal;
-use crate::survey::Survey;
+use crate::survey::SegmentSurvey;
 use macho_fields::{Break, Rule, Sharing, SpanList};
 use macho_image::{Image, Segment};
 use std::alloc::{AllocError, Global};
@@ -43,7 +43,11 @@ pub(crate) fn passes_image(segment: &Segment) -> bool
 //
 // For n mapped segments that ascend or descend it takes no time past the survey, and no memory. For
 // others it may take time in the order of n log n, and 24 bytes of memory for each.
-pub(crate) fn segment_overlap(alloc: Global, image: &Image, survey: &Survey) -> Result<(), Refusal>
+pub(crate) fn segment_overlap(
+    alloc: Global,
+    image: &Image,
+    survey: &SegmentSurvey,
+) -> Result<(), Refusal>
     requires survey { survey.now ≡ image.now }
     requires kept { KeptBefore image.now Rule.SegmentOverlap }
     ensures { RefusesUpTo image.now Rule.SegmentOverlap result }

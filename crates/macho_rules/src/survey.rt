@@ -13,7 +13,7 @@ use std::marker::Model;
 
 // What one walk over the segments of an image and their sections finds.
 #[derive(Drop)]
-pub(crate) struct Survey<'a> {
+pub(crate) struct SegmentSurvey<'a> {
     // The image that was scanned.
     image: Bytes<'a>,
     segments: SegmentBreaks,
@@ -23,7 +23,7 @@ pub(crate) struct Survey<'a> {
     section_count: u64,
 }
 
-impl<'a> Model for Survey<'a> {
+impl<'a> Model for SegmentSurvey<'a> {
     ghost use Rattle.std.specs.Prelude.{List, ℕ};
     ghost use Rattle.macho_fields.specs.Bytes.{bytes_of};
     ghost use Rattle.macho_rules.specs.Survey.{IsImageSurvey};
@@ -36,7 +36,7 @@ impl<'a> Model for Survey<'a> {
         survey.sections survey.mapped survey.section_count };
 }
 
-impl<'a> Survey<'a> {
+impl<'a> SegmentSurvey<'a> {
     ghost use Rattle.std.specs.Prelude.{◌≡◌, ◌-◌, ◌^◌, min, length};
     ghost use Rattle.macho_spans.specs.SpanOrder.{IsSharingOf};
     ghost use Rattle.macho_fields.specs.Image.{commands_of};
@@ -46,7 +46,7 @@ impl<'a> Survey<'a> {
     ghost use Rattle.macho_rules.specs.Mapped.{mapped_segments, tagged_memory};
 
     // Scans the segments of the image, and the sections of each.
-    pub(crate) fn of(image: &Image<'a>) -> Survey<'a>
+    pub(crate) fn of(image: &Image<'a>) -> SegmentSurvey<'a>
         ensures { result ≡ image.now }
     {
         let bytes = image.bytes();
@@ -60,7 +60,7 @@ impl<'a> Survey<'a> {
             mapped.note(&segment);
             section_count = section_count.saturating_add(segment.nsects());
         }
-        Survey {
+        SegmentSurvey {
             image: bytes,
             segments,
             sections,

@@ -29,9 +29,9 @@ use Rattle.macho_fields.proofs.Scopes.{of_slice}
 use Rattle.macho_fields.proofs.Sound.{begins, unbroken_is_sound}
 use Rattle.macho_strict.specs.Accounted.{ExactlyOne, IsAccountedImage, IsAccounted}
 use Rattle.macho_strict.specs.Elements.{elements_of}
-use Rattle.macho_strict.specs.First.{IsStrictlyUnbroken, BreaksSlice}
+use Rattle.macho_strict.specs.First.{IsStrictlyUnbroken, BreaksStrictSlice}
 use Rattle.macho_fields.specs.Layers.{NothingBreaks}
-use Rattle.macho_strict.specs.Rules.{IsInFilePart, all_segments, BreaksFile, BreaksImage, IsInName, IsSlack, IsNop}
+use Rattle.macho_strict.specs.Rules.{IsByteOfSegment, all_segments, BreaksStrictFile, BreaksStrictImage, IsInName, IsSlack, IsNop}
 use Rattle.macho_strict.specs.declared.elements.Element.{Element}
 use Rattle.macho_strict.proofs.Passed.{covers_or_not}
 use Rattle.macho_fields.specs.declared.rule.Rule.TheVariants as rule
@@ -92,7 +92,7 @@ chain_spreads image start (c ∷ cs) next (at, good, chain) zero (suc j) d less 
 chain_spreads image start (c ∷ cs) next (at, good, chain) (suc i) (suc j) d less within = chain_spreads image (c + command_size image c) cs next chain i j d (omega arith) (omega arith)
 
 -- An image that breaks no strict rule
-module _ (image : List ℕ) (are : AreCommands image (commands_of image)) (keeps : NothingBreaks (BreaksImage image)) where
+module _ (image : List ℕ) (are : AreCommands image (commands_of image)) (keeps : NothingBreaks (BreaksStrictImage image)) where
   abbrev segments : List ℕ
   segments = all_segments image
 
@@ -102,12 +102,12 @@ module _ (image : List ℕ) (are : AreCommands image (commands_of image)) (keeps
       let below = rise i j 0 less (slice_get_within segments j b at_j) in
       omega (arith, below, get_or_from_slice_get segments i a 0 at_i, get_or_from_slice_get segments j b 0 at_j)
 
-  bytes_accounted : (place : ℕ) → IsNonZero image place → ExactlyOne (λ segment. IsInFilePart image segment place) segments
+  bytes_accounted : (place : ℕ) → IsNonZero image place → ExactlyOne (λ segment. IsByteOfSegment image segment place) segments
   bytes_accounted place is =
-      exactly_one (λ segment. IsInFilePart image segment place) segments (λ segment. covers_or_not (fileoff image segment) (filesize image segment) place)
-      (apart_from_order (λ segment. IsInFilePart image segment place) segments alone) (λ none. keeps rule.StrayByte place (is, none))
+      exactly_one (λ segment. IsByteOfSegment image segment place) segments (λ segment. covers_or_not (fileoff image segment) (filesize image segment) place)
+      (apart_from_order (λ segment. IsByteOfSegment image segment place) segments alone) (λ none. keeps rule.StrayByte place (is, none))
     where
-      alone : (i j a b : ℕ) → i < j → slice_get segments i ≡ Some a → slice_get segments j ≡ Some b → IsInFilePart image a place → ¬ IsInFilePart image b place
+      alone : (i j a b : ℕ) → i < j → slice_get segments i ≡ Some a → slice_get segments j ≡ Some b → IsByteOfSegment image a place → ¬ IsByteOfSegment image b place
       alone i j a b less at_i at_j here there =
           keeps rule.SegmentFileOverlap b (contains_at segments j b at_j, any_of _ segments a (contains_at segments i a at_i) (segments_rise i j a b less at_i at_j, (place, here, there)))
 
@@ -119,17 +119,17 @@ module _ (image : List ℕ) (are : AreCommands image (commands_of image)) (keeps
 
   -- a byte that is not zero lies in exactly one element, unless it is a NOP
   bytes_claimed : (place : ℕ) → IsNonZero image place
-      → ExactlyOne (λ (element : Element). Holds element.span place) (elements_of image) ⊎ Any (λ segment. IsInFilePart image segment place × IsNop image place segment) segments
+      → ExactlyOne (λ (element : Element). Holds element.span place) (elements_of image) ⊎ Any (λ segment. IsByteOfSegment image segment place × IsNop image place segment) segments
   bytes_claimed place is = elim (any_or_not (λ (element : Element). Holds element.span place) (λ element. covers_or_not element.span.start element.span.len place) (elements_of image)) [
     | inl some ↦ inl (exactly_one (λ (element : Element). Holds element.span place) (elements_of image) (λ element. covers_or_not element.span.start element.span.len place) (elements_apart place)
         (λ none. none_of_any some none))
-    | inr none ↦ inr (elim (any_or_not (λ segment. IsInFilePart image segment place × IsNop image place segment) (λ segment. both_or_not (covers_or_not (fileoff image segment) (filesize image segment) place) (nop_or_not segment)) segments) [
+    | inr none ↦ inr (elim (any_or_not (λ segment. IsByteOfSegment image segment place × IsNop image place segment) (λ segment. both_or_not (covers_or_not (fileoff image segment) (filesize image segment) place) (nop_or_not segment)) segments) [
       | inl nop ↦ nop
       | inr loose ↦
           let (k, s, at, held, only) = bytes_accounted place is in
           absurd (keeps rule.UnclaimedByte place (
             is,
-            any_of (λ segment. IsInFilePart image segment place × ¬ IsNop image place segment) segments s (contains_at segments k s at) (held, λ nop. loose (any_of _ segments s (contains_at segments k s at) (held, nop))),
+            any_of (λ segment. IsByteOfSegment image segment place × ¬ IsNop image place segment) segments s (contains_at segments k s at) (held, λ nop. loose (any_of _ segments s (contains_at segments k s at) (held, nop))),
             λ k d less held_there. none (any_of _ (elements_of image) (get_or (elements_of image) k d) (Contains-get_or (elements_of image) k d less) held_there),
           ))
     ])
@@ -229,4 +229,4 @@ module _ (file : List ℕ) (unbroken : IsUnbroken file) (strictly : IsStrictlyUn
           image_accounted (slice_bytes file slice)
           (commands_of_walk (slice_bytes file slice) slice.arch (λ place broken. unbroken (record { scope = suc k; rule = rule.CommandWalk; place = place })
           (of_slice layout.BreaksFile layout.BreaksImage file k slice at image rule.CommandWalk place (inl broken))))
-          (λ r place broken. strictly (record { scope = suc k; rule = r; place = place }) (of_slice BreaksFile BreaksSlice file k slice at image r place broken))
+          (λ r place broken. strictly (record { scope = suc k; rule = r; place = place }) (of_slice BreaksStrictFile BreaksStrictSlice file k slice at image r place broken))

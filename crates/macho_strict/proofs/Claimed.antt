@@ -16,7 +16,7 @@ use Rattle.macho_image.specs.Opened.{IsOpened}
 use Rattle.macho_strict.specs.Claims.{least_option, occupied, AreNoted, ArePassedFor, CoverSame}
 use Rattle.macho_strict.specs.Elements.{elements_of}
 use Rattle.macho_strict.specs.Gaps.{AreInside, ArePassed, IsFree}
-use Rattle.macho_strict.specs.Rules.{BreaksImage, SharesBytes, EndsPast, PassesImage}
+use Rattle.macho_strict.specs.Rules.{BreaksStrictImage, SharesBytes, EndsPast, SomeElementEndsPast}
 use Rattle.macho_strict.specs.Sharing.{IsFirstSharing, tagged_elements}
 use Rattle.macho_strict.specs.Verdict.{element_spans}
 use Rattle.macho_strict.specs.declared.claims.Noted.{Noted}
@@ -96,26 +96,26 @@ none_shared image gaps are up = none_sharing (elements_of image) (element_spans 
 -- Which elements end past the image
 
 -- none does, where the spans that have the same places end inside
-pub none_outside : (image : List ℕ) (spans : List Span) → CoverSame (element_spans image) spans → AreInside image spans → IsLeastPlace (PassesImage image) None
+pub none_outside : (image : List ℕ) (spans : List Span) → CoverSame (element_spans image) spans → AreInside image spans → IsLeastPlace (SomeElementEndsPast image) None
 none_outside image spans same inside = λ p (k, e, less, at, (past, is)).
     let last : ℕ = e.span.start + e.span.len - 1 in
     let free : IsFree spans last = λ i held. let by = inside i (omega (arith, held.0, held.1)) in absurd (omega (arith, by, held.1, past)) in
     let here : span_at (element_spans image) k ≡ e.span = get_or-map span_of (elements_of image) k e no_span less ∙ ap span_of at in
     (same last).1 free k (subst (λ (s : Span). Holds s last) (sym here) (omega (arith, past), omega (arith, past)))
 
-pub passes_image : (image : List ℕ) → AreBreaks (PassesImage image) place_of (EndsPast image) (elements_of image)
-passes_image image = record {
+pub some_element_ends_past : (image : List ℕ) → AreBreaks (SomeElementEndsPast image) place_of (EndsPast image) (elements_of image)
+some_element_ends_past image = record {
   broken = λ x has past. any_of _ (elements_of image) x has (past, refl);
   only = λ p (k, e, less, at, (past, is)). (e, (k, less, at), past, is);
 }
 
 -- where the elements of an opened image break their rule
-pub overlap_found : (image : List ℕ) → IsOpened image → (outside shared : Option ℕ) → IsLeastPlace (PassesImage image) outside → IsFirstSharing (tagged_elements image) shared
-    → IsLeastPlace (BreaksImage image rule.ElementOverlap) (least_option outside shared)
+pub overlap_found : (image : List ℕ) → IsOpened image → (outside shared : Option ℕ) → IsLeastPlace (SomeElementEndsPast image) outside → IsFirstSharing (tagged_elements image) shared
+    → IsLeastPlace (BreaksStrictImage image rule.ElementOverlap) (least_option outside shared)
 overlap_found image opened outside shared past first =
-    least_same (λ p. PassesImage image p ⊎ SharesBytes image p) (BreaksImage image rule.ElementOverlap)
+    least_same (λ p. SomeElementEndsPast image p ⊎ SharesBytes image p) (BreaksStrictImage image rule.ElementOverlap)
     (λ p either. elim either [ inl is ↦ inr is | inr is ↦ inl is ]) (λ p either. elim either [ inl is ↦ inr is | inr is ↦ inl is ]) (least_option outside shared)
-    (least_of_either (PassesImage image) (SharesBytes image) outside shared past (least_sharing (elements_of image) (elements_rise image opened) shared first))
+    (least_of_either (SomeElementEndsPast image) (SharesBytes image) outside shared past (least_sharing (elements_of image) (elements_rise image opened) shared first))
 
 pub on_err : {T E P : Type 0} (answer : Result T E) → P → OnErr answer P
 on_err (Ok x) p = tt

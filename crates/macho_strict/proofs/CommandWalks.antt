@@ -18,7 +18,7 @@ use Rattle.macho_strict.specs.Commands.{NotesOne, IsNotedOf}
 use Rattle.macho_strict.specs.Elements.{headers, command_elements, elements_of}
 use Rattle.macho_strict.specs.ElementWalk.{elements_left}
 use Rattle.macho_strict.specs.Encrypted.{IsEncrypted}
-use Rattle.macho_strict.specs.Rules.{BreaksImage}
+use Rattle.macho_strict.specs.Rules.{BreaksStrictImage}
 use Rattle.macho_strict.specs.Slack.{IsNonZeroSlack}
 use Rattle.macho_strict.specs.Verdict.{HasEncrypted}
 use Rattle.macho_strict.specs.declared.claims.Noted.{Noted}
@@ -39,7 +39,7 @@ pub record AreSeen (image : List ℕ) (left : List CommandView) (noted : Noted) 
 pub record AreNotedTo (image : List ℕ) (all left : List CommandView) (noted : NotedCommands) : Type 0 where
   pub listed : All (IsCommandOf image) left
   pub end : AreLeft image noted.end left
-  pub slack : MatchOption noted.slack (Searching (λ v. v.place) (HasSlack image) all left) (λ place. IsLeastPlace (BreaksImage image rule.CommandSlack) (Some place))
+  pub slack : MatchOption noted.slack (Searching (λ v. v.place) (HasSlack image) all left) (λ place. IsLeastPlace (BreaksStrictImage image rule.CommandSlack) (Some place))
   pub encrypted : IsTrue noted.encrypted → HasEncrypted image
   pub search : ¬ IsTrue noted.encrypted → Searching (λ v. v.place) (IsEncrypted image) all left
   pub elements : AreSeen image left noted.elements
@@ -65,9 +65,9 @@ module _ (image : List ℕ) (opened : IsOpened image) (all : List CommandView) (
     is_listed = first_has (IsCommandOf image) left rest x is noted.listed
 
     module _ (one : NotesOne image x old new) where
-      slack_more : (o n : Option ℕ) → MatchOption o (Searching (λ v. v.place) (HasSlack image) all left) (λ place. IsLeastPlace (BreaksImage image rule.CommandSlack) (Some place))
+      slack_more : (o n : Option ℕ) → MatchOption o (Searching (λ v. v.place) (HasSlack image) all left) (λ place. IsLeastPlace (BreaksStrictImage image rule.CommandSlack) (Some place))
           → MatchOption o (IsLeastPlace (IsNonZeroSlack image x.place) n) (λ place. n ≡ Some place)
-          → MatchOption n (Searching (λ v. v.place) (HasSlack image) all rest) (λ place. IsLeastPlace (BreaksImage image rule.CommandSlack) (Some place))
+          → MatchOption n (Searching (λ v. v.place) (HasSlack image) all rest) (λ place. IsLeastPlace (BreaksStrictImage image rule.CommandSlack) (Some place))
       slack_more (Some place) n held same = rw same held
       slack_more None (Some place) search least = slack_found image opened all are left rest x is search place least
       slack_more None None search none = search_next (λ v. v.place) (HasSlack image) all left rest x is search (λ (p, slack). none p slack)
@@ -93,7 +93,7 @@ module _ (image : List ℕ) (opened : IsOpened image) (all : List CommandView) (
       }
 
   module _ (left : List CommandView) (is : left ≡ []) (noted : NotedCommands) (to : AreNotedTo image all left noted) where
-    slack_all : (o : Option ℕ) → MatchOption o (Searching (λ v. v.place) (HasSlack image) all left) (λ place. IsLeastPlace (BreaksImage image rule.CommandSlack) (Some place)) → IsLeastPlace (BreaksImage image rule.CommandSlack) o
+    slack_all : (o : Option ℕ) → MatchOption o (Searching (λ v. v.place) (HasSlack image) all left) (λ place. IsLeastPlace (BreaksStrictImage image rule.CommandSlack) (Some place)) → IsLeastPlace (BreaksStrictImage image rule.CommandSlack) o
     slack_all None search = slack_ended image opened all are left is search
     slack_all (Some place) least = least
 

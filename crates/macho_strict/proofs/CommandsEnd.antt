@@ -2,7 +2,7 @@
 use Rattle.std.proofs.Common.{◌≡◌, ◌≢◌, ℕ, ◌+◌, List, [], ◌∷◌, map, refl, sym, ap, ◌∙◌, subst, arith}
 use Rattle.macho_fields.specs.Image.{command_size, commands_of, commands_end, Follow, IsChain, AreCommands}
 use Rattle.macho_image.specs.Command.{CommandView, command_at}
-use Rattle.macho_strict.specs.Rules.{BreaksImage}
+use Rattle.macho_strict.specs.Rules.{BreaksStrictImage}
 use Rattle.macho_fields.specs.declared.rule.Rule.TheVariants as rule
 
 -- the commands that are left follow one another from a place on, and end where all commands end
@@ -51,7 +51,7 @@ one_end image start [] a b first second = sym first ∙ second
 one_end image start (p ∷ ps) a b first second = one_end image (p + command_size image p) ps a b first.2 second.2
 
 module _ (image : List ℕ) (end : ℕ) (chain : IsChain image (commands_of image) end) where
-  pub ends_right : end ≡ commands_end image → (place : ℕ) → ¬ BreaksImage image rule.CommandsEnd place
+  pub ends_right : end ≡ commands_end image → (place : ℕ) → ¬ BreaksStrictImage image rule.CommandsEnd place
   ends_right same place (at, wrong) = wrong (subst (IsChain image (commands_of image)) same chain)
 
   pub ends_wrong : end ≢ commands_end image → ¬ IsChain image (commands_of image) (commands_end image)

@@ -21,7 +21,7 @@ use Rattle.macho_rules.proofs.SegmentItems.{commands_rise}
 use Rattle.macho_spans.specs.Span.{IsInside}
 use Rattle.macho_spans.specs.declared.span.Span.{Span}
 use Rattle.macho_strict.specs.Encrypted.{IsEncrypted, encrypted_span}
-use Rattle.macho_strict.specs.Rules.{all_segments, cryptsize, HasBytes, IsMisplaced, BreaksImage}
+use Rattle.macho_strict.specs.Rules.{all_segments, cryptsize, HasBytes, HasMisplacedRange, BreaksStrictImage}
 use Rattle.macho_strict.specs.Verdict.{file_parts, HasEncrypted}
 
 -- the structure of such a command lies in the image
@@ -37,7 +37,7 @@ encryption_inside image command judged is =
 
 -- a command has an encrypted range that is misplaced
 abbrev pub HasMisplaced : List ℕ → CommandView → Type 0
-HasMisplaced image command = (command.cmd ≡ loader.LC_ENCRYPTION_INFO_64) × IsMisplaced image command.place
+HasMisplaced image command = (command.cmd ≡ loader.LC_ENCRYPTION_INFO_64) × HasMisplacedRange image command.place
 
 module _ (image : List ℕ) (all : List CommandView) (opened : IsOpened image) (are : all ≡ map (command_at image) (commands_of image)) where
   pub commands_search : (P : CommandView → Type 0) → Searching (λ v. v.place) P all all
@@ -73,10 +73,10 @@ module _ (image : List ℕ) (all : List CommandView) (opened : IsOpened image) (
       )
 
   -- what breaks the rule
-  pub encryptions_break : AreBreaks (BreaksImage image rule.EncryptedRange) (λ v. v.place) (HasMisplaced image) all
+  pub encryptions_break : AreBreaks (BreaksStrictImage image rule.EncryptedRange) (λ v. v.place) (HasMisplaced image) all
   encryptions_break =
-      subst (AreBreaks (BreaksImage image rule.EncryptedRange) (λ v. v.place) (HasMisplaced image)) (sym are)
-      (are_breaks_at (BreaksImage image rule.EncryptedRange) (λ (v : CommandView). v.place) (HasMisplaced image) (command_at image) (commands_of image)
+      subst (AreBreaks (BreaksStrictImage image rule.EncryptedRange) (λ v. v.place) (HasMisplaced image)) (sym are)
+      (are_breaks_at (BreaksStrictImage image rule.EncryptedRange) (λ (v : CommandView). v.place) (HasMisplaced image) (command_at image) (commands_of image)
       (λ p has here. (listed_at p has here.0, here.1))
       (λ p broken. (p, with_cmd_among image (commands_of image) loader.LC_ENCRYPTION_INFO_64 p broken.0, (with_cmd_is image (commands_of image) loader.LC_ENCRYPTION_INFO_64 p broken.0, broken.1), refl)))
 

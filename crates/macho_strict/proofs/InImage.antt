@@ -15,7 +15,7 @@ use Rattle.macho_image.proofs.Opened.{opened_keeps}
 use Rattle.macho_image.proofs.OpenedWalk.{opened_commands}
 use Rattle.macho_rules.proofs.Verdicts.{unbroken_opened}
 use Rattle.macho_strict.specs.Elements.{headers, command_elements, elements_of}
-use Rattle.macho_strict.specs.Rules.{BreaksImage}
+use Rattle.macho_strict.specs.Rules.{BreaksStrictImage}
 use Rattle.macho_strict.specs.declared.elements.Element.{Element}
 use Rattle.macho_fields.specs.declared.rule.Rule.{Rule}
 use Rattle.macho_fields.specs.declared.rule.Rule.TheVariants as rule
@@ -49,7 +49,7 @@ module _ (image : List ℕ) (none : NothingBreaks (Breaks image None)) where
     | inr later ↦ described_inside (commands_of image) (λ command has. has) e later
   ]
 
-  pub place_inside : (r : Rule) (place : ℕ) → BreaksImage image r place → place ≤ length image
+  pub place_inside : (r : Rule) (place : ℕ) → BreaksStrictImage image r place → place ≤ length image
   place_inside rule.CommandsEnd place (at, wrong) = let header = facts.header in omega arith
   place_inside rule.HeaderSegment place (at, wrong) = let header = facts.header in omega arith
   place_inside rule.SegmentFileOverlap place (has, shares) =

@@ -25,7 +25,7 @@ use Rattle.macho_image.proofs.Opened.{opened_keeps}
 use Rattle.macho_image.proofs.OpenedWalk.{opened_commands}
 use Rattle.macho_rules.proofs.Searches.{Rising, Searching, search_all, first_among, not_before, none_left, mapped_has, ordered_map, one_of}
 use Rattle.macho_rules.proofs.SegmentItems.{commands_rise}
-use Rattle.macho_strict.specs.Rules.{BreaksImage, IsSlack, IsInName}
+use Rattle.macho_strict.specs.Rules.{BreaksStrictImage, IsSlack, IsInName}
 use Rattle.macho_strict.specs.Slack.{IsNonZeroSlack, IsNonZeroWithin, IsNonZeroAround, IsCounted}
 use Rattle.macho_strict.proofs.Passed.{least_same}
 
@@ -187,7 +187,7 @@ module _ (image : List ℕ) (opened : IsOpened image) (all : List CommandView) (
 
     -- the first byte of slack of the first command that has one is the first of all
     pub slack_found : (place : ℕ) → IsLeastPlace (IsNonZeroSlack image v.place) (Some place)
-        → BreaksImage image rule.CommandSlack place × ((p : ℕ) → BreaksImage image rule.CommandSlack p → place ≤ p)
+        → BreaksStrictImage image rule.CommandSlack place × ((p : ℕ) → BreaksStrictImage image rule.CommandSlack p → place ≤ p)
     slack_found place (here, least) = (
       (here.0, any_of (IsSlack image place) (commands_of image) v.place is_judged.listed here.1),
       λ p (broken, any). let (command, has, slack) = one_of (IsSlack image p) (commands_of image) any in not_earlier p command has (broken, slack),
@@ -205,7 +205,7 @@ module _ (image : List ℕ) (opened : IsOpened image) (all : List CommandView) (
         ]
 
   -- where all were passed, there is none
-  pub slack_ended : (left : List CommandView) → left ≡ [] → Searching (λ w. w.place) (HasSlack image) all left → (p : ℕ) → ¬ BreaksImage image rule.CommandSlack p
+  pub slack_ended : (left : List CommandView) → left ≡ [] → Searching (λ w. w.place) (HasSlack image) all left → (p : ℕ) → ¬ BreaksStrictImage image rule.CommandSlack p
   slack_ended left is search p (broken, any) =
       let (command, has, slack) = one_of (IsSlack image p) (commands_of image) any in
       none_left (λ w. w.place) (HasSlack image) all left is search (command_at image command) (among_all command has) (p, (broken, slack))

@@ -14,7 +14,7 @@ use Rattle.macho_spans.specs.declared.span.Span.{Span}
 use Rattle.macho_fields.proofs.Slices.{slice_count}
 use Rattle.macho_strict.specs.declared.gaps.Wanted.TheVariants as wanted
 use Rattle.macho_strict.specs.Gaps.{IsStray, ComeByStart}
-use Rattle.macho_strict.specs.Rules.{BreaksFile}
+use Rattle.macho_strict.specs.Rules.{BreaksStrictFile}
 use Rattle.macho_strict.specs.Stray.{table_span}
 use Rattle.macho_strict.specs.Verdict.{slice_spans}
 use Rattle.macho_fields.specs.declared.rule.Rule.TheVariants as rule
@@ -71,7 +71,7 @@ ascend_after_table file up (suc i) zero less filled_i filled_j = absurd (omega a
 ascend_after_table file up (suc i) (suc j) less filled_i filled_j = ascending_by_start (slice_spans file) up i j (omega arith) filled_i filled_j
 
 module _ (file : List ℕ) (universal : IsUniversal file) where
-  breaks : (p : ℕ) → IsStray wanted.NonZero file (table_span file ∷ slice_spans file) p → BreaksFile file rule.FatStrayByte p
+  breaks : (p : ℕ) → IsStray wanted.NonZero file (table_span file ∷ slice_spans file) p → BreaksStrictFile file rule.FatStrayByte p
   breaks p (is, free) = (universal, is, past, none)
     where
       past : table_end file ≤ p
@@ -83,12 +83,12 @@ module _ (file : List ℕ) (universal : IsUniversal file) where
       none : All (λ slice. ¬ HasPlace slice p) (slices_of file)
       none = all_of_free span_of (slices_of file) p (λ k. free (suc k))
 
-  strays : (p : ℕ) → BreaksFile file rule.FatStrayByte p → IsStray wanted.NonZero file (table_span file ∷ slice_spans file) p
+  strays : (p : ℕ) → BreaksStrictFile file rule.FatStrayByte p → IsStray wanted.NonZero file (table_span file ∷ slice_spans file) p
   strays p (_, is, past, none) = (is, free)
     where
       free : (i : ℕ) → ¬ Holds (span_at (table_span file ∷ slice_spans file) i) p
       free zero held = absurd (omega (arith, held.1))
       free (suc k) held = free_of_all span_of (slices_of file) (record { start = 0; size = 0; arch = None }) p none k held
 
-  pub least_of_file : (found : Option ℕ) → IsLeastPlace (IsStray wanted.NonZero file (table_span file ∷ slice_spans file)) found → IsLeastPlace (BreaksFile file rule.FatStrayByte) found
-  least_of_file found least = least_same (IsStray wanted.NonZero file (table_span file ∷ slice_spans file)) (BreaksFile file rule.FatStrayByte) breaks strays found least
+  pub least_of_file : (found : Option ℕ) → IsLeastPlace (IsStray wanted.NonZero file (table_span file ∷ slice_spans file)) found → IsLeastPlace (BreaksStrictFile file rule.FatStrayByte) found
+  least_of_file found least = least_same (IsStray wanted.NonZero file (table_span file ∷ slice_spans file)) (BreaksStrictFile file rule.FatStrayByte) breaks strays found least

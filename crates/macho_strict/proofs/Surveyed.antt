@@ -18,7 +18,7 @@ use Rattle.macho_rules.proofs.Searches.{ordered_at}
 use Rattle.macho_rules.proofs.SegmentItems.{segments_spread}
 use Rattle.macho_image.proofs.OpenedWalk.{opened_commands}
 use Rattle.macho_strict.specs.Gaps.{IsStray, ArePassed}
-use Rattle.macho_strict.specs.Rules.{BreaksImage, SharesFilePart, all_segments}
+use Rattle.macho_strict.specs.Rules.{BreaksStrictImage, SharesFilePart, all_segments}
 use Rattle.macho_strict.specs.Sharing.{file_part, all_parts, tagged_parts, IsFirstSharing}
 use Rattle.macho_strict.specs.Verdict.{file_parts}
 use Rattle.macho_strict.specs.declared.elements.Element.{Element}
@@ -64,13 +64,13 @@ module _ (image : List ℕ) where
 
   -- The rule stray-byte
 
-  pub least_stray : (found : Option ℕ) → IsLeastPlace (IsStray wanted.NonZero image (file_parts image)) found → IsLeastPlace (BreaksImage image rule.StrayByte) found
-  least_stray found least = least_same (IsStray wanted.NonZero image (file_parts image)) (BreaksImage image rule.StrayByte) to from found least
+  pub least_stray : (found : Option ℕ) → IsLeastPlace (IsStray wanted.NonZero image (file_parts image)) found → IsLeastPlace (BreaksStrictImage image rule.StrayByte) found
+  least_stray found least = least_same (IsStray wanted.NonZero image (file_parts image)) (BreaksStrictImage image rule.StrayByte) to from found least
     where
-      to : (p : ℕ) → IsStray wanted.NonZero image (file_parts image) p → BreaksImage image rule.StrayByte p
+      to : (p : ℕ) → IsStray wanted.NonZero image (file_parts image) p → BreaksStrictImage image rule.StrayByte p
       to p (is, free) = (is, all_of_free part_of segments p free)
 
-      from : (p : ℕ) → BreaksImage image rule.StrayByte p → IsStray wanted.NonZero image (file_parts image) p
+      from : (p : ℕ) → BreaksStrictImage image rule.StrayByte p → IsStray wanted.NonZero image (file_parts image) p
       from p (is, none) = (is, free_of_all part_of segments 0 p none)
 
   -- The rule segment-file-overlap
@@ -86,7 +86,7 @@ module _ (image : List ℕ) where
         let apart = ordered_at (λ a b. a + command_size image a ≤ b) segments 0 i j (segments_spread image opened) less within in
         omega (arith, apart, good.least)
 
-    by_index : (k : ℕ) → SharesEarlier (file_parts image) k → (k < length segments) × BreaksImage image rule.SegmentFileOverlap (get_or segments k 0)
+    by_index : (k : ℕ) → SharesEarlier (file_parts image) k → (k < length segments) × BreaksStrictImage image rule.SegmentFileOverlap (get_or segments k 0)
     by_index k (within, (i, less, (place, first, second))) =
         let here : k < length segments = omega (arith, within, length-map segments part_of) in
         let has : Contains segments (get_or segments k 0) = (k, here, get_or_default segments k (get_or segments k 0) 0 here) in
@@ -100,7 +100,7 @@ module _ (image : List ℕ) where
         ) in
         (here, (has, shares))
 
-    index_of : (q : ℕ) → BreaksImage image rule.SegmentFileOverlap q → (k : ℕ) × SharesEarlier (file_parts image) k × (get_or segments k 0 ≡ q)
+    index_of : (q : ℕ) → BreaksStrictImage image rule.SegmentFileOverlap q → (k : ℕ) × SharesEarlier (file_parts image) k × (get_or segments k 0 ≡ q)
     index_of q ((k, within, at), (i, e, below, at_i, (earlier, (place, first, second)))) =
         let is : get_or segments k 0 ≡ q = get_or_default segments k 0 q within ∙ at in
         let is_i : get_or segments i 0 ≡ e = get_or_default segments i 0 e below ∙ at_i in
@@ -130,13 +130,13 @@ module _ (image : List ℕ) where
           | inr same ↦ let one : k ≡ i = omega arith in absurd (omega (arith, is, is_i, ap (λ n. get_or segments n 0) one))
         ]
 
-    pub least_overlap : (found : Option ℕ) → IsFirstSharing (tagged_parts image) found → IsLeastPlace (BreaksImage image rule.SegmentFileOverlap) found
+    pub least_overlap : (found : Option ℕ) → IsFirstSharing (tagged_parts image) found → IsLeastPlace (BreaksStrictImage image rule.SegmentFileOverlap) found
     least_overlap None none = λ q broken. let (k, shares, is) = index_of q broken in none k (subst (λ (spans : List Span). SharesEarlier spans k) (sym spans_are) shares)
     least_overlap (Some tag) (j, least, at) =
         let (shares, first) = subst (λ (spans : List Span). IsLeastSharing spans j) spans_are least in
         let (within, broken) = by_index j shares in
         let here : get_or segments j 0 ≡ tag = tag_is j tag within at in
-        (subst (BreaksImage image rule.SegmentFileOverlap) here broken, λ q other. let (k, also, is) = index_of q other in low j tag here first within k also q is)
+        (subst (BreaksStrictImage image rule.SegmentFileOverlap) here broken, λ q other. let (k, also, is) = index_of q other in low j tag here first within k also q is)
       where
         tag_is : (j tag : ℕ) → j < length segments → slice_get (tags_in (tagged_parts image)) j ≡ Some tag → get_or segments j 0 ≡ tag
         tag_is j tag within at =

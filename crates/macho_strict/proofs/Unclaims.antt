@@ -15,7 +15,7 @@ use Rattle.macho_spans.specs.Span.{Holds}
 use Rattle.macho_spans.specs.declared.span.Span.{Span}
 use Rattle.macho_strict.specs.Elements.{elements_of}
 use Rattle.macho_strict.specs.Gaps.{IsFree, IsStray}
-use Rattle.macho_strict.specs.Rules.{BreaksImage, IsInFilePart, IsNop, all_segments}
+use Rattle.macho_strict.specs.Rules.{BreaksStrictImage, IsByteOfSegment, IsNop, all_segments}
 use Rattle.macho_rules.proofs.Mapped.{filtered}
 use Rattle.macho_rules.proofs.Searches.{unfiltered}
 use Rattle.macho_strict.specs.Sharing.{file_part}
@@ -43,7 +43,7 @@ module _ (image : List ℕ) where
   IsOutside = IsStray wanted.NonZero image (element_spans image ++ code_parts image)
 
   abbrev IsUnclaimed : ℕ → Type 0
-  IsUnclaimed = BreaksImage image rule.UnclaimedByte
+  IsUnclaimed = BreaksStrictImage image rule.UnclaimedByte
 
   free_of : (p : ℕ) → All (λ element. ¬ Holds element.span p) (elements_of image) → IsFree (element_spans image) p
   free_of p none = free_of_all span_of (elements_of image) (record { described = 0; span = no_span }) p none
@@ -73,14 +73,14 @@ module _ (image : List ℕ) where
   code_has : (s : ℕ) → Contains (all_segments image) s → is_code image s ≡ true → Contains (filter (is_code image) (all_segments image)) s
   code_has s has t = filtered (is_code image) (all_segments image) s has t
 
-  module _ (keeps_stray : (p : ℕ) → ¬ BreaksImage image rule.StrayByte p) (keeps_apart : (p : ℕ) → ¬ BreaksImage image rule.SegmentFileOverlap p) where
+  module _ (keeps_stray : (p : ℕ) → ¬ BreaksStrictImage image rule.StrayByte p) (keeps_apart : (p : ℕ) → ¬ BreaksStrictImage image rule.SegmentFileOverlap p) where
     -- a byte that is not zero lies in some segment
-    in_segment : (p : ℕ) → IsNonZero image p → Any (λ segment. IsInFilePart image segment p) (all_segments image)
-    in_segment p is = not_not (any_or_not (λ segment. IsInFilePart image segment p) (λ segment. covers_or_not (fileoff image segment) (filesize image segment) p) (all_segments image))
+    in_segment : (p : ℕ) → IsNonZero image p → Any (λ segment. IsByteOfSegment image segment p) (all_segments image)
+    in_segment p is = not_not (any_or_not (λ segment. IsByteOfSegment image segment p) (λ segment. covers_or_not (fileoff image segment) (filesize image segment) p) (all_segments image))
         (λ none. keeps_stray p (is, λ k d less held. none (any_of _ (all_segments image) (get_or (all_segments image) k d) (Contains-get_or (all_segments image) k d less) held)))
 
     -- in one alone
-    one_segment : (p s t : ℕ) → Contains (all_segments image) s → Contains (all_segments image) t → IsInFilePart image s p → IsInFilePart image t p → s ≡ t
+    one_segment : (p s t : ℕ) → Contains (all_segments image) s → Contains (all_segments image) t → IsByteOfSegment image s p → IsByteOfSegment image t p → s ≡ t
     one_segment p s t has_s has_t in_s in_t = elim (cases_order s t) [
       | inl same ↦ same
       | inr (inl before) ↦ absurd (keeps_apart t (has_t, any_of _ (all_segments image) s has_s (before, (p, in_s, in_t))))

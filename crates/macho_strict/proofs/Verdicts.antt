@@ -9,47 +9,47 @@ use Rattle.macho_rules.specs.declared.refusal.Refusal.TheVariants as refusal
 use Rattle.macho_fields.specs.Layers.{NothingBreaks, KeptBelow}
 use Rattle.macho_rules.specs.Verdict.{IsRefusalOf}
 use Rattle.macho_fields.specs.RuleList.{rank}
-use Rattle.macho_strict.specs.Rules.{BreaksFile, BreaksImage}
-use Rattle.macho_strict.specs.Verdict.{IsStrictRefusal, IsStrictBreak, IsScopeBreak, TakesMemory, slice_spans}
+use Rattle.macho_strict.specs.Rules.{BreaksStrictFile, BreaksStrictImage}
+use Rattle.macho_strict.specs.Verdict.{IsStrictRefusal, IsStrictBreak, IsStrictScopeBreak, TakesMemory, slice_spans}
 use Rattle.macho_fields.specs.declared.rule.Rule.TheVariants as rule
 use Rattle.macho_strict.proofs.Ranks.{last_of_image, file_rule}
-use Rattle.macho_strict.specs.First.{IsBrokenIn, BreaksSlice}
+use Rattle.macho_strict.specs.First.{IsStrictlyBrokenIn, BreaksStrictSlice}
 use Rattle.macho_fields.proofs.Scopes.{KeptScopes, none_kept, one_more, scope_first}
 
 -- a fault that is passed on, where memory may run out in more cases
-pub passed_of : {T : Type 0} (image : List ℕ) (P : Type 0) → (P → TakesMemory image) → (f : Refusal) → IsRefusalOf (BreaksImage image) P f → (answer : Result T Refusal)
-    → IsErrAnd answer (λ given. given ≡ f) → IfErr answer (IsRefusalOf (BreaksImage image) (TakesMemory image))
-passed_of image P to f found answer is = passed_on (IsRefusalOf (BreaksImage image) (TakesMemory image)) answer f is (taken f found)
+pub passed_of : {T : Type 0} (image : List ℕ) (P : Type 0) → (P → TakesMemory image) → (f : Refusal) → IsRefusalOf (BreaksStrictImage image) P f → (answer : Result T Refusal)
+    → IsErrAnd answer (λ given. given ≡ f) → IfErr answer (IsRefusalOf (BreaksStrictImage image) (TakesMemory image))
+passed_of image P to f found answer is = passed_on (IsRefusalOf (BreaksStrictImage image) (TakesMemory image)) answer f is (taken f found)
   where
-    taken : (given : Refusal) → IsRefusalOf (BreaksImage image) P given → IsRefusalOf (BreaksImage image) (TakesMemory image) given
+    taken : (given : Refusal) → IsRefusalOf (BreaksStrictImage image) P given → IsRefusalOf (BreaksStrictImage image) (TakesMemory image) given
     taken (refusal.Broken b) least = least
     taken refusal.Memory p = to p
 
 -- where the last rule is unbroken, all are
-pub all_unbroken : (image : List ℕ) → KeptBelow (BreaksImage image) (rank rule.UnclaimedByte + 1) → NothingBreaks (BreaksImage image)
+pub all_unbroken : (image : List ℕ) → KeptBelow (BreaksStrictImage image) (rank rule.UnclaimedByte + 1) → NothingBreaks (BreaksStrictImage image)
 all_unbroken image kept r place broken = let most = last_of_image image r place broken in kept r place (omega (arith, most)) broken
 
 -- nothing is broken in the first n scopes
 abbrev pub KeptStrictly : List ℕ → ℕ → Type 0
-KeptStrictly file n = KeptScopes BreaksFile BreaksSlice file n
+KeptStrictly file n = KeptScopes BreaksStrictFile BreaksStrictSlice file n
 
 -- one scope more
-pub one_kept : (file : List ℕ) (n : ℕ) → KeptStrictly file n → NothingBreaks (IsBrokenIn file n) → KeptStrictly file (n + 1)
-one_kept = one_more BreaksFile BreaksSlice
+pub one_kept : (file : List ℕ) (n : ℕ) → KeptStrictly file n → NothingBreaks (IsStrictlyBrokenIn file n) → KeptStrictly file (n + 1)
+one_kept = one_more BreaksStrictFile BreaksStrictSlice
 
 -- a file breaks no rule but the first
-pub file_unbroken : (file : List ℕ) → KeptBelow (BreaksFile file) (rank rule.FatStrayByte + 1) → KeptStrictly file 1
+pub file_unbroken : (file : List ℕ) → KeptBelow (BreaksStrictFile file) (rank rule.FatStrayByte + 1) → KeptStrictly file 1
 file_unbroken file kept =
-    one_kept file 0 (none_kept BreaksFile BreaksSlice file) (λ r place broken. let same = ap rank (file_rule file r place broken) in kept r place (omega (arith, same)) broken)
+    one_kept file 0 (none_kept BreaksStrictFile BreaksStrictSlice file) (λ r place broken. let same = ap rank (file_rule file r place broken) in kept r place (omega (arith, same)) broken)
 
 -- a refusal of a scope is one of the file, where nothing is broken in the scopes before it
-pub scope_refused : (file : List ℕ) (n : ℕ) → KeptStrictly file n → (f : Refusal) → IsScopeBreak file n f → IsStrictBreak file f
-scope_refused file n kept (refusal.Broken b) (found, least, same, at) = scope_first BreaksFile BreaksSlice file n found b kept least same at
+pub scope_refused : (file : List ℕ) (n : ℕ) → KeptStrictly file n → (f : Refusal) → IsStrictScopeBreak file n f → IsStrictBreak file f
+scope_refused file n kept (refusal.Broken b) (found, least, same, at) = scope_first BreaksStrictFile BreaksStrictSlice file n found b kept least same at
 scope_refused file n kept refusal.Memory takes = (n, takes)
 
 -- so is one of the file itself
-pub file_refused : (file : List ℕ) (f : Refusal) → IsRefusalOf (BreaksFile file) (¬ IsAscending (slice_spans file)) f → IsStrictBreak file f
-file_refused file (refusal.Broken b) least = scope_first BreaksFile BreaksSlice file 0 b b (none_kept BreaksFile BreaksSlice file) least refl (omega arith)
+pub file_refused : (file : List ℕ) (f : Refusal) → IsRefusalOf (BreaksStrictFile file) (¬ IsAscending (slice_spans file)) f → IsStrictBreak file f
+file_refused file (refusal.Broken b) least = scope_first BreaksStrictFile BreaksStrictSlice file 0 b b (none_kept BreaksStrictFile BreaksStrictSlice file) least refl (omega arith)
 file_refused file refusal.Memory takes = (0, takes)
 
 -- a refusal by the layout is one of the strict verdict

@@ -10,7 +10,7 @@ use Rattle.macho_fields.specs.declared.load_command.Structure.{Structure}
 use Rattle.macho_spans.specs.Span.{Covers, Holds}
 use Rattle.macho_fields.specs.Universal.{IsUniversal, table_end, slices_of, slice_bytes, HasPlace, IsImage}
 use Rattle.macho_strict.specs.Elements.{elements_of}
-use Rattle.macho_strict.specs.Rules.{IsInFilePart, all_segments, IsInName, IsNop}
+use Rattle.macho_strict.specs.Rules.{IsByteOfSegment, all_segments, IsInName, IsNop}
 use Rattle.macho_strict.specs.declared.elements.Element.{Element}
 
 -- exactly one item of the list has P: that with one index has it, and no other index has an item with P
@@ -23,11 +23,11 @@ ExactlyOne {X = X} P items =
 pub record IsAccountedImage (image : List ℕ) : Type 0 where
   -- every byte that is not zero lies in the file part of exactly one segment
   pub bytes : (place : ℕ) → IsNonZero image place
-      → ExactlyOne (λ segment. IsInFilePart image segment place) (all_segments image)
+      → ExactlyOne (λ segment. IsByteOfSegment image segment place) (all_segments image)
   -- and in exactly one element, unless it is a NOP
   pub claimed : (place : ℕ) → IsNonZero image place
       → ExactlyOne (λ element. Holds element.span place) (elements_of image)
-      ⊎ Any (λ segment. IsInFilePart image segment place × IsNop image place segment)
+      ⊎ Any (λ segment. IsByteOfSegment image segment place × IsNop image place segment)
       (all_segments image)
   -- one in the headers lies in the header or in exactly one command
   pub headers : (place : ℕ) → IsNonZero image place → place < commands_end image

@@ -5,7 +5,7 @@ use Rattle.macho_fields.specs.declared.rule.Rule.TheVariants as rule
 use Rattle.macho_spans.specs.Overlap.{IsAscending, SharesEarlier}
 use Rattle.macho_spans.specs.declared.span.Span.{Span}
 use Rattle.macho_strict.specs.Gaps.{ArePassed, IsFree, IsStray}
-use Rattle.macho_strict.specs.Rules.{BreaksImage}
+use Rattle.macho_strict.specs.Rules.{BreaksStrictImage}
 use Rattle.macho_strict.specs.Verdict.{element_spans}
 use Rattle.macho_strict.specs.declared.claims.Noted.{Noted}
 use Rattle.macho_strict.specs.declared.claims.Noted.TheVariants as noted
@@ -49,5 +49,5 @@ pub record ArePassedFor (image : List ℕ) (gaps : Gaps) : Type 0 where
 -- what is found of the elements of an image: where they break their rule, and the least place of a byte
 -- that is not zero and lies in none of them
 pub record AreClaims (image : List ℕ) (first least : Option ℕ) : Type 0 where
-  pub broken : IsLeastPlace (BreaksImage image rule.ElementOverlap) first
+  pub broken : IsLeastPlace (BreaksStrictImage image rule.ElementOverlap) first
   pub loose : IsLeastPlace (IsStray wanted.NonZero image (element_spans image)) least

@@ -7,7 +7,7 @@ use Rattle.macho_image.specs.Command.{CommandView}
 use Rattle.macho_strict.specs.Claims.{AreNoted}
 use Rattle.macho_strict.specs.Elements.{command_elements, elements_of}
 use Rattle.macho_strict.specs.Encrypted.{IsEncrypted}
-use Rattle.macho_strict.specs.Rules.{BreaksImage}
+use Rattle.macho_strict.specs.Rules.{BreaksStrictImage}
 use Rattle.macho_strict.specs.Slack.{IsNonZeroSlack}
 use Rattle.macho_strict.specs.Verdict.{HasEncrypted}
 use Rattle.macho_strict.specs.declared.commands.NotedCommands.{NotedCommands}
@@ -25,6 +25,6 @@ pub record NotesOne (image : List ℕ) (command : CommandView) (old new : NotedC
 -- what was noted of the commands of the image
 pub record IsNotedOf (image : List ℕ) (noted : NotedCommands) : Type 0 where
   pub end : IsChain image (commands_of image) noted.end
-  pub slack : IsLeastPlace (BreaksImage image rule.CommandSlack) noted.slack
+  pub slack : IsLeastPlace (BreaksStrictImage image rule.CommandSlack) noted.slack
   pub encrypted : IsTrue noted.encrypted ↔ HasEncrypted image
   pub elements : AreNoted image (elements_of image) noted.elements

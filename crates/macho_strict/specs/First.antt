@@ -3,20 +3,20 @@ use Rattle.std.specs.Prelude.{ℕ, List, Option}
 use Rattle.macho_fields.specs.First.{BreaksIn, NoneIsBroken, IsFirstOfAll}
 use Rattle.macho_fields.specs.declared.rule.Rule.{Rule}
 use Rattle.macho_fields.specs.declared.rule.Break.{Break}
-use Rattle.macho_strict.specs.Rules.{BreaksFile, BreaksImage}
+use Rattle.macho_strict.specs.Rules.{BreaksStrictFile, BreaksStrictImage}
 
 -- an image breaks a strict rule, whatever architecture a universal file names for it
-abbrev pub BreaksSlice : List ℕ → Option (ℕ × ℕ) → Rule → ℕ → Type 0
-BreaksSlice image arch = BreaksImage image
+abbrev pub BreaksStrictSlice : List ℕ → Option (ℕ × ℕ) → Rule → ℕ → Type 0
+BreaksStrictSlice image arch = BreaksStrictImage image
 
 -- the strict rule is broken there: by the file, or by the bytes of a 64-bit slice
-abbrev pub IsBrokenIn : List ℕ → ℕ → Rule → ℕ → Type 0
-IsBrokenIn = BreaksIn BreaksFile BreaksSlice
+abbrev pub IsStrictlyBrokenIn : List ℕ → ℕ → Rule → ℕ → Type 0
+IsStrictlyBrokenIn = BreaksIn BreaksStrictFile BreaksStrictSlice
 
 -- no strict rule is broken
 abbrev pub IsStrictlyUnbroken : List ℕ → Type 0
-IsStrictlyUnbroken file = NoneIsBroken (IsBrokenIn file)
+IsStrictlyUnbroken file = NoneIsBroken (IsStrictlyBrokenIn file)
 
 -- b is the first broken strict rule, with its place in the file
 abbrev pub IsFirstStrictlyBroken : List ℕ → Break → Type 0
-IsFirstStrictlyBroken file b = IsFirstOfAll (IsBrokenIn file) file b
+IsFirstStrictlyBroken file b = IsFirstOfAll (IsStrictlyBrokenIn file) file b

@@ -20,15 +20,15 @@ use Rattle.macho_fields.specs.declared.rule.Rule.{Rule}
 use Rattle.macho_fields.specs.declared.rule.Rule.TheVariants as rule
 
 -- a universal file has such a byte after its table, in no slice
-abbrev pub BreaksFile : List ℕ → Rule → ℕ → Type 0
-BreaksFile file rule.FatStrayByte place =
+abbrev pub BreaksStrictFile : List ℕ → Rule → ℕ → Type 0
+BreaksStrictFile file rule.FatStrayByte place =
     IsUniversal file × IsNonZero file place × (table_end file ≤ place)
     × All (λ slice. ¬ HasPlace slice place) (slices_of file)
-BreaksFile file other place = ⊥
+BreaksStrictFile file other place = ⊥
 
 -- segment_command_64: the place is one of the filesize places from fileoff on
-abbrev pub IsInFilePart : List ℕ → ℕ → ℕ → Type 0
-IsInFilePart image segment place = Covers (fileoff image segment) (filesize image segment) place
+abbrev pub IsByteOfSegment : List ℕ → ℕ → ℕ → Type 0
+IsByteOfSegment image segment place = Covers (fileoff image segment) (filesize image segment) place
 
 -- the segment is mapped, and has the header and all commands
 abbrev pub HasHeaders : List ℕ → ℕ → Type 0
@@ -40,7 +40,7 @@ HasHeaders image segment =
 abbrev pub SharesFilePart : List ℕ → ℕ → Type 0
 SharesFilePart image segment =
     Any (λ earlier. (earlier < segment)
-    × ((place : ℕ) × IsInFilePart image earlier place × IsInFilePart image segment place))
+    × ((place : ℕ) × IsByteOfSegment image earlier place × IsByteOfSegment image segment place))
     (all_segments image)
 
 -- the element with index j is the one given, and shares a place with an earlier one
@@ -61,8 +61,8 @@ abbrev pub EndsPast : List ℕ → Element → Type 0
 EndsPast image element = (0 < element.span.len) × (length image < end_of element.span)
 
 -- such an element is described at the place
-abbrev pub PassesImage : List ℕ → ℕ → Type 0
-PassesImage image place =
+abbrev pub SomeElementEndsPast : List ℕ → ℕ → Type 0
+SomeElementEndsPast image place =
     Any (λ element. EndsPast image element × (element.described ≡ place)) (elements_of image)
 
 -- encryption_info_command_64: cryptoff and cryptsize
@@ -78,8 +78,8 @@ HasBytes image start end segment =
     (fileoff image segment ≤ start) × (end ≤ fileoff image segment + filesize image segment)
 
 -- what is encrypted begins in the headers, or is not bytes of one segment
-abbrev pub IsMisplaced : List ℕ → ℕ → Type 0
-IsMisplaced image command =
+abbrev pub HasMisplacedRange : List ℕ → ℕ → Type 0
+HasMisplacedRange image command =
     (0 < cryptsize image command)
     × ((cryptoff image command < commands_end image)
     ⊎ ¬ Any (HasBytes image (cryptoff image command)
@@ -106,24 +106,24 @@ IsNop image place segment =
     × (bit_and (initprot image segment) vm_prot.VM_PROT_EXECUTE ≢ 0)
 
 -- the image breaks the rule at the place. Its commands are a chain, since it breaks no other rule
-abbrev pub BreaksImage : List ℕ → Rule → ℕ → Type 0
-BreaksImage image rule.CommandsEnd place =
+abbrev pub BreaksStrictImage : List ℕ → Rule → ℕ → Type 0
+BreaksStrictImage image rule.CommandsEnd place =
     (place ≡ 20) × ¬ IsChain image (commands_of image) (commands_end image)
-BreaksImage image rule.HeaderSegment place =
+BreaksStrictImage image rule.HeaderSegment place =
     (place ≡ 20) × ¬ Any (HasHeaders image) (all_segments image)
-BreaksImage image rule.SegmentFileOverlap place =
+BreaksStrictImage image rule.SegmentFileOverlap place =
     Contains (all_segments image) place × SharesFilePart image place
-BreaksImage image rule.ElementOverlap place = SharesBytes image place ⊎ PassesImage image place
-BreaksImage image rule.StrayByte place =
-    IsNonZero image place × All (λ segment. ¬ IsInFilePart image segment place) (all_segments image)
-BreaksImage image rule.EncryptedRange place =
+BreaksStrictImage image rule.ElementOverlap place = SharesBytes image place ⊎ SomeElementEndsPast image place
+BreaksStrictImage image rule.StrayByte place =
+    IsNonZero image place × All (λ segment. ¬ IsByteOfSegment image segment place) (all_segments image)
+BreaksStrictImage image rule.EncryptedRange place =
     Contains (with_cmd image loader.LC_ENCRYPTION_INFO_64 (commands_of image)) place
-    × IsMisplaced image place
-BreaksImage image rule.CommandSlack place =
+    × HasMisplacedRange image place
+BreaksStrictImage image rule.CommandSlack place =
     IsNonZero image place × Any (IsSlack image place) (commands_of image)
-BreaksImage image rule.UnclaimedByte place =
+BreaksStrictImage image rule.UnclaimedByte place =
     IsNonZero image place
-    × Any (λ segment. IsInFilePart image segment place × ¬ IsNop image place segment)
+    × Any (λ segment. IsByteOfSegment image segment place × ¬ IsNop image place segment)
     (all_segments image)
     × All (λ element. ¬ Holds element.span place) (elements_of image)
-BreaksImage image other place = ⊥
+BreaksStrictImage image other place = ⊥

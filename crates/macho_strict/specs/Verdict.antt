@@ -11,7 +11,7 @@ use Rattle.macho_rules.specs.Verdict.{FileTakesMemory}
 use Rattle.macho_rules.specs.declared.refusal.Refusal.{Refusal}
 use Rattle.macho_rules.specs.declared.refusal.Refusal.TheVariants as refusal
 use Rattle.macho_strict.specs.Elements.{elements_of}
-use Rattle.macho_strict.specs.First.{IsBrokenIn, IsFirstStrictlyBroken}
+use Rattle.macho_strict.specs.First.{IsStrictlyBrokenIn, IsFirstStrictlyBroken}
 use Rattle.macho_fields.specs.Layers.{IsLeast}
 use Rattle.macho_strict.specs.Gaps.{IsFree}
 use Rattle.macho_strict.specs.Rules.{all_segments, cryptsize}
@@ -76,8 +76,8 @@ IsStrictBreak file refusal.Memory = (scope : ℕ) × TakesMemoryIn file scope
 
 -- a strict refusal of a scope is its first broken strict rule, with its place in the file, or that there
 -- was no memory, where it takes some
-abbrev pub IsScopeBreak : List ℕ → ℕ → Refusal → Type 0
-IsScopeBreak file scope (refusal.Broken b) =
-    (found : Break) × IsLeast (IsBrokenIn file scope) found
+abbrev pub IsStrictScopeBreak : List ℕ → ℕ → Refusal → Type 0
+IsStrictScopeBreak file scope (refusal.Broken b) =
+    (found : Break) × IsLeast (IsStrictlyBrokenIn file scope) found
     × (b.rule ≡ found.rule) × (b.place ≡ scope_start file scope + found.place)
-IsScopeBreak file scope refusal.Memory = TakesMemoryIn file scope
+IsStrictScopeBreak file scope refusal.Memory = TakesMemoryIn file scope

@@ -5,14 +5,14 @@ ghost use Rattle.macho_fields.specs.Rules.{BreaksImage as Breaks};
 ghost use Rattle.macho_fields.specs.Image.{commands_of, IsChain};
 ghost use Rattle.macho_fields.specs.Layers.{NothingBreaks, Continues};
 ghost use Rattle.macho_rules.specs.Verdict.{IsRefusalOf};
-ghost use Rattle.macho_strict.specs.Rules.{BreaksImage};
+ghost use Rattle.macho_strict.specs.Rules.{BreaksStrictImage};
 ghost use Rattle.macho_strict.specs.Verdict.{TakesMemory};
 ghost use Rattle.macho_fields.specs.declared.rule.Rule.{Rule};
 
 use crate::claims::Claims;
 use crate::commands::NotedCommands;
 use crate::encrypted::encrypted_range;
-use crate::segments::{SIZEOFCMDS, Survey, header_segment};
+use crate::segments::{FilePartSurvey, SIZEOFCMDS, header_segment};
 use crate::unclaimed::unclaimed_byte;
 use macho_fields::{Break, Rule};
 use macho_image::Image;
@@ -23,13 +23,13 @@ use std::alloc::Global;
 // broken one, with its place in the image.
 pub(crate) fn check_image(alloc: Global, image: &Image) -> Result<(), Refusal>
     requires { NothingBreaks (Breaks image.now None) }
-    ensures unbroken { OnOk result (NothingBreaks (BreaksImage image.now)) }
-    ensures refused { IfErr result (IsRefusalOf (BreaksImage image.now) (TakesMemory image.now)) }
+    ensures unbroken { OnOk result (NothingBreaks (BreaksStrictImage image.now)) }
+    ensures refused { IfErr result (IsRefusalOf (BreaksStrictImage image.now) (TakesMemory image.now)) }
 {
     let noted = NotedCommands::of(alloc, image);
     commands_end(image, noted.end)?;
     header_segment(image)?;
-    let survey = Survey::of(image);
+    let survey = FilePartSurvey::of(image);
     survey.segment_file_overlap(alloc, image)?;
     let claims = Claims::of(alloc, image, noted.elements)?;
     claims.element_overlap()?;
@@ -44,7 +44,7 @@ pub(crate) fn check_image(alloc: Global, image: &Image) -> Result<(), Refusal>
 // `end`.
 fn commands_end(image: &Image, end: u64) -> Result<(), Break>
     requires { IsChain image.now (commands_of image.now) end }
-    ensures { Continues (BreaksImage image.now) Rule.CommandsEnd result }
+    ensures { Continues (BreaksStrictImage image.now) Rule.CommandsEnd result }
 {
     if end != image.commands_end() {
         return Err(Break::at(Rule::CommandsEnd, SIZEOFCMDS));

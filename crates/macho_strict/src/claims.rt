@@ -5,7 +5,7 @@ ghost use Rattle.std.specs.Prelude.{◌≡◌, ◌≤◌, ◌+◌, ◌*◌, ◌�
 ghost use Rattle.macho_fields.specs.Bytes.{bytes_of};
 ghost use Rattle.macho_fields.specs.FirstPlace.{IsLeastPlace};
 ghost use Rattle.macho_strict.specs.Claims.{ArePassedFor, least_option, occupied};
-ghost use Rattle.macho_strict.specs.Rules.{EndsPast, PassesImage};
+ghost use Rattle.macho_strict.specs.Rules.{EndsPast, SomeElementEndsPast};
 ghost use Rattle.macho_strict.specs.Sharing.{IsFirstSharing, tagged_elements};
 ghost use Rattle.macho_strict.specs.Verdict.{element_spans};
 
@@ -204,7 +204,7 @@ impl<'a> Claims<'a> {
     ghost use Rattle.macho_strict.specs.Claims.{AreNoted, ArePassedFor};
     ghost use Rattle.macho_strict.specs.Elements.{elements_of};
     ghost use Rattle.macho_strict.specs.Gaps.{IsStray};
-    ghost use Rattle.macho_strict.specs.Rules.{BreaksImage};
+    ghost use Rattle.macho_strict.specs.Rules.{BreaksStrictImage};
     ghost use Rattle.macho_strict.specs.Sharing.{IsFirstSharing, tagged_elements};
     ghost use Rattle.macho_strict.specs.Verdict.{element_spans};
     ghost use Rattle.macho_strict.specs.declared.gaps.Wanted.{Wanted};
@@ -257,8 +257,8 @@ impl<'a> Claims<'a> {
 
     // No element shares a byte with an earlier one, or ends past the image.
     pub(crate) fn element_overlap(&self) -> Result<(), Break>
-        requires { KeptBelow (BreaksImage self.now) (rank Rule.ElementOverlap) }
-        ensures { Continues (BreaksImage self.now) Rule.ElementOverlap result }
+        requires { KeptBelow (BreaksStrictImage self.now) (rank Rule.ElementOverlap) }
+        ensures { Continues (BreaksStrictImage self.now) Rule.ElementOverlap result }
     {
         Rule::ElementOverlap.judge(self.broken)
     }
@@ -276,7 +276,7 @@ impl<'a> Claims<'a> {
 fn outside(image: &Image, gaps: &Gaps) -> Option<u64>
     requires passed { ArePassedFor image.now gaps.now }
     requires by_start { gaps.now.by_start ≡ true }
-    ensures { IsLeastPlace (PassesImage image.now) result }
+    ensures { IsLeastPlace (SomeElementEndsPast image.now) result }
 {
     if gaps.are_inside() {
         return None;
@@ -286,7 +286,7 @@ fn outside(image: &Image, gaps: &Gaps) -> Option<u64>
 
 // Where the first element is described that ends past the image.
 fn first_outside(image: &Image) -> Option<u64>
-    ensures { IsLeastPlace (PassesImage image.now) result }
+    ensures { IsLeastPlace (SomeElementEndsPast image.now) result }
 {
     let bytes = image.bytes();
     for element in Elements::of(image) {

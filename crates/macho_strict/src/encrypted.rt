@@ -12,7 +12,7 @@ ghost use Rattle.macho_rules.specs.Check.{ContinuesWithMemory};
 ghost use Rattle.macho_spans.specs.Span.{IsInside};
 ghost use Rattle.macho_spans.specs.declared.span.Span.{Span};
 ghost use Rattle.macho_strict.specs.Encrypted.{AreReaches, IsEncrypted, encrypted_span};
-ghost use Rattle.macho_strict.specs.Rules.{BreaksImage};
+ghost use Rattle.macho_strict.specs.Rules.{BreaksStrictImage};
 ghost use Rattle.macho_strict.specs.Verdict.{file_parts, HasEncrypted};
 
 use crate::overlap::{FileParts, count_of, span_list};
@@ -35,8 +35,8 @@ struct Reach {
 // It takes memory only if something is encrypted: 56 bytes for each segment.
 pub(crate) fn encrypted_range(alloc: Global, image: &Image, encrypted: bool) -> Result<(), Refusal>
     requires has { IsTrue encrypted ↔ HasEncrypted image.now }
-    requires kept { KeptBelow (BreaksImage image.now) (rank Rule.EncryptedRange) }
-    ensures { ContinuesWithMemory (BreaksImage image.now) Rule.EncryptedRange
+    requires kept { KeptBelow (BreaksStrictImage image.now) (rank Rule.EncryptedRange) }
+    ensures { ContinuesWithMemory (BreaksStrictImage image.now) Rule.EncryptedRange
         (HasEncrypted image.now) result }
 {
     if !encrypted {
@@ -51,7 +51,7 @@ pub(crate) fn encrypted_range(alloc: Global, image: &Image, encrypted: bool) -> 
 // segment.
 fn first_misplaced(image: &Image, reaches: &[Reach]) -> Option<u64>
     requires { AreReaches (file_parts image.now) reaches.now }
-    ensures { IsLeastPlace (BreaksImage image.now Rule.EncryptedRange) result }
+    ensures { IsLeastPlace (BreaksStrictImage image.now Rule.EncryptedRange) result }
 {
     let bytes = image.bytes();
     let commands_end = image.commands_end();

@@ -6,7 +6,7 @@ ghost use Rattle.macho_fields.specs.FirstPlace.{IsLeastPlace};
 ghost use Rattle.macho_fields.specs.Layers.{KeptBelow, Continues};
 ghost use Rattle.macho_fields.specs.RuleList.{rank};
 ghost use Rattle.macho_fields.specs.declared.rule.Rule.{Rule};
-ghost use Rattle.macho_strict.specs.Rules.{BreaksImage, HasHeaders, all_segments};
+ghost use Rattle.macho_strict.specs.Rules.{BreaksStrictImage, HasHeaders, all_segments};
 ghost use Rattle.macho_strict.specs.Gaps.{IsStray, ComeByStart, ArePassed};
 ghost use Rattle.macho_strict.specs.Verdict.{file_parts};
 ghost use Rattle.macho_strict.specs.declared.gaps.Wanted.{Wanted};
@@ -24,8 +24,8 @@ pub(crate) const SIZEOFCMDS: u64 = 20;
 
 // A mapped segment has the header and all commands.
 pub(crate) fn header_segment(image: &Image) -> Result<(), Break>
-    requires { KeptBelow (BreaksImage image.now) (rank Rule.HeaderSegment) }
-    ensures { Continues (BreaksImage image.now) Rule.HeaderSegment result }
+    requires { KeptBelow (BreaksStrictImage image.now) (rank Rule.HeaderSegment) }
+    ensures { Continues (BreaksStrictImage image.now) Rule.HeaderSegment result }
 {
     let broken = if some_has_headers(image) {
         None
@@ -58,14 +58,14 @@ fn has_headers(segment: &Segment, commands_end: u64) -> bool
 
 // What one walk over the segments of an image finds of their file parts.
 #[derive(Drop)]
-pub(crate) struct Survey<'a> {
+pub(crate) struct FilePartSurvey<'a> {
     // The image that was scanned.
     image: Bytes<'a>,
     // What lies between them.
     gaps: Gaps<'a>,
 }
 
-impl<'a> Model for Survey<'a> {
+impl<'a> Model for FilePartSurvey<'a> {
     ghost use Rattle.std.specs.Prelude.{List, ℕ};
     ghost use Rattle.macho_fields.specs.Bytes.{bytes_of};
     ghost use Rattle.macho_strict.specs.FileParts.{IsSurveyOf};
@@ -78,22 +78,22 @@ impl<'a> Model for Survey<'a> {
         IsSurveyOf (bytes_of survey.image) survey.gaps };
 }
 
-impl<'a> Survey<'a> {
+impl<'a> FilePartSurvey<'a> {
     ghost use Rattle.std.specs.Prelude.{◌≡◌};
     ghost use Rattle.macho_spans.specs.Overlap.{IsAscending, IsUnordered};
     ghost use Rattle.macho_fields.specs.Layers.{KeptBelow};
     ghost use Rattle.macho_rules.specs.Check.{ContinuesWithMemory};
     ghost use Rattle.macho_fields.specs.RuleList.{rank};
-    ghost use Rattle.macho_strict.specs.Rules.{BreaksImage};
+    ghost use Rattle.macho_strict.specs.Rules.{BreaksStrictImage};
     ghost use Rattle.macho_strict.specs.Verdict.{file_parts};
     ghost use Rattle.macho_fields.specs.declared.rule.Rule.{Rule};
 
     // Scans the segments of the image.
-    pub(crate) fn of(image: &Image<'a>) -> Survey<'a>
+    pub(crate) fn of(image: &Image<'a>) -> FilePartSurvey<'a>
         ensures { result ≡ image.now }
     {
         let bytes = image.bytes();
-        Survey {
+        FilePartSurvey {
             image: bytes,
             gaps: gaps_between(bytes, FileParts::of(image)),
         }
@@ -105,8 +105,8 @@ impl<'a> Survey<'a> {
     // them.
     pub(crate) fn segment_file_overlap(&self, alloc: Global, image: &Image) -> Result<(), Refusal>
         requires image { self.now ≡ image.now }
-        requires kept { KeptBelow (BreaksImage image.now) (rank Rule.SegmentFileOverlap) }
-        ensures { ContinuesWithMemory (BreaksImage image.now) Rule.SegmentFileOverlap
+        requires kept { KeptBelow (BreaksStrictImage image.now) (rank Rule.SegmentFileOverlap) }
+        ensures { ContinuesWithMemory (BreaksStrictImage image.now) Rule.SegmentFileOverlap
             (IsUnordered (file_parts image.now)) result }
     {
         let overlap = if self.gaps.ascend() {
@@ -123,8 +123,8 @@ impl<'a> Survey<'a> {
     // It takes memory only if the file parts do not ascend: 24 bytes for each, to sort them.
     pub(crate) fn stray_byte(&self, alloc: Global, image: &Image) -> Result<(), Refusal>
         requires image { self.now ≡ image.now }
-        requires kept { KeptBelow (BreaksImage image.now) (rank Rule.StrayByte) }
-        ensures { ContinuesWithMemory (BreaksImage image.now) Rule.StrayByte
+        requires kept { KeptBelow (BreaksStrictImage image.now) (rank Rule.StrayByte) }
+        ensures { ContinuesWithMemory (BreaksStrictImage image.now) Rule.StrayByte
             (¬ IsAscending (file_parts image.now)) result }
     {
         let stray = least_stray(alloc, image, &self.gaps)?;

@@ -7,7 +7,7 @@ ghost use Rattle.macho_spans.specs.Overlap.{IsAscending, span_at};
 ghost use Rattle.macho_fields.specs.Universal.{IsUniversal, entry_size, slices_of};
 ghost use Rattle.macho_strict.specs.Gaps.{IsStray, ComeByStart, ArePassed};
 ghost use Rattle.macho_rules.specs.Check.{ContinuesWithMemory};
-ghost use Rattle.macho_strict.specs.Rules.{BreaksFile};
+ghost use Rattle.macho_strict.specs.Rules.{BreaksStrictFile};
 ghost use Rattle.macho_strict.specs.Verdict.{slice_spans};
 ghost use Rattle.macho_strict.specs.Stray.{table_span};
 ghost use Rattle.macho_fields.specs.declared.rule.Rule.{Rule};
@@ -25,7 +25,7 @@ use std::alloc::{AllocError, Global};
 //
 // It takes memory only if the slices do not ascend: 24 bytes for each, to sort them.
 pub(crate) fn fat_stray_byte(alloc: Global, verified: &Verified) -> Result<(), Refusal>
-    ensures { ContinuesWithMemory (BreaksFile verified.now) Rule.FatStrayByte
+    ensures { ContinuesWithMemory (BreaksStrictFile verified.now) Rule.FatStrayByte
         (¬ IsAscending (slice_spans verified.now)) result }
 {
     let Some(table) = table(verified) else {

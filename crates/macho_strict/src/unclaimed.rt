@@ -7,7 +7,7 @@ ghost use Rattle.macho_fields.specs.RuleList.{rank};
 ghost use Rattle.macho_fields.specs.declared.rule.Rule.{Rule};
 ghost use Rattle.macho_rules.specs.Check.{ContinuesWithMemory};
 ghost use Rattle.macho_strict.specs.Gaps.{IsStray};
-ghost use Rattle.macho_strict.specs.Rules.{BreaksImage};
+ghost use Rattle.macho_strict.specs.Rules.{BreaksStrictImage};
 ghost use Rattle.macho_strict.specs.Unclaimed.{code_parts, is_code};
 ghost use Rattle.macho_strict.specs.Verdict.{element_spans, HasLooseNop};
 ghost use Rattle.macho_strict.specs.declared.gaps.Wanted.{Wanted};
@@ -28,8 +28,8 @@ use std::alloc::{AllocError, Global};
 // the elements with the segments that may be executed.
 pub(crate) fn unclaimed_byte(alloc: Global, image: &Image, claims: &Claims) -> Result<(), Refusal>
     requires claims { claims.now ≡ image.now }
-    requires kept { KeptBelow (BreaksImage image.now) (rank Rule.UnclaimedByte) }
-    ensures { ContinuesWithMemory (BreaksImage image.now) Rule.UnclaimedByte
+    requires kept { KeptBelow (BreaksStrictImage image.now) (rank Rule.UnclaimedByte) }
+    ensures { ContinuesWithMemory (BreaksStrictImage image.now) Rule.UnclaimedByte
         (HasLooseNop image.now) result }
 {
     let unclaimed = first_unclaimed(alloc, image, claims)?;
@@ -41,8 +41,8 @@ pub(crate) fn unclaimed_byte(alloc: Global, image: &Image, claims: &Claims) -> R
 // segments that may be executed have to be looked at.
 fn first_unclaimed(alloc: Global, image: &Image, claims: &Claims) -> Result<Option<u64>, AllocError>
     requires claims { claims.now ≡ image.now }
-    requires kept { KeptBelow (BreaksImage image.now) (rank Rule.UnclaimedByte) }
-    ensures found { IfOk result (IsLeastPlace (BreaksImage image.now Rule.UnclaimedByte)) }
+    requires kept { KeptBelow (BreaksStrictImage image.now) (rank Rule.UnclaimedByte) }
+    ensures found { IfOk result (IsLeastPlace (BreaksStrictImage image.now Rule.UnclaimedByte)) }
     ensures memory { OnErr result (HasLooseNop image.now) }
 {
     let Some(place) = claims.loose() else {

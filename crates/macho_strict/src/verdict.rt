@@ -4,9 +4,9 @@ ghost use Rattle.std.specs.Prelude.{◌≡◌, suc, OnOk, IfOk, IfErr};
 ghost use Rattle.macho_fields.specs.First.{IsUnbroken};
 ghost use Rattle.macho_fields.specs.Loader.{IsSound};
 ghost use Rattle.macho_strict.specs.Accounted.{IsAccounted};
-ghost use Rattle.macho_strict.specs.First.{IsBrokenIn, IsStrictlyUnbroken};
+ghost use Rattle.macho_strict.specs.First.{IsStrictlyBrokenIn, IsStrictlyUnbroken};
 ghost use Rattle.macho_fields.specs.Layers.{NothingBreaks};
-ghost use Rattle.macho_strict.specs.Verdict.{IsStrictRefusal, IsStrictBreak, IsScopeBreak};
+ghost use Rattle.macho_strict.specs.Verdict.{IsStrictRefusal, IsStrictBreak, IsStrictScopeBreak};
 
 use crate::check::check_image;
 use crate::stray::fat_stray_byte;
@@ -56,8 +56,8 @@ fn check_strictly(alloc: Global, verified: &Verified) -> Result<(), Refusal>
 // Decides the strict rules of the slice with this index, if it has an image. The place of a break is
 // its offset in the file.
 fn check_slice(alloc: Global, verified: &Verified, index: u64) -> Result<(), Refusal>
-    ensures unbroken { OnOk result (NothingBreaks (IsBrokenIn verified.now (suc index))) }
-    ensures refused { IfErr result (IsScopeBreak verified.now (suc index)) }
+    ensures unbroken { OnOk result (NothingBreaks (IsStrictlyBrokenIn verified.now (suc index))) }
+    ensures refused { IfErr result (IsStrictScopeBreak verified.now (suc index)) }
 {
     let Some(slice) = verified.slice(index) else {
         return Ok(());

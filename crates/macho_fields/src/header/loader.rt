@@ -104,6 +104,9 @@ pub const LC_DYLD_EXPORTS_TRIE: u32 = 0x33 | LC_REQ_DYLD;
 /// The place of the chained fixups.
 pub const LC_DYLD_CHAINED_FIXUPS: u32 = 0x34 | LC_REQ_DYLD;
 
+/// The flag of a segment whose pages a kernel decrypts.
+pub const SG_PROTECTED_VERSION_1: u32 = 0x8;
+
 /// The bits of the flags of a section that are its type.
 pub const SECTION_TYPE: u32 = 0xff;
 /// The type of a section of zeros, which has no bytes in the file.
@@ -230,10 +233,12 @@ pub mod note_command {
     pub const SIZE_OFFSET: u64 = 32;
 }
 
-/// The offset of a 32-bit field of `segment_command_64`.
+/// The offsets of two 32-bit fields of `segment_command_64`.
 pub mod segment_command_64 {
     /// The number of sections.
     pub const NSECTS: u64 = 64;
+    /// The flags of the segment.
+    pub const FLAGS: u64 = 68;
 }
 
 /// The offset of a 32-bit field of `build_version_command`.

@@ -4,7 +4,7 @@ use Rattle.macho_fields.specs.declared.rule.Rule.TheVariants as rule
 use Rattle.macho_fields.proofs.FirstPlaces.{first_judged}
 use Rattle.macho_rules.specs.declared.refusal.Refusal.TheVariants as refusal
 use Rattle.macho_spans.specs.Overlap.{IsAscending, IsUnordered}
-use Rattle.macho_strict.specs.Rules.{BreaksImage}
+use Rattle.macho_strict.specs.Rules.{BreaksStrictImage}
 use Rattle.macho_strict.specs.Verdict.{file_parts, element_spans, HasEncrypted, HasLooseNop}
 use Rattle.macho_strict.proofs.Verdicts.{passed_of, all_unbroken}
 use Rattle.macho_strict.proofs.check.check_image.Goals as goal
@@ -32,12 +32,12 @@ pub returns-in_err-judge-clause-refused : goal.returns-in_err-judge-clause-refus
 returns-in_err-judge-clause-refused c =
     let image = c.args.image.now in
     let b = c.in_err-judge.field-0.0 in
-    let least : IsLeast (BreaksImage image) b = first_judged {T = Unit {0}} (BreaksImage image) rule.CommandSlack c.of-noted.result.slack (Err b) c.in_ok-encrypted_range.ensures c.of-noted.ensures.slack c.in_err-judge.ensures in
+    let least : IsLeast (BreaksStrictImage image) b = first_judged {T = Unit {0}} (BreaksStrictImage image) rule.CommandSlack c.of-noted.result.slack (Err b) c.in_ok-encrypted_range.ensures c.of-noted.ensures.slack c.in_err-judge.ensures in
     passed_of image ⊥ (λ none. absurd none) (refusal.Broken b) least c.from_residual-in_err-judge.result c.from_residual-in_err-judge.ensures.1
 
 pub unclaimed_byte-requires-clause-kept : goal.unclaimed_byte-requires-clause-kept
 unclaimed_byte-requires-clause-kept c =
-    first_judged {T = Unit {0}} (BreaksImage c.args.image.now) rule.CommandSlack c.of-noted.result.slack (Ok c.in_ok-judge.field-0) c.in_ok-encrypted_range.ensures c.of-noted.ensures.slack c.in_ok-judge.ensures
+    first_judged {T = Unit {0}} (BreaksStrictImage c.args.image.now) rule.CommandSlack c.of-noted.result.slack (Ok c.in_ok-judge.field-0) c.in_ok-encrypted_range.ensures c.of-noted.ensures.slack c.in_ok-judge.ensures
 
 pub returns-in_err-unclaimed_byte-clause-refused : goal.returns-in_err-unclaimed_byte-clause-refused
 returns-in_err-unclaimed_byte-clause-refused c =

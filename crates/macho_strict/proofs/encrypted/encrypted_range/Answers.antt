@@ -2,7 +2,7 @@ use Rattle.std.proofs.Common.{Err}
 use Rattle.macho_fields.specs.Layers.{IsLeast}
 use Rattle.macho_fields.specs.declared.rule.Rule.TheVariants as rule
 use Rattle.macho_fields.proofs.FirstPlaces.{first_judged}
-use Rattle.macho_strict.specs.Rules.{BreaksImage}
+use Rattle.macho_strict.specs.Rules.{BreaksStrictImage}
 use Rattle.macho_strict.specs.Verdict.{HasEncrypted}
 use Rattle.macho_strict.proofs.Judged.{refused}
 use Rattle.macho_strict.proofs.encrypted.encrypted_range.Goals as goal
@@ -11,6 +11,6 @@ pub returns-in_err-judge : goal.returns-in_err-judge
 returns-in_err-judge c =
     let image = c.args.image.now in
     let b = c.in_err-judge.field-0.0 in
-    let least : IsLeast (BreaksImage image) b =
-    first_judged {T = Unit {0}} (BreaksImage image) rule.EncryptedRange c.first_misplaced.result (Err b) c.requires.kept c.first_misplaced.ensures c.in_err-judge.ensures in
-    refused (BreaksImage image) rule.EncryptedRange (HasEncrypted image) b least c.from_residual-in_err-judge.result c.from_residual-in_err-judge.ensures.1
+    let least : IsLeast (BreaksStrictImage image) b =
+    first_judged {T = Unit {0}} (BreaksStrictImage image) rule.EncryptedRange c.first_misplaced.result (Err b) c.requires.kept c.first_misplaced.ensures c.in_err-judge.ensures in
+    refused (BreaksStrictImage image) rule.EncryptedRange (HasEncrypted image) b least c.from_residual-in_err-judge.result c.from_residual-in_err-judge.ensures.1

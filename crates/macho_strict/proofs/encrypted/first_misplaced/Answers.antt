@@ -9,7 +9,7 @@ use Rattle.macho_image.specs.Opened.{IsCommandOf}
 use Rattle.macho_rules.proofs.Searches.{search_next, search_found, search_ended}
 use Rattle.macho_spans.specs.Span.{IsInside}
 use Rattle.macho_strict.specs.Encrypted.{IsEncrypted, encrypted_span}
-use Rattle.macho_strict.specs.Rules.{BreaksImage}
+use Rattle.macho_strict.specs.Rules.{BreaksStrictImage}
 use Rattle.macho_strict.specs.Verdict.{file_parts}
 use Rattle.macho_strict.proofs.Encryptions.{commands_search, judged_left, encryptions_break, LiesOutside, is_misplaced, not_misplaced, none_has}
 use Rattle.macho_strict.proofs.encrypted.first_misplaced.Goals as goal
@@ -40,7 +40,7 @@ returns-in-loop-command c =
       | else-range-commands_end w ↦
           inr (λ any. false≢true (sym (w.value-is ∙ ap not ((w.is_in_one.ensures (file_parts image) c.requires).1 any)) ∙ c.if-not-is_in_one.true))
     ] in
-    search_found (BreaksImage image rule.EncryptedRange) _ _ _ _ _ v c.in-Some.ensures.steps (encryptions_break image _ c.bytes-bytes.ensures.opened are) c.loop-command.invariant.2
+    search_found (BreaksStrictImage image rule.EncryptedRange) _ _ _ _ _ v c.in-Some.ensures.steps (encryptions_break image _ c.bytes-bytes.ensures.opened are) c.loop-command.invariant.2
     (is_misplaced image v range has is outside)
 
 pub loop-command-preserved : goal.loop-command-preserved
@@ -79,4 +79,4 @@ loop-command-preserved c =
 pub returns : goal.returns
 returns c =
     let are = c.into_iter-command-iterator.ensures.into_iter_gives ∙ c.commands-command-items.ensures.commands in
-    search_ended (BreaksImage c.args.image.now rule.EncryptedRange) _ _ _ _ c.in-None.ensures.steps.0 (encryptions_break c.args.image.now _ c.bytes-bytes.ensures.opened are) c.loop-command.invariant.2
+    search_ended (BreaksStrictImage c.args.image.now rule.EncryptedRange) _ _ _ _ c.in-None.ensures.steps.0 (encryptions_break c.args.image.now _ c.bytes-bytes.ensures.opened are) c.loop-command.invariant.2

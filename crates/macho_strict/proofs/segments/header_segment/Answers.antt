@@ -3,23 +3,23 @@ use Rattle.std.proofs.lemmas.Bool.{true≢false}
 use Rattle.macho_fields.specs.FirstPlace.{IsLeastPlace}
 use Rattle.macho_fields.specs.declared.rule.Rule.TheVariants as rule
 use Rattle.macho_fields.proofs.FirstPlaces.{first_judged}
-use Rattle.macho_strict.specs.Rules.{BreaksImage, HasHeaders, all_segments}
+use Rattle.macho_strict.specs.Rules.{BreaksStrictImage, HasHeaders, all_segments}
 use Rattle.macho_strict.proofs.segments.header_segment.Goals as goal
 use Rattle.macho_strict.proofs.segments.header_segment.Goals.{then-some_has_headers, else-some_has_headers}
 
 module _ (image : List ℕ) (has : Bool) (found : IsTrue has ↔ Any (HasHeaders image) (all_segments image)) where
-  with_headers : has ≡ true → IsLeastPlace (BreaksImage image rule.HeaderSegment) None
+  with_headers : has ≡ true → IsLeastPlace (BreaksStrictImage image rule.HeaderSegment) None
   with_headers is = λ place (at, none). none (found.0 is)
 
-  without_headers : has ≡ false → IsLeastPlace (BreaksImage image rule.HeaderSegment) (Some 20)
+  without_headers : has ≡ false → IsLeastPlace (BreaksStrictImage image rule.HeaderSegment) (Some 20)
   without_headers unset = ((refl, λ some. true≢false (sym (found.1 some) ∙ unset)), λ place (at, none). omega (arith, at))
 
 pub returns : goal.returns
 returns c =
     let image = c.args.image.now in
     let found = c.some_has_headers.ensures in
-    let least : IsLeastPlace (BreaksImage image rule.HeaderSegment) c.if-some_has_headers.broken = elim c.if-some_has_headers.branch [
-      | then-some_has_headers w ↦ subst (IsLeastPlace (BreaksImage image rule.HeaderSegment)) (sym w.broken-is) (with_headers image c.some_has_headers.result found w.if-some_has_headers.true)
-      | else-some_has_headers w ↦ subst (IsLeastPlace (BreaksImage image rule.HeaderSegment)) (sym w.broken-is) (without_headers image c.some_has_headers.result found w.if-some_has_headers.false)
+    let least : IsLeastPlace (BreaksStrictImage image rule.HeaderSegment) c.if-some_has_headers.broken = elim c.if-some_has_headers.branch [
+      | then-some_has_headers w ↦ subst (IsLeastPlace (BreaksStrictImage image rule.HeaderSegment)) (sym w.broken-is) (with_headers image c.some_has_headers.result found w.if-some_has_headers.true)
+      | else-some_has_headers w ↦ subst (IsLeastPlace (BreaksStrictImage image rule.HeaderSegment)) (sym w.broken-is) (without_headers image c.some_has_headers.result found w.if-some_has_headers.false)
     ] in
-    first_judged (BreaksImage image) rule.HeaderSegment c.if-some_has_headers.broken c.judge.result c.requires least c.judge.ensures
+    first_judged (BreaksStrictImage image) rule.HeaderSegment c.if-some_has_headers.broken c.judge.result c.requires least c.judge.ensures

@@ -5,7 +5,7 @@ use Rattle.macho_fields.specs.Layers.{KeptBelow}
 use Rattle.macho_fields.specs.RuleList.{rank}
 use Rattle.macho_fields.specs.declared.rule.Rule.TheVariants as rule
 use Rattle.macho_strict.specs.Gaps.{IsStray}
-use Rattle.macho_strict.specs.Rules.{BreaksImage}
+use Rattle.macho_strict.specs.Rules.{BreaksStrictImage}
 use Rattle.macho_strict.specs.Unclaimed.{code_parts}
 use Rattle.macho_strict.specs.Verdict.{element_spans}
 use Rattle.macho_strict.specs.declared.gaps.Wanted.TheVariants as wanted
@@ -13,11 +13,11 @@ use Rattle.macho_strict.proofs.Claimed.{on_err}
 use Rattle.macho_strict.proofs.Unclaims.{none_loose, first_loose, least_of_both}
 use Rattle.macho_strict.proofs.unclaimed.first_unclaimed.Goals as goal
 
-module _ (image : List ℕ) (kept : KeptBelow (BreaksImage image) (rank rule.UnclaimedByte)) where
-  keeps_stray : (p : ℕ) → ¬ BreaksImage image rule.StrayByte p
+module _ (image : List ℕ) (kept : KeptBelow (BreaksStrictImage image) (rank rule.UnclaimedByte)) where
+  keeps_stray : (p : ℕ) → ¬ BreaksStrictImage image rule.StrayByte p
   keeps_stray p broken = kept rule.StrayByte p (lit< tt) broken
 
-  keeps_apart : (p : ℕ) → ¬ BreaksImage image rule.SegmentFileOverlap p
+  keeps_apart : (p : ℕ) → ¬ BreaksStrictImage image rule.SegmentFileOverlap p
   keeps_apart p broken = kept rule.SegmentFileOverlap p (lit< tt) broken
 
 -- the claims are those of the image
@@ -41,7 +41,7 @@ pub returns-clause-found : goal.returns-clause-found
 returns-clause-found c =
     let image = c.args.image.now in
     IfOk-weaker c.least_unclaimed.result (IsLeastPlace (λ place. IsStray wanted.NoPadding image (element_spans image) place ⊎ IsStray wanted.NonZero image (element_spans image ++ code_parts image) place))
-    (IsLeastPlace (BreaksImage image rule.UnclaimedByte)) (λ found least. least_of_both image (keeps_stray image c.requires.kept) (keeps_apart image c.requires.kept) found least) c.least_unclaimed.ensures
+    (IsLeastPlace (BreaksStrictImage image rule.UnclaimedByte)) (λ found least. least_of_both image (keeps_stray image c.requires.kept) (keeps_apart image c.requires.kept) found least) c.least_unclaimed.ensures
 
 pub returns-clause-memory : goal.returns-clause-memory
 returns-clause-memory c =

@@ -6,8 +6,8 @@ use Rattle.macho_fat.specs.Slices.{slice_of}
 use Rattle.macho_image.proofs.ReadParts.{length-part}
 use Rattle.macho_rules.proofs.Verdicts.{file_inside}
 use Rattle.macho_fields.specs.Layers.{IsLeast}
-use Rattle.macho_strict.specs.First.{BreaksSlice}
-use Rattle.macho_strict.specs.Rules.{BreaksFile, BreaksImage}
+use Rattle.macho_strict.specs.First.{BreaksStrictSlice}
+use Rattle.macho_strict.specs.Rules.{BreaksStrictFile, BreaksStrictImage}
 use Rattle.macho_strict.specs.Verdict.{TakesMemory}
 use Rattle.macho_strict.proofs.InImage.{place_inside}
 use Rattle.macho_fields.proofs.Scopes.{slice_least, slice_start}
@@ -39,7 +39,7 @@ returns-in-Err-Broken-clause-refused c =
     let image : IsImage (slice_bytes file slice) = some_has (λ s. IsImage (slice_bytes file s)) (slice_get (slices_of file) c.args.index) slice at (c.in-Some-image.ensures.is_image.0 refl) in
     let broken = rw c.in-Err-Broken.field-0-is at c.in-Err-Broken.ensures.refused in (
       b,
-      slice_least BreaksFile BreaksSlice file c.args.index slice at image b (subst (λ (bytes : List ℕ). IsLeast (BreaksImage bytes) b) same broken),
+      slice_least BreaksStrictFile BreaksStrictSlice file c.args.index slice at image b (subst (λ (bytes : List ℕ). IsLeast (BreaksStrictImage bytes) b) same broken),
       c.at.ensures.rule,
       omega (arith, c.at.ensures.place, slice_start file c.args.index slice at),
     )

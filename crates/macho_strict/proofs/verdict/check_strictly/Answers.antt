@@ -1,9 +1,9 @@
 use Rattle.std.proofs.Common.{suc, arith}
 use Rattle.macho_rules.proofs.Verdicts.{passed_on}
-use Rattle.macho_strict.specs.First.{BreaksSlice}
+use Rattle.macho_strict.specs.First.{BreaksStrictSlice}
 use Rattle.macho_strict.specs.Verdict.{IsStrictBreak}
 use Rattle.macho_fields.proofs.Scopes.{all_kept}
-use Rattle.macho_strict.specs.Rules.{BreaksFile}
+use Rattle.macho_strict.specs.Rules.{BreaksStrictFile}
 use Rattle.macho_strict.proofs.Verdicts.{file_unbroken, file_refused, one_kept, scope_refused}
 use Rattle.macho_strict.proofs.verdict.check_strictly.Goals as goal
 
@@ -30,4 +30,4 @@ loop-index-preserved c =
 
 pub returns-clause-unbroken : goal.returns-clause-unbroken
 returns-clause-unbroken c =
-    all_kept BreaksFile BreaksSlice c.args.verified.now (λ scope r place less. c.loop-index.invariant scope r place (omega (arith, c.slice_count-index-end.ensures)))
+    all_kept BreaksStrictFile BreaksStrictSlice c.args.verified.now (λ scope r place less. c.loop-index.invariant scope r place (omega (arith, c.slice_count-index-end.ensures)))

@@ -1,6 +1,0 @@
-use Rattle.macho_fields.specs.declared.rule.Rule.TheVariants as rule
-use Rattle.macho_rules.proofs.Judged.{judged_first}
-use Rattle.macho_rules.proofs.survey.Survey.section_file.Goals as goal
-
-pub returns : goal.returns
-returns c = judged_first _ _ c.self.view_is rule.SectionFile c.requires _ c.self.invariant.section_rules.1.0 c.judge.result c.judge.ensures

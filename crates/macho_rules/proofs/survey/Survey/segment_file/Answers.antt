@@ -1,6 +1,0 @@
-use Rattle.macho_fields.specs.declared.rule.Rule.TheVariants as rule
-use Rattle.macho_rules.proofs.Judged.{judged_first}
-use Rattle.macho_rules.proofs.survey.Survey.segment_file.Goals as goal
-
-pub returns : goal.returns
-returns c = judged_first _ _ c.self.view_is rule.SegmentFile c.requires _ c.self.invariant.segment_rules.1.1.0 c.judge.result c.judge.ensures
