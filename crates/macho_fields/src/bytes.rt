@@ -250,12 +250,24 @@ fn nonzero_index(bytes: &[u8]) -> Option<usize>
     ensures nonzero { IfSome result (IsNonZero bytes.now) }
     ensures first { IfSome result (λ index. ¬ HasNonZero bytes.now 0 index) }
 {
-    for index in zeros_by_words(bytes)..bytes.len() {
+    let start = zeros_by_words(bytes);
+    if ends_in_zeros(bytes, start) {
+        return None;
+    }
+    for index in start..bytes.len() {
         if bytes[index] != 0 {
             return Some(index);
         }
     }
     None
+}
+
+// Whether the bytes from `start` on are zero, as the last word shows it, if it has all of them.
+fn ends_in_zeros(bytes: &[u8], start: usize) -> bool
+    ensures { IsTrue result → ¬ HasNonZero bytes.now start (length bytes.now) }
+{
+    let len = bytes.len();
+    len >= WORD && len - WORD <= start && u64_from(Order::Little, &bytes[len - WORD..]) == 0
 }
 
 // How many bytes the first words take that are zero, up to the first word that is not. The bytes
