@@ -1,4 +1,5 @@
 pub mod Overlaps
+pub mod LastBy
 pub mod SpanOrders
 pub mod SortedSpans
 pub mod Digits

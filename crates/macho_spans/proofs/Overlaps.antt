@@ -13,16 +13,16 @@ use Rattle.macho_spans.specs.Span.{Shares}
 use Rattle.macho_spans.specs.declared.span.Span.{Span}
 use Rattle.macho_spans.specs.declared.overlap.Numbered.{Numbered}
 
-abbrev span_of : Numbered → Span
+abbrev pub span_of : Numbered → Span
 span_of item = item.span
 
 abbrev index_of : Numbered → ℕ
 index_of item = item.index
 
-abbrev no_span : Span
+abbrev pub no_span : Span
 no_span = record { start = 0; len = 0 }
 
-abbrev no_item : Numbered
+abbrev pub no_item : Numbered
 no_item = record { span = no_span; index = 0 }
 
 pub shares_both_ways : (a b : Span) → Shares a b → Shares b a

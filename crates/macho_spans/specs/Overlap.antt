@@ -1,5 +1,5 @@
 -- Which of many spans shares a place with an earlier one.
-use Rattle.std.specs.Prelude.{◌≡◌, ℕ, ◌≤◌, ◌<◌, List, length, map, take, slice_index_or, IsPermutation}
+use Rattle.std.specs.Prelude.{◌≡◌, ℕ, ◌≤◌, ◌<◌, List, length, map, take, slice_index_or, Option, None, Some, IsPermutation}
 use Rattle.macho_spans.specs.Span.{end_of, Shares}
 use Rattle.macho_spans.specs.declared.overlap.Numbered.{Numbered}
 use Rattle.macho_spans.specs.declared.span.Span.{Span}
@@ -71,3 +71,11 @@ WereAdded spans items =
 -- the spans of the items
 abbrev pub sorted_spans : List Numbered → List Span
 sorted_spans items = map (λ item. item.span) items
+
+-- of spans that are sorted by their starts, the last that begins at the place or before it, or none where
+-- each begins after it
+abbrev pub IsLastBy : List Span → ℕ → Option Span → Type 0
+IsLastBy spans place None = (i : ℕ) → i < length spans → place < (span_at spans i).start
+IsLastBy spans place (Some span) =
+    (k : ℕ) × (k < length spans) × (span_at spans k ≡ span) × (span.start ≤ place)
+    × ((i : ℕ) → k < i → i < length spans → place < (span_at spans i).start)

@@ -117,7 +117,7 @@ impl Model for SpansByStart {
 
 impl SpansByStart {
     ghost use Rattle.std.specs.Prelude.{◌≡◌, ◌<◌, ◌↔◌, [], ℕ, List, length, IsTrue, MatchOption};
-    ghost use Rattle.macho_spans.specs.Overlap.{SharesEarlier, IsLeastSharing, span_at, WereAdded, sorted_spans};
+    ghost use Rattle.macho_spans.specs.Overlap.{SharesEarlier, IsLeastSharing, IsLastBy, span_at, WereAdded, sorted_spans};
     ghost use Rattle.macho_spans.specs.declared.span.Span.{Span};
 
     /// How many spans there are.
@@ -140,6 +140,16 @@ impl SpansByStart {
         ensures { result ≡ span_at (sorted_spans self.now) index }
     {
         self.items[index].span
+    }
+
+    /// The last span that begins at `place` or before it, or `None` if each begins after it. For n
+    /// spans it takes time in the order of log n.
+    pub fn last_by(&self, place: u64) -> Option<Span>
+        ensures { IsLastBy (sorted_spans self.now) place result }
+    {
+        let next = self.items.partition_point(|item| item.span.start <= place);
+        let last = next.checked_sub(1)?;
+        Some(self.items[last].span)
     }
 
     /// The index in the list of the first span that shares a place with an earlier one, or `None` if
