@@ -1,19 +1,17 @@
 -- What one walk over the elements of an image finds.
 use Rattle.std.proofs.Common.{◌≡◌, ◌⊎◌, ℕ, ◌+◌, ◌-◌, ◌<◌, min, true, List, [], ◌∷◌, ◌++◌, map, Option, None, Some, Result, Ok, Err, OnErr, refl, sym, ap, ◌∙◌, subst, arith, inl, inr}
-use Rattle.std.specs.List.Sorted.{IsNonDecreasingBy}
-use Rattle.std.specs.Prelude.{IsPermutation}
 use Rattle.std.proofs.lemmas.Bool.{cases_lt}
 use Rattle.std.proofs.lemmas.List.{get_or-map, map_push}
-use Rattle.macho_spans.specs.Overlap.{span_at, sorted_spans}
+use Rattle.macho_spans.specs.Overlap.{span_at}
 use Rattle.macho_spans.specs.Span.{Holds}
-use Rattle.macho_spans.specs.declared.overlap.Numbered.{Numbered}
 use Rattle.macho_spans.specs.declared.span.Span.{Span}
 use Rattle.macho_fields.specs.FirstPlace.{IsLeastPlace}
 use Rattle.macho_fields.specs.declared.rule.Rule.TheVariants as rule
 use Rattle.macho_fields.proofs.FirstPlaces.{AreBreaks}
 use Rattle.macho_fields.proofs.Lists.{any_of}
 use Rattle.macho_image.specs.Opened.{IsOpened}
-use Rattle.macho_strict.specs.Claims.{least_option, occupied, AreNoted, ArePassedFor, CoverSame}
+use Rattle.macho_strict.specs.Claims.{least_option, AreNoted}
+use Rattle.macho_strict.specs.Passed.{occupied, ArePassedFor, CoverSame}
 use Rattle.macho_strict.specs.Elements.{elements_of}
 use Rattle.macho_strict.specs.Gaps.{AreInside, ArePassed, IsFree}
 use Rattle.macho_strict.specs.Rules.{BreaksStrictImage, SharesBytes, EndsPast, SomeElementEndsPast}
@@ -25,8 +23,8 @@ use Rattle.macho_strict.specs.declared.elements.Element.{Element}
 use Rattle.macho_strict.specs.declared.gaps.Gaps.{Gaps}
 use Rattle.macho_strict.specs.declared.gaps.Wanted.TheVariants as wanted
 use Rattle.macho_strict.proofs.ElementPlaces.{place_of, elements_rise}
-use Rattle.macho_strict.proofs.Occupied.{apart_moved, ascending_moved, cover_listed, with_place, without_place}
-use Rattle.macho_strict.proofs.Passed.{no_span, ascending_apart, least_same, passed_empty}
+use Rattle.macho_strict.proofs.Occupied.{with_place, without_place}
+use Rattle.macho_strict.proofs.Passed.{no_span, least_same, passed_empty}
 use Rattle.macho_strict.proofs.Sharings.{least_sharing, none_sharing}
 
 abbrev pub span_of : Element → Span
@@ -66,31 +64,8 @@ module _ (elements : List Element) (x : Element) where
 
 -- All elements of an image were passed
 
--- in their order
-pub passed_in_order : (image : List ℕ) (gaps : Gaps) → ArePassed wanted.NonZero image (element_spans image) gaps → ArePassedFor image gaps
-passed_in_order image gaps passed = record {
-  spans = element_spans image;
-  same = λ place. (λ free. free, λ free. free);
-  passed = passed;
-  apart = ascending_apart (element_spans image);
-  ascend = λ up. up;
-}
-
--- or, of those that were listed, by ascending starts
-pub passed_listed : (image bytes : List ℕ) (list : List Span) (items : List Numbered) (gaps : Gaps) → bytes ≡ image → list ≡ occupied (element_spans image) → IsPermutation list (sorted_spans items)
-    → IsNonDecreasingBy (λ span. span.start) (sorted_spans items) → ArePassed wanted.NonZero bytes (sorted_spans items) gaps → ArePassedFor image gaps
-passed_listed image bytes list items gaps own are moved rising passed =
-    let from : IsPermutation (occupied (element_spans image)) (sorted_spans items) = subst (λ (spans : List Span). IsPermutation spans (sorted_spans items)) are moved in
-    record {
-      spans = sorted_spans items;
-      same = cover_listed (element_spans image) list (sorted_spans items) are moved;
-      passed = subst (λ (image : List ℕ). ArePassed wanted.NonZero image (sorted_spans items) gaps) own passed;
-      apart = apart_moved (element_spans image) (sorted_spans items) from;
-      ascend = ascending_moved (element_spans image) (sorted_spans items) from rising;
-    }
-
 -- where they ascend, no two share a byte
-pub none_shared : (image : List ℕ) (gaps : Gaps) → ArePassedFor image gaps → gaps.ascend ≡ true → IsFirstSharing (tagged_elements image) None
+pub none_shared : (image : List ℕ) (gaps : Gaps) → ArePassedFor image (element_spans image) gaps → gaps.ascend ≡ true → IsFirstSharing (tagged_elements image) None
 none_shared image gaps are up = none_sharing (elements_of image) (element_spans image) refl (are.apart (are.passed.ascending.0 up))
 
 -- Which elements end past the image

@@ -113,6 +113,7 @@ module _ (image : List ℕ) (opened : IsOpened image) (all : List CommandView) (
     -- all were passed
     pub all_noted : IsNotedOf image noted
     all_noted = record {
+      opened = opened;
       end = ends image noted.end left to.end is (opened_commands image opened);
       slack = slack_all noted.slack to.slack;
       encrypted = (to.encrypted, encrypted_all);

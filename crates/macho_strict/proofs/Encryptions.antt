@@ -1,7 +1,10 @@
 -- The commands of an opened image that have encrypted ranges.
 use Rattle.std.proofs.Common.{◌≡◌, ◌==◌, ℕ, ◌+◌, ◌≤◌, ◌<◌, ◌⊎◌, List, ◌∷◌, map, length, true, false, Any, Contains, Option, None, Some, MatchOption, refl, sym, ap, ◌∙◌, subst, arith, inl, inr}
 use Rattle.std.specs.Option.{is_some}
-use Rattle.std.proofs.lemmas.Bool.{eq-eqb, false≢true, true≢false}
+use Rattle.std.specs.Prelude.{IsPermutation}
+use Rattle.std.proofs.lemmas.Bool.{eq-eqb, lt-ltb, false≢true, true≢false}
+use Rattle.std.proofs.lemmas.List.{get_or_default}
+use Rattle.std.proofs.lemmas.List.Sorted.{Contains-permutation, IsPermutation-sym}
 use Rattle.macho_fields.specs.Image.{command_cmd, commands_end, commands_of, with_cmd}
 use Rattle.macho_fields.specs.Segment.{fileoff, filesize}
 use Rattle.macho_fields.specs.declared.header.loader.TheConstants as loader
@@ -16,13 +19,17 @@ use Rattle.macho_image.specs.Command.{CommandView, command_at}
 use Rattle.macho_image.specs.Opened.{IsOpened, IsCommandOf}
 use Rattle.macho_rules.proofs.Judged.{opened_facts, opened_commands}
 use Rattle.macho_rules.proofs.Mapped.{filtered}
-use Rattle.macho_rules.proofs.Searches.{mapped_has, any_of, one_of, ordered_map, Rising, Searching, search_all, first_among, are_breaks_at}
+use Rattle.macho_rules.proofs.Searches.{unfiltered, mapped_has, any_of, one_of, ordered_map, Rising, Searching, search_all, first_among, are_breaks_at}
 use Rattle.macho_rules.proofs.SegmentItems.{commands_rise}
-use Rattle.macho_spans.specs.Span.{IsInside}
+use Rattle.macho_spans.specs.Span.{Holds, IsInside}
 use Rattle.macho_spans.specs.declared.span.Span.{Span}
+use Rattle.macho_strict.specs.Disjoint.{IsHolding}
 use Rattle.macho_strict.specs.Encrypted.{IsEncrypted, encrypted_span}
+use Rattle.macho_strict.specs.Passed.{occupied}
 use Rattle.macho_strict.specs.Rules.{all_segments, cryptsize, HasBytes, HasMisplacedRange, BreaksStrictImage}
 use Rattle.macho_strict.specs.Verdict.{file_parts, HasEncrypted}
+use Rattle.macho_strict.proofs.Occupied.{has_place}
+use Rattle.macho_strict.proofs.Passed.{no_span}
 
 -- the structure of such a command lies in the image
 pub encryption_inside : (image : List ℕ) (command : CommandView) → IsCommandOf image command → command.cmd ≡ loader.LC_ENCRYPTION_INFO_64 → command.place + 24 ≤ length image
@@ -98,6 +105,30 @@ module _ (image : List ℕ) (range : Span) where
   part_has any =
       let (segment, among, here) = one_of Has (all_segments image) any in
       any_of (λ span. IsInside range span) (file_parts image) (part_at segment) (contains_mapped part_at (all_segments image) segment among) here
+
+-- the parts that have bytes have the range if some file part has it
+module _ (image : List ℕ) (parts : List Span) (moved : IsPermutation (occupied (file_parts image)) parts) (range : Span) where
+  pub parts_have : 0 < range.len → Any (IsInside range) (file_parts image) → Any (IsInside range) parts
+  parts_have some any =
+      let (span, has, inside) = one_of (IsInside range) (file_parts image) any in
+      any_of (IsInside range) parts span (Contains-permutation (occupied (file_parts image)) parts span moved (filtered has_place (file_parts image) span has (lt-ltb 0 span.len (omega (arith, some, inside))))) inside
+
+  pub files_have : Any (IsInside range) parts → Any (IsInside range) (file_parts image)
+  files_have any =
+      let (span, has, inside) = one_of (IsInside range) parts any in
+      any_of (IsInside range) (file_parts image) span
+      (unfiltered has_place (file_parts image) span (Contains-permutation parts (occupied (file_parts image)) span (IsPermutation-sym (occupied (file_parts image)) parts moved) has)) inside
+
+-- the range lies in the one of the parts that holds its first place, if in any
+pub one_has : (parts : List Span) (range part : Span) → 0 < range.len → IsHolding parts range.start (Some part) → Any (IsInside range) parts → IsInside range part
+one_has parts range part some (has, held, only) any =
+    let (span, among, inside) = one_of (IsInside range) parts any in
+    subst (IsInside range) (only span among (inside.0, omega (arith, some, inside.1))) inside
+
+pub none_has_it : (parts : List Span) (range : Span) → 0 < range.len → IsHolding parts range.start None → ¬ Any (IsInside range) parts
+none_has_it parts range some none any =
+    let (span, (k, less, at), inside) = one_of (IsInside range) parts any in
+    none k (subst (λ (s : Span). Holds s range.start) (sym (get_or_default parts k no_span span less ∙ at)) (inside.0, omega (arith, some, inside.1)))
 
 -- a range begins in the headers, or no file part has it
 abbrev pub LiesOutside : List ℕ → Span → Type 0

@@ -3,12 +3,13 @@ pub mod Accounted
 pub mod Claimed
 pub mod Unclaims
 pub mod ElementWalks
+pub mod Disjoints
 pub mod ElementPlaces
 pub mod Sharings
 pub mod Occupied
 pub mod Passed
+pub mod Sorted
 pub mod Judged
-pub mod Reaches
 pub mod Encryptions
 pub mod SliceSpans
 pub mod CommandsEnd

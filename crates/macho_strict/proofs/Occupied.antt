@@ -5,7 +5,7 @@ use Rattle.std.specs.List.Sorted.{IsNonDecreasingBy}
 use Rattle.std.specs.Prelude.{nat_lt, IsPermutation}
 use Rattle.std.proofs.lemmas.Bool.{cases_Bool, ltb-true, ltb-false}
 use Rattle.std.proofs.lemmas.List.{append-nil, get_or_default, map_push}
-use Rattle.std.proofs.lemmas.List.Elements.{Contains-append_left, Contains-append_right, filter-append, filter_passes}
+use Rattle.std.proofs.lemmas.List.Elements.{filter-append, filter_passes}
 use Rattle.std.proofs.lemmas.List.Kept.{AllPairs-filter}
 use Rattle.std.proofs.lemmas.List.Sorted.{All-permutation, IsPermutation-sym, Contains-permutation}
 use Rattle.std.proofs.lemmas.Map.Keys.{IsDistinct-IsPermutation, IsDistinct-from_apart, apart_from_distinct}
@@ -14,13 +14,13 @@ use Rattle.macho_fields.specs.FirstPlace.{IsLeastPlace}
 use Rattle.macho_spans.specs.Overlap.{span_at, IsAscending, SharesEarlier}
 use Rattle.macho_spans.specs.Span.{end_of}
 use Rattle.macho_spans.specs.declared.span.Span.{Span}
-use Rattle.macho_strict.specs.Claims.{occupied, CoverSame}
-use Rattle.macho_strict.specs.Gaps.{IsFree, IsStray}
+use Rattle.macho_strict.specs.Passed.{occupied, CoverSame}
+use Rattle.macho_strict.specs.Gaps.{IsStray}
 use Rattle.macho_strict.specs.declared.elements.Element.{Element}
 use Rattle.macho_strict.specs.declared.gaps.Wanted.{Wanted}
-use Rattle.macho_strict.proofs.Passed.{no_span, among, free_among, free_joined, least_same}
+use Rattle.macho_strict.proofs.Passed.{no_span, among, free_among, least_same}
 
-abbrev has_place : Span → Bool
+abbrev pub has_place : Span → Bool
 has_place span = nat_lt 0 span.len
 
 abbrev span_of : Element → Span
@@ -75,10 +75,10 @@ ascending_occupied spans up i j less filled_i filled_j = AllPairs-filter IsBefor
 -- Those of them in another order
 
 -- a test of whether two spans that have a place share one
-abbrev share : Span → Span → Bool
+abbrev pub share : Span → Span → Bool
 share a b = nat_lt (max a.start b.start) (min (end_of a) (end_of b))
 
-share_flips : (a b : Span) → share a b ≡ share b a
+pub share_flips : (a b : Span) → share a b ≡ share b a
 share_flips a b =
     let starts : max a.start b.start ≡ max b.start a.start = omega arith in
     let ends : min (end_of a) (end_of b) ≡ min (end_of b) (end_of a) = omega arith in
@@ -101,7 +101,7 @@ distinct_ascending spans filled up = IsDistinct-from_apart share spans apart
         ap₂ share (get_or_default spans i d no_span (omega arith)) (get_or_default spans j d no_span within)
         ∙ share_none (span_at spans i) (span_at spans j) (up i j less (ltb-true 0 (span_at spans i).len (filled i no_span (omega arith))) (ltb-true 0 (span_at spans j).len (filled j no_span within)))
 
-ascending_distinct : (spans : List Span) → IsNonDecreasingBy (λ span. span.start) spans → IsDistinct share spans → IsAscending spans
+pub ascending_distinct : (spans : List Span) → IsNonDecreasingBy (λ span. span.start) spans → IsDistinct share spans → IsAscending spans
 ascending_distinct spans rising distinct i j less filled_i filled_j =
     let within = among spans j filled_j in
     let apart = apart_from_distinct share spans i j no_span distinct less within in
@@ -150,19 +150,6 @@ cover_trans a b c first second place = (λ free. (second place).0 ((first place)
 pub cover_listed : (spans list others : List Span) → list ≡ occupied spans → IsPermutation list others → CoverSame spans others
 cover_listed spans list others are moved = cover_trans spans list others (subst (CoverSame spans) (sym are) (cover_same spans)) (cover_moved list others moved)
 
--- others may follow both
-pub cover_joined : (spans others more : List Span) → CoverSame spans others → CoverSame (spans ++ more) (others ++ more)
-cover_joined spans others more same place = (
-  λ free. free_joined others more place ((same place).0 (first spans free)) (last spans free),
-  λ free. free_joined spans more place ((same place).1 (first others free)) (last others free),
-)
-  where
-    first : (those : List Span) → IsFree (those ++ more) place → IsFree those place
-    first those free = free_among (those ++ more) those place (λ x has. Contains-append_left those more x has) free
-
-    last : (those : List Span) → IsFree (those ++ more) place → IsFree more place
-    last those free = free_among (those ++ more) more place (λ x has. Contains-append_right those more x has) free
-
 -- the least place that was found between spans is that of all that have the same places, of whatever bytes they are
 pub least_covered : (wanted : Wanted) (bytes own : List ℕ) (spans list sorted : List Span) (found : Option ℕ) → own ≡ bytes → list ≡ spans → CoverSame list sorted
     → IsLeastPlace (IsStray wanted own sorted) found → IsLeastPlace (IsStray wanted bytes spans) found
@@ -173,18 +160,20 @@ least_covered wanted bytes own spans list sorted found same are cover least =
 
 -- One span more
 
-pub with_place : (elements : List Element) (x : Element) → 0 < x.span.len → occupied (map span_of (elements ++ x ∷ [])) ≡ occupied (map span_of elements) ++ x.span ∷ []
-with_place elements x filled =
-    ap occupied (map_push span_of elements x)
-    ∙ (filter-append has_place (map span_of elements) (x.span ∷ []) ∙ ap (λ (rest : List Span). occupied (map span_of elements) ++ rest) (last x.span filled))
+pub occupied_more : (spans : List Span) (x : Span) → 0 < x.len → occupied (spans ++ x ∷ []) ≡ occupied spans ++ x ∷ []
+occupied_more spans x filled = filter-append has_place spans (x ∷ []) ∙ ap (λ (rest : List Span). occupied spans ++ rest) last
   where
-    last : (s : Span) → 0 < s.len → occupied (s ∷ []) ≡ s ∷ []
-    last s more = elim (cases_Bool (has_place s)) [ inl t ↦ rw t refl | inr f ↦ let none = ltb-false 0 s.len f in absurd (omega (arith, none)) ]
+    last : occupied (x ∷ []) ≡ x ∷ []
+    last = elim (cases_Bool (has_place x)) [ inl t ↦ rw t refl | inr f ↦ let none = ltb-false 0 x.len f in absurd (omega (arith, none)) ]
+
+pub occupied_same : (spans : List Span) (x : Span) → x.len ≡ 0 → occupied (spans ++ x ∷ []) ≡ occupied spans
+occupied_same spans x empty = filter-append has_place spans (x ∷ []) ∙ (ap (λ (rest : List Span). occupied spans ++ rest) last ∙ append-nil (occupied spans))
+  where
+    last : occupied (x ∷ []) ≡ []
+    last = elim (cases_Bool (has_place x)) [ inl t ↦ let more = ltb-true 0 x.len t in absurd (omega (arith, more)) | inr f ↦ rw f refl ]
+
+pub with_place : (elements : List Element) (x : Element) → 0 < x.span.len → occupied (map span_of (elements ++ x ∷ [])) ≡ occupied (map span_of elements) ++ x.span ∷ []
+with_place elements x filled = ap occupied (map_push span_of elements x) ∙ occupied_more (map span_of elements) x.span filled
 
 pub without_place : (elements : List Element) (x : Element) → x.span.len ≡ 0 → occupied (map span_of (elements ++ x ∷ [])) ≡ occupied (map span_of elements)
-without_place elements x empty =
-    ap occupied (map_push span_of elements x)
-    ∙ (filter-append has_place (map span_of elements) (x.span ∷ []) ∙ (ap (λ (rest : List Span). occupied (map span_of elements) ++ rest) (last x.span empty) ∙ append-nil (occupied (map span_of elements))))
-  where
-    last : (s : Span) → s.len ≡ 0 → occupied (s ∷ []) ≡ []
-    last s none = elim (cases_Bool (has_place s)) [ inl t ↦ let more = ltb-true 0 s.len t in absurd (omega (arith, more)) | inr f ↦ rw f refl ]
+without_place elements x empty = ap occupied (map_push span_of elements x) ∙ occupied_same (map span_of elements) x.span empty

@@ -6,14 +6,13 @@ use Rattle.std.proofs.Math.ListN.{get_or-append}
 use Rattle.std.proofs.Math.Seq.{get_or-append_seam}
 use Rattle.std.proofs.lemmas.Bool.{true≢false, cases_lt, cases_eq, cases_Bool}
 use Rattle.std.proofs.lemmas.List.{get_or_default, get_or_past, get_or-map, length-map}
-use Rattle.std.proofs.lemmas.List.Elements.{Contains-append_cases}
 use Rattle.macho_fields.specs.Bytes.{bytes_of}
 use Rattle.macho_fields.specs.FirstPlace.{IsLeastPlace}
 use Rattle.macho_spans.specs.Overlap.{span_at, IsAscending, SharesEarlier}
 use Rattle.macho_fields.proofs.Decided.{both_or_not, le_or_not}
 use Rattle.macho_spans.specs.Span.{Covers, end_of, Holds}
 use Rattle.macho_spans.specs.declared.span.Span.{Span}
-use Rattle.macho_strict.specs.Gaps.{IsWanted, IsFree, IsStray, ComeByStart, AreInside, Walked, ArePassed, IsLeastNext}
+use Rattle.macho_strict.specs.Gaps.{IsWanted, IsStray, ComeByStart, AreInside, Walked, ArePassed, IsLeastNext}
 use Rattle.macho_strict.specs.declared.gaps.Gaps.{Gaps}
 use Rattle.macho_strict.specs.declared.gaps.Wanted.{Wanted}
 use Rattle.macho_strict.specs.declared.gaps.Wanted.TheVariants as wanted
@@ -314,7 +313,7 @@ inside_shown wanted bytes spans gaps are set inside test = (shown, found)
 -- a byte that is looked for is one of them
 wanted_inside : (wanted : Wanted) (bytes : List ℕ) (p : ℕ) → IsWanted wanted bytes p → p < length bytes
 wanted_inside wanted.NonZero bytes p is = is.0
-wanted_inside wanted.NoPadding bytes p (is, other) = is.0
+wanted_inside (wanted.Unpadded code) bytes p (is, other) = is.0
 
 -- the least one in none of them, if what was found before all of them ended is followed by the bytes up to the last
 pub least_of_all : (wanted : Wanted) (bytes : List ℕ) (spans : List Span) (gaps : Gaps) → ArePassed wanted bytes spans gaps → gaps.by_start ≡ true → (limit : ℕ) → limit ≡ length (bytes_of gaps.bytes)
@@ -349,15 +348,6 @@ free_among spans others p has free i held =
     let less = among others i (omega (arith, held.0, held.1)) in
     let there = has (span_at others i) (i, less, get_or_default others i _ no_span less) in
     free there.0 (subst (λ s. Holds s p) (sym (get_or_default spans there.0 no_span _ there.1 ∙ there.2)) held)
-
--- a place in none of the first spans and in none of the others is in none of both
-pub free_joined : (spans others : List Span) (p : ℕ) → IsFree spans p → IsFree others p → IsFree (spans ++ others) p
-free_joined spans others p here there i held =
-    let less = among (spans ++ others) i (omega (arith, held.0, held.1)) in
-    elim (Contains-append_cases spans others (span_at (spans ++ others) i) (i, less, get_or_default (spans ++ others) i _ no_span less)) [
-      | inl (k, below, at) ↦ here k (subst (λ s. Holds s p) (sym (get_or_default spans k no_span _ below ∙ at)) held)
-      | inr (k, below, at) ↦ there k (subst (λ s. Holds s p) (sym (get_or_default others k no_span _ below ∙ at)) held)
-    ]
 
 -- a place in none of the spans of some items, item by item
 pub all_of_free : {X : Type 0} (span : X → Span) (items : List X) (p : ℕ) → ((i : ℕ) → ¬ Holds (span_at (map span items) i) p) → All (λ x. ¬ Holds (span x) p) items

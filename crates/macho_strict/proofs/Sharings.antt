@@ -10,17 +10,17 @@ use Rattle.std.proofs.lemmas.Bool.{cases_order}
 use Rattle.std.proofs.lemmas.List.{get_or-map, length-map, map-id}
 use Rattle.std.proofs.lemmas.Option.{slice_get-get_or, slice_get-map, slice_get_within, get_or_from_slice_get, none-some, same_Some}
 use Rattle.macho_fields.specs.FirstPlace.{IsLeastPlace}
-use Rattle.macho_spans.specs.Overlap.{span_at, SharesEarlier, IsLeastSharing, IsUnordered}
-use Rattle.macho_spans.specs.SpanOrder.{spans_in, tags_in, IsSharingOf}
+use Rattle.macho_spans.specs.Overlap.{span_at, SharesEarlier, IsLeastSharing}
+use Rattle.macho_spans.specs.SpanOrder.{spans_in, tags_in}
 use Rattle.macho_spans.specs.declared.span.Span.{Span}
-use Rattle.macho_spans.specs.declared.span_order.Sharing.TheVariants as sharing
 use Rattle.macho_rules.proofs.Searches.{Rising, ordered_at}
 use Rattle.macho_strict.specs.Gaps.{ArePassed}
+use Rattle.macho_strict.specs.Passed.{occupied}
 use Rattle.macho_strict.specs.Rules.{SharesEarlierElement}
 use Rattle.macho_strict.specs.Sharing.{tagged, IsFirstSharing}
 use Rattle.macho_strict.specs.declared.elements.Element.{Element}
 use Rattle.macho_strict.specs.declared.gaps.Gaps.{Gaps}
-use Rattle.macho_strict.specs.declared.gaps.Wanted.TheVariants as wanted
+use Rattle.macho_strict.specs.declared.gaps.Wanted.{Wanted}
 
 -- What is read of each element
 
@@ -62,12 +62,15 @@ module _ {X : Type 0} (all given : List X) (is : given ≡ all) where
 pub drained_spans : (all given : List Element) → given ≡ all → (spans : List Span) (xs : List Element) → Drains (YieldsFirst (λ (left : List Element). left)) given xs → spans ≡ map span_of xs → spans ≡ map span_of all
 drained_spans all given is spans xs ran are = are ∙ ap (map span_of) (drained all given is xs ran)
 
+pub drained_occupied : (all given : List Element) → given ≡ all → (spans : List Span) (xs : List Element) → Drains (YieldsFirst (λ (left : List Element). left)) given xs → spans ≡ occupied (map span_of xs) → spans ≡ occupied (map span_of all)
+drained_occupied all given is spans xs ran are = are ∙ ap (λ (es : List Element). occupied (map span_of es)) (drained all given is xs ran)
+
 -- and so are those that were passed, of whatever bytes
-pub drained_passed : (all given : List Element) → given ≡ all → (image bytes : List ℕ) → bytes ≡ image → (gaps : Gaps) (xs : List Element)
-    → Drains (YieldsFirst (λ (left : List Element). left)) given xs → ArePassed wanted.NonZero bytes (map span_of xs) gaps → ArePassed wanted.NonZero image (map span_of all) gaps
-drained_passed all given is image bytes own gaps xs ran passed =
-    subst (λ (es : List Element). ArePassed wanted.NonZero image (map span_of es) gaps) (drained all given is xs ran)
-    (subst (λ (bs : List ℕ). ArePassed wanted.NonZero bs (map span_of xs) gaps) own passed)
+pub drained_passed : (wanted : Wanted) (all given : List Element) → given ≡ all → (image bytes : List ℕ) → bytes ≡ image → (gaps : Gaps) (xs : List Element)
+    → Drains (YieldsFirst (λ (left : List Element). left)) given xs → ArePassed wanted bytes (map span_of xs) gaps → ArePassed wanted image (map span_of all) gaps
+drained_passed wanted all given is image bytes own gaps xs ran passed =
+    subst (λ (es : List Element). ArePassed wanted image (map span_of es) gaps) (drained all given is xs ran)
+    (subst (λ (bs : List ℕ). ArePassed wanted bs (map span_of xs) gaps) own passed)
 
 -- The spans of all of them
 
@@ -96,11 +99,6 @@ module _ (all : List Element) (spans : List Span) (are : spans ≡ map span_of a
       subst (λ ss. IsLeastSharing ss j) all_spans least,
       ap (λ ts. slice_get ts j) (tags_tagged all) ∙ (slice_get-map tag_of all j ∙ sym (at ∙ ap (option_map tag_of) found_at)),
     )
-
--- What their order shows
-
-pub unordered_shown : (all : List Element) → IsSharingOf (tagged all) sharing.Unknown → IsUnordered (map span_of all)
-unordered_shown all (up, down, mixed) = subst IsUnordered (spans_tagged all) (up, down)
 
 -- Which elements share a place with an earlier one, where the places of what describes them do not fall
 

@@ -6,11 +6,10 @@ use Rattle.std.proofs.lemmas.Option.{get_or_from_slice_get}
 use Rattle.std.proofs.lemmas.Simd.{map-map}
 use Rattle.macho_fields.specs.FirstPlace.{IsLeastPlace}
 use Rattle.macho_fields.specs.Image.{commands_of, command_size}
-use Rattle.macho_spans.specs.Overlap.{span_at, SharesEarlier, IsLeastSharing, IsAscending, IsUnordered}
+use Rattle.macho_spans.specs.Overlap.{span_at, SharesEarlier, IsLeastSharing}
 use Rattle.macho_spans.specs.Span.{Holds}
-use Rattle.macho_spans.specs.SpanOrder.{IsSharingOf, spans_in, tags_in}
+use Rattle.macho_spans.specs.SpanOrder.{spans_in, tags_in}
 use Rattle.macho_spans.specs.declared.span.Span.{Span}
-use Rattle.macho_spans.specs.declared.span_order.Sharing.TheVariants as sharing
 use Rattle.macho_fields.proofs.Parts.{command_good, with_cmd_among}
 use Rattle.macho_fields.specs.declared.header.loader.TheConstants as loader
 use Rattle.macho_image.specs.Opened.{IsOpened}
@@ -25,8 +24,8 @@ use Rattle.macho_strict.specs.declared.elements.Element.{Element}
 use Rattle.macho_strict.specs.declared.gaps.Gaps.{Gaps}
 use Rattle.macho_strict.specs.declared.gaps.Wanted.TheVariants as wanted
 use Rattle.macho_fields.specs.declared.rule.Rule.TheVariants as rule
-use Rattle.macho_strict.proofs.Passed.{ascending_apart, least_same, all_of_free, free_of_all}
-use Rattle.macho_strict.proofs.Sharings.{none_sharing, spans_tagged, tags_tagged, unordered_shown}
+use Rattle.macho_strict.proofs.Passed.{least_same, all_of_free, free_of_all}
+use Rattle.macho_strict.proofs.Sharings.{none_sharing, spans_tagged, tags_tagged}
 
 abbrev span_of : Element → Span
 span_of part = part.span
@@ -49,18 +48,15 @@ module _ (image : List ℕ) where
   pub passed_parts : (gaps : Gaps) → ArePassed wanted.NonZero image (map span_of (all_parts image)) gaps → ArePassed wanted.NonZero image (file_parts image) gaps
   passed_parts gaps = subst (λ (spans : List Span). ArePassed wanted.NonZero image spans gaps) parts_are
 
-  -- where they ascend, none shares a place with an earlier one
-  pub ascending_parts : IsAscending (file_parts image) → IsFirstSharing (tagged_parts image) None
-  ascending_parts up = none_sharing (all_parts image) (file_parts image) (sym parts_are) (ascending_apart (file_parts image) up)
+  -- none shares a place with an earlier one
+  pub apart_parts : ((j : ℕ) → ¬ SharesEarlier (file_parts image) j) → IsFirstSharing (tagged_parts image) None
+  apart_parts apart = none_sharing (all_parts image) (file_parts image) (sym parts_are) apart
 
   spans_are : spans_in (tagged_parts image) ≡ file_parts image
   spans_are = spans_tagged (all_parts image) ∙ parts_are
 
   tags_are : tags_in (tagged_parts image) ≡ map (λ segment. segment) segments
   tags_are = tags_tagged (all_parts image) ∙ map-map (λ (e : Element). e.described) (file_part image) segments
-
-  pub unordered_parts : IsSharingOf (tagged_parts image) sharing.Unknown → IsUnordered (file_parts image)
-  unordered_parts shown = subst IsUnordered parts_are (unordered_shown (all_parts image) shown)
 
   -- The rule stray-byte
 
@@ -99,6 +95,9 @@ module _ (image : List ℕ) where
           (rises i k less here, (place, subst (λ s. Holds s place) (part_at i earlier) first, subst (λ s. Holds s place) (part_at k here) second)),
         ) in
         (here, (has, shares))
+
+    pub parts_apart : ((p : ℕ) → ¬ BreaksStrictImage image rule.SegmentFileOverlap p) → (j : ℕ) → ¬ SharesEarlier (file_parts image) j
+    parts_apart keeps j shares = keeps (get_or segments j 0) (by_index j shares).1
 
     index_of : (q : ℕ) → BreaksStrictImage image rule.SegmentFileOverlap q → (k : ℕ) × SharesEarlier (file_parts image) k × (get_or segments k 0 ≡ q)
     index_of q ((k, within, at), (i, e, below, at_i, (earlier, (place, first, second)))) =

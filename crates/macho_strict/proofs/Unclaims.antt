@@ -1,9 +1,9 @@
 -- The bytes of segments that lie in no element.
-use Rattle.std.proofs.Common.{◌≡◌, ◌≢◌, ◌⊎◌, ℕ, List, [], ◌∷◌, ◌++◌, map, filter, get_or, slice_index, Any, All, true, false, Contains, Option, None, Some, refl, sym, ap, ◌∙◌, arith, inl, inr}
+use Rattle.std.proofs.Common.{◌≡◌, ◌≢◌, ◌⊎◌, ◌<◌, ℕ, List, [], ◌∷◌, ◌++◌, map, filter, get_or, slice_index, Any, All, true, false, Contains, Option, None, Some, refl, sym, ap, ◌∙◌, arith, inl, inr}
 use Rattle.std.specs.Prelude.{bit_and}
 use Rattle.std.proofs.lemmas.Bool.{true≢false, cases_Bool, cases_eq, cases_order, ltb-true, ltb-false}
 use Rattle.std.proofs.lemmas.List.{append-nil, map-append}
-use Rattle.std.proofs.lemmas.List.Elements.{Contains-append_left, Contains-append_right, Contains-get_or, All-contains, filter-append, filter_passes}
+use Rattle.std.proofs.lemmas.List.Elements.{Contains-get_or, All-contains, filter-append, filter_passes}
 use Rattle.macho_fields.specs.FirstPlace.{IsLeastPlace}
 use Rattle.macho_fields.specs.NonZero.{IsNonZero}
 use Rattle.macho_fields.specs.Segment.{fileoff, filesize, initprot}
@@ -14,7 +14,8 @@ use Rattle.macho_fields.proofs.Lists.{any_of}
 use Rattle.macho_spans.specs.Span.{Holds}
 use Rattle.macho_spans.specs.declared.span.Span.{Span}
 use Rattle.macho_strict.specs.Elements.{elements_of}
-use Rattle.macho_strict.specs.Gaps.{IsFree, IsStray}
+use Rattle.macho_strict.specs.Passed.{occupied, CoverSame}
+use Rattle.macho_strict.specs.Gaps.{IsFree, IsStray, IsUnpadded}
 use Rattle.macho_strict.specs.Rules.{BreaksStrictImage, IsByteOfSegment, IsNop, all_segments}
 use Rattle.macho_rules.proofs.Mapped.{filtered}
 use Rattle.macho_rules.proofs.Searches.{unfiltered}
@@ -23,7 +24,8 @@ use Rattle.macho_strict.specs.Unclaimed.{is_code, code_among, code_parts}
 use Rattle.macho_strict.specs.Verdict.{element_spans}
 use Rattle.macho_strict.specs.declared.elements.Element.{Element}
 use Rattle.macho_strict.specs.declared.gaps.Wanted.TheVariants as wanted
-use Rattle.macho_strict.proofs.Passed.{no_span, covers_or_not, least_same, free_among, free_joined, all_of_free, free_of_all}
+use Rattle.macho_strict.proofs.Occupied.{occupied_more, occupied_same}
+use Rattle.macho_strict.proofs.Passed.{no_span, covers_or_not, least_same, all_of_free, free_of_all}
 
 abbrev span_of : Element → Span
 span_of element = element.span
@@ -34,13 +36,6 @@ part_of image segment = (file_part image segment).span
 module _ (image : List ℕ) where
   abbrev IsLoose : ℕ → Type 0
   IsLoose = IsStray wanted.NonZero image (element_spans image)
-
-  -- a byte in no element that is neither zero nor a NOP, and one in no code
-  abbrev IsOther : ℕ → Type 0
-  IsOther = IsStray wanted.NoPadding image (element_spans image)
-
-  abbrev IsOutside : ℕ → Type 0
-  IsOutside = IsStray wanted.NonZero image (element_spans image ++ code_parts image)
 
   abbrev IsUnclaimed : ℕ → Type 0
   IsUnclaimed = BreaksStrictImage image rule.UnclaimedByte
@@ -87,50 +82,58 @@ module _ (image : List ℕ) where
       | inr (inr after) ↦ absurd (keeps_apart s (has_s, any_of _ (all_segments image) t has_t (after, (p, in_t, in_s))))
     ]
 
-    other_unclaimed : (p : ℕ) → IsOther p → IsUnclaimed p
-    other_unclaimed p ((is, other), free) =
-        let (k, s, less, at, held) = in_segment p is in
-        (is, (k, s, less, at, (held, λ nop. other nop.0)), of_free p free)
+    -- a byte in no element, and in no segment that may be executed where it is a NOP
+    module _ (code : List Span) (same : CoverSame (code_parts image) code) where
+      abbrev IsBare : ℕ → Type 0
+      IsBare p = IsUnpadded code image p × IsFree (element_spans image) p
 
-    outside_unclaimed : (p : ℕ) → IsOutside p → IsUnclaimed p
-    outside_unclaimed p (is, free) =
-        let (k, s, less, at, held) = in_segment p is in
-        let free_code = free_among (element_spans image ++ code_parts image) (code_parts image) p (λ x has. Contains-append_right (element_spans image) (code_parts image) x has) free in
-        let not_nop : ¬ IsNop image p s = λ nop.
-        All-contains (λ segment. ¬ Holds (part_of image segment) p) (filter (is_code image) (all_segments image)) s (all_of_free (part_of image) (filter (is_code image) (all_segments image)) p free_code)
-        (code_has s (k, less, at) (is_code_true s nop.1)) held in
-        let free_elements = free_among (element_spans image ++ code_parts image) (element_spans image) p (λ x has. Contains-append_left (element_spans image) (code_parts image) x has) free in
-        (is, (k, s, less, at, (held, not_nop)), of_free p free_elements)
+      bare_unclaimed : (p : ℕ) → IsBare p → IsUnclaimed p
+      bare_unclaimed p ((is, unpadded), free) =
+          let (k, s, less, at, held) = in_segment p is in
+          (is, (k, s, less, at, (held, no_nop s (k, less, at) held unpadded)), of_free p free)
+        where
+          no_nop : (s : ℕ) → Contains (all_segments image) s → IsByteOfSegment image s p → (slice_index image p ≢ 0x90) ⊎ IsFree code p → ¬ IsNop image p s
+          no_nop s has held (inl other) nop = other nop.0
+          no_nop s has held (inr outside) nop =
+              All-contains (λ segment. ¬ Holds (part_of image segment) p) (filter (is_code image) (all_segments image)) s (all_of_free (part_of image) (filter (is_code image) (all_segments image)) p ((same p).1 outside))
+              (code_has s has (is_code_true s nop.1)) held
 
-    either_way : (p : ℕ) → IsUnclaimed p → IsOther p ⊎ IsOutside p
-    either_way p (is, (k, s, less, at, (held, not_nop)), none) = elim (cases_eq (slice_index image p) 0x90) [
-      | inr differs ↦ inl ((is, differs), free_of p none)
-      | inl same ↦ inr (is, free_joined (element_spans image) (code_parts image) p (free_of p none) (free_of_all (part_of image) (filter (is_code image) (all_segments image)) 0 p (outside same)))
-    ]
-      where
-        outside : slice_index image p ≡ 0x90 → All (λ segment. ¬ Holds (part_of image segment) p) (filter (is_code image) (all_segments image))
-        outside same = λ j d below there.
-            let t = get_or (filter (is_code image) (all_segments image)) j d in
-            let has : Contains (filter (is_code image) (all_segments image)) t = Contains-get_or (filter (is_code image) (all_segments image)) j d below in
-            let one = one_segment p s t (k, less, at) (unfiltered (is_code image) (all_segments image) t has) held there in
-            true≢false (sym (All-contains (λ u. is_code image u ≡ true) (filter (is_code image) (all_segments image)) t (filter_passes (is_code image) (all_segments image)) has) ∙ (ap (is_code image) (sym one) ∙ is_code_false p s same not_nop))
+      unclaimed_bare : (p : ℕ) → IsUnclaimed p → IsBare p
+      unclaimed_bare p (is, (k, s, less, at, (held, not_nop)), none) = elim (cases_eq (slice_index image p) 0x90) [
+        | inr differs ↦ ((is, inl differs), free_of p none)
+        | inl nop ↦ ((is, inr ((same p).0 (free_of_all (part_of image) (filter (is_code image) (all_segments image)) 0 p (outside nop)))), free_of p none)
+      ]
+        where
+          outside : slice_index image p ≡ 0x90 → All (λ segment. ¬ Holds (part_of image segment) p) (filter (is_code image) (all_segments image))
+          outside nop = λ j d below there.
+              let t = get_or (filter (is_code image) (all_segments image)) j d in
+              let has : Contains (filter (is_code image) (all_segments image)) t = Contains-get_or (filter (is_code image) (all_segments image)) j d below in
+              let one = one_segment p s t (k, less, at) (unfiltered (is_code image) (all_segments image) t has) held there in
+              true≢false (sym (All-contains (λ u. is_code image u ≡ true) (filter (is_code image) (all_segments image)) t (filter_passes (is_code image) (all_segments image)) has) ∙ (ap (is_code image) (sym one) ∙ is_code_false p s nop not_nop))
+
+      pub least_unpadded : (found : Option ℕ) → IsLeastPlace IsBare found → IsLeastPlace IsUnclaimed found
+      least_unpadded found least = least_same IsBare IsUnclaimed bare_unclaimed unclaimed_bare found least
 
     -- the first byte in no element, if it is not a NOP
     pub first_loose : (p : ℕ) → slice_index image p ≢ 0x90 → IsLeastPlace IsLoose (Some p) → IsLeastPlace IsUnclaimed (Some p)
-    first_loose p other ((is, free), least) = (other_unclaimed p ((is, other), free), λ q unclaimed. least q (loose_of q unclaimed))
+    first_loose p other ((is, free), least) =
+        let (k, s, less, at, held) = in_segment p is in
+        ((is, (k, s, less, at, (held, λ nop. other nop.0)), of_free p free), λ q unclaimed. least q (loose_of q unclaimed))
 
-    -- the least of both kinds
-    pub least_of_both : (found : Option ℕ) → IsLeastPlace (λ p. IsOther p ⊎ IsOutside p) found → IsLeastPlace IsUnclaimed found
-    least_of_both found least =
-        least_same (λ p. IsOther p ⊎ IsOutside p) IsUnclaimed (λ p either. elim either [ inl is ↦ other_unclaimed p is | inr is ↦ outside_unclaimed p is ]) either_way found least
+-- One segment more. Its bytes are added only if it may be executed and has some.
 
--- One segment more that may be executed, or may not
+module _ (image segments : List ℕ) (s : ℕ) where
+  one_code : is_code image s ≡ true → code_among image (segments ++ s ∷ []) ≡ code_among image segments ++ part_of image s ∷ []
+  one_code code =
+      ap (map (part_of image)) (filter-append (is_code image) segments (s ∷ []) ∙ ap (λ rest. filter (is_code image) segments ++ rest) (rw code refl))
+      ∙ map-append (part_of image) (filter (is_code image) segments) (s ∷ [])
 
-pub code_more : (image segments : List ℕ) (s : ℕ) → is_code image s ≡ true → code_among image (segments ++ s ∷ []) ≡ code_among image segments ++ part_of image s ∷ []
-code_more image segments s code =
-    ap (map (part_of image)) (filter-append (is_code image) segments (s ∷ []) ∙ ap (λ rest. filter (is_code image) segments ++ rest) (rw code refl))
-    ∙ map-append (part_of image) (filter (is_code image) segments) (s ∷ [])
+  pub code_more : is_code image s ≡ true → 0 < (part_of image s).len → occupied (code_among image (segments ++ s ∷ [])) ≡ occupied (code_among image segments) ++ part_of image s ∷ []
+  code_more code filled = ap occupied (one_code code) ∙ occupied_more (code_among image segments) (part_of image s) filled
 
-pub code_same : (image segments : List ℕ) (s : ℕ) → is_code image s ≡ false → code_among image (segments ++ s ∷ []) ≡ code_among image segments
-code_same image segments s other =
-    ap (map (part_of image)) (filter-append (is_code image) segments (s ∷ []) ∙ (ap (λ rest. filter (is_code image) segments ++ rest) (rw other refl) ∙ append-nil (filter (is_code image) segments)))
+  pub code_empty : is_code image s ≡ true → (part_of image s).len ≡ 0 → occupied (code_among image (segments ++ s ∷ [])) ≡ occupied (code_among image segments)
+  code_empty code empty = ap occupied (one_code code) ∙ occupied_same (code_among image segments) (part_of image s) empty
+
+  pub code_same : is_code image s ≡ false → occupied (code_among image (segments ++ s ∷ [])) ≡ occupied (code_among image segments)
+  code_same other =
+      ap (λ those. occupied (map (part_of image) those)) (filter-append (is_code image) segments (s ∷ []) ∙ (ap (λ rest. filter (is_code image) segments ++ rest) (rw other refl) ∙ append-nil (filter (is_code image) segments)))

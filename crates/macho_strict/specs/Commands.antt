@@ -4,6 +4,7 @@ use Rattle.macho_fields.specs.FirstPlace.{IsLeastPlace}
 use Rattle.macho_fields.specs.Image.{commands_of, IsChain}
 use Rattle.macho_fields.specs.declared.rule.Rule.TheVariants as rule
 use Rattle.macho_image.specs.Command.{CommandView}
+use Rattle.macho_image.specs.Opened.{IsOpened}
 use Rattle.macho_strict.specs.Claims.{AreNoted}
 use Rattle.macho_strict.specs.Elements.{command_elements, elements_of}
 use Rattle.macho_strict.specs.Encrypted.{IsEncrypted}
@@ -24,6 +25,7 @@ pub record NotesOne (image : List ℕ) (command : CommandView) (old new : NotedC
 
 -- what was noted of the commands of the image
 pub record IsNotedOf (image : List ℕ) (noted : NotedCommands) : Type 0 where
+  pub opened : IsOpened image
   pub end : IsChain image (commands_of image) noted.end
   pub slack : IsLeastPlace (BreaksStrictImage image rule.CommandSlack) noted.slack
   pub encrypted : IsTrue noted.encrypted ↔ HasEncrypted image

@@ -1,11 +1,19 @@
--- What one walk over the segments of an image finds of their file parts.
-use Rattle.std.specs.Prelude.{ℕ, List}
+-- What is found of the file parts of the segments of an image.
+use Rattle.std.specs.Prelude.{◌≡◌, ℕ, List, true}
+use Rattle.macho_fields.specs.FirstPlace.{IsLeastPlace}
 use Rattle.macho_image.specs.Opened.{IsOpened}
-use Rattle.macho_strict.specs.Gaps.{ArePassed}
+use Rattle.macho_spans.specs.Overlap.{IsAscending, SharesEarlier}
+use Rattle.macho_strict.specs.Gaps.{IsStray}
+use Rattle.macho_strict.specs.Passed.{IsByStart}
 use Rattle.macho_strict.specs.Verdict.{file_parts}
-use Rattle.macho_strict.specs.declared.gaps.Gaps.{Gaps}
 use Rattle.macho_strict.specs.declared.gaps.Wanted.TheVariants as wanted
+use Rattle.macho_strict.specs.declared.segments.FilePartSurvey.{FilePartSurvey}
 
--- of what image a survey is, and what it found
-abbrev pub IsSurveyOf : List ℕ → Gaps → Type 0
-IsSurveyOf image gaps = IsOpened image × ArePassed wanted.NonZero image (file_parts image) gaps
+-- whether no two share a place, the least place of a byte that is not zero and lies in none of them, and
+-- their order
+pub record IsSurveyOf (image : List ℕ) (survey : FilePartSurvey) : Type 0 where
+  pub opened : IsOpened image
+  pub apart : survey.apart ≡ true → (j : ℕ) → ¬ SharesEarlier (file_parts image) j
+  pub ascend : IsAscending (file_parts image) → survey.apart ≡ true
+  pub stray : IsLeastPlace (IsStray wanted.NonZero image (file_parts image)) survey.stray
+  pub by_start : IsByStart (file_parts image) survey.sorted

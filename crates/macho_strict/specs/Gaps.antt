@@ -10,14 +10,19 @@ use Rattle.macho_strict.specs.declared.gaps.Gaps.{Gaps}
 use Rattle.macho_strict.specs.declared.gaps.Wanted.{Wanted}
 use Rattle.macho_strict.specs.declared.gaps.Wanted.TheVariants as wanted
 
--- the place has a byte of the kind that is looked for
-abbrev pub IsWanted : Wanted → List ℕ → ℕ → Type 0
-IsWanted wanted.NonZero bytes place = IsNonZero bytes place
-IsWanted wanted.NoPadding bytes place = IsNonZero bytes place × (slice_index bytes place ≢ 0x90)
-
 -- the place lies in none of the spans
 abbrev pub IsFree : List Span → ℕ → Type 0
 IsFree spans place = (i : ℕ) → ¬ Holds (span_at spans i) place
+
+-- the place has a byte that is neither zero nor a NOP of the code
+abbrev pub IsUnpadded : List Span → List ℕ → ℕ → Type 0
+IsUnpadded code bytes place =
+    IsNonZero bytes place × ((slice_index bytes place ≢ 0x90) ⊎ IsFree code place)
+
+-- the place has a byte of the kind that is looked for
+abbrev pub IsWanted : Wanted → List ℕ → ℕ → Type 0
+IsWanted wanted.NonZero bytes place = IsNonZero bytes place
+IsWanted (wanted.Unpadded code) bytes place = IsUnpadded code.now bytes place
 
 -- the place has such a byte, and lies in none of the spans
 abbrev pub IsStray : Wanted → List ℕ → List Span → ℕ → Type 0

@@ -5,9 +5,11 @@ pub mod Sharing
 pub mod First
 pub mod Accounted
 pub mod Verdict
+pub mod Disjoint
 pub mod Gaps
 pub mod Stray
 pub mod FileParts
+pub mod Passed
 pub mod Claims
 pub mod Encrypted
 pub mod Slack

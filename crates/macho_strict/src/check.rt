@@ -29,12 +29,12 @@ pub(crate) fn check_image(alloc: Global, image: &Image) -> Result<(), Refusal>
     let noted = NotedCommands::of(alloc, image);
     commands_end(image, noted.end)?;
     header_segment(image)?;
-    let survey = FilePartSurvey::of(image);
+    let survey = FilePartSurvey::of(alloc, image)?;
     survey.segment_file_overlap(alloc, image)?;
     let claims = Claims::of(alloc, image, noted.elements)?;
-    claims.element_overlap()?;
-    survey.stray_byte(alloc, image)?;
-    encrypted_range(alloc, image, noted.encrypted)?;
+    Rule::ElementOverlap.judge(claims.broken)?;
+    Rule::StrayByte.judge(survey.stray)?;
+    encrypted_range(alloc, image, survey, noted.encrypted)?;
     Rule::CommandSlack.judge(noted.slack)?;
     unclaimed_byte(alloc, image, &claims)?;
     Ok(())

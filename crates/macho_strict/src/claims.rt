@@ -1,21 +1,22 @@
 //! What one walk over the elements of an image finds: which of them share bytes, and what lies between
 //! them.
 
-ghost use Rattle.std.specs.Prelude.{◌≡◌, ◌≤◌, ◌+◌, ◌*◌, ◌↔◌, List, length, max, IfOk, IsTrue, true};
+ghost use Rattle.std.specs.Prelude.{◌≡◌, ◌≤◌, ◌+◌, ◌*◌, ◌↔◌, List, length, max, IfOk, IsSome, IsTrue, true};
 ghost use Rattle.macho_fields.specs.Bytes.{bytes_of};
 ghost use Rattle.macho_fields.specs.FirstPlace.{IsLeastPlace};
-ghost use Rattle.macho_strict.specs.Claims.{ArePassedFor, least_option, occupied};
+ghost use Rattle.macho_strict.specs.Claims.{least_option};
+ghost use Rattle.macho_strict.specs.Passed.{ArePassedFor};
 ghost use Rattle.macho_strict.specs.Rules.{EndsPast, SomeElementEndsPast};
 ghost use Rattle.macho_strict.specs.Sharing.{IsFirstSharing, tagged_elements};
 ghost use Rattle.macho_strict.specs.Verdict.{element_spans};
 
+use crate::by_start::{Passed, occupied_list, pass_sorted};
 use crate::elements::{Element, Elements, Tables, contents, headers, relocations, tables_of};
-use crate::gaps::{Gaps, Wanted, gaps_in};
+use crate::gaps::{Gaps, Wanted, stray_in};
 use crate::overlap::{count_of, gaps_between, span_list};
-use macho_fields::{Break, Bytes, Rule, SpanList, Structure};
+use macho_fields::{Bytes, SpanList, SpansByStart, Structure};
 use macho_image::{Command, Image, Sections, Segment};
 use std::alloc::{AllocError, Global};
-use std::marker::Model;
 
 // The elements are few if the commands end by this place. Then a walk lists them, so that they can be
 // sorted without another walk: at most 1,703 are described there, in 41 KB.
@@ -41,9 +42,11 @@ impl<'a> Noted<'a> {
     ghost use Rattle.macho_fields.specs.LoadCommands.{structure_of};
     ghost use Rattle.macho_image.specs.Command.{command_of};
     ghost use Rattle.macho_image.specs.Opened.{IsCommandOf};
-    ghost use Rattle.macho_strict.specs.Claims.{AreNoted, ArePassedFor};
+    ghost use Rattle.macho_strict.specs.Claims.{AreNoted};
     ghost use Rattle.macho_strict.specs.ElementWalk.{sections_left};
     ghost use Rattle.macho_strict.specs.Elements.{command_elements, elements_of, headers as headers_of};
+    ghost use Rattle.macho_strict.specs.Passed.{ArePassedBy};
+    ghost use Rattle.macho_strict.specs.Verdict.{element_spans};
     ghost use Rattle.macho_strict.specs.declared.elements.Element.{Element};
 
     // Notes the headers of the image.
@@ -135,28 +138,21 @@ impl<'a> Noted<'a> {
         }
     }
 
-    // What lies between the elements of the image, all of which were noted. Those that were listed are
-    // passed by their starts, and otherwise all in their order.
-    fn gaps(self, image: &Image<'a>) -> Gaps<'a>
+    // Passes the elements of the image, all of which were noted: those that were listed by their starts,
+    // and otherwise all in their order.
+    fn pass(self, image: &Image<'a>) -> Passed<'a>
         requires { AreNoted image.now (elements_of image.now) self }
-        ensures { ArePassedFor image.now result }
+        ensures { ArePassedBy image.now (element_spans image.now) result.gaps result.sorted }
     {
         match self {
-            Noted::Listed(list) => listed_gaps(image, list),
-            Noted::Unlisted => gaps_between(image.bytes(), Elements::of(image)),
-            Noted::Passed(gaps) => gaps,
+            Noted::Listed(list) => pass_sorted(image.bytes(), list),
+            Noted::Unlisted => Passed {
+                gaps: gaps_between(image.bytes(), Wanted::NonZero, Elements::of(image)),
+                sorted: None,
+            },
+            Noted::Passed(gaps) => Passed { gaps, sorted: None },
         }
     }
-}
-
-// What lies between the elements of the image. Those that have bytes are listed, and are passed by
-// their starts.
-fn listed_gaps<'a>(image: &Image<'a>, list: SpanList) -> Gaps<'a>
-    requires { list.spans ≡ occupied (element_spans image.now) }
-    ensures passed { ArePassedFor image.now result }
-    ensures by_start { result.by_start ≡ true }
-{
-    gaps_in(image.bytes(), Wanted::NonZero, &list.sorted())
 }
 
 // The lesser of two places, of which either may be missing.
@@ -172,109 +168,96 @@ pub(crate) fn least(one: Option<u64>, other: Option<u64>) -> Option<u64>
 
 // What is found of the elements of an image.
 #[derive(Drop)]
-pub(crate) struct Claims<'a> {
-    // The image whose elements they are.
-    image: Bytes<'a>,
+pub(crate) struct Claims {
     // The least place at which `element-overlap` is broken.
-    broken: Option<u64>,
+    pub(crate) broken: Option<u64>,
     // The least place of a byte that is not zero and lies in none of them.
-    loose: Option<u64>,
+    pub(crate) loose: Option<u64>,
+    // Those that have bytes, by their starts, or `None` if all come in that order.
+    sorted: Option<SpansByStart>,
 }
 
-impl<'a> Model for Claims<'a> {
-    ghost use Rattle.std.specs.Prelude.{List, ℕ};
-    ghost use Rattle.macho_fields.specs.Bytes.{bytes_of};
-    ghost use Rattle.macho_strict.specs.Claims.{AreClaims};
-
-    ghost Value = { List ℕ };
-
-    ghost view = { λ claims. bytes_of claims.image };
-
-    ghost invariant = { λ claims.
-        AreClaims (bytes_of claims.image) claims.broken claims.loose };
-}
-
-impl<'a> Claims<'a> {
-    ghost use Rattle.std.specs.Prelude.{◌≡◌, List, IfOk, OnErr, true};
+impl Claims {
+    ghost use Rattle.std.specs.Prelude.{◌≡◌, List, IfOk, OnErr, IsSome, true};
     ghost use Rattle.macho_fields.specs.FirstPlace.{IsLeastPlace};
-    ghost use Rattle.macho_fields.specs.Layers.{KeptBelow, Continues};
-    ghost use Rattle.macho_fields.specs.RuleList.{rank};
-    ghost use Rattle.macho_fields.specs.declared.rule.Rule.{Rule};
+    ghost use Rattle.macho_image.specs.Opened.{IsOpened};
     ghost use Rattle.macho_spans.specs.Overlap.{IsAscending};
-    ghost use Rattle.macho_strict.specs.Claims.{AreNoted, ArePassedFor};
+    ghost use Rattle.macho_strict.specs.Claims.{AreClaims, AreNoted};
     ghost use Rattle.macho_strict.specs.Elements.{elements_of};
     ghost use Rattle.macho_strict.specs.Gaps.{IsStray};
-    ghost use Rattle.macho_strict.specs.Rules.{BreaksStrictImage};
+    ghost use Rattle.macho_strict.specs.Passed.{ArePassedBy, IsByStart};
     ghost use Rattle.macho_strict.specs.Sharing.{IsFirstSharing, tagged_elements};
     ghost use Rattle.macho_strict.specs.Verdict.{element_spans};
     ghost use Rattle.macho_strict.specs.declared.gaps.Wanted.{Wanted};
 
     // The claims of the elements of the image, which were noted. It needs memory only if they do not
     // ascend: 24 bytes for each, to sort them.
-    pub(crate) fn of(
+    pub(crate) fn of<'a>(
         alloc: Global,
         image: &Image<'a>,
         noted: Noted<'a>,
-    ) -> Result<Claims<'a>, AllocError>
-        requires { AreNoted image.now (elements_of image.now) noted }
-        ensures claims { IfOk result (λ claims. claims ≡ image.now) }
+    ) -> Result<Claims, AllocError>
+        requires opened { IsOpened image.now }
+        requires noted { AreNoted image.now (elements_of image.now) noted }
+        ensures claims { IfOk result (AreClaims image.now) }
         ensures memory { OnErr result (¬ IsAscending (element_spans image.now)) }
     {
-        let gaps = noted.gaps(image);
-        if gaps.ascend() {
-            return Ok(Claims::new(image, &gaps, None));
+        let passed = noted.pass(image);
+        if passed.gaps.ascend() {
+            return Ok(Claims::new(image, passed, None));
         }
         Claims::sorting(alloc, image)
     }
 
     // The claims of the elements of the image, which are sorted.
-    fn sorting(alloc: Global, image: &Image<'a>) -> Result<Claims<'a>, AllocError>
-        ensures { IfOk result (λ claims. claims ≡ image.now) }
+    fn sorting(alloc: Global, image: &Image) -> Result<Claims, AllocError>
+        requires { IsOpened image.now }
+        ensures { IfOk result (AreClaims image.now) }
     {
-        let list = element_list(alloc, count_of(Elements::of(image)), image)?;
-        let gaps = listed_gaps(image, list);
-        if gaps.ascend() {
-            return Ok(Claims::new(image, &gaps, None));
-        }
-        let shared = sorted_overlap(alloc, image)?;
-        Ok(Claims::new(image, &gaps, shared))
+        let count = count_of(Elements::of(image));
+        let list = occupied_list(alloc, count, Elements::of(image))?;
+        let passed = pass_sorted(image.bytes(), list);
+        let shared = if passed.gaps.ascend() {
+            None
+        } else {
+            sorted_overlap(alloc, image)?
+        };
+        Ok(Claims::new(image, passed, shared))
     }
 
-    // The claims of elements between which these gaps are. The first that shares a byte with an earlier
-    // one is described at `shared`.
-    fn new(image: &Image<'a>, gaps: &Gaps, shared: Option<u64>) -> Claims<'a>
-        requires passed { ArePassedFor image.now gaps.now }
-        requires by_start { gaps.now.by_start ≡ true }
+    // The claims of elements that were passed. The first that shares a byte with an earlier one is
+    // described at `shared`.
+    fn new(image: &Image, passed: Passed, shared: Option<u64>) -> Claims
+        requires opened { IsOpened image.now }
+        requires passed { ArePassedBy image.now (element_spans image.now) passed.gaps passed.sorted }
+        requires by_start { passed.gaps.by_start ≡ true }
+        requires sorted { IsByStart (element_spans image.now) passed.sorted }
         requires shared { IsFirstSharing (tagged_elements image.now) shared }
-        ensures { result ≡ image.now }
+        ensures { AreClaims image.now result }
     {
         Claims {
-            image: image.bytes(),
-            broken: least(outside(image, gaps), shared),
-            loose: gaps.stray(),
+            broken: least(outside(image, &passed.gaps), shared),
+            loose: passed.gaps.stray(),
+            sorted: passed.sorted,
         }
     }
 
-    // No element shares a byte with an earlier one, or ends past the image.
-    pub(crate) fn element_overlap(&self) -> Result<(), Break>
-        requires { KeptBelow (BreaksStrictImage self.now) (rank Rule.ElementOverlap) }
-        ensures { Continues (BreaksStrictImage self.now) Rule.ElementOverlap result }
+    // The least place of a byte of the image that is looked for and lies in no element.
+    pub(crate) fn stray(&self, image: &Image, wanted: Wanted) -> Option<u64>
+        requires { AreClaims image.now self.now }
+        ensures { IsLeastPlace (IsStray wanted.entry image.now (element_spans image.now)) result }
     {
-        Rule::ElementOverlap.judge(self.broken)
-    }
-
-    // The least place of a byte that is not zero and lies in no element.
-    pub(crate) fn loose(&self) -> Option<u64>
-        ensures { IsLeastPlace (IsStray Wanted.NonZero self.now (element_spans self.now)) result }
-    {
-        self.loose
+        match &self.sorted {
+            Some(sorted) => stray_in(image.bytes(), wanted, sorted),
+            None => gaps_between(image.bytes(), wanted, Elements::of(image)).stray(),
+        }
     }
 }
 
 // Where the first element is described that ends past the image. The gaps are those between the
 // elements.
 fn outside(image: &Image, gaps: &Gaps) -> Option<u64>
-    requires passed { ArePassedFor image.now gaps.now }
+    requires passed { ArePassedFor image.now (element_spans image.now) gaps.now }
     requires by_start { gaps.now.by_start ≡ true }
     ensures { IsLeastPlace (SomeElementEndsPast image.now) result }
 {
@@ -318,24 +301,4 @@ fn sorted_overlap(alloc: Global, image: &Image) -> Result<Option<u64>, AllocErro
             .nth(index as usize)
             .map(|element| element.described),
     )
-}
-
-// The bytes of those elements that have some, in their order. The memory for `count` of them is
-// allocated at once.
-pub(crate) fn element_list(
-    alloc: Global,
-    count: usize,
-    image: &Image,
-) -> Result<SpanList, AllocError>
-    ensures spans { IfOk result (λ list. list.spans ≡ occupied (element_spans image.now)) }
-    ensures capacity { IfOk result (λ list.
-        list.capacity ≤ max count (2 * length list.spans + 4)) }
-{
-    let mut list = SpanList::with_capacity(alloc, count)?;
-    for element in Elements::of(image) {
-        if element.span.len > 0 {
-            list.push(element.span)?;
-        }
-    }
-    Ok(list)
 }

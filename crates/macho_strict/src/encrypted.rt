@@ -1,6 +1,6 @@
 //! The rule of the encrypted range. (`mach-o/loader.h`: `encryption_info_command_64`)
 
-ghost use Rattle.std.specs.Prelude.{◌≡◌, ◌+◌, ◌^◌, ◌<◌, ◌↔◌, ℕ, List, length, Any, Contains, IfOk, MatchOption, IsTrue};
+ghost use Rattle.std.specs.Prelude.{◌≡◌, ◌<◌, ◌↔◌, Any, MatchOption, IsPermutation, IsTrue};
 ghost use Rattle.macho_fields.specs.Bytes.{bytes_of};
 ghost use Rattle.macho_fields.specs.FirstPlace.{IsLeastPlace};
 ghost use Rattle.macho_fields.specs.Layers.{KeptBelow};
@@ -10,30 +10,31 @@ ghost use Rattle.macho_image.specs.Command.{command_of};
 ghost use Rattle.macho_image.specs.Opened.{IsCommandOf};
 ghost use Rattle.macho_rules.specs.Check.{ContinuesWithMemory};
 ghost use Rattle.macho_spans.specs.Span.{IsInside};
-ghost use Rattle.macho_spans.specs.declared.span.Span.{Span};
-ghost use Rattle.macho_strict.specs.Encrypted.{AreReaches, IsEncrypted, encrypted_span};
+ghost use Rattle.macho_strict.specs.Encrypted.{IsEncrypted, encrypted_span};
+ghost use Rattle.macho_strict.specs.FileParts.{IsSurveyOf};
+ghost use Rattle.macho_strict.specs.Passed.{occupied};
 ghost use Rattle.macho_strict.specs.Rules.{BreaksStrictImage};
 ghost use Rattle.macho_strict.specs.Verdict.{file_parts, HasEncrypted};
 
-use crate::overlap::{FileParts, count_of, span_list};
+use crate::disjoint::Disjoint;
+use crate::segments::FilePartSurvey;
 use macho_fields::header::loader::LC_ENCRYPTION_INFO_64;
 use macho_fields::header::loader::encryption_info_command_64::{CRYPTOFF, CRYPTSIZE};
 use macho_fields::{Bytes, Order, Rule, Span};
 use macho_image::{Command, Image};
 use macho_rules::Refusal;
-use std::alloc::{AllocError, Global};
-
-// How far the segments reach that begin by a place: one of them ends at `end`, and none later.
-#[derive(Clone, Copy)]
-struct Reach {
-    start: u64,
-    end: u128,
-}
+use std::alloc::Global;
 
 // What is encrypted is bytes of one segment, past the headers.
 //
-// It takes memory only if something is encrypted: 56 bytes for each segment.
-pub(crate) fn encrypted_range(alloc: Global, image: &Image, encrypted: bool) -> Result<(), Refusal>
+// It takes memory only if something is encrypted, and the file parts were not sorted: 24 bytes for each.
+pub(crate) fn encrypted_range(
+    alloc: Global,
+    image: &Image,
+    survey: FilePartSurvey,
+    encrypted: bool,
+) -> Result<(), Refusal>
+    requires survey { IsSurveyOf image.now survey }
     requires has { IsTrue encrypted ↔ HasEncrypted image.now }
     requires kept { KeptBelow (BreaksStrictImage image.now) (rank Rule.EncryptedRange) }
     ensures { ContinuesWithMemory (BreaksStrictImage image.now) Rule.EncryptedRange
@@ -42,22 +43,22 @@ pub(crate) fn encrypted_range(alloc: Global, image: &Image, encrypted: bool) -> 
     if !encrypted {
         return Ok(());
     }
-    let reaches = reaches(alloc, image)?;
-    Rule::EncryptedRange.judge(first_misplaced(image, &reaches))?;
+    let parts = survey.parts(alloc, image)?;
+    Rule::EncryptedRange.judge(first_misplaced(image, &parts))?;
     Ok(())
 }
 
 // The place of the first command whose encrypted range begins in the headers, or is not bytes of one
 // segment.
-fn first_misplaced(image: &Image, reaches: &[Reach]) -> Option<u64>
-    requires { AreReaches (file_parts image.now) reaches.now }
+fn first_misplaced(image: &Image, parts: &Disjoint) -> Option<u64>
+    requires { IsPermutation (occupied (file_parts image.now)) parts.now }
     ensures { IsLeastPlace (BreaksStrictImage image.now Rule.EncryptedRange) result }
 {
     let bytes = image.bytes();
     let commands_end = image.commands_end();
     for command in image.commands() {
         if let Some(range) = encrypted(bytes, &command)
-            && (range.start < commands_end || !is_in_one(reaches, range))
+            && (range.start < commands_end || !is_in_one(parts, range))
         {
             return Some(command.place);
         }
@@ -83,32 +84,13 @@ pub(crate) fn encrypted(image: Bytes, command: &Command) -> Option<Span>
     Some(Span { start, len })
 }
 
-// How far the segments reach in the file, by ascending starts.
-fn reaches(alloc: Global, image: &Image) -> Result<Vec<Reach>, AllocError>
-    ensures { IfOk result (λ reaches. AreReaches (file_parts image.now) reaches.items) }
+// Whether the range, which is not empty, lies in one of the parts.
+fn is_in_one(parts: &Disjoint, range: Span) -> bool
+    requires { 0 < range.len }
+    ensures { IsTrue result ↔ Any (IsInside range) parts.now }
 {
-    let parts = span_list(alloc, count_of(FileParts::of(image)), FileParts::of(image))?.sorted();
-    let mut reaches = Vec::with_capacity(alloc, parts.len())?;
-    let mut end = 0;
-    for index in 0..parts.len() {
-        let part = parts.span(index);
-        end = part.end().max(end);
-        reaches.push(Reach {
-            start: part.start,
-            end,
-        })?;
-    }
-    Ok(reaches)
-}
-
-// Whether the range lies in one of the spans whose reaches these are.
-fn is_in_one(reaches: &[Reach], range: Span) -> bool
-    ensures { (spans : List Span) → AreReaches spans reaches.now
-        → (IsTrue result ↔ Any (λ span. IsInside range span) spans) }
-{
-    let next = reaches.partition_point(|reach| reach.start <= range.start);
-    match next.checked_sub(1) {
-        Some(index) => range.end() <= reaches[index].end,
+    match parts.holding(range.start) {
+        Some(part) => range.inside(&part),
         None => false,
     }
 }

@@ -6,9 +6,9 @@ ghost use Rattle.macho_fields.specs.Bytes.{bytes_of};
 ghost use Rattle.macho_fields.specs.FirstPlace.{IsLeastPlace};
 ghost use Rattle.macho_spans.specs.Span.{end_of};
 ghost use Rattle.macho_spans.specs.Overlap.{sorted_spans};
-ghost use Rattle.macho_strict.specs.Gaps.{ArePassed, IsStray, IsLeastWithin};
-ghost use Rattle.macho_strict.specs.declared.gaps.Wanted.{Wanted};
+ghost use Rattle.macho_strict.specs.Gaps.{ArePassed, IsStray, IsUnpadded};
 
+use crate::disjoint::Disjoint;
 use macho_fields::{Bytes, Span, SpansByStart};
 
 // The instruction of one byte that does nothing, with which linkers fill gaps between code.
@@ -16,14 +16,14 @@ pub(crate) const NOP: u8 = 0x90;
 
 // Which bytes are looked for.
 #[derive(Clone, Copy)]
-pub(crate) enum Wanted {
+pub(crate) enum Wanted<'a> {
     // Those that are not zero.
     NonZero,
-    // Those that are neither zero nor a NOP.
-    NoPadding,
+    // Those that are neither zero nor a NOP in one of these spans, which are code.
+    Unpadded(&'a Disjoint),
 }
 
-impl Wanted {
+impl<'a> Wanted<'a> {
     ghost use Rattle.std.specs.Prelude.{◌≡◌, ◌+◌};
     ghost use Rattle.macho_fields.specs.Bytes.{bytes_of};
     ghost use Rattle.macho_spans.specs.Span.{end_of, Holds};
@@ -31,18 +31,19 @@ impl Wanted {
 
     // The least place of the span that has such a byte.
     fn first(self, bytes: Bytes, span: Span) -> Option<u64>
-        ensures { IsLeastWithin self (bytes_of bytes.entry) span.start (end_of span) result }
+        ensures { IsLeastWithin self.entry (bytes_of bytes.entry) span.start (end_of span) result }
     {
         match self {
             Wanted::NonZero => bytes.first_nonzero(span),
-            Wanted::NoPadding => first_no_padding(bytes, span),
+            Wanted::Unpadded(code) => first_unpadded(bytes, code, span),
         }
     }
 }
 
-// The least place of the span that has a byte which is neither zero nor a NOP.
-fn first_no_padding(bytes: Bytes, span: Span) -> Option<u64>
-    ensures { IsLeastWithin Wanted.NoPadding (bytes_of bytes.entry) span.start (end_of span) result }
+// The least place of the span that has a byte which is neither zero nor a NOP of the code.
+fn first_unpadded(bytes: Bytes, code: &Disjoint, span: Span) -> Option<u64>
+    ensures { IsLeastPlace (λ place. (span.start ≤ place) × (place < end_of span)
+        × IsUnpadded code.now (bytes_of bytes.entry) place) result }
 {
     let end = span.end().min(u128::from(bytes.len())) as u64;
     let mut start = span.start;
@@ -52,7 +53,11 @@ fn first_no_padding(bytes: Bytes, span: Span) -> Option<u64>
         if bytes.read_u8(place) != NOP {
             return Some(place);
         }
-        start = nops_end(bytes, place + 1, end);
+        let Some(part) = code.holding(place) else {
+            return Some(place);
+        };
+        let limit = part.end().min(u128::from(end)) as u64;
+        start = nops_end(bytes, place + 1, limit);
     }
     None
 }
@@ -78,7 +83,7 @@ fn nops_end(bytes: Bytes, start: u64, end: u64) -> u64
 #[derive(Clone, Copy)]
 pub(crate) struct Gaps<'a> {
     bytes: Bytes<'a>,
-    wanted: Wanted,
+    wanted: Wanted<'a>,
     // Whether none of the spans began before an earlier one. If one did, nothing more is noted.
     by_start: bool,
     // Whether none of them began before an earlier one ended.
@@ -100,8 +105,8 @@ impl<'a> Gaps<'a> {
     ghost use Rattle.macho_strict.specs.declared.gaps.Wanted.{Wanted};
 
     // No span was passed.
-    pub(crate) fn new(bytes: Bytes<'a>, wanted: Wanted) -> Gaps<'a>
-        ensures { ArePassed wanted (bytes_of bytes.entry) [] result }
+    pub(crate) fn new(bytes: Bytes<'a>, wanted: Wanted<'a>) -> Gaps<'a>
+        ensures { ArePassed wanted.entry (bytes_of bytes.entry) [] result }
     {
         Gaps {
             bytes,
@@ -194,9 +199,9 @@ impl<'a> Gaps<'a> {
 }
 
 // What lies between the spans, which are passed by their starts.
-pub(crate) fn gaps_in<'a>(bytes: Bytes<'a>, wanted: Wanted, spans: &SpansByStart) -> Gaps<'a>
+pub(crate) fn gaps_in<'a>(bytes: Bytes<'a>, wanted: Wanted<'a>, spans: &SpansByStart) -> Gaps<'a>
     requires { IsNonDecreasingBy (λ span. span.start) (sorted_spans spans.now) }
-    ensures passed { ArePassed wanted (bytes_of bytes.entry) (sorted_spans spans.now) result }
+    ensures passed { ArePassed wanted.entry (bytes_of bytes.entry) (sorted_spans spans.now) result }
     ensures by_start { result.by_start ≡ true }
 {
     let mut gaps = Gaps::new(bytes, wanted);
@@ -209,7 +214,7 @@ pub(crate) fn gaps_in<'a>(bytes: Bytes<'a>, wanted: Wanted, spans: &SpansByStart
 // The least place of a byte that is looked for and lies in none of the spans.
 pub(crate) fn stray_in(bytes: Bytes, wanted: Wanted, spans: &SpansByStart) -> Option<u64>
     requires { IsNonDecreasingBy (λ span. span.start) (sorted_spans spans.now) }
-    ensures { IsLeastPlace (IsStray wanted (bytes_of bytes.entry) (sorted_spans spans.now)) result }
+    ensures { IsLeastPlace (IsStray wanted.entry (bytes_of bytes.entry) (sorted_spans spans.now)) result }
 {
     gaps_in(bytes, wanted, spans).stray()
 }

@@ -2,9 +2,11 @@
 //! The strict profile, of a file that breaks no rule of the layout: every nonzero byte is accounted
 //! for, and no byte belongs to two elements.
 
+mod by_start;
 mod check;
 mod claims;
 mod commands;
+mod disjoint;
 pub mod elements;
 mod encrypted;
 mod gaps;

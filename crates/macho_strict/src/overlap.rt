@@ -1,20 +1,17 @@
 //! Lists of parts of an image, in the order of what describes them, and which of these share a place.
 
-ghost use Rattle.std.specs.Prelude.{◌≡◌, ◌-◌, ◌*◌, ◌+◌, ◌≤◌, ◌^◌, List, length, map, max, min, IfOk, OnErr};
+ghost use Rattle.std.specs.Prelude.{◌≡◌, ◌-◌, ◌*◌, ◌+◌, ◌≤◌, ◌^◌, List, length, map, max, min, IfOk};
 ghost use Rattle.std.specs.Iterator.{Drains, IsFinite};
 ghost use Rattle.macho_fields.specs.Bytes.{bytes_of};
-ghost use Rattle.macho_spans.specs.Overlap.{IsUnordered};
-ghost use Rattle.macho_spans.specs.SpanOrder.{IsOrderOf};
 ghost use Rattle.macho_strict.specs.Gaps.{ArePassed};
 ghost use Rattle.macho_strict.specs.Sharing.{IsFirstSharing, tagged_parts};
 ghost use Rattle.macho_strict.specs.Sharing.{file_part as file_part_of};
-ghost use Rattle.macho_strict.specs.Verdict.{file_parts};
 ghost use Rattle.macho_strict.specs.declared.elements.Element.{Element};
 ghost use Rattle.macho_strict.specs.declared.gaps.Wanted.{Wanted};
 
 use crate::elements::Element;
 use crate::gaps::{Gaps, Wanted};
-use macho_fields::{Bytes, Sharing, SpanList, SpanOrder};
+use macho_fields::{Bytes, SpanList};
 use macho_image::{Image, Segment, Segments};
 use std::alloc::{AllocError, Global};
 use std::marker::Model;
@@ -75,33 +72,9 @@ impl<'a> FileParts<'a> {
 }
 
 // The place of the first segment whose file part shares a place with that of an earlier one, or
-// `None` if no two share one. It takes memory only if the file parts neither ascend nor descend.
-pub(crate) fn file_overlap(alloc: Global, image: &Image) -> Result<Option<u64>, AllocError>
-    ensures found { IfOk result (IsFirstSharing (tagged_parts image.now)) }
-    ensures memory { OnErr result (IsUnordered (file_parts image.now)) }
-{
-    match order_of(image).sharing() {
-        Sharing::None => Ok(None),
-        Sharing::First(place) => Ok(Some(place)),
-        Sharing::Unknown => sorted_file_overlap(alloc, image),
-    }
-}
-
-// In what order the file parts come. The place of a segment is its tag.
-fn order_of(image: &Image) -> SpanOrder
-    ensures { IsOrderOf (tagged_parts image.now) result }
-{
-    let mut order = SpanOrder::new();
-    for part in FileParts::of(image) {
-        order.note(part.span, part.described);
-    }
-    order
-}
-
-// The place of the first segment whose file part shares a place with that of an earlier one, or
 // `None` if no two share one. For n segments it takes time in the order of n log n, and 24 bytes of
 // memory for each.
-fn sorted_file_overlap(alloc: Global, image: &Image) -> Result<Option<u64>, AllocError>
+pub(crate) fn sorted_file_overlap(alloc: Global, image: &Image) -> Result<Option<u64>, AllocError>
     ensures { IfOk result (IsFirstSharing (tagged_parts image.now)) }
 {
     let list = span_list(alloc, count_of(FileParts::of(image)), FileParts::of(image))?;
@@ -118,15 +91,15 @@ fn sorted_file_overlap(alloc: Global, image: &Image) -> Result<Option<u64>, Allo
 // What lies between the elements, which are passed in their order.
 pub(crate) fn gaps_between<'a, I: Iterator<Item = Element>>(
     bytes: Bytes<'a>,
+    wanted: Wanted<'a>,
     elements: I,
 ) -> Gaps<'a>
     requires can { I.can_next elements }
     requires finite { IsFinite (I.remaining elements) }
     ensures { (all : List Element) × Drains I.next_gives elements all
-        × ArePassed Wanted.NonZero (bytes_of bytes.entry) (map (λ element. element.span) all)
-        result }
+        × ArePassed wanted.entry (bytes_of bytes.entry) (map (λ element. element.span) all) result }
 {
-    let mut gaps = Gaps::new(bytes, Wanted::NonZero);
+    let mut gaps = Gaps::new(bytes, wanted);
     for element in elements {
         gaps.pass(element.span);
     }

@@ -1,23 +1,22 @@
 //! The strict rules of segments. (`mach-o/loader.h`: `segment_command_64`)
 
-ghost use Rattle.std.specs.Prelude.{◌≡◌, ◌↔◌, Any, IsTrue, IfOk, OnErr};
+ghost use Rattle.std.specs.Prelude.{◌≡◌, ◌↔◌, ℕ, Any, IsPermutation, IsTrue, IfOk, OnErr};
 ghost use Rattle.macho_fields.specs.Image.{commands_end as commands_end_of};
-ghost use Rattle.macho_fields.specs.FirstPlace.{IsLeastPlace};
 ghost use Rattle.macho_fields.specs.Layers.{KeptBelow, Continues};
 ghost use Rattle.macho_fields.specs.RuleList.{rank};
 ghost use Rattle.macho_fields.specs.declared.rule.Rule.{Rule};
 ghost use Rattle.macho_strict.specs.Rules.{BreaksStrictImage, HasHeaders, all_segments};
-ghost use Rattle.macho_strict.specs.Gaps.{IsStray, ComeByStart, ArePassed};
+ghost use Rattle.macho_strict.specs.Passed.{occupied};
 ghost use Rattle.macho_strict.specs.Verdict.{file_parts};
-ghost use Rattle.macho_strict.specs.declared.gaps.Wanted.{Wanted};
 
-use crate::gaps::{Gaps, Wanted, stray_in};
-use crate::overlap::{FileParts, count_of, file_overlap, gaps_between, span_list};
-use macho_fields::{Break, Bytes, Rule};
+use crate::by_start::{Passed, occupied_list, pass_sorted};
+use crate::disjoint::Disjoint;
+use crate::gaps::Wanted;
+use crate::overlap::{FileParts, count_of, gaps_between, sorted_file_overlap};
+use macho_fields::{Break, Rule, SpanList, SpansByStart};
 use macho_image::{Image, Segment};
 use macho_rules::Refusal;
 use std::alloc::{AllocError, Global};
-use std::marker::Model;
 
 // `mach_header_64.sizeofcmds`
 pub(crate) const SIZEOFCMDS: u64 = 20;
@@ -56,93 +55,94 @@ fn has_headers(segment: &Segment, commands_end: u64) -> bool
     segment.fileoff() == 0 && commands_end <= segment.filesize() && segment.vmsize() > 0
 }
 
-// What one walk over the segments of an image finds of their file parts.
+// What is found of the file parts of the segments of an image.
 #[derive(Drop)]
-pub(crate) struct FilePartSurvey<'a> {
-    // The image that was scanned.
-    image: Bytes<'a>,
-    // What lies between them.
-    gaps: Gaps<'a>,
+pub(crate) struct FilePartSurvey {
+    // Whether no two of them share a place.
+    apart: bool,
+    // The least place of a byte that is not zero and lies in none of them.
+    pub(crate) stray: Option<u64>,
+    // Those that have bytes, by their starts, or `None` if all come in that order.
+    sorted: Option<SpansByStart>,
 }
 
-impl<'a> Model for FilePartSurvey<'a> {
-    ghost use Rattle.std.specs.Prelude.{List, ℕ};
-    ghost use Rattle.macho_fields.specs.Bytes.{bytes_of};
-    ghost use Rattle.macho_strict.specs.FileParts.{IsSurveyOf};
-
-    ghost Value = { List ℕ };
-
-    ghost view = { λ survey. bytes_of survey.image };
-
-    ghost invariant = { λ survey.
-        IsSurveyOf (bytes_of survey.image) survey.gaps };
-}
-
-impl<'a> FilePartSurvey<'a> {
-    ghost use Rattle.std.specs.Prelude.{◌≡◌};
-    ghost use Rattle.macho_spans.specs.Overlap.{IsAscending, IsUnordered};
+impl FilePartSurvey {
+    ghost use Rattle.std.specs.Prelude.{◌≡◌, true};
     ghost use Rattle.macho_fields.specs.Layers.{KeptBelow};
-    ghost use Rattle.macho_rules.specs.Check.{ContinuesWithMemory};
     ghost use Rattle.macho_fields.specs.RuleList.{rank};
+    ghost use Rattle.macho_fields.specs.declared.rule.Rule.{Rule};
+    ghost use Rattle.macho_image.specs.Opened.{IsOpened};
+    ghost use Rattle.macho_rules.specs.Check.{ContinuesWithMemory};
+    ghost use Rattle.macho_spans.specs.Overlap.{IsAscending, SharesEarlier};
+    ghost use Rattle.macho_strict.specs.FileParts.{IsSurveyOf};
+    ghost use Rattle.macho_strict.specs.Passed.{ArePassedBy, IsByStart, occupied};
     ghost use Rattle.macho_strict.specs.Rules.{BreaksStrictImage};
     ghost use Rattle.macho_strict.specs.Verdict.{file_parts};
-    ghost use Rattle.macho_fields.specs.declared.rule.Rule.{Rule};
 
-    // Scans the segments of the image.
-    pub(crate) fn of(image: &Image<'a>) -> FilePartSurvey<'a>
-        ensures { result ≡ image.now }
+    // Passes the file parts of the image. It needs memory only if they do not ascend: 24 bytes for each,
+    // to sort them.
+    pub(crate) fn of(alloc: Global, image: &Image) -> Result<FilePartSurvey, AllocError>
+        ensures survey { IfOk result (IsSurveyOf image.now) }
+        ensures memory { OnErr result (¬ IsAscending (file_parts image.now)) }
     {
-        let bytes = image.bytes();
+        let gaps = gaps_between(image.bytes(), Wanted::NonZero, FileParts::of(image));
+        if gaps.ascend() {
+            return Ok(FilePartSurvey::new(image, Passed { gaps, sorted: None }));
+        }
+        let list = part_list(alloc, image)?;
+        Ok(FilePartSurvey::new(image, pass_sorted(image.bytes(), list)))
+    }
+
+    // What is found of file parts of the image that were passed.
+    fn new(image: &Image, passed: Passed) -> FilePartSurvey
+        requires opened { IsOpened image.now }
+        requires passed { ArePassedBy image.now (file_parts image.now) passed.gaps passed.sorted }
+        requires by_start { passed.gaps.by_start ≡ true }
+        requires sorted { IsByStart (file_parts image.now) passed.sorted }
+        ensures { IsSurveyOf image.now result }
+    {
         FilePartSurvey {
-            image: bytes,
-            gaps: gaps_between(bytes, FileParts::of(image)),
+            apart: passed.gaps.ascend(),
+            stray: passed.gaps.stray(),
+            sorted: passed.sorted,
         }
     }
 
     // No segment has a byte of the file in common with an earlier one.
     //
-    // It takes memory only if the file parts neither ascend nor descend: 24 bytes for each, to sort
-    // them.
+    // It takes memory only if one has: 24 bytes for each, to find the first.
     pub(crate) fn segment_file_overlap(&self, alloc: Global, image: &Image) -> Result<(), Refusal>
-        requires image { self.now ≡ image.now }
+        requires survey { IsSurveyOf image.now self.now }
         requires kept { KeptBelow (BreaksStrictImage image.now) (rank Rule.SegmentFileOverlap) }
         ensures { ContinuesWithMemory (BreaksStrictImage image.now) Rule.SegmentFileOverlap
-            (IsUnordered (file_parts image.now)) result }
+            (¬ IsAscending (file_parts image.now)) result }
     {
-        let overlap = if self.gaps.ascend() {
+        let overlap = if self.apart {
             None
         } else {
-            file_overlap(alloc, image)?
+            sorted_file_overlap(alloc, image)?
         };
         Rule::SegmentFileOverlap.judge(overlap)?;
         Ok(())
     }
 
-    // Each byte of the image is zero or lies in a segment.
-    //
-    // It takes memory only if the file parts do not ascend: 24 bytes for each, to sort them.
-    pub(crate) fn stray_byte(&self, alloc: Global, image: &Image) -> Result<(), Refusal>
-        requires image { self.now ≡ image.now }
-        requires kept { KeptBelow (BreaksStrictImage image.now) (rank Rule.StrayByte) }
-        ensures { ContinuesWithMemory (BreaksStrictImage image.now) Rule.StrayByte
-            (¬ IsAscending (file_parts image.now)) result }
+    // The file parts that have bytes. It needs memory only if they were not sorted: 24 bytes for each.
+    pub(crate) fn parts(self, alloc: Global, image: &Image) -> Result<Disjoint, AllocError>
+        requires survey { IsSurveyOf image.now self }
+        requires apart { (j : ℕ) → ¬ SharesEarlier (file_parts image.now) j }
+        ensures { IfOk result (IsPermutation (occupied (file_parts image.now))) }
     {
-        let stray = least_stray(alloc, image, &self.gaps)?;
-        Rule::StrayByte.judge(stray)?;
-        Ok(())
+        match self.sorted {
+            Some(sorted) => Ok(Disjoint::new(sorted)),
+            None => Ok(Disjoint::new(part_list(alloc, image)?.sorted())),
+        }
     }
 }
 
-// The least place of a nonzero byte in no segment. The file parts were passed.
-fn least_stray(alloc: Global, image: &Image, gaps: &Gaps) -> Result<Option<u64>, AllocError>
-    requires { ArePassed Wanted.NonZero image.now (file_parts image.now) gaps.now }
-    ensures found { IfOk result (IsLeastPlace
-        (IsStray Wanted.NonZero image.now (file_parts image.now))) }
-    ensures memory { OnErr result (¬ ComeByStart (file_parts image.now)) }
+// The file parts of the image that have bytes, in their order.
+fn part_list(alloc: Global, image: &Image) -> Result<SpanList, AllocError>
+    ensures { IfOk result (λ list. list.spans ≡ occupied (file_parts image.now)) }
 {
-    if gaps.by_start() {
-        return Ok(gaps.stray());
-    }
-    let list = span_list(alloc, count_of(FileParts::of(image)), FileParts::of(image))?;
-    Ok(stray_in(image.bytes(), Wanted::NonZero, &list.sorted()))
+    let count = count_of(FileParts::of(image));
+    occupied_list(alloc, count, FileParts::of(image))
 }

@@ -19,10 +19,9 @@ use std::alloc::Global;
 ///
 /// The strict rule of the file comes first; then those of its 64-bit slices, in the order of the
 /// table. It takes memory as `verify` does, and then 24 bytes for each slice, segment or element of
-/// those that are not in the order of their bytes. If a NOP lies in no element, it takes 24 bytes for
-/// each element and each segment of the slice, even if it has sorted the elements before. For an
-/// image with an encrypted range it takes 56 bytes for each segment. If the commands end within the first
-/// 16 KiB of an image, the elements are listed in any case, if there is memory.
+/// those that are not in the order of their bytes. If an image has an encrypted range, or a NOP in no
+/// element, it takes 24 bytes for each segment. If the commands end within the first 16 KiB of an image,
+/// the elements are listed in any case, if there is memory.
 pub fn verify_strictly<'a>(alloc: Global, file: &'a [u8]) -> Result<Verified<'a>, Refusal>
     // It accepts only a file that breaks no rule and no strict rule, and refuses only one that breaks
     // one of them, unless there is no memory.

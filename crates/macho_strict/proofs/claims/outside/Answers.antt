@@ -6,4 +6,4 @@ pub returns-then-are_inside : goal.returns-then-are_inside
 returns-then-are_inside c =
     let image = c.args.image.now in
     let are = c.requires.passed in
-    none_outside image are.spans are.same ((c.are_inside.ensures wanted.NonZero image are.spans are.passed).0 c.if-are_inside.true)
+    none_outside image are.ordered are.same ((c.are_inside.ensures wanted.NonZero image are.ordered are.passed).0 c.if-are_inside.true)

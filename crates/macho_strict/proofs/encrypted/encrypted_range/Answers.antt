@@ -1,11 +1,16 @@
-use Rattle.std.proofs.Common.{Err}
+use Rattle.std.proofs.Common.{Err, lit<}
 use Rattle.macho_fields.specs.Layers.{IsLeast}
 use Rattle.macho_fields.specs.declared.rule.Rule.TheVariants as rule
 use Rattle.macho_fields.proofs.FirstPlaces.{first_judged}
 use Rattle.macho_strict.specs.Rules.{BreaksStrictImage}
 use Rattle.macho_strict.specs.Verdict.{HasEncrypted}
 use Rattle.macho_strict.proofs.Judged.{refused}
+use Rattle.macho_strict.proofs.Surveyed.{parts_apart}
 use Rattle.macho_strict.proofs.encrypted.encrypted_range.Goals as goal
+
+pub parts-requires-clause-apart : goal.parts-requires-clause-apart
+parts-requires-clause-apart c =
+    parts_apart c.args.image.now c.requires.survey.opened (λ p broken. c.requires.kept rule.SegmentFileOverlap p (lit< tt) broken)
 
 pub returns-in_err-judge : goal.returns-in_err-judge
 returns-in_err-judge c =

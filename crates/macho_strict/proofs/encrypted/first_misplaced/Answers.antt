@@ -8,10 +8,11 @@ use Rattle.macho_image.specs.Command.{command_of}
 use Rattle.macho_image.specs.Opened.{IsCommandOf}
 use Rattle.macho_rules.proofs.Searches.{search_next, search_found, search_ended}
 use Rattle.macho_spans.specs.Span.{IsInside}
+use Rattle.macho_spans.specs.declared.span.Span.{Span}
 use Rattle.macho_strict.specs.Encrypted.{IsEncrypted, encrypted_span}
 use Rattle.macho_strict.specs.Rules.{BreaksStrictImage}
 use Rattle.macho_strict.specs.Verdict.{file_parts}
-use Rattle.macho_strict.proofs.Encryptions.{commands_search, judged_left, encryptions_break, LiesOutside, is_misplaced, not_misplaced, none_has}
+use Rattle.macho_strict.proofs.Encryptions.{commands_search, judged_left, encryptions_break, LiesOutside, parts_have, files_have, is_misplaced, not_misplaced, none_has}
 use Rattle.macho_strict.proofs.encrypted.first_misplaced.Goals as goal
 use Rattle.macho_strict.proofs.encrypted.first_misplaced.Goals.{in_default-via-in-None-1, in_default-via-in-Some-encrypted+else-not-is_in_one, then-range-commands_end, else-range-commands_end}
 
@@ -26,6 +27,11 @@ encrypted-requires c =
     subst (λ (bytes : List ℕ). IsCommandOf bytes (command_of c.in-Some.command)) (sym c.bytes-bytes.ensures.bytes)
     (judged_left c.args.image.now _ c.bytes-bytes.ensures.opened are _ _ _ (command_of c.in-Some.command) c.in-Some.ensures.steps c.loop-command.invariant.2)
 
+pub is_in_one-requires : goal.is_in_one-requires
+is_in_one-requires c =
+    let (has, is) = c.in-Some-encrypted.ensures in
+    omega (arith, has.1, ap (λ (span : Span). span.len) is)
+
 pub returns-in-loop-command : goal.returns-in-loop-command
 returns-in-loop-command c =
     let image = c.args.image.now in
@@ -34,11 +40,12 @@ returns-in-loop-command c =
     let are = c.into_iter-command-iterator.ensures.into_iter_gives ∙ c.commands-command-items.ensures.commands in
     let has = subst (λ (bytes : List ℕ). IsEncrypted bytes v) c.bytes-bytes.ensures.bytes c.in-Some-encrypted.ensures.0 in
     let is = subst (λ (bytes : List ℕ). range ≡ encrypted_span bytes v.place) c.bytes-bytes.ensures.bytes c.in-Some-encrypted.ensures.1 in
+    let some : 0 < range.len = omega (arith, has.1, ap (λ (span : Span). span.len) is) in
     let outside : LiesOutside image range =
     elim c.if-range-commands_end.branch [
       | then-range-commands_end w ↦ inl (subst (λ (end : ℕ). range.start < end) c.commands_end-commands_end.ensures.end w.if-range-commands_end.true)
       | else-range-commands_end w ↦
-          inr (λ any. false≢true (sym (w.value-is ∙ ap not ((w.is_in_one.ensures (file_parts image) c.requires).1 any)) ∙ c.if-not-is_in_one.true))
+          inr (λ any. false≢true (sym (w.value-is ∙ ap not (w.is_in_one.ensures.1 (parts_have image c.args.parts.now c.requires range some any))) ∙ c.if-not-is_in_one.true))
     ] in
     search_found (BreaksStrictImage image rule.EncryptedRange) _ _ _ _ _ v c.in-Some.ensures.steps (encryptions_break image _ c.bytes-bytes.ensures.opened are) c.loop-command.invariant.2
     (is_misplaced image v range has is outside)
@@ -68,7 +75,7 @@ loop-command-preserved c =
                   let after : commands_end image ≤ range.start = omega (arith, b.if-range-commands_end.false, c.commands_end-commands_end.ensures.end) in
                   let inside : Any (λ span. IsInside range span) (file_parts image) =
                   elim (cases_Bool b.is_in_one.result) [
-                    | inl t ↦ (b.is_in_one.ensures (file_parts image) c.requires).0 t
+                    | inl t ↦ files_have image c.args.parts.now c.requires range (b.is_in_one.ensures.0 t)
                     | inr f ↦ absurd (false≢true (sym w.if-not-is_in_one.false ∙ (b.value-is ∙ ap not f)))
                   ] in
                   not_misplaced image v range has is after inside
