@@ -3,9 +3,9 @@
 use Rattle.std.specs.Prelude.{◌≡◌, ℕ, ◌+◌, ◌&&◌, not, nat_lt, List, Bool, bit_and, codes}
 use Rattle.macho_fields.specs.Image.{word}
 use Rattle.macho_fields.specs.Segment.{vmsize, initprot}
+use Rattle.macho_fields.specs.declared.header.loader.TheConstants as loader
 use Rattle.macho_fields.specs.declared.header.vm_prot.TheConstants as vm_prot
 use Rattle.macho_image.specs.Segment.{segment_name}
-use Rattle.macho_linked.specs.declared.segment.TheConstants as flag
 
 -- it is mapped, and initprot allows writing
 abbrev pub is_writable : List ℕ → ℕ → Bool
@@ -21,7 +21,7 @@ is_constant image segment =
 -- flags, at 68: a kernel decrypts its pages
 abbrev pub is_protected : List ℕ → ℕ → Bool
 is_protected image segment =
-    nat_lt 0 (bit_and (word image (segment + 68)) flag.SG_PROTECTED_VERSION_1)
+    nat_lt 0 (bit_and (word image (segment + 68)) loader.SG_PROTECTED_VERSION_1)
 
 -- loaders take it for the one with the linked data, by its name
 abbrev pub IsLinkedit : List ℕ → ℕ → Type 0

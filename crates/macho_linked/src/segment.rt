@@ -5,18 +5,13 @@ ghost use Rattle.std.specs.Prelude.{◌≡◌, ◌↔◌, ◌+◌, ◌≤◌, Is
 ghost use Rattle.macho_linked.specs.Segments.{is_writable as is_writable_of, is_constant as is_constant_of, is_protected as is_protected_of, IsLinkedit};
 
 use macho_fields::Order;
-use macho_fields::header::loader::SEGMENT_COMMAND_64_SIZE;
+use macho_fields::header::loader::segment_command_64::FLAGS;
+use macho_fields::header::loader::{SEGMENT_COMMAND_64_SIZE, SG_PROTECTED_VERSION_1};
 use macho_fields::header::vm_prot::{VM_PROT_READ, VM_PROT_WRITE};
 use macho_image::Segment;
 
-/// Of the flags of a segment: a kernel decrypts its pages.
-pub const SG_PROTECTED_VERSION_1: u32 = 0x8;
-
 /// The name of the segment in which loaders look for linked data. (`SEG_LINKEDIT`)
 const SEG_LINKEDIT: &[u8] = b"__LINKEDIT";
-
-// The offset of `flags` in `segment_command_64`.
-const FLAGS: u64 = 68;
 
 /// Whether the segment is mapped, and its initial protection allows writing.
 pub fn is_writable(segment: &Segment) -> bool
