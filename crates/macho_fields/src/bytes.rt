@@ -277,21 +277,21 @@ fn zeros_by_words(bytes: &[u8]) -> usize
     ensures zero { ¬ HasNonZero bytes.now 0 result }
     ensures all { result + WORD ≤ length bytes.now → HasNonZero bytes.now result (result + WORD) }
 {
-    let mut index = zeros_by_blocks(bytes);
+    let mut index = zeros_by_half_blocks(bytes);
     while bytes.len() - index >= WORD && u64_from(Order::Little, &bytes[index..]) == 0 {
         index += WORD;
     }
     index
 }
 
-// How many bytes the first blocks take that are zero, up to the first block that is not.
-fn zeros_by_blocks(bytes: &[u8]) -> usize
+// How many bytes the first halves of blocks take that are zero, up to the first half that is not.
+fn zeros_by_half_blocks(bytes: &[u8]) -> usize
     ensures within { result ≤ length bytes.now }
     ensures zero { ¬ HasNonZero bytes.now 0 result }
 {
     let mut index = zeros_by_large_blocks(bytes);
-    while bytes.len() - index >= BLOCK && block_from(&bytes[index..]) == 0 {
-        index += BLOCK;
+    while bytes.len() - index >= HALF_BLOCK && half_block_from(&bytes[index..]) == 0 {
+        index += HALF_BLOCK;
     }
     index
 }
