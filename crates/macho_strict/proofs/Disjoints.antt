@@ -1,57 +1,25 @@
 -- Spans of which no two share a place.
-use Rattle.std.proofs.Common.{◌≡◌, ℕ, ◌<◌, Bool, true, false, max, min, List, length, map, filter, get_or, slice_index, Contains, None, Some, sym, ap, ◌∙◌, subst, arith, inl, inr}
+use Rattle.std.proofs.Common.{◌≡◌, ℕ, ◌<◌, Bool, true, false, max, min, List, length, map, filter, get_or, slice_index, Contains, sym, ◌∙◌, subst, arith, inl, inr}
 use Rattle.std.specs.List.{AllPairs, IsDistinct}
 use Rattle.std.specs.List.Sorted.{IsNonDecreasingBy}
 use Rattle.std.specs.Prelude.{IsPermutation}
-use Rattle.std.proofs.lemmas.Bool.{cases_Bool, cases_lt, cases_eq, ltb-true}
+use Rattle.std.proofs.lemmas.Bool.{cases_Bool, ltb-true}
 use Rattle.std.proofs.lemmas.List.{get_or_default, get_or-map, length-map}
-use Rattle.std.proofs.lemmas.List.Elements.{filter_passes, Contains-get_or}
+use Rattle.std.proofs.lemmas.List.Elements.{filter_passes}
 use Rattle.std.proofs.lemmas.List.Kept.{AllPairs-filter}
 use Rattle.std.proofs.lemmas.List.Sorted.{All-permutation}
 use Rattle.std.proofs.lemmas.Map.Keys.{IsDistinct-IsPermutation, IsDistinct-from_apart}
-use Rattle.macho_spans.specs.Overlap.{span_at, IsLastBy, SharesEarlier}
+use Rattle.macho_spans.specs.Overlap.{span_at, SharesEarlier}
 use Rattle.macho_spans.specs.Span.{end_of, Holds, Shares}
 use Rattle.macho_spans.specs.declared.span.Span.{Span}
 use Rattle.macho_strict.specs.Passed.{occupied}
-use Rattle.macho_strict.specs.Disjoint.{AreDisjoint, IsHolding}
+use Rattle.macho_strict.specs.Disjoint.{AreDisjoint}
 use Rattle.macho_strict.specs.Gaps.{IsFree, IsUnpadded}
 use Rattle.macho_strict.proofs.Occupied.{has_place, share, share_flips, ascending_distinct}
-use Rattle.macho_strict.proofs.Passed.{no_span, among}
+use Rattle.macho_strict.proofs.Passed.{no_span}
 
--- Which of them holds a place
+-- a place that one of them holds
 
-pub none_by : (spans : List Span) (place : ℕ) → IsLastBy spans place None → IsHolding spans place None
-none_by spans place after i held =
-    let far = after i (among spans i (omega (arith, held.0, held.1))) in absurd (omega (arith, far, held.0))
-
-pub none_but_last : (spans : List Span) → AreDisjoint spans → (place : ℕ) (last : Span) → IsLastBy spans place (Some last) → ¬ Holds last place → IsHolding spans place None
-none_but_last spans apart place last (k, within, is, by, after) past i held =
-    let inside = among spans i (omega (arith, held.0, held.1)) in
-    elim (cases_lt i k) [
-      | inl before ↦ let ends = apart i k before within in absurd (omega (arith, ends, ap (λ (s : Span). s.start) is, by, held.1))
-      | inr most ↦
-          elim (cases_eq i k) [
-            | inl same ↦ past (subst (λ (s : Span). Holds s place) (ap (span_at spans) same ∙ is) held)
-            | inr other ↦ let far = after i (omega arith) inside in absurd (omega (arith, far, held.0))
-          ]
-    ]
-
-pub last_holds : (spans : List Span) → AreDisjoint spans → (place : ℕ) (last : Span) → IsLastBy spans place (Some last) → Holds last place → IsHolding spans place (Some last)
-last_holds spans apart place last (k, within, is, by, after) held = (subst (Contains spans) is (Contains-get_or spans k no_span within), held, only)
-  where
-    only : (other : Span) → Contains spans other → Holds other place → other ≡ last
-    only other (i, inside, at) here =
-        let same : span_at spans i ≡ other = get_or_default spans i no_span other inside ∙ at in
-        elim (cases_lt i k) [
-          | inl before ↦ let ends = apart i k before within in absurd (omega (arith, ends, ap end_of same, ap (λ (s : Span). s.start) is, by, here.1))
-          | inr most ↦
-              elim (cases_eq i k) [
-                | inl one ↦ sym same ∙ (ap (span_at spans) one ∙ is)
-                | inr past ↦ let far = after i (omega arith) inside in absurd (omega (arith, far, ap (λ (s : Span). s.start) same, here.0))
-              ]
-        ]
-
--- a place of one of them is in it
 pub held_not_free : (spans : List Span) (span : Span) (p : ℕ) → Contains spans span → Holds span p → ¬ IsFree spans p
 held_not_free spans span p (k, less, at) held free = free k (subst (λ (s : Span). Holds s p) (sym (get_or_default spans k no_span span less ∙ at)) held)
 
