@@ -63,6 +63,11 @@ rank rule.BindSymbol = 50
 rank rule.BindSlot = 51
 rank rule.BindTotal = 52
 rank rule.BindNames = 53
+rank rule.ChainHeader = 54
+rank rule.ChainStarts = 55
+rank rule.ChainImports = 56
+rank rule.ChainTotal = 57
+rank rule.ChainLibrary = 58
 
 -- the number by which programs know a rule. It never changes: a rule that is added takes the next free
 -- one, wherever it stands
@@ -120,6 +125,11 @@ rule_number rule.BindSymbol = 50
 rule_number rule.BindSlot = 51
 rule_number rule.BindTotal = 52
 rule_number rule.BindNames = 53
+rule_number rule.ChainHeader = 54
+rule_number rule.ChainStarts = 55
+rule_number rule.ChainImports = 56
+rule_number rule.ChainTotal = 57
+rule_number rule.ChainLibrary = 58
 
 -- the profile that a rule belongs to
 abbrev pub profile_of : Rule → Profile
@@ -145,6 +155,11 @@ profile_of rule.BindSymbol = Linked
 profile_of rule.BindSlot = Linked
 profile_of rule.BindTotal = Linked
 profile_of rule.BindNames = Linked
+profile_of rule.ChainHeader = Linked
+profile_of rule.ChainStarts = Linked
+profile_of rule.ChainImports = Linked
+profile_of rule.ChainTotal = Linked
+profile_of rule.ChainLibrary = Linked
 profile_of other = Layout
 
 -- the name of a rule, as ASCII text
@@ -202,6 +217,11 @@ name_of rule.BindSymbol = codes "bind-symbol"
 name_of rule.BindSlot = codes "bind-slot"
 name_of rule.BindTotal = codes "bind-total"
 name_of rule.BindNames = codes "bind-names"
+name_of rule.ChainHeader = codes "chain-header"
+name_of rule.ChainStarts = codes "chain-starts"
+name_of rule.ChainImports = codes "chain-imports"
+name_of rule.ChainTotal = codes "chain-total"
+name_of rule.ChainLibrary = codes "chain-library"
 
 -- the text of a break: the name of its rule, and its place in lower-case hexadecimal
 abbrev pub text_of : Break → List ℕ

@@ -135,6 +135,16 @@ pub enum Rule {
     BindTotal = 52,
     /// The names that the binds of a stream look up have more bytes than the stream.
     BindNames = 53,
+    /// The header of the chained fixups is cut, or of a version or a format that is not known.
+    ChainHeader = 54,
+    /// The chains of a segment do not begin as the format says, or where a loader cannot write.
+    ChainStarts = 55,
+    /// The imports of the chained fixups end past their table, or the name of one does not end in it.
+    ChainImports = 56,
+    /// The names of the imports have more bytes than the table.
+    ChainTotal = 57,
+    /// An import is from a library that the image does not load.
+    ChainLibrary = 58,
 }
 
 // The name of a rule with what comes after it, so that one list serves every reader of names.
@@ -194,6 +204,11 @@ macro_rules! name_before {
             Rule::BindSlot => concat!("bind-slot", $end),
             Rule::BindTotal => concat!("bind-total", $end),
             Rule::BindNames => concat!("bind-names", $end),
+            Rule::ChainHeader => concat!("chain-header", $end),
+            Rule::ChainStarts => concat!("chain-starts", $end),
+            Rule::ChainImports => concat!("chain-imports", $end),
+            Rule::ChainTotal => concat!("chain-total", $end),
+            Rule::ChainLibrary => concat!("chain-library", $end),
         }
     };
 }
@@ -254,6 +269,11 @@ impl Rule {
         Rule::BindSlot,
         Rule::BindTotal,
         Rule::BindNames,
+        Rule::ChainHeader,
+        Rule::ChainStarts,
+        Rule::ChainImports,
+        Rule::ChainTotal,
+        Rule::ChainLibrary,
     ];
 
     /// The name of the rule in reports, in lower case.
@@ -321,7 +341,12 @@ impl Rule {
             | Rule::BindSymbol
             | Rule::BindSlot
             | Rule::BindTotal
-            | Rule::BindNames => Profile::Linked,
+            | Rule::BindNames
+            | Rule::ChainHeader
+            | Rule::ChainStarts
+            | Rule::ChainImports
+            | Rule::ChainTotal
+            | Rule::ChainLibrary => Profile::Linked,
             _ => Profile::Layout,
         }
     }
