@@ -1,28 +1,20 @@
 -- From what a walk over the bytes of a stream finds to the places in the image.
-use Rattle.std.proofs.Common.{◌≡◌, ◌↔◌, ℕ, ◌+◌, ◌*◌, ◌^◌, ◌≤◌, ◌<◌, ◌⊎◌, List, length, min, Contains, Option, Some, None, lit<, refl, sym, ◌∙◌, subst, arith, inl, inr}
+use Rattle.std.proofs.Common.{◌≡◌, ◌↔◌, ℕ, ◌+◌, ◌^◌, ◌≤◌, ◌<◌, ◌⊎◌, List, length, min, Contains, Option, Some, None, lit<, refl, sym, ◌∙◌, subst, arith, inl, inr}
 use Rattle.std.specs.Prelude.{IfSome, IsSomeAnd}
 use Rattle.std.specs.Option.{option_map, option_map_or}
 use Rattle.std.proofs.lemmas.Bool.{cases_lt}
-use Rattle.std.proofs.lemmas.List.Elements.{All-contains}
 use Rattle.std.proofs.lemmas.Option.{slice_get_within, get_or_from_slice_get}
 use Rattle.macho_fields.specs.Field.{part}
 use Rattle.macho_fields.specs.FirstPlace.{IsLeastPlace}
 use Rattle.macho_fields.specs.Image.{command_cmd, commands_of, with_cmd}
 use Rattle.macho_fields.specs.Layers.{NothingBreaks}
-use Rattle.macho_fields.specs.LoadCommands.{structure_of, dyld_info_tables, width_size}
+use Rattle.macho_fields.specs.LoadCommands.{structure_of, dyld_info_tables}
 use Rattle.macho_fields.specs.Rules.{BreaksImage}
-use Rattle.macho_fields.specs.Symbol.{table_at, tables_of, IsOutside}
+use Rattle.macho_fields.specs.Symbol.{table_at, tables_of}
 use Rattle.macho_fields.specs.declared.load_command.Structure.TheVariants.{DyldInfoCommand}
-use Rattle.macho_fields.specs.declared.load_command.TableFields.{TableFields}
-use Rattle.macho_fields.specs.declared.rule.Rule.TheVariants as rule
-use Rattle.macho_fields.proofs.LoadCommands.{table_listed}
-use Rattle.macho_fields.proofs.Opened.{table_fields_inside}
 use Rattle.macho_fields.proofs.Parts.{with_cmd_among, with_cmd_is}
 use Rattle.macho_fields.specs.declared.header.loader.TheConstants as loader
 use Rattle.macho_image.specs.Command.{first_with_cmd}
-use Rattle.macho_rules.proofs.Judged.{opened_facts, opened_commands}
-use Rattle.macho_rules.proofs.Searches.{any_of}
-use Rattle.macho_rules.proofs.Verdicts.{unbroken_opened}
 use Rattle.macho_linked.specs.Images.{Undecoded, NoLibrary, NoName, NoSlot, TooMany, TooLong, InTable, AreLeast, FitsAt, fields_of, joined, lesser, moved, dyld_info}
 use Rattle.macho_linked.specs.Limits.{AreRooms, rooms_of, budget_of, library_count}
 use Rattle.macho_linked.specs.Cursor.{cursor_after}
@@ -34,6 +26,7 @@ use Rattle.macho_linked.specs.declared.stream.Limits.{Limits}
 use Rattle.macho_linked.specs.declared.stream.StreamSurvey.{StreamSurvey}
 use Rattle.macho_linked.specs.declared.streams.Stream.{Stream}
 use Rattle.macho_linked.specs.declared.streams.Stream.TheVariants as streams
+use Rattle.macho_linked.proofs.NamedTables.{LieInside, table_named, table_inside, bounds_inside}
 use Rattle.macho_linked.proofs.NearSegments.{cursor_near, outside_same}
 use Rattle.macho_linked.proofs.Within.{step_within}
 
@@ -59,13 +52,13 @@ least_joined P Q (Some a) (Some b) (here, least) (there, lowest) =
     ]
 
 -- places that are counted from another start
-least_moved : (P : ℕ → Type 0) (start : ℕ) (found : Option ℕ) → IsLeastPlace P found
+pub least_moved : (P : ℕ → Type 0) (start : ℕ) (found : Option ℕ) → IsLeastPlace P found
     → IsLeastPlace (λ place. (offset : ℕ) × (place ≡ start + offset) × P offset) (option_map (λ offset. start + offset) found)
 least_moved P start None none = λ place (offset, is, has). none offset has
 least_moved P start (Some first) (here, least) =
     ((first, refl, here), λ place (offset, is, there). let low = least offset there in omega (arith, is, low))
 
-fits_moved : (P : ℕ → Type 0) (start size : ℕ) (found : Option ℕ) → ((place : ℕ) → P place → place < size) → start + size < 2 ^ 64 → IsLeastPlace P found
+pub fits_moved : (P : ℕ → Type 0) (start size : ℕ) (found : Option ℕ) → ((place : ℕ) → P place → place < size) → start + size < 2 ^ 64 → IsLeastPlace P found
     → IfSome found (λ offset. start + offset < 2 ^ 64)
 fits_moved P start size None inside fits none = tt
 fits_moved P start size (Some first) inside fits (here, least) = let within = inside first here in omega arith
@@ -155,7 +148,7 @@ none_in_table image of table none =
 
 module _ (image : List ℕ) where
   -- it is one of the image, with a number of these
-  named_first : (P : ℕ → Type 0) (cmd : ℕ) → P cmd → (command : ℕ) → first_with_cmd image cmd (commands_of image) ≡ Some command
+  pub named_first : (P : ℕ → Type 0) (cmd : ℕ) → P cmd → (command : ℕ) → first_with_cmd image cmd (commands_of image) ≡ Some command
       → Contains (commands_of image) command × P (command_cmd image command)
   named_first P cmd has command is =
       let among : Contains (with_cmd image cmd (commands_of image)) command =
@@ -193,25 +186,15 @@ module _ (image : List ℕ) (keeps : NothingBreaks (BreaksImage image None)) (co
   is_info = info_has image (λ n. structure_of n ≡ Some DyldInfoCommand) refl refl command info
 
   pub stream_named : Contains (tables_of image command) bounds
-  stream_named = table_listed image command DyldInfoCommand (fields_of one) is_info.1 (its_fields one)
+  stream_named = table_named image keeps command DyldInfoCommand is_info (fields_of one) (its_fields one)
 
   -- one that has bytes lies in the image
   pub stream_inside : 0 < bounds.1 → bounds.0 + bounds.1 ≤ length image
-  stream_inside some =
-      elim (cases_lt (length image) (bounds.0 + bounds.1 * bounds.2)) [
-        | inl out ↦
-            absurd (keeps rule.TableRange command (inr (commands_of image, opened_commands image (unbroken_opened image keeps), (is_info.0, any_of (IsOutside image) (tables_of image command) bounds stream_named (some, out)))))
-        | inr inside ↦ let size : bounds.1 * bounds.2 ≡ bounds.1 = rw (byte_items one) (omega arith) in omega (arith, inside, size)
-      ]
+  stream_inside = table_inside image keeps command DyldInfoCommand is_info (fields_of one) (its_fields one) (byte_items one)
 
   -- the fields that bound it lie in the image
-  abbrev LieInside : TableFields → Type 0
-  LieInside f = (command + f.place + width_size f.width ≤ length image) × (command + f.count + width_size f.width ≤ length image)
-
-  pub fields_inside : LieInside (fields_of one)
-  fields_inside =
-      let opened = unbroken_opened image keeps in
-      All-contains LieInside dyld_info_tables (fields_of one) (table_fields_inside image (commands_of image) (opened_facts image opened) (opened_commands image opened) command DyldInfoCommand is_info.0 is_info.1) (its_fields one)
+  pub fields_inside : LieInside image command (fields_of one)
+  fields_inside = bounds_inside image keeps command DyldInfoCommand is_info (fields_of one) (its_fields one)
 
 -- What all streams of an image break
 
