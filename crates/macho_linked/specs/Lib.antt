@@ -7,6 +7,8 @@ pub mod Kinds
 pub mod Homes
 pub mod Limits
 pub mod Images
+pub mod FixupChains
+pub mod ChainHeader
 pub mod Rules
 pub mod Harmless
 pub mod Dyld

@@ -6,10 +6,17 @@ ghost use Rattle.macho_fields.specs.RuleList.{profile_of};
 ghost use Rattle.macho_fields.specs.declared.rule.Profile.TheVariants.{Linked};
 ghost use Rattle.macho_fields.specs.First.{IsUnbroken};
 ghost use Rattle.macho_linked.specs.Dyld.{AreFollowedSafely};
+ghost use Rattle.macho_linked.specs.FixupChains.{AreFixupChainsConstants};
 ghost use Rattle.macho_linked.specs.Harmless.{AreHarmless};
 ghost use Rattle.macho_linked.specs.Rules.{IsFirstLinkedBroken, IsLinkedUnbroken};
 
 use macho_fields::Break;
+
+/// Each constant of `fixup_chains` is the number that `mach-o/fixup-chains.h` defines, as
+/// `specs/FixupChains.antt` lists them.
+pub fn fixup_chains_constants_are_those_of_the_header()
+    ensures { AreFixupChainsConstants }
+{}
 
 /// A file has at most one first broken linked rule.
 pub fn first_linked_broken_is_one(file: &[u8], first: Break, other: Break)

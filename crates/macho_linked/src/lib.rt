@@ -2,8 +2,10 @@
 //! The linked profile: where the linked data of an image lies, and what the opcodes that a dynamic loader
 //! follows ask it to write.
 
+pub mod chain_header;
 mod check;
 pub mod cursor;
+pub mod fixup_chains;
 pub mod homes;
 pub mod kinds;
 pub mod law;
