@@ -57,16 +57,21 @@ name_ends flags stream name z from there first =
     let end : name + length (string_from name stream) ≡ z = rw (← is, size) (omega arith) in
     rw (end, lt-ltb z (length stream) inside) refl
 
+-- a string without a zero byte has all bytes that follow
+pub endless_size : (bytes : List ℕ) (start : ℕ) → (HasZero bytes start (start + length bytes) → ⊥) → length (string_from start bytes) ≡ length bytes - start
+endless_size bytes start none =
+    let size = length-drop start bytes in
+    let len : position_or_len is_zero (drop start bytes) ≡ length (drop start bytes) =
+    position_or_len_is is_zero (drop start bytes) (length (drop start bytes)) 0 (omega arith)
+    (λ k below. ne_eqb _ 0 (λ is. none (start + k, omega arith, omega arith, omega arith, sym (get_or-drop start bytes k 0) ∙ is)))
+    (λ past. absurd (omega arith)) in
+    let count = length-take (position_or_len is_zero (drop start bytes)) (drop start bytes) in
+    omega (arith, count)
+
 -- a name without a zero byte does not end
 pub name_fails : (flags : ℕ) (stream : List ℕ) (name : ℕ) → (HasZero stream name (name + length stream) → ⊥)
     → with_name flags stream name ≡ None
 name_fails flags stream name none =
-    let rest = drop name stream in
-    let size = length-drop name stream in
-    let len : position_or_len is_zero (drop name stream) ≡ length (drop name stream) =
-    position_or_len_is is_zero (drop name stream) (length (drop name stream)) 0 (omega arith)
-    (λ k below. ne_eqb _ 0 (λ is. none (name + k, omega arith, omega arith, omega arith, sym (get_or-drop name stream k 0) ∙ is)))
-    (λ past. absurd (omega arith)) in
-    let count = length-take (position_or_len is_zero (drop name stream)) (drop name stream) in
-    let past : length stream ≤ name + length (string_from name stream) = omega (arith, count) in
+    let size = endless_size stream name none in
+    let past : length stream ≤ name + length (string_from name stream) = omega (arith, size) in
     rw (le-ltb _ _ past) refl

@@ -8,7 +8,9 @@ pub mod Homes
 pub mod Limits
 pub mod Images
 pub mod FixupChains
+pub mod Items
 pub mod ChainHeader
+pub mod ChainImports
 pub mod Rules
 pub mod Harmless
 pub mod Dyld

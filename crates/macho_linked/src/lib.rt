@@ -3,6 +3,7 @@
 //! follows ask it to write.
 
 pub mod chain_header;
+pub mod chain_imports;
 mod check;
 pub mod cursor;
 pub mod fixup_chains;

@@ -1,0 +1,32 @@
+-- Items that are numbered from 0 on, each at a place that is not before those of the items before it.
+use Rattle.std.proofs.Common.{ℕ, ◌+◌, ◌*◌, ◌≤◌, ◌<◌, Option, None, Some, refl, arith, inl, inr}
+use Rattle.std.specs.Option.{option_map}
+use Rattle.std.proofs.lemmas.Bool.{cases_lt}
+use Rattle.std.proofs.lemmas.Nat.{mul-le, row_fits}
+use Rattle.macho_fields.specs.FirstPlace.{IsLeastPlace}
+use Rattle.macho_linked.specs.Items.{AtItem, IsFirstItem}
+
+-- the first of them with P is at the least place
+pub first_item : (place_of : ℕ → ℕ) → ((j k : ℕ) → j ≤ k → place_of j ≤ place_of k) → (count : ℕ) (P : ℕ → Type 0) (found : Option ℕ) → IsFirstItem count P found
+    → IsLeastPlace (AtItem place_of count P) (option_map place_of found)
+first_item place_of rise count P None none = λ place (k, less, at, has). none k less has
+first_item place_of rise count P (Some first) (inside, here, none) = (
+  (first, inside, refl, here),
+  λ place (k, less, at, has). elim (cases_lt k first) [
+    | inl before ↦ absurd (none k before has)
+    | inr after ↦ let up = rise first k after in omega (arith, up, at)
+  ],
+)
+
+-- a rule that is not broken unless Q holds
+pub least_where : (Q : Type 0) (P : ℕ → Type 0) (found : Option ℕ) → Q → IsLeastPlace P found → IsLeastPlace (λ place. Q × P place) found
+least_where Q P None holds none = λ place (_, broken). none place broken
+least_where Q P (Some first) holds (here, least) = ((holds, here), λ place (_, broken). least place broken)
+
+-- items of one size, one past the other
+pub items_rise : (start size : ℕ) (j k : ℕ) → j ≤ k → start + j * size ≤ start + k * size
+items_rise start size j k up = let less = mul-le j size k size up (omega arith) in omega (arith, less)
+
+-- and the last byte of one of them is before the end of all
+pub item_inside : (start size count k : ℕ) → k < count → start + k * size + size ≤ start + count * size
+item_inside start size count k less = let fits = row_fits k size count size less (omega arith) in omega (arith, fits)
