@@ -129,7 +129,7 @@ filter_short : (p : ℕ → Bool) (xs : List ℕ) → length (filter p xs) ≤ l
 filter_short p [] = omega arith
 filter_short p (x ∷ xs) = let more = filter_short p xs in elim (cases_Bool (p x)) [ inl t ↦ rw t (omega arith) | inr f ↦ rw f (omega arith) ]
 
-segments_few : (image : List ℕ) → IsOpened image → length image < 2 ^ 64 → length (all_segments image) < 2 ^ 61
+pub segments_few : (image : List ℕ) → IsOpened image → length image < 2 ^ 64 → length (all_segments image) < 2 ^ 61
 segments_few image opened short =
     let facts = opened_facts image opened in
     let inside : commands_end image ≤ length image = facts.inside in

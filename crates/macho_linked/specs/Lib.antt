@@ -10,6 +10,7 @@ pub mod Images
 pub mod FixupChains
 pub mod Items
 pub mod ChainHeader
+pub mod ChainStarts
 pub mod ChainImports
 pub mod Rules
 pub mod Harmless

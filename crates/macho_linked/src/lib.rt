@@ -4,6 +4,7 @@
 
 pub mod chain_header;
 pub mod chain_imports;
+pub mod chain_starts;
 mod check;
 pub mod cursor;
 pub mod fixup_chains;
