@@ -15,11 +15,13 @@ use Rattle.macho_fields.proofs.Options.{some_of}
 use Rattle.macho_image.proofs.ReadParts.{length-part}
 use Rattle.macho_rules.proofs.Judged.{opened_facts, opened_commands}
 use Rattle.macho_rules.proofs.Verdicts.{file_inside, unbroken_opened}
+use Rattle.macho_linked.specs.Chains.{NoHeader, BadStarts, BadImports, LongNames, UnknownLibrary}
 use Rattle.macho_linked.specs.Images.{dyld_info, opcodes_of, fields_of, Undecoded, NoLibrary, NoName, NoSlot, TooMany, TooLong, InStream, InRebases, InBindsOf, InBinds}
 use Rattle.macho_linked.specs.Rules.{BreaksImage}
 use Rattle.macho_linked.specs.declared.step.Opcodes.{Opcodes}
 use Rattle.macho_linked.specs.declared.streams.Stream.{Stream}
 use Rattle.macho_linked.specs.declared.streams.Stream.TheVariants as streams
+use Rattle.macho_linked.proofs.ChainTables.{no_header, bad_starts, bad_imports, long_names, unknown_library, chains_near}
 use Rattle.macho_linked.proofs.TableSurveys.{IsStreamRule, undecoded, no_library, no_name, no_slot, too_many, too_long}
 
 part_short : (start size : ℕ) (bytes : List ℕ) (offset : ℕ) → offset < length (part start size bytes) → start + offset ≤ length bytes
@@ -68,6 +70,11 @@ module _ (image : List ℕ) (none : NothingBreaks (Breaks image None)) where
   place_inside rule.BindSlot place broken = binds_inside image NoSlot (no_slot image) place broken
   place_inside rule.BindTotal place broken = binds_inside image TooMany (too_many image) place broken
   place_inside rule.BindNames place broken = binds_inside image TooLong (too_long image) place broken
+  place_inside rule.ChainHeader place broken = chains_near image none NoHeader (no_header image) place broken
+  place_inside rule.ChainStarts place broken = chains_near image none BadStarts (bad_starts image) place broken
+  place_inside rule.ChainImports place broken = chains_near image none BadImports (bad_imports image) place broken
+  place_inside rule.ChainTotal place broken = chains_near image none LongNames (long_names image) place broken
+  place_inside rule.ChainLibrary place broken = chains_near image none UnknownLibrary (unknown_library image) place broken
   place_inside other place broken = absurd broken
 
 -- and so in the file

@@ -12,6 +12,7 @@ pub mod Items
 pub mod ChainHeader
 pub mod ChainStarts
 pub mod ChainImports
+pub mod Chains
 pub mod Rules
 pub mod Harmless
 pub mod Dyld

@@ -5,6 +5,7 @@ use Rattle.macho_fields.specs.First.{BreaksIn, NoneIsBroken, IsFirstOfAll}
 use Rattle.macho_fields.specs.declared.rule.Break.{Break}
 use Rattle.macho_fields.specs.declared.rule.Rule.{Rule}
 use Rattle.macho_fields.specs.declared.rule.Rule.TheVariants as rule
+use Rattle.macho_linked.specs.Chains.{NoHeader, BadStarts, BadImports, LongNames, UnknownLibrary, InChains}
 use Rattle.macho_linked.specs.Homes.{BreaksTableHome, BreaksHeaderHome}
 use Rattle.macho_linked.specs.Images.{Undecoded, NoLibrary, NoName, NoSlot, TooMany, TooLong, InRebases, InBinds}
 use Rattle.macho_linked.specs.Kinds.{BreaksTableRepeated, BreaksFunctionVariants}
@@ -24,6 +25,11 @@ BreaksImage image rule.BindSymbol place = InBinds image NoName place
 BreaksImage image rule.BindSlot place = InBinds image NoSlot place
 BreaksImage image rule.BindTotal place = InBinds image TooMany place
 BreaksImage image rule.BindNames place = InBinds image TooLong place
+BreaksImage image rule.ChainHeader place = InChains image NoHeader place
+BreaksImage image rule.ChainStarts place = InChains image BadStarts place
+BreaksImage image rule.ChainImports place = InChains image BadImports place
+BreaksImage image rule.ChainTotal place = InChains image LongNames place
+BreaksImage image rule.ChainLibrary place = InChains image UnknownLibrary place
 BreaksImage image other place = ⊥
 
 -- a file breaks none but in its images

@@ -7,6 +7,7 @@ ghost use Rattle.macho_fields.specs.Layers.{NothingBreaks, KeptBelow, Continues,
 ghost use Rattle.macho_fields.specs.Rules.{BreaksImage as Breaks};
 ghost use Rattle.macho_linked.specs.Rules.{BreaksImage};
 
+use crate::chains::ChainSurvey;
 use crate::homes::{header_home, table_home};
 use crate::kinds::{function_variants, table_repeated};
 use crate::streams::Survey;
@@ -33,6 +34,12 @@ pub(crate) fn check_image(image: &Image) -> Result<(), Break>
     judge(image, Rule::BindSlot, binds.slot)?;
     judge(image, Rule::BindTotal, binds.total)?;
     judge(image, Rule::BindNames, binds.names)?;
+    let chains = ChainSurvey::of(image);
+    judge(image, Rule::ChainHeader, chains.header)?;
+    judge(image, Rule::ChainStarts, chains.starts)?;
+    judge(image, Rule::ChainImports, chains.imports)?;
+    judge(image, Rule::ChainTotal, chains.total)?;
+    judge(image, Rule::ChainLibrary, chains.library)?;
     Ok(())
 }
 

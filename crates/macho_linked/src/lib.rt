@@ -1,10 +1,11 @@
 #![tactic(auto)]
-//! The linked profile: where the linked data of an image lies, and what the opcodes that a dynamic loader
-//! follows ask it to write.
+//! The linked profile: where the linked data of an image lies, what the opcodes that a dynamic loader
+//! follows ask it to write, and where the chains of its fixups begin.
 
 pub mod chain_header;
 pub mod chain_imports;
 pub mod chain_starts;
+pub mod chains;
 mod check;
 pub mod cursor;
 pub mod fixup_chains;

@@ -39,7 +39,7 @@ impl Limits {
 }
 
 // How many libraries the image loads.
-fn library_count(image: &Image) -> u64
+pub(crate) fn library_count(image: &Image) -> u64
     ensures { result ≡ library_count_of image.now }
 {
     // The commands lie in the image, so their number is below 2^64.

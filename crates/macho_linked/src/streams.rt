@@ -105,7 +105,7 @@ fn dyld_info(image: &Image) -> Option<u64>
 }
 
 // The place of the first command with this `cmd`, if there is one.
-fn first_place(image: &Image, cmd: u32) -> Option<u64>
+pub(crate) fn first_place(image: &Image, cmd: u32) -> Option<u64>
     ensures { result ≡ first_with_cmd image.now cmd (commands_of image.now) }
 {
     place_of(image.first_command(cmd))
@@ -166,7 +166,7 @@ impl Stream {
 }
 
 // The fields that bound a stream: that at `place` with its start, and its size just past it.
-fn bounded_at(place: u64) -> TableFields
+pub(crate) fn bounded_at(place: u64) -> TableFields
     requires { place < 2 ^ 32 }
     ensures { result ≡ bounded_at_of place }
 {
@@ -179,7 +179,7 @@ fn bounded_at(place: u64) -> TableFields
 }
 
 // The place that is so far from `start`.
-fn place_from(start: u64, offset: Option<u64>) -> Option<u64>
+pub(crate) fn place_from(start: u64, offset: Option<u64>) -> Option<u64>
     requires { IfSome offset (λ found. start + found < 2 ^ 64) }
     ensures { result ≡ option_map (λ found. start + found) offset }
 {

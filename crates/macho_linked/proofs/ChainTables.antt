@@ -1,0 +1,204 @@
+-- From what is found in the table of the chained fixups to the places in the image.
+use Rattle.std.proofs.Common.{◌≡◌, ℕ, ◌+◌, ◌^◌, ◌≤◌, ◌<◌, ◌⊎◌, List, [], ◌∷◌, length, Contains, Option, Some, None, lit<, refl, sym, ◌∙◌, subst, arith, inl, inr}
+use Rattle.std.specs.Prelude.{IsSomeAnd}
+use Rattle.std.specs.Option.{option_map}
+use Rattle.std.proofs.lemmas.Bool.{cases_lt}
+use Rattle.std.proofs.lemmas.Bool.Decides.{leb_tells}
+use Rattle.std.proofs.lemmas.Option.{none-some}
+use Rattle.macho_fields.specs.Field.{part}
+use Rattle.macho_fields.specs.FirstPlace.{IsLeastPlace}
+use Rattle.macho_fields.specs.Image.{command_cmd, commands_of}
+use Rattle.macho_fields.specs.Layers.{NothingBreaks}
+use Rattle.macho_fields.specs.LoadCommands.{structure_of, linkedit_data_table}
+use Rattle.macho_fields.specs.Rules.{BreaksImage}
+use Rattle.macho_fields.specs.Symbol.{table_at}
+use Rattle.macho_fields.specs.declared.header.loader.TheConstants as loader
+use Rattle.macho_fields.specs.declared.load_command.Structure.TheVariants.{LinkeditDataCommand}
+use Rattle.macho_fields.proofs.Options.{some_of}
+use Rattle.macho_image.proofs.ReadParts.{length-part}
+use Rattle.macho_linked.specs.ChainHeader.{chain_header}
+use Rattle.macho_linked.specs.ChainImports.{AtImport, import_bits, HasNoNameEnd, PassesTable, IsOfNoLibrary, BreaksChainImports, BreaksChainTotal, BreaksChainLibrary}
+use Rattle.macho_linked.specs.ChainStarts.{entry_offset, HasBadEntries, HasBadStarts, BreaksChainStarts}
+use Rattle.macho_linked.specs.Chains.{chained_fixups, NoHeader, HasHeader, BadStarts, BadImports, LongNames, UnknownLibrary, InChainTable, InChains, AreLeastInChains, AreLeastInTable, ChainsFitAt, moved_chains, unbroken_chains}
+use Rattle.macho_linked.specs.Items.{AtItem}
+use Rattle.macho_linked.specs.Limits.{library_count}
+use Rattle.macho_linked.specs.declared.chain_header.ChainHeader.{ChainHeader}
+use Rattle.macho_linked.specs.declared.chain_header.ImportFormat.{ImportFormat}
+use Rattle.macho_linked.specs.declared.chain_header.ImportFormat.TheVariants as format
+use Rattle.macho_linked.specs.declared.chains.ChainSurvey.{ChainSurvey}
+use Rattle.macho_linked.proofs.ChainImports.{import_inside}
+use Rattle.macho_linked.proofs.Items.{least_where}
+use Rattle.macho_linked.proofs.NamedTables.{LieInside, table_inside, bounds_inside}
+use Rattle.macho_linked.proofs.TableSurveys.{fits_moved, least_moved, named_first}
+
+-- The rules are broken at offsets in a table that has bytes
+
+abbrev pub IsChainRule : List ℕ → (List ℕ → List ℕ → ℕ → Type 0) → Type 0
+IsChainRule image Rule = (chains : List ℕ) (offset : ℕ) → 0 < length chains → Rule image chains offset → offset < length chains
+
+some_bytes : (f : ImportFormat) → 0 < (import_bits f).size
+some_bytes format.Import = omega arith
+some_bytes format.ImportAddend = omega arith
+some_bytes format.ImportAddend64 = omega arith
+
+at_import_inside : (chains : List ℕ) (header : ChainHeader) (P : ℕ → Type 0) (offset : ℕ) → AtImport chains header P offset → offset < length chains
+at_import_inside chains header P offset (lie, (k, less, at, has)) =
+    let inside = import_inside chains header lie k less in
+    let some = some_bytes header.imports_format in omega (arith, at, inside, some)
+
+imports_near : (chains : List ℕ) (header : ChainHeader) (offset : ℕ) → 0 < length chains → BreaksChainImports chains header offset → offset < length chains
+imports_near chains header offset some (inl past) = let at = past.0 in omega arith
+imports_near chains header offset some (inr endless) = at_import_inside chains header (HasNoNameEnd chains header) offset endless
+
+starts_near : (image chains : List ℕ) (header : ChainHeader) (offset : ℕ) → 0 < length chains → BreaksChainStarts image chains header offset → offset < length chains
+starts_near image chains header offset some broken =
+    elim (leb_tells (header.starts_offset + 4) (length chains)) [
+      | inl (fits, inside) ↦ of_entries inside (rw fits at broken)
+      | inr (short, past) ↦ let at : offset ≡ 0 = rw short at broken in omega arith
+    ]
+  where
+    of_entries : {count : ℕ} → header.starts_offset + 4 ≤ length chains
+        → ((offset ≡ header.starts_offset) × HasBadEntries image chains header count)
+        ⊎ ((¬ HasBadEntries image chains header count) × AtItem (entry_offset header) count (HasBadStarts image chains header) offset) → offset < length chains
+    of_entries inside (inl (at, bad)) = omega arith
+    of_entries {count = count} inside (inr (good, (k, less, at, has))) =
+        elim (cases_lt (length chains) (entry_offset header count)) [
+          | inl past ↦ absurd (good (inr past))
+          | inr fits ↦ omega arith
+        ]
+
+module _ (image : List ℕ) where
+  -- a rule of a header
+  with_header : (X : List ℕ → ChainHeader → ℕ → Type 0) → ((chains : List ℕ) (header : ChainHeader) (offset : ℕ) → 0 < length chains → X chains header offset → offset < length chains)
+      → IsChainRule image (λ bytes chains offset. HasHeader chains (λ header. X chains header offset))
+  with_header X inside chains offset some broken =
+      let (header, is, here) = some_of (λ header. X chains header offset) (chain_header chains) broken in inside chains header offset some here
+
+  pub no_header : IsChainRule image NoHeader
+  no_header chains offset some (at, none) = omega arith
+
+  pub bad_starts : IsChainRule image BadStarts
+  bad_starts = with_header (BreaksChainStarts image) (starts_near image)
+
+  pub bad_imports : IsChainRule image BadImports
+  bad_imports = with_header BreaksChainImports imports_near
+
+  pub long_names : IsChainRule image LongNames
+  long_names = with_header BreaksChainTotal (λ chains header offset some. at_import_inside chains header (PassesTable chains header) offset)
+
+  pub unknown_library : IsChainRule image UnknownLibrary
+  unknown_library =
+      with_header (BreaksChainLibrary (library_count image))
+      (λ chains header offset some. at_import_inside chains header (IsOfNoLibrary (library_count image) chains header) offset)
+
+-- What a survey of a table finds
+
+-- where there is no header
+pub survey_headless : (image chains : List ℕ) → chain_header chains ≡ None → AreLeastInTable image chains (record unbroken_chains { header = Some 0 })
+survey_headless image chains none = record {
+  header = ((refl, none), λ offset broken. omega arith);
+  starts = without (λ header. BreaksChainStarts image chains header);
+  imports = without (λ header. BreaksChainImports chains header);
+  total = without (λ header. BreaksChainTotal chains header);
+  library = without (λ header. BreaksChainLibrary (library_count image) chains header);
+}
+  where
+    without : (X : ChainHeader → ℕ → Type 0) (offset : ℕ) → ¬ HasHeader chains (λ header. X header offset)
+    without X offset = subst (λ (found : Option ChainHeader). ¬ IsSomeAnd found (λ header. X header offset)) (sym none) (λ wrong. wrong)
+
+-- where there is one
+pub survey_headed : (image chains : List ℕ) (header : ChainHeader) → chain_header chains ≡ Some header → (starts imports total library : Option ℕ)
+    → IsLeastPlace (BreaksChainStarts image chains header) starts → IsLeastPlace (BreaksChainImports chains header) imports
+    → IsLeastPlace (BreaksChainTotal chains header) total → IsLeastPlace (BreaksChainLibrary (library_count image) chains header) library
+    → AreLeastInTable image chains (record { header = None; starts = starts; imports = imports; total = total; library = library })
+survey_headed image chains header is starts imports total library least_starts least_imports least_total least_library = record {
+  header = λ offset (at, none). absurd (none-some header (sym none ∙ is));
+  starts = with_it (λ h. BreaksChainStarts image chains h) starts least_starts;
+  imports = with_it (λ h. BreaksChainImports chains h) imports least_imports;
+  total = with_it (λ h. BreaksChainTotal chains h) total least_total;
+  library = with_it (λ h. BreaksChainLibrary (library_count image) chains h) library least_library;
+}
+  where
+    with_it : (X : ChainHeader → ℕ → Type 0) (found : Option ℕ) → IsLeastPlace (X header) found → IsLeastPlace (λ offset. HasHeader chains (λ h. X h offset)) found
+    with_it X found least = subst (λ (o : Option ChainHeader). IsLeastPlace (λ offset. IsSomeAnd o (λ h. X h offset)) found) (sym is) least
+
+-- its places fit where those of the table do
+pub survey_fits : (image chains : List ℕ) (survey : ChainSurvey) (start : ℕ) → 0 < length chains → AreLeastInTable image chains survey → start + length chains < 2 ^ 64 → ChainsFitAt start survey
+survey_fits image chains survey start some are fits = record {
+  header = fits_moved _ start (length chains) _ (λ offset. no_header image chains offset some) fits are.header;
+  starts = fits_moved _ start (length chains) _ (λ offset. bad_starts image chains offset some) fits are.starts;
+  imports = fits_moved _ start (length chains) _ (λ offset. bad_imports image chains offset some) fits are.imports;
+  total = fits_moved _ start (length chains) _ (λ offset. long_names image chains offset some) fits are.total;
+  library = fits_moved _ start (length chains) _ (λ offset. unknown_library image chains offset some) fits are.library;
+}
+
+-- in the image they are the least too
+pub survey_moved : (image : List ℕ) (table : ℕ × ℕ × ℕ) (survey : ChainSurvey) → 0 < table.1 → AreLeastInTable image (part table.0 table.1 image) survey
+    → AreLeastInChains (InChainTable image table) (moved_chains table.0 survey)
+survey_moved image table survey some are = record {
+  header = at NoHeader survey.header are.header;
+  starts = at BadStarts survey.starts are.starts;
+  imports = at BadImports survey.imports are.imports;
+  total = at LongNames survey.total are.total;
+  library = at UnknownLibrary survey.library are.library;
+}
+  where
+    at : (Rule : List ℕ → List ℕ → ℕ → Type 0) (found : Option ℕ) → IsLeastPlace (Rule image (part table.0 table.1 image)) found
+        → IsLeastPlace (InChainTable image table Rule) (option_map (λ offset. table.0 + offset) found)
+    at Rule found least = least_where (0 < table.1) _ _ some (least_moved (Rule image (part table.0 table.1 image)) table.0 found least)
+
+-- The table of an image
+
+-- where none is broken, nothing is found
+survey_none : (In : (List ℕ → List ℕ → ℕ → Type 0) → ℕ → Type 0) → ((Rule : List ℕ → List ℕ → ℕ → Type 0) (place : ℕ) → ¬ In Rule place) → AreLeastInChains In unbroken_chains
+survey_none In none = record {
+  header = none NoHeader;
+  starts = none BadStarts;
+  imports = none BadImports;
+  total = none LongNames;
+  library = none UnknownLibrary;
+}
+
+-- no command names one
+pub chains_unnamed : (image : List ℕ) → chained_fixups image ≡ None → AreLeastInChains (InChains image) unbroken_chains
+chains_unnamed image none =
+    survey_none (InChains image)
+    (λ Rule place. subst (λ (found : Option ℕ). ¬ IsSomeAnd found (λ command. InChainTable image (table_at image command linkedit_data_table) Rule place)) (sym none) (λ wrong. wrong))
+
+-- the table of a command
+module _ (image : List ℕ) (command : ℕ) (is : chained_fixups image ≡ Some command) where
+  abbrev table : ℕ × ℕ × ℕ
+  table = table_at image command linkedit_data_table
+
+  pub chains_named : (survey : ChainSurvey) → AreLeastInChains (InChainTable image table) survey → AreLeastInChains (InChains image) survey
+  chains_named survey are =
+      subst (λ (found : Option ℕ). AreLeastInChains (λ Rule place. IsSomeAnd found (λ c. InChainTable image (table_at image c linkedit_data_table) Rule place)) survey) (sym is) are
+
+  -- it has no bytes
+  pub chains_empty : table.1 ≡ 0 → AreLeastInChains (InChains image) unbroken_chains
+  chains_empty none = chains_named unbroken_chains (survey_none (InChainTable image table) (λ Rule place (some, broken). omega arith))
+
+  module _ (keeps : NothingBreaks (BreaksImage image None)) where
+    is_linkedit : Contains (commands_of image) command × (structure_of (command_cmd image command) ≡ Some LinkeditDataCommand)
+    is_linkedit = named_first image (λ n. structure_of n ≡ Some LinkeditDataCommand) loader.LC_DYLD_CHAINED_FIXUPS refl command is
+
+    its_table : Contains (linkedit_data_table ∷ []) linkedit_data_table
+    its_table = (0, lit< tt, refl)
+
+    -- the fields that bound it lie in the image
+    pub chain_fields_inside : LieInside image command linkedit_data_table
+    chain_fields_inside = bounds_inside image keeps command LinkeditDataCommand is_linkedit linkedit_data_table its_table
+
+    -- and so does the table, if it has bytes
+    pub chains_inside : 0 < table.1 → table.0 + table.1 ≤ length image
+    chains_inside = table_inside image keeps command LinkeditDataCommand is_linkedit linkedit_data_table its_table refl
+
+-- a place at which a rule is broken lies in the image
+pub chains_near : (image : List ℕ) → NothingBreaks (BreaksImage image None) → (Rule : List ℕ → List ℕ → ℕ → Type 0) → IsChainRule image Rule → (place : ℕ) → InChains image Rule place → place ≤ length image
+chains_near image keeps Rule inside place broken =
+    let (command, is, (some, (offset, at, here))) = some_of (λ c. InChainTable image (table_at image c linkedit_data_table) Rule place) (chained_fixups image) broken in
+    let table = table_at image command linkedit_data_table in
+    let fits = chains_inside image command is keeps some in
+    let size = length-part table.0 table.1 image fits in
+    let within = inside (part table.0 table.1 image) offset (omega (arith, size, some)) here in
+    omega (arith, at, within, size, fits)

@@ -1,0 +1,89 @@
+-- The chained fixups of an image, and where they break their rules. A place is one in the image.
+-- (mach-o/loader.h: linkedit_data_command)
+use Rattle.std.specs.Prelude.{◌≡◌, ℕ, ◌+◌, ◌^◌, ◌<◌, List, Option, None, IfSome, IsSomeAnd}
+use Rattle.std.specs.Option.{option_map}
+use Rattle.macho_fields.specs.Field.{part}
+use Rattle.macho_fields.specs.FirstPlace.{IsLeastPlace}
+use Rattle.macho_fields.specs.Image.{commands_of}
+use Rattle.macho_fields.specs.LoadCommands.{linkedit_data_table}
+use Rattle.macho_fields.specs.Symbol.{table_at}
+use Rattle.macho_fields.specs.declared.header.loader.TheConstants as loader
+use Rattle.macho_image.specs.Command.{first_with_cmd}
+use Rattle.macho_linked.specs.ChainHeader.{chain_header}
+use Rattle.macho_linked.specs.ChainImports.{BreaksChainImports, BreaksChainTotal, BreaksChainLibrary}
+use Rattle.macho_linked.specs.ChainStarts.{BreaksChainStarts}
+use Rattle.macho_linked.specs.Limits.{library_count}
+use Rattle.macho_linked.specs.declared.chain_header.ChainHeader.{ChainHeader}
+use Rattle.macho_linked.specs.declared.chains.ChainSurvey.{ChainSurvey}
+
+-- the command that names them, of which there is at most one after table-repeated
+abbrev pub chained_fixups : List ℕ → Option ℕ
+chained_fixups image = first_with_cmd image loader.LC_DYLD_CHAINED_FIXUPS (commands_of image)
+
+-- The rules of an image and the bytes of its table, at an offset in the table. Where there is no header, no
+-- other rule is broken.
+
+abbrev pub NoHeader : List ℕ → List ℕ → ℕ → Type 0
+NoHeader image chains offset = (offset ≡ 0) × (chain_header chains ≡ None)
+
+-- the table has a header, with P
+abbrev pub HasHeader : List ℕ → (ChainHeader → Type 0) → Type 0
+HasHeader chains P = IsSomeAnd (chain_header chains) P
+
+abbrev pub BadStarts : List ℕ → List ℕ → ℕ → Type 0
+BadStarts image chains offset = HasHeader chains (λ header. BreaksChainStarts image chains header offset)
+
+abbrev pub BadImports : List ℕ → List ℕ → ℕ → Type 0
+BadImports image chains offset = HasHeader chains (λ header. BreaksChainImports chains header offset)
+
+abbrev pub LongNames : List ℕ → List ℕ → ℕ → Type 0
+LongNames image chains offset = HasHeader chains (λ header. BreaksChainTotal chains header offset)
+
+abbrev pub UnknownLibrary : List ℕ → List ℕ → ℕ → Type 0
+UnknownLibrary image chains offset =
+    HasHeader chains (λ header. BreaksChainLibrary (library_count image) chains header offset)
+
+-- such a rule, of the bytes of a table that has some, at a place of the image
+abbrev pub InChainTable : List ℕ → ℕ × ℕ × ℕ → (List ℕ → List ℕ → ℕ → Type 0) → ℕ → Type 0
+InChainTable image table Rule place =
+    (0 < table.1)
+    × ((offset : ℕ) × (place ≡ table.0 + offset) × Rule image (part table.0 table.1 image) offset)
+
+-- of the table of the image
+abbrev pub InChains : List ℕ → (List ℕ → List ℕ → ℕ → Type 0) → ℕ → Type 0
+InChains image Rule place =
+    IsSomeAnd (chained_fixups image)
+    (λ command. InChainTable image (table_at image command linkedit_data_table) Rule place)
+
+-- the least places at which the rules are broken
+pub record AreLeastInChains (In : (List ℕ → List ℕ → ℕ → Type 0) → ℕ → Type 0) (survey : ChainSurvey) : Type 0 where
+  pub header : IsLeastPlace (In NoHeader) survey.header
+  pub starts : IsLeastPlace (In BadStarts) survey.starts
+  pub imports : IsLeastPlace (In BadImports) survey.imports
+  pub total : IsLeastPlace (In LongNames) survey.total
+  pub library : IsLeastPlace (In UnknownLibrary) survey.library
+
+-- as offsets in the table
+abbrev pub AreLeastInTable : List ℕ → List ℕ → ChainSurvey → Type 0
+AreLeastInTable image chains survey = AreLeastInChains (λ Rule offset. Rule image chains offset) survey
+
+-- a survey that found nothing
+abbrev pub unbroken_chains : ChainSurvey
+unbroken_chains = record { header = None; starts = None; imports = None; total = None; library = None }
+
+-- a survey whose places are counted from another start, and that these fit 64 bits
+abbrev pub moved_chains : ℕ → ChainSurvey → ChainSurvey
+moved_chains start survey = record {
+  header = option_map (λ offset. start + offset) survey.header;
+  starts = option_map (λ offset. start + offset) survey.starts;
+  imports = option_map (λ offset. start + offset) survey.imports;
+  total = option_map (λ offset. start + offset) survey.total;
+  library = option_map (λ offset. start + offset) survey.library;
+}
+
+pub record ChainsFitAt (start : ℕ) (survey : ChainSurvey) : Type 0 where
+  pub header : IfSome survey.header (λ offset. start + offset < 2 ^ 64)
+  pub starts : IfSome survey.starts (λ offset. start + offset < 2 ^ 64)
+  pub imports : IfSome survey.imports (λ offset. start + offset < 2 ^ 64)
+  pub total : IfSome survey.total (λ offset. start + offset < 2 ^ 64)
+  pub library : IfSome survey.library (λ offset. start + offset < 2 ^ 64)

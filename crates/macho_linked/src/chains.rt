@@ -1,0 +1,100 @@
+//! The chained fixups of an image, and where they first break each of their rules. (`mach-o/loader.h`:
+//! `linkedit_data_command`)
+
+ghost use Rattle.macho_fields.specs.Bytes.{bytes_of};
+ghost use Rattle.macho_linked.specs.Chains.{AreLeastInTable};
+
+use crate::chain_header::ChainHeader;
+use crate::chain_imports::{chain_imports, chain_library, chain_total};
+use crate::chain_starts::chain_starts;
+use crate::homes::span_of;
+use crate::limits::library_count;
+use crate::streams::{bounded_at, first_place, place_from};
+use macho_fields::Bytes;
+use macho_fields::header::loader::LC_DYLD_CHAINED_FIXUPS;
+use macho_fields::header::loader::linkedit_data_command::DATAOFF;
+use macho_image::Image;
+
+/// Where the chained fixups first break each of their rules.
+#[derive(Clone, Copy, Debug)]
+pub struct ChainSurvey {
+    /// The start of the table, if it has no header.
+    pub header: Option<u64>,
+    /// The first entry with bad starts, or the number of entries if this is wrong, or the start of the table if
+    /// it has no such number.
+    pub starts: Option<u64>,
+    /// The first import whose name does not end, or the start of the table if the imports end past it.
+    pub imports: Option<u64>,
+    /// The first import with which the names have more bytes than the table.
+    pub total: Option<u64>,
+    /// The first import that is from no library.
+    pub library: Option<u64>,
+}
+
+impl ChainSurvey {
+    ghost use Rattle.std.specs.Prelude.{◌≡◌, None};
+    ghost use Rattle.macho_fields.specs.Layers.{NothingBreaks};
+    ghost use Rattle.macho_fields.specs.Rules.{BreaksImage as Breaks};
+    ghost use Rattle.macho_linked.specs.Chains.{unbroken_chains, moved_chains, AreLeastInChains, ChainsFitAt, InChains};
+
+    // Goes over the table of an image that breaks no rule of the layout. The places are those in the image.
+    pub(crate) fn of(image: &Image) -> ChainSurvey
+        requires { NothingBreaks (Breaks image.now None) }
+        ensures { AreLeastInChains (InChains image.now) result }
+    {
+        let Some(command) = first_place(image, LC_DYLD_CHAINED_FIXUPS) else {
+            return ChainSurvey::unbroken();
+        };
+        let table = span_of(image, command, bounded_at(DATAOFF));
+        if table.len == 0 {
+            return ChainSurvey::unbroken();
+        }
+        survey(image, image.bytes().slice(table)).moved(table.start)
+    }
+
+    // No rule is broken.
+    fn unbroken() -> ChainSurvey
+        ensures { result ≡ unbroken_chains }
+    {
+        ChainSurvey {
+            header: None,
+            starts: None,
+            imports: None,
+            total: None,
+            library: None,
+        }
+    }
+
+    // The same with places that are counted from another start.
+    fn moved(self, start: u64) -> ChainSurvey
+        requires { ChainsFitAt start self }
+        ensures { result ≡ moved_chains start self }
+    {
+        ChainSurvey {
+            header: place_from(start, self.header),
+            starts: place_from(start, self.starts),
+            imports: place_from(start, self.imports),
+            total: place_from(start, self.total),
+            library: place_from(start, self.library),
+        }
+    }
+}
+
+// Goes over the bytes of the table. The places are offsets in it.
+fn survey(image: &Image, chains: Bytes) -> ChainSurvey
+    ensures { AreLeastInTable image.now (bytes_of chains.entry) result }
+{
+    let Some(header) = ChainHeader::read(chains) else {
+        return ChainSurvey {
+            header: Some(0),
+            ..ChainSurvey::unbroken()
+        };
+    };
+    ChainSurvey {
+        header: None,
+        starts: chain_starts(image, chains, header),
+        imports: chain_imports(chains, header),
+        total: chain_total(chains, header),
+        library: chain_library(chains, header, library_count(image)),
+    }
+}
