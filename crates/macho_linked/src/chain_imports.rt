@@ -219,15 +219,15 @@ impl ChainHeader {
     ghost use Rattle.macho_fields.specs.Bytes.{bytes_of};
     ghost use Rattle.macho_linked.specs.ChainImports.{import_of, import_offset, import_name_start, ImportsEndPast};
 
-    // Whether there are imports, and they end past the table.
-    fn imports_end_past(self, chains: Bytes) -> bool
+    /// Whether there are imports, and they end past the table.
+    pub fn imports_end_past(self, chains: Bytes) -> bool
         ensures { IsTrue result ↔ ImportsEndPast (bytes_of chains.entry) self }
     {
         self.imports_count > 0 && self.import_offset(self.imports_count) > chains.len()
     }
 
-    // The import with this index.
-    fn import(self, chains: Bytes, index: u32) -> Import
+    /// The import with this index.
+    pub fn import(self, chains: Bytes, index: u32) -> Import
         requires inside { ¬ ImportsEndPast (bytes_of chains) self }
         requires listed { index < self.imports_count }
         ensures { result ≡ import_of (bytes_of chains.entry) self index }
@@ -235,8 +235,8 @@ impl ChainHeader {
         Import::read(chains, self.imports_format, self.import_offset(index))
     }
 
-    // Where its name begins.
-    fn name_start(self, chains: Bytes, index: u32) -> u64
+    /// Where its name begins.
+    pub fn name_start(self, chains: Bytes, index: u32) -> u64
         requires inside { ¬ ImportsEndPast (bytes_of chains) self }
         requires listed { index < self.imports_count }
         ensures { result ≡ import_name_start (bytes_of chains.entry) self index }
@@ -245,8 +245,8 @@ impl ChainHeader {
         u64::from(self.symbols_offset) + u64::from(import.name_offset)
     }
 
-    // Where the import with this index begins.
-    fn import_offset(self, index: u32) -> u64
+    /// Where the import with this index begins.
+    pub fn import_offset(self, index: u32) -> u64
         ensures { result ≡ import_offset self index }
     {
         let size = self.imports_format.bits().size;
@@ -279,9 +279,9 @@ fn zeros_end(chains: Bytes) -> u64
     }
 }
 
-// How many bytes the name has that begins at `start`, with its zero byte. One that does not end has those up
-// to the end of the table, and one more.
-fn name_size(chains: Bytes, start: u64) -> u128
+/// How many bytes the name has that begins at `start`, with its zero byte. One that does not end has those up
+/// to the end of the table, and one more.
+pub fn name_size(chains: Bytes, start: u64) -> u128
     ensures size { result ≡ length (string_from start (bytes_of chains.entry)) + 1 }
     ensures near { result ≤ 2 ^ 64 }
 {

@@ -170,8 +170,8 @@ fn has_bad_entries(image: &Image, chains: Bytes, header: ChainHeader, count: u32
     u64::from(count) > segment_count(image) || header.entry_offset(count) > chains.len()
 }
 
-// How many segments the image has.
-fn segment_count(image: &Image) -> u64
+/// How many segments the image has.
+pub fn segment_count(image: &Image) -> u64
     ensures { result ≡ length (all_segments image.now) }
 {
     image.segments().count() as u64
