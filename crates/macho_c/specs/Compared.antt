@@ -2,7 +2,7 @@
 -- share. (docs/LIBRARY.md)
 use Rattle.std.specs.Prelude.{◌≡◌, ℕ, ◌+◌, ◌-◌, ◌*◌, ◌^◌, ◌≤◌, ◌<◌, ◌⊎◌, min, List, length, Some, slice_get, true}
 use Rattle.macho_fields.specs.Image.{command_cmd, command_size, commands_of}
-use Rattle.macho_fields.specs.Segment.{vmaddr, vmsize, fileoff, filesize, section_address, section_size, section_offset, reloff, nreloc, section_count}
+use Rattle.macho_fields.specs.Segment.{all_segments, vmaddr, vmsize, fileoff, filesize, section_address, section_size, section_offset, reloff, nreloc, section_count}
 use Rattle.macho_fields.specs.Symbol.{n_strx, n_sect}
 use Rattle.macho_fields.specs.Universal.{FileSlice, slices_of}
 use Rattle.macho_fields.specs.declared.header.loader.TheConstants as loader
@@ -10,6 +10,7 @@ use Rattle.macho_fields.specs.declared.rule.Rule.{Rule}
 use Rattle.macho_fields.specs.declared.rule.Rule.TheVariants as rule
 use Rattle.macho_linked.specs.Kinds.{share_kind}
 use Rattle.macho_linked.specs.Limits.{budget_of, library_count}
+use Rattle.macho_linked.specs.declared.fixup_chains.TheConstants as chained
 use Rattle.macho_c.specs.Explain.{all_loads, IsCommandAt, IsSectionAt, IsSymbolAt, no_index, word_at}
 use Rattle.macho_c.specs.Segments.{last_address}
 use Rattle.macho_c.specs.declared.explain.conflict.Conflict.{Conflict}
@@ -47,6 +48,14 @@ ShowsMisplaced image segment section value limit =
 -- An element shares bytes with an earlier one, or ends past the image.
 abbrev pub SharesOrPasses : List ℕ → Conflict → Type 0
 SharesOrPasses image conflict = Share conflict ⊎ (conflict.limit ≡ length image)
+
+-- The number is the size of a table of chained fixups, as its command says. (linkedit_data_command: datasize
+-- at 12)
+abbrev pub IsChainSize : List ℕ → ℕ → Type 0
+IsChainSize image size =
+    (index : ℕ) × (command : ℕ) × (slice_get (all_loads image) index ≡ Some command)
+    × (command_cmd image command ≡ loader.LC_DYLD_CHAINED_FIXUPS)
+    × (size ≡ word_at image (command + 12))
 
 -- what is shown of a rule of an image that is broken at a place of it
 abbrev pub Shows : Rule → List ℕ → ℕ → Conflict → Type 0
@@ -92,6 +101,14 @@ Shows rule.BindOpcode image place c = (slice_get image place ≡ Some c.value) �
 Shows rule.RebaseTotal image place c = c.limit ≡ written (budget_of image)
 Shows rule.BindTotal image place c = c.limit ≡ written (budget_of image)
 Shows rule.BindLibrary image place c = c.limit ≡ library_count image
+Shows rule.ChainHeader image place c =
+    IsChainSize image c.value × (c.limit ≡ chained.DYLD_CHAINED_FIXUPS_HEADER_SIZE)
+Shows rule.ChainStarts image place c =
+    IsChainSize image c.limit
+    ⊎ ((c.value ≡ word_at image place) × (c.limit ≡ length (all_segments image)))
+Shows rule.ChainImports image place c = IsChainSize image c.limit
+Shows rule.ChainTotal image place c = IsChainSize image c.limit
+Shows rule.ChainLibrary image place c = c.limit ≡ library_count image
 Shows other image place c = Unit {0}
 
 -- the slice with the index has P

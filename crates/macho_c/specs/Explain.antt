@@ -8,6 +8,8 @@ use Rattle.macho_fields.specs.Image.{command_size, commands_of}
 use Rattle.macho_fields.specs.Segment.{vmaddr, vmsize, fileoff, filesize, section_address, section_size, section_offset, reloff, nreloc}
 use Rattle.macho_fields.specs.Universal.{FileSlice}
 use Rattle.macho_fields.specs.declared.bytes.Order.TheVariants.{Little}
+use Rattle.macho_fields.specs.declared.load_command.TableFields.{TableFields}
+use Rattle.macho_fields.specs.declared.load_command.Width.TheVariants.{Uint32}
 use Rattle.macho_image.specs.Symbol.{symbols_of, symbol_at}
 use Rattle.macho_image.specs.declared.symbol.Symbol.{Symbol}
 use Rattle.macho_linked.specs.Kinds.{share_kind}
@@ -92,6 +94,10 @@ pub record IsWalked (image : List ℕ) (which : Sought) (walked : Walked) : Type
   pub meets : Meets which walked.load
   pub few : walked.index < no_index
   pub sections : walked.sections ≡ sections_before image walked.index
+
+-- the fields bound a table by its bytes, in a field of 32 bits
+abbrev pub IsOfBytes : TableFields → Type 0
+IsOfBytes fields = (fields.width ≡ Uint32) × (fields.item_size ≡ 1)
 
 -- the fields of the segment that is found
 pub record IsSegmentRow (image : List ℕ) (segment : SegmentAt) : Type 0 where

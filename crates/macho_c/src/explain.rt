@@ -1,5 +1,6 @@
 //! Why a file is refused: what is at the place of the verdict, and which parts and numbers conflict there.
 
+mod chains;
 mod conflict;
 mod element;
 mod entries;

@@ -1,6 +1,6 @@
 //! Parts of a file: a structure, or what a structure describes.
 
-ghost use Rattle.std.specs.Prelude.{◌≡◌, ◌-◌, ◌^◌, min, IfSome};
+ghost use Rattle.std.specs.Prelude.{◌≡◌, ◌-◌, ◌^◌, ◌<◌, min, IfSome};
 ghost use Rattle.macho_c.specs.Explain.{no_index};
 ghost use Rattle.macho_c.specs.Parts.{part_of};
 
@@ -68,6 +68,16 @@ pub(crate) const INDIRECT: u32 = 20;
 pub(crate) const OPCODE: u32 = 21;
 /// One byte.
 pub(crate) const BYTE: u32 = 22;
+/// `dyld_chained_fixups_header`
+pub(crate) const CHAIN_HEADER: u32 = 23;
+/// `dyld_chained_starts_in_image`, without its entries.
+pub(crate) const CHAIN_ARRAY: u32 = 24;
+/// An entry of `dyld_chained_starts_in_image`.
+pub(crate) const CHAIN_ENTRY: u32 = 25;
+/// `dyld_chained_starts_in_segment`, with all its bytes.
+pub(crate) const CHAIN_STARTS: u32 = 26;
+/// An import of chained fixups.
+pub(crate) const CHAIN_IMPORT: u32 = 27;
 
 /// No part.
 pub(crate) const NO_PART: KesvuotPart = KesvuotPart {
@@ -119,4 +129,11 @@ pub(crate) fn clamped(number: u128) -> u64
         Ok(number) => number,
         Err(_) => u64::MAX,
     }
+}
+
+// The number below 0 at this distance from it, as 64 bits.
+pub(crate) fn below_zero(distance: u64) -> u64
+    ensures { 0 < distance → result ≡ 2 ^ 64 - distance }
+{
+    0u64.wrapping_sub(distance)
 }

@@ -11,6 +11,7 @@ ghost use Rattle.macho_c.specs.Explained.{IsOfImage};
 ghost use Rattle.macho_c.specs.Explain.{word_at, long_at};
 ghost use Rattle.macho_c.specs.Parts.{part_of, place_in_file, conflict_of};
 
+use crate::explain::chains::explain_chains;
 use crate::explain::conflict::Conflict;
 use crate::explain::element::{explain_byte, explain_element};
 use crate::explain::entries::slice_part;
@@ -93,6 +94,7 @@ enum Subject {
     Symbol,
     Byte,
     Stream,
+    Chains,
 }
 
 // What each rule of an image is about.
@@ -124,6 +126,11 @@ fn subject_of(rule: Rule) -> Subject {
         | Rule::BindSlot
         | Rule::BindTotal
         | Rule::BindNames => Subject::Stream,
+        Rule::ChainHeader
+        | Rule::ChainStarts
+        | Rule::ChainImports
+        | Rule::ChainTotal
+        | Rule::ChainLibrary => Subject::Chains,
         _ => Subject::Command,
     }
 }
@@ -150,6 +157,7 @@ fn explain_in(
         Subject::Symbol => explain_symbol(sliced, rule, place),
         Subject::Byte => explain_byte(sliced, rule, place),
         Subject::Stream => explain_stream(sliced, rule, place),
+        Subject::Chains => explain_chains(sliced, rule, place),
     }
 }
 

@@ -7,7 +7,7 @@ ghost use Rattle.macho_fields.specs.declared.rule.Rule.{Rule};
 ghost use Rattle.macho_c.specs.Compared.{IsFound, Shows};
 
 use crate::explain::conflict::Conflict;
-use crate::explain::part::{KesvuotPart, NO_INDEX, OPCODE, clamped};
+use crate::explain::part::{KesvuotPart, NO_INDEX, OPCODE, below_zero, clamped};
 use crate::explain::segment::segment_at;
 use crate::explain::sliced::Sliced;
 use crate::explain::spot::Spot;
@@ -196,7 +196,7 @@ fn named_with(reached: &Reached) -> Option<u64> {
 fn ordinal(step: Step) -> Option<u64> {
     match step {
         Step::SetLibrary(ordinal) => Some(ordinal),
-        Step::SetSpecial(below) => Some(0u64.wrapping_sub(u64::from(below))),
+        Step::SetSpecial(below) => Some(below_zero(u64::from(below))),
         _ => None,
     }
 }

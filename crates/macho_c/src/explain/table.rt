@@ -1,10 +1,13 @@
 //! The rules of load commands, and of the tables that they bound. (`mach-o/loader.h`)
 
-ghost use Rattle.std.specs.Prelude.{◌≡◌, ◌+◌, ◌<◌, IfSome};
+ghost use Rattle.std.specs.Prelude.{◌≡◌, ◌+◌, ◌^◌, ◌<◌, [], IfSome};
+ghost use Rattle.std.specs.Option.{option_map_or};
 ghost use Rattle.macho_fields.specs.Bytes.{bytes_of};
+ghost use Rattle.macho_fields.specs.LoadCommands.{structure_of, table_fields};
+ghost use Rattle.macho_fields.specs.declared.load_command.Width.TheVariants.{Uint32};
 ghost use Rattle.macho_fields.specs.declared.rule.Rule.{Rule};
 ghost use Rattle.macho_c.specs.Compared.{IsFound, Shows};
-ghost use Rattle.macho_c.specs.Explain.{IsWalked, MeetsLimit, word_at};
+ghost use Rattle.macho_c.specs.Explain.{IsOfBytes, IsWalked, MeetsLimit, word_at};
 ghost use Rattle.macho_c.specs.Loads.{IsLoad};
 ghost use Rattle.macho_c.specs.declared.explain.walk.Sought.TheVariants as sought;
 
@@ -117,7 +120,10 @@ pub(crate) struct Bounded {
 }
 
 // The table of the command at a place that these fields bound, which is the one with the index.
-pub(crate) fn table_by(sliced: &Sliced, command: u64, fields: TableFields, index: u64) -> Bounded {
+pub(crate) fn table_by(sliced: &Sliced, command: u64, fields: TableFields, index: u64) -> Bounded
+    ensures { IsOfBytes fields → command + fields.count < 2 ^ 64
+        → result.span.len ≡ word_at (bytes_of sliced.now.held.bytes) (command + fields.count) }
+{
     let start = field(sliced, command, fields.place, fields.width);
     let count = field(sliced, command, fields.count, fields.width);
     let span = Span {
@@ -132,7 +138,10 @@ pub(crate) fn table_by(sliced: &Sliced, command: u64, fields: TableFields, index
 }
 
 // The field of a command, by its offset and its width.
-fn field(sliced: &Sliced, command: u64, offset: u64, width: Width) -> u64 {
+fn field(sliced: &Sliced, command: u64, offset: u64, width: Width) -> u64
+    ensures { width ≡ Uint32 → command + offset < 2 ^ 64
+        → result ≡ word_at (bytes_of sliced.now.held.bytes) (command + offset) }
+{
     let place = command.saturating_add(offset);
     match width {
         Width::Uint32 => u64::from(sliced.word(place)),
@@ -141,7 +150,9 @@ fn field(sliced: &Sliced, command: u64, offset: u64, width: Width) -> u64 {
 }
 
 // The tables that a command with this `cmd` bounds.
-pub(crate) fn tables_of(cmd: u32) -> &'static [TableFields] {
+pub(crate) fn tables_of(cmd: u32) -> &'static [TableFields]
+    ensures { result.now ≡ option_map_or table_fields (structure_of cmd) [] }
+{
     match structure_of(cmd) {
         Some(structure) => structure.tables(),
         None => &[],

@@ -1,0 +1,27 @@
+use Rattle.std.proofs.Common.{◌∙◌, inl, inr, refl, subst, sym}
+use Rattle.macho_c.specs.Explained.{IsOfFile, IsOfImage}
+use Rattle.macho_c.proofs.explain.explained.Goals as goal
+use Rattle.macho_c.proofs.explain.explained.Goals.{then-is_of_file+in_ok-found, else-is_of_file+in_ok-found-2}
+
+pub returns : goal.returns
+returns c =
+    let file = c.args.file.now in
+    let place = c.args.verdict.now.place in
+    let rule = c.in_ok-rule.rule in
+    let has_place = c.has_place.ensures c.if-not-has_place.false in
+    inr (
+      refl,
+      has_place,
+      rule,
+      c.in_ok-rule.ensures.some,
+      elim c.if-is_of_file.branch [
+        | then-is_of_file+in_ok-found w ↦ inl (
+          sym c.is_of_file.ensures ∙ w.if-is_of_file.true,
+          subst (IsOfFile rule file place) (sym w.found-is) w.in_ok-found.ensures,
+        )
+        | else-is_of_file+in_ok-found-2 w ↦ inr (
+          sym c.is_of_file.ensures ∙ w.if-is_of_file.false,
+          subst (IsOfImage rule file place) (sym w.found-is) w.in_ok-found-2.ensures,
+        )
+      ],
+    )
