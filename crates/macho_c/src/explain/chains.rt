@@ -148,8 +148,8 @@ fn at_entry(sliced: &Sliced, chains: &Chains, place: u64) -> Option<(Spot, Confl
     Some((Spot::of(at), Conflict::of(starts, part, end, len)))
 }
 
-// How many bytes the starts at an offset of the table have. They are those of the fields alone if the table
-// ends before these do.
+// How many bytes the starts at an offset of the table have, by their first field, `size`. They are those of the
+// fields alone if the table ends before these do.
 fn starts_size(chains: Bytes, offset: u64) -> u64 {
     let fields = Span {
         start: offset,
