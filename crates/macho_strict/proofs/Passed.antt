@@ -1,5 +1,5 @@
 -- One span more in a walk over spans that come by their starts.
-use Rattle.std.proofs.Common.{◌≡◌, ℕ, ◌+◌, ◌≤◌, ◌<◌, ◌⊎◌, Bool, true, false, max, List, [], ◌∷◌, ◌++◌, length, map, All, Contains, Option, Some, None, sym, ap, ◌∙◌, subst, arith, inl, inr, length-append}
+use Rattle.std.proofs.Common.{◌≡◌, ℕ, ◌+◌, ◌≤◌, ◌<◌, ◌⊎◌, Bool, true, false, max, List, [], ◌∷◌, ◌++◌, length, map, All, Contains, Option, Some, None, refl, sym, ap, ◌∙◌, subst, arith, inl, inr, length-append}
 use Rattle.std.specs.Prelude.{MatchOption, IsTrue, ◌↔◌}
 use Rattle.std.specs.List.Sorted.{IsNonDecreasingBy}
 use Rattle.std.proofs.Math.ListN.{get_or-append}
@@ -238,6 +238,11 @@ module _ (spans : List Span) (x : Span) where
 -- spans that ascend came by their starts
 pub ascend_by_start : (wanted : Wanted) (bytes : List ℕ) (spans : List Span) (gaps : Gaps) → ArePassed wanted bytes spans gaps → gaps.ascend ≡ true → gaps.by_start ≡ true
 ascend_by_start wanted bytes spans gaps are up = by_start_where_sorted wanted bytes spans gaps are (ascending_by_start spans (are.ascending.0 up))
+
+-- no byte lies before a limit that the end passes
+pub next_none : (wanted : Wanted) (bytes : List ℕ) (end limit : ℕ) (old : Option ℕ) → limit ≤ end → IsLeastNext wanted bytes end limit old old
+next_none wanted bytes end limit None past = λ p (low, high, is). absurd (omega arith)
+next_none wanted bytes end limit (Some place) past = refl
 
 -- One span more was passed
 

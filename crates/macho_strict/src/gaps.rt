@@ -131,7 +131,10 @@ impl<'a> Gaps<'a> {
         self.ascend = self.ascends_to(span.start);
         self.by_start = self.by_start && self.start <= span.start;
         if self.by_start {
-            self.stray = self.stray_before(span.start);
+            // Most spans begin where the one before them ends.
+            if self.end < u128::from(span.start) {
+                self.stray = self.stray_before(span.start);
+            }
             self.start = span.start;
             self.end = self.end.max(span.end());
         }

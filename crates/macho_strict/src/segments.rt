@@ -67,7 +67,7 @@ pub(crate) struct FilePartSurvey {
 }
 
 impl FilePartSurvey {
-    ghost use Rattle.std.specs.Prelude.{◌≡◌, true};
+    ghost use Rattle.std.specs.Prelude.{◌≡◌, ℕ, List, true};
     ghost use Rattle.macho_fields.specs.Layers.{KeptBelow};
     ghost use Rattle.macho_fields.specs.RuleList.{rank};
     ghost use Rattle.macho_fields.specs.declared.rule.Rule.{Rule};
@@ -87,19 +87,18 @@ impl FilePartSurvey {
     {
         let gaps = gaps_between(image.bytes(), Wanted::NonZero, FileParts::of(image));
         if gaps.ascend() {
-            return Ok(FilePartSurvey::new(image, Passed { gaps, sorted: None }));
+            return Ok(FilePartSurvey::new(Passed { gaps, sorted: None }));
         }
         let list = part_list(alloc, image)?;
-        Ok(FilePartSurvey::new(image, pass_sorted(image.bytes(), list)))
+        Ok(FilePartSurvey::new(pass_sorted(image.bytes(), list)))
     }
 
-    // What is found of file parts of the image that were passed.
-    fn new(image: &Image, passed: Passed) -> FilePartSurvey
-        requires opened { IsOpened image.now }
-        requires passed { ArePassedBy image.now (file_parts image.now) passed.gaps passed.sorted }
-        requires by_start { passed.gaps.by_start ≡ true }
-        requires sorted { IsByStart (file_parts image.now) passed.sorted }
-        ensures { IsSurveyOf image.now result }
+    // What is found of file parts that were passed.
+    fn new(passed: Passed) -> FilePartSurvey
+        requires { passed.gaps.by_start ≡ true }
+        ensures { (image : List ℕ) → IsOpened image
+            → ArePassedBy image (file_parts image) passed.entry.gaps passed.entry.sorted
+            → IsByStart (file_parts image) passed.entry.sorted → IsSurveyOf image result }
     {
         FilePartSurvey {
             apart: passed.gaps.ascend(),
