@@ -280,7 +280,8 @@ struct kesvuot_explanation {
  * A number of 2^64 or more is given as 2^64 - 1. An index that there is not is KESVUOT_NO_INDEX.
  * OK: all fields are written. NONE: no rule has the number `rule`, or nothing that the rule is about is at `place`, as
  * after OK. All indices are then KESVUOT_NO_INDEX, and all other fields 0.
- * The call does not judge the file again. It takes no memory, and time in proportion to the headers and the streams. */
+ * The call does not judge the file again. It takes no memory, and time in proportion to the headers, the streams and
+ * the table of chained fixups. */
 uint32_t kesvuot_explain(const void *file, size_t size, const struct kesvuot_verdict *verdict,
                          struct kesvuot_explanation *explanation);
 
