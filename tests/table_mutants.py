@@ -237,12 +237,18 @@ def move_tables(_, data, stream):
     return data[:field] + data[field + 8:field + 16] + data[field:field + 8] + data[field + 16:]
 
 def set_protection(rng, data, _):
-    place = rng.choice(segments(data)) + rng.choice((56, 60, 60))
+    places = segments(data)
+    if not places:
+        return data
+    place = rng.choice(places) + rng.choice((56, 60, 60))
     return data[:place] + bytes((rng.randrange(8),)) + data[place + 1:]
 
 def set_size(rng, data, _):
     """A segment has fewer or more bytes in the file, or no addresses."""
-    place = rng.choice(segments(data))
+    places = segments(data)
+    if not places:
+        return data
+    place = rng.choice(places)
     field = place + rng.choice((32, 40, 48, 48))
     value = rng.choice((0, 7, 8, word(data, field, 8) + rng.choice((-16, -8, -1, 1, 8)), word(data, place + 48, 8)))
     return data[:field] + (value % WORD).to_bytes(8, "little") + data[field + 8:]
