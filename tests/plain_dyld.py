@@ -206,7 +206,7 @@ class Dyld:
         return digits - (1 << bits) if digits >> (bits - 1) else digits
 
     def name(self):
-        """The place of a name, which is left behind."""
+        """The place of a name, past which it goes on."""
         place = self.place
         while self.next_byte() != 0:
             pass

@@ -250,7 +250,7 @@ enum {
     KESVUOT_PART_CHAIN_ARRAY = 24,    /* seg_count of dyld_chained_starts_in_image */
     KESVUOT_PART_CHAIN_ENTRY = 25,    /* seg_info_offset of the segment with this index */
     KESVUOT_PART_CHAIN_STARTS = 26,   /* dyld_chained_starts_in_segment of the segment with this index: all its size
-                                         bytes, or 22 if these are not all in the table */
+                                         bytes, or 22 if its first 22 are not all in the table */
     KESVUOT_PART_CHAIN_IMPORT = 27    /* an import of chained fixups. The index counts from 0 */
 };
 

@@ -83,7 +83,7 @@ kinds! {
     /// `seg_info_offset` of the segment with this index.
     ChainEntry = 25,
     /// `dyld_chained_starts_in_segment` of the segment with this index: all its `size` bytes, or 22 if
-    /// these are not all in the table.
+    /// its first 22 are not all in the table.
     ChainStarts = 26,
     /// An import of chained fixups. The index counts from 0.
     ChainImport = 27,

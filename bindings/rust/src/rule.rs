@@ -158,8 +158,9 @@ rules! {
     /// Linked: the header of chained fixups is not all in their table, or is of no known version or
     /// format.
     ChainHeader = 54,
-    /// Linked: the starts of a segment's chains are not in the table of chained fixups, are of no
-    /// known format, or are none of a writable segment.
+    /// Linked: the table of chained fixups has entries for more segments than there are; or the
+    /// starts of a segment's chains are not all in it, are of no known format, are none of a writable
+    /// segment, or begin before those of an earlier segment end.
     ChainStarts = 55,
     /// Linked: the imports of chained fixups, or the name of one, do not end in their table.
     ChainImports = 56,
