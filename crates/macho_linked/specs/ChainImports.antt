@@ -15,7 +15,7 @@ use Rattle.macho_linked.specs.declared.chain_imports.Ordinal.TheVariants as ordi
 use Rattle.macho_linked.specs.declared.stream.TheConstants as stream
 
 -- The structures: their size, the width of the bits with which they begin, which of these are lib_ordinal, and
--- from which on they are name_offset. weak_import, the bit between the two, is not looked at.
+-- from which on they are name_offset. What is between the two, weak_import and reserved bits, is not looked at.
 abbrev pub import_bits : ImportFormat → ImportBits
 import_bits format.Import = record { size = 4; width = Uint32; ordinal_mask = 0xff; name_shift = 9 }
 import_bits format.ImportAddend = record { size = 8; width = Uint32; ordinal_mask = 0xff; name_shift = 9 }

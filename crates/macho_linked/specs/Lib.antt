@@ -1,4 +1,5 @@
 pub mod Numbers
+pub mod Opcodes
 pub mod Steps
 pub mod Cursor
 pub mod Streams

@@ -80,8 +80,8 @@ impl ChainHeader {
     ghost use Rattle.macho_fields.specs.Bytes.{bytes_of};
     ghost use Rattle.macho_linked.specs.ChainHeader.{chain_header};
 
-    /// The header with which the table begins. It is `None` if the table is shorter, the version or the
-    /// format of the imports is not known, or the names are compressed.
+    /// The header with which the table begins. It is `None` if the table is shorter, or the version, the
+    /// format of the imports or that of the names is not known.
     #[tactic(auto, unfolding(crate::specs::ChainHeader::chain_header))]
     pub fn read(chains: Bytes) -> Option<ChainHeader>
         ensures { result ≡ chain_header (bytes_of chains.entry) }

@@ -8,9 +8,16 @@ ghost use Rattle.macho_fields.specs.First.{IsUnbroken};
 ghost use Rattle.macho_linked.specs.Dyld.{AreFollowedSafely};
 ghost use Rattle.macho_linked.specs.FixupChains.{AreFixupChainsConstants};
 ghost use Rattle.macho_linked.specs.Harmless.{AreHarmless};
+ghost use Rattle.macho_linked.specs.Opcodes.{AreOpcodeConstants};
 ghost use Rattle.macho_linked.specs.Rules.{IsFirstLinkedBroken, IsLinkedUnbroken};
 
 use macho_fields::Break;
+
+/// Each constant of `opcode` is the number that `mach-o/loader.h` defines, as `specs/Opcodes.antt` lists
+/// them.
+pub fn opcode_constants_are_those_of_the_header()
+    ensures { AreOpcodeConstants }
+{}
 
 /// Each constant of `fixup_chains` is the number that `mach-o/fixup-chains.h` defines, as
 /// `specs/FixupChains.antt` lists them.

@@ -1,6 +1,7 @@
 #![tactic(auto)]
 //! The linked profile: where the linked data of an image lies, what the opcodes that a dynamic loader
-//! follows ask it to write, and where the chains of its fixups begin.
+//! follows ask it to write, and what the table of its chained fixups says. The chained pointers are not
+//! judged.
 
 pub mod chain_header;
 pub mod chain_imports;
