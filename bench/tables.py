@@ -1,8 +1,20 @@
-"""What the programs of this folder that measure have in common: times of the processor, and tables in Markdown."""
+"""What the programs of this folder that measure have in common: the library, times of the processor, and tables in
+Markdown."""
 
 from __future__ import annotations
 
+import os
 import resource
+from pathlib import Path
+
+
+def library_folder(script: str) -> Path:
+    """The folder of libkesvuot.a: KESVUOT_LIB_DIR if that is set, build/lib otherwise."""
+    build = Path(__file__).resolve().parent.parent / "build" / "lib"
+    folder = Path(os.environ.get("KESVUOT_LIB_DIR", build)).resolve()
+    if not (folder / "libkesvuot.a").exists():
+        raise SystemExit(f"{script}: {folder / 'libkesvuot.a'} is not there: call `make lib`")
+    return folder
 
 
 def processor_time() -> float:
