@@ -474,6 +474,7 @@ tables! {
 }
 
 /// The status, and where the name at `strx` in the strings is.
+#[inline]
 pub fn symbol_name(file: &[u8], image: &Image, strx: u32) -> (u32, Span) {
     let (at, mut name) = (file.as_ptr().cast(), Span::default());
     // SAFETY: the file may be read, and nobody changes it meanwhile. The span may be written.

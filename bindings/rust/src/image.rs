@@ -96,6 +96,7 @@ impl<'a> Image<'a> {
     }
 
     /// The bytes of a span, which the library wrote. Each lies in the file.
+    #[inline]
     pub(crate) fn part(&self, span: Span) -> &'a [u8] {
         &self.file[span.offset as usize..][..span.size as usize]
     }
@@ -299,6 +300,7 @@ impl<'a> Image<'a> {
     /// name: to look up all of them takes time in proportion to `nsyms * strsize`. To list all in linear
     /// time, add up the lengths of the names, and stop when the sum is more than `4 * strsize`.
     #[must_use]
+    #[inline]
     pub fn name(&self, symbol: &Symbol) -> Option<&'a [u8]> {
         let (status, name) = ffi::symbol_name(self.file, &self.raw, symbol.strx);
         (status == ffi::OK).then(|| self.part(name))
