@@ -35,8 +35,8 @@ is read also "filetype", "flags", "uuid", "base", "entry", "builds", "libraries"
 and in "symbols" how many there are.
 
 The library comes from the folder KESVUOT_LIB_DIR if that is set, otherwise from the folder of this package, from `lib`
-of the archive that the package is in, or from where the system finds it. It is loaded by the first call, which raises
-ImportError where it is not found. The package needs CPython 3.8 or later.
+of the installation or the archive that the package is in, or from where the system finds it. It is loaded by the first
+call, which raises ImportError where it is not found. The package needs CPython 3.8 or later.
 """
 
 from . import constants

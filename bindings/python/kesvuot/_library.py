@@ -5,6 +5,7 @@ from __future__ import annotations
 import ctypes
 import mmap
 import os
+import re
 import struct
 from functools import lru_cache
 from typing import Any, Dict, List, Tuple, Union
@@ -12,8 +13,8 @@ from typing import Any, Dict, List, Tuple, Union
 Data = Union[bytes, bytearray, memoryview, mmap.mmap]
 
 SONAME, MAJOR = "libkesvuot.so.2", 2
-# Where the archive of `make dist` has this package, below the folder that has `lib`.
-ARCHIVED = "/share/kesvuot/python/kesvuot"
+# Where `make install-lib` puts this package, and where the archive of `make dist` has it: below the folder of `lib`.
+INSTALLED = re.compile("(.*)/(?:lib/python3[^/]*/(?:site|dist)-packages|share/kesvuot/python)/kesvuot")
 OK, REFUSED, NO_MEMORY, NONE, UNREAD, ZERO = range(6)
 HAS_UUID, HAS_BASE, HAS_ENTRY, HAS_SYMTAB, HAS_DYSYMTAB, HAS_ID = 1, 2, 4, 8, 16, 32
 NO_SECTION = NO_INDEX = 0xFFFF_FFFF
@@ -36,8 +37,9 @@ def _find() -> str:
         return os.path.join(os.path.abspath(folder), SONAME)
     package = os.path.dirname(os.path.realpath(__file__))
     found = [os.path.join(package, SONAME)]
-    if package.endswith(ARCHIVED):
-        found.append(os.path.join(package[:-len(ARCHIVED)], "lib", SONAME))
+    installed = INSTALLED.fullmatch(package)
+    if installed:
+        found.append(os.path.join(installed[1], "lib", SONAME))
     return next(filter(os.path.exists, found), SONAME)
 
 
