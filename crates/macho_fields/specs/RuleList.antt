@@ -68,6 +68,8 @@ rank rule.ChainStarts = 55
 rank rule.ChainImports = 56
 rank rule.ChainTotal = 57
 rank rule.ChainLibrary = 58
+rank rule.ChainSlot = 59
+rank rule.ChainBind = 60
 
 -- the number by which programs know a rule. It never changes: a rule that is added takes the next free
 -- one, wherever it stands
@@ -130,6 +132,8 @@ rule_number rule.ChainStarts = 55
 rule_number rule.ChainImports = 56
 rule_number rule.ChainTotal = 57
 rule_number rule.ChainLibrary = 58
+rule_number rule.ChainSlot = 59
+rule_number rule.ChainBind = 60
 
 -- the profile that a rule belongs to
 abbrev pub profile_of : Rule → Profile
@@ -160,6 +164,8 @@ profile_of rule.ChainStarts = Linked
 profile_of rule.ChainImports = Linked
 profile_of rule.ChainTotal = Linked
 profile_of rule.ChainLibrary = Linked
+profile_of rule.ChainSlot = Linked
+profile_of rule.ChainBind = Linked
 profile_of other = Layout
 
 -- the name of a rule, as ASCII text
@@ -222,6 +228,8 @@ name_of rule.ChainStarts = codes "chain-starts"
 name_of rule.ChainImports = codes "chain-imports"
 name_of rule.ChainTotal = codes "chain-total"
 name_of rule.ChainLibrary = codes "chain-library"
+name_of rule.ChainSlot = codes "chain-slot"
+name_of rule.ChainBind = codes "chain-bind"
 
 -- the text of a break: the name of its rule, and its place in lower-case hexadecimal
 abbrev pub text_of : Break → List ℕ

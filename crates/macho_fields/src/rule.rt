@@ -145,6 +145,11 @@ pub enum Rule {
     ChainTotal = 57,
     /// An import is from a library that the image does not load.
     ChainLibrary = 58,
+    /// A pointer of a chain does not end in its page and in the file bytes of its segment, or the next one
+    /// begins in it.
+    ChainSlot = 59,
+    /// A pointer of a chain binds an import that is not there.
+    ChainBind = 60,
 }
 
 // The name of a rule with what comes after it, so that one list serves every reader of names.
@@ -209,6 +214,8 @@ macro_rules! name_before {
             Rule::ChainImports => concat!("chain-imports", $end),
             Rule::ChainTotal => concat!("chain-total", $end),
             Rule::ChainLibrary => concat!("chain-library", $end),
+            Rule::ChainSlot => concat!("chain-slot", $end),
+            Rule::ChainBind => concat!("chain-bind", $end),
         }
     };
 }
@@ -274,6 +281,8 @@ impl Rule {
         Rule::ChainImports,
         Rule::ChainTotal,
         Rule::ChainLibrary,
+        Rule::ChainSlot,
+        Rule::ChainBind,
     ];
 
     /// The name of the rule in reports, in lower case.
@@ -346,7 +355,9 @@ impl Rule {
             | Rule::ChainStarts
             | Rule::ChainImports
             | Rule::ChainTotal
-            | Rule::ChainLibrary => Profile::Linked,
+            | Rule::ChainLibrary
+            | Rule::ChainSlot
+            | Rule::ChainBind => Profile::Linked,
             _ => Profile::Layout,
         }
     }
