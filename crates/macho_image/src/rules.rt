@@ -88,13 +88,21 @@ fn is_bad_name(command: Bytes, structure: Structure) -> bool
     offset < structure.size() || !has_zero_from(command, offset)
 }
 
-// Whether one of the bytes from `start` on is zero.
+// Whether one of the bytes from `start` on is zero. The last one is looked at first: most names are
+// padded with zeros.
 fn has_zero_from(bytes: Bytes, start: u64) -> bool
     ensures { IsTrue result ↔ HasZero (bytes_of bytes.entry) start (length (bytes_of bytes.entry)) }
 {
+    let end = bytes.len();
+    if end <= start {
+        return false;
+    }
+    if bytes.read_u8(end - 1) == 0 {
+        return true;
+    }
     let rest = Span {
         start,
-        len: bytes.len().saturating_sub(start),
+        len: end - start,
     };
     bytes.first_zero(rest).is_some()
 }
