@@ -91,27 +91,29 @@ fn check_slices(alloc: Global, file: Bytes, slices: &[Slice]) -> Result<Option<F
     let mut found = None;
     for slice in slices {
         if slice.read {
-            found = Some(check_slice(alloc, file, slice)?);
+            check_slice(alloc, file, slice, &mut found)?;
         }
     }
     Ok(found)
 }
 
-// Decides the rules of one slice, and returns what was found of its image. The place of a break is its
-// offset in the file.
-fn check_slice(alloc: Global, file: Bytes, slice: &Slice) -> Result<Found, Refusal>
+// Decides the rules of one slice. What was found of its image is written in place, since a return would
+// copy it several times. The place of a break is its offset in the file.
+fn check_slice(
+    alloc: Global,
+    file: Bytes,
+    slice: &Slice,
+    found: &mut Option<Found>,
+) -> Result<(), Refusal>
     requires { (slice_of slice.now).start + (slice_of slice.now).size ≤ length (bytes_of file) }
     ensures unbroken { OnOk result (NothingBreaks
         (BreaksImage (slice_bytes (bytes_of file.entry) (slice_of slice.now)) slice.now.arch)) }
-    ensures found { IfOk result (WasFound (bytes_of file.entry)) }
+    ensures found { OnOk result (IfSome found.new (WasFound (bytes_of file.entry))) }
     ensures refused { IfErr result (IsSliceRefusal (bytes_of file.entry) (slice_of slice.now)) }
 {
     let bytes = file.slice(slice.span);
-    match check_bytes(alloc, bytes, slice.arch) {
-        Ok(landmarks) => Ok(Found {
-            span: slice.span,
-            landmarks,
-        }),
+    match check_bytes(alloc, bytes, slice, found) {
+        Ok(()) => Ok(()),
         Err(Refusal::Broken(broken)) => {
             let place = slice.span.start + broken.place;
             Err(Refusal::Broken(Break::at(broken.rule, place)))
@@ -120,16 +122,25 @@ fn check_slice(alloc: Global, file: Bytes, slice: &Slice) -> Result<Found, Refus
     }
 }
 
-// Decides the rules of an image, which a universal file may name for an architecture. It returns the
-// landmarks of the image.
-fn check_bytes(alloc: Global, bytes: Bytes, arch: Option<(u32, u32)>) -> Result<Landmarks, Refusal>
-    ensures unbroken { OnOk result (NothingBreaks (BreaksImage (bytes_of bytes.entry) arch)) }
-    ensures landmarks { IfOk result (HasLandmarks (bytes_of bytes.entry)) }
-    ensures refused { IfErr result (IsImageRefusal (bytes_of bytes.entry) arch) }
+// Decides the rules of the image in a slice, which has these bytes, and writes what was found of it.
+fn check_bytes(
+    alloc: Global,
+    bytes: Bytes,
+    slice: &Slice,
+    found: &mut Option<Found>,
+) -> Result<(), Refusal>
+    ensures unbroken { OnOk result (NothingBreaks (BreaksImage (bytes_of bytes.entry) slice.now.arch)) }
+    ensures landmarks { OnOk result (IfSome found.new (λ found.
+        (found.span ≡ slice.now.span) × HasLandmarks (bytes_of bytes.entry) found.landmarks)) }
+    ensures refused { IfErr result (IsImageRefusal (bytes_of bytes.entry) slice.now.arch) }
 {
-    let image = Image::open(bytes, arch)?;
+    let image = Image::open(bytes, slice.arch)?;
     check_image(alloc, &image)?;
-    Ok(image.landmarks())
+    *found = Some(Found {
+        span: slice.span,
+        landmarks: image.landmarks(),
+    });
+    Ok(())
 }
 
 impl<'a> Verified<'a> {

@@ -1,4 +1,4 @@
-use Rattle.std.proofs.Common.{List, ℕ, None, subst}
+use Rattle.std.proofs.Common.{List, ℕ, None, refl, subst}
 use Rattle.macho_fields.specs.Bytes.{bytes_of}
 use Rattle.macho_fields.specs.Layers.{NothingBreaks}
 use Rattle.macho_fields.specs.Rules.{BreaksImage}
@@ -10,19 +10,19 @@ use Rattle.macho_rules.proofs.verdict.check_bytes.Goals as goal
 
 pub returns-in_err-image-clause-refused : goal.returns-in_err-image-clause-refused
 returns-in_err-image-clause-refused c =
-    passed_on (IsImageRefusal (bytes_of c.args.bytes) c.args.arch) c.from_residual.result (refusal.Broken c.in_err-image.field-0.0) c.from_residual.ensures.1
+    passed_on (IsImageRefusal (bytes_of c.args.bytes) c.args.slice.now.arch) c.from_residual.result (refusal.Broken c.in_err-image.field-0.0) c.from_residual.ensures.1
     c.in_err-image.ensures.decides
 
 pub returns-in_err-check_image-clause-refused : goal.returns-in_err-check_image-clause-refused
 returns-in_err-check_image-clause-refused c =
-    passed_on (IsImageRefusal (bytes_of c.args.bytes) c.args.arch) c.from_residual-in_err-check_image.result c.in_err-check_image.field-0.0 c.from_residual-in_err-check_image.ensures.1
-    (opened_refused (bytes_of c.args.bytes) c.args.arch c.in_ok-image.ensures.decides c.in_err-check_image.field-0.0
+    passed_on (IsImageRefusal (bytes_of c.args.bytes) c.args.slice.now.arch) c.from_residual-in_err-check_image.result c.in_err-check_image.field-0.0 c.from_residual-in_err-check_image.ensures.1
+    (opened_refused (bytes_of c.args.bytes) c.args.slice.now.arch c.in_ok-image.ensures.decides c.in_err-check_image.field-0.0
     (subst (λ (image : List ℕ). IsImageRefusal image None c.in_err-check_image.field-0.0) c.in_ok-image.ensures.image c.in_err-check_image.ensures.refused))
 
 pub returns-clause-unbroken : goal.returns-clause-unbroken
 returns-clause-unbroken c =
-    opened_unbroken (bytes_of c.args.bytes) c.args.arch c.in_ok-image.ensures.decides
+    opened_unbroken (bytes_of c.args.bytes) c.args.slice.now.arch c.in_ok-image.ensures.decides
     (subst (λ (image : List ℕ). NothingBreaks (BreaksImage image None)) c.in_ok-image.ensures.image c.in_ok-check_image.ensures.unbroken)
 
 pub returns-clause-landmarks : goal.returns-clause-landmarks
-returns-clause-landmarks c = subst (λ (image : List ℕ). HasLandmarks image c.landmarks.result) c.in_ok-image.ensures.image c.landmarks.ensures
+returns-clause-landmarks c = (refl, subst (λ (image : List ℕ). HasLandmarks image c.landmarks.result) c.in_ok-image.ensures.image c.landmarks.ensures)
