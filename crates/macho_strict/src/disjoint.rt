@@ -5,12 +5,16 @@ ghost use Rattle.macho_spans.specs.Overlap.{sorted_spans};
 ghost use Rattle.macho_strict.specs.Disjoint.{AreDisjoint};
 
 use macho_fields::{Span, SpansByStart};
+use std::cell::Cell;
 use std::marker::Model;
 
 // Spans by their starts, of which no two share a place.
 #[derive(Drop)]
 pub(crate) struct Disjoint {
     spans: SpansByStart,
+    // The index of the span that held the last place. Places mostly ascend, so the next one is looked for
+    // there and in the span after it, before all spans are searched.
+    last: Cell<usize>,
 }
 
 impl Model for Disjoint {
@@ -27,6 +31,7 @@ impl Model for Disjoint {
 }
 
 impl Disjoint {
+    ghost use Rattle.std.specs.Prelude.{IfSome, Some};
     ghost use Rattle.macho_strict.specs.Disjoint.{IsHolding};
 
     // The spans, each of which ends where the next one begins, or before that.
@@ -34,11 +39,50 @@ impl Disjoint {
         requires { AreDisjoint (sorted_spans spans) }
         ensures { result ≡ sorted_spans spans }
     {
-        Disjoint { spans }
+        Disjoint {
+            spans,
+            last: Cell::new(0),
+        }
     }
 
     // The span that holds the place, or `None` if none does.
     pub(crate) fn holding(&self, place: u64) -> Option<Span>
+        ensures { IsHolding self.now place result }
+    {
+        match self.holding_near(place) {
+            Some(span) => Some(span),
+            None => self.holding_anywhere(place),
+        }
+    }
+
+    // The span that holds the place, if it is the one that held the last place or the one after it.
+    fn holding_near(&self, place: u64) -> Option<Span>
+        ensures { IfSome result (λ span. IsHolding self.now place (Some span)) }
+    {
+        let last = self.last.get();
+        match self.holding_at(last, place) {
+            Some(span) => Some(span),
+            None => self.holding_at(last.saturating_add(1), place),
+        }
+    }
+
+    // The span with this index, if there is one and it holds the place.
+    fn holding_at(&self, index: usize, place: u64) -> Option<Span>
+        ensures { IfSome result (λ span. IsHolding self.now place (Some span)) }
+    {
+        if index >= self.spans.len() {
+            return None;
+        }
+        let span = self.spans.span(index);
+        if !span.holds(place) {
+            return None;
+        }
+        self.last.set(index);
+        Some(span)
+    }
+
+    // The span that holds the place, or `None` if none does. All are searched.
+    fn holding_anywhere(&self, place: u64) -> Option<Span>
         ensures { IsHolding self.now place result }
     {
         let span = self.spans.last_by(place)?;
