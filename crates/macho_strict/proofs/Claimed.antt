@@ -1,5 +1,5 @@
 -- What one walk over the elements of an image finds.
-use Rattle.std.proofs.Common.{◌≡◌, ◌⊎◌, ℕ, ◌+◌, ◌-◌, ◌<◌, min, true, List, [], ◌∷◌, ◌++◌, map, Option, None, Some, Result, Ok, Err, OnErr, refl, sym, ap, ◌∙◌, subst, arith, inl, inr}
+use Rattle.std.proofs.Common.{◌≡◌, ◌⊎◌, ℕ, ◌+◌, ◌-◌, ◌^◌, ◌<◌, min, true, List, [], ◌∷◌, ◌++◌, length, map, Option, None, Some, Result, Ok, Err, OnErr, refl, sym, ap, ◌∙◌, subst, arith, inl, inr}
 use Rattle.std.proofs.lemmas.Bool.{cases_lt}
 use Rattle.std.proofs.lemmas.List.{get_or-map, map_push}
 use Rattle.macho_spans.specs.Overlap.{span_at}
@@ -60,7 +60,10 @@ module _ (elements : List Element) (x : Element) where
   pub noted_empty : (image : List ℕ) (held : Noted) → x.span.len ≡ 0 → AreNoted image elements held → AreNoted image (elements ++ x ∷ []) held
   noted_empty image (noted.Listed list) empty are = listed_still list.spans empty are
   noted_empty image noted.Unlisted empty are = tt
-  noted_empty image (noted.Passed gaps) empty are = passed_more image gaps (passed_empty wanted.NonZero image (map span_of elements) x.span gaps are empty)
+  noted_empty image (noted.Passed counted) empty (are, count) = (
+    passed_more image counted.gaps (passed_empty wanted.NonZero image (map span_of elements) x.span counted.gaps are empty),
+    count ∙ ap (λ (spans : List Span). min (length spans) (2 ^ 64 - 1)) (sym (without_place elements x empty)),
+  )
 
 -- All elements of an image were passed
 

@@ -1,9 +1,9 @@
 -- Spans that were passed sorted by their starts, or in their own order.
-use Rattle.std.proofs.Common.{◌≡◌, ℕ, true, List, Option, None, Some, refl, subst}
+use Rattle.std.proofs.Common.{◌≡◌, ℕ, true, false, List, Option, None, Some, refl, sym, ◌∙◌, subst}
 use Rattle.std.specs.List.Sorted.{IsNonDecreasingBy}
 use Rattle.std.specs.Prelude.{IsPermutation, IsSome}
-use Rattle.std.proofs.lemmas.Bool.{false≢true}
-use Rattle.macho_spans.specs.Overlap.{sorted_spans}
+use Rattle.std.proofs.lemmas.Bool.{false≢true, true≢false}
+use Rattle.macho_spans.specs.Overlap.{sorted_spans, IsAscending}
 use Rattle.macho_spans.specs.declared.overlap.Numbered.{Numbered}
 use Rattle.macho_spans.specs.declared.span.Span.{Span}
 use Rattle.macho_strict.specs.Gaps.{ArePassed}
@@ -39,6 +39,10 @@ module _ (image : List ℕ) (spans : List Span) (gaps : Gaps) where
   pub ascending_sorted : (sorted : Option (List Numbered)) → ArePassedBy image spans gaps sorted → gaps.ascend ≡ true → IsByStart spans sorted
   ascending_sorted None passed up = ascending_by_start spans (passed.ascending.0 up)
   ascending_sorted (Some items) passed up = passed.0
+
+  -- where they do not, the spans in their own order do not either
+  pub not_ascending : (sorted : Option (List Numbered)) → ArePassedBy image spans gaps sorted → gaps.ascend ≡ false → ¬ IsAscending spans
+  not_ascending sorted passed none up = let are = passed_for sorted passed in true≢false (sym (are.passed.ascending.1 (are.ascend up)) ∙ none)
 
   -- and where they were sorted
   pub some_sorted : (sorted : Option (List Numbered)) → ArePassedBy image spans gaps sorted → IsSome sorted → IsByStart spans sorted

@@ -5,7 +5,7 @@ ghost use Rattle.std.specs.Prelude.{◌≡◌, ◌≤◌, ◌+◌, ◌*◌, ◌�
 ghost use Rattle.macho_fields.specs.Bytes.{bytes_of};
 ghost use Rattle.macho_fields.specs.FirstPlace.{IsLeastPlace};
 ghost use Rattle.macho_strict.specs.Claims.{least_option};
-ghost use Rattle.macho_strict.specs.Passed.{ArePassedFor};
+ghost use Rattle.macho_strict.specs.Passed.{ArePassedBy, ArePassedFor};
 ghost use Rattle.macho_strict.specs.Rules.{EndsPast, SomeElementEndsPast};
 ghost use Rattle.macho_strict.specs.Sharing.{IsFirstSharing, tagged_elements};
 ghost use Rattle.macho_strict.specs.Verdict.{element_spans};
@@ -14,7 +14,7 @@ use crate::by_start::{Passed, occupied_list, pass_sorted};
 use crate::elements::{Element, Elements, Tables, contents, headers, relocations, tables_of};
 use crate::gaps::{Gaps, Wanted, stray_in};
 use crate::overlap::{count_of, gaps_between, span_list};
-use macho_fields::{Bytes, SpanList, SpansByStart, Structure};
+use macho_fields::{Bytes, Span, SpanList, SpansByStart, Structure};
 use macho_image::{Command, Image, Sections, Segment};
 use std::alloc::{AllocError, Global};
 
@@ -33,11 +33,46 @@ pub(crate) enum Noted<'a> {
     // Nothing, if there was no memory to list them.
     Unlisted,
     // What lies between them, if they are many.
-    Passed(Gaps<'a>),
+    Passed(CountedGaps<'a>),
+}
+
+// What lies between elements, and how many of them have bytes.
+#[derive(Clone, Copy)]
+pub(crate) struct CountedGaps<'a> {
+    gaps: Gaps<'a>,
+    // The largest `usize` where there are more.
+    count: usize,
+}
+
+impl<'a> CountedGaps<'a> {
+    ghost use Rattle.std.specs.Prelude.{◌++◌, ◌∷◌, [], ◌<◌, List, ℕ};
+    ghost use Rattle.macho_fields.specs.Bytes.{bytes_of};
+    ghost use Rattle.macho_spans.specs.declared.span.Span.{Span};
+    ghost use Rattle.macho_strict.specs.Claims.{AreCounted};
+
+    // No element was passed, of an image that has these bytes.
+    fn new(bytes: Bytes<'a>) -> CountedGaps<'a>
+        ensures { AreCounted (bytes_of bytes.entry) [] result }
+    {
+        CountedGaps {
+            gaps: Gaps::new(bytes, Wanted::NonZero),
+            count: 0,
+        }
+    }
+
+    // Passes the bytes of one more element, which has some.
+    fn pass(&mut self, span: Span)
+        requires { 0 < span.len }
+        ensures { (image : List ℕ) (spans : List Span) → AreCounted image spans self.old
+            → AreCounted image (spans ++ span ∷ []) self.new }
+    {
+        self.gaps.pass(span);
+        self.count = self.count.saturating_add(1);
+    }
 }
 
 impl<'a> Noted<'a> {
-    ghost use Rattle.std.specs.Prelude.{◌≡◌, ◌<◌, ◌∷◌, ◌++◌, [], List, ℕ};
+    ghost use Rattle.std.specs.Prelude.{◌≡◌, ◌<◌, ◌≤◌, ◌∷◌, ◌++◌, [], List, ℕ, length, map, IsSome, true};
     ghost use Rattle.macho_fields.specs.Bytes.{bytes_of};
     ghost use Rattle.macho_fields.specs.LoadCommands.{structure_of};
     ghost use Rattle.macho_image.specs.Command.{command_of};
@@ -45,7 +80,7 @@ impl<'a> Noted<'a> {
     ghost use Rattle.macho_strict.specs.Claims.{AreNoted};
     ghost use Rattle.macho_strict.specs.ElementWalk.{sections_left};
     ghost use Rattle.macho_strict.specs.Elements.{command_elements, elements_of, headers as headers_of};
-    ghost use Rattle.macho_strict.specs.Passed.{ArePassedBy};
+    ghost use Rattle.macho_strict.specs.Passed.{ArePassedBy, occupied};
     ghost use Rattle.macho_strict.specs.Verdict.{element_spans};
     ghost use Rattle.macho_strict.specs.declared.elements.Element.{Element};
 
@@ -63,7 +98,7 @@ impl<'a> Noted<'a> {
         ensures { AreNoted (bytes_of bytes.entry) [] result }
     {
         if !few {
-            return Noted::Passed(Gaps::new(bytes, Wanted::NonZero));
+            return Noted::Passed(CountedGaps::new(bytes));
         }
         match SpanList::with_capacity(alloc, ROOM) {
             Ok(list) => Noted::Listed(list),
@@ -134,7 +169,7 @@ impl<'a> Noted<'a> {
                 }
             }
             Noted::Unlisted => {}
-            Noted::Passed(gaps) => gaps.pass(element.span),
+            Noted::Passed(counted) => counted.pass(element.span),
         }
     }
 
@@ -142,7 +177,8 @@ impl<'a> Noted<'a> {
     // and otherwise all in their order.
     fn pass(self, image: &Image<'a>) -> Passed<'a>
         requires { AreNoted image.now (elements_of image.now) self }
-        ensures { ArePassedBy image.now (element_spans image.now) result.gaps result.sorted }
+        ensures passed { ArePassedBy image.now (element_spans image.now) result.gaps result.sorted }
+        ensures by_start { IsSome result.sorted → result.gaps.by_start ≡ true }
     {
         match self {
             Noted::Listed(list) => pass_sorted(image.bytes(), list),
@@ -150,7 +186,21 @@ impl<'a> Noted<'a> {
                 gaps: gaps_between(image.bytes(), Wanted::NonZero, Elements::of(image)),
                 sorted: None,
             },
-            Noted::Passed(gaps) => Passed { gaps, sorted: None },
+            Noted::Passed(counted) => Passed {
+                gaps: counted.gaps,
+                sorted: None,
+            },
+        }
+    }
+
+    // How many elements have bytes, as far as they were counted.
+    fn count(&self) -> usize
+        ensures { (image : List ℕ) (elements : List Element) → AreNoted image elements self.now
+            → result ≤ length (occupied (map (λ element. element.span) elements)) }
+    {
+        match self {
+            Noted::Listed(_) | Noted::Unlisted => 0,
+            Noted::Passed(counted) => counted.count,
         }
     }
 }
@@ -202,21 +252,25 @@ impl Claims {
         ensures claims { IfOk result (AreClaims image.now) }
         ensures memory { OnErr result (¬ IsAscending (element_spans image.now)) }
     {
+        let count = noted.count();
         let passed = noted.pass(image);
         if passed.gaps.ascend() {
             return Ok(Claims::new(image, passed, None));
         }
-        Claims::sorting(alloc, image)
+        if passed.sorted.is_some() {
+            return Claims::of_sorted(alloc, image, passed);
+        }
+        Claims::of_sorted(alloc, image, sorted_elements(alloc, image, count)?)
     }
 
-    // The claims of the elements of the image, which are sorted.
-    fn sorting(alloc: Global, image: &Image) -> Result<Claims, AllocError>
-        requires { IsOpened image.now }
+    // The claims of elements that were passed by their starts. It needs memory only if some share a byte.
+    fn of_sorted(alloc: Global, image: &Image, passed: Passed) -> Result<Claims, AllocError>
+        requires opened { IsOpened image.now }
+        requires passed { ArePassedBy image.now (element_spans image.now) passed.gaps passed.sorted }
+        requires by_start { passed.gaps.by_start ≡ true }
+        requires sorted { IsSome passed.sorted }
         ensures { IfOk result (AreClaims image.now) }
     {
-        let count = count_of(Elements::of(image));
-        let list = occupied_list(alloc, count, Elements::of(image))?;
-        let passed = pass_sorted(image.bytes(), list);
         let shared = if passed.gaps.ascend() {
             None
         } else {
@@ -252,6 +306,22 @@ impl Claims {
             None => gaps_between(image.bytes(), wanted, Elements::of(image)).stray(),
         }
     }
+}
+
+// Passes the elements of the image by their starts. The memory for `count` of those that have bytes is
+// allocated at once.
+fn sorted_elements<'a>(
+    alloc: Global,
+    image: &Image<'a>,
+    count: usize,
+) -> Result<Passed<'a>, AllocError>
+    ensures passed { IfOk result (λ passed.
+        ArePassedBy image.now (element_spans image.now) passed.gaps passed.sorted) }
+    ensures by_start { IfOk result (λ passed. passed.gaps.by_start ≡ true) }
+    ensures sorted { IfOk result (λ passed. IsSome passed.sorted) }
+{
+    let list = occupied_list(alloc, count, Elements::of(image))?;
+    Ok(pass_sorted(image.bytes(), list))
 }
 
 // Where the first element is described that ends past the image. The gaps are those between the
