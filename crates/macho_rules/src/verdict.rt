@@ -1,6 +1,6 @@
 //! The verdict on a file.
 
-ghost use Rattle.std.specs.Prelude.{◌≡◌, ◌+◌, ◌≤◌, ◌<◌, ◌^◌, ◌↔◌, OnOk, IfOk, IfErr, IfSome, IsSome, IsSomeAnd, IsTrue, length, slice_get, None};
+ghost use Rattle.std.specs.Prelude.{◌≡◌, ◌+◌, ◌≤◌, ◌<◌, ◌^◌, ◌↔◌, ◌⊎◌, OnOk, IfOk, IfErr, IfSome, IsSome, IsSomeAnd, IsTrue, length, slice_get, None};
 ghost use Rattle.std.specs.Option.{option_map};
 ghost use Rattle.macho_fields.specs.Bytes.{bytes_of};
 ghost use Rattle.macho_fields.specs.Field.{part};
@@ -34,7 +34,7 @@ struct Found {
 pub struct Verified<'a> {
     file: Bytes<'a>,
     slices: SliceList,
-    // What was found of the last image, which need not be scanned again.
+    // What was found of the image in the last slice, which need not be scanned again.
     found: Option<Found>,
 }
 
@@ -80,7 +80,7 @@ pub fn verify<'a>(alloc: Global, file: &'a [u8]) -> Result<Verified<'a>, Refusal
 }
 
 // Decides the rules of each 64-bit slice, one slice after the other. It returns what was found of the
-// last one.
+// image in the last slice, if there is one.
 fn check_slices(alloc: Global, file: Bytes, slices: &[Slice]) -> Result<Option<Found>, Refusal>
     requires slices { AreSlices (bytes_of file) slices.now }
     requires file_rules { NothingBreaks (BreaksFile (bytes_of file)) }
@@ -89,30 +89,34 @@ fn check_slices(alloc: Global, file: Bytes, slices: &[Slice]) -> Result<Option<F
     ensures refused { IfErr result (IsRefusal (bytes_of file.entry)) }
 {
     let mut found = None;
-    for slice in slices {
+    for index in 0..slices.len() {
+        let slice = &slices[index];
         if slice.read {
-            check_slice(alloc, file, slice, &mut found)?;
+            let keep = index + 1 == slices.len();
+            check_slice(alloc, file, slice, keep, &mut found)?;
         }
     }
     Ok(found)
 }
 
-// Decides the rules of one slice. What was found of its image is written in place, since a return would
-// copy it several times. The place of a break is its offset in the file.
+// Decides the rules of one slice. If what is found of its image is to be kept, it is written in place: a
+// return would copy it several times. The place of a break is its offset in the file.
 fn check_slice(
     alloc: Global,
     file: Bytes,
     slice: &Slice,
+    keep: bool,
     found: &mut Option<Found>,
 ) -> Result<(), Refusal>
     requires { (slice_of slice.now).start + (slice_of slice.now).size ≤ length (bytes_of file) }
     ensures unbroken { OnOk result (NothingBreaks
         (BreaksImage (slice_bytes (bytes_of file.entry) (slice_of slice.now)) slice.now.arch)) }
-    ensures found { OnOk result (IfSome found.new (WasFound (bytes_of file.entry))) }
+    ensures found { OnOk result (IfSome found.old (WasFound (bytes_of file.entry))
+        → IfSome found.new (WasFound (bytes_of file.entry))) }
     ensures refused { IfErr result (IsSliceRefusal (bytes_of file.entry) (slice_of slice.now)) }
 {
     let bytes = file.slice(slice.span);
-    match check_bytes(alloc, bytes, slice, found) {
+    match check_bytes(alloc, bytes, slice, keep, found) {
         Ok(()) => Ok(()),
         Err(Refusal::Broken(broken)) => {
             let place = slice.span.start + broken.place;
@@ -122,24 +126,28 @@ fn check_slice(
     }
 }
 
-// Decides the rules of the image in a slice, which has these bytes, and writes what was found of it.
+// Decides the rules of the image in a slice, which has these bytes, and writes what was found of it, if
+// that is to be kept.
 fn check_bytes(
     alloc: Global,
     bytes: Bytes,
     slice: &Slice,
+    keep: bool,
     found: &mut Option<Found>,
 ) -> Result<(), Refusal>
     ensures unbroken { OnOk result (NothingBreaks (BreaksImage (bytes_of bytes.entry) slice.now.arch)) }
-    ensures landmarks { OnOk result (IfSome found.new (λ found.
+    ensures landmarks { OnOk result ((found.new ≡ found.old) ⊎ IfSome found.new (λ found.
         (found.span ≡ slice.now.span) × HasLandmarks (bytes_of bytes.entry) found.landmarks)) }
     ensures refused { IfErr result (IsImageRefusal (bytes_of bytes.entry) slice.now.arch) }
 {
     let image = Image::open(bytes, slice.arch)?;
     check_image(alloc, &image)?;
-    *found = Some(Found {
-        span: slice.span,
-        landmarks: image.landmarks(),
-    });
+    if keep {
+        *found = Some(Found {
+            span: slice.span,
+            landmarks: image.landmarks(),
+        });
+    }
     Ok(())
 }
 
@@ -174,7 +182,7 @@ impl<'a> Verified<'a> {
     }
 
     /// The image in the slice with this index, or `None` if the slice is of another kind, or there
-    /// is none. It judges nothing. It rescans the commands of the image, unless this is the last one.
+    /// is none. It judges nothing. It rescans the commands of the image, unless its slice is the last one.
     pub fn image(&self, index: u64) -> Option<Image<'a>>
         ensures is_image { IsSome result ↔ HasImage self.now index }
         ensures image { IfSome result (λ image. IsSomeAnd (slice_get (slices_of self.now) index)

@@ -1,4 +1,4 @@
-use Rattle.std.proofs.Common.{List, ℕ, None, refl, subst}
+use Rattle.std.proofs.Common.{List, ℕ, None, refl, subst, inr}
 use Rattle.macho_fields.specs.Bytes.{bytes_of}
 use Rattle.macho_fields.specs.Layers.{NothingBreaks}
 use Rattle.macho_fields.specs.Rules.{BreaksImage}
@@ -19,10 +19,15 @@ returns-in_err-check_image-clause-refused c =
     (opened_refused (bytes_of c.args.bytes) c.args.slice.now.arch c.in_ok-image.ensures.decides c.in_err-check_image.field-0.0
     (subst (λ (image : List ℕ). IsImageRefusal image None c.in_err-check_image.field-0.0) c.in_ok-image.ensures.image c.in_err-check_image.ensures.refused))
 
-pub returns-clause-unbroken : goal.returns-clause-unbroken
-returns-clause-unbroken c =
+pub returns-then-keep-clause-unbroken : goal.returns-then-keep-clause-unbroken
+returns-then-keep-clause-unbroken c =
     opened_unbroken (bytes_of c.args.bytes) c.args.slice.now.arch c.in_ok-image.ensures.decides
     (subst (λ (image : List ℕ). NothingBreaks (BreaksImage image None)) c.in_ok-image.ensures.image c.in_ok-check_image.ensures.unbroken)
 
-pub returns-clause-landmarks : goal.returns-clause-landmarks
-returns-clause-landmarks c = (refl, subst (λ (image : List ℕ). HasLandmarks image c.landmarks.result) c.in_ok-image.ensures.image c.landmarks.ensures)
+pub returns-else-keep-clause-unbroken : goal.returns-else-keep-clause-unbroken
+returns-else-keep-clause-unbroken c =
+    opened_unbroken (bytes_of c.args.bytes) c.args.slice.now.arch c.in_ok-image.ensures.decides
+    (subst (λ (image : List ℕ). NothingBreaks (BreaksImage image None)) c.in_ok-image.ensures.image c.in_ok-check_image.ensures.unbroken)
+
+pub returns-then-keep-clause-landmarks : goal.returns-then-keep-clause-landmarks
+returns-then-keep-clause-landmarks c = inr (refl, subst (λ (image : List ℕ). HasLandmarks image c.landmarks.result) c.in_ok-image.ensures.image c.landmarks.ensures)

@@ -10,39 +10,39 @@ use Rattle.macho_rules.proofs.Verdicts.{no_slice, slice_at, slice_refused, answe
 use Rattle.macho_rules.proofs.verdict.check_slices.Goals as goal
 use Rattle.macho_rules.proofs.verdict.check_slices.Goals.{then-slice+in_ok-check_slice, else-slice}
 
-pub loop-slice-init : goal.loop-slice-init
-loop-slice-init c = (file_kept (bytes_of c.args.file) c.requires.file_rules, tt)
+pub loop-index-init : goal.loop-index-init
+loop-index-init c = (file_kept (bytes_of c.args.file) c.requires.file_rules, tt)
 
 pub check_slice-requires : goal.check_slice-requires
 check_slice-requires c =
     let file = bytes_of c.args.file in
-    let here = slice_at file c.args.slices.now c.requires.slices c.loop-slice.slice-index no_slice c.loop-slice-test.true in
-    slice_inside file c.requires.file_rules c.loop-slice.slice-index _ here
+    let here = slice_at file c.args.slices.now c.requires.slices c.loop-index.index no_slice c.loop-index-test.true in
+    slice_inside file c.requires.file_rules c.loop-index.index _ here
 
 pub returns-in_err-check_slice-clause-refused : goal.returns-in_err-check_slice-clause-refused
 returns-in_err-check_slice-clause-refused c =
     let file = bytes_of c.args.file in
-    let here = slice_at file c.args.slices.now c.requires.slices c.loop-slice.slice-index no_slice c.loop-slice-test.true in
-    let image = (c.requires.slices.read c.loop-slice.slice-index no_slice c.loop-slice-test.true).0 c.if-slice.true in
+    let here = slice_at file c.args.slices.now c.requires.slices c.loop-index.index no_slice c.loop-index-test.true in
+    let image = (c.requires.slices.read c.loop-index.index no_slice c.loop-index-test.true).0 c.if-slice.true in
     let exit = err_from_is_err_and c.from_residual.result c.from_residual.ensures.1 in
     answered (IsRefusal file) c.from_residual.result exit.0 c.in_err-check_slice.field-0.0 exit.1 exit.2
-    (slice_refused file c.loop-slice.slice-index _ here c.loop-slice.invariant.0 image c.in_err-check_slice.field-0.0 c.in_err-check_slice.ensures.refused)
+    (slice_refused file c.loop-index.index _ here c.loop-index.invariant.0 image c.in_err-check_slice.field-0.0 c.in_err-check_slice.ensures.refused)
 
-pub loop-slice-preserved : goal.loop-slice-preserved
-loop-slice-preserved c =
+pub loop-index-preserved : goal.loop-index-preserved
+loop-index-preserved c =
     let file = bytes_of c.args.file in
-    let here = slice_at file c.args.slices.now c.requires.slices c.loop-slice.slice-index no_slice c.loop-slice-test.true in
-    let read = c.requires.slices.read c.loop-slice.slice-index no_slice c.loop-slice-test.true in
+    let here = slice_at file c.args.slices.now c.requires.slices c.loop-index.index no_slice c.loop-index-test.true in
+    let read = c.requires.slices.read c.loop-index.index no_slice c.loop-index-test.true in
     elim c.if-slice.branch [
-      | then-slice+in_ok-check_slice w ↦ rw w.found-is (image_kept file c.loop-slice.slice-index _ here c.loop-slice.invariant.0 w.in_ok-check_slice.ensures.unbroken, w.in_ok-check_slice.ensures.found)
-      | else-slice w ↦ rw w.found-is (other_kept file c.loop-slice.slice-index _ here c.loop-slice.invariant.0 (λ image. both_ways _ w.if-slice.false (read.1 image)), c.loop-slice.invariant.1)
+      | then-slice+in_ok-check_slice w ↦ rw w.found-is (image_kept file c.loop-index.index _ here c.loop-index.invariant.0 w.in_ok-check_slice.ensures.unbroken, w.in_ok-check_slice.ensures.found c.loop-index.invariant.1)
+      | else-slice w ↦ rw w.found-is (other_kept file c.loop-index.index _ here c.loop-index.invariant.0 (λ image. both_ways _ w.if-slice.false (read.1 image)), c.loop-index.invariant.1)
     ]
 
 pub returns-clause-unbroken : goal.returns-clause-unbroken
 returns-clause-unbroken c =
     let file = bytes_of c.args.file in
     let counted : length c.args.slices.now ≡ length (slices_of file) = slices_counted file c.args.slices.now c.requires.slices in
-    all_kept file c.loop-slice.slice-index (omega (arith, counted)) c.loop-slice.invariant.0
+    all_kept file c.loop-index.index (omega (arith, counted)) c.loop-index.invariant.0
 
 pub returns-clause-found : goal.returns-clause-found
-returns-clause-found c = c.loop-slice.invariant.1
+returns-clause-found c = c.loop-index.invariant.1
