@@ -1,33 +1,27 @@
 -- The plain dyld follows the opcodes of the file, and writes nothing that it reads.
-use Rattle.std.proofs.Common.{◌≡◌, ℕ, suc, zero, ◌+◌, ◌-◌, ◌≤◌, ◌<◌, List, [], ◌∷◌, ◌++◌, length, take, drop, get_or, slice_get, Any, Contains, Option, Some, None, Bool, true, refl, sym, ap, ◌∙◌, subst, arith, inl, inr, length-append}
-use Rattle.std.specs.Prelude.{slice_index, not, nat_lt}
-use Rattle.std.proofs.lemmas.Bool.{cases_lt, cases_eq, false≢true, ltb-true, and_parts}
-use Rattle.std.proofs.lemmas.List.{ext_get_or, get_or-take, get_or-drop, length-take, length-take-le, take-append-drop}
+use Rattle.std.proofs.Common.{◌≡◌, ℕ, suc, zero, ◌+◌, ◌≤◌, ◌<◌, List, [], ◌∷◌, ◌++◌, length, take, drop, get_or, slice_get, Contains, Option, Some, None, true, refl, sym, ap, ◌∙◌, subst, arith, inl, inr, length-append}
+use Rattle.std.proofs.lemmas.Bool.{cases_lt}
+use Rattle.std.proofs.lemmas.List.{ext_get_or, get_or-take, length-take-le, take-append-drop}
 use Rattle.std.proofs.lemmas.List.FromFn.{get_or-map-range_with_len, length-map-range_with_len}
 use Rattle.std.proofs.lemmas.List.Sums.{fold_push}
-use Rattle.std.proofs.lemmas.Option.{slice_get_within, get_or_from_slice_get}
 use Rattle.macho_fields.specs.Field.{part}
 use Rattle.macho_fields.specs.First.{IsUnbroken}
 use Rattle.macho_fields.specs.Image.{command_cmd, commands_of}
 use Rattle.macho_fields.specs.Layers.{NothingBreaks}
 use Rattle.macho_fields.specs.Rules as layout
-use Rattle.macho_fields.specs.Segment.{all_segments, vmaddr, vmsize, fileoff, filesize, Supplies}
+use Rattle.macho_fields.specs.Segment.{all_segments, vmaddr, vmsize, filesize}
 use Rattle.macho_fields.specs.Symbol.{table_at, tables_of}
-use Rattle.macho_fields.specs.declared.rule.Rule.TheVariants as rule
 use Rattle.macho_fields.proofs.Options.{some_of, of_some}
 use Rattle.macho_linked.specs.Kinds.{names_linked_data}
 use Rattle.macho_image.proofs.ReadParts.{length-part}
-use Rattle.macho_rules.proofs.Judged.{opened_commands}
-use Rattle.macho_rules.proofs.Searches.{mapped_has, any_of, one_of}
-use Rattle.macho_rules.proofs.Verdicts.{unbroken_opened, unbroken_image_sound}
-use Rattle.macho_spans.specs.Span.{Covers, Shares}
+use Rattle.macho_rules.proofs.Searches.{mapped_has}
+use Rattle.macho_spans.specs.Span.{Covers}
 use Rattle.macho_linked.specs.Cursor.{start, moved, cursor_after, writes}
 use Rattle.macho_linked.specs.Dyld.{State, bytes_from, Takes, IsLast, slot, Moves, Reaches, IsKept, IsAt, IsSafe, IsFollowedSafely, AreFollowedSafely}
 use Rattle.macho_linked.specs.Harmless.{all_streams, streams_of, IsStream, WritesAt, IsHarmless}
-use Rattle.macho_linked.specs.Homes.{bytes_of_table, Encrypts, IsHome, IsAstray, HasHome, IsHomeless}
 use Rattle.macho_linked.specs.Images.{dyld_info, opcodes_of, fields_of}
 use Rattle.macho_linked.specs.Rules.{BreaksImage, IsLinkedUnbroken}
-use Rattle.macho_linked.specs.Segments.{is_writable, is_constant, IsLinkedit}
+use Rattle.macho_linked.specs.Segments.{is_writable, is_constant}
 use Rattle.macho_linked.specs.Steps.{step_at, AreStepsFrom, AreSteps}
 use Rattle.macho_linked.specs.declared.cursor.Cursor.{Cursor}
 use Rattle.macho_linked.specs.declared.step.Opcodes.{Opcodes}
@@ -35,6 +29,7 @@ use Rattle.macho_linked.specs.declared.step.Step.{Step}
 use Rattle.macho_linked.specs.declared.step.Step.TheVariants as step
 use Rattle.macho_linked.specs.declared.streams.Stream.{Stream}
 use Rattle.macho_linked.proofs.Harmless.{harmless_image, of_images}
+use Rattle.macho_linked.proofs.Memory.{segment_among, never_constant, same_in_memory}
 use Rattle.macho_linked.proofs.Prefixes.{step_same}
 use Rattle.macho_linked.proofs.StepChains.{steps_more, steps_on}
 use Rattle.macho_linked.proofs.TableSurveys.{info_has, stream_named, stream_inside}
@@ -73,30 +68,10 @@ step_agrees of xs ys agree place r s is also not_last =
       | inr more ↦ one_read (step_at of ys place) r s (longer of xs ys agree place r more is not_last) also
     ]
 
--- the byte with an offset in a part of the image
-part_at : (image : List ℕ) (start size k : ℕ) → k < size → get_or (part start size image) k 0 ≡ get_or image (start + k) 0
-part_at image start size k less = get_or-take size (drop start image) k 0 less ∙ get_or-drop start image k 0
-
 -- The image
 module _ (image : List ℕ) (kept : NothingBreaks (BreaksImage image)) (unbroken : NothingBreaks (layout.BreaksImage image None)) where
   harmless : IsHarmless image
   harmless = harmless_image image kept unbroken
-
-  -- a mapped segment has no more bytes in the file than addresses
-  file_in_memory : (s : ℕ) → Contains (all_segments image) s → 0 < vmsize image s → filesize image s ≤ vmsize image s
-  file_in_memory s has mapped = elim (cases_lt (vmsize image s) (filesize image s)) [
-    | inl past ↦
-        absurd (unbroken rule.SegmentSize s (inr (commands_of image, opened_commands image (unbroken_opened image unbroken), (has, (mapped, past)))))
-    | inr fits ↦ fits
-  ]
-
-  writable_mapped : (s : ℕ) → is_writable image s ≡ true → 0 < vmsize image s
-  writable_mapped s can = let (mapped, some) = and_parts (nat_lt 0 (vmsize image s)) _ can in ltb-true 0 (vmsize image s) mapped
-
-  never_both : (s : ℕ) → is_writable image s ≡ true → is_constant image s ≡ true → ⊥
-  never_both s can constant =
-      let (readable, cannot) = and_parts _ (not (is_writable image s)) constant in
-      false≢true (subst (λ (b : Bool). not b ≡ true) can cannot)
 
   -- the command that names the streams names linked data
   info_names : (command : ℕ) → dyld_info image ≡ Some command → Contains (commands_of image) command × (names_linked_data (command_cmd image command) ≡ true)
@@ -131,52 +106,13 @@ module _ (image : List ℕ) (kept : NothingBreaks (BreaksImage image)) (unbroken
     sized : 0 < table.1 → length stream ≡ table.1
     sized some = let (command, info, (has, inside)) = found in length-part table.0 table.1 image (inside some)
 
-    short : (k : ℕ) → k < length stream → k < table.1
-    short k less =
-        let count = length-take table.1 (drop table.0 image) in omega (arith, count, less)
-
     -- what is in memory where the loader reads the stream
     module _ (memory : ℕ → ℕ) (still : IsKept image memory) where
-      byte_at : (k : ℕ) → k < length stream → (l : ℕ) → Contains (all_segments image) l → (home + fileoff image l ≡ vmaddr image l + table.0) → IsHome (bytes_of_table table) image l
-          → (¬ Any (Encrypts (bytes_of_table table) image) (commands_of image)) → memory (home + k) ≡ get_or stream k 0
-      byte_at k less l has at (mapped, constant, plain, (low, high)) not_encrypted =
-          let near = short k less in
-          let j = table.0 + k - fileoff image l in
-          let inside : table.0 + k - fileoff image l < filesize image l = omega (arith, low, high, near) in
-          let address : home + k ≡ vmaddr image l + (table.0 + k - fileoff image l) = omega (arith, at, low, near) in
-          let place : fileoff image l + (table.0 + k - fileoff image l) ≡ table.0 + k = omega (arith, low, near) in
-          ap memory address
-          ∙ (still l (table.0 + k - fileoff image l) has mapped constant plain inside (λ any. not_encrypted (wider any))
-          ∙ (ap (slice_index image) place ∙ sym (part_at image table.0 table.1 k near)))
-        where
-          wider : Any (Encrypts (record { start = fileoff image l + (table.0 + k - fileoff image l); len = 1 }) image) (commands_of image) → Any (Encrypts (bytes_of_table table) image) (commands_of image)
-          wider any =
-              let near = short k less in
-              let (c, listed, (cmd, ranges)) = one_of (Encrypts (record { start = fileoff image l + (table.0 + k - fileoff image l); len = 1 }) image) (commands_of image) any in
-              let (range, bounds, (spot, in_range, (from, to))) =
-              one_of (λ r. Shares (bytes_of_table r) (record { start = fileoff image l + (table.0 + k - fileoff image l); len = 1 })) (tables_of image c) ranges in
-              any_of (Encrypts (bytes_of_table table) image) (commands_of image) c listed (
-                cmd,
-                any_of (λ r. Shares (bytes_of_table r) (bytes_of_table table)) (tables_of image c) range bounds (spot, in_range, (omega (arith, from, to, low, near), omega (arith, from, to, low, near))),
-              )
-
-      same_in_memory : (k : ℕ) → k < length stream → memory (home + k) ≡ get_or stream k 0
-      same_in_memory k less = elim (cases_eq (memory (home + k)) (get_or stream k 0)) [
-        | inl same ↦ same
-        | inr apart ↦ absurd (no_home (λ home_is. lost apart home_is))
-      ]
-        where
-          no_home : ¬ ¬ HasHome (bytes_of_table table) image
-          no_home none =
-              let (command, info, (has, inside)) = found in
-              let (listed, names) = info_names command info in
-              let near = short k less in
-              kept rule.TableHome command (listed, (names, any_of (IsHomeless image) (tables_of image command) table has (omega (arith, near), none)))
-
-          lost : ¬ (memory (home + k) ≡ get_or stream k 0) → HasHome (bytes_of_table table) image → ⊥
-          lost apart home_is =
-              let (l, has, (linkedit, at)) = one_of (λ s. IsLinkedit image s × (home + fileoff image s ≡ vmaddr image s + table.0)) (all_segments image) is_at.found in
-              home_is.1 (any_of (IsAstray (bytes_of_table table) image) (all_segments image) l has (linkedit, λ here. apart (byte_at k less l has at here home_is.2)))
+      stream_same : (k : ℕ) → k < length stream → memory (home + k) ≡ get_or stream k 0
+      stream_same k less =
+          let (command, info, (has, inside)) = found in
+          let (listed, names) = info_names command info in
+          same_in_memory image kept command listed names table has home is_at.found memory still k less
 
       -- the opcode that the loader takes is that of the file
       opcode_there : (place : ℕ) (before : List Step) → AreSteps of stream before place → place < length stream → (r : Step × ℕ) × (step_at of stream place ≡ Some r)
@@ -194,8 +130,8 @@ module _ (image : List ℕ) (kept : NothingBreaks (BreaksImage image)) (unbroken
       takes_same place before chain less said after (n, takes) not_last =
           let (r, at) = opcode_there place before chain less in
           let agree = λ (k : ℕ) (in_x : k < length stream) (in_y : k < length (bytes_from memory home n)).
-          sym (same_in_memory k in_x) ∙ sym (get_or-map-range_with_len memory home n k (home + k) 0 (subst (λ (size : ℕ). k < size) (length-map-range_with_len memory home n) in_y) refl) in
-          let same = step_agrees of stream (bytes_from memory home n) agree place r (said, after) at takes (λ last. not_last (subst (IsLast of) (sym (same_in_memory place less)) last)) in
+          sym (stream_same k in_x) ∙ sym (get_or-map-range_with_len memory home n k (home + k) 0 (subst (λ (size : ℕ). k < size) (length-map-range_with_len memory home n) in_y) refl) in
+          let same = step_agrees of stream (bytes_from memory home n) agree place r (said, after) at takes (λ last. not_last (subst (IsLast of) (sym (stream_same place less)) last)) in
           at ∙ ap Some same
 
     -- a pointer that a step writes
@@ -248,14 +184,7 @@ module _ (image : List ℕ) (kept : NothingBreaks (BreaksImage image)) (unbroken
         never_written steps chain is at s k has mapped constant below j few written =
             let points = subst (λ (c : Cursor). Points c said j) (sym is) (pointer_there a.place steps chain said b.place j at few) in
             let (segment, w, set, there, can, inside) = points in
-            let (low, high) = written segment w set there in
-            let among : Contains (all_segments image) w = (segment, slice_get_within (all_segments image) segment w there, get_or_from_slice_get (all_segments image) segment w w there) in
-            let fits_w = file_in_memory w among (writable_mapped w can) in
-            let fits_s = file_in_memory s has mapped in
-            let by_w : Supplies image w (vmaddr image s + k) = (omega (arith, low), omega (arith, high, inside, fits_w)) in
-            let by_s : Supplies image s (vmaddr image s + k) = (omega arith, omega (arith, below, fits_s)) in
-            let same = (unbroken_image_sound image unbroken).one_segment w s (vmaddr image s + k) among has by_w by_s in
-            never_both s (subst (λ (n : ℕ). is_writable image n ≡ true) same can) constant
+            never_constant image unbroken w (slot a.cursor said j) (segment_among image segment w there) can inside s k has mapped constant below (written segment w set there)
 
     reaches : (n m : ℕ) (a b : State) → Follows m a → Reaches image of home table.1 a n b → Follows (m + n) b
     reaches zero m a b good is = subst (λ (i : ℕ). Follows i b) (let same : m ≡ m + zero = omega arith in same) (subst (Follows m) is good)
@@ -267,7 +196,7 @@ module _ (image : List ℕ) (kept : NothingBreaks (BreaksImage image)) (unbroken
         let within = good.inside in record {
           ends = omega (arith, past, within);
           follows = good.before;
-          same = same_in_memory a.memory good.still;
+          same = stream_same a.memory good.still;
           kept = good.still;
           inside = λ said after less takes not_last.
               let (steps, count, chain, is) = good.before in

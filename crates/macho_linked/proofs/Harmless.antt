@@ -1,8 +1,8 @@
 -- An image that breaks no rule asks a loader for harmless writes alone.
-use Rattle.std.proofs.Common.{◌≡◌, ℕ, suc, zero, ◌+◌, ◌-◌, ◌≤◌, ◌<◌, List, [], ◌∷◌, ◌++◌, length, get_or, slice_get, All, Contains, Option, Some, None, Bool, true, refl, sym, ◌∙◌, subst, arith, inl, inr}
-use Rattle.std.specs.Prelude.{slice_index, not}
+use Rattle.std.proofs.Common.{◌≡◌, ℕ, suc, zero, ◌+◌, ◌-◌, ◌≤◌, ◌<◌, List, [], ◌∷◌, ◌++◌, length, get_or, slice_get, All, Contains, Option, Some, None, true, refl, sym, ◌∙◌, subst, arith, inl, inr}
+use Rattle.std.specs.Prelude.{slice_index}
 use Rattle.std.proofs.Math.Nat.{mul-le-mul_right}
-use Rattle.std.proofs.lemmas.Bool.{cases_Bool, cases_lt, cases_eq, false≢true, and_parts}
+use Rattle.std.proofs.lemmas.Bool.{cases_Bool, cases_lt, cases_eq}
 use Rattle.std.proofs.lemmas.List.{get_or-map, get_or_past, length-map, append-nil, append_assoc}
 use Rattle.std.proofs.lemmas.List.Sums.{sum_by-append, sum_by-cons}
 use Rattle.std.proofs.lemmas.Option.{slice_get-get_or}
@@ -21,7 +21,6 @@ use Rattle.macho_rules.proofs.Searches.{mapped_has}
 use Rattle.macho_rules.proofs.Verdicts.{unbroken_image_sound}
 use Rattle.macho_linked.specs.Cursor.{cursor_after, writes}
 use Rattle.macho_linked.specs.Harmless.{all_streams, streams_of, IsStream, SaysAt, IsSlot, IsHarmless, AreHarmless}
-use Rattle.macho_linked.specs.Homes.{IsHome}
 use Rattle.macho_linked.specs.Images.{dyld_info, Undecoded, NoLibrary, NoName, NoSlot, TooMany, InTable, InStream, InRebases, InBinds, InBindsOf, opcodes_of, fields_of}
 use Rattle.macho_linked.specs.Limits.{room, rooms_of, budget_of, library_count}
 use Rattle.macho_linked.specs.Rules.{BreaksFile, BreaksSlice, BreaksImage, IsLinkedUnbroken}
@@ -35,6 +34,7 @@ use Rattle.macho_linked.specs.declared.step.Step.TheVariants as step
 use Rattle.macho_linked.specs.declared.streams.Stream.{Stream}
 use Rattle.macho_linked.specs.declared.streams.Stream.TheVariants as streams
 use Rattle.macho_spans.specs.declared.span.Span.{Span}
+use Rattle.macho_linked.proofs.Memory.{never_both}
 use Rattle.macho_linked.proofs.StepChains.{steps_more}
 use Rattle.macho_linked.proofs.Within.{step_within}
 
@@ -188,12 +188,6 @@ module _ (image : List ℕ) (kept : NothingBreaks (BreaksImage image)) where
           ]
         ]
 
-  -- a segment that can be written is no home
-  no_home : (s : ℕ) (table : Span) → is_writable image s ≡ true → IsHome table image s → ⊥
-  no_home s table can home =
-      let (readable, cannot) = and_parts _ (not (is_writable image s)) home.1 in
-      false≢true (subst (λ (b : Bool). not b ≡ true) can cannot)
-
   pub harmless_image : NothingBreaks (layout.BreaksImage image None) → IsHarmless image
   harmless_image unbroken = record {
     decoded = λ of stream are. decode of stream are (length stream) 0 [] refl (omega arith) (omega arith);
@@ -205,7 +199,7 @@ module _ (image : List ℕ) (kept : NothingBreaks (BreaksImage image)) where
     apart = λ s home address table has there can is_home here also.
         let sound = unbroken_image_sound image unbroken in
         let same = sound.one_segment s home address has there here also in
-        no_home home table (subst (λ (n : ℕ). is_writable image n ≡ true) same can) is_home;
+        never_both image home (subst (λ (n : ℕ). is_writable image n ≡ true) same can) is_home.1;
   }
 
 -- what holds of each image that breaks no rule holds of the images of such a file
