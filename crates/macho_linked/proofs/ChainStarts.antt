@@ -1,31 +1,20 @@
 -- The starts of the segments, one after the other.
-use Rattle.std.proofs.Common.{◌≡◌, ◌≢◌, ℕ, zero, suc, ◌+◌, ◌≤◌, ◌<◌, List, [], ◌∷◌, ◌++◌, length, map, get_or, slice_get, Option, Some, None, refl, sym, ap, ◌∙◌, subst, arith, add-one, length-append, inl, inr}
+use Rattle.std.proofs.Common.{◌≡◌, ◌≢◌, ℕ, suc, ◌+◌, ◌≤◌, ◌<◌, List, [], ◌∷◌, length, map, get_or, Option, Some, None, refl, sym, subst, arith, add-one, inl, inr}
 use Rattle.std.specs.Prelude.{IfSome, IsSomeAnd}
-use Rattle.std.proofs.lemmas.Bool.{cases_lt, eq-eqb, ne_eqb}
-use Rattle.std.proofs.lemmas.List.{length-map}
-use Rattle.std.proofs.lemmas.Option.{same_Some}
+use Rattle.std.proofs.lemmas.Bool.{cases_lt, eq-eqb}
 use Rattle.macho_fields.specs.Image.{commands_of}
 use Rattle.macho_fields.specs.Segment.{all_segments, base_of}
 use Rattle.macho_image.specs.Segment.{SegmentView, segment_at}
-use Rattle.macho_rules.proofs.Surveys.{walked, walked_on, walked_all}
-use Rattle.macho_linked.specs.ChainStarts.{segment_starts, seg_info_offset, starts_of, starts_end, StartsEndBy, IsReach, AreOf, HasBadStarts, HasBadEntries}
+use Rattle.macho_linked.specs.ChainStarts.{seg_info_offset, starts_of, starts_end, StartsEndBy, IsReach, AreOf, HasBadStarts, HasBadEntries}
 use Rattle.macho_linked.specs.Items.{IsFirstItem}
 use Rattle.macho_linked.specs.declared.chain_header.ChainHeader.{ChainHeader}
 use Rattle.macho_linked.specs.declared.chain_starts.SegmentStarts.{SegmentStarts}
+use Rattle.macho_linked.proofs.SegmentWalks.{ArePassed, passed_none, passed_more, passed_all}
 
 module _ (chains : List ℕ) (header : ChainHeader) where
   -- those that an entry names
   pub starts_unnamed : (k : ℕ) → seg_info_offset chains header k ≡ 0 → starts_of chains header k ≡ None
   starts_unnamed k none = rw (eq-eqb (seg_info_offset chains header k) 0 none) refl
-
-  pub starts_named : (k : ℕ) → seg_info_offset chains header k ≢ 0 → starts_of chains header k ≡ segment_starts chains (header.starts_offset + seg_info_offset chains header k)
-  starts_named k some = rw (ne_eqb (seg_info_offset chains header k) 0 some) refl
-
-  pub starts_read : (k entry offset : ℕ) → entry ≡ seg_info_offset chains header k → entry ≢ 0 → offset ≡ header.starts_offset + entry → (starts : SegmentStarts)
-      → Some starts ≡ segment_starts chains offset → starts_of chains header k ≡ Some starts
-  starts_read k entry offset is some at starts read =
-      let there : offset ≡ header.starts_offset + seg_info_offset chains header k = omega (arith, at, is) in
-      starts_named k (λ none. some (is ∙ none)) ∙ sym (read ∙ ap (segment_starts chains) there)
 
   -- How far they reach
 
@@ -56,7 +45,7 @@ module _ (chains : List ℕ) (header : ChainHeader) where
   -- What is bad
 
   module _ (image : List ℕ) (k : ℕ) where
-    abbrev AreGood : SegmentStarts → Type 0
+    abbrev pub AreGood : SegmentStarts → Type 0
     AreGood starts = AreOf (base_of image (commands_of image)) image (get_or (all_segments image) k 0) starts × StartsEndBy chains header k starts.offset
 
     pub good_unnamed : seg_info_offset chains header k ≡ 0 → ¬ HasBadStarts image chains header k
@@ -90,55 +79,31 @@ module _ (chains : List ℕ) (header : ChainHeader) where
 
 -- A walk over the segments
 
--- the segment with an index
-segment_here : (image places : List ℕ) (k : ℕ) (s : SegmentView) → slice_get (map (segment_at image) places) k ≡ Some s → segment_at image (get_or places k 0) ≡ s
-segment_here image [] k s is = absurd (cc)
-segment_here image (place ∷ places) zero s is = same_Some _ _ is
-segment_here image (place ∷ places) (suc k) s is = segment_here image places k s is
-
-get_seam : {X : Type 0} (xs : List X) (x : X) (ys : List X) → slice_get (xs ++ x ∷ ys) (length xs) ≡ Some x
-get_seam [] x ys = refl
-get_seam (z ∷ zs) x ys = get_seam zs x ys
-
--- where a walk has come: no starts of the segments that it has passed are bad
+-- where it has come: no starts of the segments that were passed are bad
 pub record AreWalked (image chains : List ℕ) (header : ChainHeader) (all left : List SegmentView) (count index far : ℕ) : Type 0 where
-  pub seen : List SegmentView
-  pub reached : all ≡ seen ++ left
-  pub at : index ≡ length seen
+  pub passed : ArePassed all left index
   pub few : index ≤ count
   pub good : (k : ℕ) → k < index → ¬ HasBadStarts image chains header k
   pub reach : IsReach chains header index far
 
 pub starts_start : (image chains : List ℕ) (header : ChainHeader) (all : List SegmentView) (count : ℕ) → AreWalked image chains header all all count 0 0
 starts_start image chains header all count = record {
-  seen = [];
-  reached = refl;
-  at = refl;
+  passed = passed_none all;
   few = omega arith;
   good = λ k less. absurd (omega arith);
   reach = reach_none chains header;
 }
 
-module _ (image chains : List ℕ) (header : ChainHeader) (all left : List SegmentView) (count index reach : ℕ) (are : all ≡ map (segment_at image) (all_segments image))
-    (walk : AreWalked image chains header all left count index reach) where
+module _ (image chains : List ℕ) (header : ChainHeader) (all left : List SegmentView) (count index reach : ℕ) (walk : AreWalked image chains header all left count index reach) where
   -- the next segment
-  module _ (s : SegmentView) (rest : List SegmentView) (next : left ≡ s ∷ rest) where
-    pub is_segment : segment_at image (get_or (all_segments image) index 0) ≡ s
-    is_segment =
-        segment_here image (all_segments image) index s
-        (ap (λ (these : List SegmentView). slice_get these index) (sym are ∙ walked all walk.seen left s rest walk.reached next)
-        ∙ (ap (slice_get (walk.seen ++ s ∷ rest)) walk.at ∙ get_seam walk.seen s rest))
-
-    pub starts_more : (past : ℕ) → index < count → ¬ HasBadStarts image chains header index → IsReach chains header (suc index) past
-        → AreWalked image chains header all rest count (index + 1) past
-    starts_more past less good on = record {
-      seen = walk.seen ++ s ∷ [];
-      reached = walked_on all walk.seen left s rest walk.reached next;
-      at = let size = length-append walk.seen (s ∷ []) in let at = walk.at in omega (arith, size, at);
-      few = omega arith;
-      good = λ k before. elim (cases_lt k index) [ inl early ↦ walk.good k early | inr late ↦ let here : k ≡ index = omega arith in rw here good ];
-      reach = subst (λ n. IsReach chains header n past) (sym (add-one index)) on;
-    }
+  pub starts_more : (s : SegmentView) (rest : List SegmentView) → left ≡ s ∷ rest → (past : ℕ) → index < count → ¬ HasBadStarts image chains header index → IsReach chains header (suc index) past
+      → AreWalked image chains header all rest count (index + 1) past
+  starts_more s rest next past less good on = record {
+    passed = passed_more all left index walk.passed s rest next;
+    few = omega arith;
+    good = λ k before. elim (cases_lt k index) [ inl early ↦ walk.good k early | inr late ↦ let here : k ≡ index = omega arith in rw here good ];
+    reach = subst (λ n. IsReach chains header n past) (sym (add-one index)) on;
+  }
 
   -- a segment with bad starts is the first
   pub starts_bad : index < count → HasBadStarts image chains header index → IsFirstItem count (HasBadStarts image chains header) (Some index)
@@ -148,9 +113,9 @@ module _ (image chains : List ℕ) (header : ChainHeader) (all left : List Segme
   pub starts_passed : count ≤ index → IsFirstItem count (HasBadStarts image chains header) None
   starts_passed all_passed k less = walk.good k (omega arith)
 
-  -- it has at the last segment
-  pub passed_all : left ≡ [] → ¬ HasBadEntries image chains header count → count ≤ index
-  passed_all ended entries =
-      let same = ap length (walked_all all walk.seen left walk.reached ended) in
-      let size = ap length are ∙ length-map (all_segments image) (segment_at image) in
-      elim (cases_lt (length (all_segments image)) count) [ inl more ↦ absurd (entries (inl more)) | inr few ↦ let at = walk.at in omega (arith, same, size, few, at) ]
+-- it has at the last segment
+pub entries_passed : (image chains : List ℕ) (header : ChainHeader) (all left : List SegmentView) (count index : ℕ) → all ≡ map (segment_at image) (all_segments image) → ArePassed all left index
+    → left ≡ [] → ¬ HasBadEntries image chains header count → count ≤ index
+entries_passed image chains header all left count index are passed ended entries =
+    let at = passed_all image all left index are passed ended in
+    elim (cases_lt (length (all_segments image)) count) [ inl more ↦ absurd (entries (inl more)) | inr few ↦ omega (arith, at, few) ]

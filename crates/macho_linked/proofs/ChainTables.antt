@@ -11,15 +11,17 @@ use Rattle.macho_fields.specs.Image.{command_cmd, commands_of}
 use Rattle.macho_fields.specs.Layers.{NothingBreaks}
 use Rattle.macho_fields.specs.LoadCommands.{structure_of, linkedit_data_table}
 use Rattle.macho_fields.specs.Rules.{BreaksImage}
-use Rattle.macho_fields.specs.Symbol.{table_at}
+use Rattle.macho_fields.specs.Symbol.{table_at, tables_of}
 use Rattle.macho_fields.specs.declared.header.loader.TheConstants as loader
 use Rattle.macho_fields.specs.declared.load_command.Structure.TheVariants.{LinkeditDataCommand}
 use Rattle.macho_fields.proofs.Options.{some_of}
 use Rattle.macho_image.proofs.ReadParts.{length-part}
+use Rattle.macho_spans.specs.declared.span.Span.{Span}
 use Rattle.macho_linked.specs.ChainHeader.{chain_header}
 use Rattle.macho_linked.specs.ChainImports.{AtImport, import_bits, HasNoNameEnd, PassesTable, IsOfNoLibrary, BreaksChainImports, BreaksChainTotal, BreaksChainLibrary}
 use Rattle.macho_linked.specs.ChainStarts.{entry_offset, HasBadEntries, HasBadStarts, BreaksChainStarts}
-use Rattle.macho_linked.specs.Chains.{chained_fixups, NoHeader, HasHeader, BadStarts, BadImports, LongNames, UnknownLibrary, InChainTable, InChains, AreLeastInChains, AreLeastInTable, ChainsFitAt, moved_chains, unbroken_chains}
+use Rattle.macho_linked.specs.Chains.{chained_fixups, IsChainTable, NoHeader, HasHeader, BadStarts, BadImports, LongNames, UnknownLibrary, InChainTable, InChains, AreLeastInChains, AreLeastInTable, ChainsFitAt, moved_chains, unbroken_chains}
+use Rattle.macho_linked.specs.Homes.{bytes_of_table}
 use Rattle.macho_linked.specs.Items.{AtItem}
 use Rattle.macho_linked.specs.Limits.{library_count}
 use Rattle.macho_linked.specs.declared.chain_header.ChainHeader.{ChainHeader}
@@ -28,7 +30,7 @@ use Rattle.macho_linked.specs.declared.chain_header.ImportFormat.TheVariants as 
 use Rattle.macho_linked.specs.declared.chains.ChainSurvey.{ChainSurvey}
 use Rattle.macho_linked.proofs.ChainImports.{import_inside}
 use Rattle.macho_linked.proofs.Items.{least_where}
-use Rattle.macho_linked.proofs.NamedTables.{LieInside, table_inside, bounds_inside}
+use Rattle.macho_linked.proofs.NamedTables.{LieInside, table_named, table_inside, bounds_inside}
 use Rattle.macho_linked.proofs.TableSurveys.{fits_moved, least_moved, named_first}
 
 -- The rules are broken at offsets in a table that has bytes
@@ -159,24 +161,39 @@ survey_none In none = record {
   library = none UnknownLibrary;
 }
 
--- no command names one
-pub chains_unnamed : (image : List ℕ) → chained_fixups image ≡ None → AreLeastInChains (InChains image) unbroken_chains
-chains_unnamed image none =
+-- the bytes of the table that a command names
+pub chain_table_of : (image : List ℕ) (command : ℕ) → chained_fixups image ≡ Some command → 0 < (table_at image command linkedit_data_table).1
+    → IsChainTable image (bytes_of_table (table_at image command linkedit_data_table))
+chain_table_of image command is some =
+    let table = bytes_of_table (table_at image command linkedit_data_table) in
+    subst (λ (found : Option ℕ). IsSomeAnd found (λ c. (table ≡ bytes_of_table (table_at image c linkedit_data_table)) × (0 < table.len))) (sym is) (refl, some)
+
+-- no command names one that has some
+pub chains_unlisted : (image : List ℕ) → ((table : Span) → ¬ IsChainTable image table) → AreLeastInChains (InChains image) unbroken_chains
+chains_unlisted image none =
     survey_none (InChains image)
-    (λ Rule place. subst (λ (found : Option ℕ). ¬ IsSomeAnd found (λ command. InChainTable image (table_at image command linkedit_data_table) Rule place)) (sym none) (λ wrong. wrong))
+    (λ Rule place broken.
+    let (command, is, (some, here)) = some_of (λ c. InChainTable image (table_at image c linkedit_data_table) Rule place) (chained_fixups image) broken in
+    none (bytes_of_table (table_at image command linkedit_data_table)) (chain_table_of image command is some))
+
+module _ (image : List ℕ) (table : Span) (is : IsChainTable image table) where
+  pub chain_table_some : 0 < table.len
+  chain_table_some =
+      let (command, at, (same, some)) = some_of (λ c. (table ≡ bytes_of_table (table_at image c linkedit_data_table)) × (0 < table.len)) (chained_fixups image) is in some
+
+  -- what is found in it is found in the image
+  pub chains_listed : (survey : ChainSurvey) → AreLeastInTable image (part table.start table.len image) survey → AreLeastInChains (InChains image) (moved_chains table.start survey)
+  chains_listed survey are =
+      let (command, at, (same, some)) = some_of (λ c. (table ≡ bytes_of_table (table_at image c linkedit_data_table)) × (0 < table.len)) (chained_fixups image) is in
+      let bounds = table_at image command linkedit_data_table in
+      let here = survey_moved image (table.start, table.len, 1) survey some are in
+      let there = subst (λ (t : Span). AreLeastInChains (InChainTable image (t.start, t.len, 1)) (moved_chains table.start survey)) same here in
+      subst (λ (found : Option ℕ). AreLeastInChains (λ Rule place. IsSomeAnd found (λ c. InChainTable image (table_at image c linkedit_data_table) Rule place)) (moved_chains table.start survey)) (sym at) there
 
 -- the table of a command
 module _ (image : List ℕ) (command : ℕ) (is : chained_fixups image ≡ Some command) where
   abbrev table : ℕ × ℕ × ℕ
   table = table_at image command linkedit_data_table
-
-  pub chains_named : (survey : ChainSurvey) → AreLeastInChains (InChainTable image table) survey → AreLeastInChains (InChains image) survey
-  chains_named survey are =
-      subst (λ (found : Option ℕ). AreLeastInChains (λ Rule place. IsSomeAnd found (λ c. InChainTable image (table_at image c linkedit_data_table) Rule place)) survey) (sym is) are
-
-  -- it has no bytes
-  pub chains_empty : table.1 ≡ 0 → AreLeastInChains (InChains image) unbroken_chains
-  chains_empty none = chains_named unbroken_chains (survey_none (InChainTable image table) (λ Rule place (some, broken). omega arith))
 
   module _ (keeps : NothingBreaks (BreaksImage image None)) where
     is_linkedit : Contains (commands_of image) command × (structure_of (command_cmd image command) ≡ Some LinkeditDataCommand)
@@ -184,6 +201,10 @@ module _ (image : List ℕ) (command : ℕ) (is : chained_fixups image ≡ Some 
 
     its_table : Contains (linkedit_data_table ∷ []) linkedit_data_table
     its_table = (0, lit< tt, refl)
+
+    -- it is a table of the command
+    pub chain_table_listed : Contains (tables_of image command) table
+    chain_table_listed = table_named image keeps command LinkeditDataCommand is_linkedit linkedit_data_table its_table
 
     -- the fields that bound it lie in the image
     pub chain_fields_inside : LieInside image command linkedit_data_table

@@ -22,6 +22,7 @@ use Rattle.macho_linked.specs.declared.step.Opcodes.{Opcodes}
 use Rattle.macho_linked.specs.declared.streams.Stream.{Stream}
 use Rattle.macho_linked.specs.declared.streams.Stream.TheVariants as streams
 use Rattle.macho_linked.proofs.ChainTables.{no_header, bad_starts, bad_imports, long_names, unknown_library, chains_near}
+use Rattle.macho_linked.proofs.PointerSurveys.{slots_near, binds_near}
 use Rattle.macho_linked.proofs.TableSurveys.{IsStreamRule, undecoded, no_library, no_name, no_slot, too_many, too_long}
 
 part_short : (start size : ℕ) (bytes : List ℕ) (offset : ℕ) → offset < length (part start size bytes) → start + offset ≤ length bytes
@@ -75,6 +76,8 @@ module _ (image : List ℕ) (none : NothingBreaks (Breaks image None)) where
   place_inside rule.ChainImports place broken = chains_near image none BadImports (bad_imports image) place broken
   place_inside rule.ChainTotal place broken = chains_near image none LongNames (long_names image) place broken
   place_inside rule.ChainLibrary place broken = chains_near image none UnknownLibrary (unknown_library image) place broken
+  place_inside rule.ChainSlot place broken = slots_near image none place broken
+  place_inside rule.ChainBind place broken = binds_near image none place broken
   place_inside other place broken = absurd broken
 
 -- and so in the file

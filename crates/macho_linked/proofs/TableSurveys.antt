@@ -32,12 +32,12 @@ use Rattle.macho_linked.proofs.Within.{step_within}
 
 -- Least places
 
-least_same : (P Q : ℕ → Type 0) (found : Option ℕ) → ((place : ℕ) → P place ↔ Q place) → IsLeastPlace P found → IsLeastPlace Q found
+pub least_same : (P Q : ℕ → Type 0) (found : Option ℕ) → ((place : ℕ) → P place ↔ Q place) → IsLeastPlace P found → IsLeastPlace Q found
 least_same P Q None same none = λ place broken. none place ((same place).1 broken)
 least_same P Q (Some first) same (here, least) = ((same first).0 here, λ place broken. least place ((same place).1 broken))
 
 -- those of two streams
-least_joined : (P Q : ℕ → Type 0) (one other : Option ℕ) → IsLeastPlace P one → IsLeastPlace Q other → IsLeastPlace (λ place. P place ⊎ Q place) (lesser one other)
+pub least_joined : (P Q : ℕ → Type 0) (one other : Option ℕ) → IsLeastPlace P one → IsLeastPlace Q other → IsLeastPlace (λ place. P place ⊎ Q place) (lesser one other)
 least_joined P Q None None no_p no_q = λ place broken. elim broken [ inl p ↦ no_p place p | inr q ↦ no_q place q ]
 least_joined P Q None (Some b) no_p (here, least) = (inr here, λ place broken. elim broken [ inl p ↦ absurd (no_p place p) | inr q ↦ least place q ])
 least_joined P Q (Some a) None (here, least) no_q = (inl here, λ place broken. elim broken [ inl p ↦ least place p | inr q ↦ absurd (no_q place q) ])

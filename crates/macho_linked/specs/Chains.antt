@@ -12,13 +12,21 @@ use Rattle.macho_image.specs.Command.{first_with_cmd}
 use Rattle.macho_linked.specs.ChainHeader.{chain_header}
 use Rattle.macho_linked.specs.ChainImports.{BreaksChainImports, BreaksChainTotal, BreaksChainLibrary}
 use Rattle.macho_linked.specs.ChainStarts.{BreaksChainStarts}
+use Rattle.macho_linked.specs.Homes.{bytes_of_table}
 use Rattle.macho_linked.specs.Limits.{library_count}
 use Rattle.macho_linked.specs.declared.chain_header.ChainHeader.{ChainHeader}
 use Rattle.macho_linked.specs.declared.chains.ChainSurvey.{ChainSurvey}
+use Rattle.macho_spans.specs.declared.span.Span.{Span}
 
 -- the command that names them, of which there is at most one after table-repeated
 abbrev pub chained_fixups : List ℕ → Option ℕ
 chained_fixups image = first_with_cmd image loader.LC_DYLD_CHAINED_FIXUPS (commands_of image)
+
+-- its bytes, where it has some
+abbrev pub IsChainTable : List ℕ → Span → Type 0
+IsChainTable image table =
+    IsSomeAnd (chained_fixups image)
+    (λ command. (table ≡ bytes_of_table (table_at image command linkedit_data_table)) × (0 < table.len))
 
 -- The rules of an image and the bytes of its table, at an offset in the table. Where there is no header, no
 -- other rule is broken.
@@ -49,11 +57,23 @@ InChainTable image table Rule place =
     (0 < table.1)
     × ((offset : ℕ) × (place ≡ table.0 + offset) × Rule image (part table.0 table.1 image) offset)
 
+-- a rule of the pointers, of a table that has some bytes
+abbrev pub OfTable : List ℕ → ℕ × ℕ × ℕ → (List ℕ → ℕ → List ℕ → ChainHeader → ℕ → Type 0) → ℕ → Type 0
+OfTable image table Rule place =
+    (0 < table.1)
+    × HasHeader (part table.0 table.1 image) (λ header. Rule image table.0 (part table.0 table.1 image) header place)
+
 -- of the table of the image
 abbrev pub InChains : List ℕ → (List ℕ → List ℕ → ℕ → Type 0) → ℕ → Type 0
 InChains image Rule place =
     IsSomeAnd (chained_fixups image)
     (λ command. InChainTable image (table_at image command linkedit_data_table) Rule place)
+
+-- a rule of the pointers of the image, at a place of it
+abbrev pub InPointers : List ℕ → (List ℕ → ℕ → List ℕ → ChainHeader → ℕ → Type 0) → ℕ → Type 0
+InPointers image Rule place =
+    IsSomeAnd (chained_fixups image)
+    (λ command. OfTable image (table_at image command linkedit_data_table) Rule place)
 
 -- the least places at which the rules are broken
 pub record AreLeastInChains (In : (List ℕ → List ℕ → ℕ → Type 0) → ℕ → Type 0) (survey : ChainSurvey) : Type 0 where

@@ -11,6 +11,8 @@ pub record AreFixupChainsConstants : Type 0 where
   pub SEG_INFO_OFFSET_SIZE : chained.SEG_INFO_OFFSET_SIZE ≡ 4
   pub DYLD_CHAINED_STARTS_IN_SEGMENT_SIZE : chained.DYLD_CHAINED_STARTS_IN_SEGMENT_SIZE ≡ 22
   pub PAGE_START_SIZE : chained.PAGE_START_SIZE ≡ 2
+  -- dyld_chained_starts_in_segment.page_start of a page without a chain
+  pub DYLD_CHAINED_PTR_START_NONE : chained.DYLD_CHAINED_PTR_START_NONE ≡ 0xffff
   -- dyld_chained_fixups_header.imports_format
   pub DYLD_CHAINED_IMPORT : chained.DYLD_CHAINED_IMPORT ≡ 1
   pub DYLD_CHAINED_IMPORT_ADDEND : chained.DYLD_CHAINED_IMPORT_ADDEND ≡ 2

@@ -13,6 +13,8 @@ pub mod Items
 pub mod ChainHeader
 pub mod ChainStarts
 pub mod ChainImports
+pub mod ChainPointers
+pub mod ChainPages
 pub mod Chains
 pub mod Rules
 pub mod Harmless

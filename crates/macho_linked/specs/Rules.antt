@@ -5,7 +5,8 @@ use Rattle.macho_fields.specs.First.{BreaksIn, NoneIsBroken, IsFirstOfAll}
 use Rattle.macho_fields.specs.declared.rule.Break.{Break}
 use Rattle.macho_fields.specs.declared.rule.Rule.{Rule}
 use Rattle.macho_fields.specs.declared.rule.Rule.TheVariants as rule
-use Rattle.macho_linked.specs.Chains.{NoHeader, BadStarts, BadImports, LongNames, UnknownLibrary, InChains}
+use Rattle.macho_linked.specs.ChainPointers.{BreaksChainSlot, BreaksChainBind}
+use Rattle.macho_linked.specs.Chains.{NoHeader, BadStarts, BadImports, LongNames, UnknownLibrary, InChains, InPointers}
 use Rattle.macho_linked.specs.Homes.{BreaksTableHome, BreaksHeaderHome}
 use Rattle.macho_linked.specs.Images.{Undecoded, NoLibrary, NoName, NoSlot, TooMany, TooLong, InRebases, InBinds}
 use Rattle.macho_linked.specs.Kinds.{BreaksTableRepeated, BreaksFunctionVariants}
@@ -30,6 +31,8 @@ BreaksImage image rule.ChainStarts place = InChains image BadStarts place
 BreaksImage image rule.ChainImports place = InChains image BadImports place
 BreaksImage image rule.ChainTotal place = InChains image LongNames place
 BreaksImage image rule.ChainLibrary place = InChains image UnknownLibrary place
+BreaksImage image rule.ChainSlot place = InPointers image BreaksChainSlot place
+BreaksImage image rule.ChainBind place = InPointers image BreaksChainBind place
 BreaksImage image other place = ⊥
 
 -- a file breaks none but in its images

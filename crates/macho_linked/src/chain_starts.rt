@@ -137,7 +137,7 @@ fn are_whole(chains: Bytes, offset: u64) -> bool
 }
 
 // The field of 16 bits at an offset, which is inside.
-fn half_at(chains: Bytes, offset: u64) -> u16
+pub(crate) fn half_at(chains: Bytes, offset: u64) -> u16
     requires { offset + 2 ≤ length (bytes_of chains) }
     ensures { result ≡ half (bytes_of chains.entry) offset }
 {
@@ -164,7 +164,7 @@ pub fn chain_starts(image: &Image, chains: Bytes, header: ChainHeader) -> Option
 }
 
 // Whether there are more entries than segments, or some past the table.
-fn has_bad_entries(image: &Image, chains: Bytes, header: ChainHeader, count: u32) -> bool
+pub(crate) fn has_bad_entries(image: &Image, chains: Bytes, header: ChainHeader, count: u32) -> bool
     ensures { IsTrue result ↔ HasBadEntries image.now (bytes_of chains.entry) header count }
 {
     u64::from(count) > segment_count(image) || header.entry_offset(count) > chains.len()
@@ -222,12 +222,10 @@ fn past_starts(
         (λ next. (¬ HasBadStarts segment.now.image (bytes_of chains.entry) header index)
         × IsReach (bytes_of chains.entry) header (suc index) next) }
 {
-    let entry = word_at(chains, header.entry_offset(index));
-    if entry == 0 {
+    if header.seg_info_offset(chains, index) == 0 {
         return Some(reach);
     }
-    let offset = u64::from(header.starts_offset) + u64::from(entry);
-    let starts = SegmentStarts::read(chains, offset)?;
+    let starts = header.starts_of(chains, index)?;
     if reach <= u128::from(starts.offset) && starts.are_of(segment, base) {
         Some(starts.end())
     } else {
@@ -236,8 +234,29 @@ fn past_starts(
 }
 
 impl ChainHeader {
-    ghost use Rattle.std.specs.Prelude.{◌≡◌};
-    ghost use Rattle.macho_linked.specs.ChainStarts.{entry_offset};
+    ghost use Rattle.std.specs.Prelude.{◌≡◌, ◌+◌, ◌≤◌, length};
+    ghost use Rattle.macho_fields.specs.Bytes.{bytes_of};
+    ghost use Rattle.macho_linked.specs.ChainStarts.{entry_offset, seg_info_offset, starts_of};
+
+    /// The starts of the segment with this index. They are `None` if it has none, or if they cannot be read.
+    pub fn starts_of(self, chains: Bytes, index: u32) -> Option<SegmentStarts>
+        requires { entry_offset self index + SEG_INFO_OFFSET_SIZE ≤ length (bytes_of chains) }
+        ensures { result ≡ starts_of (bytes_of chains.entry) self index }
+    {
+        let offset = self.seg_info_offset(chains, index);
+        if offset == 0 {
+            return None;
+        }
+        SegmentStarts::read(chains, u64::from(self.starts_offset) + u64::from(offset))
+    }
+
+    // Where they begin, from `starts_offset` on, or 0 if it has none.
+    fn seg_info_offset(self, chains: Bytes, index: u32) -> u32
+        requires { entry_offset self index + SEG_INFO_OFFSET_SIZE ≤ length (bytes_of chains) }
+        ensures { result ≡ seg_info_offset (bytes_of chains.entry) self index }
+    {
+        word_at(chains, self.entry_offset(index))
+    }
 
     // Where the entry of the segment with this index begins.
     fn entry_offset(self, index: u32) -> u64

@@ -1,8 +1,12 @@
 //! The chained fixups of an image, and where they first break each of their rules. (`mach-o/loader.h`:
 //! `linkedit_data_command`)
 
+ghost use Rattle.std.specs.Prelude.{◌≤◌, length, None, IfSome, MatchOption};
 ghost use Rattle.macho_fields.specs.Bytes.{bytes_of};
-ghost use Rattle.macho_linked.specs.Chains.{AreLeastInTable};
+ghost use Rattle.macho_fields.specs.Layers.{NothingBreaks};
+ghost use Rattle.macho_fields.specs.Rules.{BreaksImage as Breaks};
+ghost use Rattle.macho_linked.specs.Chains.{AreLeastInTable, IsChainTable};
+ghost use Rattle.macho_spans.specs.Span.{end_of};
 
 use crate::chain_header::ChainHeader;
 use crate::chain_imports::{chain_imports, chain_library, chain_total};
@@ -10,9 +14,9 @@ use crate::chain_starts::chain_starts;
 use crate::homes::span_of;
 use crate::limits::library_count;
 use crate::streams::{bounded_at, first_place, place_from};
-use macho_fields::Bytes;
 use macho_fields::header::loader::LC_DYLD_CHAINED_FIXUPS;
 use macho_fields::header::loader::linkedit_data_command::DATAOFF;
+use macho_fields::{Bytes, Span};
 use macho_image::Image;
 
 /// Where the chained fixups first break each of their rules.
@@ -42,13 +46,9 @@ impl ChainSurvey {
         requires { NothingBreaks (Breaks image.now None) }
         ensures { AreLeastInChains (InChains image.now) result }
     {
-        let Some(command) = first_place(image, LC_DYLD_CHAINED_FIXUPS) else {
+        let Some(table) = chain_table(image) else {
             return ChainSurvey::unbroken();
         };
-        let table = span_of(image, command, bounded_at(DATAOFF));
-        if table.len == 0 {
-            return ChainSurvey::unbroken();
-        }
         survey(image, image.bytes().slice(table)).moved(table.start)
     }
 
@@ -78,6 +78,19 @@ impl ChainSurvey {
             library: place_from(start, self.library),
         }
     }
+}
+
+/// Where the table of the chained fixups is in an image that breaks no rule of the layout. It is `None` if no
+/// command names it, or it has no bytes.
+pub fn chain_table(image: &Image) -> Option<Span>
+    requires { NothingBreaks (Breaks image.now None) }
+    ensures table { MatchOption result
+        ((table : Span) → ¬ IsChainTable image.now table) (IsChainTable image.now) }
+    ensures inside { IfSome result (λ table. end_of table ≤ length image.now) }
+{
+    let command = first_place(image, LC_DYLD_CHAINED_FIXUPS)?;
+    let table = span_of(image, command, bounded_at(DATAOFF));
+    if table.len > 0 { Some(table) } else { None }
 }
 
 // Goes over the bytes of the table. The places are offsets in it.

@@ -7,6 +7,7 @@ ghost use Rattle.macho_fields.specs.Layers.{NothingBreaks, KeptBelow, Continues,
 ghost use Rattle.macho_fields.specs.Rules.{BreaksImage as Breaks};
 ghost use Rattle.macho_linked.specs.Rules.{BreaksImage};
 
+use crate::chain_pages::PointerSurvey;
 use crate::chains::ChainSurvey;
 use crate::homes::{header_home, table_home};
 use crate::kinds::{function_variants, table_repeated};
@@ -40,6 +41,9 @@ pub(crate) fn check_image(image: &Image) -> Result<(), Break>
     judge(image, Rule::ChainImports, chains.imports)?;
     judge(image, Rule::ChainTotal, chains.total)?;
     judge(image, Rule::ChainLibrary, chains.library)?;
+    let pointers = PointerSurvey::of(image);
+    judge(image, Rule::ChainSlot, pointers.slot)?;
+    judge(image, Rule::ChainBind, pointers.bind)?;
     Ok(())
 }
 

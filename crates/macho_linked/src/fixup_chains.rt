@@ -11,6 +11,8 @@ pub const SEG_INFO_OFFSET_SIZE: u64 = 4;
 pub const DYLD_CHAINED_STARTS_IN_SEGMENT_SIZE: u64 = 22;
 /// The size in bytes of a page start.
 pub const PAGE_START_SIZE: u64 = 2;
+/// The page start of a page that has no chain.
+pub const DYLD_CHAINED_PTR_START_NONE: u16 = 0xffff;
 
 /// An import is a `dyld_chained_import`.
 pub const DYLD_CHAINED_IMPORT: u32 = 1;

@@ -169,7 +169,7 @@ pub fn is_home(segment: &Segment, table: Span) -> bool
 }
 
 // Whether a byte of the table is in an encrypted range.
-fn is_encrypted(image: &Image, table: Span) -> bool
+pub(crate) fn is_encrypted(image: &Image, table: Span) -> bool
     ensures { IsTrue result ↔ Any (Encrypts table image.now) (commands_of image.now) }
 {
     image

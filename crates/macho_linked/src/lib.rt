@@ -1,10 +1,11 @@
 #![tactic(auto)]
-//! The linked profile: where the linked data of an image lies, what the opcodes that a dynamic loader
-//! follows ask it to write, and what the table of its chained fixups says. The chained pointers are not
-//! judged.
+//! The linked profile: where the linked data of an image lies, and what the opcodes and the chained fixups
+//! that a dynamic loader follows ask it to write.
 
 pub mod chain_header;
 pub mod chain_imports;
+pub mod chain_pages;
+pub mod chain_pointers;
 pub mod chain_starts;
 pub mod chains;
 mod check;

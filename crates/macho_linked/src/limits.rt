@@ -78,7 +78,7 @@ pub fn rooms_of(image: &Image) -> Rooms
 }
 
 // How many bytes of the segment can be written: those that it has in the file, if it is writable.
-fn room(segment: &Segment) -> u64
+pub(crate) fn room(segment: &Segment) -> u64
     ensures { result ≡ room_of segment.now.image segment.now.place }
 {
     if is_writable(segment) {

@@ -132,7 +132,7 @@ impl StreamSurvey {
 }
 
 // Notes the place if the rule is broken there, and none was noted before.
-fn note_if(found: &mut Option<u64>, is_broken: bool, place: u64)
+pub(crate) fn note_if(found: &mut Option<u64>, is_broken: bool, place: u64)
     ensures { IsNoted (IsTrue is_broken) place found.old found.new }
 {
     if is_broken && found.is_none() {

@@ -190,7 +190,7 @@ pub(crate) fn place_from(start: u64, offset: Option<u64>) -> Option<u64>
 }
 
 // The lesser of two places.
-fn lesser(one: Option<u64>, other: Option<u64>) -> Option<u64>
+pub(crate) fn lesser(one: Option<u64>, other: Option<u64>) -> Option<u64>
     ensures { result ≡ lesser_of one other }
 {
     match (one, other) {

@@ -20,8 +20,7 @@ use std::alloc::Global;
 /// Decides the rules of a file as `macho_strict::verify_strictly` does, and then the linked rules, in their
 /// order: accepts it, or returns the first broken one, with its place in the file.
 ///
-/// The linked rules are those of its 64-bit slices, in the order of the table. They take no memory. The
-/// pointers of chained fixups are not judged.
+/// The linked rules are those of its 64-bit slices, in the order of the table. They take no memory.
 pub fn verify_linked<'a>(alloc: Global, file: &'a [u8]) -> Result<Verified<'a>, Refusal>
     // It accepts only a file that breaks no rule of the three profiles, and refuses only one that breaks
     // one of them, unless there is no memory.

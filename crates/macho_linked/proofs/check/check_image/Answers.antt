@@ -5,4 +5,4 @@ pub judge-requires-clause-kept : goal.judge-requires-clause-kept
 judge-requires-clause-kept c = none_before c.args.image.now
 
 pub returns : goal.returns
-returns c = all_unbroken c.args.image.now c.in_ok-judge-18.ensures
+returns c = all_unbroken c.args.image.now c.in_ok-judge-20.ensures
