@@ -19,4 +19,5 @@ pub mod Chains
 pub mod Rules
 pub mod Harmless
 pub mod Dyld
+pub mod ChainDyld
 pub mod Verdict

@@ -5,6 +5,7 @@ ghost use Rattle.std.specs.Prelude.{◌≡◌};
 ghost use Rattle.macho_fields.specs.RuleList.{profile_of};
 ghost use Rattle.macho_fields.specs.declared.rule.Profile.TheVariants.{Linked};
 ghost use Rattle.macho_fields.specs.First.{IsUnbroken};
+ghost use Rattle.macho_linked.specs.ChainDyld.{AreChainedSafely};
 ghost use Rattle.macho_linked.specs.Dyld.{AreFollowedSafely};
 ghost use Rattle.macho_linked.specs.FixupChains.{AreFixupChainsConstants};
 ghost use Rattle.macho_linked.specs.Harmless.{AreHarmless};
@@ -50,4 +51,11 @@ pub fn linked_unbroken_is_followed_safely(file: &[u8])
     requires unbroken { IsUnbroken file.now }
     requires linked { IsLinkedUnbroken file.now }
     ensures { AreFollowedSafely file.now }
+{}
+
+/// The plain dyld follows the chained fixups of such a file safely, though it writes the pointers that it reads.
+pub fn linked_unbroken_is_chained_safely(file: &[u8])
+    requires unbroken { IsUnbroken file.now }
+    requires linked { IsLinkedUnbroken file.now }
+    ensures { AreChainedSafely file.now }
 {}

@@ -4,6 +4,7 @@ ghost use Rattle.std.specs.Prelude.{◌≡◌, suc, OnOk, IfOk, IfErr};
 ghost use Rattle.macho_fields.specs.First.{IsUnbroken};
 ghost use Rattle.macho_fields.specs.Layers.{NothingBreaks};
 ghost use Rattle.macho_fields.specs.Loader.{IsSound};
+ghost use Rattle.macho_linked.specs.ChainDyld.{AreChainedSafely};
 ghost use Rattle.macho_linked.specs.Dyld.{AreFollowedSafely};
 ghost use Rattle.macho_linked.specs.Harmless.{AreHarmless};
 ghost use Rattle.macho_linked.specs.Rules.{IsBrokenIn, IsLinkedUnbroken, IsFirstLinkedBroken};
@@ -30,11 +31,12 @@ pub fn verify_linked<'a>(alloc: Global, file: &'a [u8]) -> Result<Verified<'a>, 
     ensures refused { IfErr result (IsLinkedRefusal file.now) }
 
     // What it accepts is sound, and accounted for; its opcodes are harmless, and the plain dyld follows
-    // them safely.
+    // them and its chained fixups safely.
     ensures sound { OnOk result (IsSound file.now) }
     ensures accounted { OnOk result (IsAccounted file.now) }
     ensures harmless { OnOk result (AreHarmless file.now) }
     ensures followed { OnOk result (AreFollowedSafely file.now) }
+    ensures chained { OnOk result (AreChainedSafely file.now) }
     ensures file { IfOk result (λ verified. verified ≡ file.now) }
 {
     let verified = verify_strictly(alloc, file)?;

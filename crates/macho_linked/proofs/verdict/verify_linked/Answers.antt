@@ -3,6 +3,7 @@ use Rattle.macho_rules.proofs.Verdicts.{passed_on}
 use Rattle.macho_linked.specs.Rules.{IsLinkedUnbroken, IsFirstLinkedBroken}
 use Rattle.macho_linked.specs.Verdict.{IsLinkedRefusal}
 use Rattle.macho_rules.specs.declared.refusal.Refusal.TheVariants as refusal
+use Rattle.macho_linked.proofs.ChainDyld.{file_chained_safely}
 use Rattle.macho_linked.proofs.Dyld.{file_followed_safely}
 use Rattle.macho_linked.proofs.Harmless.{harmless_file}
 use Rattle.macho_linked.proofs.Verdicts.{strict_refused, linked_refused}
@@ -31,3 +32,7 @@ returns-clause-harmless c =
 pub returns-clause-followed : goal.returns-clause-followed
 returns-clause-followed c =
     file_followed_safely c.args.file.now c.in_ok-verified.ensures.accepted (subst IsLinkedUnbroken c.in_ok-verified.ensures.file c.in_ok-check_linked.ensures.unbroken)
+
+pub returns-clause-chained : goal.returns-clause-chained
+returns-clause-chained c =
+    file_chained_safely c.args.file.now c.in_ok-verified.ensures.accepted (subst IsLinkedUnbroken c.in_ok-verified.ensures.file c.in_ok-check_linked.ensures.unbroken)

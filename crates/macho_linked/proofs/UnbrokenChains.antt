@@ -1,0 +1,66 @@
+-- A table of chained fixups of an image that breaks no rule breaks none.
+use Rattle.std.proofs.Common.{◌≡◌, ℕ, ◌+◌, ◌<◌, List, Option, Some, None, refl, subst}
+use Rattle.macho_fields.specs.Field.{part}
+use Rattle.macho_fields.specs.Layers.{NothingBreaks}
+use Rattle.macho_fields.specs.LoadCommands.{linkedit_data_table}
+use Rattle.macho_fields.specs.Symbol.{table_at}
+use Rattle.macho_fields.specs.declared.rule.Rule.TheVariants as rule
+use Rattle.macho_fields.proofs.Options.{of_some}
+use Rattle.macho_linked.specs.ChainHeader.{chain_header}
+use Rattle.macho_linked.specs.ChainImports.{BreaksChainImports, BreaksChainTotal, BreaksChainLibrary}
+use Rattle.macho_linked.specs.ChainPointers.{BreaksChainSlot, BreaksChainBind}
+use Rattle.macho_linked.specs.ChainStarts.{BreaksChainStarts}
+use Rattle.macho_linked.specs.Chains.{HasHeader, chained_fixups, NoHeader, BadStarts, BadImports, LongNames, UnknownLibrary, InChainTable, InChains, OfTable, InPointers}
+use Rattle.macho_linked.specs.Limits.{library_count}
+use Rattle.macho_linked.specs.Rules.{BreaksImage}
+use Rattle.macho_linked.specs.declared.chain_header.ChainHeader.{ChainHeader}
+
+pub record AreGoodChains (image : List ℕ) (table : ℕ) (chains : List ℕ) (header : ChainHeader) : Type 0 where
+  pub headed : chain_header chains ≡ Some header
+  pub starts : (offset : ℕ) → ¬ BreaksChainStarts image chains header offset
+  pub imports : (offset : ℕ) → ¬ BreaksChainImports chains header offset
+  pub names : (offset : ℕ) → ¬ BreaksChainTotal chains header offset
+  pub libraries : (offset : ℕ) → ¬ BreaksChainLibrary (library_count image) chains header offset
+  pub slots : (place : ℕ) → ¬ BreaksChainSlot image table chains header place
+  pub binds : (place : ℕ) → ¬ BreaksChainBind image table chains header place
+
+module _ (image : List ℕ) (kept : NothingBreaks (BreaksImage image)) (table : ℕ × ℕ × ℕ) (some : 0 < table.1)
+    (command : ℕ) (named : chained_fixups image ≡ Some command) (is_table : table ≡ table_at image command linkedit_data_table) where
+  abbrev chains : List ℕ
+  chains = part table.0 table.1 image
+
+  -- a rule of the table
+  unbroken_in : (Rule : List ℕ → List ℕ → ℕ → Type 0) → ((place : ℕ) → ¬ InChains image Rule place) → (offset : ℕ) → ¬ Rule image chains offset
+  unbroken_in Rule none offset broken =
+      none (table.0 + offset) (of_some (λ c. InChainTable image (table_at image c linkedit_data_table) Rule (table.0 + offset)) (chained_fixups image) command named
+      (subst (λ (t : ℕ × ℕ × ℕ). InChainTable image t Rule (table.0 + offset)) is_table (some, (offset, refl, broken))))
+
+  -- there is a header
+  pub header_there : (header : ChainHeader) × (chain_header chains ≡ Some header)
+  header_there = either (chain_header chains) refl
+    where
+      either : (found : Option ChainHeader) → chain_header chains ≡ found → (header : ChainHeader) × (chain_header chains ≡ Some header)
+      either None none = absurd (unbroken_in NoHeader (λ place broken. kept rule.ChainHeader place broken) 0 (refl, none))
+      either (Some header) is = (header, is)
+
+  module _ (header : ChainHeader) (is : chain_header chains ≡ Some header) where
+    headed : (Rule : ChainHeader → ℕ → Type 0) (offset : ℕ) → Rule header offset → HasHeader chains (λ h. Rule h offset)
+    headed Rule offset broken = of_some (λ h. Rule h offset) (chain_header chains) header is broken
+
+    -- a rule of the pointers
+    unbroken_pointers : (Rule : List ℕ → ℕ → List ℕ → ChainHeader → ℕ → Type 0) → ((place : ℕ) → ¬ InPointers image Rule place) → (place : ℕ) → ¬ Rule image table.0 chains header place
+    unbroken_pointers Rule none place broken =
+        none place (of_some (λ c. OfTable image (table_at image c linkedit_data_table) Rule place) (chained_fixups image) command named
+        (subst (λ (t : ℕ × ℕ × ℕ). OfTable image t Rule place) is_table (some, headed (λ h. Rule image table.0 chains h) place broken)))
+
+    pub chains_good : AreGoodChains image table.0 chains header
+    chains_good = record {
+      headed = is;
+      starts = λ offset broken. unbroken_in BadStarts (λ place b. kept rule.ChainStarts place b) offset (headed (BreaksChainStarts image chains) offset broken);
+      imports = λ offset broken. unbroken_in BadImports (λ place b. kept rule.ChainImports place b) offset (headed (BreaksChainImports chains) offset broken);
+      names = λ offset broken. unbroken_in LongNames (λ place b. kept rule.ChainTotal place b) offset (headed (BreaksChainTotal chains) offset broken);
+      libraries = λ offset broken.
+          unbroken_in UnknownLibrary (λ place b. kept rule.ChainLibrary place b) offset (headed (BreaksChainLibrary (library_count image) chains) offset broken);
+      slots = unbroken_pointers BreaksChainSlot (λ place b. kept rule.ChainSlot place b);
+      binds = unbroken_pointers BreaksChainBind (λ place b. kept rule.ChainBind place b);
+    }
