@@ -105,9 +105,12 @@ LC_DYLD_CHAINED_FIXUPS = 0x80000034
 REBASE_TYPE_POINTER, BIND_TYPE_POINTER = 1, 1
 BIND_SPECIAL_DYLIB_WEAK_LOOKUP = -3
 
-# Of chained fixups: the sizes of a page; and how many ordinals, the greatest ones, are below 0.
+# Of chained fixups: the sizes of a page; how many ordinals, the greatest ones, are below 0; the start of a page without
+# a chain; and the bytes of a page start and of a pointer.
 PAGE_SIZES = (0x1000, 0x4000)
 SPECIAL_ORDINALS = 15
+DYLD_CHAINED_PTR_START_NONE = 0xffff
+PAGE_START_SIZE, POINTER_SIZE = 2, 8
 
 # The byte that Apple's linker fills the gaps of code with.
 NOP = b"\x90"
@@ -155,13 +158,18 @@ REBASE_OPCODES, BIND_OPCODES = [
 ]
 
 # The imports of chained fixups, by `imports_format`: their bytes, and the bits of the ordinal and of the name's offset,
-# each from the first up to and with the last. And the pointer formats that are judged.
+# each from the first up to and with the last. And the formats of pointers that are judged: the bits of `next`, the
+# bytes of a step of it, the bit that says bind, and the bits of the ordinal.
 IMPORT_FORMATS = {
     int(number): (int(size), (int(ordinal), int(last_of_ordinal)), (int(offset), int(last_of_offset)))
     for number, size, ordinal, last_of_ordinal, offset, last_of_offset in rows_of(
         r"^\| (\d+) \| `dyld_chained_import\w*` \| (\d+) \| (\d+) to (\d+) \| (\d+) to (\d+) \|", "LINKED.md")
 }
-POINTER_FORMATS = {int(number) for number in rows_of(r"^\| (\d+) \| `DYLD_CHAINED_PTR_\w+` \|$", "LINKED.md")}
+POINTER_FORMATS = {
+    int(number): ((int(following), int(last_of_next)), int(step), int(bind), (int(ordinal), int(last_of_ordinal)))
+    for number, following, last_of_next, step, bind, ordinal, last_of_ordinal in rows_of(
+        r"^\| (\d+) \| `DYLD_CHAINED_PTR_\w+` \| (\d+) to (\d+) \| (\d+) \| (\d+) \| (\d+) to (\d+) \|$", "LINKED.md")
+}
 
 # The data of the commands that have some but are not listed: the structure, the start, the count, the bytes per entry.
 UNLISTED_DATA = {
@@ -728,10 +736,14 @@ def linked_tables(image):
 def is_readable(segment):
     return segment.initprot & VM_PROT_READ != 0
 
+def is_protected(segment):
+    """A kernel decrypts the bytes of the segment."""
+    return segment.flags & SG_PROTECTED_VERSION_1 != 0
+
 def is_home(segment, table):
     """The whole table lies in the bytes of the segment, which a loader reads as the file has them."""
     return (is_mapped(segment) and is_readable(segment) and not is_writable(segment)
-            and segment.flags & SG_PROTECTED_VERSION_1 == 0
+            and not is_protected(segment)
             and segment.fileoff <= table.start and table.end <= segment.fileoff + segment.filesize)
 
 def linkedit_segments(image):
@@ -1089,6 +1101,76 @@ def chain_library(image):
         if one.ordinal > count or one.ordinal < BIND_SPECIAL_DYLIB_WEAK_LOOKUP:
             yield one.place
 
+def starts_of_segments(image, table):
+    """Each segment with starts, and these. (After `chain-starts` they are in the table, and are of a known format.)"""
+    array = table.start + fixups_header(image, table).starts_offset
+    count = read(image.data, array, "dyld_chained_starts_in_image").seg_count
+    entries = array + SIZES["dyld_chained_starts_in_image"]
+    for segment, place in zip(image.segments, range(entries, entries + 4 * count, 4)):
+        entry = int.from_bytes(image.data[place:place + 4], "little")
+        if entry > 0:
+            yield segment, read(image.data, array + entry, "dyld_chained_starts_in_segment")
+
+def pages(image):
+    """The pages that have chains: of each its segment, its starts, its end in the segment, the place of its page start
+    in the table, and the offset of its first pointer."""
+    table = chain_table(image)
+    if table is None:
+        return
+    for segment, starts in starts_of_segments(image, table):
+        for page in range(starts.page_count):
+            place = starts.place + SIZES["dyld_chained_starts_in_segment"] + PAGE_START_SIZE * page
+            start = int.from_bytes(image.data[place:place + PAGE_START_SIZE], "little")
+            if start != DYLD_CHAINED_PTR_START_NONE:
+                yield SimpleNamespace(segment=segment, starts=starts, end=(page + 1) * starts.page_size, place=place,
+                                      first=page * starts.page_size + start)
+
+def can_be_written(image, segment):
+    """A loader finds the bytes of the segment as they are in the file, and can write them."""
+    bytes_of_it = SimpleNamespace(start=segment.fileoff, end=segment.fileoff + segment.filesize)
+    return is_writable(segment) and not is_protected(segment) and not is_encrypted(image, bytes_of_it)
+
+def pointer_at(image, page, offset):
+    """The pointer at an offset of the segment: its place, how many bytes further on the next one begins, or 0, and the
+    import that it binds, or None."""
+    place = page.segment.fileoff + offset
+    number_of = int.from_bytes(image.data[place:place + POINTER_SIZE], "little")
+    bits_of_next, step, bind, bits_of_ordinal = POINTER_FORMATS[page.starts.pointer_format]
+    return SimpleNamespace(place=place, distance=bits(number_of, *bits_of_next) * step,
+                           binds=bits(number_of, *bits_of_ordinal) if bits(number_of, bind, bind) == 1 else None)
+
+def chain_of(image, page):
+    """The pointers that the chain of a page comes to, and then, if one does not fit or is too near, None."""
+    end = min(page.end, page.segment.filesize) if can_be_written(image, page.segment) else 0
+    offset = page.first
+    while offset + POINTER_SIZE <= end:
+        pointer = pointer_at(image, page, offset)
+        yield pointer
+        if pointer.distance == 0:
+            return
+        if pointer.distance < POINTER_SIZE:
+            break
+        offset += pointer.distance
+    yield None
+
+def chain_slot(image):
+    """The first pointer of a page does not fit; or a pointer says a next one that does not, or that is too near."""
+    for page in pages(image):
+        place = page.place
+        for pointer in chain_of(image, page):
+            if pointer is None:
+                yield place
+            else:
+                place = pointer.place
+
+def chain_bind(image):
+    """The pointer binds an import that is not below the number of imports."""
+    for page in pages(image):
+        count = fixups_header(image, chain_table(image)).imports_count
+        for pointer in chain_of(image, page):
+            if pointer is not None and pointer.binds is not None and pointer.binds >= count:
+                yield pointer.place
+
 # Order of judgment
 
 RULES_OF_THE_FILE = [
@@ -1108,7 +1190,7 @@ STRICT_RULES_OF_AN_IMAGE = [
 LINKED_RULES_OF_AN_IMAGE = [
     table_repeated, function_variants, table_home, header_home, rebase_opcode, rebase_slot, rebase_total, bind_opcode,
     bind_library, bind_symbol, bind_slot, bind_total, bind_names,
-    chain_header, chain_starts, chain_imports, chain_total, chain_library,
+    chain_header, chain_starts, chain_imports, chain_total, chain_library, chain_slot, chain_bind,
 ]
 
 def first_of(file, rules_of_the_file, rules_of_an_image):
