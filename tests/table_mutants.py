@@ -1,6 +1,6 @@
-"""Mutants of tables: of the streams of opcodes that LC_DYLD_INFO names, of the chain table of LC_DYLD_CHAINED_FIXUPS,
-and of what they depend on. Each way changes a file and keeps its length, so most mutants break no rule of the layout or
-of the strict profile.
+"""Mutants of tables: of the streams of opcodes that LC_DYLD_INFO names, of the chain table of LC_DYLD_CHAINED_FIXUPS
+and the pointers of its chains, and of what they depend on. Each way changes a file and keeps its length, so most
+mutants break no rule of the layout or of the strict profile.
 
 tests/dyld_trials.py uses them. Nothing of the oracle is used here, so that a mistake in it does not hide itself.
 """
@@ -17,8 +17,12 @@ WORD = 2 ** 64
 # A stream: its name, the place of its start in the command, and where its bytes are in the file.
 Stream = namedtuple("Stream", "name field start end")
 
-# A chain table: as of a stream, without a name.
-Chains = namedtuple("Chains", "field start end")
+# A chain table: as of a stream, without a name, and with where its image begins.
+Chains = namedtuple("Chains", "field start end image")
+
+# A page of a segment with starts: the place of its page start; where the page begins, and where the bytes of the
+# segment end, in the file; the page's size, and the format of its pointers.
+Page = namedtuple("Page", "place start end size form")
 
 # mach-o/fixup-chains.h. The size of a header, whose fields have 4 bytes each; the fields of the starts of a segment,
 # each with its offset and width, and their size; and the size of an import, by its format.
@@ -26,6 +30,11 @@ HEADER_SIZE = 28
 STARTS_FIELDS = ((0, 4), (4, 2), (6, 2), (8, 8), (16, 4), (20, 2))
 STARTS_SIZE = 22
 IMPORT_SIZES = {1: 4, 2: 8, 3: 16}
+PAGE_SIZES = (0x1000, 0x4000)
+# Of a pointer, by its format: how many bits `next` has, which begins at bit 51, the bytes of a step of it, the bit that
+# says bind, and how many bits the ordinal has.
+POINTERS = {1: (11, 8, 62, 16), 2: (12, 4, 63, 24), 6: (12, 4, 63, 24), 9: (11, 8, 62, 16), 12: (11, 8, 62, 24)}
+NEXT_BIT, POINTER_SIZE, NO_CHAIN = 51, 8, 0xffff
 # No more than so many items of one kind are changed.
 MOST_ITEMS = 40
 
@@ -75,7 +84,7 @@ def chains(data):
             if word(data, place) == LC_DYLD_CHAINED_FIXUPS and word(data, place + 4) >= 16:
                 start, size = image + word(data, place + 8), word(data, place + 12)
                 if 0 < size and start + size <= len(data):
-                    found.append(Chains(place + 8, start, start + size))
+                    found.append(Chains(place + 8, start, start + size, image))
     return found
 
 def tables(data):
@@ -338,6 +347,98 @@ def exchange_entries(rng, data, table):
     data = set_word(data, one, second)
     return set_word(data, other, first) if rng.random() < 0.7 else data
 
+def pages(data, table):
+    """The pages of segments with starts whose bytes begin in the file, roughly."""
+    found = []
+    array = table.start + word(data, table.start + 4)
+    places = [place for place in commands(data, table.image) if word(data, place) == LC_SEGMENT_64]
+    for segment, entry in zip(places, entries(data, table)):
+        starts = array + word(data, entry)
+        size, form = word(data, starts + 4, 2), word(data, starts + 6, 2)
+        first = table.image + word(data, segment + 40, 8)
+        end = min(first + word(data, segment + 48, 8), len(data))
+        if starts == array or size not in PAGE_SIZES or form not in POINTERS:
+            continue
+        for page in range(min(word(data, starts + 20, 2), MOST_ITEMS)):
+            place, start = starts + STARTS_SIZE + 2 * page, first + page * size
+            if place + 2 <= table.end and start < end:
+                found.append(Page(place, start, end, size, form))
+    return found
+
+def pointers(data, page):
+    """The places of the pointers of the chain of a page, roughly."""
+    found = []
+    place = page.start + word(data, page.place, 2)
+    bits_of_next, step, *_ = POINTERS[page.form]
+    while place + POINTER_SIZE <= page.end and len(found) < MOST_ITEMS:
+        found.append(place)
+        further = (word(data, place, 8) >> NEXT_BIT) % 2 ** bits_of_next * step
+        if further == 0:
+            break
+        place += further
+    return found
+
+def some_page(rng, data, table):
+    """A page, most of the time one with a chain, or None."""
+    found = pages(data, table)
+    chained = [page for page in found if word(data, page.place, 2) != NO_CHAIN]
+    return rng.choice(chained if chained and rng.random() < 0.8 else found) if found else None
+
+def set_page_start(rng, data, table):
+    """The chain of a page begins elsewhere, near the end of the page or of the segment, or nowhere."""
+    page = some_page(rng, data, table)
+    if page is None:
+        return set_byte(rng, data, table)
+    near = rng.choice((0, 0, -1, 1, -2, -4, 4, -8, 8, rng.randrange(-64, 64)))
+    inside = min(page.size, page.end - page.start)
+    start = rng.choice((near, word(data, page.place, 2) + near, inside - POINTER_SIZE + near, page.size - 8 + near,
+                        rng.randrange(inside), NO_CHAIN, 0x8000 + near, NO_CHAIN + near))
+    return set_word(data, page.place, start, 2)
+
+def some_pointer(rng, data, table, form, room):
+    """A pointer, with so many bytes up to the end of its page or segment: where the next one is, and what it binds."""
+    bits_of_next, step, bind, bits_of_ordinal = POINTERS[form]
+    further = rng.choice((0, 0, 4, 8, 8, 12, 16, room - 8, room - 4, room, rng.randrange(64), rng.randrange(0x4000)))
+    near = rng.choice((0, -1, -1, 1, rng.randrange(-8, 8)))
+    ordinal = rng.choice((0, word(data, table.start + 16) + near, rng.randrange(2 ** bits_of_ordinal)))
+    raw = (further // step) % 2 ** bits_of_next << NEXT_BIT | ordinal % 2 ** bits_of_ordinal
+    raw |= rng.choice((0, 0, rng.randrange(2 ** 24, 2 ** NEXT_BIT)))
+    return raw | rng.choice((0, 1)) << bind | rng.choice((0, 0, 0, 1)) << 63
+
+def set_pointer(rng, data, table):
+    """A pointer of a chain is another one, or has another next one, or binds another import."""
+    page = some_page(rng, data, table)
+    found = pointers(data, page) if page is not None else []
+    if not found:
+        return set_page_start(rng, data, table)
+    place = rng.choice(found)
+    bits_of_next = 0xfff << NEXT_BIT
+    mask = rng.choice((WORD - 1, bits_of_next, bits_of_next, WORD - bits_of_next - 1, 1 << 62, 1 << 63))
+    raw = some_pointer(rng, data, table, page.form, min(page.end, page.start + page.size) - place)
+    return set_word(data, place, word(data, place, 8) & ~mask | raw & mask, 8)
+
+def set_chain(rng, data, table):
+    """A page has another chain, of pointers at short distances, up to near the end of the page or of the segment."""
+    page = some_page(rng, data, table)
+    if page is None:
+        return set_byte(rng, data, table)
+    bits_of_next, step, bind, bits_of_ordinal = POINTERS[page.form]
+    end = min(page.end, page.start + page.size)
+    place = page.start + rng.choice((0, 0, 4, 8, rng.randrange(page.end - page.start), max(end - page.start - 64, 0)))
+    data = set_word(data, page.place, place - page.start, 2)
+    while place + POINTER_SIZE <= end:
+        further = rng.choice((8, 8, 8, 12, 16, 24, rng.randrange(8, 64), rng.choice((4, end - place))))
+        if further + POINTER_SIZE > end - place and rng.random() < 0.8:
+            further = 0
+        raw = some_pointer(rng, data, table, page.form, 8) % 2 ** NEXT_BIT | rng.choice((0, 0, 1)) << bind
+        ordinal = word(data, table.start + 16) - rng.choice((1, 1, 1, 1, 2, 0))
+        raw = raw >> bits_of_ordinal << bits_of_ordinal | ordinal % 2 ** bits_of_ordinal
+        data = set_word(data, place, raw | further // step % 2 ** bits_of_next << NEXT_BIT, 8)
+        if further < step or rng.random() < 0.1:
+            break
+        place += further // step * step
+    return data
+
 def lose_zero(rng, data, table):
     """A zero byte among the last ones is none, so a name goes on; or another one is zero."""
     last = rng.choice((1, 2, 4, 16, table.end - table.start))
@@ -348,8 +449,9 @@ def lose_zero(rng, data, table):
 WAYS = {set_number: 40, flip_bit: 20, set_byte: 15, add_opcode: 20, set_opcode: 20, remove_opcodes: 8,
         repeat_opcodes: 12, move_table: 4, move_tables: 2, set_protection: 3, set_size: 3, set_library: 1}
 
-CHAIN_WAYS = {set_chain_field: 50, flip_bit: 12, set_byte: 8, set_ordinal: 8, repeat_import: 8, exchange_entries: 4,
-              lose_zero: 8, move_table: 4, set_protection: 3, set_size: 3, set_library: 1}
+CHAIN_WAYS = {set_page_start: 25, set_pointer: 40, set_chain: 25, set_chain_field: 50, flip_bit: 12, set_byte: 8,
+              set_ordinal: 8, repeat_import: 8, exchange_entries: 4, lose_zero: 8, move_table: 4, set_protection: 3,
+              set_size: 3, set_library: 1}
 
 def change(rng, data):
     """The file with one change of a table, or of what it depends on."""
