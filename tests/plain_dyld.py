@@ -1,13 +1,13 @@
-"""The plain dyld of docs/LINKED.md, under watch: it follows the opcodes of an image, checks nothing, and really writes.
-Of a chain table it reads the header, the imports and the starts, and does not follow the chains.
+"""The plain dyld of docs/LINKED.md, under watch: it follows the opcodes and the chains of an image, checks nothing, and
+really writes.
 
 Its memory is a copy of the file bytes of the mapped segments, with zeros after them, and with other bytes where a
 kernel decrypts some. What it does is compared with what the linked profile promises, and the first thing that breaks
 the promise raises `Breach`: a byte of a table or of the headers that is read outside of them, that cannot be read, or
-that is no longer the file's; a write that is no whole pointer in the file bytes of one writable segment; a segment or a
-library that is not there; pages that are not those of the segment, or cannot be written; more writes of a stream than
-the budget, or more steps than the bytes and writes explain. So it ends on all files, and on one that breaks the rules
-it says how.
+that is no longer the file's; a write that is no whole pointer in the file bytes of one writable segment; a pointer of a
+chain that is read elsewhere, or that is no longer the file's; a segment, a library or an import that is not there;
+pages that are not those of the segment, or cannot be written; more writes of a stream or of all chains than the budget,
+or more steps than the bytes and writes explain. So it ends on all files, and on one that breaks the rules it says how.
 
 Of tests/oracle.py it takes the commands of an image, and nothing that decodes a stream.
 """
@@ -46,12 +46,16 @@ VM_PROT_READ, VM_PROT_WRITE = 1, 2
 SG_PROTECTED_VERSION_1 = 8
 
 # mach-o/fixup-chains.h. Of an import, by its format: its size, how many bits its ordinal has, and from which bit up to
-# which one the offset of its name is.
+# which one the offset of its name is. Of a pointer, by its format: the mask of `next`, which begins at bit 51, the
+# bytes of a step of it, the bit that says bind, and the mask of the ordinal.
 DYLD_CHAINED_IMPORT, DYLD_CHAINED_IMPORT_ADDEND, DYLD_CHAINED_IMPORT_ADDEND64 = 1, 2, 3
 IMPORTS = {DYLD_CHAINED_IMPORT: (4, 8, 9, 32), DYLD_CHAINED_IMPORT_ADDEND: (8, 8, 9, 32),
            DYLD_CHAINED_IMPORT_ADDEND64: (16, 16, 32, 64)}
-POINTER_FORMATS = {1: "ARM64E", 2: "64", 6: "64_OFFSET", 9: "ARM64E_USERLAND", 12: "ARM64E_USERLAND24"}
+POINTERS = {1: (0x7ff, 8, 62, 0xffff), 2: (0xfff, 4, 63, 0xffffff), 6: (0xfff, 4, 63, 0xffffff),
+            9: (0x7ff, 8, 62, 0xffff), 12: (0x7ff, 8, 62, 0xffffff)}
+NEXT_BIT = 51
 PAGE_SIZES = (0x1000, 0x4000)
+NO_CHAIN = 0xffff
 
 POINTER = 8
 WORD = 2 ** 64
@@ -59,7 +63,11 @@ SLIDE = 0x12345678000
 # What a look-up finds: an address whose bytes are all opcodes that no stream may have.
 FOUND = 0xf1f2f3f4f5f6f7f8
 
-# A write: the stream, the address, and of a bind the ordinal, the name, the addend and the flags.
+# What is written for chains, in the place of a stream.
+CHAINS = "chains"
+
+# A write: the stream, or CHAINS, and the address; of a bind of a stream the ordinal, the name, the addend and the
+# flags, and of one of a chain the ordinal and the name.
 Write = namedtuple("Write", "stream address ordinal name addend flags")
 
 class Breach(Exception):
@@ -165,7 +173,7 @@ class Dyld:
             raise Breach("the table at 0x%x is not found" % start)
         self.place = start
         self.start, self.end = start, start + size
-        self.steps = self.written = 0
+        self.steps = self.written = self.moves = 0
         self.steps_of_byte = steps_of_byte
         self.to_address = named[-1].vmaddr - named[-1].fileoff
 
@@ -230,7 +238,7 @@ class Dyld:
         self.writes.append(Write(stream, address, *of_bind))
         self.written += 1
         if self.written > self.budget:
-            raise Breach("the %s stream has more than %d writes" % (stream, self.budget))
+            raise Breach("more than %d writes of %s" % (self.budget, stream))
 
     def rebase_slots(self, segment, cursor, count, skip):
         for _ in range(count):
@@ -318,7 +326,7 @@ class Dyld:
             else:
                 raise Breach("0x%02x is no opcode" % byte)
 
-    # A chain table
+    # A chain table, and the chains
 
     def number_at(self, place, width):
         """A number of the table, at any place."""
@@ -329,7 +337,8 @@ class Dyld:
         return int.from_bytes(content, "little")
 
     def read_imports(self, first, count, form, symbols):
-        """Looks up each import."""
+        """Looks up each import. Returns of each its place, its size, its ordinal and its name."""
+        found = []
         if form not in IMPORTS:
             raise Breach("imports of format %d are not known" % form)
         size, bits, name_bit, name_end = IMPORTS[form]
@@ -339,19 +348,23 @@ class Dyld:
             # The ordinals up to 0xf0, or 0xfff0, are those of libraries.
             if ordinal > (1 << bits) - 16:
                 ordinal -= 1 << bits
-            self.look_up(ordinal, symbols + (raw % (1 << name_end) >> name_bit))
+            name = self.look_up(ordinal, symbols + (raw % (1 << name_end) >> name_bit))
+            found.append((first + k * size, size, ordinal, name))
+        return found
 
-    def read_starts(self, array):
-        """Reads the starts of each segment that has some."""
+    def follow_starts(self, array, found):
+        """Follows the chains of each segment that has starts."""
         for k in range(self.number_at(array, 4)):
+            self.move()
             offset = self.number_at(array + 4 + 4 * k, 4)
             if offset != 0:
-                self.read_pages(k, array + offset)
+                self.follow_pages(k, array + offset, found)
 
-    def read_pages(self, segment, starts):
-        """Reads where the pages of a segment are, and the start of each chain. No chain is followed."""
+    def follow_pages(self, segment, starts, found):
+        """Reads where the pages of a segment are, and follows the chain of each. A page start is read only after the
+        chains of the pages before it were written."""
         page_size, form = self.number_at(starts + 4, 2), self.number_at(starts + 6, 2)
-        if form not in POINTER_FORMATS or page_size not in PAGE_SIZES:
+        if form not in POINTERS or page_size not in PAGE_SIZES:
             raise Breach("pointers of format %d in pages of %d bytes are not known" % (form, page_size))
         address = (self.image.base + self.number_at(starts + 8, 8)) % WORD
         if address != self.address_of(segment, 0):
@@ -359,10 +372,55 @@ class Dyld:
         if self.memory.part_of(address, 1)[0].initprot & VM_PROT_WRITE == 0:
             raise Breach("segment %d, of pointers, is not writable" % segment)
         for page in range(self.number_at(starts + 20, 2)):
-            self.number_at(starts + 22 + 2 * page, 2)
+            self.move()
+            start = self.number_at(starts + 22 + 2 * page, 2)
+            if start != NO_CHAIN:
+                self.follow_chain(segment, (address + page * page_size + start) % WORD, form, found)
 
-    def read_chains(self, start, size):
-        """Reads the table. A byte can be one of the header, an import, a name, the array and the starts: five steps."""
+    def follow_chain(self, segment, address, form, found):
+        """Reads each pointer, and then writes other bytes there."""
+        mask, stride, bind, ordinals = POINTERS[form]
+        while True:
+            self.move()
+            raw = self.pointer_at(segment, address)
+            ordinal_and_name = self.import_at(raw & ordinals, found) if raw >> bind & 1 else (None, None)
+            self.write(CHAINS, address, ~raw, *ordinal_and_name, None, None)
+            distance = (raw >> NEXT_BIT & mask) * stride
+            if distance == 0:
+                return
+            address = (address + distance) % WORD
+
+    def pointer_at(self, segment, address):
+        """A pointer in memory, which is whole in the file bytes of a writable segment, and still the file's."""
+        part, content, offset = self.memory.part_of(address, POINTER)
+        if part is not self.image.segments[segment] or part.initprot & VM_PROT_WRITE == 0:
+            raise Breach("the pointer at 0x%x is in no writable segment of these chains" % address)
+        if offset + POINTER > len(content):
+            raise Breach("the pointer at 0x%x is not whole in the file" % address)
+        place = part.fileoff + offset
+        if content[offset:offset + POINTER] != self.image.data[place:place + POINTER]:
+            raise Breach("the pointer at 0x%x has changed" % address)
+        return int.from_bytes(content[offset:offset + POINTER], "little")
+
+    def import_at(self, index, found):
+        """The ordinal and the name of an import, which is read again."""
+        if index >= len(found):
+            raise Breach("import %d is not there" % index)
+        place, size, ordinal, name = found[index]
+        for byte in range(place, place + size):
+            self.table_byte(byte)
+        return ordinal, name
+
+    def move(self):
+        """Goes on with a segment, a page or a pointer: no more often than there are bytes in the table, and pointers in
+        the writable segments."""
+        self.moves += 1
+        if self.moves > self.end - self.start + self.budget:
+            raise Breach("a table of %d bytes led to more segments, pages and pointers" % (self.end - self.start))
+
+    def follow_chains(self, start, size):
+        """Reads the table, and follows the chains. A byte can be one of the header, an import, a name, the array and
+        the starts: five steps."""
         if size == 0:
             return
         self.begin(start, size, 5)
@@ -370,14 +428,14 @@ class Dyld:
             self.number_at(start + 4 * k, 4) for k in range(7))
         if version != 0 or symbols_format != 0:
             raise Breach("a table of version %d with symbols of format %d is not known" % (version, symbols_format))
-        self.read_imports(start + imports_offset, count, form, start + symbols_offset)
-        self.read_starts(start + starts_offset)
+        found = self.read_imports(start + imports_offset, count, form, start + symbols_offset)
+        self.follow_starts(start + starts_offset, found)
 
     def load(self):
-        """Follows the streams of each command that names some, and reads each chain table."""
+        """Follows the streams of each command that names some, and the chains of each chain table."""
         for command in self.image.listed:
             if command.cmd == LC_DYLD_CHAINED_FIXUPS:
-                self.read_chains(command.dataoff, command.datasize)
+                self.follow_chains(command.dataoff, command.datasize)
             if command.cmd in (LC_DYLD_INFO, LC_DYLD_INFO_ONLY):
                 self.follow("rebase", command.rebase_off, command.rebase_size)
                 self.follow("bind", command.bind_off, command.bind_size)
@@ -398,3 +456,7 @@ def load(image):
     dyld = Dyld(image)
     dyld.load()
     return dyld.writes
+
+def load_opcodes(image):
+    """The same of what the opcodes ask for alone."""
+    return [write for write in load(image) if write.stream != CHAINS]

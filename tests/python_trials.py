@@ -1121,7 +1121,7 @@ def given_slots(data):
 def dyld_slots(data):
     for image in oracle.File(data).slices:
         if image.is_64_bit:
-            yield from (tuple(write)[1:] for write in plain_dyld.load(image))
+            yield from (tuple(write)[1:] for write in plain_dyld.load_opcodes(image))
 
 
 def judge_threads(report):
