@@ -258,6 +258,7 @@ struct dyld_chained_starts_in_segment {
 };
 
 #define ENTRY_OF_SEGMENT_SIZE sizeof(uint32_t)
+#define DYLD_CHAINED_PTR_START_NONE 0xffffu
 
 // How many ordinals, the greatest ones, are below 0.
 #define SPECIAL_ORDINALS 15u
@@ -1620,6 +1621,7 @@ struct linked {
     uint64_t rooms[SEGMENTS + 1]; // of a segment how many bytes can be written, and 0 where it is not writable
     uint64_t budget;
     uint64_t segment_count, library_count;
+    bool has_encrypted;
     unsigned kinds;
     uint64_t commands[TABLE_COMMANDS]; // their places
     size_t command_count;
@@ -1687,6 +1689,9 @@ static void survey_linked(struct linked *linked) {
         case SLOT(LC_FUNCTION_VARIANT_FIXUPS):
             note_in(image, FUNCTION_VARIANTS, place);
             break;
+        case SLOT(LC_ENCRYPTION_INFO_64):
+            linked->has_encrypted = true;
+            break;
         LIBRARIES(AS_CASE)
             linked->library_count++;
             break;
@@ -1697,11 +1702,14 @@ static void survey_linked(struct linked *linked) {
     }
 }
 
+static inline bool is_protected(const uint8_t *segment) {
+    return (FIELD(segment, segment_command_64, flags) & SG_PROTECTED_VERSION_1) != 0;
+}
+
 // Whether the bytes are in the segment as they are in the file.
 static bool is_home(const uint8_t *command, uint64_t start, uint64_t size) {
     struct segment segment = read_segment(command);
-    return is_mapped(&segment) && is_constant(command) &&
-        (FIELD(command, segment_command_64, flags) & SG_PROTECTED_VERSION_1) == 0 && start >= segment.fileoff &&
+    return is_mapped(&segment) && is_constant(command) && !is_protected(command) && start >= segment.fileoff &&
         fits(start - segment.fileoff, size, segment.filesize);
 }
 
@@ -2096,7 +2104,95 @@ static bool are_broken_starts(const struct chains *chains, uint64_t offset, cons
         vmaddr - base != FIELD(starts, dyld_chained_starts_in_segment, segment_offset) || !is_writable(segment);
 }
 
-// The starts of so many segments. The array begins at an offset of the table.
+// How a pointer is read: how many bits `next` has, which begin at NEXT_BIT, the bytes of a step of it, the bit that says
+// bind, and how many bits the ordinal has.
+struct pointer_format {
+    unsigned next_bits, step, bind_bit, ordinal_bits;
+};
+
+#define NEXT_BIT 51u
+
+static inline uint64_t low_bits(uint64_t number, unsigned count) {
+    return number & (((uint64_t)1 << count) - 1);
+}
+
+// The chain of a page, of which the first pointer fits: it is at an offset of the segment, as is the end, up to which
+// pointers fit.
+static inline void judge_chain(const struct chains *chains, uint64_t fileoff, uint64_t offset, uint64_t end,
+    struct pointer_format format) {
+    const struct image *image = chains->linked->image;
+    uint64_t imports_count = HEADER_FIELD(chains, imports_count);
+    for (;;) {
+        uint64_t place = fileoff + offset, pointer = read_little(image->bytes + place, POINTER_SIZE);
+        uint64_t distance = low_bits(pointer >> NEXT_BIT, format.next_bits) * format.step;
+        if ((pointer >> format.bind_bit & 1) != 0 && low_bits(pointer, format.ordinal_bits) >= imports_count) {
+            note_in(image, CHAIN_BIND, place);
+        }
+        if (distance == 0) {
+            return;
+        }
+        offset += distance;
+        if (distance < POINTER_SIZE || !fits(offset, POINTER_SIZE, end)) {
+            note_in(image, CHAIN_SLOT, place);
+            return;
+        }
+    }
+}
+
+// Whether a command encrypts a byte of the segment.
+static bool has_encrypted(const struct linked *linked, const struct segment *segment) {
+    uint64_t place = sizeof(struct mach_header_64);
+    for (uint64_t k = 0; linked->has_encrypted && k < linked->image->ncmds; k++) {
+        const uint8_t *command = linked->image->bytes + place;
+        if (slot_of(FIELD(command, load_command, cmd)) == SLOT(LC_ENCRYPTION_INFO_64) &&
+            is_encrypted(command, segment->fileoff, segment->filesize)) {
+            return true;
+        }
+        place += FIELD(command, load_command, cmdsize);
+    }
+    return false;
+}
+
+// The pages of a segment, whose starts are good.
+static inline void judge_pages_of(const struct chains *chains, const uint8_t *starts, const uint8_t *command,
+    struct pointer_format format) {
+    struct segment segment = read_segment(command);
+    uint64_t room = is_protected(command) || has_encrypted(chains->linked, &segment) ? 0 : segment.filesize;
+    uint64_t page_size = FIELD(starts, dyld_chained_starts_in_segment, page_size);
+    uint64_t width = WIDTH(dyld_chained_starts_in_segment, page_start[0]), begin = 0;
+    const uint8_t *at = starts + offsetof(struct dyld_chained_starts_in_segment, page_start);
+    const uint8_t *last = at + width * FIELD(starts, dyld_chained_starts_in_segment, page_count);
+    for (; at < last; at += width, begin += page_size) {
+        uint64_t page_start = read_little(at, width), end = begin + page_size < room ? begin + page_size : room;
+        if (page_start == DYLD_CHAINED_PTR_START_NONE) {
+            continue;
+        }
+        if (fits(begin + page_start, POINTER_SIZE, end)) {
+            judge_chain(chains, segment.fileoff, begin + page_start, end, format);
+        } else {
+            note_in(chains->linked->image, CHAIN_SLOT, chains->start + (uint64_t)(at - chains->bytes));
+        }
+    }
+}
+
+// chain-slot and chain-bind, in one walk over the pointers of a segment
+static void judge_pages(const struct chains *chains, const uint8_t *starts, const uint8_t *command) {
+    static const struct pointer_format plain = {12, 4, 63, 24}, arm64e = {11, 8, 62, 16}, arm64e24 = {11, 8, 62, 24};
+    switch (FIELD(starts, dyld_chained_starts_in_segment, pointer_format)) {
+    case DYLD_CHAINED_PTR_64:
+    case DYLD_CHAINED_PTR_64_OFFSET:
+        judge_pages_of(chains, starts, command, plain);
+        break;
+    case DYLD_CHAINED_PTR_ARM64E_USERLAND24:
+        judge_pages_of(chains, starts, command, arm64e24);
+        break;
+    default:
+        judge_pages_of(chains, starts, command, arm64e);
+        break;
+    }
+}
+
+// The starts of so many segments, and the pages of each up to the first broken starts. The array begins at an offset of the table.
 static void judge_starts(const struct chains *chains, uint64_t array, uint64_t count) {
     const struct image *image = chains->linked->image;
     uint64_t place = sizeof(struct mach_header_64), end = 0;
@@ -2115,6 +2211,7 @@ static void judge_starts(const struct chains *chains, uint64_t array, uint64_t c
                 return;
             }
             end = offset + FIELD(chains->bytes + offset, dyld_chained_starts_in_segment, size);
+            judge_pages(chains, chains->bytes + offset, command);
         }
         entry += ENTRY_OF_SEGMENT_SIZE;
     }
