@@ -65,6 +65,8 @@ whose LC_MAIN names an address of no segment. That breaks the last rule, so all 
                                     and 10,000 binds
     chains-N                        chained fixups with N imports, up to a million, each with a name of its own; and
                                     N / 100 writable segments, each with the starts of one page without a chain
+    pointers-Nm                     chained fixups with a pointer in each N bytes of N MiB of zeros, in chains of 16 KiB.
+                                    Each fourth one binds one of 10,000 imports
 """
 
 from __future__ import annotations
@@ -104,6 +106,7 @@ NOP = 0x90
 # mach-o/fixup-chains.h
 DYLD_CHAINED_IMPORT, DYLD_CHAINED_PTR_64, DYLD_CHAINED_PTR_START_NONE = 1, 2, 0xFFFF
 FIXUPS_HEADER_SIZE, STARTS_SIZE, IMPORT_SIZE = 28, 24, 4
+NEXT_BIT, NEXT_STEP, BIND_BIT, LARGE_PAGE = 51, 4, 63, 0x4000
 
 BASE = 0x1_0000_0000
 FAR = 0x2_0000_0000
@@ -572,6 +575,38 @@ def chains(out: BinaryIO, count: int) -> str:
     return with_chains(out, count // 100, (b"_%06d\0" % k for k in range(count)))
 
 
+def chained_pages(distance: int, count: int, imports_count: int) -> Iterator[bytes]:
+    """So many pages with a pointer in each `distance` bytes, of which each fourth one binds an import."""
+    of_page = LARGE_PAGE // distance
+    for page in range(count):
+        content = bytearray(LARGE_PAGE)
+        for k in range(of_page):
+            number = of_page * page + k
+            further = distance // NEXT_STEP if k + 1 < of_page else 0
+            raw = 1 << BIND_BIT | number % imports_count if number % 4 == 3 else BASE + number
+            struct.pack_into("<Q", content, distance * k, raw | further << NEXT_BIT)
+        yield bytes(content)
+
+
+def chained_pointers(out: BinaryIO, mebibytes: int) -> str:
+    start = HEADER_SIZE + 3 * SEGMENT_SIZE + SECTION_SIZE + LIBRARY_SIZE + CHAINED_FIXUPS_SIZE + MAIN_SIZE
+    size = mebibytes * MIB
+    place, count, imports_count = start + size, size // LARGE_PAGE, 10_000
+    starts = struct.pack("<I2HQIH", STARTS_SIZE - 2 + 2 * count, LARGE_PAGE, DYLD_CHAINED_PTR_64, FAR - BASE, 0, count)
+    table = chain_table([b"", starts + bytes(2 * count), b""], (b"_%06d\0" % k for k in range(imports_count)))
+    commands = segment(b"__TEXT", BASE, start, 0, start)
+    commands += segment(b"__DATA", FAR, size, start, size, section(b"__data", FAR, size, start, segname=b"__DATA"),
+                        VM_PROT_READ | VM_PROT_WRITE)
+    commands += segment(b"__LINKEDIT", 2 * FAR, len(table), place, len(table), initprot=VM_PROT_READ)
+    commands += library(0) + chained_fixups(place, len(table))
+
+    def tail() -> Iterator[bytes]:
+        yield from chained_pages(mebibytes, count, imports_count)
+        yield table
+
+    return image(out, commands, 5, tail(), accepted=True)
+
+
 # The commands of which a file has many.
 REPEATED = {"commands": unlisted, "libraries": libraries}
 
@@ -595,6 +630,7 @@ SIZED = {
     "numbers": long_moves,
     "plain": plain,
     "chains": chains,
+    "pointers": chained_pointers,
 }
 
 
