@@ -10,6 +10,7 @@ from __future__ import annotations
 
 import sys
 from pathlib import Path
+from types import SimpleNamespace
 from typing import Any, NamedTuple, Optional
 
 sys.path.insert(0, str(Path(__file__).resolve().parent))
@@ -18,7 +19,7 @@ import oracle  # pylint: disable=wrong-import-position
 NO_INDEX, MOST = 2 ** 32 - 1, 2 ** 64 - 1
 KINDS = """none file magic fat_header fat_table fat_arch slice header headers command segment segment_memory section
 section_bytes section_memory relocations table group name symbol indirect opcode byte chain_header chain_array
-chain_entry chain_starts chain_import""".split()
+chain_entry chain_starts chain_import page_start chain_pointer""".split()
 # What has addresses or indices in place of offsets.
 OF_NUMBERS = {"segment_memory", "section_memory", "group"}
 
@@ -734,6 +735,43 @@ def chain_library(image: Any, place: int) -> Explanation:
     return of_import(image, place, one.ordinal % 2 ** 64, oracle.library_count(image))
 
 
+def starts_with(image: Any, place: int) -> Any:
+    """The starts and the segment of the page start, or of the pointer, at a place: the index of the segment, it, its
+    starts and their entry."""
+    table = oracle.chain_table(image)
+    array = table.start + oracle.fixups_header(image, table).starts_offset
+    for segment, starts in oracle.starts_of_segments(image, table):
+        is_start = starts.place <= place < starts.place + starts.size
+        if is_start or segment.fileoff <= place < segment.fileoff + segment.filesize:
+            index = segment_index(image, segment)
+            return index, segment, starts, array + 4 + 4 * index
+    raise AssertionError(hex(place))
+
+
+def chain_slot(image: Any, place: int) -> Explanation:
+    """`value` is where the pointer ends that does not fit, and `limit` where one has to end at most."""
+    index, segment, starts, entry = starts_with(image, place)
+    if starts.place <= place < starts.place + starts.size:
+        page = (place - starts.place - oracle.SIZES["dyld_chained_starts_in_segment"]) // 2
+        at, begins = structure("page_start", place, 2, page), page * starts.page_size + little(image.data, place, 2)
+    else:
+        page = (place - segment.fileoff) // starts.page_size
+        distance = oracle.pointer_at(image, SimpleNamespace(segment=segment, starts=starts), place - segment.fileoff).distance
+        at, begins = structure("chain_pointer", place, 8, page), place - segment.fileoff + distance
+    limit = min((page + 1) * starts.page_size, segment.filesize) if oracle.can_be_written(image, segment) else 0
+    return Explanation(at, Part("chain_starts", index, starts.place, starts.size, entry), segment_part(image, segment),
+                       begins + 8, limit)
+
+
+def chain_bind(image: Any, place: int) -> Explanation:
+    _, segment, starts, _ = starts_with(image, place)
+    table = oracle.chain_table(image)
+    pointer = oracle.pointer_at(image, SimpleNamespace(segment=segment, starts=starts), place - segment.fileoff)
+    page = (place - segment.fileoff) // starts.page_size
+    return Explanation(structure("chain_pointer", place, 8, page), chain_header_part(table),
+                       segment_part(image, segment), pointer.binds, oracle.fixups_header(image, table).imports_count)
+
+
 OF_FILE = {rule.__name__: rule for rule in (
     magic, fat_truncated, fat_slice_outside, fat_slice_in_table, fat_align, fat_overlap, fat_duplicate,
     fat_slice_magic, fat_empty, fat_stray_byte)}
@@ -743,5 +781,5 @@ OF_IMAGE = {rule.__name__: rule for rule in (
     section_relocs, table_range, symbol_group, symbol_name, symbol_section, indirect_index, entry, commands_end,
     header_segment, segment_file_overlap, element_overlap, stray_byte, encrypted_range, command_slack, unclaimed_byte,
     table_repeated, function_variants, table_home, header_home, rebase_opcode, bind_opcode, bind_library, bind_symbol,
-    bind_names, chain_header, chain_starts, chain_imports, chain_total, chain_library)}
+    bind_names, chain_header, chain_starts, chain_imports, chain_total, chain_library, chain_slot, chain_bind)}
 OF_IMAGE.update(rebase_slot=bad_slot, bind_slot=bad_slot, rebase_total=total, bind_total=total)

@@ -772,7 +772,7 @@ static bool is_strict(uint32_t rule) {
 }
 
 static bool is_linked(uint32_t rule) {
-    return rule >= KESVUOT_TABLE_REPEATED && rule <= KESVUOT_CHAIN_LIBRARY;
+    return rule >= KESVUOT_TABLE_REPEATED && rule <= KESVUOT_CHAIN_BIND;
 }
 
 // The verdict is whole.
@@ -793,7 +793,7 @@ static void check_explanation(const uint8_t *file, size_t size, const struct kes
     struct kesvuot_explanation found;
     for (uint32_t other = 0; other < 4; other++) {
         struct kesvuot_verdict asked = *verdict;
-        asked.rule = (asked.rule + 7 * other) % (KESVUOT_CHAIN_LIBRARY + 2);
+        asked.rule = (asked.rule + 7 * other) % (KESVUOT_CHAIN_BIND + 2);
         asked.place += other;
         memset(&found, UNWRITTEN, sizeof found);
         const uint32_t status = kesvuot_explain(file, size, &asked, &found);
@@ -801,7 +801,7 @@ static void check_explanation(const uint8_t *file, size_t size, const struct kes
         if (status == KESVUOT_OK) {
             CHECK(found.at.start <= asked.place && asked.place - found.at.start <= found.at.size);
             CHECK(found.at.start <= size && found.at.size <= size - found.at.start);
-            CHECK(found.at.kind > KESVUOT_PART_NONE && found.at.kind <= KESVUOT_PART_CHAIN_IMPORT);
+            CHECK(found.at.kind > KESVUOT_PART_NONE && found.at.kind <= KESVUOT_PART_CHAIN_POINTER);
         } else {
             CHECK(found.at.kind == KESVUOT_PART_NONE && found.slice == KESVUOT_NO_INDEX);
         }
@@ -906,7 +906,7 @@ static void check_constants(void) {
     for (; kesvuot_find_rule(rule, &name) == KESVUOT_OK; rule++) {
         CHECK(name.size > 0 && name.size == strlen(name.at));
     }
-    CHECK(rule > KESVUOT_CHAIN_LIBRARY && name.size == 0);
+    CHECK(rule > KESVUOT_CHAIN_BIND && name.size == 0);
     CHECK(kesvuot_find_rule(0, &name) == KESVUOT_NONE && name.size == 0);
     CHECK(kesvuot_find_rule(UINT32_MAX, &name) == KESVUOT_NONE && name.size == 0);
     for (uint32_t number = 0; number < 256; number++) {

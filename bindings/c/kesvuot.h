@@ -138,7 +138,9 @@ enum {
     KESVUOT_CHAIN_STARTS = 55,
     KESVUOT_CHAIN_IMPORTS = 56,
     KESVUOT_CHAIN_TOTAL = 57,
-    KESVUOT_CHAIN_LIBRARY = 58
+    KESVUOT_CHAIN_LIBRARY = 58,
+    KESVUOT_CHAIN_SLOT = 59,
+    KESVUOT_CHAIN_BIND = 60
 };
 
 /* The verdict on a file */
@@ -166,9 +168,8 @@ uint32_t kesvuot_verify(const void *file, size_t size, struct kesvuot_verdict *v
 uint32_t kesvuot_verify_strictly(const void *file, size_t size, struct kesvuot_verdict *verdict);
 
 /* Judges a file as kesvuot_verify_strictly does, and then by the rules of the linked profile: where the linked data of
- * an image lies, what the opcodes of LC_DYLD_INFO and LC_DYLD_INFO_ONLY ask a dynamic loader for, and what the header,
- * the starts and the imports of LC_DYLD_CHAINED_FIXUPS are. LINKED.md says what that means. The pointers that are
- * chained in the pages are not judged.
+ * an image lies, and what the opcodes of LC_DYLD_INFO and LC_DYLD_INFO_ONLY, the table of LC_DYLD_CHAINED_FIXUPS and
+ * the pointers that are chained in the pages ask a dynamic loader for. LINKED.md says what that means.
  * Every file that is OK here is also OK for kesvuot_verify_strictly.
  * Memory can run out wherever it can for kesvuot_verify_strictly, and nowhere else. */
 uint32_t kesvuot_verify_linked(const void *file, size_t size, struct kesvuot_verdict *verdict);
@@ -251,7 +252,9 @@ enum {
     KESVUOT_PART_CHAIN_ENTRY = 25,    /* seg_info_offset of the segment with this index */
     KESVUOT_PART_CHAIN_STARTS = 26,   /* dyld_chained_starts_in_segment of the segment with this index: all its size
                                          bytes, or 22 if its first 22 are not all in the table */
-    KESVUOT_PART_CHAIN_IMPORT = 27    /* an import of chained fixups. The index counts from 0 */
+    KESVUOT_PART_CHAIN_IMPORT = 27,   /* an import of chained fixups. The index counts from 0 */
+    KESVUOT_PART_PAGE_START = 28,     /* page_start of the page with this index, which counts from 0 */
+    KESVUOT_PART_CHAIN_POINTER = 29   /* a pointer of a chain, 8 bytes, with the index of its page */
 };
 
 /* A structure, or what a structure describes. A part lies where the file says, which can be past the file. */
@@ -281,7 +284,7 @@ struct kesvuot_explanation {
  * OK: all fields are written. NONE: no rule has the number `rule`, or nothing that the rule is about is at `place`, as
  * after OK. All indices are then KESVUOT_NO_INDEX, and all other fields 0.
  * The call does not judge the file again. It takes no memory, and time in proportion to the headers, the streams and
- * the table of chained fixups. */
+ * the table of chained fixups. It does not follow a chain. */
 uint32_t kesvuot_explain(const void *file, size_t size, const struct kesvuot_verdict *verdict,
                          struct kesvuot_explanation *explanation);
 

@@ -33,6 +33,8 @@ const (
 	ChainEntry    PartKind = 25
 	ChainStarts   PartKind = 26
 	ChainImport   PartKind = 27
+	PageStart     PartKind = 28
+	ChainPointer  PartKind = 29
 )
 
 // NoIndex is the index of nothing.

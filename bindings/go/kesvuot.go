@@ -63,10 +63,9 @@ func VerifyStrictly(file []byte) (*File, error) {
 }
 
 // VerifyLinked judges a file by the rules of the linked profile too, after those of VerifyStrictly: where the linked
-// data of an image lies, what the opcodes of LC_DYLD_INFO and LC_DYLD_INFO_ONLY ask a dynamic loader for, and what the
-// header, the starts and the imports of LC_DYLD_CHAINED_FIXUPS are. The pointers that are chained in the pages are not
-// judged. LINKED.md says what that means. Whatever is accepted here is accepted by VerifyStrictly. The error is a
-// *Refused, or ErrMemory.
+// data of an image lies, and what the opcodes of LC_DYLD_INFO and LC_DYLD_INFO_ONLY, the table of
+// LC_DYLD_CHAINED_FIXUPS and the pointers that are chained in the pages ask a dynamic loader for. LINKED.md says what
+// that means. Whatever is accepted here is accepted by VerifyStrictly. The error is a *Refused, or ErrMemory.
 func VerifyLinked(file []byte) (*File, error) {
 	return judge(file, linked)
 }

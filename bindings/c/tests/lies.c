@@ -146,7 +146,7 @@ static void take_explanation(size_t size) {
         kesvuot_verify_linked(file.bytes, size, &verdict);
     }
     if (!verdict.rule || draw_below(4) == 0) {
-        verdict.rule = (uint32_t)(draw_below(8) ? draw_below(KESVUOT_CHAIN_LIBRARY + 2) : draw());
+        verdict.rule = (uint32_t)(draw_below(8) ? draw_below(KESVUOT_CHAIN_BIND + 2) : draw());
         verdict.place = lie(draw_below(2) ? verdict.place : 4 * draw_below(0x100));
     }
     verdict.slices = draw();
@@ -154,10 +154,10 @@ static void take_explanation(size_t size) {
     calls++;
     if (status == KESVUOT_OK) {
         explained++;
-        CHECK(found.at.kind > KESVUOT_PART_NONE && found.at.kind <= KESVUOT_PART_CHAIN_IMPORT);
+        CHECK(found.at.kind > KESVUOT_PART_NONE && found.at.kind <= KESVUOT_PART_CHAIN_POINTER);
         CHECK(found.at.start <= verdict.place && verdict.place - found.at.start <= found.at.size);
         CHECK(found.at.start <= size && found.at.size <= size - found.at.start);
-        CHECK(found.first.kind <= KESVUOT_PART_CHAIN_IMPORT && found.second.kind <= KESVUOT_PART_CHAIN_IMPORT);
+        CHECK(found.first.kind <= KESVUOT_PART_CHAIN_POINTER && found.second.kind <= KESVUOT_PART_CHAIN_POINTER);
     } else {
         CHECK(status == KESVUOT_NONE && memcmp(&found, &none, sizeof none) == 0);
     }

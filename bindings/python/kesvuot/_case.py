@@ -41,7 +41,7 @@ FIELDS = {
     "fat-table": "nfat_arch", "slice": "offset size", "headers": "sizeofcmds",
     "command": "cmd cmdsize", "segment": "fileoff filesize", "segment-memory": "vmaddr vmsize",
     "section-bytes": "offset size", "section-memory": "addr size", "relocations": "reloff nreloc",
-    "chain-starts": "size page_size pointer_format segment_offset page_count"}
+    "chain-header": "imports_count", "chain-starts": "size page_size pointer_format segment_offset page_count"}
 # The structures of chained fixups, by the parts that they are.
 CHAIN_STRUCTURES = {
     "chain-header": "dyld_chained_fixups_header", "chain-array": "dyld_chained_starts_in_image",
@@ -60,7 +60,7 @@ MORE_FIELDS: Dict[str, Tuple[str, str]] = {
     **dict.fromkeys(("rebase-slot", "bind-slot"), ("", "vmsize initprot")),
     "chain-header": ("fixups_version imports_format symbols_format", ""),
     "chain-starts": ("starts_offset seg_count", "vmaddr vmsize initprot"),
-    "chain-imports": ("imports_offset imports_count imports_format", "")}
+    "chain-imports": ("imports_offset imports_count imports_format", ""), "chain-slot": ("", "initprot flags")}
 
 
 class Spot(NamedTuple):
@@ -134,6 +134,10 @@ class Case:
             return f"the starts of segment {wanted.index}"
         if wanted.kind == "chain-import":
             return f"import {wanted.index}"
+        if wanted.kind == "page-start":
+            return f"the page_start of page {wanted.index}"
+        if wanted.kind == "chain-pointer":
+            return f"the pointer at {wanted.start:#x}"
         if wanted.kind == "group":
             return f"the group of {GROUPS[wanted.index or 0]} symbols"
         part = self.found(wanted)

@@ -36,8 +36,7 @@ MEMORY = frozenset(("segment-memory", "section-memory"))
 MOST_NAMES = 20
 # The tables whose contents each profile judges in part, and those whose contents the linked profile judges.
 JUDGED_TABLES = {"symbols", "strings", "indirect symbols"}
-CHAINS = "chained fixups"
-STREAMS = {"rebase opcodes", "bind opcodes", "weak bind opcodes", "lazy bind opcodes"}
+JUDGED_BY_LINKED = {"rebase opcodes", "bind opcodes", "weak bind opcodes", "lazy bind opcodes", "chained fixups"}
 
 Rows = List[Tuple[str, ...]]
 
@@ -74,9 +73,6 @@ def _not_judged(profile: str, file: File) -> Rows:
         if commands:
             rows.append((name, f"the fields of {_enumerated(commands)}"))
         tables = [it.name for it in image_parts(file.data, found, part) if _is_left(it.kind, it.name, profile)]
-        if profile == "linked" and CHAINS in tables:
-            tables.remove(CHAINS)
-            rows.append((name, f"the pointers of {CHAINS}"))
         if tables:
             rows.append((name, f"the contents of {_enumerated(tables)}"))
     return rows
@@ -91,7 +87,7 @@ def _enumerated(names: List[str]) -> str:
 
 def _is_left(kind: str, name: str, profile: str) -> bool:
     """Whether the contents of a part are not judged."""
-    judged = JUDGED_TABLES | (STREAMS if profile == "linked" else set())
+    judged = JUDGED_TABLES | (JUDGED_BY_LINKED if profile == "linked" else set())
     return kind in ("relocations", "encrypted range") or (kind == "table" and name not in judged)
 
 

@@ -431,9 +431,8 @@ def verify_file(path: Union[str, bytes, "os.PathLike[str]", "os.PathLike[bytes]"
 
 def verify_linked(data: Data) -> File:
     """Judges a file by the rules of the strict profile, and then by those of docs/LINKED.md: where the linked data of
-    an image lies, what the opcodes of LC_DYLD_INFO and LC_DYLD_INFO_ONLY ask a dynamic loader for, and what the header,
-    the starts and the imports of LC_DYLD_CHAINED_FIXUPS are. The pointers that are chained in the pages are not judged.
-    Raises what `verify` raises."""
+    an image lies, and what the opcodes of LC_DYLD_INFO and LC_DYLD_INFO_ONLY, the table of LC_DYLD_CHAINED_FIXUPS and
+    the pointers that are chained in the pages ask a dynamic loader for. Raises what `verify` raises."""
     return _judge(data, load().kesvuot_verify_linked)
 
 

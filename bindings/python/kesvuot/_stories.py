@@ -26,7 +26,7 @@ LEAST_ORDINAL = -3
 IMPORT_SIZES = {1: 4, 2: 8, 3: 16}
 POINTER_FORMATS = (1, 2, 6, 9, 12)
 PAGE_SIZES = (0x1000, 0x4000)
-STARTS_SIZE, PAGE_START_SIZE, ENTRY_SIZE = 22, 2, 4
+STARTS_SIZE, PAGE_START_SIZE, ENTRY_SIZE, POINTER_SIZE = 22, 2, 4, 8
 
 
 class Story(NamedTuple):
@@ -464,6 +464,39 @@ def _chain_total(it: Teller) -> Story:
                     f"{it.limit}.", "bytes of names", "size of the table")
 
 
+def _chain_slot(it: Teller) -> Story:
+    numbers = "end of the pointer in the segment", "greatest end of one"
+    if not it.limit:
+        return it.story(f"{it.at} begins a chain in {it.second}, {_why_not_written(it)}.", *numbers)
+    begins = it.value - POINTER_SIZE
+    if it.at_part.kind == "page-start":
+        return it.story(f"{it.at} begins a chain at {begins:#x} of {it.second}, {_past_limit(it)}.", *numbers)
+    distance = begins - (it.at_part.start - it.second_part.start)
+    if distance < POINTER_SIZE:
+        return it.story(f"{it.at} says that the next one begins {count_text(distance, 'byte')} further on, and each has "
+                        f"{POINTER_SIZE}.", *numbers)
+    return it.story(f"{it.at} says that the next one is at {begins:#x} of {it.second}, {_past_limit(it)}.", *numbers)
+
+
+def _past_limit(it: Teller) -> str:
+    whose = "its bytes in the file" if it.limit == it.second_part.size else "the page"
+    return f"where a pointer ends at {it.value:#x}, past the end of {whose}, {it.limit:#x}"
+
+
+def _why_not_written(it: Teller) -> str:
+    """Why no pointer of a writable segment can be written as it is in the file."""
+    if not it.second_part.size:
+        return "which has no bytes in the file"
+    if _segment_number(it, "flags") & SG_PROTECTED_VERSION_1:
+        return "which is encrypted"
+    return "some of whose bytes are encrypted"
+
+
+def _chain_bind(it: Teller) -> Story:
+    return it.story(f"{it.at} binds import {it.value}, and the table has {count_text(it.limit, 'import')}.", "ordinal",
+                    "imports_count")
+
+
 def _function_variants(it: Teller) -> Story:
     return it.story(f"by {it.at} newer loaders write to the image, and no rule reads what it names.", "cmd")
 
@@ -498,7 +531,7 @@ STORIES: Dict[str, Callable[[Teller], Story]] = {
     "bind-opcode": _opcode, "bind-library": _bind_library, "bind-symbol": _bind_symbol, "bind-slot": _slot,
     "bind-total": _total, "bind-names": _bind_names, "chain-header": _chain_header, "chain-starts": _chain_starts,
     "chain-imports": _chain_imports, "chain-total": _chain_total,
-    "chain-library": lambda it: _library(it, "is of")}
+    "chain-library": lambda it: _library(it, "is of"), "chain-slot": _chain_slot, "chain-bind": _chain_bind}
 
 
 class Told(NamedTuple):

@@ -87,6 +87,10 @@ kinds! {
     ChainStarts = 26,
     /// An import of chained fixups. The index counts from 0.
     ChainImport = 27,
+    /// `page_start` of the page with this index, which counts from 0.
+    PageStart = 28,
+    /// A pointer of a chain, 8 bytes, with the index of its page.
+    ChainPointer = 29,
 }
 
 /// A structure, or what a structure describes. It lies where the file says, which can be past the

@@ -100,10 +100,9 @@ pub fn verify_strictly(file: &[u8]) -> Result<Verified<'_>, Error> {
 }
 
 /// Judges a file by the rules of the linked profile too, after those of [`verify_strictly`]: where
-/// the linked data of an image lies, what the opcodes of `LC_DYLD_INFO` and `LC_DYLD_INFO_ONLY` ask
-/// a dynamic loader for, and what the header, the starts and the imports of
-/// `LC_DYLD_CHAINED_FIXUPS` are. The pointers that are chained in the pages are not judged.
-/// `docs/LINKED.md` says what that means. Whatever is accepted here is accepted by
+/// the linked data of an image lies, and what the opcodes of `LC_DYLD_INFO` and `LC_DYLD_INFO_ONLY`,
+/// the table of `LC_DYLD_CHAINED_FIXUPS` and the pointers that are chained in the pages ask a dynamic
+/// loader for. `docs/LINKED.md` says what that means. Whatever is accepted here is accepted by
 /// [`verify_strictly`].
 ///
 /// # Errors

@@ -168,6 +168,11 @@ rules! {
     ChainTotal = 57,
     /// Linked: an import of chained fixups is of a library that is not there.
     ChainLibrary = 58,
+    /// Linked: a pointer of a chain ends past its page or the bytes of its segment, begins in the one
+    /// before it, or cannot be written as it is in the file.
+    ChainSlot = 59,
+    /// Linked: a pointer of a chain binds an import that is not there.
+    ChainBind = 60,
 }
 
 impl Rule {
