@@ -158,7 +158,7 @@ REBASE_OPCODES, BIND_OPCODES = [
 ]
 
 # The imports of chained fixups, by `imports_format`: their bytes, and the bits of the ordinal and of the name's offset,
-# each from the first up to and with the last. And the formats of pointers that are judged: the bits of `next`, the
+# each from the first up to and including the last. And the formats of pointers that are judged: the bits of `next`, the
 # bytes of a step of it, the bit that says bind, and the bits of the ordinal.
 IMPORT_FORMATS = {
     int(number): (int(size), (int(ordinal), int(last_of_ordinal)), (int(offset), int(last_of_offset)))
@@ -945,7 +945,7 @@ def rebase_slot(image):
     return bad_slots(image, REBASE_STREAMS)
 
 def rebase_total(image):
-    """The counts of the stream up to and with this opcode have a sum above the budget."""
+    """The counts of the stream up to and including this opcode have a sum above the budget."""
     return above_budget(image, REBASE_STREAMS)
 
 def bind_opcode(image):
@@ -977,7 +977,7 @@ def bind_total(image):
     return above_budget(image, BIND_STREAMS)
 
 def bind_names(image):
-    """The names that were new up to and with this opcode, each with its zero byte, have more bytes than the stream."""
+    """The names new up to and including this opcode, with their zero bytes, have more bytes than the stream."""
     for table in streams(image, *BIND_STREAMS):
         total = 0
         for run in runs(image, table):
@@ -1046,7 +1046,7 @@ def are_good_starts(image, table, segment, place):
             and image.base + starts.segment_offset == segment.vmaddr and is_writable(segment))
 
 def bits(number_of, first, last):
-    """The bits of a number from the first up to and with the last, as a number."""
+    """The bits of a number from the first up to and including the last, as a number."""
     return (number_of >> first) % 2 ** (last - first + 1)
 
 def ordinal_of_import(number_of, first, last):
@@ -1085,7 +1085,7 @@ def chain_imports(image):
             return
 
 def chain_total(image):
-    """The names of the imports up to and with this one, each with its zero byte, have more bytes than the table."""
+    """The names of the imports up to and including this one, with their zero bytes, have more bytes than the table."""
     table = chain_table(image)
     total = 0
     for one in imports(image):

@@ -60,7 +60,7 @@ class Teller:
                           f"length of {self.whole}")
 
     def shares(self) -> Story:
-        """Two parts share bytes or addresses, from `value` up to and with `limit`."""
+        """Two parts share bytes or addresses, from `value` up to and including `limit`."""
         is_memory = self.first_part.kind == "segment-memory"
         one, some = ("address", "addresses") if is_memory else ("byte", "bytes")
         shared = f"{some} {self.value:#x} up to {self.limit + 1:#x}" if self.value < self.limit else \
@@ -356,7 +356,7 @@ def _slot(it: Teller) -> Story:
 
 def _total(it: Teller) -> Story:
     asked = count_text(it.value, "pointer")
-    return it.story(f"up to and with {it.at}, {it.first} ask for {asked}, and the writable segments have room for "
+    return it.story(f"up to and including {it.at}, {it.first} ask for {asked}, and the writable segments have room for "
                     f"{it.limit}.", "pointers asked for", "pointers in writable segments")
 
 
@@ -376,7 +376,7 @@ def _bind_symbol(it: Teller) -> Story:
 
 
 def _bind_names(it: Teller) -> Story:
-    return it.story(f"up to and with {it.at}, names of {it.value} bytes are looked up, and {it.first} have "
+    return it.story(f"up to and including {it.at}, names of {it.value} bytes are looked up, and {it.first} have "
                     f"{it.limit} bytes.", "bytes of names", "bytes of the stream")
 
 
@@ -460,7 +460,7 @@ def _chain_imports(it: Teller) -> Story:
 
 
 def _chain_total(it: Teller) -> Story:
-    return it.story(f"up to and with {it.at}, the names of the imports have {it.value} bytes, and {it.first} have "
+    return it.story(f"up to and including {it.at}, the names of the imports have {it.value} bytes, and {it.first} have "
                     f"{it.limit}.", "bytes of names", "size of the table")
 
 
@@ -475,7 +475,8 @@ def _chain_slot(it: Teller) -> Story:
     if distance < POINTER_SIZE:
         return it.story(f"{it.at} says that the next one begins {count_text(distance, 'byte')} further on, and each has "
                         f"{POINTER_SIZE}.", *numbers)
-    return it.story(f"{it.at} says that the next one is at {begins:#x} of {it.second}, {_past_limit(it)}.", *numbers)
+    text = f"{it.at} says that the next one is at {begins:#x} of {it.second}, {_past_limit(it)}."
+    return it.story(text, *numbers)
 
 
 def _past_limit(it: Teller) -> str:
