@@ -12,8 +12,7 @@ use std::marker::Model;
 #[derive(Drop)]
 pub(crate) struct Disjoint {
     spans: SpansByStart,
-    // The index of the span that held the last place. Places mostly ascend, so the next one is looked for
-    // there and in the span after it, before all spans are searched.
+    // The index of the span that held the last place of those that mostly ascend.
     last: Cell<usize>,
 }
 
@@ -45,13 +44,22 @@ impl Disjoint {
         }
     }
 
-    // The span that holds the place, or `None` if none does.
+    // The span that holds the place, or `None` if none does. All are searched.
     pub(crate) fn holding(&self, place: u64) -> Option<Span>
+        ensures { IsHolding self.now place result }
+    {
+        let span = self.spans.last_by(place)?;
+        if span.holds(place) { Some(span) } else { None }
+    }
+
+    // The same, for places that mostly ascend: the span that held the last place and the one after it are
+    // looked at before all are searched.
+    pub(crate) fn holding_next(&self, place: u64) -> Option<Span>
         ensures { IsHolding self.now place result }
     {
         match self.holding_near(place) {
             Some(span) => Some(span),
-            None => self.holding_anywhere(place),
+            None => self.holding(place),
         }
     }
 
@@ -79,13 +87,5 @@ impl Disjoint {
         }
         self.last.set(index);
         Some(span)
-    }
-
-    // The span that holds the place, or `None` if none does. All are searched.
-    fn holding_anywhere(&self, place: u64) -> Option<Span>
-        ensures { IsHolding self.now place result }
-    {
-        let span = self.spans.last_by(place)?;
-        if span.holds(place) { Some(span) } else { None }
     }
 }

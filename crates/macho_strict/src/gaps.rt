@@ -40,7 +40,9 @@ impl<'a> Wanted<'a> {
     }
 }
 
-// The least place of the span that has a byte which is neither zero nor a NOP of the code.
+// The least place of the span that has a byte which is neither zero nor a NOP of the code. It is not made
+// part of the search for any byte that is not zero, which is more frequent.
+#[inline(never)]
 fn first_unpadded(bytes: Bytes, code: &Disjoint, span: Span) -> Option<u64>
     ensures { IsLeastPlace (λ place. (span.start ≤ place) × (place < end_of span)
         × IsUnpadded code.now (bytes_of bytes.entry) place) result }
@@ -53,7 +55,7 @@ fn first_unpadded(bytes: Bytes, code: &Disjoint, span: Span) -> Option<u64>
         if bytes.read_u8(place) != NOP {
             return Some(place);
         }
-        let Some(part) = code.holding(place) else {
+        let Some(part) = code.holding_next(place) else {
             return Some(place);
         };
         let limit = part.end().min(u128::from(end)) as u64;
