@@ -24,7 +24,7 @@ use Rattle.macho_image.specs.Opened.{IsOpened, IsCommandOf}
 use Rattle.macho_image.specs.Segment.{SectionView, SegmentView, segment_at, section_at, sections_with, segment_of}
 use Rattle.macho_rules.proofs.Judged.{opened_facts, opened_commands}
 use Rattle.macho_strict.specs.Elements.{contents, relocations, headers, section_elements, described_tables, command_elements, elements_of}
-use Rattle.macho_strict.specs.ElementWalk.{tables_left, sections_left, elements_left, described_left, HoldsTable}
+use Rattle.macho_strict.specs.ElementWalk.{tables_left, section_elements_left, elements_left, described_left, HoldsTable}
 use Rattle.macho_strict.specs.declared.elements.Element.{Element}
 
 -- Tables
@@ -79,21 +79,21 @@ module _ (image : List ℕ) (opened : IsOpened image) (command : ℕ) (listed : 
 
 -- Sections
 
-pub sections_same : (image : List ℕ) (segment : ℕ) → sections_left (map (section_at image) (sections_with image segment)) ≡ flat_map (section_elements image) (sections_in image segment)
+pub sections_same : (image : List ℕ) (segment : ℕ) → section_elements_left (map (section_at image) (sections_with image segment)) ≡ flat_map (section_elements image) (sections_in image segment)
 sections_same image segment =
     flat_map-map (λ (s : SectionView). section_elements s.image s.place) (section_at image) (sections_with image segment)
     ∙ flat_map-map (λ (pair : ℕ × ℕ). section_elements image pair.1) (λ section. (segment, section)) (sections_in image segment)
 
 -- one section more
-left_more : (seen : List SectionView) (s : SectionView) → sections_left (seen ++ s ∷ []) ≡ sections_left seen ++ section_elements s.image s.place
+left_more : (seen : List SectionView) (s : SectionView) → section_elements_left (seen ++ s ∷ []) ≡ section_elements_left seen ++ section_elements s.image s.place
 left_more [] s = refl
 left_more (x ∷ xs) s = ap (λ rest. contents x.image x.place ∷ relocations x.image x.place ∷ rest) (left_more xs s)
 
 pub sections_more : (elements : List Element) (seen : List SectionView) (s : SectionView)
-    → ((elements ++ sections_left seen) ++ contents s.image s.place ∷ []) ++ relocations s.image s.place ∷ [] ≡ elements ++ sections_left (seen ++ s ∷ [])
+    → ((elements ++ section_elements_left seen) ++ contents s.image s.place ∷ []) ++ relocations s.image s.place ∷ [] ≡ elements ++ section_elements_left (seen ++ s ∷ [])
 sections_more elements seen s =
-    append_assoc (elements ++ sections_left seen) (contents s.image s.place ∷ []) (relocations s.image s.place ∷ [])
-    ∙ (append_assoc elements (sections_left seen) (section_elements s.image s.place) ∙ ap (λ rest. elements ++ rest) (sym (left_more seen s)))
+    append_assoc (elements ++ section_elements_left seen) (contents s.image s.place ∷ []) (relocations s.image s.place ∷ [])
+    ∙ (append_assoc elements (section_elements_left seen) (section_elements s.image s.place) ∙ ap (λ rest. elements ++ rest) (sym (left_more seen s)))
 
 -- Commands
 
@@ -108,11 +108,11 @@ of_segment image command is = rw is refl
 
 pub segment_elements : (image : List ℕ) (command : ℕ) → (command_cmd image command == loader.LC_SEGMENT_64) ≡ true
     → command_elements image command
-    ≡ sections_left (map (section_at image) (sections_with image command)) ++ tables_left image command (described_tables (command_cmd image command) (command_size image command))
+    ≡ section_elements_left (map (section_at image) (sections_with image command)) ++ tables_left image command (described_tables (command_cmd image command) (command_size image command))
 segment_elements image command is =
     rw is
-    (sym (sections_same image command) ∙ (sym (append-nil (sections_left (map (section_at image) (sections_with image command))))
-    ∙ ap (λ cmd. sections_left (map (section_at image) (sections_with image command)) ++ tables_left image command (described_tables cmd (command_size image command)))
+    (sym (sections_same image command) ∙ (sym (append-nil (section_elements_left (map (section_at image) (sections_with image command))))
+    ∙ ap (λ cmd. section_elements_left (map (section_at image) (sections_with image command)) ++ tables_left image command (described_tables cmd (command_size image command)))
     (sym (eqb-true (command_cmd image command) loader.LC_SEGMENT_64 is))))
 
 module _ (image : List ℕ) (c : CommandView) (of : IsCommandOf image c) where
@@ -136,11 +136,11 @@ module _ (image : List ℕ) (c : CommandView) (of : IsCommandOf image c) where
   is_other f = rw f refl
 
   -- what it describes as a segment
-  pub segment_described : (s : SegmentView) → segment_of image c ≡ Some s → sections_left (map (section_at s.image) (sections_with s.image s.place)) ≡ command_elements image c.place
+  pub segment_described : (s : SegmentView) → segment_of image c ≡ Some s → section_elements_left (map (section_at s.image) (sections_with s.image s.place)) ≡ command_elements image c.place
   segment_described s is = elim (cases_Bool (c.cmd == loader.LC_SEGMENT_64)) [
     | inl t ↦
         let here : segment_at image c.place ≡ s = same_Some (segment_at image c.place) s (sym (is_segment t) ∙ is) in
-        ap (λ (v : SegmentView). sections_left (map (section_at v.image) (sections_with v.image v.place))) (sym here)
+        ap (λ (v : SegmentView). section_elements_left (map (section_at v.image) (sections_with v.image v.place))) (sym here)
         ∙ (sections_same image c.place ∙ sym (of_segment image c.place (subst (λ cmd. (cmd == loader.LC_SEGMENT_64) ≡ true) has_cmd t)))
     | inr f ↦ absurd (none-some s (sym (is_other f) ∙ is))
   ]

@@ -15,7 +15,7 @@ use Rattle.macho_fields.proofs.Slices.{slice_count}
 use Rattle.macho_strict.specs.declared.gaps.Wanted.TheVariants as wanted
 use Rattle.macho_strict.specs.Gaps.{IsStray, ComeByStart}
 use Rattle.macho_strict.specs.Rules.{BreaksStrictFile}
-use Rattle.macho_strict.specs.Stray.{table_span}
+use Rattle.macho_strict.specs.Stray.{fat_table_span}
 use Rattle.macho_strict.specs.Verdict.{slice_spans}
 use Rattle.macho_fields.specs.declared.rule.Rule.TheVariants as rule
 use Rattle.macho_strict.proofs.Passed.{least_same, ascending_by_start, all_of_free, free_of_all}
@@ -65,13 +65,13 @@ module _ (file : List ℕ) (table : Span) where
   spans_all i past = ap (λ spans. table ∷ spans) (take_all i (slice_spans file) (omega (arith, length-map (slices_of file) span_of)))
 
 -- slices that ascend come by start, and the table before them
-pub ascend_after_table : (file : List ℕ) → IsAscending (slice_spans file) → ComeByStart (table_span file ∷ slice_spans file)
+pub ascend_after_table : (file : List ℕ) → IsAscending (slice_spans file) → ComeByStart (fat_table_span file ∷ slice_spans file)
 ascend_after_table file up zero j less filled_i filled_j = omega arith
 ascend_after_table file up (suc i) zero less filled_i filled_j = absurd (omega arith)
 ascend_after_table file up (suc i) (suc j) less filled_i filled_j = ascending_by_start (slice_spans file) up i j (omega arith) filled_i filled_j
 
 module _ (file : List ℕ) (universal : IsUniversal file) where
-  breaks : (p : ℕ) → IsStray wanted.NonZero file (table_span file ∷ slice_spans file) p → BreaksStrictFile file rule.FatStrayByte p
+  breaks : (p : ℕ) → IsStray wanted.NonZero file (fat_table_span file ∷ slice_spans file) p → BreaksStrictFile file rule.FatStrayByte p
   breaks p (is, free) = (universal, is, past, none)
     where
       past : table_end file ≤ p
@@ -83,12 +83,12 @@ module _ (file : List ℕ) (universal : IsUniversal file) where
       none : All (λ slice. ¬ HasPlace slice p) (slices_of file)
       none = all_of_free span_of (slices_of file) p (λ k. free (suc k))
 
-  strays : (p : ℕ) → BreaksStrictFile file rule.FatStrayByte p → IsStray wanted.NonZero file (table_span file ∷ slice_spans file) p
+  strays : (p : ℕ) → BreaksStrictFile file rule.FatStrayByte p → IsStray wanted.NonZero file (fat_table_span file ∷ slice_spans file) p
   strays p (_, is, past, none) = (is, free)
     where
-      free : (i : ℕ) → ¬ Holds (span_at (table_span file ∷ slice_spans file) i) p
+      free : (i : ℕ) → ¬ Holds (span_at (fat_table_span file ∷ slice_spans file) i) p
       free zero held = absurd (omega (arith, held.1))
       free (suc k) held = free_of_all span_of (slices_of file) (record { start = 0; size = 0; arch = None }) p none k held
 
-  pub least_of_file : (found : Option ℕ) → IsLeastPlace (IsStray wanted.NonZero file (table_span file ∷ slice_spans file)) found → IsLeastPlace (BreaksStrictFile file rule.FatStrayByte) found
-  least_of_file found least = least_same (IsStray wanted.NonZero file (table_span file ∷ slice_spans file)) (BreaksStrictFile file rule.FatStrayByte) breaks strays found least
+  pub least_of_file : (found : Option ℕ) → IsLeastPlace (IsStray wanted.NonZero file (fat_table_span file ∷ slice_spans file)) found → IsLeastPlace (BreaksStrictFile file rule.FatStrayByte) found
+  least_of_file found least = least_same (IsStray wanted.NonZero file (fat_table_span file ∷ slice_spans file)) (BreaksStrictFile file rule.FatStrayByte) breaks strays found least

@@ -15,13 +15,13 @@ tables_left image command tables =
     map (λ fields. table_element command (table_at image command fields)) tables
 
 -- the elements of the sections that remain
-abbrev pub sections_left : List SectionView → List Element
-sections_left sections = flat_map (λ s. section_elements s.image s.place) sections
+abbrev pub section_elements_left : List SectionView → List Element
+section_elements_left sections = flat_map (λ s. section_elements s.image s.place) sections
 
 -- what a command describes that remains: an element that is next, those of its sections and its tables
 abbrev pub described_left : Option Element → Option (List SectionView) → List Element → List Element
 described_left pending sections tables =
-    option_to_list pending ++ (option_map_or sections_left sections [] ++ tables)
+    option_to_list pending ++ (option_map_or section_elements_left sections [] ++ tables)
 
 -- what the commands that remain describe
 abbrev pub elements_left : List ℕ → List CommandView → List Element

@@ -31,8 +31,8 @@ abbrev pub IsByteOfSegment : List ℕ → ℕ → ℕ → Type 0
 IsByteOfSegment image segment place = Covers (fileoff image segment) (filesize image segment) place
 
 -- the segment is mapped, and has the header and all commands
-abbrev pub HasHeaders : List ℕ → ℕ → Type 0
-HasHeaders image segment =
+abbrev pub HoldsHeaders : List ℕ → ℕ → Type 0
+HoldsHeaders image segment =
     (fileoff image segment ≡ 0) × (commands_end image ≤ filesize image segment)
     × (0 < vmsize image segment)
 
@@ -110,7 +110,7 @@ abbrev pub BreaksStrictImage : List ℕ → Rule → ℕ → Type 0
 BreaksStrictImage image rule.CommandsEnd place =
     (place ≡ 20) × ¬ IsChain image (commands_of image) (commands_end image)
 BreaksStrictImage image rule.HeaderSegment place =
-    (place ≡ 20) × ¬ Any (HasHeaders image) (all_segments image)
+    (place ≡ 20) × ¬ Any (HoldsHeaders image) (all_segments image)
 BreaksStrictImage image rule.SegmentFileOverlap place =
     Contains (all_segments image) place × SharesFilePart image place
 BreaksStrictImage image rule.ElementOverlap place = SharesBytes image place ⊎ SomeElementEndsPast image place

@@ -4,5 +4,5 @@ use Rattle.macho_fields.specs.Universal.{table_end}
 use Rattle.macho_spans.specs.declared.span.Span.{Span}
 
 -- the header and the table
-abbrev pub table_span : List ℕ → Span
-table_span file = record { start = 0; len = table_end file }
+abbrev pub fat_table_span : List ℕ → Span
+fat_table_span file = record { start = 0; len = table_end file }

@@ -78,7 +78,7 @@ impl<'a> Noted<'a> {
     ghost use Rattle.macho_image.specs.Command.{command_of};
     ghost use Rattle.macho_image.specs.Opened.{IsCommandOf};
     ghost use Rattle.macho_strict.specs.Claims.{AreNoted};
-    ghost use Rattle.macho_strict.specs.ElementWalk.{sections_left};
+    ghost use Rattle.macho_strict.specs.ElementWalk.{section_elements_left};
     ghost use Rattle.macho_strict.specs.Elements.{command_elements, elements_of, headers as headers_of};
     ghost use Rattle.macho_strict.specs.Passed.{ArePassedBy, occupied};
     ghost use Rattle.macho_strict.specs.Verdict.{element_spans};
@@ -128,7 +128,7 @@ impl<'a> Noted<'a> {
     // Notes the elements of some sections.
     fn note_sections(&mut self, sections: Sections)
         ensures { (image : List ℕ) (elements : List Element) → AreNoted image elements self.old
-            → AreNoted image (elements ++ sections_left sections.entry) self.new }
+            → AreNoted image (elements ++ section_elements_left sections.entry) self.new }
     {
         for section in sections {
             self.note(contents(&section));

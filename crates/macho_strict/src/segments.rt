@@ -5,7 +5,7 @@ ghost use Rattle.macho_fields.specs.Image.{commands_end as commands_end_of};
 ghost use Rattle.macho_fields.specs.Layers.{KeptBelow, Continues};
 ghost use Rattle.macho_fields.specs.RuleList.{rank};
 ghost use Rattle.macho_fields.specs.declared.rule.Rule.{Rule};
-ghost use Rattle.macho_strict.specs.Rules.{BreaksStrictImage, HasHeaders, all_segments};
+ghost use Rattle.macho_strict.specs.Rules.{BreaksStrictImage, HoldsHeaders, all_segments};
 ghost use Rattle.macho_strict.specs.Passed.{occupied};
 ghost use Rattle.macho_strict.specs.Verdict.{file_parts};
 
@@ -36,7 +36,7 @@ pub(crate) fn header_segment(image: &Image) -> Result<(), Break>
 
 // Whether a mapped segment has the header and all commands.
 fn some_has_headers(image: &Image) -> bool
-    ensures { IsTrue result ↔ Any (HasHeaders image.now) (all_segments image.now) }
+    ensures { IsTrue result ↔ Any (HoldsHeaders image.now) (all_segments image.now) }
 {
     let commands_end = image.commands_end();
     for segment in image.segments() {
@@ -50,7 +50,7 @@ fn some_has_headers(image: &Image) -> bool
 // Whether the segment is mapped, and has the header and the commands, which end at `commands_end`.
 fn has_headers(segment: &Segment, commands_end: u64) -> bool
     ensures { commands_end ≡ commands_end_of segment.now.image
-        → (IsTrue result ↔ HasHeaders segment.now.image segment.now.place) }
+        → (IsTrue result ↔ HoldsHeaders segment.now.image segment.now.place) }
 {
     segment.fileoff() == 0 && commands_end <= segment.filesize() && segment.vmsize() > 0
 }

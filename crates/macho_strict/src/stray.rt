@@ -9,7 +9,7 @@ ghost use Rattle.macho_strict.specs.Gaps.{IsStray, ComeByStart, ArePassed};
 ghost use Rattle.macho_rules.specs.Check.{ContinuesWithMemory};
 ghost use Rattle.macho_strict.specs.Rules.{BreaksStrictFile};
 ghost use Rattle.macho_strict.specs.Verdict.{slice_spans};
-ghost use Rattle.macho_strict.specs.Stray.{table_span};
+ghost use Rattle.macho_strict.specs.Stray.{fat_table_span};
 ghost use Rattle.macho_fields.specs.declared.rule.Rule.{Rule};
 ghost use Rattle.macho_strict.specs.declared.gaps.Wanted.{Wanted};
 
@@ -39,7 +39,7 @@ pub(crate) fn fat_stray_byte(alloc: Global, verified: &Verified) -> Result<(), R
 // The header and the table of a universal file, or `None` if the file is one image.
 fn table(verified: &Verified) -> Option<Span>
     ensures { MatchOption result (¬ IsUniversal verified.now)
-        (λ table. IsUniversal verified.now × (table ≡ table_span verified.now)) }
+        (λ table. IsUniversal verified.now × (table ≡ fat_table_span verified.now)) }
 {
     let file = verified.bytes();
     // The table lies inside the file, so its size is below 2^64.

@@ -3,11 +3,11 @@ use Rattle.std.proofs.lemmas.Bool.{true≢false}
 use Rattle.macho_fields.specs.FirstPlace.{IsLeastPlace}
 use Rattle.macho_fields.specs.declared.rule.Rule.TheVariants as rule
 use Rattle.macho_fields.proofs.FirstPlaces.{first_judged}
-use Rattle.macho_strict.specs.Rules.{BreaksStrictImage, HasHeaders, all_segments}
+use Rattle.macho_strict.specs.Rules.{BreaksStrictImage, HoldsHeaders, all_segments}
 use Rattle.macho_strict.proofs.segments.header_segment.Goals as goal
 use Rattle.macho_strict.proofs.segments.header_segment.Goals.{then-some_has_headers, else-some_has_headers}
 
-module _ (image : List ℕ) (has : Bool) (found : IsTrue has ↔ Any (HasHeaders image) (all_segments image)) where
+module _ (image : List ℕ) (has : Bool) (found : IsTrue has ↔ Any (HoldsHeaders image) (all_segments image)) where
   with_headers : has ≡ true → IsLeastPlace (BreaksStrictImage image rule.HeaderSegment) None
   with_headers is = λ place (at, none). none (found.0 is)
 
