@@ -77,6 +77,7 @@ impl FilePartSurvey {
     ghost use Rattle.macho_strict.specs.FileParts.{IsSurveyOf};
     ghost use Rattle.macho_strict.specs.Passed.{ArePassedBy, IsByStart, occupied};
     ghost use Rattle.macho_strict.specs.Rules.{BreaksStrictImage};
+    ghost use Rattle.macho_strict.specs.Sharing.{IsFirstSharing, tagged_parts};
     ghost use Rattle.macho_strict.specs.Verdict.{file_parts};
 
     // Passes the file parts of the image. It needs memory only if they do not ascend: 24 bytes for each,
@@ -116,13 +117,22 @@ impl FilePartSurvey {
         ensures { ContinuesWithMemory (BreaksStrictImage image.now) Rule.SegmentFileOverlap
             (¬ IsAscending (file_parts image.now)) result }
     {
-        let overlap = if self.apart {
-            None
-        } else {
-            sorted_file_overlap(alloc, image)?
-        };
+        let overlap = self.first_overlap(alloc, image)?;
         Rule::SegmentFileOverlap.judge(overlap)?;
         Ok(())
+    }
+
+    // Where the first segment is described that has a byte of the file in common with an earlier one, or
+    // `None` if no two have one.
+    fn first_overlap(&self, alloc: Global, image: &Image) -> Result<Option<u64>, AllocError>
+        requires { IsSurveyOf image.now self.now }
+        ensures first { IfOk result (IsFirstSharing (tagged_parts image.now)) }
+        ensures memory { OnErr result (¬ IsAscending (file_parts image.now)) }
+    {
+        if self.apart {
+            return Ok(None);
+        }
+        sorted_file_overlap(alloc, image)
     }
 
     // The file parts that have bytes. It needs memory only if they were not sorted: 24 bytes for each.
