@@ -209,11 +209,9 @@ fn page_survey(
         (BreaksPageBind limits.imports segment.now.image (bytes_of chains.entry) segment.now.place starts page)
         result }
 {
-    let start = starts.page_start(chains, page);
-    if start == DYLD_CHAINED_PTR_START_NONE {
+    let Some(first) = starts.first_offset(chains, page) else {
         return PointerSurvey::unbroken();
-    }
-    let first = starts.page_offset(page) + u64::from(start);
+    };
     if first + POINTER_SIZE > starts.page_limit(page, limits.room) {
         return PointerSurvey {
             slot: Some(table + starts.page_start_offset(page)),
@@ -282,9 +280,9 @@ impl ChainPointer {
 }
 
 impl SegmentStarts {
-    ghost use Rattle.std.specs.Prelude.{◌≡◌, ◌+◌, ◌*◌, ◌^◌, ◌≤◌, ◌<◌, length, min, suc};
+    ghost use Rattle.std.specs.Prelude.{◌≡◌, ◌+◌, ◌*◌, ◌^◌, ◌≤◌, ◌<◌, length, min, suc, IfSome, MatchOption};
     ghost use Rattle.macho_fields.specs.Bytes.{bytes_of};
-    ghost use Rattle.macho_linked.specs.ChainPointers.{page_start, page_start_offset};
+    ghost use Rattle.macho_linked.specs.ChainPointers.{page_start, page_start_offset, first_offset, HasChain};
 
     /// Where the chain of a page begins, as an offset in the page, or `DYLD_CHAINED_PTR_START_NONE`.
     pub fn page_start(self, chains: Bytes, page: u16) -> u16
@@ -301,6 +299,21 @@ impl SegmentStarts {
     {
         let page_starts = self.offset + DYLD_CHAINED_STARTS_IN_SEGMENT_SIZE;
         page_starts + u64::from(page) * PAGE_START_SIZE
+    }
+
+    /// Where the chain of a page begins, as an offset in the segment. It is `None` if the page has no chain.
+    pub fn first_offset(self, chains: Bytes, page: u16) -> Option<u64>
+        requires { page_start_offset self page + PAGE_START_SIZE ≤ length (bytes_of chains) }
+        ensures first { MatchOption result (¬ HasChain (bytes_of chains.entry) self page)
+            (λ first. HasChain (bytes_of chains.entry) self page
+            × (first ≡ first_offset (bytes_of chains.entry) self page)) }
+        ensures near { IfSome result (λ first. first < 2 ^ 33) }
+    {
+        let start = self.page_start(chains, page);
+        if start == DYLD_CHAINED_PTR_START_NONE {
+            return None;
+        }
+        Some(self.page_offset(page) + u64::from(start))
     }
 
     /// Where a page begins, as an offset in the segment.
