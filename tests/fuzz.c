@@ -479,6 +479,9 @@ static void check_commands(const struct held *held, const struct rows *all) {
     }
 }
 
+// How many names are looked up, of the symbols of one image.
+enum { BATCH_OF_NAMES = 99 };
+
 // The name at this place in the strings.
 static uint32_t check_name(const struct held *held, uint32_t strx) {
     struct kesvuot_span name = {1, 1};
@@ -492,14 +495,25 @@ static uint32_t check_name(const struct held *held, uint32_t strx) {
     return status;
 }
 
+// The names of a batch are those of the single calls.
+static void check_names(const struct held *held, const struct kesvuot_symbol *rows, size_t count) {
+    struct kesvuot_span names[BATCH_OF_NAMES], name;
+    CHECK(kesvuot_read_names(OF(held), rows, count, names, BATCH_OF_NAMES) == count);
+    for (size_t k = 0; k < count; k++) {
+        kesvuot_symbol_name(OF(held), rows[k].strx, &name);
+        CHECK(memcmp(&names[k], &name, sizeof name) == 0);
+    }
+}
+
 static void check_symbols(const struct held *held, const struct rows *all, enum accepted accepted) {
     const struct kesvuot_symbol *row = all->rows;
+    check_names(held, row, all->count < BATCH_OF_NAMES ? all->count : BATCH_OF_NAMES);
     for (size_t k = 0; k < all->count; k++, row++) {
         bool has_section = row->sect > 0 && row->sect <= held->image.section_count;
         CHECK(row->section == (has_section ? row->sect - 1u : KESVUOT_NO_SECTION));
         CHECK(row->reserved == 0);
         // If many symbols share a long string, this would read it once for each.
-        if (k < 99) {
+        if (k < BATCH_OF_NAMES) {
             uint32_t status = check_name(held, row->strx);
             CHECK(!accepted || (status == KESVUOT_OK) == (row->strx != 0));
         }
@@ -897,6 +911,16 @@ static struct kesvuot_verdict check_file(const uint8_t *file, size_t size) {
     return verdict;
 }
 
+// An architecture that has a name is the one that has it.
+static void check_arch(uint32_t cputype, uint32_t cpusubtype) {
+    const char *name = kesvuot_arch_name(cputype, cpusubtype);
+    uint32_t type = 1, subtype = 1;
+    if (name != NULL) {
+        CHECK(kesvuot_arch_named(name, strlen(name), &type, &subtype) == KESVUOT_OK);
+        CHECK(type == cputype && subtype == cpusubtype);
+    }
+}
+
 // What depends on no file: the names of rules, whose numbers have no gap; and no bytes.
 static void check_constants(void) {
     struct kesvuot_text name;
@@ -912,6 +936,10 @@ static void check_constants(void) {
     for (uint32_t number = 0; number < 256; number++) {
         CHECK(kesvuot_command_name(number) == NULL || strncmp(kesvuot_command_name(number), "LC_", 3) == 0);
         CHECK(kesvuot_platform_name(number) == NULL || strncmp(kesvuot_platform_name(number), "PLATFORM_", 9) == 0);
+    }
+    for (uint32_t subtype = 0; subtype < 32; subtype++) {
+        check_arch(KESVUOT_CPU_TYPE_X86_64, subtype);
+        check_arch(KESVUOT_CPU_TYPE_ARM64, subtype);
     }
     CHECK(kesvuot_version() == KESVUOT_VERSION);
     CHECK(kesvuot_verify(NULL, 0, &verdict) == KESVUOT_REFUSED && verdict.rule == KESVUOT_MAGIC && verdict.place == 0);

@@ -299,6 +299,11 @@ static inline const char *kesvuot_arch_name(uint32_t cputype, uint32_t cpusubtyp
     return kesvuot_find_arch(cputype, cpusubtype, &name) == KESVUOT_OK ? name.at : NULL;
 }
 
+/* The architecture with this name, of `name_size` bytes: the numbers for which kesvuot_find_arch has it.
+ * OK: the numbers are written, the cpusubtype without a capability byte. No other architecture has the name.
+ * NONE: the library knows no architecture with this name, and both numbers are 0. */
+uint32_t kesvuot_arch_named(const void *name, size_t name_size, uint32_t *cputype, uint32_t *cpusubtype);
+
 /* An image
  *
  * <mach-o/loader.h> and <mach-o/nlist.h> explain the fields. The offset of a span counts from the start of the file.
@@ -495,6 +500,13 @@ size_t kesvuot_read_relocations(const void *file, size_t size, const struct kesv
  * the sizes of the names, and stop when the sum is more than 4 * strings_size. */
 uint32_t kesvuot_symbol_name(const void *file, size_t size, const struct kesvuot_image *image, uint32_t strx,
                              struct kesvuot_span *name);
+
+/* The names of `count` symbols, as kesvuot_symbol_name writes them one by one: names[k] is that of rows[k], and empty
+ * where that call returns NONE. Returns how many names it wrote, the lesser of `count` and `max`. Later names are
+ * unchanged. In a hostile file a batch can take count * strings_size of time: sum up the sizes as above, and pass few
+ * symbols at once. */
+size_t kesvuot_read_names(const void *file, size_t size, const struct kesvuot_image *image,
+                          const struct kesvuot_symbol *rows, size_t count, struct kesvuot_span *names, size_t max);
 
 /* Symbols by address
  *

@@ -67,10 +67,21 @@ static void try_platform(uint32_t platform, const char *wanted) {
     try_name(status, text, kesvuot_platform_name(platform), wanted);
 }
 
+// The architecture with a name, or none: then both numbers are 0.
+static void try_arch_named(const char *name, size_t size, uint32_t cputype, uint32_t cpusubtype) {
+    uint32_t type = 1, subtype = 1;
+    const uint32_t status = kesvuot_arch_named(name, size, &type, &subtype);
+    CHECK(status == (cputype ? KESVUOT_OK : KESVUOT_NONE));
+    CHECK(type == cputype && subtype == cpusubtype);
+}
+
 static void try_arch(uint32_t cputype, uint32_t cpusubtype, const char *wanted) {
     struct kesvuot_text text;
     const uint32_t status = kesvuot_find_arch(cputype, cpusubtype, &text);
     try_name(status, text, kesvuot_arch_name(cputype, cpusubtype), wanted);
+    if (wanted) {
+        try_arch_named(wanted, strlen(wanted), cputype, cpusubtype & ~(uint32_t)KESVUOT_CPU_SUBTYPE_MASK);
+    }
 }
 
 // By mach/machine.h, and the names that LLVM's lipo prints.
@@ -92,6 +103,12 @@ static void try_architectures(void) {
     for (size_t index = 0; index < sizeof none / sizeof *none; index++) {
         try_arch(none[index][0], none[index][1], NULL);
     }
+    try_arch_named("arm64e", 5, 0x0100000c, 0);
+    try_arch_named("arm64e", 7, 0, 0);
+    try_arch_named("arm64e", 4, 0, 0);
+    try_arch_named("ARM64", 5, 0, 0);
+    try_arch_named("", 0, 0, 0);
+    try_arch_named(NULL, 0, 0, 0);
 }
 
 // By mach-o/loader.h. 0x18 and 0x1c are without the bit LC_REQ_DYLD.
@@ -354,6 +371,39 @@ static void try_names(const struct kesvuot_image *image) {
         CHECK(kesvuot_symbol_name(library.bytes, library.size, image, none[index], &name) == KESVUOT_NONE);
         CHECK(is_at(name, 0, 0));
     }
+}
+
+// The names of a batch are those of its symbols, one by one. Later names stay as they were.
+static void try_names_of_batch(const struct kesvuot_image *image, const struct kesvuot_symbol *rows, size_t count,
+                               size_t max) {
+    const size_t written = count < max ? count : max;
+    const struct kesvuot_span untouched = {1, 2};
+    struct kesvuot_span names[ROWS + 1], name;
+    for (size_t index = 0; index <= ROWS; index++) {
+        names[index] = untouched;
+    }
+    CHECK(kesvuot_read_names(library.bytes, library.size, image, rows, count, names, max) == written);
+    for (size_t index = 0; index < written; index++) {
+        kesvuot_symbol_name(library.bytes, library.size, image, rows[index].strx, &name);
+        CHECK(is_at(names[index], name.offset, name.size));
+    }
+    for (size_t index = written; index <= ROWS; index++) {
+        CHECK(is_at(names[index], 1, 2));
+    }
+}
+
+static void try_names_of_batches(const struct kesvuot_image *image) {
+    struct kesvuot_image nameless = *image;
+    struct kesvuot_symbol rows[ROWS] = {{.strx = 0}, {.strx = (uint32_t)image->strings_size}};
+    struct kesvuot_cursor cursor = {0};
+    const size_t count = 2 + kesvuot_read_symbols(library.bytes, library.size, image, &cursor, &rows[2], ROWS - 2);
+    nameless.strings_size = 0;
+    CHECK(count > 3);
+    try_names_of_batch(image, rows, count, ROWS);
+    try_names_of_batch(image, rows, count, count - 1);
+    try_names_of_batch(image, rows, count - 1, count);
+    try_names_of_batch(&nameless, rows, count, count);
+    CHECK(kesvuot_read_names(library.bytes, library.size, image, NULL, 0, NULL, 0) == 0);
 }
 
 // The section of a symbol is that with its number, and none if the image has no such section.
@@ -697,6 +747,7 @@ int main(int count, char **words) {
         CHECK(kesvuot_read_image(library.bytes, library.size, slice, &image) == KESVUOT_OK);
         try_tables(&image);
         try_names(&image);
+        try_names_of_batches(&image);
         try_sections_of_symbols(&image);
     }
     try_data();

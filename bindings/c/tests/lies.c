@@ -74,6 +74,26 @@ static void take_name(const struct kesvuot_image *image, size_t size, uint32_t s
     take(name, size);
 }
 
+// The names of any symbols, into any room, as the single call gives them.
+static void take_names(const struct kesvuot_image *image, size_t size) {
+    struct kesvuot_symbol rows[MOST_ROWS];
+    struct kesvuot_span names[MOST_ROWS + 1], untouched, name;
+    const size_t count = draw_below(MOST_ROWS + 1), max = draw_below(MOST_ROWS + 1);
+    memset(names, UNWRITTEN, sizeof names);
+    memset(&untouched, UNWRITTEN, sizeof untouched);
+    for (size_t index = 0; index < count; index++) {
+        rows[index].strx = (uint32_t)lie(draw_below(0x400));
+    }
+    const size_t written = kesvuot_read_names(file.bytes, size, image, rows, count, names, max);
+    CHECK(written == (count < max ? count : max));
+    CHECK(memcmp(&names[written], &untouched, sizeof untouched) == 0);
+    for (size_t index = 0; index < written; index++) {
+        take(names[index], size);
+        kesvuot_symbol_name(file.bytes, size, image, rows[index].strx, &name);
+        CHECK(memcmp(&names[index], &name, sizeof name) == 0);
+    }
+}
+
 // Asks for three batches of rows of a table, and takes what this says of each row of the last. Rows past those that were written stay as they were.
 #define TAKE_TABLE(row_type, call, take_row)                                      \
     do {                                                                          \
@@ -192,6 +212,7 @@ static void take_all(const struct kesvuot_image *image, size_t size) {
     static const uint32_t cmds[] = {0x1d, 0x1e, 0x26, 0x29, 0x2b, 0x2e, 0x80000033, 0x80000034, 0x2, 0x19};
     struct kesvuot_span bytes;
     take_tables(image, size);
+    take_names(image, size);
     take_relocations(image, size);
     take_bounded(image, size);
     take_explanation(size);

@@ -151,6 +151,14 @@ static size_t symbol_name(const struct file *file, const struct kesvuot_image *i
     return named;
 }
 
+static size_t read_names(const struct file *file, const struct kesvuot_image *image) {
+    static struct kesvuot_symbol rows[BATCH];
+    static struct kesvuot_span names[BATCH];
+    struct kesvuot_cursor cursor = {0};
+    const size_t count = kesvuot_read_symbols(file->bytes, file->size, image, &cursor, rows, BATCH);
+    return kesvuot_read_names(file->bytes, file->size, image, rows, count, names, BATCH);
+}
+
 static size_t find_data(const struct file *file, const struct kesvuot_image *image) {
     struct kesvuot_span data;
     return kesvuot_find_data(file->bytes, file->size, image, LC_FUNCTION_STARTS, &data) == KESVUOT_OK;
@@ -207,8 +215,8 @@ static size_t find_name(const struct file *file, const struct kesvuot_image *ima
 const struct view views[VIEWS] = {
     {"read_commands", read_commands}, {"read_segments", read_segments}, {"read_sections", read_sections},
     {"read_libraries", read_libraries}, {"read_builds", read_builds}, {"read_symbols", read_symbols},
-    {"read_indirects", read_indirects}, {"symbol_name", symbol_name}, {"find_data", find_data},
-    {"find_address", find_address}, {"read_relocations", read_relocations}, {"find_table", find_table},
-    {"find_source_version", find_source_version}, {"index_symbols", index_symbols}, {"find_symbol", find_symbol},
-    {"find_name", find_name},
+    {"read_indirects", read_indirects}, {"symbol_name", symbol_name}, {"read_names", read_names},
+    {"find_data", find_data}, {"find_address", find_address}, {"read_relocations", read_relocations},
+    {"find_table", find_table}, {"find_source_version", find_source_version}, {"index_symbols", index_symbols},
+    {"find_symbol", find_symbol}, {"find_name", find_name},
 };

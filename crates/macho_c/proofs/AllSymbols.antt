@@ -1,13 +1,14 @@
 -- The rows of all symbols and of all indirect entries of an image that breaks no rule.
 use Rattle.std.proofs.Common.{◌≡◌, ◌≢◌, ◌∙◌, ℕ, zero, suc, ◌+◌, ◌-◌, ◌*◌, ◌==◌, ◌≤◌, ◌<◌, List, [], ◌∷◌, length, map, take, drop, slice_index, Bool, true, false, Option, Some, None, Contains, inl, inr, refl, sym, ap, ap₂, subst, subst₂, arith, lit<, length-take, length-drop}
-use Rattle.std.specs.Prelude.{nat_le, MatchOption}
+use Rattle.std.specs.Prelude.{nat_le, slice_get, MatchOption}
 use Rattle.std.specs.List.{list_any, before_first}
-use Rattle.std.specs.Option.{option_map, option_map_or}
+use Rattle.std.specs.Option.{option_map, option_map_or, unwrap_or}
 use Rattle.std.proofs.Math.Nat.{mul_comm}
 use Rattle.std.proofs.lemmas.Bool.{cases_Bool, cases_lt, le-leb, false≢true, ne_eqb}
 use Rattle.std.proofs.lemmas.List.{get_or-take, get_or-drop, length-map}
 use Rattle.std.proofs.lemmas.List.Folds.{list_any-from_Any}
 use Rattle.std.proofs.lemmas.List.FromFn.{length-map-range_with_len}
+use Rattle.std.proofs.lemmas.Option.{same_Some, slice_get-get_or, slice_get-map, slice_get_past}
 use Rattle.std.proofs.lemmas.Simd.{map-map}
 use Rattle.macho_fields.proofs.LoadCommands.{symbols_listed, strings_listed, indirects_listed}
 use Rattle.macho_fields.proofs.Lists.{none_in_nil}
@@ -31,9 +32,10 @@ use Rattle.macho_rules.proofs.Verdicts.{unbroken_image_sound}
 use Rattle.macho_c.specs.Image.{ShowsUnbroken, image_in, only, symtab_in, dysymtab_in, field_of}
 use Rattle.macho_c.specs.Spans.{part_or_none, span_at, span_of}
 use Rattle.macho_c.specs.Status.{KESVUOT_OK, KESVUOT_NONE}
-use Rattle.macho_c.specs.Symbols.{first_string, symbol_row, symbol_rows, row_at, all_symbols, HasAllSymbols, name_at, IsName, NamesSymbols, indirect_row, indirect_rows, all_indirects, HasAllIndirects}
+use Rattle.macho_c.specs.Symbols.{first_string, symbol_row, symbol_rows, row_at, all_symbols, HasAllSymbols, name_at, name_span, name_of, IsName, NamesSymbols, AreNames, NamesEach, indirect_row, indirect_rows, all_indirects, HasAllIndirects}
 use Rattle.macho_c.specs.declared.image.KesvuotImage.{KesvuotImage}
 use Rattle.macho_c.specs.declared.span.KesvuotSpan.{KesvuotSpan}
+use Rattle.macho_c.specs.declared.symbols.KesvuotSymbol.{KesvuotSymbol}
 use Rattle.macho_c.proofs.Supplied.{rest_of}
 
 -- Names
@@ -71,6 +73,14 @@ module _ (image : List ℕ) (start size strx : ℕ) (fits : start + size ≤ len
       let past : strx < size = omega (arith, from, below) in
       let rest : drop strx (part_or_none start size image) ≡ front = rw (le-leb (start + size) (length image) fits) (rest_of image start size strx fits past) in
       ap first_string rest ∙ rw zero_in_front (ap Some (before_in_front (λ byte. byte == 0) (size - strx) (drop (start + strx) image) zero_in_front))
+
+-- an item of the first n
+in_front : {A : Type 0} (xs : List A) (n k : ℕ) (other : A) → k < n → slice_get (take n xs) k ≡ slice_get xs k
+in_front xs n k other less = elim (cases_lt k (length xs)) [
+  | inl within ↦ slice_get-get_or (take n xs) k other (omega (arith, within, less, length-take n xs))
+      ∙ (ap Some (get_or-take n xs k other less) ∙ sym (slice_get-get_or xs k other within))
+  | inr past ↦ slice_get_past (take n xs) k (omega (arith, past, length-take n xs)) ∙ sym (slice_get_past xs k past)
+]
 
 -- Tables
 
@@ -200,11 +210,33 @@ module _ (file : List ℕ) (row : KesvuotImage) (shows : ShowsUnbroken file row)
   pub has_indirects : HasAllIndirects image (indirect_rows image row)
   has_indirects = (indirects_same, all_indirects_counted image unbroken)
 
+  abbrev named_from : ℕ → ℕ
+  named_from strx = field_of (λ (t : Symtab). t.stroff) (symtab_in image) + strx
+
+  name_known : (strx p : ℕ) → Contains (symbols_of image (commands_of image)) p → n_strx image p ≡ strx → strx ≢ 0
+      → name_span image row strx ≡ Some (span_of (row.slice.offset + named_from strx) (string_from (named_from strx) image))
+  name_known strx p has is some =
+      let named : strx == 0 ≡ false = ne_eqb strx 0 some in
+      let string : first_string (drop strx (part_or_none row.strings row.strings_size image)) ≡ Some (string_from (named_from strx) image) =
+      subst₂ (λ start size. first_string (drop strx (part_or_none start size image)) ≡ Some (string_from (named_from strx) image)) (sym shows.0.tables.strings) (sym shows.0.tables.strings_size) (name_found image unbroken p strx has is some) in
+      let found : name_at image row strx ≡ Some (string_from (named_from strx) image) = rw named string in
+      ap (option_map (span_of (row.slice.offset + (row.strings + strx)))) found
+      ∙ ap (λ start. Some (span_of (row.slice.offset + (start + strx)) (string_from (named_from strx) image))) shows.0.tables.strings
+
   pub names : (strx status : ℕ) (name : KesvuotSpan) → IsName image row strx status name → NamesSymbols image row.slice.offset strx status name
   names strx status name answer p has is some =
-      let named : strx == 0 ≡ false = ne_eqb strx 0 some in
-      let string : first_string (drop strx (part_or_none row.strings row.strings_size image)) ≡ Some (string_from (row.strings + strx) image) =
-      subst₂ (λ start size. first_string (drop strx (part_or_none start size image)) ≡ Some (string_from (start + strx) image)) (sym shows.0.tables.strings) (sym shows.0.tables.strings_size) (name_found image unbroken p strx has is some) in
-      let found : name_at image row strx ≡ Some (string_from (row.strings + strx) image) = rw named string in
-      subst (λ start. (status ≡ KESVUOT_OK) × (name ≡ span_of (row.slice.offset + (start + strx)) (string_from (start + strx) image))) shows.0.tables.strings
-      (subst (λ o. MatchOption o ((status ≡ KESVUOT_NONE) × (name ≡ span_at 0 0)) (λ s. (status ≡ KESVUOT_OK) × (name ≡ span_of (row.slice.offset + (row.strings + strx)) s))) found answer)
+      subst (λ o. MatchOption o ((status ≡ KESVUOT_NONE) × (name ≡ span_at 0 0)) (λ span. (status ≡ KESVUOT_OK) × (name ≡ span))) (name_known strx p has is some) answer
+
+  pub names_each : (symbols : List KesvuotSymbol) (n : ℕ) (old new : List KesvuotSpan) → AreNames image row symbols n old new → NamesEach image row.slice.offset symbols n new
+  names_each symbols n old new are k symbol name less at here p has is some = (
+    refl,
+    same_Some name (name_of image row symbol) (sym here ∙ written k symbol less at)
+        ∙ ap (λ o. unwrap_or o (span_at 0 0)) (name_known symbol.strx p has is some),
+  )
+    where
+      written : (k : ℕ) (symbol : KesvuotSymbol) → k < n → slice_get symbols k ≡ Some symbol → slice_get new k ≡ Some (name_of image row symbol)
+      written k symbol less at =
+          sym (in_front new n k (span_at 0 0) less)
+          ∙ (ap (λ names. slice_get names k) are.names
+          ∙ (slice_get-map (name_of image row) (take n symbols) k
+          ∙ ap (option_map (name_of image row)) (in_front symbols n k symbol less ∙ at)))

@@ -1,6 +1,7 @@
 pub mod AgreeNames
 pub mod AllCommands
 pub mod AllSymbols
+pub mod ArchNames
 pub mod BadSlices
 pub mod BoundedTables
 pub mod Counts

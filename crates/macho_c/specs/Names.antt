@@ -1,6 +1,7 @@
 -- The names of load commands and platforms (mach-o/loader.h), and of architectures (mach/machine.h).
-use Rattle.std.specs.Prelude.{◌≡◌, ℕ, ◌+◌, ◌*◌, ◌^◌, ◌==◌, List, [], ◌∷◌, ◌++◌, codes, find, Option, MatchOption}
+use Rattle.std.specs.Prelude.{◌≡◌, ℕ, ◌+◌, ◌-◌, ◌*◌, ◌^◌, ◌==◌, ◌⊎◌, Bool, List, [], ◌∷◌, ◌++◌, bytes_eq, codes, find, length, take, Option, MatchOption}
 use Rattle.std.specs.Option.{option_map}
+use Rattle.macho_fields.specs.Universal.{masked}
 use Rattle.macho_c.specs.declared.names.Named.{Named}
 use Rattle.macho_c.specs.Status.{KESVUOT_OK, KESVUOT_NONE}
 
@@ -123,8 +124,31 @@ arch_names =
     (arch_number 0x1000012 0, codes "ppc64") ∷
     []
 
+-- kesvuot_find_arch has this name for the architecture
+abbrev pub HasArchName : List ℕ → ℕ → ℕ → Type 0
+HasArchName name cputype cpusubtype =
+    IsName arch_names (arch_number cputype (masked cpusubtype)) KESVUOT_OK name
+
+-- The answer on a name: the numbers of the architecture that has it, of which there is one, or of none. The
+-- second number has no capability byte.
+abbrev pub IsArchNamed : List ℕ → ℕ → ℕ → ℕ → Type 0
+IsArchNamed name status cputype cpusubtype =
+    ((status ≡ KESVUOT_OK) × HasArchName name cputype cpusubtype
+    × ((type subtype : ℕ) → HasArchName name type subtype
+    → arch_number type (masked subtype) ≡ arch_number cputype cpusubtype))
+    ⊎ ((status ≡ KESVUOT_NONE) × ((type subtype : ℕ) → ¬ HasArchName name type subtype)
+    × (cputype ≡ 0) × (cpusubtype ≡ 0))
+
 -- What only proofs need.
 
--- the first entry of the table of the code that has this number
-pub record IsFound (table : List Named) (number : ℕ) (found : Option Named) : Type 0 where
-  pub is : found ≡ find (λ named. named.number == number) table
+-- the first entry of a table of the code that passes
+pub record IsFound (table : List Named) (test : Named → Bool) (found : Option Named) : Type 0 where
+  pub is : found ≡ find test table
+
+-- the number of the first entry that has this name
+abbrev pub number_in : List (ℕ × List ℕ) → List ℕ → Option ℕ
+number_in table name = option_map (λ named. named.0) (find (λ named. bytes_eq named.1 name) table)
+
+-- a text of the code, which a zero byte ends, is this name
+abbrev pub is_named : List ℕ → List ℕ → Bool
+is_named text name = bytes_eq (take (length text - 1) text) name

@@ -1,7 +1,8 @@
 -- The rows of the symbols and of the indirect entries of an image, by the numbers of its struct, which
 -- the caller may have changed, and by the image alone. (mach-o/nlist.h: nlist_64)
-use Rattle.std.specs.Prelude.{◌≡◌, ◌≢◌, ℕ, ◌+◌, ◌-◌, ◌^◌, ◌==◌, ◌&&◌, List, length, map, drop, Contains, Option, Some, None, MatchOption, nat_le, if◌then◌else◌}
+use Rattle.std.specs.Prelude.{◌≡◌, ◌≢◌, ℕ, ◌+◌, ◌-◌, ◌^◌, ◌==◌, ◌<◌, ◌&&◌, List, length, map, take, drop, min, slice_get, Contains, Option, Some, None, MatchOption, nat_le, if◌then◌else◌}
 use Rattle.std.specs.List.{before_first, list_any}
+use Rattle.std.specs.Option.{option_map, unwrap_or}
 use Rattle.macho_fields.specs.Field.{string_from}
 use Rattle.macho_fields.specs.Image.{word, commands_of}
 use Rattle.macho_fields.specs.Segment.{section_count}
@@ -73,12 +74,28 @@ name_at image row strx =
     if strx == 0 then None
     else first_string (drop strx (part_or_none row.strings row.strings_size image))
 
--- the answer on strx: where the name lies in the file
+-- where this name lies in the file
+abbrev pub name_span : List ℕ → KesvuotImage → ℕ → Option KesvuotSpan
+name_span image row strx =
+    option_map (span_of (row.slice.offset + (row.strings + strx))) (name_at image row strx)
+
+-- the answer on strx
 abbrev pub IsName : List ℕ → KesvuotImage → ℕ → ℕ → KesvuotSpan → Type 0
 IsName image row strx status name =
-    MatchOption (name_at image row strx) ((status ≡ KESVUOT_NONE) × (name ≡ span_at 0 0))
-    (λ string. (status ≡ KESVUOT_OK)
-    × (name ≡ span_of (row.slice.offset + (row.strings + strx)) string))
+    MatchOption (name_span image row strx) ((status ≡ KESVUOT_NONE) × (name ≡ span_at 0 0))
+    (λ span. (status ≡ KESVUOT_OK) × (name ≡ span))
+
+-- the same of a symbol, and no bytes where there is none
+abbrev pub name_of : List ℕ → KesvuotImage → KesvuotSymbol → KesvuotSpan
+name_of image row symbol = unwrap_or (name_span image row symbol.strx) (span_at 0 0)
+
+-- The names of symbols: of all these, or of as many as there is room for, which are the first n. The table of
+-- the names had `old`, and has `new`: these names, and from then on what it had.
+pub record AreNames (image : List ℕ) (row : KesvuotImage) (symbols : List KesvuotSymbol) (n : ℕ)
+    (old new : List KesvuotSpan) : Type 0 where
+  pub count : n ≡ min (length symbols) (length old)
+  pub names : take n new ≡ map (name_of image row) (take n symbols)
+  pub rest : drop n new ≡ drop n old
 
 -- By the image alone: all its symbols, and all its indirect entries
 
@@ -112,6 +129,12 @@ NamesSymbols image place strx status name =
     (symbol : ℕ) → Contains (symbols_of image (commands_of image)) symbol
     → n_strx image symbol ≡ strx → strx ≢ 0
     → (status ≡ KESVUOT_OK) × (name ≡ span_of (place + from) (string_from from image))
+
+-- the same of each of the first n symbols, whose names these are
+abbrev pub NamesEach : List ℕ → ℕ → List KesvuotSymbol → ℕ → List KesvuotSpan → Type 0
+NamesEach image place symbols n names =
+    (k : ℕ) (symbol : KesvuotSymbol) (name : KesvuotSpan) → k < n → slice_get symbols k ≡ Some symbol
+    → slice_get names k ≡ Some name → NamesSymbols image place symbol.strx KESVUOT_OK name
 
 -- all indirect entries, in the order of their table
 abbrev pub all_indirects : List ℕ → List ℕ

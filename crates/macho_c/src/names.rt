@@ -5,7 +5,7 @@ ghost use Rattle.std.specs.Prelude.{◌≡◌, ◌==◌, ◌-◌, find, length, 
 ghost use Rattle.std.specs.Option.{option_map};
 ghost use Rattle.macho_fields.specs.Universal.{masked};
 ghost use Rattle.macho_c.specs.Names.{IsName, IsFound, name_in, command_names, platform_names};
-ghost use Rattle.macho_c.specs.Names.{arch_names, arch_number};
+ghost use Rattle.macho_c.specs.Names.{arch_names, arch_number, number_in, is_named, IsArchNamed};
 
 use crate::status::{NONE, OK};
 use macho_fields::header::machine::CPU_SUBTYPE_MASK;
@@ -63,6 +63,26 @@ pub extern "C" fn kesvuot_find_arch(cputype: u32, cpusubtype: u32, name: &mut &'
     }
 }
 
+/// Writes the numbers of the architecture for which `kesvuot_find_arch` has this name, without a
+/// capability byte. The status is `OK`, or `NONE` where it has the name for none: then both are 0.
+#[unsafe(no_mangle)]
+pub extern "C" fn kesvuot_arch_named(name: &[u8], cputype: &mut u32, cpusubtype: &mut u32) -> u32
+    ensures { IsArchNamed name.now result cputype.new cpusubtype.new }
+{
+    match arch_named(name) {
+        Some(arch) => {
+            *cputype = (arch / (1 << 32)) as u32;
+            *cpusubtype = (arch % (1 << 32)) as u32;
+            OK
+        }
+        None => {
+            *cputype = 0;
+            *cpusubtype = 0;
+            NONE
+        }
+    }
+}
+
 // The name of the load commands with this `cmd`, and a zero byte.
 fn command_name(cmd: u32) -> Option<&'static str>
     ensures { option_map (λ name. name.now) result ≡ name_in command_names cmd }
@@ -93,6 +113,16 @@ fn arch_name(arch: u64) -> Option<&'static str>
     }
 }
 
+// The number of the architecture with this name.
+fn arch_named(name: &[u8]) -> Option<u64>
+    ensures { result ≡ number_in arch_names name.now }
+{
+    match find_name(ARCHITECTURES, name) {
+        Some(arch) => Some(arch.number),
+        None => None,
+    }
+}
+
 // The number of an architecture in its table: the `cputype`, and in the low 32 bits the `cpusubtype`.
 fn arch_number(cputype: u32, cpusubtype: u32) -> u64
     ensures { result ≡ arch_number cputype cpusubtype }
@@ -119,7 +149,7 @@ struct Named {
 
 // The first entry of a table that has this number.
 fn find_named(table: &'static [Named], number: u64) -> Option<Named>
-    ensures { IsFound table.now number result }
+    ensures { IsFound table.now (λ named. named.number == number) result }
 {
     first_numbered(table, number)
 }
@@ -129,6 +159,23 @@ fn first_numbered(table: &'static [Named], number: u64) -> Option<Named>
     ensures { result ≡ find (λ named. named.number == number) table.now }
 {
     table.iter().copied().find(|named| named.number == number)
+}
+
+// The first entry of a table that has this name.
+fn find_name(table: &'static [Named], name: &[u8]) -> Option<Named>
+    ensures { IsFound table.now (λ named. is_named named.name.now name.now) result }
+{
+    first_named(table, name)
+}
+
+// The same, found by an iterator.
+fn first_named(table: &'static [Named], name: &[u8]) -> Option<Named>
+    ensures { result ≡ find (λ named. is_named named.name.now name.now) table.now }
+{
+    table
+        .iter()
+        .copied()
+        .find(|named| before_last(named.name.as_bytes()) == name)
 }
 
 // The load commands.

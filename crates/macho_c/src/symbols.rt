@@ -1,18 +1,17 @@
 //! The symbols of an image, and their names.
 
-ghost use Rattle.std.specs.Prelude.{◌≡◌, ◌+◌, ◌<◌, length, IfSome};
-ghost use Rattle.std.specs.Option.{option_map};
+ghost use Rattle.std.specs.Prelude.{◌≡◌};
 ghost use Rattle.macho_fields.specs.Bytes.{bytes_of};
 ghost use Rattle.macho_c.specs.Cursor.{start, IsBatch};
 ghost use Rattle.macho_c.specs.Image.{image_in, ShowsUnbroken};
 ghost use Rattle.macho_c.specs.Symbols.{symbol_row, symbols_left, HasAllSymbols};
-ghost use Rattle.macho_c.specs.Symbols.{name_at, section_of, IsName, NamesSymbols};
+ghost use Rattle.macho_c.specs.Symbols.{name_span, section_of, IsName, NamesSymbols, AreNames, NamesEach};
 ghost use Rattle.macho_c.specs.Spans.{part_or_none};
 
 use crate::cursor::KesvuotCursor;
 use crate::image::KesvuotImage;
 use crate::parts::{first_string, part_or_none, rest};
-use crate::span::{KesvuotSpan, NO_SPAN};
+use crate::span::{Held, KesvuotSpan, NO_SPAN};
 use crate::status::{NONE, OK};
 use crate::table::{Table, fill};
 use macho_fields::{Bytes, Span};
@@ -85,27 +84,74 @@ pub extern "C" fn kesvuot_symbol_name(
     ensures all { ShowsUnbroken file.now image.now
         → NamesSymbols (image_in file.now image.now) image.now.slice.offset strx result name.new }
 {
-    *name = NO_SPAN;
     let held = image.held(file);
-    match string_at(held.bytes, image, strx) {
-        Some(string) => {
-            *name = held.span_of(image.strings + u64::from(strx), string);
+    let strings = strings(held.bytes, image);
+    match name_span(&held, image, strings, strx) {
+        Some(span) => {
+            *name = span;
             OK
         }
-        None => NONE,
+        None => {
+            *name = NO_SPAN;
+            NONE
+        }
     }
 }
 
-// The name at `strx` in the strings, if a zero byte of them ends it.
-fn string_at<'a>(bytes: Bytes<'a>, image: &KesvuotImage, strx: u32) -> Option<&'a [u8]>
-    ensures name { option_map (λ name. name.now) result ≡ name_at (bytes_of bytes.entry) image.now strx }
-    ensures inside { IfSome result (λ name.
-        image.now.strings + strx < length (bytes_of bytes.entry)) }
+/// Writes where the names of symbols lie in the file, as `kesvuot_symbol_name` does for each, until
+/// either table runs out, and returns how many it wrote. Later names are unchanged.
+#[unsafe(no_mangle)]
+pub extern "C" fn kesvuot_read_names(
+    file: &[u8],
+    image: &KesvuotImage,
+    symbols: &[KesvuotSymbol],
+    names: &mut [KesvuotSpan],
+) -> usize
+    ensures names { AreNames (image_in file.now image.now) image.now symbols.now result names.old names.new }
+    ensures all { ShowsUnbroken file.now image.now
+        → NamesEach (image_in file.now image.now) image.now.slice.offset symbols.now result names.new }
+{
+    let held = image.held(file);
+    let strings = strings(held.bytes, image);
+    write_names(&held, image, strings, symbols, names)
+}
+
+// Writes where the names of symbols lie in the file, until either table runs out, and returns how many it
+// wrote.
+fn write_names(
+    held: &Held,
+    image: &KesvuotImage,
+    strings: &[u8],
+    symbols: &[KesvuotSymbol],
+    names: &mut [KesvuotSpan],
+) -> usize
+    requires place { held.now.place ≡ image.now.slice.offset }
+    requires strings { strings.now ≡ part_or_none image.now.strings image.now.strings_size
+        (bytes_of held.now.bytes) }
+    ensures { AreNames (bytes_of held.now.bytes) image.now symbols.now result names.old names.new }
+{
+    let count = symbols.len().min(names.len());
+    let mut written = 0;
+    while written < count {
+        let name = name_span(held, image, strings, symbols[written].strx);
+        names[written] = name.unwrap_or(NO_SPAN);
+        written += 1;
+    }
+    count
+}
+
+// Where the name at `strx` in the strings of an image lies in the file, if a zero byte of them ends it.
+fn name_span(held: &Held, image: &KesvuotImage, strings: &[u8], strx: u32) -> Option<KesvuotSpan>
+    requires place { held.now.place ≡ image.now.slice.offset }
+    requires strings { strings.now ≡ part_or_none image.now.strings image.now.strings_size
+        (bytes_of held.now.bytes) }
+    ensures { result ≡ name_span (bytes_of held.now.bytes) image.now strx }
 {
     if strx == 0 {
         return None;
     }
-    first_string(rest(strings(bytes, image), u64::from(strx)))
+    let name = first_string(rest(strings, u64::from(strx)))?;
+    Some(held.span_of(image.strings + u64::from(strx), name))
 }
 
 // The strings of an image, by the numbers of its struct: none where they do not lie inside it.

@@ -4,7 +4,7 @@ use Rattle.macho_c.proofs.AgreeNames.{agree}
 use Rattle.macho_c.proofs.names.command_name.Goals as goal
 
 pub returns-in-Some : goal.returns-in-Some
-returns-in-Some c = agree command_names c.in-Some.ensures refl ∙ ap (name_in command_names) c.from.ensures
+returns-in-Some c = agree _ command_names c.in-Some.ensures refl ∙ ap (name_in command_names) c.from.ensures
 
 pub returns-in-None : goal.returns-in-None
-returns-in-None c = agree command_names c.in-None.ensures refl ∙ ap (name_in command_names) c.from.ensures
+returns-in-None c = agree _ command_names c.in-None.ensures refl ∙ ap (name_in command_names) c.from.ensures

@@ -9,8 +9,8 @@ pub returns-in-Some-clause-all : goal.returns-in-Some-clause-all
 returns-in-Some-clause-all c = λ shows.
     let row = c.args.image.now in
     let image = image_in c.args.file.now row in
-    let answer : IsName image row c.args.strx 0 c.span_of.result = search rules in
-    names c.args.file.now row shows c.args.strx 0 c.span_of.result answer
+    let answer : IsName image row c.args.strx 0 c.in-Some.span = search rules in
+    names c.args.file.now row shows c.args.strx 0 c.in-Some.span answer
 
 pub returns-in-None-clause-all : goal.returns-in-None-clause-all
 returns-in-None-clause-all c = λ shows.
