@@ -217,6 +217,12 @@ extern "C" {
     fn kesvuot_find_command(cmd: u32, name: *mut Text) -> u32;
     fn kesvuot_find_platform(platform: u32, name: *mut Text) -> u32;
     fn kesvuot_find_arch(cputype: u32, cpusubtype: u32, name: *mut Text) -> u32;
+    fn kesvuot_arch_named(
+        name: *const c_void,
+        name_size: usize,
+        cputype: *mut u32,
+        cpusubtype: *mut u32,
+    ) -> u32;
     fn kesvuot_verify(file: *const c_void, size: usize, verdict: *mut Verdict) -> u32;
     fn kesvuot_verify_strictly(file: *const c_void, size: usize, verdict: *mut Verdict) -> u32;
     fn kesvuot_verify_linked(file: *const c_void, size: usize, verdict: *mut Verdict) -> u32;
@@ -241,6 +247,15 @@ extern "C" {
         strx: u32,
         name: *mut Span,
     ) -> u32;
+    fn kesvuot_read_names(
+        file: *const c_void,
+        size: usize,
+        image: *const Image,
+        rows: *const Symbol,
+        count: usize,
+        names: *mut Span,
+        max: usize,
+    ) -> usize;
     fn kesvuot_find_data(
         file: *const c_void,
         size: usize,
@@ -351,6 +366,14 @@ pub fn platform(number: u32) -> Option<&'static str> {
 pub fn arch(cputype: u32, cpusubtype: u32) -> Option<&'static str> {
     // SAFETY: the name may be written.
     name_by(|name| unsafe { kesvuot_find_arch(cputype, cpusubtype, name) })
+}
+
+/// The status, and the `cputype` and `cpusubtype` of the architecture with this name.
+pub fn arch_named(name: &[u8]) -> (u32, (u32, u32)) {
+    let (at, mut cputype, mut cpusubtype) = (name.as_ptr().cast(), 0, 0);
+    // SAFETY: the name may be read. The numbers may be written.
+    let status = unsafe { kesvuot_arch_named(at, name.len(), &mut cputype, &mut cpusubtype) };
+    (status, (cputype, cpusubtype))
 }
 
 /// Room for the layout of most files. A longer one takes a second call.
@@ -480,6 +503,16 @@ pub fn symbol_name(file: &[u8], image: &Image, strx: u32) -> (u32, Span) {
     // SAFETY: the file may be read, and nobody changes it meanwhile. The span may be written.
     let status = unsafe { kesvuot_symbol_name(at, file.len(), image, strx, &mut name) };
     (status, name)
+}
+
+/// Where the names of these symbols are.
+pub fn read_names(file: &[u8], image: &Image, symbols: &[Symbol]) -> Vec<Span> {
+    let mut names = vec![Span::default(); symbols.len()];
+    let (at, rows, to) = (file.as_ptr().cast(), symbols.as_ptr(), names.as_mut_ptr());
+    // SAFETY: the file and the symbols may be read, and nobody changes them meanwhile. The names may
+    // be written.
+    unsafe { kesvuot_read_names(at, file.len(), image, rows, symbols.len(), to, names.len()) };
+    names
 }
 
 /// The status, and where the data of the first `linkedit_data_command` with this `cmd` is.

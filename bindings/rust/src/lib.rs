@@ -54,6 +54,7 @@ mod ffi;
 #[cfg(feature = "std")]
 mod file;
 mod image;
+mod named_symbols;
 mod parts;
 mod rows;
 mod rule;
@@ -65,6 +66,7 @@ pub use explain::{explain, Explanation, Part, PartKind};
 #[cfg(feature = "std")]
 pub use file::{verify_file, FileError};
 pub use image::{Dysymtab, Image, Source, Symtab};
+pub use named_symbols::NamedSymbols;
 pub use parts::{Build, Command, Indirect, Library, Relocation, Section, Segment, Symbol, Table};
 pub use rows::Rows;
 pub use rule::{ParseRuleError, Rule};
@@ -150,6 +152,19 @@ pub fn platform_name(platform: u32) -> Option<&'static str> {
 #[must_use]
 pub fn arch_name(cputype: u32, cpusubtype: u32) -> Option<&'static str> {
     ffi::arch(cputype, cpusubtype)
+}
+
+/// The `cputype` and the `cpusubtype` of the architecture with this name, for which [`arch_name`] has it. The
+/// `cpusubtype` has no capability byte. `None` if the library knows no such architecture.
+///
+/// ```
+/// assert_eq!(kesvuot::arch_named("arm64e"), Some((0x0100_000c, 2)));
+/// assert_eq!(kesvuot::arch_named("arm"), None);
+/// ```
+#[must_use]
+pub fn arch_named(name: impl AsRef<[u8]>) -> Option<(u32, u32)> {
+    let (status, numbers) = ffi::arch_named(name.as_ref());
+    (status == ffi::OK).then_some(numbers)
 }
 
 /// The version of the library that is linked: major, minor and patch.

@@ -68,6 +68,21 @@ impl<'a, T: Row<'a>> Rows<'a, T> {
         self.left -= count;
     }
 
+    /// The next rows, without going on. There are none only past the last one.
+    #[inline]
+    pub(crate) fn ahead(&mut self) -> &[T::Raw] {
+        if self.held.len() == 0 && self.left > 0 {
+            self.ask();
+        }
+        self.held.as_slice()
+    }
+
+    /// The image of the rows.
+    #[inline]
+    pub(crate) fn image(&self) -> &Image<'a> {
+        &self.image
+    }
+
     /// Skips rows that were not read.
     fn skip_unread(&mut self, count: u64) {
         let skipped = cmp::min(count, self.left);
@@ -85,9 +100,7 @@ impl<'a, T: Row<'a>> Iterator for Rows<'a, T> {
     type Item = T;
 
     fn next(&mut self) -> Option<T> {
-        if self.held.len() == 0 && self.left > 0 {
-            self.ask();
-        }
+        self.ahead();
         Some(T::new(self.held.next()?, &self.image))
     }
 

@@ -5,17 +5,30 @@ use kesvuot::{Image, Rows, Symbol, Verified};
 /// An executable of a header, `LC_SYMTAB`, and so many symbols without names, whose values count
 /// from 0.
 fn with_symbols(count: u32) -> Vec<u8> {
+    with_strings(count, 0)
+}
+
+/// The same with strings of so many zero bytes after the symbols. Each symbol has an empty name there, but
+/// every third has none.
+fn with_strings(count: u32, strsize: u32) -> Vec<u8> {
     let header = [0xfeed_facf, 0x0100_0007, 3, 2, 1, 24, 0, 0];
-    let symtab = [2, 24, 56, count, 0, 0];
+    let symtab = [2, 24, 56, count, 56 + 16 * count, strsize];
     let mut file: Vec<u8> = header
         .iter()
         .chain(&symtab)
         .flat_map(|word: &u32| word.to_le_bytes())
         .collect();
     for value in 0..u64::from(count) {
-        file.extend([0; 8]);
+        let strx = if value % 3 == 0 || strsize == 0 {
+            0
+        } else {
+            1u32
+        };
+        file.extend(strx.to_le_bytes());
+        file.extend([0; 4]);
         file.extend(value.to_le_bytes());
     }
+    file.resize(file.len() + strsize as usize, 0);
     file
 }
 
@@ -33,6 +46,19 @@ fn all_rows_come_in_order() {
             (0..u64::from(count)).collect::<Vec<_>>()
         );
     }
+}
+
+#[test]
+fn names_come_with_their_symbols() {
+    let file = with_strings(600, 2);
+    let image = kesvuot::verify(&file).unwrap().image(0).unwrap();
+    let mut named = image.symbols().with_names();
+    for (index, symbol) in image.symbols().enumerate() {
+        assert_eq!(named.len(), 600 - index);
+        let name = (index % 3 != 0).then_some(b"".as_slice());
+        assert_eq!(named.next(), Some((symbol, name)));
+    }
+    assert_eq!((named.next(), named.next(), named.len()), (None, None, 0));
 }
 
 #[test]

@@ -278,11 +278,11 @@ fn compare_symbols(image: &Image, commands: &[Plain]) {
     assert_eq!(found, symtab.map(|_| [symoff, nsyms, stroff, strsize]));
     let symbols = part(image.bytes(), symoff, 16 * nsyms).chunks_exact(16);
     assert_eq!(image.symbols().len(), symbols.len());
-    for (found, bytes) in image.symbols().zip(symbols) {
+    for ((found, named), bytes) in image.symbols().with_names().zip(symbols) {
         let strx = word(bytes, 0);
         let name =
             (strx != 0).then(|| text(&part(image.bytes(), stroff, strsize)[strx as usize..]));
-        assert_eq!((image.name(&found), found.strx), (name, strx));
+        assert_eq!((image.name(&found), named, found.strx), (name, name, strx));
         assert_eq!(
             (found.kind, found.sect, found.desc),
             (bytes[4], bytes[5], half(bytes, 6))
