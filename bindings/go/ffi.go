@@ -158,6 +158,15 @@ func ArchName(cpuType, cpuSubtype uint32) string {
 	return C.GoStringN(name.at, C.int(name.size))
 }
 
+// ArchNamed returns the numbers of the architecture with this name, for which ArchName has it. The subtype has no
+// capability byte. It is not ok if the library knows no such architecture.
+func ArchNamed(name string) (cpuType, cpuSubtype uint32, ok bool) {
+	bytes := atLeastOne([]byte(name))
+	var cputype, cpusubtype C.uint32_t
+	status := C.kesvuot_arch_named(unsafe.Pointer(&bytes[0]), C.size_t(len(name)), &cputype, &cpusubtype)
+	return uint32(cputype), uint32(cpusubtype), status == C.KESVUOT_OK
+}
+
 // Room for the layout of most files. A longer one takes a second call.
 const layoutRoom = 1 << 14
 
@@ -266,6 +275,27 @@ func readName(image *Image, strx uint32) []byte {
 	C.kesvuot_symbol_name(unsafe.Pointer(&image.file[0]), C.size_t(len(image.file)), &image.numbers, C.uint32_t(strx),
 		&name)
 	return partOf(image.file, name)
+}
+
+// The most bytes of strings in which names are looked for at once. One name is looked up in any case.
+const mostBytes = 1 << 28
+
+// readNames returns the names of the first of these symbols: of all, or of few if the strings are long.
+func readNames(image *Image, rows []symbolRow) []span {
+	most := mostBytes / (uint64(image.numbers.strings_size) + 1)
+	if most == 0 {
+		most = 1
+	}
+	if uint64(len(rows)) > most {
+		rows = rows[:most]
+	}
+	if len(rows) == 0 {
+		return nil
+	}
+	names := make([]span, len(rows))
+	C.kesvuot_read_names(unsafe.Pointer(&image.file[0]), C.size_t(len(image.file)), &image.numbers, &rows[0],
+		C.size_t(len(rows)), &names[0], C.size_t(len(names)))
+	return names
 }
 
 func readLinkedit(image *Image, cmd uint32) ([]byte, bool) {

@@ -262,6 +262,14 @@ func compareSymbols(t *testing.T, image *Image, plain *macho.File) {
 		same(t, "of it", ok, true)
 	}
 	same(t, "the symbols", found, plain.Symtab.Syms)
+	named := image.Symbols()
+	for index := 0; named.Next(); index++ {
+		// A name that nobody asks for is skipped.
+		if index%3 != 1 {
+			same(t, "a name", string(named.Name()), found[index].Name)
+			same(t, "it again", string(named.Name()), found[index].Name)
+		}
+	}
 	dysymtab := plain.Dysymtab
 	same(t, "the indirect entries",
 		append([]uint32{}, image.Indirects()...), append([]uint32{}, dysymtab.IndirectSyms...))
@@ -296,6 +304,12 @@ func TestNames(t *testing.T) {
 	same(t, "no platform", PlatformName(0), "")
 	same(t, "an architecture", ArchName(0x0100000c, 0x80000002), "arm64e")
 	same(t, "no architecture", ArchName(0x0100000c, 7), "")
+	cpuType, cpuSubtype, ok := ArchNamed("arm64e")
+	same(t, "an architecture by its name", []any{cpuType, cpuSubtype, ok}, []any{uint32(0x0100000c), uint32(2), true})
+	for _, name := range []string{"", "arm", "arm64e\x00"} {
+		cpuType, cpuSubtype, ok = ArchNamed(name)
+		same(t, "no architecture has the name", []any{cpuType, cpuSubtype, ok}, []any{uint32(0), uint32(0), false})
+	}
 	same(t, "constants", []string{CommandName(LC_MAIN), PlatformName(PLATFORM_MACOS), ArchName(CPU_TYPE_X86_64, 3)},
 		[]string{"LC_MAIN", "PLATFORM_MACOS", "x86_64"})
 }
@@ -555,6 +569,7 @@ func TestBatches(t *testing.T) {
 			same(t, "how many are left", left.Len(), count-index)
 			same(t, "whether there is another", left.Next(), true)
 			same(t, "it", left.Symbol().Sect, uint8(index))
+			same(t, "it has no name", len(left.Name()), 0)
 		}
 		same(t, "the end", []bool{left.Next(), left.Next(), left.Len() == 0}, []bool{false, false, true})
 		_, ok := image.Symbol(uint64(count))

@@ -178,7 +178,7 @@ func (image *Image) Relocations(section *Section) []Relocation {
 	return relocations
 }
 
-// A Symbol is an nlist_64. Its name is Image.Name.
+// A Symbol is an nlist_64. Its name is Image.Name, or Symbols.Name in a loop.
 type Symbol struct {
 	Value uint64
 	// Strx is 0 if the symbol has no name.
@@ -196,7 +196,7 @@ type Symbol struct {
 // Symbols goes over symbols, in the order of the table. It reads them in batches.
 //
 //	for symbols := image.Symbols(); symbols.Next(); {
-//		symbol := symbols.Symbol()
+//		symbol, name := symbols.Symbol(), symbols.Name()
 //	}
 type Symbols struct {
 	image *Image
@@ -205,6 +205,9 @@ type Symbols struct {
 	left   uint64
 	held   []symbolRow
 	symbol Symbol
+	// The row of the symbol, with those that are held, and the first of their names that were read.
+	rows  []symbolRow
+	names []span
 }
 
 // How many symbols are read at once.
@@ -257,12 +260,27 @@ func (symbols *Symbols) Next() bool {
 		return false
 	}
 	symbols.symbol = newSymbol(&symbols.held[0])
-	symbols.held = symbols.held[1:]
+	symbols.rows, symbols.held = symbols.held, symbols.held[1:]
+	if len(symbols.names) > 0 {
+		symbols.names = symbols.names[1:]
+	}
 	return true
 }
 
 // Symbol returns the symbol that Next has gone on to.
 func (symbols *Symbols) Symbol() Symbol { return symbols.symbol }
+
+// Name returns the name of the symbol that Next has gone on to, as Image.Name does. The names are looked up in batches:
+// a loop over all takes less time than Image.Name for each.
+func (symbols *Symbols) Name() []byte {
+	if len(symbols.names) == 0 {
+		symbols.names = readNames(symbols.image, symbols.rows)
+	}
+	if len(symbols.names) == 0 {
+		return nil
+	}
+	return symbols.image.part(symbols.names[0])
+}
 
 // Symbol returns the symbol with this index in the table. It is not ok if there is none.
 func (image *Image) Symbol(index uint64) (symbol Symbol, ok bool) {
