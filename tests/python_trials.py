@@ -484,6 +484,8 @@ def compare_image(found, wanted):
         part = found.table(table)
         yield f"table {table.name}", None if part is None else part.tobytes(), wanted_table(wanted, *fields)
     yield "names", [found.name(symbol).tobytes() for symbol in found.symbols], list(wanted_names(wanted))
+    yield "symbols with names", list(map(as_bytes, found.symbols_with_names)), list(
+        zip(wanted_symbols(wanted), wanted_names(wanted)))
     yield "id", found.id and as_bytes(found.id), next(wanted_libraries(wanted, True), None)
     yield "capabilities", found.capabilities, wanted.header.cpusubtype >> 24
     yield "indirects", list(found.indirects), wanted_indirects(wanted)
@@ -821,6 +823,9 @@ def judge_names_of_numbers(report):
                 ["arm64e"] * 2)
     none = [(0, 0), (7, 4), (-1, 3), (1 << 32 | 7, 3), (7, 1 << 32)]
     report.case("no architecture", [kesvuot.arch_name(*numbers) for numbers in none], [None] * len(none))
+    report.case("an architecture by its name", [kesvuot.arch_named("arm64e"), kesvuot.arch_named(b"arm64e")], [arm64e] * 2)
+    report.case("no architecture has the name", [kesvuot.arch_named(name) for name in ("", "arm", "arm64e\0", "ARM64")],
+                [None] * 4)
 
 
 def kind_of_error(call):

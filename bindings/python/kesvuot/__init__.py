@@ -42,12 +42,12 @@ call, which raises ImportError where it is not found. The package needs CPython 
 from . import constants
 from ._explanation import Explanation, Part, explain
 from ._files import (
-    BoundedTable, Dysymtab, File, Image, Refused, Slice, Source, SourceKind, Symtab, arch_name, command_name,
-    library_version, platform_name, verify, verify_file, verify_linked)
+    BoundedTable, Dysymtab, File, Image, Refused, Slice, Source, SourceKind, Symtab, arch_name, arch_named,
+    command_name, library_version, platform_name, verify, verify_file, verify_linked)
 from ._opcodes import Bind, OpcodeError, Rebase
 from ._rows import Build, Command, Library, Relocation, Section, Segment, Symbol, Table
 
-__all__ = ["verify", "verify_file", "verify_linked", "explain", "library_version", "arch_name", "command_name",
-           "platform_name", "constants", "Refused", "Explanation", "Part", "File", "Slice", "Image", "Source", "SourceKind",
+__all__ = ["verify", "verify_file", "verify_linked", "explain", "library_version", "arch_name", "arch_named",
+           "command_name", "platform_name", "constants", "Refused", "Explanation", "Part", "File", "Slice", "Image", "Source", "SourceKind",
            "Table", "Segment", "Section", "Library", "Build", "Command", "Symbol", "Relocation", "BoundedTable", "Symtab",
            "Dysymtab", "Rebase", "Bind", "OpcodeError"]

@@ -14,7 +14,7 @@ from . import _library, _opcodes, _reading, _rows
 from ._library import CHANGED, IMAGE, SPAN, TEXT, VERDICT, Bytes, Data, address_of, load
 from ._opcodes import Bind, Rebase
 from ._rows import (
-    Build, Command, Library, Reader, Relocation, Section, Segment, Symbol, Table, WalkedReader)
+    Build, Command, Library, NamedReader, Reader, Relocation, Section, Segment, Symbol, Table, WalkedReader)
 from .constants import LC_LOAD_DYLINKER, LC_RPATH
 
 # Room for the layout of most files. A longer one takes a second call.
@@ -232,6 +232,13 @@ class Image(Slice):
         all in linear time, add up the lengths of the names, and stop when the sum is more than 4 * strsize."""
         return self._span(load().kesvuot_symbol_name, symbol.strx)[1]
 
+    @cached_property
+    def symbols_with_names(self) -> Table[Tuple[Symbol, memoryview]]:
+        """The symbols of LC_SYMTAB, each with its name as `name` gives it. The names are looked up in batches: a loop
+        over all takes less time than `name` for each. What `name` says of hostile files holds here too."""
+        count, strings_size = (self.symtab.nsyms, self.symtab.strsize) if self.symtab else (0, 0)
+        return Table(NamedReader(self._data, self._image, strings_size).read, range(count))
+
     def _span(self, call: Any, key: int) -> Tuple[int, memoryview]:
         """The status of a call on the image, and the bytes of the span that it writes."""
         span = ctypes.create_string_buffer(SPAN.size)
@@ -267,7 +274,7 @@ class Image(Slice):
         """The first symbol in the table with this name, of bytes or of a text in UTF-8, that is no debugging entry. It
         need not be defined in the image. None if there is none. Each call goes over all symbols: for many names, read
         `symbols` once."""
-        wanted = Bytes(name.encode("utf-8") if isinstance(name, str) else name)
+        wanted = _bytes_of(name)
         symbol = ctypes.create_string_buffer(_rows.SYMBOLS.form.size)
         status = load().kesvuot_find_name(self._data.address, len(self._data), self._image, wanted.address, len(wanted),
                                           symbol, ctypes.byref(ctypes.c_uint64()))
@@ -466,9 +473,23 @@ def arch_name(cputype: SupportsIndex, cpusubtype: SupportsIndex) -> Optional[str
     return _name(load().kesvuot_find_arch, operator.index(cputype), operator.index(cpusubtype))
 
 
+def arch_named(name: Union[Data, str]) -> Optional[Tuple[int, int]]:
+    """The cputype and the cpusubtype of the architecture with this name, for which `arch_name` has it. The cpusubtype
+    has no capability byte. None if the library knows no such architecture."""
+    wanted = _bytes_of(name)
+    cputype, cpusubtype = ctypes.c_uint32(), ctypes.c_uint32()
+    status = load().kesvuot_arch_named(wanted.address, len(wanted), ctypes.byref(cputype), ctypes.byref(cpusubtype))
+    return (cputype.value, cpusubtype.value) if status == _library.OK else None
+
+
 def rule_name(rule: int) -> str:
     """The name of the rule with this number, empty if there is none."""
     return _name(load().kesvuot_find_rule, rule) or ""
+
+
+def _bytes_of(name: Union[Data, str]) -> Bytes:
+    """A name, of bytes or of a text in UTF-8."""
+    return Bytes(name.encode("utf-8") if isinstance(name, str) else name)
 
 
 def _name(call: Any, *numbers: int) -> Optional[str]:

@@ -8,13 +8,15 @@ from struct import Struct
 from typing import (
     Any, Callable, Iterable, Iterator, NamedTuple, Optional, Sequence, SupportsIndex, Tuple, TypeVar, Union, overload)
 
-from ._library import CHANGED, CURSOR, NO_SECTION, Bytes, load
+from ._library import CHANGED, CURSOR, NO_SECTION, SPAN, Bytes, load
 
 Row = TypeVar("Row")
 Fields = Iterable[Tuple[Any, ...]]
 
 # How many rows a loop asks the library for at once.
 BATCH = 1024
+# The most bytes of strings in which names are looked for at once. One name is looked up in any case.
+MOST_BYTES = 1 << 28
 
 
 def _text(row: Any) -> str:
@@ -255,6 +257,32 @@ class Reader:
     def read(self, first: int, count: int) -> Iterator[Any]:
         """Rows from an index on. Each is made when it is asked for."""
         return self._make(self._write(first, count))
+
+
+class NamedReader(Reader):
+    """Reads symbols with their names, of an image whose strings have so many bytes."""
+
+    def __init__(self, data: Bytes, image: Any, strings_size: int) -> None:
+        super().__init__(data, image, SYMBOLS)
+        self._most = max(MOST_BYTES // max(strings_size, 1), 1)
+
+    def read(self, first: int, count: int) -> Iterator[Tuple[Symbol, memoryview]]:
+        rows = self._write(first, count)
+        return zip(self._make(rows), self._names(rows))
+
+    def _names(self, rows: memoryview) -> Iterator[memoryview]:
+        view, size = self._data.view, self._kind.form.size * self._most
+        for first in range(0, len(rows), size):
+            for offset, length in SPAN.iter_unpack(self._spans(rows[first:first + size])):
+                yield view[offset:offset + length]
+
+    def _spans(self, rows: memoryview) -> Any:
+        """Where the names of the symbols of these rows lie, as the library writes it."""
+        count = len(rows) // self._kind.form.size
+        spans = ctypes.create_string_buffer(count * SPAN.size)
+        load().kesvuot_read_names(self._data.address, len(self._data), self._image,
+                                  ctypes.byref(ctypes.c_char.from_buffer(rows)), count, spans, count)
+        return spans
 
 
 class WalkedReader(Reader):
