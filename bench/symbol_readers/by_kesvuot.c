@@ -66,21 +66,22 @@ static void open_images(struct reading *reading) {
     }
 }
 
-static uint64_t name_length(const struct reading *reading, const struct kesvuot_image *image, uint32_t strx) {
-    struct kesvuot_span name;
-    uint32_t status = kesvuot_symbol_name(reading->bytes, reading->size, image, strx, &name);
-    return status == KESVUOT_OK ? name.size : 0;
+static void add_rows_of(struct sums *sums, const struct kesvuot_symbol *symbols, size_t count) {
+    for (size_t k = 0; k < count; k++) {
+        sums->values += symbols[k].value;
+        // Without a section 0: KESVUOT_NO_SECTION is the greatest number.
+        sums->sections += symbols[k].section + 1u;
+    }
+    sums->count += count;
 }
 
-static void add_batch(struct reading *reading, const struct kesvuot_image *image, const struct kesvuot_symbol *symbols,
-                      size_t count, int with_names) {
+static void add_names_of(struct reading *reading, const struct kesvuot_image *image,
+                         const struct kesvuot_symbol *symbols, size_t count) {
+    struct kesvuot_span names[BATCH];
+    kesvuot_read_names(reading->bytes, reading->size, image, symbols, count, names, BATCH);
     for (size_t k = 0; k < count; k++) {
-        reading->sums.values += symbols[k].value;
-        // Without a section 0: KESVUOT_NO_SECTION is the greatest number.
-        reading->sums.sections += symbols[k].section + 1u;
-        reading->sums.lengths += with_names ? name_length(reading, image, symbols[k].strx) : 0;
+        reading->sums.lengths += names[k].size;
     }
-    reading->sums.count += count;
 }
 
 static void add_image(struct reading *reading, const struct kesvuot_image *image, int with_names) {
@@ -88,7 +89,10 @@ static void add_image(struct reading *reading, const struct kesvuot_image *image
     struct kesvuot_symbol batch[BATCH];
     size_t count;
     while ((count = kesvuot_read_symbols(reading->bytes, reading->size, image, &cursor, batch, BATCH)) > 0) {
-        add_batch(reading, image, batch, count, with_names);
+        add_rows_of(&reading->sums, batch, count);
+        if (with_names) {
+            add_names_of(reading, image, batch, count);
+        }
     }
 }
 

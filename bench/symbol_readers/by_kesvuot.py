@@ -38,11 +38,11 @@ def add_names(images: list[kesvuot.Image]) -> Sums:
     count = values = sections = lengths = 0
     for image in images:
         count += len(image.symbols)
-        for symbol in image.symbols:
+        for symbol, name in image.symbols_with_names:
             values += symbol.value
             if symbol.section is not None:
                 sections += symbol.section + 1
-            lengths += len(image.name(symbol))
+            lengths += len(name)
     return Sums(count, values, sections, lengths)
 
 

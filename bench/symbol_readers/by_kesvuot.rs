@@ -15,11 +15,9 @@ fn open_images(file: &[u8]) -> Result<Vec<Image<'_>>, Box<dyn Error>> {
     Ok(kesvuot::verify(file)?.images().collect())
 }
 
-fn add_symbols(image: &Image, sums: &mut Sums, length: impl Fn(&Symbol) -> usize) {
-    for symbol in image.symbols() {
-        let section = symbol.section.map_or(0, |index| index as u64 + 1);
-        sums.add(symbol.value, section, length(&symbol));
-    }
+fn add_symbol(symbol: &Symbol, length: usize, sums: &mut Sums) {
+    let section = symbol.section.map_or(0, |index| index as u64 + 1);
+    sums.add(symbol.value, section, length);
 }
 
 fn main() -> Result<(), Box<dyn Error>> {
@@ -27,13 +25,15 @@ fn main() -> Result<(), Box<dyn Error>> {
     for _ in 0..task.rounds {
         let images = task.open(open_images)?;
         task.sum("rows", &images, |image, sums| {
-            add_symbols(image, sums, |_| 0);
+            for symbol in image.symbols() {
+                add_symbol(&symbol, 0, sums);
+            }
             Ok(())
         })?;
         task.sum("names", &images, |image, sums| {
-            add_symbols(image, sums, |symbol| {
-                image.name(symbol).map_or(0, <[u8]>::len)
-            });
+            for (symbol, name) in image.symbols().with_names() {
+                add_symbol(&symbol, name.map_or(0, <[u8]>::len), sums);
+            }
             Ok(())
         })?;
     }
