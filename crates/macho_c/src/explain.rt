@@ -8,6 +8,7 @@ mod gaps;
 mod header;
 mod home;
 mod part;
+mod pointers;
 mod section;
 mod segment;
 mod sliced;

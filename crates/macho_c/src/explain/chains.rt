@@ -11,6 +11,7 @@ use crate::explain::part::{
     CHAIN_ARRAY, CHAIN_ENTRY, CHAIN_HEADER, CHAIN_IMPORT, CHAIN_STARTS, KesvuotPart, NO_INDEX,
     below_zero, clamped,
 };
+use crate::explain::pointers::{chain_bind, chain_slot};
 use crate::explain::segment::segment_at;
 use crate::explain::sliced::Sliced;
 use crate::explain::spot::Spot;
@@ -20,7 +21,7 @@ use macho_fields::header::loader::LC_DYLD_CHAINED_FIXUPS;
 use macho_fields::{Bytes, Order, Rule, Span};
 use macho_linked::chain_header::ChainHeader;
 use macho_linked::chain_imports::{Ordinal, name_size};
-use macho_linked::chain_starts::segment_count;
+use macho_linked::chain_starts::{SegmentStarts, segment_count};
 use macho_linked::fixup_chains::{
     DYLD_CHAINED_FIXUPS_HEADER_SIZE, DYLD_CHAINED_STARTS_IN_IMAGE_SIZE,
     DYLD_CHAINED_STARTS_IN_SEGMENT_SIZE, SEG_INFO_OFFSET_SIZE,
@@ -29,10 +30,10 @@ use macho_linked::stream::Limits;
 
 // The table of chained fixups, its bytes, and what its header says.
 #[derive(Clone, Copy)]
-struct Chains<'a> {
-    table: Bounded,
-    bytes: Bytes<'a>,
-    header: ChainHeader,
+pub(crate) struct Chains<'a> {
+    pub(crate) table: Bounded,
+    pub(crate) bytes: Bytes<'a>,
+    pub(crate) header: ChainHeader,
 }
 
 // Explains a rule of the table of chained fixups that is broken at the place.
@@ -55,6 +56,8 @@ pub(crate) fn explain_chains(sliced: &Sliced, rule: Rule, place: u64) -> Option<
         Rule::ChainImports => chain_imports(sliced, &chains, place),
         Rule::ChainTotal => chain_total(sliced, &chains, place),
         Rule::ChainLibrary => chain_library(sliced, &chains, place),
+        Rule::ChainSlot => chain_slot(sliced, &chains, place),
+        Rule::ChainBind => chain_bind(sliced, &chains, place),
         _ => None,
     }
 }
@@ -84,7 +87,7 @@ fn chain_header(sliced: &Sliced, table: &Bounded, place: u64) -> Option<(Spot, C
 }
 
 // The header of a table that begins at the place, or all of a table that has fewer bytes.
-fn header_at(sliced: &Sliced, table: &Bounded, place: u64) -> Option<KesvuotPart> {
+pub(crate) fn header_at(sliced: &Sliced, table: &Bounded, place: u64) -> Option<KesvuotPart> {
     if place != table.span.start {
         return None;
     }
@@ -225,6 +228,18 @@ fn at_import(
 }
 
 impl Chains<'_> {
+    // The offset in the table of the entry of the segment with this index.
+    pub(crate) fn entry_offset(&self, index: u32) -> u64 {
+        let entries = u64::from(self.header.starts_offset) + DYLD_CHAINED_STARTS_IN_IMAGE_SIZE;
+        entries + u64::from(index) * SEG_INFO_OFFSET_SIZE
+    }
+
+    // The starts of the segment with this index, if it has some that can be read.
+    pub(crate) fn starts_of(&self, index: u32) -> Option<SegmentStarts> {
+        let (_, offset) = self.entry_at(self.entry_offset(index))?;
+        SegmentStarts::read(self.bytes, offset)
+    }
+
     // The index of the entry at an offset of the table, and the offset of the starts of its segment, if it
     // has some.
     fn entry_at(&self, offset: u64) -> Option<(u32, u64)> {

@@ -78,6 +78,10 @@ pub(crate) const CHAIN_ENTRY: u32 = 25;
 pub(crate) const CHAIN_STARTS: u32 = 26;
 /// An import of chained fixups.
 pub(crate) const CHAIN_IMPORT: u32 = 27;
+/// A page start of `dyld_chained_starts_in_segment`.
+pub(crate) const PAGE_START: u32 = 28;
+/// A pointer of a chain.
+pub(crate) const CHAIN_POINTER: u32 = 29;
 
 /// No part.
 pub(crate) const NO_PART: KesvuotPart = KesvuotPart {

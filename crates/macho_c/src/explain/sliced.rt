@@ -130,7 +130,9 @@ fn subject_of(rule: Rule) -> Subject {
         | Rule::ChainStarts
         | Rule::ChainImports
         | Rule::ChainTotal
-        | Rule::ChainLibrary => Subject::Chains,
+        | Rule::ChainLibrary
+        | Rule::ChainSlot
+        | Rule::ChainBind => Subject::Chains,
         _ => Subject::Command,
     }
 }
