@@ -115,7 +115,8 @@ pub enum Rule {
     FunctionVariants = 42,
     /// A table of linked data is not where a loader finds it, or can change in memory.
     TableHome = 43,
-    /// There is linked data, and the header cannot be read in memory, or can be written.
+    /// There is linked data, and the header cannot be read in memory, or can be written, or is not where loaders
+    /// take the segment named `__TEXT` to be.
     HeaderHome = 44,
     /// An opcode of the rebases is not known, or its operands do not end.
     RebaseOpcode = 45,
@@ -135,7 +136,7 @@ pub enum Rule {
     BindTotal = 52,
     /// The names that the binds of a stream look up have more bytes than the stream.
     BindNames = 53,
-    /// The header of the chained fixups is cut, or of a version or a format that is not known.
+    /// The header of the chained fixups is not there, is cut, or is of a version or a format that is not known.
     ChainHeader = 54,
     /// The chains of a segment do not begin as the format says, or where a loader cannot write.
     ChainStarts = 55,
@@ -146,7 +147,7 @@ pub enum Rule {
     /// An import is from a library that the image does not load.
     ChainLibrary = 58,
     /// A pointer of a chain does not end in its page and in the file bytes of its segment, or the next one
-    /// begins in it.
+    /// begins in it, or a kernel decrypts the segment.
     ChainSlot = 59,
     /// A pointer of a chain binds an import that is not there.
     ChainBind = 60,
