@@ -30,10 +30,10 @@ use Rattle.macho_c.specs.Image.{only, id_in}
 use Rattle.macho_c.specs.Libraries.{loaded_by, libraries_left, library_row}
 use Rattle.macho_c.proofs.Counts.{no_more}
 use Rattle.macho_c.specs.Loads.{IsLoad, is_command, is_segment, is_library, is_build, is_dyld_info, is_source_version, loads_library, version_min_platform, commands_from, commands_left, wanted_left}
-use Rattle.macho_c.specs.Rows.{HasHeaders}
+use Rattle.macho_c.specs.Rows.{HasUnbrokenHeaders}
 use Rattle.macho_c.specs.declared.load.Wanted.TheVariants as wanted
 
-pub has_opened : (image : List ℕ) → HasHeaders image None → IsOpened image
+pub has_opened : (image : List ℕ) → HasUnbrokenHeaders image None → IsOpened image
 has_opened image kept = may_open image kept
 
 pub good_is : (image : List ℕ) (place : ℕ) → commands_end image ≤ length image → IsGood image place → is_command image place ≡ true

@@ -21,7 +21,7 @@ use Rattle.macho_image.specs.Opened.{IsOpened}
 use Rattle.macho_image.proofs.Kept.{got_first}
 use Rattle.macho_image.proofs.OpenedWalk.{opened_commands}
 use Rattle.macho_rules.proofs.Searches.{any_of}
-use Rattle.macho_c.specs.BoundedTables.{bounds_of, numbered_tables, found_table, table_span, table_size, table_bytes, has_cmd, bounding, IsAnswer, IsWhole}
+use Rattle.macho_c.specs.BoundedTables.{bounds_of, numbered_tables, found_table, table_in_file, table_size, table_bytes, has_cmd, bounding, IsAnswer, IsWhole}
 use Rattle.macho_c.specs.Cursor.{start}
 use Rattle.macho_c.specs.Loads.{IsLoad, is_wanted, wanted_left, first_wanted}
 use Rattle.macho_c.specs.Spans.{span_at, span_of}
@@ -155,7 +155,7 @@ module _ (image : List ℕ) (unbroken : NothingBreaks (BreaksImage image None)) 
         × (length (table_bytes image command b.fields) ≡ table_size image command b.fields)
 
     of_first : (b : Bounds) → IsListed b → (first : Option ℕ) → ((c : ℕ) → first ≡ Some c → Contains (bounding b.wanted image) c)
-        → IsFound (option_and_then (λ command. table_span place image command b.fields) first) → MatchOption first (status ≡ KESVUOT_NONE) (IsWholeTable b)
+        → IsFound (option_and_then (λ command. table_in_file place image command b.fields) first) → MatchOption first (status ≡ KESVUOT_NONE) (IsWholeTable b)
     of_first b is None among answer = answer.0
     of_first b is (Some c) among answer =
         let (found, whole) = whole_span image place (table_place image c b.fields) (item_count image c b.fields) b.fields.item_size (inside b is c (among c refl)) in
@@ -163,13 +163,13 @@ module _ (image : List ℕ) (unbroken : NothingBreaks (BreaksImage image None)) 
         (same.0, same.1, whole)
 
     of_bounds : (bounds : Option Bounds) → ((b : Bounds) → bounds ≡ Some b → IsListed b)
-        → IsFound (option_and_then (λ (b : Bounds). option_and_then (λ command. table_span place image command b.fields) (first_wanted b.wanted image)) bounds)
+        → IsFound (option_and_then (λ (b : Bounds). option_and_then (λ command. table_in_file place image command b.fields) (first_wanted b.wanted image)) bounds)
         → MatchOption bounds (status ≡ KESVUOT_NONE) (λ b. MatchOption (slice_get (bounding b.wanted image) 0) (status ≡ KESVUOT_NONE) (IsWholeTable b))
     of_bounds None are answer = answer.0
     of_bounds (Some b) are answer =
         let is = are b refl in
         of_first b is (slice_get (bounding b.wanted image) 0) (λ c at. got_first (bounding b.wanted image) c at)
-        (subst (λ commands. IsFound (option_and_then (λ command. table_span place image command b.fields) (slice_get commands 0))) (all_bounding b.wanted is.0) answer)
+        (subst (λ commands. IsFound (option_and_then (λ command. table_in_file place image command b.fields) (slice_get commands 0))) (all_bounding b.wanted is.0) answer)
 
     pub is_whole : (table : ℕ) → IsAnswer image place table status span → IsWhole image place table status span
     is_whole table answer = of_bounds (bounds_of table) (listed table) answer

@@ -15,7 +15,7 @@ use Rattle.macho_image.specs.declared.symbol.Symbol.{Symbol}
 use Rattle.macho_image.specs.declared.symtab.Symtab.{Symtab}
 use Rattle.macho_c.specs.Image.{ShowsUnbroken, image_in, symtab_in, field_of}
 use Rattle.macho_c.specs.Spans.{part_or_none}
-use Rattle.macho_c.specs.SymbolNames.{HasName, HasNameIn, HasNameAmong, NoneBelow, IsAnswer, IsNamed, FindsNamed}
+use Rattle.macho_c.specs.SymbolNames.{HasName, HasNameIn, HasNameAmong, NoneBelow, FindsFirst, IsNamed, FindsNamed}
 use Rattle.macho_c.specs.Symbols.{first_string}
 use Rattle.macho_c.specs.declared.image.KesvuotImage.{KesvuotImage}
 use Rattle.macho_c.specs.declared.symbols.KesvuotSymbol.{KesvuotSymbol}
@@ -129,7 +129,7 @@ none_remain P all k none over j other found = none j other (omega (arith, slice_
 
 -- by tests that agree on the symbols
 pub answers : (P Q : Symbol → Type 0) (symbols : List Symbol) (sections status number : ℕ) (symbol : KesvuotSymbol) → ((k : ℕ) (s : Symbol) → slice_get symbols k ≡ Some s → P s ↔ Q s)
-    → IsAnswer P symbols sections status symbol number → IsAnswer Q symbols sections status symbol number
+    → FindsFirst P symbols sections status symbol number → FindsFirst Q symbols sections status symbol number
 answers P Q symbols sections status number symbol same answer = elim answer [
   | inl (ok, s, first, is) ↦ inl (ok, s, (first.0, (same number s first.0).0 first.1, λ k other less found holds. first.2 k other less found ((same k other found).1 holds)), is)
   | inr (none, has_none, is, zero_number) ↦ inr (none, (λ k other found holds. has_none k other found ((same k other found).1 holds)), is, zero_number)
@@ -177,11 +177,11 @@ module _ (image : List ℕ) (unbroken : NothingBreaks (BreaksImage image None)) 
 -- the answer by the strings and the symbols of the struct
 pub shown_named : (image : List ℕ) (row : KesvuotImage) (name : List ℕ) (status number : ℕ) (symbol : KesvuotSymbol) (strings : List ℕ) (symbols : List Symbol)
     → strings ≡ part_or_none row.strings row.strings_size image → symbols ≡ map (symbol_at image) (items_inside image row.symbols 16 row.symbol_count)
-    → IsAnswer (HasNameAmong strings name) symbols row.section_count status symbol number → IsNamed image row name status symbol number
+    → FindsFirst (HasNameAmong strings name) symbols row.section_count status symbol number → IsNamed image row name status symbol number
 shown_named image row name status number symbol strings symbols are same answer =
     let shown : List Symbol = map (symbol_at image) (items_inside image row.symbols 16 row.symbol_count) in
     answers (HasNameAmong (part_or_none row.strings row.strings_size image) name) (HasName image row name) shown row.section_count status number symbol (λ k s at. among_shown image row name s)
-    (subst₂ (λ text all. IsAnswer (HasNameAmong text name) all row.section_count status symbol number) are same answer)
+    (subst₂ (λ text all. FindsFirst (HasNameAmong text name) all row.section_count status symbol number) are same answer)
 
 -- that by the image alone, where it breaks no rule
 pub seen_named : (file : List ℕ) (row : KesvuotImage) (shows : ShowsUnbroken file row) (name : List ℕ) (status number : ℕ) (symbol : KesvuotSymbol)
@@ -190,8 +190,8 @@ seen_named file row shows name status number symbol answer =
     let image = image_in file row in
     let seen : List Symbol = map (symbol_at image) (symbols_of image (commands_of image)) in
     let sections = section_count image (commands_of image) in
-    let among : IsAnswer (HasNameAmong (part_or_none row.strings row.strings_size image) name) seen sections status symbol number =
+    let among : FindsFirst (HasNameAmong (part_or_none row.strings row.strings_size image) name) seen sections status symbol number =
     answers (HasName image row name) (HasNameAmong (part_or_none row.strings row.strings_size image) name) seen sections status number symbol (λ k s at. ((among_shown image row name s).1, (among_shown image row name s).0))
-    (subst₂ (λ places n. IsAnswer (HasName image row name) (map (symbol_at image) places) n status symbol number) (table_same file row shows) shows.0.counts.sections answer) in
+    (subst₂ (λ places n. FindsFirst (HasName image row name) (map (symbol_at image) places) n status symbol number) (table_same file row shows) shows.0.counts.sections answer) in
     answers (HasNameAmong (strings_of image (unbroken file row shows) name) name) (HasNameIn image name) seen sections status number symbol (among_seen image (unbroken file row shows) name)
-    (subst₂ (λ start size. IsAnswer (HasNameAmong (part_or_none start size image) name) seen sections status symbol number) shows.0.tables.strings shows.0.tables.strings_size among)
+    (subst₂ (λ start size. FindsFirst (HasNameAmong (part_or_none start size image) name) seen sections status symbol number) shows.0.tables.strings shows.0.tables.strings_size among)

@@ -6,12 +6,12 @@ use Rattle.macho_fields.specs.Layers.{Continues, StopsAt}
 use Rattle.macho_fields.specs.Rules.{BreaksImage}
 use Rattle.macho_fields.specs.declared.rule.Break.{Break}
 use Rattle.macho_fields.specs.declared.rule.Rule.TheVariants as rule
-use Rattle.macho_c.specs.Rows.{IsBrokenImage, HasHeaders}
+use Rattle.macho_c.specs.Rows.{IsBrokenImage, HasUnbrokenHeaders}
 
 -- Image::open refuses only what breaks a rule of the headers, and opens only what breaks none
 pub opened : (bytes file : List ℕ) (answer : Result (List ℕ) Break) (image : Option (List ℕ)) → bytes ≡ file → image ≡ result_ok answer → Continues (BreaksImage bytes None) rule.Name answer → StopsAt rule.Name answer → IfOk answer (λ held. held ≡ bytes)
-    → MatchOption image (IsBrokenImage file None) (λ held. HasHeaders file None × (held ≡ file))
+    → MatchOption image (IsBrokenImage file None) (λ held. HasUnbrokenHeaders file None × (held ≡ file))
 opened bytes file (Ok held) image same is decides stops holds =
-    subst (λ o. MatchOption o (IsBrokenImage file None) (λ held. HasHeaders file None × (held ≡ file))) (sym is) (subst (λ b. HasHeaders b None) same decides, holds ∙ same)
+    subst (λ o. MatchOption o (IsBrokenImage file None) (λ held. HasUnbrokenHeaders file None × (held ≡ file))) (sym is) (subst (λ b. HasUnbrokenHeaders b None) same decides, holds ∙ same)
 opened bytes file (Err b) image same is decides stops holds =
-    subst (λ o. MatchOption o (IsBrokenImage file None) (λ held. HasHeaders file None × (held ≡ file))) (sym is) (subst (λ b. IsBrokenImage b None) same (b.rule, b.place, stops, decides.0))
+    subst (λ o. MatchOption o (IsBrokenImage file None) (λ held. HasUnbrokenHeaders file None × (held ≡ file))) (sym is) (subst (λ b. IsBrokenImage b None) same (b.rule, b.place, stops, decides.0))

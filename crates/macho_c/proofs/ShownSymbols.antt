@@ -1,6 +1,6 @@
 -- The symbols by the struct of an image that breaks no rule are those of the image, and so are their
 -- names.
-use Rattle.std.proofs.Common.{◌≡◌, ◌∙◌, ℕ, ◌^◌, ◌≤◌, List, length, map, take, sym, ap, subst, arith, length-take}
+use Rattle.std.proofs.Common.{◌≡◌, ◌∙◌, ℕ, ◌^◌, ◌≤◌, List, length, map, take, sym, ap, ap₂, subst, arith, length-take}
 use Rattle.macho_fields.specs.Image.{commands_of}
 use Rattle.macho_image.specs.Symbol.{symbols_of, symbol_at}
 use Rattle.macho_image.specs.declared.symbol.Symbol.{Symbol}
@@ -19,8 +19,8 @@ pub seen_few : (image : List ℕ) → length (symbols_seen image) ≤ 2 ^ 32
 seen_few image = take_few (2 ^ 32) (map (symbol_at image) (symbols_of image (commands_of image)))
 
 -- the symbols that the code reads are those by the struct
-pub shown_are : (image bytes : List ℕ) (row : KesvuotImage) (symbols : List Symbol) → symbols ≡ symbols_shown bytes row → bytes ≡ image → symbols ≡ symbols_shown image row
-shown_are image bytes row symbols is same = is ∙ ap (λ b. symbols_shown b row) same
+pub shown_are : (image bytes : List ℕ) (row held : KesvuotImage) (symbols : List Symbol) → symbols ≡ symbols_shown bytes held → bytes ≡ image → held ≡ row → symbols ≡ symbols_shown image row
+shown_are image bytes row held symbols is same same_row = is ∙ ap₂ symbols_shown same same_row
 
 pub shown_seen : (file : List ℕ) (row : KesvuotImage) → ShowsUnbroken file row → symbols_shown (image_in file row) row ≡ symbols_seen (image_in file row)
 shown_seen file row shows = ap (λ places. take (2 ^ 32) (map (symbol_at (image_in file row)) places)) (table_same file row shows)

@@ -54,8 +54,8 @@ table_bytes image command fields =
 
 -- Where a table lies, in an image that begins at `place` in the file. Without items it has no bytes,
 -- wherever it is. It is nowhere where it has items and ends past the image.
-abbrev pub table_span : ℕ → List ℕ → ℕ → TableFields → Option KesvuotSpan
-table_span place image command fields =
+abbrev pub table_in_file : ℕ → List ℕ → ℕ → TableFields → Option KesvuotSpan
+table_in_file place image command fields =
     if item_count image command fields == 0 then Some (span_at 0 0)
     else (if nat_le (table_place image command fields + table_size image command fields)
     (length image)
@@ -66,7 +66,7 @@ table_span place image command fields =
 abbrev pub found_table : ℕ → List ℕ → ℕ → Option KesvuotSpan
 found_table place image table =
     option_and_then (λ (b : Bounds).
-    option_and_then (λ command. table_span place image command b.fields) (first_wanted b.wanted image))
+    option_and_then (λ command. table_in_file place image command b.fields) (first_wanted b.wanted image))
     (bounds_of table)
 
 -- the answer on a number

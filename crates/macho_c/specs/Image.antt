@@ -19,7 +19,7 @@ use Rattle.macho_image.specs.declared.symtab.Symtab.{Symtab}
 use Rattle.macho_c.specs.Builds.{builds_in}
 use Rattle.macho_c.specs.Commands.{commands_in}
 use Rattle.macho_c.specs.Libraries.{loaded_by, library_row, no_library}
-use Rattle.macho_c.specs.Rows.{IsBrokenImage, HasHeaders}
+use Rattle.macho_c.specs.Rows.{IsBrokenImage, HasUnbrokenHeaders}
 use Rattle.macho_c.specs.Segments.{segments_seen}
 use Rattle.macho_c.specs.Spans.{part_or_none, span_at}
 use Rattle.macho_c.specs.declared.image.KesvuotImage.{KesvuotImage}
@@ -175,7 +175,7 @@ HasTable file = KeptBelow (BreaksFile file) (rank rule.FatTruncated + 1)
 abbrev pub IsRead : List ℕ → FileSlice → KesvuotImage → Type 0
 IsRead file slice row =
     (slice.start + slice.size ≤ length file) × IsImage (slice_bytes file slice)
-    × HasHeaders (slice_bytes file slice) slice.arch × Shows (slice_bytes file slice) slice.start row
+    × HasUnbrokenHeaders (slice_bytes file slice) slice.arch × Shows (slice_bytes file slice) slice.start row
 
 -- the slice has an image that is not read, of the architecture that the table names
 abbrev pub IsUnread : List ℕ → FileSlice → KesvuotImage → Type 0

@@ -11,8 +11,8 @@ abbrev pub IsBrokenImage : List ℕ → Option (ℕ × ℕ) → Type 0
 IsBrokenImage image arch = BreaksUpTo (BreaksImage image arch) rule.Name
 
 -- they break none of these rules
-abbrev pub HasHeaders : List ℕ → Option (ℕ × ℕ) → Type 0
-HasHeaders image arch = KeptBelow (BreaksImage image arch) (rank rule.Name + 1)
+abbrev pub HasUnbrokenHeaders : List ℕ → Option (ℕ × ℕ) → Type 0
+HasUnbrokenHeaders image arch = KeptBelow (BreaksImage image arch) (rank rule.Name + 1)
 
 -- the bytes before the first zero byte, and none where no byte is zero
 abbrev pub ended_string : List ℕ → List ℕ

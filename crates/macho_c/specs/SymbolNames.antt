@@ -41,9 +41,9 @@ IsFirst P symbols number symbol =
 abbrev pub HasNone : (Symbol → Type 0) → List Symbol → Type 0
 HasNone P symbols = (k : ℕ) (other : Symbol) → slice_get symbols k ≡ Some other → ¬ P other
 
--- the answer: the first of these symbols of which P holds, of an image with so many sections
-abbrev pub IsAnswer : (Symbol → Type 0) → List Symbol → ℕ → ℕ → KesvuotSymbol → ℕ → Type 0
-IsAnswer P symbols sections status symbol number =
+-- the answer is the first of these symbols of which P holds, of an image with so many sections
+abbrev pub FindsFirst : (Symbol → Type 0) → List Symbol → ℕ → ℕ → KesvuotSymbol → ℕ → Type 0
+FindsFirst P symbols sections status symbol number =
     ((status ≡ KESVUOT_OK)
     × (s : Symbol) × IsFirst P symbols number s × (symbol ≡ symbol_row sections s))
     ⊎ ((status ≡ KESVUOT_NONE) × HasNone P symbols × (symbol ≡ no_symbol) × (number ≡ 0))
@@ -51,14 +51,14 @@ IsAnswer P symbols sections status symbol number =
 -- the answer on a name, by the numbers of the struct
 abbrev pub IsNamed : List ℕ → KesvuotImage → List ℕ → ℕ → KesvuotSymbol → ℕ → Type 0
 IsNamed image row name =
-    IsAnswer (HasName image row name)
+    FindsFirst (HasName image row name)
     (map (symbol_at image) (items_inside image row.symbols nlist.NLIST_64_SIZE row.symbol_count))
     row.section_count
 
 -- the answer on a name, by the image alone: among all its symbols
 abbrev pub FindsNamed : List ℕ → List ℕ → ℕ → KesvuotSymbol → ℕ → Type 0
 FindsNamed image name =
-    IsAnswer (HasNameIn image name)
+    FindsFirst (HasNameIn image name)
     (map (symbol_at image) (symbols_of image (commands_of image)))
     (section_count image (commands_of image))
 

@@ -7,7 +7,7 @@ ghost use Rattle.macho_fields.specs.Rules.{BreaksImage};
 ghost use Rattle.macho_c.specs.Address.{supplier, IsAnswer, IsSourceAt};
 ghost use Rattle.macho_c.specs.Address.{supplies as supplies_of};
 ghost use Rattle.macho_c.specs.Image.{image_in};
-ghost use Rattle.macho_c.specs.Rows.{IsBrokenImage, HasHeaders};
+ghost use Rattle.macho_c.specs.Rows.{IsBrokenImage, HasUnbrokenHeaders};
 ghost use Rattle.macho_c.specs.Segments.{segment_bytes};
 ghost use Rattle.macho_c.specs.Spans.{span_at};
 ghost use Rattle.macho_c.specs.Status.{KESVUOT_NONE};
@@ -28,7 +28,7 @@ pub extern "C" fn kesvuot_find_address(
     address: u64,
     bytes: &mut KesvuotSpan,
 ) -> u32
-    ensures answer { (HasHeaders (image_in file.now image.now) None
+    ensures answer { (HasUnbrokenHeaders (image_in file.now image.now) None
         × IsAnswer (image_in file.now image.now) image.now.slice.offset address result bytes.new)
         ⊎ (IsBrokenImage (image_in file.now image.now) None × (result ≡ KESVUOT_NONE)
         × (bytes.new ≡ span_at 0 0)) }

@@ -6,7 +6,7 @@ ghost use Rattle.macho_fields.specs.Bytes.{bytes_of};
 ghost use Rattle.macho_fields.specs.Layers.{NothingBreaks};
 ghost use Rattle.macho_fields.specs.LoadCommands.{table_fields, width_size};
 ghost use Rattle.macho_fields.specs.Rules.{BreaksImage};
-ghost use Rattle.macho_c.specs.BoundedTables.{bounds, bounds_of, found_table, table_span, IsAnswer, IsWhole};
+ghost use Rattle.macho_c.specs.BoundedTables.{bounds, bounds_of, found_table, table_in_file, IsAnswer, IsWhole};
 ghost use Rattle.macho_c.specs.Image.{image_in};
 
 use crate::image::KesvuotImage;
@@ -55,7 +55,7 @@ fn found_table(image: &Held, table: u32) -> Option<KesvuotSpan>
 fn table_at(image: &Held, command: u64, fields: TableFields) -> Option<KesvuotSpan>
     requires place { command + fields.place + width_size fields.width ≤ length (bytes_of image.now.bytes) }
     requires count { command + fields.count + width_size fields.width ≤ length (bytes_of image.now.bytes) }
-    ensures { result ≡ table_span image.now.place (bytes_of image.now.bytes) command fields }
+    ensures { result ≡ table_in_file image.now.place (bytes_of image.now.bytes) command fields }
 {
     let start = fields.table_place(image.bytes, command);
     let count = fields.item_count(image.bytes, command);

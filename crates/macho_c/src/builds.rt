@@ -6,7 +6,7 @@ ghost use Rattle.macho_c.specs.Builds.{build_row, builds_left, all_builds};
 ghost use Rattle.macho_c.specs.Cursor.{start, IsBatch};
 ghost use Rattle.macho_c.specs.Image.{image_in};
 ghost use Rattle.macho_c.specs.Loads.{IsLoad, is_build};
-ghost use Rattle.macho_c.specs.Rows.{HasHeaders};
+ghost use Rattle.macho_c.specs.Rows.{HasUnbrokenHeaders};
 
 use crate::cursor::KesvuotCursor;
 use crate::image::KesvuotImage;
@@ -36,7 +36,7 @@ pub extern "C" fn kesvuot_read_builds(
 ) -> usize
     ensures rows { IsBatch (builds_left (image_in file.now image.now)) cursor.old cursor.new result
         rows.old rows.new }
-    ensures all { HasHeaders (image_in file.now image.now) None
+    ensures all { HasUnbrokenHeaders (image_in file.now image.now) None
         → builds_left (image_in file.now image.now) start ≡ all_builds (image_in file.now image.now) }
 {
     let builds = Builds {

@@ -8,7 +8,7 @@ ghost use Rattle.macho_c.specs.Commands.{command_row, command_rows_left, all_com
 ghost use Rattle.macho_c.specs.Cursor.{start, IsBatch};
 ghost use Rattle.macho_c.specs.Image.{image_in};
 ghost use Rattle.macho_c.specs.Loads.{IsLoad};
-ghost use Rattle.macho_c.specs.Rows.{HasHeaders};
+ghost use Rattle.macho_c.specs.Rows.{HasUnbrokenHeaders};
 
 use crate::cursor::KesvuotCursor;
 use crate::image::KesvuotImage;
@@ -43,7 +43,7 @@ pub extern "C" fn kesvuot_read_commands(
 ) -> usize
     ensures rows { IsBatch (command_rows_left image.now.slice.offset (image_in file.now image.now))
         cursor.old cursor.new result rows.old rows.new }
-    ensures all { HasHeaders (image_in file.now image.now) None
+    ensures all { HasUnbrokenHeaders (image_in file.now image.now) None
         → command_rows_left image.now.slice.offset (image_in file.now image.now) start
         ≡ all_commands image.now.slice.offset (image_in file.now image.now) }
 {

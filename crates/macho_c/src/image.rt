@@ -17,7 +17,7 @@ ghost use Rattle.macho_c.specs.Segments.{segments_seen};
 ghost use Rattle.macho_c.specs.Image.{IsAnswer, IsSliceAnswer, Shows, ShowsNothing, ShowsUnbroken};
 ghost use Rattle.macho_c.specs.Image.{image_in, only, uuid_in, symtab_in, dysymtab_in, id_in, field_of};
 ghost use Rattle.macho_c.specs.Image.{bit as bit_of, groups_at as groups_in, no_groups};
-ghost use Rattle.macho_c.specs.Rows.{IsBrokenImage, HasHeaders};
+ghost use Rattle.macho_c.specs.Rows.{IsBrokenImage, HasUnbrokenHeaders};
 ghost use Rattle.macho_c.specs.Status.{KESVUOT_OK, KESVUOT_REFUSED};
 
 use crate::builds::Builds;
@@ -111,7 +111,7 @@ impl<'a> Held<'a> {
     // The image in the bytes, or `None` where they break a rule of the headers.
     pub(crate) fn open(&self) -> Option<Image<'a>>
         ensures { MatchOption result (IsBrokenImage (bytes_of self.now.bytes) None)
-            (λ image. HasHeaders (bytes_of self.now.bytes) None × (image ≡ bytes_of self.now.bytes)) }
+            (λ image. HasUnbrokenHeaders (bytes_of self.now.bytes) None × (image ≡ bytes_of self.now.bytes)) }
     {
         Image::open(self.bytes, None).ok()
     }
@@ -163,7 +163,7 @@ fn read_slice(file: Bytes, slice: &Slice, image: &mut KesvuotImage) -> u32
 fn read_image(bytes: &[u8], slice: &Slice, image: &mut KesvuotImage) -> u32
     requires fits { slice.now.span.start + length bytes.now < 2 ^ 64 }
     requires empty { ShowsNothing image.old }
-    ensures { ((result ≡ KESVUOT_OK) × HasHeaders bytes.now slice.now.arch
+    ensures { ((result ≡ KESVUOT_OK) × HasUnbrokenHeaders bytes.now slice.now.arch
         × Shows bytes.now slice.now.span.start image.new)
         ⊎ ((result ≡ KESVUOT_REFUSED) × IsBrokenImage bytes.now slice.now.arch
         × ShowsNothing image.new) }

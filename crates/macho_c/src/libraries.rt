@@ -6,7 +6,7 @@ ghost use Rattle.macho_c.specs.Cursor.{start, IsBatch};
 ghost use Rattle.macho_c.specs.Image.{image_in};
 ghost use Rattle.macho_c.specs.Libraries.{library_row, libraries_left, all_libraries};
 ghost use Rattle.macho_c.specs.Loads.{IsLoad};
-ghost use Rattle.macho_c.specs.Rows.{HasHeaders};
+ghost use Rattle.macho_c.specs.Rows.{HasUnbrokenHeaders};
 
 use crate::commands::name_span;
 use crate::cursor::KesvuotCursor;
@@ -49,7 +49,7 @@ pub extern "C" fn kesvuot_read_libraries(
 ) -> usize
     ensures rows { IsBatch (libraries_left image.now.slice.offset (image_in file.now image.now))
         cursor.old cursor.new result rows.old rows.new }
-    ensures all { HasHeaders (image_in file.now image.now) None
+    ensures all { HasUnbrokenHeaders (image_in file.now image.now) None
         → libraries_left image.now.slice.offset (image_in file.now image.now) start
         ≡ all_libraries image.now.slice.offset (image_in file.now image.now) }
 {

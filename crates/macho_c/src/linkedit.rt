@@ -7,7 +7,7 @@ ghost use Rattle.macho_fields.specs.declared.load_command.Structure.TheVariants.
 ghost use Rattle.macho_image.specs.Opened.{IsOpened};
 ghost use Rattle.macho_c.specs.Linkedit.{IsAnswer, IsData, PassesImage};
 ghost use Rattle.macho_c.specs.Image.{image_in};
-ghost use Rattle.macho_c.specs.Rows.{IsBrokenImage, HasHeaders};
+ghost use Rattle.macho_c.specs.Rows.{IsBrokenImage, HasUnbrokenHeaders};
 ghost use Rattle.macho_c.specs.Spans.{span_at};
 ghost use Rattle.macho_c.specs.Status.{KESVUOT_NONE};
 
@@ -27,7 +27,7 @@ pub extern "C" fn kesvuot_find_data(
     cmd: u32,
     span: &mut KesvuotSpan,
 ) -> u32
-    ensures { (HasHeaders (image_in file.now image.now) None
+    ensures { (HasUnbrokenHeaders (image_in file.now image.now) None
         × IsAnswer (image_in file.now image.now) image.now.slice.offset cmd result span.new)
         ⊎ (IsBrokenImage (image_in file.now image.now) None × (result ≡ KESVUOT_NONE)
         × (span.new ≡ span_at 0 0)) }

@@ -5,7 +5,7 @@ ghost use Rattle.std.specs.Iterator.{YieldsFirst};
 ghost use Rattle.macho_fields.specs.Bytes.{bytes_of};
 ghost use Rattle.macho_c.specs.Cursor.{start, IsBatch};
 ghost use Rattle.macho_c.specs.Image.{image_in};
-ghost use Rattle.macho_c.specs.Rows.{HasHeaders};
+ghost use Rattle.macho_c.specs.Rows.{HasUnbrokenHeaders};
 ghost use Rattle.macho_c.specs.Sections.{section_row, sections_left, all_sections, rows_reached};
 ghost use Rattle.macho_c.specs.Sections.{nsects_at, section_span, fills_zeros};
 
@@ -54,7 +54,7 @@ pub extern "C" fn kesvuot_read_sections(
 ) -> usize
     ensures rows { IsBatch (sections_left image.now.slice.offset (image_in file.now image.now))
         cursor.old cursor.new result rows.old rows.new }
-    ensures all { HasHeaders (image_in file.now image.now) None
+    ensures all { HasUnbrokenHeaders (image_in file.now image.now) None
         → sections_left image.now.slice.offset (image_in file.now image.now) start
         ≡ all_sections image.now.slice.offset (image_in file.now image.now) }
 {

@@ -4,7 +4,7 @@ ghost use Rattle.std.specs.Prelude.{◌≡◌, ◌+◌, ◌≤◌, length, None}
 ghost use Rattle.macho_fields.specs.Bytes.{bytes_of};
 ghost use Rattle.macho_c.specs.Cursor.{start, IsBatch};
 ghost use Rattle.macho_c.specs.Image.{image_in};
-ghost use Rattle.macho_c.specs.Rows.{HasHeaders};
+ghost use Rattle.macho_c.specs.Rows.{HasUnbrokenHeaders};
 ghost use Rattle.macho_c.specs.Segments.{segment_row, segments_left, all_segments, last_address, sections_past};
 
 use crate::cursor::KesvuotCursor;
@@ -48,7 +48,7 @@ pub extern "C" fn kesvuot_read_segments(
 ) -> usize
     ensures rows { IsBatch (segments_left image.now.slice.offset (image_in file.now image.now))
         cursor.old cursor.new result rows.old rows.new }
-    ensures all { HasHeaders (image_in file.now image.now) None
+    ensures all { HasUnbrokenHeaders (image_in file.now image.now) None
         → segments_left image.now.slice.offset (image_in file.now image.now) start
         ≡ all_segments image.now.slice.offset (image_in file.now image.now) }
 {

@@ -5,7 +5,7 @@ ghost use Rattle.macho_fields.specs.Image.{commands_of};
 ghost use Rattle.macho_c.specs.Cursor.{start};
 ghost use Rattle.macho_c.specs.Image.{image_in};
 ghost use Rattle.macho_c.specs.Loads.{is_source_version, wanted_left};
-ghost use Rattle.macho_c.specs.Rows.{HasHeaders};
+ghost use Rattle.macho_c.specs.Rows.{HasUnbrokenHeaders};
 ghost use Rattle.macho_c.specs.SourceVersion.{IsAnswer};
 ghost use Rattle.macho_c.specs.declared.load.Wanted.TheVariants.{SourceVersions};
 
@@ -23,7 +23,7 @@ pub extern "C" fn kesvuot_find_source_version(
     version: &mut u64,
 ) -> u32
     ensures answer { IsAnswer (image_in file.now image.now) result version.new }
-    ensures all { HasHeaders (image_in file.now image.now) None
+    ensures all { HasUnbrokenHeaders (image_in file.now image.now) None
         → wanted_left SourceVersions (image_in file.now image.now) start
         ≡ filter (is_source_version (image_in file.now image.now)) (commands_of (image_in file.now image.now)) }
 {

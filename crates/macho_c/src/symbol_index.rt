@@ -32,10 +32,7 @@ pub extern "C" fn kesvuot_index_symbols(
     ensures all { ShowsUnbroken file.now image.now
         → IsIndexed (symbols_seen (image_in file.now image.now)) result index.old index.new }
 {
-    let table = SymbolTable {
-        bytes: image.held(file).bytes,
-        image,
-    };
+    let table = SymbolTable::of(file, image);
     let count = count_addresses(table.indexed());
     if count <= index.len() {
         write_index(&table, &mut index[..count]);
@@ -63,10 +60,7 @@ pub extern "C" fn kesvuot_find_symbol(
 {
     *symbol = NO_SYMBOL;
     *position = 0;
-    let table = SymbolTable {
-        bytes: image.held(file).bytes,
-        image,
-    };
+    let table = SymbolTable::of(file, image);
     match last_at_or_before(&table.indexed(), index, address) {
         Some((last, found)) => {
             *symbol = row_of(found, image.section_count);

@@ -64,11 +64,7 @@ pub extern "C" fn kesvuot_read_symbols(
         → HasAllSymbols (image_in file.now image.now)
         (symbols_left (image_in file.now image.now) image.now start) }
 {
-    let symbols = SymbolTable {
-        bytes: image.held(file).bytes,
-        image,
-    };
-    fill(&symbols, cursor, rows)
+    fill(&SymbolTable::of(file, image), cursor, rows)
 }
 
 /// Writes where the name at `strx` in the strings lies in the file. The status is `OK`, or `NONE` where
@@ -171,6 +167,19 @@ pub(crate) fn strings<'a>(bytes: Bytes<'a>, image: &KesvuotImage) -> &'a [u8]
 pub(crate) struct SymbolTable<'a> {
     pub(crate) bytes: Bytes<'a>,
     pub(crate) image: &'a KesvuotImage,
+}
+
+impl<'a> SymbolTable<'a> {
+    // The symbols of an image of a file.
+    pub(crate) fn of(file: &'a [u8], image: &'a KesvuotImage) -> SymbolTable<'a>
+        ensures bytes { bytes_of result.bytes ≡ image_in file.now image.now }
+        ensures image { result.image.now ≡ image.now }
+    {
+        SymbolTable {
+            bytes: image.held(file).bytes,
+            image,
+        }
+    }
 }
 
 impl<'a> Table for SymbolTable<'a> {

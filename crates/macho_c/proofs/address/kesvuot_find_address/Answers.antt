@@ -1,7 +1,7 @@
 use Rattle.std.proofs.Common.{None, inl, subst, ◌∙◌}
 use Rattle.macho_c.specs.Address.{IsAnswer}
 use Rattle.macho_c.specs.Image.{image_in}
-use Rattle.macho_c.specs.Rows.{HasHeaders, IsBrokenImage}
+use Rattle.macho_c.specs.Rows.{HasUnbrokenHeaders, IsBrokenImage}
 use Rattle.macho_c.proofs.Supplied.{told}
 use Rattle.macho_c.proofs.address.kesvuot_find_address.Goals as goal
 
@@ -12,7 +12,7 @@ returns-in-Some-clause-answer c =
     let span = c.write_span_at.new.span in
     let same = c.in-Some.ensures.1 ∙ c.held-held.ensures.bytes in
     inl (
-      subst (λ bytes. HasHeaders bytes None) c.held-held.ensures.bytes c.in-Some.ensures.0,
+      subst (λ bytes. HasUnbrokenHeaders bytes None) c.held-held.ensures.bytes c.in-Some.ensures.0,
       subst (λ place. IsAnswer (image_in c.args.file.now row) place c.args.address status span) c.held-held.ensures.place
           (subst (λ bytes. IsAnswer bytes c.held-held.result.place c.args.address status span) same c.write_span_at.ensures),
     )

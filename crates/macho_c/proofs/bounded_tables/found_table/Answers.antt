@@ -1,7 +1,7 @@
 use Rattle.std.proofs.Common.{◌∙◌, sym, ap}
 use Rattle.std.specs.Option.{option_and_then}
 use Rattle.macho_fields.specs.Bytes.{bytes_of}
-use Rattle.macho_c.specs.BoundedTables.{table_span}
+use Rattle.macho_c.specs.BoundedTables.{table_in_file}
 use Rattle.macho_c.specs.Loads.{first_wanted}
 use Rattle.macho_c.specs.declared.bounded_tables.Bounds.{Bounds}
 use Rattle.macho_c.proofs.BoundedTables.{fields_held}
@@ -19,5 +19,5 @@ returns c =
     let image = bytes_of held.bytes in
     let bounds = c.in_ok-bounds.bounds in
     c.table_at.ensures
-    ∙ (ap (option_and_then (λ command. table_span held.place image command bounds.fields)) c.in_ok-load.ensures.first
-    ∙ ap (option_and_then (λ (b : Bounds). option_and_then (λ command. table_span held.place image command b.fields) (first_wanted b.wanted image))) c.in_ok-bounds.ensures)
+    ∙ (ap (option_and_then (λ command. table_in_file held.place image command bounds.fields)) c.in_ok-load.ensures.first
+    ∙ ap (option_and_then (λ (b : Bounds). option_and_then (λ command. table_in_file held.place image command b.fields) (first_wanted b.wanted image))) c.in_ok-bounds.ensures)

@@ -1,13 +1,13 @@
 use Rattle.std.proofs.Common.{inl, inr, refl, subst, ◌∙◌}
 use Rattle.macho_c.specs.Image.{Shows}
-use Rattle.macho_c.specs.Rows.{IsBrokenImage, HasHeaders}
+use Rattle.macho_c.specs.Rows.{IsBrokenImage, HasUnbrokenHeaders}
 use Rattle.macho_c.proofs.image.read_image.Goals as goal
 
 pub returns-in-Ok : goal.returns-in-Ok
 returns-in-Ok c =
     let slice = c.args.slice.now in
     let same = c.in-Ok.ensures.image ∙ c.new.ensures in
-    inl (refl, subst (λ bytes. HasHeaders bytes slice.arch) c.new.ensures c.in-Ok.ensures.decides, subst (λ bytes. Shows bytes slice.span.start c.row_of.result) same c.row_of.ensures)
+    inl (refl, subst (λ bytes. HasUnbrokenHeaders bytes slice.arch) c.new.ensures c.in-Ok.ensures.decides, subst (λ bytes. Shows bytes slice.span.start c.row_of.result) same c.row_of.ensures)
 
 -- Found without this answer; with it a wrong body fails at once.
 pub returns-in-Err : goal.returns-in-Err

@@ -2,7 +2,7 @@ use Rattle.std.proofs.Common.{None, refl, inl, inr, sym, subst, ◌∙◌}
 use Rattle.macho_fields.specs.Bytes.{bytes_of}
 use Rattle.macho_c.specs.Linkedit.{IsAnswer}
 use Rattle.macho_c.specs.Image.{image_in}
-use Rattle.macho_c.specs.Rows.{HasHeaders, IsBrokenImage}
+use Rattle.macho_c.specs.Rows.{HasUnbrokenHeaders, IsBrokenImage}
 use Rattle.macho_c.proofs.AllCommands.{has_opened}
 use Rattle.macho_image.specs.Opened.{IsOpened}
 use Rattle.macho_c.proofs.linkedit.kesvuot_find_data.Goals as goal
@@ -21,7 +21,7 @@ returns-in-Some c =
     let span = c.write_data.new.span in
     let same = c.in-Some.ensures.1 ∙ c.held-held.ensures.bytes in
     inl (
-      subst (λ bytes. HasHeaders bytes None) c.held-held.ensures.bytes c.in-Some.ensures.0,
+      subst (λ bytes. HasUnbrokenHeaders bytes None) c.held-held.ensures.bytes c.in-Some.ensures.0,
       subst (λ place. IsAnswer (image_in c.args.file.now row) place c.args.cmd status span) c.held-held.ensures.place
           (subst (λ bytes. IsAnswer bytes c.held-held.result.place c.args.cmd status span) same c.write_data.ensures),
     )

@@ -12,7 +12,7 @@ use Rattle.macho_c.proofs.symbol_index.kesvuot_find_symbol.Goals as goal
 pub returns-in-Some-clause-answer : goal.returns-in-Some-clause-answer
 returns-in-Some-clause-answer c =
     let image = image_in c.args.file.now c.args.image.now in
-    let same = shown_are image (bytes_of c.held.result.bytes) c.args.image.now c.indexed.result c.indexed.ensures c.held.ensures.bytes in
+    let same = shown_are image (bytes_of c.of-table.result.bytes) c.args.image.now c.of-table.result.image.now c.indexed.result c.indexed.ensures c.of-table.ensures.bytes c.of-table.ensures.image in
     inl (refl, c.in-Some.found, subst (λ (symbols : List Symbol). IsLast symbols c.args.index.now c.args.address c.in-Some.last c.in-Some.found) same c.in-Some.ensures, c.row_of.ensures)
 
 pub returns-in-Some-clause-all : goal.returns-in-Some-clause-all
@@ -28,7 +28,7 @@ returns-in-Some-clause-all c = λ shows is.
 pub returns-in-None-clause-answer : goal.returns-in-None-clause-answer
 returns-in-None-clause-answer c =
     let image = image_in c.args.file.now c.args.image.now in
-    let same = shown_are image (bytes_of c.held.result.bytes) c.args.image.now c.indexed.result c.indexed.ensures c.held.ensures.bytes in
+    let same = shown_are image (bytes_of c.of-table.result.bytes) c.args.image.now c.of-table.result.image.now c.indexed.result c.indexed.ensures c.of-table.ensures.bytes c.of-table.ensures.image in
     inr (refl, subst (λ (symbols : List Symbol). BeginsPast symbols c.args.index.now c.args.address 0) same c.in-None.ensures, refl, refl)
 
 pub returns-in-None-clause-all : goal.returns-in-None-clause-all

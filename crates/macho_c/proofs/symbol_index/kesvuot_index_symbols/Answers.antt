@@ -1,4 +1,4 @@
-use Rattle.std.proofs.Common.{◌∙◌, ◌++◌, ◌^◌, List, length, drop, ap, subst}
+use Rattle.std.proofs.Common.{◌∙◌, ◌++◌, ◌^◌, List, length, drop, ap, subst, subst₂}
 use Rattle.macho_image.specs.declared.symbol.Symbol.{Symbol}
 use Rattle.macho_fields.specs.Bytes.{bytes_of}
 use Rattle.macho_c.specs.Image.{image_in}
@@ -15,10 +15,10 @@ returns-then-count-index-clause-index c =
     let file = c.args.file.now in
     let row = c.args.image.now in
     let image = image_in file row in
-    let same = shown_are image (bytes_of c.held.result.bytes) row c.indexed.result c.indexed.ensures c.held.ensures.bytes in
+    let same = shown_are image (bytes_of c.of-table.result.bytes) row c.of-table.result.image.now c.indexed.result c.indexed.ensures c.of-table.ensures.bytes c.of-table.ensures.image in
     indexed (symbols_shown image row) c.count_addresses-count.result c.args.index.now c.write_index.new.index
     (c.count_addresses-count.ensures ∙ ap (λ (symbols : List Symbol). length (addresses symbols)) same) c.if-count-index.true
-    (subst (λ bytes. IsIndex (symbols_shown bytes row) c.write_index.new.index) c.held.ensures.bytes c.write_index.ensures)
+    (subst₂ (λ bytes held. IsIndex (symbols_shown bytes held) c.write_index.new.index) c.of-table.ensures.bytes c.of-table.ensures.image c.write_index.ensures)
 
 pub returns-then-count-index-clause-all : goal.returns-then-count-index-clause-all
 returns-then-count-index-clause-all c = λ shows.
@@ -31,7 +31,7 @@ returns-else-count-index-clause-index c =
     let file = c.args.file.now in
     let row = c.args.image.now in
     let image = image_in file row in
-    let same = shown_are image (bytes_of c.held.result.bytes) row c.indexed.result c.indexed.ensures c.held.ensures.bytes in
+    let same = shown_are image (bytes_of c.of-table.result.bytes) row c.of-table.result.image.now c.indexed.result c.indexed.ensures c.of-table.ensures.bytes c.of-table.ensures.image in
     unindexed (symbols_shown image row) c.count_addresses-count.result c.args.index.now
     (c.count_addresses-count.ensures ∙ ap (λ (symbols : List Symbol). length (addresses symbols)) same) c.if-count-index.false
 
