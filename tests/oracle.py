@@ -746,8 +746,14 @@ def is_home(segment, table):
             and not is_protected(segment)
             and segment.fileoff <= table.start and table.end <= segment.fileoff + segment.filesize)
 
+def segments_named(image, name):
+    return [segment for segment in image.segments if up_to_zero(segment.segname) == name]
+
 def linkedit_segments(image):
-    return [segment for segment in image.segments if up_to_zero(segment.segname) == b"__LINKEDIT"]
+    return segments_named(image, b"__LINKEDIT")
+
+def text_segments(image):
+    return segments_named(image, b"__TEXT")
 
 def is_encrypted(image, table):
     """The table shares a byte with an encrypted range."""
@@ -783,10 +789,19 @@ def table_home(image):
             yield table.command
 
 def header_home(image):
-    """There is a table, and no base, or the base's segment is writable or cannot be read."""
-    base = image.base_segment
-    if any(linked_tables(image)) and (base is None or is_writable(base) or not is_readable(base)):
+    """There is a table, and the base is not safe, or not where the text segments are."""
+    if any(linked_tables(image)) and not (has_safe_base(image) and is_text_at_base(image)):
         yield 0
+
+def has_safe_base(image):
+    """There is a base, and its segment can be read and is not writable."""
+    base = image.base_segment
+    return base is not None and is_readable(base) and not is_writable(base)
+
+def is_text_at_base(image):
+    """There is a text segment, and the address of each is the base."""
+    named = text_segments(image)
+    return len(named) > 0 and all(segment.vmaddr == image.base for segment in named)
 
 # Streams. An opcode is read with its operands, and nothing of the image but the stream's bytes decides about it.
 
@@ -1000,8 +1015,11 @@ def fixups_header(image, table):
     return read(image.data, table.start, "dyld_chained_fixups_header")
 
 def chain_header(image):
-    """The header is not all in the table; or the version or one of the formats is not known."""
-    table = chain_table(image)
+    """The command names no table; or the header is not all in the table; or the version or one of the formats is not
+    known."""
+    command, table = image.only(LC_DYLD_CHAINED_FIXUPS), chain_table(image)
+    if command is not None and table is None:
+        yield command.place
     if table is None:
         return
     if table.size < SIZES["dyld_chained_fixups_header"]:

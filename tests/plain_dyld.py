@@ -2,9 +2,10 @@
 really writes.
 
 Its memory is a copy of the file bytes of the mapped segments, with zeros after them, and with other bytes where a
-kernel decrypts some. What it does is compared with what the linked profile promises, and the first thing that breaks
-the promise raises `Breach`: a byte of a table or of the headers that is read outside of them, that cannot be read, or
-that is no longer the file's; a write that is no whole pointer in the file bytes of one writable segment; a pointer of a
+kernel decrypts some. The slide, by which segments would be at other addresses, it takes from the segments named
+`__TEXT`. What it does is compared with what the linked profile promises, and the first thing that breaks the promise
+raises `Breach`: a byte of a table or of the headers that is read outside of them, that cannot be read, or that is no
+longer the file's; a write that is no whole pointer in the file bytes of one writable segment; a pointer of a
 chain that is read elsewhere, or that is no longer the file's; a segment, a library or an import that is not there;
 pages that are not those of the segment, or cannot be written; more writes of a stream or of all chains than the budget,
 or more steps than the bytes and writes explain. So it ends on all files, and on one that breaks the rules it says how.
@@ -128,7 +129,7 @@ class Dyld:
         self.image = image
         self.memory = Memory(image)
         self.writes = []
-        self.steps = 0
+        self.steps = self.slide = 0
         # What is promised: no more writes to a stream than this.
         self.budget = sum(segment.filesize // POINTER for segment in image.segments
                           if segment.vmsize > 0 and segment.initprot & VM_PROT_WRITE)
@@ -146,10 +147,23 @@ class Dyld:
             raise Breach("the header at 0x%x has changed" % place)
         return int.from_bytes(found, "little")
 
+    def named(self, name):
+        """The segments of this name, of which there is one."""
+        found = [segment for segment in self.image.segments if segment.segname.split(b"\0")[0] == name]
+        if not found:
+            raise Breach("no segment is named %s" % name.decode())
+        return found
+
+    def slide_by(self, text):
+        """How far the image is from the addresses in its headers, by a segment that should have these."""
+        if self.image.base is None:
+            raise Breach("there are no headers in memory")
+        return self.image.base - text.vmaddr
+
     def address_of(self, segment, cursor):
         if segment is None or segment >= len(self.segments):
             raise Breach("segment %s is not there" % segment)
-        return (self.header(self.segments[segment] + 24, 8) + cursor) % WORD
+        return (self.header(self.segments[segment] + 24, 8) + self.slide + cursor) % WORD
 
     def look_up(self, ordinal, name):
         """Finds the library, and then the name, which it returns."""
@@ -164,18 +178,18 @@ class Dyld:
             raise Breach("there is no name")
         return self.name_at(name)
 
-    # A table, in memory. It is where the last segment named __LINKEDIT has it.
+    # A table, in memory. It is where the last segment named __LINKEDIT has it, by the slide of the first named __TEXT.
+    # That of the last one is for slots.
 
     def begin(self, start, size, steps_of_byte):
         """Begins a table. So many steps for each of its bytes are promised, besides those for writes."""
-        named = [segment for segment in self.image.segments if segment.segname.split(b"\0")[0] == b"__LINKEDIT"]
-        if not named:
-            raise Breach("the table at 0x%x is not found" % start)
+        linkedit, text = self.named(b"__LINKEDIT")[-1], self.named(b"__TEXT")
+        self.slide = self.slide_by(text[-1])
         self.place = start
         self.start, self.end = start, start + size
         self.steps = self.written = self.moves = 0
         self.steps_of_byte = steps_of_byte
-        self.to_address = named[-1].vmaddr - named[-1].fileoff
+        self.to_address = linkedit.vmaddr + self.slide_by(text[0]) - linkedit.fileoff
 
     def table_byte(self, place):
         if not self.start <= place < self.end:
@@ -420,9 +434,7 @@ class Dyld:
 
     def follow_chains(self, start, size):
         """Reads the table, and follows the chains. A byte can be one of the header, an import, a name, the array and
-        the starts: five steps."""
-        if size == 0:
-            return
+        the starts: five steps. That the size is not 0 is not asked."""
         self.begin(start, size, 5)
         version, starts_offset, imports_offset, symbols_offset, count, form, symbols_format = (
             self.number_at(start + 4 * k, 4) for k in range(7))

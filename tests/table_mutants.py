@@ -238,6 +238,8 @@ def move_table(rng, data, stream):
     value = word(data, field) + rng.choice((-8, -4, -2, -1, 1, 2, 4, 8, 64))
     if rng.random() < 0.2:
         value = word(data, rng.choice(segments(data) or [stream.field]) + rng.choice((40, 48)))
+    elif rng.random() < 0.1:
+        value = 0
     return data[:field] + (value % 2 ** 32).to_bytes(width, "little") + data[field + width:]
 
 def move_tables(_, data, stream):
@@ -261,6 +263,20 @@ def set_size(rng, data, _):
     field = place + rng.choice((32, 40, 48, 48))
     value = rng.choice((0, 7, 8, word(data, field, 8) + rng.choice((-16, -8, -1, 1, 8)), word(data, place + 48, 8)))
     return data[:field] + (value % WORD).to_bytes(8, "little") + data[field + 8:]
+
+def set_name(rng, data, _):
+    """A segment has the name of the headers, of the tables or of another segment, or one that is nearly that of the
+    headers; and sometimes it has no addresses, and begins where some other one does."""
+    places = segments(data)
+    if not places:
+        return data
+    place, other = rng.choice(places), rng.choice(places)
+    name = rng.choice((b"__TEXT", b"__TEXT", b"__LINKEDIT", data[other + 8:other + 24], b"__TEXT\0other",
+                       b"__TEXT_IS_LONGER", b"__text", b""))
+    data = data[:place + 8] + name[:16].ljust(16, b"\0") + data[place + 24:]
+    if rng.random() < 0.3:
+        data = data[:place + 24] + data[other + 24:other + 32] + bytes(8) + data[place + 40:]
+    return data
 
 def set_library(rng, data, _):
     """A command that loads a library is of another kind, or is one no longer."""
@@ -447,11 +463,11 @@ def lose_zero(rng, data, table):
 
 # With how often each is taken.
 WAYS = {set_number: 40, flip_bit: 20, set_byte: 15, add_opcode: 20, set_opcode: 20, remove_opcodes: 8,
-        repeat_opcodes: 12, move_table: 4, move_tables: 2, set_protection: 3, set_size: 3, set_library: 1}
+        repeat_opcodes: 12, move_table: 4, move_tables: 2, set_protection: 3, set_size: 3, set_name: 3, set_library: 1}
 
 CHAIN_WAYS = {set_page_start: 25, set_pointer: 40, set_chain: 25, set_chain_field: 50, flip_bit: 12, set_byte: 8,
               set_ordinal: 8, repeat_import: 8, exchange_entries: 4, lose_zero: 8, move_table: 4, set_protection: 3,
-              set_size: 3, set_library: 1}
+              set_size: 3, set_name: 3, set_library: 1}
 
 def change(rng, data):
     """The file with one change of a table, or of what it depends on."""
