@@ -1626,6 +1626,7 @@ struct linked {
     uint64_t commands[TABLE_COMMANDS]; // their places
     size_t command_count;
     bool has_linkedit, has_safe_base;
+    bool has_text, has_text_elsewhere; // segments named __TEXT, and one of them that is not at the base
 };
 
 static inline uint64_t protection_of(const uint8_t *segment) {
@@ -1641,9 +1642,13 @@ static inline bool is_constant(const uint8_t *segment) {
 }
 
 // strncmp goes no further than the first zero byte.
-static inline bool is_linkedit(const uint8_t *segment) {
+static inline bool is_named(const uint8_t *segment, const char *wanted) {
     const char *name = (const char *)segment + offsetof(struct segment_command_64, segname);
-    return strncmp(name, "__LINKEDIT", sizeof(((struct segment_command_64 *)0)->segname)) == 0;
+    return strncmp(name, wanted, sizeof(((struct segment_command_64 *)0)->segname)) == 0;
+}
+
+static inline bool is_linkedit(const uint8_t *segment) {
+    return is_named(segment, "__LINKEDIT");
 }
 
 static void note_segment(struct linked *linked, const uint8_t *command) {
@@ -1655,6 +1660,10 @@ static void note_segment(struct linked *linked, const uint8_t *command) {
     linked->segment_count++;
     linked->budget += room / POINTER_SIZE;
     linked->has_linkedit = linked->has_linkedit || is_linkedit(command);
+    if (is_named(command, "__TEXT")) {
+        linked->has_text = true;
+        linked->has_text_elsewhere = linked->has_text_elsewhere || segment.vmaddr != linked->image->base;
+    }
     if (is_mapped(&segment) && segment.fileoff == 0 && segment.filesize != 0) {
         linked->has_safe_base = is_constant(command);
     }
@@ -1750,7 +1759,7 @@ static void judge_homes(const struct linked *linked, uint64_t place) {
         if (!linked->has_linkedit || is_astray(image, start, size)) {
             note_in(image, TABLE_HOME, place);
         }
-        if (!linked->has_safe_base) {
+        if (!linked->has_safe_base || !linked->has_text || linked->has_text_elsewhere) {
             note_in(image, HEADER_HOME, 0);
         }
     }
@@ -2104,8 +2113,8 @@ static bool are_broken_starts(const struct chains *chains, uint64_t offset, cons
         vmaddr - base != FIELD(starts, dyld_chained_starts_in_segment, segment_offset) || !is_writable(segment);
 }
 
-// How a pointer is read: how many bits `next` has, which begin at NEXT_BIT, the bytes of a step of it, the bit that says
-// bind, and how many bits the ordinal has.
+// How a pointer is read: how many bits `next` has, which begin at NEXT_BIT, the bytes of a step of it, the bit that
+// says bind, and how many bits the ordinal has.
 struct pointer_format {
     unsigned next_bits, step, bind_bit, ordinal_bits;
 };
@@ -2192,7 +2201,8 @@ static void judge_pages(const struct chains *chains, const uint8_t *starts, cons
     }
 }
 
-// The starts of so many segments, and the pages of each up to the first broken starts. The array begins at an offset of the table.
+// The starts of so many segments, and the pages of each up to the first broken starts. The array begins at an offset of
+// the table.
 static void judge_starts(const struct chains *chains, uint64_t array, uint64_t count) {
     const struct image *image = chains->linked->image;
     uint64_t place = sizeof(struct mach_header_64), end = 0;
@@ -2292,16 +2302,14 @@ static void judge_imports(const struct chains *chains) {
     judge_imports_of(chains, format);
 }
 
-// The rules of the chain table of an LC_DYLD_CHAINED_FIXUPS. Of size 0 there is none.
-static void judge_chains(const struct linked *linked, const uint8_t *command) {
+// The rules of the chain table of an LC_DYLD_CHAINED_FIXUPS. Of size 0 there is none, and the command is broken.
+static void judge_chains(const struct linked *linked, uint64_t place) {
+    const uint8_t *command = linked->image->bytes + place;
     uint64_t start = FIELD(command, linkedit_data_command, dataoff);
     uint64_t size = FIELD(command, linkedit_data_command, datasize);
     struct chains chains = {linked, start, size, linked->image->bytes + start};
-    if (size == 0) {
-        return;
-    }
-    if (breaks_chain_header(&chains)) {
-        note_in(linked->image, CHAIN_HEADER, start);
+    if (size == 0 || breaks_chain_header(&chains)) {
+        note_in(linked->image, CHAIN_HEADER, size == 0 ? place : start);
         return;
     }
     judge_array(&chains);
@@ -2323,7 +2331,7 @@ static void judge_image_linked(const struct image *image) {
         if (slot == SLOT(LC_DYLD_INFO) || slot == SLOT(LC_DYLD_INFO_ONLY)) {
             judge_streams(&linked, command, bounded_tables + listed_commands[slot].first_table);
         } else if (slot == SLOT(LC_DYLD_CHAINED_FIXUPS)) {
-            judge_chains(&linked, command);
+            judge_chains(&linked, linked.commands[k]);
         }
     }
 }
