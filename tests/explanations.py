@@ -607,8 +607,12 @@ def table_home(image: Any, place: int) -> Explanation:
 
 def header_home(image: Any, _: int) -> Explanation:
     base = image.base_segment
-    second = segment_part(image, base) if base else NONE
-    return of_header(image, headers_part(image), second, base.initprot if base else 0, oracle.VM_PROT_READ)
+    if not oracle.has_safe_base(image):
+        second = segment_part(image, base) if base else NONE
+        return of_header(image, headers_part(image), second, base.initprot if base else 0, oracle.VM_PROT_READ)
+    elsewhere = next((it for it in oracle.text_segments(image) if it.vmaddr != image.base), None)
+    second = segment_part(image, elsewhere) if elsewhere else NONE
+    return of_header(image, headers_part(image), second, elsewhere.vmaddr if elsewhere else 0, image.base)
 
 
 def stream_with(image: Any, place: int) -> tuple[Any, Part]:
@@ -685,9 +689,11 @@ def chain_header_part(table: Any) -> Part:
     return structure("chain_header", table.start, min(oracle.SIZES["dyld_chained_fixups_header"], table.size))
 
 
-def chain_header(image: Any, _: int) -> Explanation:
-    table = oracle.chain_table(image)
-    return of_chains(image, chain_header_part(table), table.size, oracle.SIZES["dyld_chained_fixups_header"])
+def chain_header(image: Any, place: int) -> Explanation:
+    table, size = oracle.chain_table(image), oracle.SIZES["dyld_chained_fixups_header"]
+    if table is None:
+        return of_command(image, place, NONE, NONE, 0, size)
+    return of_chains(image, chain_header_part(table), table.size, size)
 
 
 def chain_starts(image: Any, place: int) -> Explanation:

@@ -56,9 +56,9 @@ MORE_FIELDS: Dict[str, Tuple[str, str]] = {
     "name": ("cmdsize name path", ""), "segment-size": ("vmsize", ""),
     "section-file": ("addr", "vmaddr"),
     "symbol-section": ("n_type n_sect", ""), "entry": ("entryoff", "filesize initprot"),
-    "header-segment": ("", "vmsize"), "table-home": ("", "vmsize initprot flags"), "header-home": ("", "initprot"),
+    "header-segment": ("", "vmsize"), "table-home": ("", "vmsize initprot flags"), "header-home": ("", "vmaddr initprot"),
     **dict.fromkeys(("rebase-slot", "bind-slot"), ("", "vmsize initprot")),
-    "chain-header": ("fixups_version imports_format symbols_format", ""),
+    "chain-header": ("dataoff datasize fixups_version imports_format symbols_format", ""),
     "chain-starts": ("starts_offset seg_count", "vmaddr vmsize initprot"),
     "chain-imports": ("imports_offset imports_count imports_format", ""), "chain-slot": ("", "initprot flags")}
 

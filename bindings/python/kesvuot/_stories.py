@@ -324,9 +324,12 @@ def _table_home(it: Teller) -> Story:
 
 def _header_home(it: Teller) -> Story:
     if not it.second:
-        return it.story("no mapped segment has the headers, which a loader reads.")
-    how = "can be written" if it.value & WRITE else "cannot be read"
-    return it.story(f"{it.second} has the headers, which a loader reads, and {how}.", "initprot")
+        return it.story("no segment is named __TEXT, from which a loader takes the slide.")
+    if all((_segment_number(it, "vmsize"), _segment_number(it, "filesize"), not _segment_number(it, "fileoff"))):
+        how = "can be written" if it.value & WRITE else "cannot be read"
+        return it.story(f"{it.second} has the headers, which a loader reads, and {how}.", "initprot")
+    return it.story(f"a loader takes the slide from {it.second}, which is at {it.value:#x}, and the headers are at "
+                    f"{it.limit:#x}.", "vmaddr", "address of the headers")
 
 
 def _opcode(it: Teller) -> Story:
@@ -381,6 +384,9 @@ def _bind_names(it: Teller) -> Story:
 
 
 def _chain_header(it: Teller) -> Story:
+    if it.at_part.kind == "command":
+        return it.story(f"{it.at} says that the table has no bytes, and a loader reads its header all the same.",
+                        "datasize", "size of the header")
     if it.value < it.limit:
         return it.story(f"{it.first} have {count_text(it.value, 'byte')}, and {it.at} has {it.limit}.",
                         "size of the table", "size of the header")
