@@ -169,7 +169,7 @@ uint32_t kesvuot_verify_strictly(const void *file, size_t size, struct kesvuot_v
 
 /* Judges a file as kesvuot_verify_strictly does, and then by the rules of the linked profile: where the linked data of
  * an image lies, and what the opcodes of LC_DYLD_INFO and LC_DYLD_INFO_ONLY, the table of LC_DYLD_CHAINED_FIXUPS and
- * the pointers that are chained in the pages ask a dynamic loader for. LINKED.md says what that means.
+ * the chains of pointers in the pages ask a dynamic loader for. LINKED.md says what that means.
  * Every file that is OK here is also OK for kesvuot_verify_strictly.
  * Memory can run out wherever it can for kesvuot_verify_strictly, and nowhere else. */
 uint32_t kesvuot_verify_linked(const void *file, size_t size, struct kesvuot_verdict *verdict);

@@ -439,7 +439,7 @@ def verify_file(path: Union[str, bytes, "os.PathLike[str]", "os.PathLike[bytes]"
 def verify_linked(data: Data) -> File:
     """Judges a file by the rules of the strict profile, and then by those of docs/LINKED.md: where the linked data of
     an image lies, and what the opcodes of LC_DYLD_INFO and LC_DYLD_INFO_ONLY, the table of LC_DYLD_CHAINED_FIXUPS and
-    the pointers that are chained in the pages ask a dynamic loader for. Raises what `verify` raises."""
+    the chains of pointers in the pages ask a dynamic loader for. Raises what `verify` raises."""
     return _judge(data, load().kesvuot_verify_linked)
 
 

@@ -103,7 +103,7 @@ pub fn verify_strictly(file: &[u8]) -> Result<Verified<'_>, Error> {
 
 /// Judges a file by the rules of the linked profile too, after those of [`verify_strictly`]: where
 /// the linked data of an image lies, and what the opcodes of `LC_DYLD_INFO` and `LC_DYLD_INFO_ONLY`,
-/// the table of `LC_DYLD_CHAINED_FIXUPS` and the pointers that are chained in the pages ask a dynamic
+/// the table of `LC_DYLD_CHAINED_FIXUPS` and the chains of pointers in the pages ask a dynamic
 /// loader for. `docs/LINKED.md` says what that means. Whatever is accepted here is accepted by
 /// [`verify_strictly`].
 ///
