@@ -5,7 +5,11 @@ use Rattle.std.proofs.lemmas.Bool.{cases_lt}
 use Rattle.macho_fields.specs.FirstPlace.{IsNoted, IsLeastPlace}
 use Rattle.macho_fields.specs.Image.{commands_of}
 use Rattle.macho_fields.specs.Segment.{fileoff, filesize, PassesImage}
-use Rattle.macho_linked.specs.ChainPages.{IsRoom, AtPointer}
+use Rattle.macho_fields.specs.declared.header.loader.TheConstants as loader
+use Rattle.macho_image.proofs.FirstWithCmd.{first_none}
+use Rattle.macho_rules.proofs.Searches.{one_of}
+use Rattle.macho_spans.specs.declared.span.Span.{Span}
+use Rattle.macho_linked.specs.ChainPages.{IsRoom, AtPointer, first_encryption}
 use Rattle.macho_linked.specs.ChainPointers.{pointer_at, page_start_offset, first_offset, Fits, Lead, HasChain, HasBadNext, BindsNone, BreaksPageSlot, BreaksPageBind}
 use Rattle.macho_linked.specs.Homes.{bytes_of_segment, Encrypts}
 use Rattle.macho_linked.specs.Limits.{room}
@@ -15,6 +19,12 @@ use Rattle.macho_linked.specs.declared.chain_starts.SegmentStarts.{SegmentStarts
 use Rattle.macho_linked.proofs.TableSurveys.{least_same}
 
 -- Where a pointer fits
+
+-- no command has an encrypted range
+pub none_encrypted : (image : List ℕ) (span : Span) → first_encryption image ≡ None → ¬ Any (Encrypts span image) (commands_of image)
+none_encrypted image span none any =
+    let (command, listed, encrypts) = one_of (Encrypts span image) (commands_of image) any in
+    first_none image loader.LC_ENCRYPTION_INFO_64 command (commands_of image) none listed encrypts.0
 
 module _ (image : List ℕ) (segment : ℕ) where
   -- a kernel decrypts some of the segment

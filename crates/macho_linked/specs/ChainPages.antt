@@ -1,7 +1,10 @@
 -- What a walk over the pointers of chains finds, page by page.
-use Rattle.std.specs.Prelude.{◌≡◌, ◌↔◌, ℕ, ◌+◌, ◌≤◌, ◌<◌, List, None, IsSomeAnd}
+use Rattle.std.specs.Prelude.{◌≡◌, ◌↔◌, ℕ, ◌+◌, ◌≤◌, ◌<◌, List, Option, None, IsSomeAnd}
 use Rattle.macho_fields.specs.FirstPlace.{IsLeastPlace}
+use Rattle.macho_fields.specs.Image.{commands_of}
 use Rattle.macho_fields.specs.Segment.{fileoff}
+use Rattle.macho_fields.specs.declared.header.loader.TheConstants as loader
+use Rattle.macho_image.specs.Command.{first_with_cmd}
 use Rattle.macho_linked.specs.ChainPointers.{Lead, Fits, IsRoomTo}
 use Rattle.macho_linked.specs.ChainStarts.{starts_of}
 use Rattle.macho_linked.specs.Images.{lesser}
@@ -13,6 +16,10 @@ use Rattle.macho_linked.specs.declared.chain_starts.SegmentStarts.{SegmentStarts
 -- the greatest end up to which a loader can write the segment as it is in the file, or 0
 abbrev pub IsRoom : List ℕ → ℕ → ℕ → Type 0
 IsRoom image segment room = (end : ℕ) → 0 < end → (end ≤ room) ↔ IsRoomTo image segment end
+
+-- the first command with an encrypted range
+abbrev pub first_encryption : List ℕ → Option ℕ
+first_encryption image = first_with_cmd image loader.LC_ENCRYPTION_INFO_64 (commands_of image)
 
 -- the pointers of a page from an offset on lead to one with P, which is at the place
 abbrev pub AtPointer : List ℕ → ℕ → SegmentStarts → ℕ → ℕ → (ℕ → Type 0) → ℕ → Type 0

@@ -1,14 +1,16 @@
 //! The pages of the segments in which pointers are chained, and the rules about these pointers. The offset of a
 //! pointer is one in its segment. (`mach-o/fixup-chains.h`: `dyld_chained_starts_in_segment`)
 
-ghost use Rattle.std.specs.Prelude.{◌≡◌, ◌+◌, ◌^◌, ◌≤◌, ◌<◌, length, None};
+ghost use Rattle.std.specs.Prelude.{◌≡◌, ◌↔◌, ◌+◌, ◌^◌, ◌≤◌, ◌<◌, length, Any, None, IsTrue};
 ghost use Rattle.macho_fields.specs.Bytes.{bytes_of};
+ghost use Rattle.macho_fields.specs.Image.{commands_of};
 ghost use Rattle.macho_fields.specs.Layers.{NothingBreaks};
 ghost use Rattle.macho_fields.specs.Rules.{BreaksImage as Breaks};
 ghost use Rattle.macho_fields.specs.Segment.{PassesImage};
-ghost use Rattle.macho_linked.specs.ChainPages.{AreLeastPlaces, IsRoom, AtPointer, OfPages};
+ghost use Rattle.macho_linked.specs.ChainPages.{AreLeastPlaces, IsRoom, AtPointer, OfPages, first_encryption};
 ghost use Rattle.macho_linked.specs.ChainPointers.{Fits, HasBadNext, BindsNone, BreaksPageSlot, BreaksPageBind, BreaksChainSlot, BreaksChainBind, page_start_offset};
 ghost use Rattle.macho_linked.specs.ChainStarts.{entry_offset};
+ghost use Rattle.macho_linked.specs.Homes.{Encrypts};
 ghost use Rattle.macho_linked.specs.Items.{OfItem};
 
 use crate::chain_header::ChainHeader;
@@ -24,9 +26,9 @@ use crate::limits::room;
 use crate::segment::is_protected;
 use crate::step::POINTER_SIZE;
 use crate::stream::note_if;
-use crate::streams::lesser;
-use macho_fields::header::loader::SEGMENT_COMMAND_64_SIZE;
-use macho_fields::{Bytes, Order};
+use crate::streams::{first_place, lesser};
+use macho_fields::header::loader::{LC_ENCRYPTION_INFO_64, SEGMENT_COMMAND_64_SIZE};
+use macho_fields::{Bytes, Order, Span};
 use macho_image::{Image, Segment};
 
 /// Where the pointers of the chains first break each of their rules, as places in the image.
@@ -96,22 +98,25 @@ fn survey(image: &Image, table: u64, chains: Bytes, header: ChainHeader) -> Poin
     if has_bad_entries(image, chains, header, count) {
         return found;
     }
+    let encryption = first_place(image, LC_ENCRYPTION_INFO_64);
     let mut index = 0;
     for segment in image.segments() {
         if index == count {
             return found;
         }
-        let other = segment_survey(image, &segment, table, chains, header, index);
+        let other = segment_survey(image, &segment, encryption, table, chains, header, index);
         found = found.joined(other);
         index += 1;
     }
     found
 }
 
-// Follows the chains of the segment, which has this index.
+// Follows the chains of the segment, which has this index. The first command with an encrypted range is at
+// `encryption`, if there is one.
 fn segment_survey(
     image: &Image,
     segment: &Segment,
+    encryption: Option<u64>,
     table: u64,
     chains: Bytes,
     header: ChainHeader,
@@ -120,6 +125,7 @@ fn segment_survey(
     requires image { segment.now.image ≡ image.now }
     requires structure { segment.now.place + SEGMENT_COMMAND_64_SIZE ≤ length segment.now.image }
     requires file { ¬ PassesImage segment.now.image segment.now.place }
+    requires encryption { encryption ≡ first_encryption image.now }
     requires table { table + length (bytes_of chains) < 2 ^ 64 }
     requires entry { entry_offset header index + SEG_INFO_OFFSET_SIZE ≤ length (bytes_of chains) }
     ensures { AreLeastPlaces
@@ -132,7 +138,7 @@ fn segment_survey(
     match header.starts_of(chains, index) {
         Some(starts) => {
             let limits = ChainLimits {
-                room: plain_room(image, segment),
+                room: room_beside(image, segment, encryption),
                 imports: header.imports_count,
             };
             pages_survey(segment, table, chains, starts, limits)
@@ -157,10 +163,31 @@ pub fn plain_room(image: &Image, segment: &Segment) -> u64
     requires structure { segment.now.place + SEGMENT_COMMAND_64_SIZE ≤ length segment.now.image }
     ensures { IsRoom segment.now.image segment.now.place result }
 {
-    if is_protected(segment) || is_encrypted(image, segment.file_part()) {
+    room_beside(image, segment, first_place(image, LC_ENCRYPTION_INFO_64))
+}
+
+// The same, where the first command with an encrypted range is known.
+fn room_beside(image: &Image, segment: &Segment, encryption: Option<u64>) -> u64
+    requires image { segment.now.image ≡ image.now }
+    requires structure { segment.now.place + SEGMENT_COMMAND_64_SIZE ≤ length segment.now.image }
+    requires encryption { encryption ≡ first_encryption image.now }
+    ensures { IsRoom segment.now.image segment.now.place result }
+{
+    if is_protected(segment) || shares_encrypted(image, segment.file_part(), encryption) {
         0
     } else {
         room(segment)
+    }
+}
+
+// Whether a byte of the span is in an encrypted range. The commands are walked only if one of them has such a range.
+fn shares_encrypted(image: &Image, span: Span, encryption: Option<u64>) -> bool
+    requires { encryption ≡ first_encryption image.now }
+    ensures { IsTrue result ↔ Any (Encrypts span image.now) (commands_of image.now) }
+{
+    match encryption {
+        Some(_) => is_encrypted(image, span),
+        None => false,
     }
 }
 
