@@ -1621,7 +1621,8 @@ struct linked {
     uint64_t rooms[SEGMENTS + 1]; // of a segment how many bytes can be written, and 0 where it is not writable
     uint64_t budget;
     uint64_t segment_count, library_count;
-    bool has_encrypted;
+    uint64_t encryption_count; // how many LC_ENCRYPTION_INFO_64 there are
+    const uint8_t *encryption; // the last one
     unsigned kinds;
     uint64_t commands[TABLE_COMMANDS]; // their places
     size_t command_count;
@@ -1699,7 +1700,8 @@ static void survey_linked(struct linked *linked) {
             note_in(image, FUNCTION_VARIANTS, place);
             break;
         case SLOT(LC_ENCRYPTION_INFO_64):
-            linked->has_encrypted = true;
+            linked->encryption_count++;
+            linked->encryption = command;
             break;
         LIBRARIES(AS_CASE)
             linked->library_count++;
@@ -2148,25 +2150,17 @@ static inline void judge_chain(const struct chains *chains, uint64_t fileoff, ui
     }
 }
 
-// Whether a command encrypts a byte of the segment.
-static bool has_encrypted(const struct linked *linked, const struct segment *segment) {
-    uint64_t place = sizeof(struct mach_header_64);
-    for (uint64_t k = 0; linked->has_encrypted && k < linked->image->ncmds; k++) {
-        const uint8_t *command = linked->image->bytes + place;
-        if (slot_of(FIELD(command, load_command, cmd)) == SLOT(LC_ENCRYPTION_INFO_64) &&
-            is_encrypted(command, segment->fileoff, segment->filesize)) {
-            return true;
-        }
-        place += FIELD(command, load_command, cmdsize);
-    }
-    return false;
+// Whether a byte of the segment can be encrypted: by the only LC_ENCRYPTION_INFO_64, or by any of several.
+static bool can_be_encrypted(const struct linked *linked, const struct segment *segment) {
+    return linked->encryption_count > 1 ||
+           (linked->encryption_count == 1 && is_encrypted(linked->encryption, segment->fileoff, segment->filesize));
 }
 
 // The pages of a segment, whose starts are good.
 static inline void judge_pages_of(const struct chains *chains, const uint8_t *starts, const uint8_t *command,
     struct pointer_format format) {
     struct segment segment = read_segment(command);
-    uint64_t room = is_protected(command) || has_encrypted(chains->linked, &segment) ? 0 : segment.filesize;
+    uint64_t room = is_protected(command) || can_be_encrypted(chains->linked, &segment) ? 0 : segment.filesize;
     uint64_t page_size = FIELD(starts, dyld_chained_starts_in_segment, page_size);
     uint64_t width = WIDTH(dyld_chained_starts_in_segment, page_start[0]), begin = 0;
     const uint8_t *at = starts + offsetof(struct dyld_chained_starts_in_segment, page_start);

@@ -1146,7 +1146,8 @@ def pages(image):
 def can_be_written(image, segment):
     """A loader finds the bytes of the segment as they are in the file, and can write them."""
     bytes_of_it = SimpleNamespace(start=segment.fileoff, end=segment.fileoff + segment.filesize)
-    return is_writable(segment) and not is_protected(segment) and not is_encrypted(image, bytes_of_it)
+    several = sum(command.cmd == LC_ENCRYPTION_INFO_64 for command in image.listed) > 1
+    return is_writable(segment) and not is_protected(segment) and not several and not is_encrypted(image, bytes_of_it)
 
 def pointer_at(image, page, offset):
     """The pointer at an offset of the segment: its place, how many bytes further on the next one begins, or 0, and the
