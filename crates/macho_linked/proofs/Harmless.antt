@@ -35,6 +35,7 @@ use Rattle.macho_linked.specs.declared.streams.Stream.{Stream}
 use Rattle.macho_linked.specs.declared.streams.Stream.TheVariants as streams
 use Rattle.macho_spans.specs.declared.span.Span.{Span}
 use Rattle.macho_linked.proofs.Memory.{never_both}
+use Rattle.macho_linked.proofs.SafeTexts.{text_at_base}
 use Rattle.macho_linked.proofs.StepChains.{steps_more}
 use Rattle.macho_linked.proofs.Within.{step_within}
 
@@ -200,6 +201,7 @@ module _ (image : List ℕ) (kept : NothingBreaks (BreaksImage image)) where
         let sound = unbroken_image_sound image unbroken in
         let same = sound.one_segment s home address has there here also in
         never_both image home (subst (λ (n : ℕ). is_writable image n ≡ true) same can) is_home.1;
+    text = text_at_base image kept;
   }
 
 -- what holds of each image that breaks no rule holds of the images of such a file

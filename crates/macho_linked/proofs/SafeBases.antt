@@ -1,5 +1,5 @@
--- The segment that has the base of an image, and whether it can be read and not written.
-use Rattle.std.proofs.Common.{◌≡◌, ◌↔◌, ℕ, List, [], ◌∷◌, map, IsTrue, Bool, true, Option, Some, None, refl, sym, ap, ◌∙◌, inl, inr}
+-- The segment that has the base of an image, and whether the base is safe.
+use Rattle.std.proofs.Common.{◌≡◌, ◌↔◌, ℕ, List, [], ◌∷◌, map, IsTrue, Bool, Option, Some, None, refl, ap, ◌∙◌, subst, inl, inr}
 use Rattle.std.specs.Prelude.{IsSomeAnd}
 use Rattle.std.specs.List.{find}
 use Rattle.std.specs.Option.{option_map}
@@ -7,8 +7,7 @@ use Rattle.std.proofs.lemmas.Bool.{cases_Bool}
 use Rattle.macho_fields.specs.Segment.{all_segments, shows_start}
 use Rattle.macho_image.specs.Segment.{SegmentView, segment_at}
 use Rattle.macho_rules.proofs.SegmentItems.{AreSegments}
-use Rattle.macho_linked.specs.Homes.{HasSafeBase}
-use Rattle.macho_linked.specs.Segments.{is_constant}
+use Rattle.macho_linked.specs.Homes.{IsSafeBase, HasSafeBase}
 
 abbrev pub shows : SegmentView → Bool
 shows s = shows_start s.image s.place
@@ -22,20 +21,29 @@ module _ (image : List ℕ) (all : List SegmentView) (are : AreSegments image al
   base_is base is = is ∙ (ap (find shows) are ∙ find_mapped image (all_segments image))
 
   -- a segment with the base was found
-  pub base_found : (s : SegmentView) (constant : Bool) → Some s ≡ find shows all → constant ≡ is_constant s.image s.place → IsTrue constant ↔ HasSafeBase image
-  base_found s constant is same = judged (find (shows_start image) (all_segments image)) (base_is (Some s) is)
-    where
-      judged : (base : Option ℕ) → Some s ≡ option_map (segment_at image) base → IsTrue constant ↔ IsSomeAnd base (λ place. is_constant image place ≡ true)
-      judged None wrong = absurd (cc)
-      judged (Some place) at =
-          let segment : s ≡ segment_at image place = cc in
-          let is_same : constant ≡ is_constant image place = same ∙ ap (λ (t : SegmentView). is_constant t.image t.place) segment in
-          (λ t. sym is_same ∙ t, λ t. is_same ∙ t)
+  module _ (s : SegmentView) (is : Some s ≡ find shows all) where
+    -- it is one of the image
+    pub base_image : s.image ≡ image
+    base_image = judged (find (shows_start image) (all_segments image)) (base_is (Some s) is)
+      where
+        judged : (base : Option ℕ) → Some s ≡ option_map (segment_at image) base → s.image ≡ image
+        judged None wrong = absurd (cc)
+        judged (Some place) at =
+            let segment : s ≡ segment_at image place = cc in ap (λ (t : SegmentView). t.image) segment
+
+    pub base_found : (safe : Bool) → IsTrue safe ↔ IsSafeBase s.image s.place → IsTrue safe ↔ HasSafeBase image
+    base_found safe same = judged (find (shows_start image) (all_segments image)) (base_is (Some s) is)
+      where
+        judged : (base : Option ℕ) → Some s ≡ option_map (segment_at image) base → IsTrue safe ↔ IsSomeAnd base (IsSafeBase image)
+        judged None wrong = absurd (cc)
+        judged (Some place) at =
+            let segment : s ≡ segment_at image place = cc in
+            subst (λ (t : SegmentView). IsTrue safe ↔ IsSafeBase t.image t.place) segment same
 
   -- none was
   pub base_missing : ◌≡◌ {A = Option SegmentView} None (find shows all) → HasSafeBase image → ⊥
   base_missing none = missing (find (shows_start image) (all_segments image)) (base_is None none)
     where
-      missing : (base : Option ℕ) → ◌≡◌ {A = Option SegmentView} None (option_map (segment_at image) base) → IsSomeAnd base (λ place. is_constant image place ≡ true) → ⊥
+      missing : (base : Option ℕ) → ◌≡◌ {A = Option SegmentView} None (option_map (segment_at image) base) → IsSomeAnd base (IsSafeBase image) → ⊥
       missing None is safe = safe
       missing (Some place) is safe = cc

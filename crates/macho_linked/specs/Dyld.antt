@@ -1,5 +1,6 @@
 -- The plain dyld: a dynamic loader that follows the opcodes of a stream in memory, and checks nothing.
--- Memory has a byte for each address. It takes segments as the headers of the file have them: these lie in
+-- Memory has a byte for each address, and is that of an image loaded at its base, which is where the segments
+-- named __TEXT are (header-home). The loader takes segments as the headers of the file have them: these lie in
 -- memory that stays as it is in the file (header-home, IsKept).
 use Rattle.std.specs.Prelude.{◌≡◌, ℕ, zero, suc, ◌+◌, ◌*◌, ◌≤◌, ◌<◌, ◌⊎◌, List, length, map, All, Any, Contains, Some, true, false, slice_get, slice_index, bit_and, IsSomeAnd}
 use Rattle.std.specs.List.{range_with_len}

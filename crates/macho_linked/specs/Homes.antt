@@ -1,13 +1,13 @@
 -- The tables of linked data that commands name, and where they lie. (mach-o/loader.h:
 -- dyld_info_command, linkedit_data_command, encryption_info_command_64, segment_command_64)
-use Rattle.std.specs.Prelude.{◌≡◌, ℕ, ◌<◌, List, Any, Contains, true, false, IsSomeAnd}
+use Rattle.std.specs.Prelude.{◌≡◌, ◌≢◌, ℕ, ◌<◌, List, Any, Contains, true, false, IsSomeAnd}
 use Rattle.std.specs.List.{find}
 use Rattle.macho_fields.specs.Image.{command_cmd, commands_of}
-use Rattle.macho_fields.specs.Segment.{all_segments, vmsize, fileoff, filesize, shows_start}
+use Rattle.macho_fields.specs.Segment.{all_segments, vmaddr, vmsize, fileoff, filesize, shows_start}
 use Rattle.macho_fields.specs.Symbol.{tables_of}
 use Rattle.macho_fields.specs.declared.header.loader.TheConstants as loader
 use Rattle.macho_linked.specs.Kinds.{names_linked_data}
-use Rattle.macho_linked.specs.Segments.{is_constant, is_protected, IsLinkedit}
+use Rattle.macho_linked.specs.Segments.{is_constant, is_protected, IsLinkedit, IsText}
 use Rattle.macho_spans.specs.Span.{IsInside, Shares}
 use Rattle.macho_spans.specs.declared.span.Span.{Span}
 
@@ -64,11 +64,22 @@ HasLinkedData image command =
     (names_linked_data (command_cmd image command) ≡ true)
     × Any (λ table. 0 < table.1) (tables_of image command)
 
--- the image has a base, and its segment can be read and not written
+-- loaders take the segment for the one with the base, and it has another address
+abbrev pub IsTextElsewhere : ℕ → List ℕ → ℕ → Type 0
+IsTextElsewhere base image segment = IsText image segment × (vmaddr image segment ≢ base)
+
+-- Loaders, which go by the name, take this address for the base: there is such a segment, and each has it.
+abbrev pub HasTextAt : List ℕ → ℕ → Type 0
+HasTextAt image base =
+    Any (IsText image) (all_segments image) × ¬ Any (IsTextElsewhere base image) (all_segments image)
+
+-- the segment can be read and not written, and loaders take its address for the base
+abbrev pub IsSafeBase : List ℕ → ℕ → Type 0
+IsSafeBase image segment = (is_constant image segment ≡ true) × HasTextAt image (vmaddr image segment)
+
+-- the image has a base, and it is that of such a segment
 abbrev pub HasSafeBase : List ℕ → Type 0
-HasSafeBase image =
-    IsSomeAnd (find (shows_start image) (all_segments image))
-    (λ base. is_constant image base ≡ true)
+HasSafeBase image = IsSomeAnd (find (shows_start image) (all_segments image)) (IsSafeBase image)
 
 -- the rule header-home, which is broken at the header
 abbrev pub BreaksHeaderHome : List ℕ → ℕ → Type 0

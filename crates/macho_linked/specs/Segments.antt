@@ -26,3 +26,7 @@ is_protected image segment =
 -- loaders take it for the one with the linked data, by its name
 abbrev pub IsLinkedit : List ℕ → ℕ → Type 0
 IsLinkedit image segment = segment_name image segment ≡ codes "__LINKEDIT"
+
+-- and for the one with the base, by its name
+abbrev pub IsText : List ℕ → ℕ → Type 0
+IsText image segment = segment_name image segment ≡ codes "__TEXT"

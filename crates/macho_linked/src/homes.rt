@@ -10,13 +10,13 @@ ghost use Rattle.macho_fields.specs.Segment.{all_segments};
 ghost use Rattle.macho_fields.specs.Symbol.{table_at, tables_of};
 ghost use Rattle.macho_image.specs.Command.{command_of};
 ghost use Rattle.macho_image.specs.Opened.{IsCommandOf};
-ghost use Rattle.macho_linked.specs.Homes.{bytes_of_table, Encrypts, IsHome, IsAstray, HasHome, IsHomeless, HasHomeless, BreaksTableHome, HasLinkedData, HasSafeBase, BreaksHeaderHome};
+ghost use Rattle.macho_linked.specs.Homes.{bytes_of_table, Encrypts, IsHome, IsAstray, HasHome, IsHomeless, HasHomeless, BreaksTableHome, HasLinkedData, IsTextElsewhere, HasTextAt, IsSafeBase, HasSafeBase, BreaksHeaderHome};
 ghost use Rattle.macho_linked.specs.Kinds.{names_linked_data as linked_data_of};
-ghost use Rattle.macho_linked.specs.Segments.{IsLinkedit};
+ghost use Rattle.macho_linked.specs.Segments.{IsLinkedit, IsText};
 ghost use Rattle.macho_spans.specs.Span.{Shares};
 
 use crate::kinds::{names_linked_data, place_of};
-use crate::segment::{is_constant, is_linkedit, is_protected};
+use crate::segment::{is_constant, is_linkedit, is_protected, is_text};
 use macho_fields::header::loader::{LC_ENCRYPTION_INFO_64, SEGMENT_COMMAND_64_SIZE};
 use macho_fields::{Span, TableFields, structure_of};
 use macho_image::{Command, Image, Segment};
@@ -34,7 +34,8 @@ pub fn table_home(image: &Image) -> Option<u64>
 }
 
 /// The place 0, if a command names a table of linked data, and the image has no base, or its segment can
-/// be written or not be read.
+/// be written or not be read, or a loader that goes by the name `__TEXT` takes no address or another one for
+/// the base.
 pub fn header_home(image: &Image) -> Option<u64>
     ensures { IsLeastPlace (BreaksHeaderHome image.now) result }
 {
@@ -62,15 +63,46 @@ fn has_table(image: &Image, command: &Command) -> bool
         .any(|fields| span_of(image, command.place, *fields).len > 0)
 }
 
-// Whether the base is that of a segment which can be read and not written.
+// Whether the image has a base, which loaders find, and cannot write.
 fn has_safe_base(image: &Image) -> bool
     ensures { IsTrue result ↔ HasSafeBase image.now }
 {
     let base = image.segments().find(|segment| segment.shows_start());
     match base {
-        Some(segment) => is_constant(&segment),
+        Some(segment) => is_safe_base(image, &segment),
         None => false,
     }
+}
+
+// Whether the segment can be read and not written, and loaders take its address for the base.
+fn is_safe_base(image: &Image, segment: &Segment) -> bool
+    requires { segment.now.image ≡ image.now }
+    ensures { IsTrue result ↔ IsSafeBase segment.now.image segment.now.place }
+{
+    is_constant(segment) && has_text_at(image, segment.vmaddr())
+}
+
+// Whether loaders, which go by the name of a segment, take this address for the base.
+fn has_text_at(image: &Image, base: u64) -> bool
+    ensures { IsTrue result ↔ HasTextAt image.now base }
+{
+    has_text(image) && !has_text_elsewhere(image, base)
+}
+
+// Whether some segment is one that loaders take for the one with the base.
+fn has_text(image: &Image) -> bool
+    ensures { IsTrue result ↔ Any (IsText image.now) (all_segments image.now) }
+{
+    image.segments().any(|segment| is_text(&segment))
+}
+
+// Whether some such segment has another address than the base.
+fn has_text_elsewhere(image: &Image, base: u64) -> bool
+    ensures { IsTrue result ↔ Any (IsTextElsewhere base image.now) (all_segments image.now) }
+{
+    image
+        .segments()
+        .any(|segment| is_text(&segment) && segment.vmaddr() != base)
 }
 
 // Whether the command names a table of linked data that has bytes and no home.

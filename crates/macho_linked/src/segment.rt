@@ -2,7 +2,7 @@
 //! (`mach-o/loader.h`: `segment_command_64`; `mach/vm_prot.h`)
 
 ghost use Rattle.std.specs.Prelude.{◌≡◌, ◌↔◌, ◌+◌, ◌≤◌, IsTrue, length};
-ghost use Rattle.macho_linked.specs.Segments.{is_writable as is_writable_of, is_constant as is_constant_of, is_protected as is_protected_of, IsLinkedit};
+ghost use Rattle.macho_linked.specs.Segments.{is_writable as is_writable_of, is_constant as is_constant_of, is_protected as is_protected_of, IsLinkedit, IsText};
 
 use macho_fields::Order;
 use macho_fields::header::loader::segment_command_64::FLAGS;
@@ -12,6 +12,9 @@ use macho_image::Segment;
 
 /// The name of the segment in which loaders look for linked data. (`SEG_LINKEDIT`)
 const SEG_LINKEDIT: &[u8] = b"__LINKEDIT";
+
+/// The name of the segment in which loaders look for the base. (`SEG_TEXT`)
+const SEG_TEXT: &[u8] = b"__TEXT";
 
 /// Whether the segment is mapped, and its initial protection allows writing.
 pub fn is_writable(segment: &Segment) -> bool
@@ -43,4 +46,11 @@ pub fn is_linkedit(segment: &Segment) -> bool
     ensures { IsTrue result ↔ IsLinkedit segment.now.image segment.now.place }
 {
     segment.name() == SEG_LINKEDIT
+}
+
+/// Whether loaders take the segment, by its name, for the one that has the base.
+pub fn is_text(segment: &Segment) -> bool
+    ensures { IsTrue result ↔ IsText segment.now.image segment.now.place }
+{
+    segment.name() == SEG_TEXT
 }
