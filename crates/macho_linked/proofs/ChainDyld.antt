@@ -45,7 +45,7 @@ module _ (image : List ℕ) (kept : NothingBreaks (BreaksImage image)) (unbroken
   header : (header : ChainHeader) × AreGoodChains image table.0 chains header
   header =
       let (command, is_named, is_table) = named in
-      let (found, is) = header_there image kept table is_at.some command is_named is_table in (found, chains_good image kept table is_at.some command is_named is_table found is)
+      let (found, is) = header_there image kept table command is_named is_table in (found, chains_good image kept table command is_named is_table found is)
 
   -- the loader that begins with memory as it was mapped
   begins : (first : ChainState) → IsMapped image first.memory → first.segment ≡ 0 → first.page ≡ 0 → first.next ≡ None

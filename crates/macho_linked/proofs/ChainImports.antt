@@ -1,12 +1,12 @@
 -- The imports of chained fixups lie in the table, and the first with a mistake is at the least offset.
-use Rattle.std.proofs.Common.{ℕ, ◌+◌, ◌≤◌, ◌<◌, List, length, Option, Some, None, arith, inl, inr}
+use Rattle.std.proofs.Common.{◌≡◌, ℕ, ◌+◌, ◌≤◌, ◌<◌, List, length, Option, arith, inl, inr}
 use Rattle.std.specs.Option.{option_map}
 use Rattle.std.proofs.lemmas.Bool.{cases_lt}
 use Rattle.macho_fields.specs.FirstPlace.{IsLeastPlace}
 use Rattle.macho_linked.specs.ChainImports.{import_bits, import_offset, HasNoNameEnd, ImportsEndPast, AtImport, BreaksChainImports}
 use Rattle.macho_linked.specs.Items.{IsFirstItem}
 use Rattle.macho_linked.specs.declared.chain_header.ChainHeader.{ChainHeader}
-use Rattle.macho_linked.proofs.Items.{first_item, least_where, item_inside, items_rise}
+use Rattle.macho_linked.proofs.Items.{first_item, least_where, least_other, item_inside, items_rise}
 
 -- each import lies in the table
 pub import_inside : (chains : List ℕ) (header : ChainHeader) → ¬ ImportsEndPast chains header → (k : ℕ) → k < header.imports_count
@@ -29,7 +29,6 @@ module _ (chains : List ℕ) (header : ChainHeader) (lie : ¬ ImportsEndPast cha
   -- and nothing is wrong with all of them
   pub first_endless_import : (found : Option ℕ) → IsFirstItem header.imports_count (HasNoNameEnd chains header) found
       → IsLeastPlace (BreaksChainImports chains header) (option_map (import_offset header) found)
-  first_endless_import None first = λ offset broken. elim broken [ inl past ↦ lie past.1 | inr endless ↦ first_import (HasNoNameEnd chains header) None first offset endless ]
-  first_endless_import (Some k) first =
-      let (here, least) = first_import (HasNoNameEnd chains header) (Some k) first in
-      (inr here, λ offset broken. elim broken [ inl past ↦ absurd (lie past.1) | inr endless ↦ least offset endless ])
+  first_endless_import found first =
+      let endless = HasNoNameEnd chains header in
+      least_other (λ offset. (offset ≡ 0) × ImportsEndPast chains header) (AtImport chains header endless) _ (λ offset past. lie past.1) (first_import endless found first)

@@ -1,10 +1,10 @@
 -- From what is found in the table of the chained fixups to the places in the image.
-use Rattle.std.proofs.Common.{◌≡◌, ℕ, ◌+◌, ◌^◌, ◌≤◌, ◌<◌, ◌⊎◌, List, [], ◌∷◌, length, Contains, Option, Some, None, lit<, refl, sym, ◌∙◌, subst, arith, inl, inr}
+use Rattle.std.proofs.Common.{◌≡◌, ℕ, ◌+◌, ◌^◌, ◌≤◌, ◌<◌, ◌⊎◌, List, [], ◌∷◌, length, Contains, Option, Some, None, lit<, refl, sym, ap, ◌∙◌, subst, arith, inl, inr}
 use Rattle.std.specs.Prelude.{IsSomeAnd}
 use Rattle.std.specs.Option.{option_map}
 use Rattle.std.proofs.lemmas.Bool.{cases_lt}
 use Rattle.std.proofs.lemmas.Bool.Decides.{leb_tells}
-use Rattle.std.proofs.lemmas.Option.{none-some}
+use Rattle.std.proofs.lemmas.Option.{none-some, same_Some}
 use Rattle.macho_fields.specs.Field.{part}
 use Rattle.macho_fields.specs.FirstPlace.{IsLeastPlace}
 use Rattle.macho_fields.specs.Image.{command_cmd, commands_of}
@@ -14,13 +14,13 @@ use Rattle.macho_fields.specs.Rules.{BreaksImage}
 use Rattle.macho_fields.specs.Symbol.{table_at, tables_of}
 use Rattle.macho_fields.specs.declared.header.loader.TheConstants as loader
 use Rattle.macho_fields.specs.declared.load_command.Structure.TheVariants.{LinkeditDataCommand}
-use Rattle.macho_fields.proofs.Options.{some_of}
+use Rattle.macho_fields.proofs.Options.{some_of, of_some}
 use Rattle.macho_image.proofs.ReadParts.{length-part}
 use Rattle.macho_spans.specs.declared.span.Span.{Span}
 use Rattle.macho_linked.specs.ChainHeader.{chain_header}
 use Rattle.macho_linked.specs.ChainImports.{AtImport, import_bits, HasNoNameEnd, PassesTable, IsOfNoLibrary, BreaksChainImports, BreaksChainTotal, BreaksChainLibrary}
 use Rattle.macho_linked.specs.ChainStarts.{entry_offset, HasBadEntries, HasBadStarts, BreaksChainStarts}
-use Rattle.macho_linked.specs.Chains.{chained_fixups, IsChainTable, NoHeader, HasHeader, BadStarts, BadImports, LongNames, UnknownLibrary, InChainTable, InChains, AreLeastInChains, AreLeastInTable, ChainsFitAt, moved_chains, unbroken_chains}
+use Rattle.macho_linked.specs.Chains.{chained_fixups, IsChainTable, NoHeader, HasHeader, BadStarts, BadImports, LongNames, UnknownLibrary, InChainTable, InChains, InNoBytes, BreaksChainHeader, AreLeastInChains, AreLeastInTable, AreLeastInImage, ChainsFitAt, moved_chains, unbroken_chains}
 use Rattle.macho_linked.specs.Homes.{bytes_of_table}
 use Rattle.macho_linked.specs.Items.{AtItem}
 use Rattle.macho_linked.specs.Limits.{library_count}
@@ -29,7 +29,7 @@ use Rattle.macho_linked.specs.declared.chain_header.ImportFormat.{ImportFormat}
 use Rattle.macho_linked.specs.declared.chain_header.ImportFormat.TheVariants as format
 use Rattle.macho_linked.specs.declared.chains.ChainSurvey.{ChainSurvey}
 use Rattle.macho_linked.proofs.ChainImports.{import_inside}
-use Rattle.macho_linked.proofs.Items.{least_where}
+use Rattle.macho_linked.proofs.Items.{least_where, least_other}
 use Rattle.macho_linked.proofs.NamedTables.{LieInside, table_named, table_inside, bounds_inside}
 use Rattle.macho_linked.proofs.TableSurveys.{fits_moved, least_moved, named_first}
 
@@ -136,7 +136,7 @@ survey_fits image chains survey start some are fits = record {
 
 -- in the image they are the least too
 pub survey_moved : (image : List ℕ) (table : ℕ × ℕ × ℕ) (survey : ChainSurvey) → 0 < table.1 → AreLeastInTable image (part table.0 table.1 image) survey
-    → AreLeastInChains (InChainTable image table) (moved_chains table.0 survey)
+    → AreLeastInChains (InChainTable image table NoHeader) (InChainTable image table) (moved_chains table.0 survey)
 survey_moved image table survey some are = record {
   header = at NoHeader survey.header are.header;
   starts = at BadStarts survey.starts are.starts;
@@ -151,16 +151,6 @@ survey_moved image table survey some are = record {
 
 -- The table of an image
 
--- where none is broken, nothing is found
-survey_none : (In : (List ℕ → List ℕ → ℕ → Type 0) → ℕ → Type 0) → ((Rule : List ℕ → List ℕ → ℕ → Type 0) (place : ℕ) → ¬ In Rule place) → AreLeastInChains In unbroken_chains
-survey_none In none = record {
-  header = none NoHeader;
-  starts = none BadStarts;
-  imports = none BadImports;
-  total = none LongNames;
-  library = none UnknownLibrary;
-}
-
 -- the bytes of the table that a command names
 pub chain_table_of : (image : List ℕ) (command : ℕ) → chained_fixups image ≡ Some command → 0 < (table_at image command linkedit_data_table).1
     → IsChainTable image (bytes_of_table (table_at image command linkedit_data_table))
@@ -169,26 +159,75 @@ chain_table_of image command is some =
     subst (λ (found : Option ℕ). IsSomeAnd found (λ c. (table ≡ bytes_of_table (table_at image c linkedit_data_table)) × (0 < table.len))) (sym is) (refl, some)
 
 -- no command names one that has some
-pub chains_unlisted : (image : List ℕ) → ((table : Span) → ¬ IsChainTable image table) → AreLeastInChains (InChains image) unbroken_chains
-chains_unlisted image none =
-    survey_none (InChains image)
-    (λ Rule place broken.
-    let (command, is, (some, here)) = some_of (λ c. InChainTable image (table_at image c linkedit_data_table) Rule place) (chained_fixups image) broken in
-    none (bytes_of_table (table_at image command linkedit_data_table)) (chain_table_of image command is some))
+pub chains_unlisted : (image : List ℕ) → ((table : Span) → ¬ IsChainTable image table) → AreLeastInImage image (record unbroken_chains { header = chained_fixups image })
+chains_unlisted image none = record {
+  header = headless (chained_fixups image) refl;
+  starts = nothing BadStarts;
+  imports = nothing BadImports;
+  total = nothing LongNames;
+  library = nothing UnknownLibrary;
+}
+  where
+    nothing : (Rule : List ℕ → List ℕ → ℕ → Type 0) (place : ℕ) → ¬ InChains image Rule place
+    nothing Rule place broken =
+        let (command, is, (some, here)) = some_of (λ c. InChainTable image (table_at image c linkedit_data_table) Rule place) (chained_fixups image) broken in
+        none (bytes_of_table (table_at image command linkedit_data_table)) (chain_table_of image command is some)
+
+    -- the place is that of the command
+    named : (place : ℕ) → BreaksChainHeader image place → chained_fixups image ≡ Some place
+    named place (inl empty) =
+        let (command, is, (same, no_bytes)) = some_of (λ c. (place ≡ c) × ((table_at image c linkedit_data_table).1 ≡ 0)) (chained_fixups image) empty in
+        is ∙ ap Some (sym same)
+    named place (inr here) = absurd (nothing NoHeader place here)
+
+    headless : (found : Option ℕ) → chained_fixups image ≡ found → IsLeastPlace (BreaksChainHeader image) found
+    headless None is = λ place broken. none-some place (sym is ∙ named place broken)
+    headless (Some command) is = (
+      inl (of_some (λ c. (command ≡ c) × ((table_at image c linkedit_data_table).1 ≡ 0)) (chained_fixups image) command is (refl, no_bytes)),
+      λ place broken. let same : command ≡ place = same_Some _ _ (sym is ∙ named place broken) in omega arith,
+    )
+      where
+        no_bytes : (table_at image command linkedit_data_table).1 ≡ 0
+        no_bytes = elim (cases_lt 0 (table_at image command linkedit_data_table).1) [
+          | inl some ↦ absurd (none _ (chain_table_of image command is some))
+          | inr few ↦ omega (arith, few)
+        ]
 
 module _ (image : List ℕ) (table : Span) (is : IsChainTable image table) where
   pub chain_table_some : 0 < table.len
   chain_table_some =
       let (command, at, (same, some)) = some_of (λ c. (table ≡ bytes_of_table (table_at image c linkedit_data_table)) × (0 < table.len)) (chained_fixups image) is in some
 
+  -- it has bytes
+  some_bytes_named : (place : ℕ) → ¬ InNoBytes image place
+  some_bytes_named place empty =
+      let (command, at, (same, some)) = some_of (λ c. (table ≡ bytes_of_table (table_at image c linkedit_data_table)) × (0 < table.len)) (chained_fixups image) is in
+      let (other, there, (here, no_bytes)) = some_of (λ c. (place ≡ c) × ((table_at image c linkedit_data_table).1 ≡ 0)) (chained_fixups image) empty in
+      let one : command ≡ other = same_Some _ _ (sym at ∙ there) in
+      let size : table.len ≡ (table_at image other linkedit_data_table).1 = ap (λ (s : Span). s.len) same ∙ ap (λ c. (table_at image c linkedit_data_table).1) one in
+      omega (arith, some, size, no_bytes)
+
   -- what is found in it is found in the image
-  pub chains_listed : (survey : ChainSurvey) → AreLeastInTable image (part table.start table.len image) survey → AreLeastInChains (InChains image) (moved_chains table.start survey)
-  chains_listed survey are =
+  in_chains : (survey : ChainSurvey) → AreLeastInTable image (part table.start table.len image) survey → AreLeastInChains (InChains image NoHeader) (InChains image) (moved_chains table.start survey)
+  in_chains survey are =
       let (command, at, (same, some)) = some_of (λ c. (table ≡ bytes_of_table (table_at image c linkedit_data_table)) × (0 < table.len)) (chained_fixups image) is in
       let bounds = table_at image command linkedit_data_table in
       let here = survey_moved image (table.start, table.len, 1) survey some are in
-      let there = subst (λ (t : Span). AreLeastInChains (InChainTable image (t.start, t.len, 1)) (moved_chains table.start survey)) same here in
-      subst (λ (found : Option ℕ). AreLeastInChains (λ Rule place. IsSomeAnd found (λ c. InChainTable image (table_at image c linkedit_data_table) Rule place)) (moved_chains table.start survey)) (sym at) there
+      let there = subst (λ (t : Span). AreLeastInChains (InChainTable image (t.start, t.len, 1) NoHeader) (InChainTable image (t.start, t.len, 1)) (moved_chains table.start survey)) same here in
+      subst
+      (λ (found : Option ℕ). AreLeastInChains (λ place. IsSomeAnd found (λ c. InChainTable image (table_at image c linkedit_data_table) NoHeader place))
+      (λ Rule place. IsSomeAnd found (λ c. InChainTable image (table_at image c linkedit_data_table) Rule place)) (moved_chains table.start survey)) (sym at) there
+
+  pub chains_listed : (survey : ChainSurvey) → AreLeastInTable image (part table.start table.len image) survey → AreLeastInImage image (moved_chains table.start survey)
+  chains_listed survey are =
+      let found = in_chains survey are in
+      record {
+        header = least_other (InNoBytes image) (InChains image NoHeader) _ some_bytes_named found.header;
+        starts = found.starts;
+        imports = found.imports;
+        total = found.total;
+        library = found.library;
+      }
 
 -- the table of a command
 module _ (image : List ℕ) (command : ℕ) (is : chained_fixups image ≡ Some command) where

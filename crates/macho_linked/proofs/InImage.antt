@@ -1,13 +1,15 @@
 -- The place of a break of a linked rule lies in the image.
-use Rattle.std.proofs.Common.{◌≡◌, ℕ, ◌+◌, ◌≤◌, ◌<◌, List, length, drop, slice_get, Contains, None, Some, ap, ◌∙◌, arith, inl, inr, length-drop}
+use Rattle.std.proofs.Common.{◌≡◌, ℕ, ◌+◌, ◌≤◌, ◌<◌, List, length, drop, slice_get, Contains, None, Some, refl, ap, ◌∙◌, arith, inl, inr, length-drop}
 use Rattle.std.proofs.lemmas.List.{length-take}
 use Rattle.macho_fields.specs.Field.{part}
 use Rattle.macho_fields.specs.First.{IsUnbroken}
 use Rattle.macho_fields.specs.Image.{commands_of}
 use Rattle.macho_fields.specs.Layers.{NothingBreaks}
 use Rattle.macho_fields.specs.Rules.{BreaksImage as Breaks}
+use Rattle.macho_fields.specs.LoadCommands.{linkedit_data_table}
 use Rattle.macho_fields.specs.Symbol.{table_at}
 use Rattle.macho_fields.specs.Universal.{FileSlice, slices_of, slice_bytes}
+use Rattle.macho_fields.specs.declared.header.loader.TheConstants as loader
 use Rattle.macho_fields.specs.declared.rule.Rule.{Rule}
 use Rattle.macho_fields.specs.declared.rule.Rule.TheVariants as rule
 use Rattle.macho_fields.proofs.Opened.{command_inside}
@@ -15,7 +17,7 @@ use Rattle.macho_fields.proofs.Options.{some_of}
 use Rattle.macho_image.proofs.ReadParts.{length-part}
 use Rattle.macho_rules.proofs.Judged.{opened_facts, opened_commands}
 use Rattle.macho_rules.proofs.Verdicts.{file_inside, unbroken_opened}
-use Rattle.macho_linked.specs.Chains.{NoHeader, BadStarts, BadImports, LongNames, UnknownLibrary}
+use Rattle.macho_linked.specs.Chains.{chained_fixups, NoHeader, BadStarts, BadImports, LongNames, UnknownLibrary, InNoBytes}
 use Rattle.macho_linked.specs.Images.{dyld_info, opcodes_of, fields_of, Undecoded, NoLibrary, NoName, NoSlot, TooMany, TooLong, InStream, InRebases, InBindsOf, InBinds}
 use Rattle.macho_linked.specs.Rules.{BreaksImage}
 use Rattle.macho_linked.specs.declared.step.Opcodes.{Opcodes}
@@ -23,7 +25,7 @@ use Rattle.macho_linked.specs.declared.streams.Stream.{Stream}
 use Rattle.macho_linked.specs.declared.streams.Stream.TheVariants as streams
 use Rattle.macho_linked.proofs.ChainTables.{no_header, bad_starts, bad_imports, long_names, unknown_library, chains_near}
 use Rattle.macho_linked.proofs.PointerSurveys.{slots_near, binds_near}
-use Rattle.macho_linked.proofs.TableSurveys.{IsStreamRule, undecoded, no_library, no_name, no_slot, too_many, too_long}
+use Rattle.macho_linked.proofs.TableSurveys.{named_first, IsStreamRule, undecoded, no_library, no_name, no_slot, too_many, too_long}
 
 part_short : (start size : ℕ) (bytes : List ℕ) (offset : ℕ) → offset < length (part start size bytes) → start + offset ≤ length bytes
 part_short start size bytes offset less =
@@ -57,6 +59,13 @@ module _ (image : List ℕ) (none : NothingBreaks (Breaks image None)) where
       let opened = unbroken_opened image none in
       let inside = command_inside image (commands_of image) (opened_facts image opened) (opened_commands image opened) command has in omega (arith, inside)
 
+  -- that of the command that names the chained fixups
+  fixups_inside : (place : ℕ) → InNoBytes image place → place ≤ length image
+  fixups_inside place empty =
+      let (command, is, (same, no_bytes)) = some_of (λ c. (place ≡ c) × ((table_at image c linkedit_data_table).1 ≡ 0)) (chained_fixups image) empty in
+      let (listed, number) = named_first image (λ n. n ≡ loader.LC_DYLD_CHAINED_FIXUPS) loader.LC_DYLD_CHAINED_FIXUPS refl command is in
+      let inside = listed_inside command listed in omega (arith, same, inside)
+
   pub place_inside : (r : Rule) (place : ℕ) → BreaksImage image r place → place ≤ length image
   place_inside rule.TableRepeated place broken = listed_inside place broken.0
   place_inside rule.FunctionVariants place broken = listed_inside place broken.0
@@ -71,7 +80,7 @@ module _ (image : List ℕ) (none : NothingBreaks (Breaks image None)) where
   place_inside rule.BindSlot place broken = binds_inside image NoSlot (no_slot image) place broken
   place_inside rule.BindTotal place broken = binds_inside image TooMany (too_many image) place broken
   place_inside rule.BindNames place broken = binds_inside image TooLong (too_long image) place broken
-  place_inside rule.ChainHeader place broken = chains_near image none NoHeader (no_header image) place broken
+  place_inside rule.ChainHeader place broken = elim broken [ inl empty ↦ fixups_inside place empty | inr here ↦ chains_near image none NoHeader (no_header image) place here ]
   place_inside rule.ChainStarts place broken = chains_near image none BadStarts (bad_starts image) place broken
   place_inside rule.ChainImports place broken = chains_near image none BadImports (bad_imports image) place broken
   place_inside rule.ChainTotal place broken = chains_near image none LongNames (long_names image) place broken

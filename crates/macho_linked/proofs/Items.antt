@@ -1,5 +1,5 @@
 -- Items that are numbered from 0 on, each at a place that is not before those of the items before it.
-use Rattle.std.proofs.Common.{ℕ, ◌+◌, ◌*◌, ◌≤◌, ◌<◌, Option, None, Some, refl, arith, inl, inr}
+use Rattle.std.proofs.Common.{ℕ, ◌+◌, ◌*◌, ◌≤◌, ◌<◌, ◌⊎◌, Option, None, Some, refl, arith, inl, inr}
 use Rattle.std.specs.Option.{option_map}
 use Rattle.std.proofs.lemmas.Bool.{cases_lt}
 use Rattle.std.proofs.lemmas.Nat.{mul-le, row_fits}
@@ -22,6 +22,11 @@ first_item place_of rise count P (Some first) (inside, here, none) = (
 pub least_where : (Q : Type 0) (P : ℕ → Type 0) (found : Option ℕ) → Q → IsLeastPlace P found → IsLeastPlace (λ place. Q × P place) found
 least_where Q P None holds none = λ place (_, broken). none place broken
 least_where Q P (Some first) holds (here, least) = ((holds, here), λ place (_, broken). least place broken)
+
+-- a rule of two parts, of which one is not broken
+pub least_other : (P Q : ℕ → Type 0) (found : Option ℕ) → ((place : ℕ) → ¬ P place) → IsLeastPlace Q found → IsLeastPlace (λ place. P place ⊎ Q place) found
+least_other P Q None none least = λ place broken. elim broken [ inl one ↦ none place one | inr other ↦ least place other ]
+least_other P Q (Some first) none (here, least) = (inr here, λ place broken. elim broken [ inl one ↦ absurd (none place one) | inr other ↦ least place other ])
 
 -- items of one size, one past the other
 pub items_rise : (start size : ℕ) (j k : ℕ) → j ≤ k → start + j * size ≤ start + k * size

@@ -1,5 +1,6 @@
 -- A table of chained fixups of an image that breaks no rule breaks none.
-use Rattle.std.proofs.Common.{◌≡◌, ℕ, ◌+◌, ◌<◌, List, Option, Some, None, refl, subst}
+use Rattle.std.proofs.Common.{◌≡◌, ℕ, ◌+◌, ◌<◌, List, Option, Some, None, refl, subst, arith, inl, inr}
+use Rattle.std.proofs.lemmas.Bool.{cases_lt}
 use Rattle.macho_fields.specs.Field.{part}
 use Rattle.macho_fields.specs.Layers.{NothingBreaks}
 use Rattle.macho_fields.specs.LoadCommands.{linkedit_data_table}
@@ -24,8 +25,17 @@ pub record AreGoodChains (image : List ℕ) (table : ℕ) (chains : List ℕ) (h
   pub slots : (place : ℕ) → ¬ BreaksChainSlot image table chains header place
   pub binds : (place : ℕ) → ¬ BreaksChainBind image table chains header place
 
-module _ (image : List ℕ) (kept : NothingBreaks (BreaksImage image)) (table : ℕ × ℕ × ℕ) (some : 0 < table.1)
-    (command : ℕ) (named : chained_fixups image ≡ Some command) (is_table : table ≡ table_at image command linkedit_data_table) where
+module _ (image : List ℕ) (kept : NothingBreaks (BreaksImage image)) (table : ℕ × ℕ × ℕ) (command : ℕ) (named : chained_fixups image ≡ Some command)
+    (is_table : table ≡ table_at image command linkedit_data_table) where
+  -- it has bytes
+  some : 0 < table.1
+  some = elim (cases_lt 0 table.1) [
+    | inl more ↦ more
+    | inr none ↦
+        let no_bytes : (table_at image command linkedit_data_table).1 ≡ 0 = subst (λ (t : ℕ × ℕ × ℕ). t.1 ≡ 0) is_table (omega (arith, none)) in
+        absurd (kept rule.ChainHeader command (inl (of_some (λ c. (command ≡ c) × ((table_at image c linkedit_data_table).1 ≡ 0)) (chained_fixups image) command named (refl, no_bytes))))
+  ]
+
   abbrev chains : List ℕ
   chains = part table.0 table.1 image
 
@@ -40,7 +50,7 @@ module _ (image : List ℕ) (kept : NothingBreaks (BreaksImage image)) (table : 
   header_there = either (chain_header chains) refl
     where
       either : (found : Option ChainHeader) → chain_header chains ≡ found → (header : ChainHeader) × (chain_header chains ≡ Some header)
-      either None none = absurd (unbroken_in NoHeader (λ place broken. kept rule.ChainHeader place broken) 0 (refl, none))
+      either None none = absurd (unbroken_in NoHeader (λ place broken. kept rule.ChainHeader place (inr broken)) 0 (refl, none))
       either (Some header) is = (header, is)
 
   module _ (header : ChainHeader) (is : chain_header chains ≡ Some header) where

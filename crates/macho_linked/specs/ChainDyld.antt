@@ -1,5 +1,6 @@
 -- The plain dyld over chained fixups: it takes the starts, the page starts and the pointers as they are in
--- memory, writes each pointer where it read it, and checks nothing. Memory has a byte for each address.
+-- memory, writes each pointer where it read it, and checks nothing. Memory has a byte for each address, and is
+-- that of an image loaded at its base, which is where the segments named __TEXT are (header-home).
 -- (mach-o/fixup-chains.h)
 use Rattle.std.specs.Prelude.{◌≡◌, ◌≢◌, ℕ, zero, suc, ◌+◌, ◌*◌, ◌≤◌, ◌<◌, ◌==◌, ◌⊎◌, List, length, All, Any, Contains, Option, Some, None, IfSome, IsSomeAnd, true, false, slice_get, slice_index, if◌then◌else◌}
 use Rattle.macho_fields.specs.Field.{number, part, HasZero}
@@ -133,7 +134,6 @@ IsMapped image memory =
 -- it.
 pub record IsChainTableAt (image : List ℕ) (table : ℕ × ℕ × ℕ) (home : ℕ) : Type 0 where
   pub named : IsSomeAnd (chained_fixups image) (λ command. table ≡ table_at image command linkedit_data_table)
-  pub some : 0 < table.1
   pub found : Any (λ s. IsLinkedit image s × (home + fileoff image s ≡ vmaddr image s + table.0)) (all_segments image)
 
 -- an import is in the table, with its name, and from a library that is there

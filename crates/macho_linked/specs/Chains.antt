@@ -1,6 +1,6 @@
 -- The chained fixups of an image, and where they break their rules. A place is one in the image.
 -- (mach-o/loader.h: linkedit_data_command)
-use Rattle.std.specs.Prelude.{◌≡◌, ℕ, ◌+◌, ◌^◌, ◌<◌, List, Option, None, IfSome, IsSomeAnd}
+use Rattle.std.specs.Prelude.{◌≡◌, ℕ, ◌+◌, ◌^◌, ◌<◌, ◌⊎◌, List, Option, None, IfSome, IsSomeAnd}
 use Rattle.std.specs.Option.{option_map}
 use Rattle.macho_fields.specs.Field.{part}
 use Rattle.macho_fields.specs.FirstPlace.{IsLeastPlace}
@@ -69,15 +69,25 @@ InChains image Rule place =
     IsSomeAnd (chained_fixups image)
     (λ command. InChainTable image (table_at image command linkedit_data_table) Rule place)
 
+-- loaders read a header where the command says, and its table has no bytes, which is reported at the command
+abbrev pub InNoBytes : List ℕ → ℕ → Type 0
+InNoBytes image place =
+    IsSomeAnd (chained_fixups image)
+    (λ command. (place ≡ command) × ((table_at image command linkedit_data_table).1 ≡ 0))
+
+-- the rule chain-header
+abbrev pub BreaksChainHeader : List ℕ → ℕ → Type 0
+BreaksChainHeader image place = InNoBytes image place ⊎ InChains image NoHeader place
+
 -- a rule of the pointers of the image, at a place of it
 abbrev pub InPointers : List ℕ → (List ℕ → ℕ → List ℕ → ChainHeader → ℕ → Type 0) → ℕ → Type 0
 InPointers image Rule place =
     IsSomeAnd (chained_fixups image)
     (λ command. OfTable image (table_at image command linkedit_data_table) Rule place)
 
--- the least places at which the rules are broken
-pub record AreLeastInChains (In : (List ℕ → List ℕ → ℕ → Type 0) → ℕ → Type 0) (survey : ChainSurvey) : Type 0 where
-  pub header : IsLeastPlace (In NoHeader) survey.header
+-- the least places at which the rules are broken: that of the header, and those of the table
+pub record AreLeastInChains (Header : ℕ → Type 0) (In : (List ℕ → List ℕ → ℕ → Type 0) → ℕ → Type 0) (survey : ChainSurvey) : Type 0 where
+  pub header : IsLeastPlace Header survey.header
   pub starts : IsLeastPlace (In BadStarts) survey.starts
   pub imports : IsLeastPlace (In BadImports) survey.imports
   pub total : IsLeastPlace (In LongNames) survey.total
@@ -85,7 +95,12 @@ pub record AreLeastInChains (In : (List ℕ → List ℕ → ℕ → Type 0) →
 
 -- as offsets in the table
 abbrev pub AreLeastInTable : List ℕ → List ℕ → ChainSurvey → Type 0
-AreLeastInTable image chains survey = AreLeastInChains (λ Rule offset. Rule image chains offset) survey
+AreLeastInTable image chains survey =
+    AreLeastInChains (NoHeader image chains) (λ Rule offset. Rule image chains offset) survey
+
+-- as places in the image
+abbrev pub AreLeastInImage : List ℕ → ChainSurvey → Type 0
+AreLeastInImage image survey = AreLeastInChains (BreaksChainHeader image) (InChains image) survey
 
 -- a survey that found nothing
 abbrev pub unbroken_chains : ChainSurvey

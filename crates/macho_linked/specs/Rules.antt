@@ -6,7 +6,7 @@ use Rattle.macho_fields.specs.declared.rule.Break.{Break}
 use Rattle.macho_fields.specs.declared.rule.Rule.{Rule}
 use Rattle.macho_fields.specs.declared.rule.Rule.TheVariants as rule
 use Rattle.macho_linked.specs.ChainPointers.{BreaksChainSlot, BreaksChainBind}
-use Rattle.macho_linked.specs.Chains.{NoHeader, BadStarts, BadImports, LongNames, UnknownLibrary, InChains, InPointers}
+use Rattle.macho_linked.specs.Chains.{BadStarts, BadImports, LongNames, UnknownLibrary, InChains, BreaksChainHeader, InPointers}
 use Rattle.macho_linked.specs.Homes.{BreaksTableHome, BreaksHeaderHome}
 use Rattle.macho_linked.specs.Images.{Undecoded, NoLibrary, NoName, NoSlot, TooMany, TooLong, InRebases, InBinds}
 use Rattle.macho_linked.specs.Kinds.{BreaksTableRepeated, BreaksFunctionVariants}
@@ -26,7 +26,7 @@ BreaksImage image rule.BindSymbol place = InBinds image NoName place
 BreaksImage image rule.BindSlot place = InBinds image NoSlot place
 BreaksImage image rule.BindTotal place = InBinds image TooMany place
 BreaksImage image rule.BindNames place = InBinds image TooLong place
-BreaksImage image rule.ChainHeader place = InChains image NoHeader place
+BreaksImage image rule.ChainHeader place = BreaksChainHeader image place
 BreaksImage image rule.ChainStarts place = InChains image BadStarts place
 BreaksImage image rule.ChainImports place = InChains image BadImports place
 BreaksImage image rule.ChainTotal place = InChains image LongNames place

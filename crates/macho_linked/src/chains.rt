@@ -22,7 +22,7 @@ use macho_image::Image;
 /// Where the chained fixups first break each of their rules.
 #[derive(Clone, Copy, Debug)]
 pub struct ChainSurvey {
-    /// The start of the table, if it has no header.
+    /// The start of the table, if it has no header, or the command that names it, if it has no bytes.
     pub header: Option<u64>,
     /// The first entry with bad starts, or the number of entries if this is wrong, or the start of the table if
     /// it has no such number.
@@ -39,17 +39,20 @@ impl ChainSurvey {
     ghost use Rattle.std.specs.Prelude.{◌≡◌, None};
     ghost use Rattle.macho_fields.specs.Layers.{NothingBreaks};
     ghost use Rattle.macho_fields.specs.Rules.{BreaksImage as Breaks};
-    ghost use Rattle.macho_linked.specs.Chains.{unbroken_chains, moved_chains, AreLeastInChains, ChainsFitAt, InChains};
+    ghost use Rattle.macho_linked.specs.Chains.{unbroken_chains, moved_chains, AreLeastInImage, ChainsFitAt};
 
     // Goes over the table of an image that breaks no rule of the layout. The places are those in the image.
     pub(crate) fn of(image: &Image) -> ChainSurvey
         requires { NothingBreaks (Breaks image.now None) }
-        ensures { AreLeastInChains (InChains image.now) result }
+        ensures { AreLeastInImage image.now result }
     {
-        let Some(table) = chain_table(image) else {
-            return ChainSurvey::unbroken();
-        };
-        survey(image, image.bytes().slice(table)).moved(table.start)
+        match chain_table(image) {
+            Some(table) => survey(image, image.bytes().slice(table)).moved(table.start),
+            None => ChainSurvey {
+                header: first_place(image, LC_DYLD_CHAINED_FIXUPS),
+                ..ChainSurvey::unbroken()
+            },
+        }
     }
 
     // No rule is broken.
