@@ -11,7 +11,7 @@ use crate::chain_pages::PointerSurvey;
 use crate::chains::ChainSurvey;
 use crate::homes::{header_home, table_home};
 use crate::kinds::{function_variants, table_repeated};
-use crate::streams::Survey;
+use crate::streams::StreamSurveys;
 use macho_fields::{Break, Rule};
 use macho_image::Image;
 
@@ -25,7 +25,7 @@ pub(crate) fn check_image(image: &Image) -> Result<(), Break>
     judge(image, Rule::FunctionVariants, function_variants(image))?;
     judge(image, Rule::TableHome, table_home(image))?;
     judge(image, Rule::HeaderHome, header_home(image))?;
-    let Survey { rebases, binds } = Survey::of(image);
+    let StreamSurveys { rebases, binds } = StreamSurveys::of(image);
     judge(image, Rule::RebaseOpcode, rebases.opcode)?;
     judge(image, Rule::RebaseSlot, rebases.slot)?;
     judge(image, Rule::RebaseTotal, rebases.total)?;

@@ -23,27 +23,27 @@ use macho_image::Image;
 
 /// Where the streams of an image first break each of their rules, as places in the image.
 #[derive(Clone, Copy, Debug)]
-pub struct Survey {
+pub struct StreamSurveys {
     /// Of the rebase stream.
     pub rebases: StreamSurvey,
     /// Of the bind, the weak and the lazy stream: the least places in all three.
     pub binds: StreamSurvey,
 }
 
-impl Survey {
+impl StreamSurveys {
     ghost use Rattle.std.specs.Prelude.{None};
     ghost use Rattle.macho_fields.specs.Layers.{NothingBreaks};
     ghost use Rattle.macho_fields.specs.Rules.{BreaksImage as Breaks};
     ghost use Rattle.macho_linked.specs.Images.{AreLeast, InRebases, InBinds};
 
     /// Goes over the opcodes of an image that breaks no rule of the layout, once.
-    pub fn of(image: &Image) -> Survey
+    pub fn of(image: &Image) -> StreamSurveys
         requires { NothingBreaks (Breaks image.now None) }
         ensures rebases { AreLeast (InRebases image.now) result.rebases }
         ensures binds { AreLeast (InBinds image.now) result.binds }
     {
         let Some(command) = dyld_info(image) else {
-            return Survey {
+            return StreamSurveys {
                 rebases: StreamSurvey::unbroken(),
                 binds: StreamSurvey::unbroken(),
             };
@@ -53,7 +53,7 @@ impl Survey {
         let binds = survey_of(image, command, Stream::Bind, &limits);
         let weak = survey_of(image, command, Stream::WeakBind, &limits);
         let lazy = survey_of(image, command, Stream::LazyBind, &limits);
-        Survey {
+        StreamSurveys {
             rebases,
             binds: binds.joined(weak).joined(lazy),
         }

@@ -4,7 +4,7 @@ use Rattle.macho_linked.specs.declared.stream.StreamSurvey.{StreamSurvey}
 use Rattle.macho_linked.specs.declared.streams.Stream.{Stream}
 use Rattle.macho_linked.specs.declared.streams.Stream.TheVariants as streams
 use Rattle.macho_linked.proofs.TableSurveys.{least_of_none, least_of_some, survey_joined}
-use Rattle.macho_linked.proofs.streams.Survey.of.Goals as goal
+use Rattle.macho_linked.proofs.streams.StreamSurveys.of.Goals as goal
 
 pub returns-in_default-clause-rebases : goal.returns-in_default-clause-rebases
 returns-in_default-clause-rebases c =
