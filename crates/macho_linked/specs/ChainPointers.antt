@@ -1,5 +1,5 @@
 -- The pointers of chained fixups, and where they break their rules. The offset of a pointer is one in its
--- segment. A chain begins in a page, and ends in it.
+-- segment. A chain begins in a page; where chain-slot is unbroken, it ends in it.
 -- (mach-o/fixup-chains.h: dyld_chained_starts_in_segment, dyld_chained_ptr_64_rebase,
 -- dyld_chained_ptr_64_bind, dyld_chained_ptr_arm64e_rebase, dyld_chained_ptr_arm64e_bind,
 -- dyld_chained_ptr_arm64e_bind24)
@@ -66,7 +66,7 @@ Fits image segment starts page offset =
     × IsRoomTo image segment (offset + size.POINTER_SIZE)
 
 -- The pointers of a page lead from an offset to another one: the first is there, and each other one where
--- the one before it says, past this one. They fit.
+-- the one before it says, at least 8 bytes after that one begins. They fit.
 abbrev pub Lead : List ℕ → ℕ → SegmentStarts → ℕ → ℕ → List ℕ → ℕ → Type 0
 Lead image segment starts page from [] to = from ≡ to
 Lead image segment starts page from (pointer ∷ rest) to =

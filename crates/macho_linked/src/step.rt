@@ -37,7 +37,7 @@ pub enum Step {
     SetSpecial(u8),
     /// A name is looked up, with the flags.
     SetSymbol {
-        /// Its bytes in the stream, up to and with the zero byte that ends it.
+        /// Its bytes in the stream, up to and including the zero byte that ends it.
         name: Span,
         /// The flags of the look-up.
         flags: u8,
