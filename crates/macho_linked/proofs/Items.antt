@@ -1,9 +1,9 @@
 -- Items that are numbered from 0 on, each at a place that is not before those of the items before it.
-use Rattle.std.proofs.Common.{ℕ, ◌+◌, ◌*◌, ◌≤◌, ◌<◌, ◌⊎◌, Option, None, Some, refl, arith, inl, inr}
+use Rattle.std.proofs.Common.{◌≡◌, ℕ, suc, ◌+◌, ◌*◌, ◌≤◌, ◌<◌, ◌⊎◌, Option, None, Some, refl, sym, subst, arith, inl, inr}
 use Rattle.std.specs.Option.{option_map}
 use Rattle.std.proofs.lemmas.Bool.{cases_lt}
 use Rattle.std.proofs.lemmas.Nat.{mul-le, row_fits}
-use Rattle.macho_fields.specs.FirstPlace.{IsLeastPlace}
+use Rattle.macho_fields.specs.FirstPlace.{IsNoted, IsLeastPlace}
 use Rattle.macho_linked.specs.Items.{AtItem, IsFirstItem}
 
 -- the first of them with P is at the least place
@@ -17,6 +17,33 @@ first_item place_of rise count P (Some first) (inside, here, none) = (
     | inr after ↦ let up = rise first k after in omega (arith, up, at)
   ],
 )
+
+-- one item more: its place is noted if it has P
+pub noted_item : (place_of : ℕ → ℕ) → ((j k : ℕ) → j ≤ k → place_of j ≤ place_of k) → (P : ℕ → Type 0) (count : ℕ) (broken : Type 0) (old new : Option ℕ)
+    → (broken → P count) → (P count → broken) → IsNoted broken (place_of count) old new → IsLeastPlace (AtItem place_of count P) old → IsLeastPlace (AtItem place_of (suc count) P) new
+noted_item place_of rise P count broken (Some first) new to from noted ((k, less, at, has), least) =
+    let same : new ≡ Some first = elim noted [ inl is ↦ is.1 | inr is ↦ is.1 ] in
+    subst (IsLeastPlace (AtItem place_of (suc count) P)) (sym same) (
+      (k, omega (arith, less), at, has),
+      λ place (j, below, is, here). elim (cases_lt j count) [
+        | inl before ↦ least place (j, before, is, here)
+        | inr late ↦ let up = rise k j (omega (arith, less, late)) in omega (arith, at, is, up)
+      ],
+    )
+noted_item place_of rise P count broken None new to from (inl (here, is)) none =
+    subst (IsLeastPlace (AtItem place_of (suc count) P)) (sym is) (
+      (count, omega arith, refl, to here),
+      λ place (j, below, at, has). elim (cases_lt j count) [
+        | inl before ↦ absurd (none place (j, before, at, has))
+        | inr late ↦ let up = rise count j late in omega (arith, at, up)
+      ],
+    )
+noted_item place_of rise P count broken None new to from (inr (kept, is)) none =
+    subst (IsLeastPlace (AtItem place_of (suc count) P)) (sym is)
+    (λ place (j, below, at, has). elim (cases_lt j count) [
+      | inl before ↦ none place (j, before, at, has)
+      | inr late ↦ let same : j ≡ count = omega (arith, below, late) in kept (from (subst P same has))
+    ])
 
 -- a rule that is not broken unless Q holds
 pub least_where : (Q : Type 0) (P : ℕ → Type 0) (found : Option ℕ) → Q → IsLeastPlace P found → IsLeastPlace (λ place. Q × P place) found

@@ -1,7 +1,8 @@
 -- The imports of chained fixups, and where they break their rules. An offset is one in the table.
 -- (mach-o/fixup-chains.h: dyld_chained_import, dyld_chained_import_addend, dyld_chained_import_addend64)
-use Rattle.std.specs.Prelude.{◌≡◌, ℕ, zero, suc, ◌+◌, ◌-◌, ◌*◌, ◌/◌, ◌^◌, ◌<◌, ◌⊎◌, nat_lt, List, length, bit_and, if◌then◌else◌}
+use Rattle.std.specs.Prelude.{◌≡◌, ℕ, zero, suc, ◌+◌, ◌-◌, ◌*◌, ◌/◌, ◌^◌, ◌<◌, ◌⊎◌, nat_lt, List, length, None, bit_and, if◌then◌else◌}
 use Rattle.macho_fields.specs.Field.{string_from, HasZero}
+use Rattle.macho_fields.specs.FirstPlace.{IsLeastPlace}
 use Rattle.macho_fields.specs.Symbol.{number_of}
 use Rattle.macho_fields.specs.declared.load_command.Width.TheVariants.{Uint32, Uint64}
 use Rattle.macho_linked.specs.Items.{AtItem}
@@ -10,6 +11,7 @@ use Rattle.macho_linked.specs.declared.chain_header.ImportFormat.{ImportFormat}
 use Rattle.macho_linked.specs.declared.chain_header.ImportFormat.TheVariants as format
 use Rattle.macho_linked.specs.declared.chain_imports.Import.{Import}
 use Rattle.macho_linked.specs.declared.chain_imports.ImportBits.{ImportBits}
+use Rattle.macho_linked.specs.declared.chain_imports.ImportSurvey.{ImportSurvey}
 use Rattle.macho_linked.specs.declared.chain_imports.Ordinal.{Ordinal}
 use Rattle.macho_linked.specs.declared.chain_imports.Ordinal.TheVariants as ordinal
 use Rattle.macho_linked.specs.declared.stream.TheConstants as stream
@@ -51,6 +53,10 @@ abbrev pub names_size : List ℕ → ChainHeader → ℕ → ℕ
 names_size chains header zero = 0
 names_size chains header (suc k) =
     names_size chains header k + (length (string_from (import_name_start chains header k) chains) + 1)
+
+-- a total is right up to so many: it is the sum, or both are more
+abbrev pub IsTotalUpTo : ℕ → ℕ → ℕ → Type 0
+IsTotalUpTo most sum total = (total ≡ sum) ⊎ ((most < sum) × (most < total))
 
 -- What the rules say of an import
 
@@ -96,3 +102,13 @@ BreaksChainTotal chains header offset = AtImport chains header (PassesTable chai
 abbrev pub BreaksChainLibrary : ℕ → List ℕ → ChainHeader → ℕ → Type 0
 BreaksChainLibrary libraries chains header offset =
     AtImport chains header (IsOfNoLibrary libraries chains header) offset
+
+-- the least offsets at which the rules are broken
+pub record AreLeastImports (libraries : ℕ) (chains : List ℕ) (header : ChainHeader) (survey : ImportSurvey) : Type 0 where
+  pub imports : IsLeastPlace (BreaksChainImports chains header) survey.imports
+  pub total : IsLeastPlace (BreaksChainTotal chains header) survey.total
+  pub library : IsLeastPlace (BreaksChainLibrary libraries chains header) survey.library
+
+-- a survey that found nothing
+abbrev pub unbroken_imports : ImportSurvey
+unbroken_imports = record { imports = None; total = None; library = None }

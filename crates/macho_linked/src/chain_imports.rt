@@ -5,12 +5,10 @@
 ghost use Rattle.std.specs.Prelude.{◌≡◌, ◌↔◌, ◌+◌, ◌^◌, ◌≤◌, ◌<◌, ℕ, length};
 ghost use Rattle.macho_fields.specs.Bytes.{bytes_of};
 ghost use Rattle.macho_fields.specs.Field.{string_from, HasZero};
-ghost use Rattle.macho_fields.specs.FirstPlace.{IsLeastPlace};
-ghost use Rattle.macho_linked.specs.ChainImports.{ImportsEndPast, HasNoNameEnd, PassesTable, IsOfNoLibrary, BreaksChainImports, BreaksChainTotal, BreaksChainLibrary};
-ghost use Rattle.macho_linked.specs.Items.{IsFirstItem};
+ghost use Rattle.macho_linked.specs.ChainImports.{ImportsEndPast, IsTotalUpTo, AreLeastImports};
 
 use crate::chain_header::{ChainHeader, ImportFormat, word_at};
-use crate::stream::SPECIAL_ORDINALS;
+use crate::stream::{SPECIAL_ORDINALS, note_if};
 use macho_fields::{Bytes, Order, Span, Width};
 
 // How many of the greatest values of an ordinal are below 0.
@@ -136,86 +134,83 @@ impl Import {
     }
 }
 
-/// The offset 0, if the imports end past the table, and otherwise that of the first import whose name does
-/// not end in it.
-pub fn chain_imports(chains: Bytes, header: ChainHeader) -> Option<u64>
-    ensures { IsLeastPlace (BreaksChainImports (bytes_of chains.entry) header) result }
-{
-    if header.imports_end_past(chains) {
-        return Some(0);
-    }
-    header.offset_of(first_endless(chains, header))
+/// Where the imports first break each of their rules, as offsets in the table.
+#[derive(Clone, Copy, Debug)]
+pub struct ImportSurvey {
+    /// The first import whose name does not end in the table, or 0 if the imports end past it.
+    pub imports: Option<u64>,
+    /// The first import with which the names have more bytes than the table.
+    pub total: Option<u64>,
+    /// The first import that is from no library.
+    pub library: Option<u64>,
 }
 
-/// The offset of the first import with which the names have more bytes than the table.
-pub fn chain_total(chains: Bytes, header: ChainHeader) -> Option<u64>
-    ensures { IsLeastPlace (BreaksChainTotal (bytes_of chains.entry) header) result }
-{
-    if header.imports_end_past(chains) {
-        return None;
+impl ImportSurvey {
+    ghost use Rattle.std.specs.Prelude.{◌≡◌};
+    ghost use Rattle.macho_fields.specs.Bytes.{bytes_of};
+    ghost use Rattle.macho_linked.specs.ChainImports.{AreLeastImports, unbroken_imports};
+
+    /// Goes over the imports, once. The image loads so many libraries.
+    pub fn of(chains: Bytes, header: ChainHeader, libraries: u64) -> ImportSurvey
+        ensures { AreLeastImports libraries (bytes_of chains.entry) header result }
+    {
+        if header.imports_end_past(chains) {
+            return ImportSurvey {
+                imports: Some(0),
+                ..ImportSurvey::unbroken()
+            };
+        }
+        survey(chains, header, libraries)
     }
-    header.offset_of(first_past_total(chains, header))
+
+    // No rule is broken.
+    fn unbroken() -> ImportSurvey
+        ensures { result ≡ unbroken_imports }
+    {
+        ImportSurvey {
+            imports: None,
+            total: None,
+            library: None,
+        }
+    }
 }
 
-/// The offset of the first import that is from none of so many libraries.
-pub fn chain_library(chains: Bytes, header: ChainHeader, libraries: u64) -> Option<u64>
-    ensures { IsLeastPlace (BreaksChainLibrary libraries (bytes_of chains.entry) header) result }
-{
-    if header.imports_end_past(chains) {
-        return None;
-    }
-    header.offset_of(first_of_no_library(chains, header, libraries))
-}
-
-// The first import whose name no zero byte of the table ends.
-fn first_endless(chains: Bytes, header: ChainHeader) -> Option<u32>
+// Goes over the imports, which end in the table.
+fn survey(chains: Bytes, header: ChainHeader, libraries: u64) -> ImportSurvey
     requires { ¬ ImportsEndPast (bytes_of chains) header }
-    ensures { IsFirstItem header.imports_count (HasNoNameEnd (bytes_of chains.entry) header) result }
+    ensures { AreLeastImports libraries (bytes_of chains.entry) header result }
 {
     let end = zeros_end(chains);
+    let mut found = ImportSurvey::unbroken();
+    let mut total = 0;
     for index in 0..header.imports_count {
-        if header.name_start(chains, index) >= end {
-            return Some(index);
-        }
+        let import = header.import(chains, index);
+        let offset = header.import_offset(index);
+        let name = header.name_of(import);
+        total = total_with(chains, total, name);
+        let is_long = total > u128::from(chains.len());
+        let is_unknown = import.ordinal.is_no_library(libraries);
+        note_if(&mut found.imports, name >= end, offset);
+        note_if(&mut found.total, is_long, offset);
+        note_if(&mut found.library, is_unknown, offset);
     }
-    None
+    found
 }
 
-// The first import with which the names have more bytes than the table. No name is read past it.
-fn first_past_total(chains: Bytes, header: ChainHeader) -> Option<u32>
-    requires { ¬ ImportsEndPast (bytes_of chains) header }
-    ensures { IsFirstItem header.imports_count (PassesTable (bytes_of chains.entry) header) result }
+// The total of some names with that of the name at `start`. If the total is more than the table, it stays so,
+// and the name is not read.
+fn total_with(chains: Bytes, before: u128, start: u64) -> u128
+    ensures { IsTotalUpTo (length (bytes_of chains.entry))
+        (before + (length (string_from start (bytes_of chains.entry)) + 1)) result }
 {
-    let mut total: u128 = 0;
-    for index in 0..header.imports_count {
-        total += name_size(chains, header.name_start(chains, index));
-        if total > u128::from(chains.len()) {
-            return Some(index);
-        }
+    if before > u128::from(chains.len()) {
+        return before;
     }
-    None
-}
-
-// The first import that is from none of so many libraries.
-fn first_of_no_library(chains: Bytes, header: ChainHeader, libraries: u64) -> Option<u32>
-    requires { ¬ ImportsEndPast (bytes_of chains) header }
-    ensures { IsFirstItem header.imports_count (IsOfNoLibrary libraries (bytes_of chains.entry) header) result }
-{
-    for index in 0..header.imports_count {
-        if header
-            .import(chains, index)
-            .ordinal
-            .is_no_library(libraries)
-        {
-            return Some(index);
-        }
-    }
-    None
+    before + name_size(chains, start)
 }
 
 impl ChainHeader {
-    ghost use Rattle.std.specs.Prelude.{◌≡◌, ◌↔◌, ◌<◌, IsTrue};
-    ghost use Rattle.std.specs.Option.{option_map};
+    ghost use Rattle.std.specs.Prelude.{◌≡◌, ◌↔◌, ◌+◌, ◌<◌, IsTrue};
     ghost use Rattle.macho_fields.specs.Bytes.{bytes_of};
     ghost use Rattle.macho_linked.specs.ChainImports.{import_of, import_offset, import_name_start, ImportsEndPast};
 
@@ -241,7 +236,13 @@ impl ChainHeader {
         requires listed { index < self.imports_count }
         ensures { result ≡ import_name_start (bytes_of chains.entry) self index }
     {
-        let import = self.import(chains, index);
+        self.name_of(self.import(chains, index))
+    }
+
+    // Where the name of an import begins.
+    fn name_of(self, import: Import) -> u64
+        ensures { result ≡ self.symbols_offset + import.name_offset }
+    {
         u64::from(self.symbols_offset) + u64::from(import.name_offset)
     }
 
@@ -251,16 +252,6 @@ impl ChainHeader {
     {
         let size = self.imports_format.bits().size;
         u64::from(self.imports_offset) + u64::from(index) * size
-    }
-
-    // Where an import begins, if there is one.
-    fn offset_of(self, index: Option<u32>) -> Option<u64>
-        ensures { result ≡ option_map (import_offset self) index }
-    {
-        match index {
-            Some(index) => Some(self.import_offset(index)),
-            None => None,
-        }
     }
 }
 

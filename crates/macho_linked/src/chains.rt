@@ -9,7 +9,7 @@ ghost use Rattle.macho_linked.specs.Chains.{AreLeastInTable, IsChainTable};
 ghost use Rattle.macho_spans.specs.Span.{end_of};
 
 use crate::chain_header::ChainHeader;
-use crate::chain_imports::{chain_imports, chain_library, chain_total};
+use crate::chain_imports::ImportSurvey;
 use crate::chain_starts::chain_starts;
 use crate::homes::span_of;
 use crate::limits::library_count;
@@ -106,11 +106,16 @@ fn survey(image: &Image, chains: Bytes) -> ChainSurvey
             ..ChainSurvey::unbroken()
         };
     };
+    let ImportSurvey {
+        imports,
+        total,
+        library,
+    } = ImportSurvey::of(chains, header, library_count(image));
     ChainSurvey {
         header: None,
         starts: chain_starts(image, chains, header),
-        imports: chain_imports(chains, header),
-        total: chain_total(chains, header),
-        library: chain_library(chains, header, library_count(image)),
+        imports,
+        total,
+        library,
     }
 }
