@@ -8,10 +8,12 @@ use Rattle.macho_fields.specs.Universal.{FileSlice, slices_of}
 use Rattle.macho_fields.specs.declared.header.loader.TheConstants as loader
 use Rattle.macho_fields.specs.declared.rule.Rule.{Rule}
 use Rattle.macho_fields.specs.declared.rule.Rule.TheVariants as rule
+use Rattle.macho_linked.specs.ChainPointers.{pointer_of}
 use Rattle.macho_linked.specs.Kinds.{share_kind}
 use Rattle.macho_linked.specs.Limits.{budget_of, library_count}
+use Rattle.macho_linked.specs.declared.chain_starts.PointerFormat.{PointerFormat}
 use Rattle.macho_linked.specs.declared.fixup_chains.TheConstants as chained
-use Rattle.macho_c.specs.Explain.{all_loads, IsCommandAt, IsSectionAt, IsSymbolAt, no_index, word_at}
+use Rattle.macho_c.specs.Explain.{all_loads, IsCommandAt, IsSectionAt, IsSymbolAt, no_index, long_at, word_at}
 use Rattle.macho_c.specs.Segments.{last_address}
 use Rattle.macho_c.specs.declared.explain.conflict.Conflict.{Conflict}
 use Rattle.macho_c.specs.declared.explain.spot.Spot.{Spot}
@@ -56,6 +58,11 @@ IsChainSize image size =
     (index : ℕ) × (command : ℕ) × (slice_get (all_loads image) index ≡ Some command)
     × (command_cmd image command ≡ loader.LC_DYLD_CHAINED_FIXUPS)
     × (size ≡ word_at image (command + 12))
+
+-- the 64 bits at the place are a pointer that binds the import with this ordinal
+abbrev pub Binds : List ℕ → ℕ → ℕ → Type 0
+Binds image place ordinal =
+    (format : PointerFormat) × ((pointer_of format (long_at image place)).import ≡ Some ordinal)
 
 -- what is shown of a rule of an image that is broken at a place of it
 abbrev pub Shows : Rule → List ℕ → ℕ → Conflict → Type 0
@@ -109,6 +116,7 @@ Shows rule.ChainStarts image place c =
 Shows rule.ChainImports image place c = IsChainSize image c.limit
 Shows rule.ChainTotal image place c = IsChainSize image c.limit
 Shows rule.ChainLibrary image place c = c.limit ≡ library_count image
+Shows rule.ChainBind image place c = Binds image place c.value
 Shows other image place c = Unit {0}
 
 -- the slice with the index has P

@@ -3,7 +3,9 @@
 ghost use Rattle.std.specs.Prelude.{◌≡◌, IfSome};
 ghost use Rattle.macho_fields.specs.Bytes.{bytes_of};
 ghost use Rattle.macho_fields.specs.declared.rule.Rule.{Rule};
+ghost use Rattle.macho_linked.specs.ChainPointers.{pointer_of};
 ghost use Rattle.macho_c.specs.Compared.{IsFound};
+ghost use Rattle.macho_c.specs.Explain.{long_at};
 
 use crate::explain::chains::{Chains, header_at};
 use crate::explain::conflict::Conflict;
@@ -16,7 +18,9 @@ use macho_image::Image;
 use macho_linked::chain_pages::plain_room;
 use macho_linked::chain_pointers::ChainPointer;
 use macho_linked::chain_starts::SegmentStarts;
-use macho_linked::fixup_chains::{DYLD_CHAINED_STARTS_IN_SEGMENT_SIZE, PAGE_START_SIZE};
+use macho_linked::fixup_chains::{
+    DYLD_CHAINED_PTR_START_NONE, DYLD_CHAINED_STARTS_IN_SEGMENT_SIZE, PAGE_START_SIZE,
+};
 use macho_linked::step::POINTER_SIZE;
 
 // A segment that has starts.
@@ -103,9 +107,12 @@ fn page_at(chains: &Chains, starts: &SegmentStarts, place: u64) -> Option<u16> {
     Some(page)
 }
 
-// The start of a page, at the place. It leads to the first pointer.
+// The start of a page, at the place. It leads to the first pointer, if the page has a chain.
 fn from_start(sliced: &Sliced, segment: &Chained, page: u16, place: u64) -> Option<Lead> {
     let start = sliced.held.bytes.u16_at(Order::Little, place)?;
+    if start == DYLD_CHAINED_PTR_START_NONE {
+        return None;
+    }
     Some(Lead {
         at: sliced.structure(PAGE_START, place, PAGE_START_SIZE, u32::from(page)),
         page,
@@ -114,12 +121,14 @@ fn from_start(sliced: &Sliced, segment: &Chained, page: u16, place: u64) -> Opti
 }
 
 // The pointer at the place. It leads to the next one.
-fn from_pointer(sliced: &Sliced, segment: &Chained, place: u64) -> Option<(Lead, ChainPointer)> {
+fn from_pointer(sliced: &Sliced, segment: &Chained, place: u64) -> Option<(Lead, ChainPointer)>
+    ensures { IfSome result (λ found. found.1
+        ≡ pointer_of segment.now.starts.format (long_at (bytes_of sliced.now.held.bytes) place)) }
+{
     let offset = place.checked_sub(segment.fileoff)?;
     let page_size = u64::from(segment.starts.page_size);
     let page = u16::try_from(offset.checked_div(page_size)?).ok()?;
-    let raw = sliced.held.bytes.u64_at(Order::Little, place)?;
-    let pointer = ChainPointer::of(segment.starts.format, raw);
+    let pointer = ChainPointer::of(segment.starts.format, sliced.long(place));
     let lead = Lead {
         at: sliced.structure(CHAIN_POINTER, place, POINTER_SIZE, u32::from(page)),
         page,
