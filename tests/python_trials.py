@@ -823,7 +823,8 @@ def judge_names_of_numbers(report):
                 ["arm64e"] * 2)
     none = [(0, 0), (7, 4), (-1, 3), (1 << 32 | 7, 3), (7, 1 << 32)]
     report.case("no architecture", [kesvuot.arch_name(*numbers) for numbers in none], [None] * len(none))
-    report.case("an architecture by its name", [kesvuot.arch_named("arm64e"), kesvuot.arch_named(b"arm64e")], [arm64e] * 2)
+    report.case("an architecture by its name", [kesvuot.arch_named(name) for name in ("arm64e", b"arm64e")],
+                [arm64e] * 2)
     report.case("no architecture has the name", [kesvuot.arch_named(name) for name in ("", "arm", "arm64e\0", "ARM64")],
                 [None] * 4)
 

@@ -48,6 +48,6 @@ from ._opcodes import Bind, OpcodeError, Rebase
 from ._rows import Build, Command, Library, Relocation, Section, Segment, Symbol, Table
 
 __all__ = ["verify", "verify_file", "verify_linked", "explain", "library_version", "arch_name", "arch_named",
-           "command_name", "platform_name", "constants", "Refused", "Explanation", "Part", "File", "Slice", "Image", "Source", "SourceKind",
-           "Table", "Segment", "Section", "Library", "Build", "Command", "Symbol", "Relocation", "BoundedTable", "Symtab",
-           "Dysymtab", "Rebase", "Bind", "OpcodeError"]
+           "command_name", "platform_name", "constants", "Refused", "Explanation", "Part", "File", "Slice", "Image",
+           "Source", "SourceKind", "Table", "Segment", "Section", "Library", "Build", "Command", "Symbol", "Relocation",
+           "BoundedTable", "Symtab", "Dysymtab", "Rebase", "Bind", "OpcodeError"]
