@@ -14,7 +14,7 @@ use crate::explain::part::{
 use crate::explain::pointers::{chain_bind, chain_slot};
 use crate::explain::segment::segment_at;
 use crate::explain::sliced::Sliced;
-use crate::explain::spot::Spot;
+use crate::explain::spot::{Spot, command_spot};
 use crate::explain::table::{Bounded, table_by, tables_of};
 use crate::explain::walk::{Sought, walk_to};
 use macho_fields::header::loader::LC_DYLD_CHAINED_FIXUPS;
@@ -40,9 +40,9 @@ pub(crate) struct Chains<'a> {
 pub(crate) fn explain_chains(sliced: &Sliced, rule: Rule, place: u64) -> Option<(Spot, Conflict)>
     ensures { IfSome result (IsFound rule (bytes_of sliced.now.held.bytes) place) }
 {
-    let table = chain_table(sliced)?;
+    let (command, table) = chain_table(sliced)?;
     if rule == Rule::ChainHeader {
-        return chain_header(sliced, &table, place);
+        return chain_header(sliced, command, &table, place);
     }
     let bytes = Bytes::new(sliced.held.bytes.part(table.span)?);
     let header = ChainHeader::read(bytes)?;
@@ -62,28 +62,48 @@ pub(crate) fn explain_chains(sliced: &Sliced, rule: Rule, place: u64) -> Option<
     }
 }
 
-// The table, if it has bytes.
-fn chain_table(sliced: &Sliced) -> Option<Bounded>
-    ensures { IfSome result (λ table. IsChainSize (bytes_of sliced.now.held.bytes) table.span.len) }
+// Where the command begins that names the table, and the table, which may have no bytes.
+fn chain_table(sliced: &Sliced) -> Option<(u64, Bounded)>
+    ensures { IfSome result (λ found. IsChainSize (bytes_of sliced.now.held.bytes) found.1.span.len) }
 {
     let walked = walk_to(sliced.held.bytes, Sought::First(LC_DYLD_CHAINED_FIXUPS))?;
     let fields = tables_of(LC_DYLD_CHAINED_FIXUPS).first()?;
     let table = table_by(sliced, walked.load.place, *fields, 0);
-    if table.span.len == 0 {
-        return None;
-    }
-    Some(table)
+    Some((walked.load.place, table))
 }
 
-// Explains the header: the table is shorter, or a field is not known.
-fn chain_header(sliced: &Sliced, table: &Bounded, place: u64) -> Option<(Spot, Conflict)>
+// Explains the header: there is no table, it is shorter, or a field is not known.
+fn chain_header(
+    sliced: &Sliced,
+    command: u64,
+    table: &Bounded,
+    place: u64,
+) -> Option<(Spot, Conflict)>
     requires { IsChainSize (bytes_of sliced.now.held.bytes) table.now.span.len }
     ensures { IfSome result (IsFound Rule.ChainHeader (bytes_of sliced.now.held.bytes) place) }
 {
-    let at = header_at(sliced, table, place)?;
     let size = table.span.len;
+    if size == 0 {
+        let spot = at_command(sliced, command, place)?;
+        return Some((
+            spot,
+            Conflict::numbers(size, DYLD_CHAINED_FIXUPS_HEADER_SIZE),
+        ));
+    }
+    let at = header_at(sliced, table, place)?;
     let conflict = Conflict::alone(table.part, size, DYLD_CHAINED_FIXUPS_HEADER_SIZE);
     Some((Spot::of(at), conflict))
+}
+
+// The command, if it begins at the place.
+fn at_command(sliced: &Sliced, command: u64, place: u64) -> Option<Spot>
+    ensures { IfSome result (IsSpot (bytes_of sliced.now.held.bytes) place) }
+{
+    if place != command {
+        return None;
+    }
+    let walked = walk_to(sliced.held.bytes, Sought::At(place))?;
+    Some(command_spot(sliced, &walked, place))
 }
 
 // The header of a table that begins at the place, or all of a table that has fewer bytes.

@@ -8,15 +8,17 @@ ghost use Rattle.macho_c.specs.Compared.{IsFound, Shows};
 use crate::explain::conflict::Conflict;
 use crate::explain::entries::{arch_number, entry_part};
 use crate::explain::part::{HEADER, NO_INDEX, NO_PART};
-use crate::explain::segment::{SegmentWith, find_segment};
+use crate::explain::segment::{SegmentWith, find_segment, segment_at};
 use crate::explain::sliced::Sliced;
 use crate::explain::spot::Spot;
 use crate::explain::walk::{Sought, walk_end, walk_to};
 use macho_fat::Slice;
 use macho_fields::header::loader::{LC_ID_DYLIB, MACH_HEADER_64_SIZE};
 use macho_fields::header::machine::CPU_SUBTYPE_MASK;
-use macho_fields::header::vm_prot::VM_PROT_READ;
+use macho_fields::header::vm_prot::{VM_PROT_READ, VM_PROT_WRITE};
 use macho_fields::{Bytes, Rule, file_type_of};
+use macho_image::Segment;
+use macho_linked::segment::is_text;
 
 // The offsets of the fields in `mach_header_64`.
 const CPUTYPE: u64 = 4;
@@ -132,16 +134,33 @@ fn header_segment(sliced: &Sliced) -> Conflict
     }
 }
 
-// The segment that has the base, and its protection.
+// The segment that has the base, and its protection; or the address for which a loader takes the base.
 fn header_home(sliced: &Sliced) -> Conflict {
     let wanted = u64::from(VM_PROT_READ);
-    match find_segment(sliced, SegmentWith::Base) {
-        Some(segment) => Conflict::of(
-            sliced.headers(),
-            sliced.segment(&segment),
-            u64::from(segment.row.initprot),
-            wanted,
-        ),
-        None => Conflict::alone(sliced.headers(), 0, wanted),
+    let Some(segment) = find_segment(sliced, SegmentWith::Base) else {
+        return Conflict::alone(sliced.headers(), 0, wanted);
+    };
+    let row = segment.row;
+    if row.initprot & VM_PROT_READ != 0 && row.initprot & VM_PROT_WRITE == 0 {
+        return text_home(sliced, row.vmaddr);
     }
+    let part = sliced.segment(&segment);
+    Conflict::of(sliced.headers(), part, u64::from(row.initprot), wanted)
+}
+
+// The first segment named `__TEXT` that is not at the base, if there is one, and its address.
+fn text_home(sliced: &Sliced, base: u64) -> Conflict {
+    match text_elsewhere(sliced, base) {
+        Some(segment) => {
+            let part = segment_at(sliced, segment.place());
+            Conflict::of(sliced.headers(), part, segment.vmaddr(), base)
+        }
+        None => Conflict::alone(sliced.headers(), 0, base),
+    }
+}
+
+// The first segment named `__TEXT` that is not at the base.
+fn text_elsewhere<'a>(sliced: &Sliced<'a>, base: u64) -> Option<Segment<'a>> {
+    let mut segments = sliced.held.open()?.segments();
+    segments.find(|segment| is_text(segment) && segment.vmaddr() != base)
 }
