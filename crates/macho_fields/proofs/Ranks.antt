@@ -1,7 +1,7 @@
 -- The order of the rules, and which of them a file breaks and which an image.
-use Rattle.std.proofs.Common.{◌≡◌, ℕ, suc, zero, ◌≤◌, ◌<◌, List, Option, None, slice_get, refl, ap, ◌∙◌, arith, lit≤, inl, inr, rules}
+use Rattle.std.proofs.Common.{◌≡◌, ℕ, suc, zero, ◌≤◌, ◌<◌, List, Option, None, slice_get, refl, ap, ◌∙◌, arith, lit≤, inl, inr}
 use Rattle.macho_fields.specs.Universal.{IsUniversal, IsImage}
-use Rattle.macho_fields.specs.Rules.{BreaksFile, BreaksHeader, BreaksImage}
+use Rattle.macho_fields.specs.Rules.{BreaksFile, BreaksHeader, BreaksCommands, BreaksImage}
 use Rattle.macho_fields.specs.First.{IsBrokenIn, IsFirstBroken}
 use Rattle.macho_fields.specs.RuleList.{rank, profile_of}
 use Rattle.macho_fields.specs.Universal.{slices_of}
@@ -31,27 +31,77 @@ rank_least other = lit≤ tt
 -- a file that is an image, and not universal, breaks no rule of the file
 pub plain_image_keeps_file_rules : (file : List ℕ) → ¬ IsUniversal file → IsImage file → (r : Rule) (place : ℕ) → ¬ BreaksFile file r place
 plain_image_keeps_file_rules file plain is rule.Magic place n = n.1 (inr is)
-plain_image_keeps_file_rules file plain is other place n = search rules
+plain_image_keeps_file_rules file plain is rule.FatTruncated place n = plain n.1
+plain_image_keeps_file_rules file plain is rule.FatSliceOutside place n = plain n.0
+plain_image_keeps_file_rules file plain is rule.FatSliceInTable place n = plain n.0
+plain_image_keeps_file_rules file plain is rule.FatAlign place n = plain n.0
+plain_image_keeps_file_rules file plain is rule.FatOverlap place n = plain n.0
+plain_image_keeps_file_rules file plain is rule.FatDuplicate place n = plain n.0
+plain_image_keeps_file_rules file plain is rule.FatSliceMagic place n = plain n.0
+plain_image_keeps_file_rules file plain is rule.FatEmpty place n = plain n.1
+plain_image_keeps_file_rules file plain is other place n = n
+
+-- Where the rules stand that a file breaks, that a header breaks, and that need the commands. An arm for each, since a
+-- search would go over all rules.
+of_file : (file : List ℕ) (r : Rule) (place : ℕ) → BreaksFile file r place → (rank r ≤ rank rule.FatEmpty) × (profile_of r ≡ Layout)
+of_file file rule.Magic place h = (lit≤ tt, refl)
+of_file file rule.FatTruncated place h = (lit≤ tt, refl)
+of_file file rule.FatSliceOutside place h = (lit≤ tt, refl)
+of_file file rule.FatSliceInTable place h = (lit≤ tt, refl)
+of_file file rule.FatAlign place h = (lit≤ tt, refl)
+of_file file rule.FatOverlap place h = (lit≤ tt, refl)
+of_file file rule.FatDuplicate place h = (lit≤ tt, refl)
+of_file file rule.FatSliceMagic place h = (lit≤ tt, refl)
+of_file file rule.FatEmpty place h = (lit≤ tt, refl)
+of_file file other place h = absurd h
+
+of_header : (image : List ℕ) (arch : Option (ℕ × ℕ)) (r : Rule) (place : ℕ) → BreaksHeader image arch r place
+    → (rank rule.HeaderTruncated ≤ rank r) × (rank r < rank rule.CommandShort) × (profile_of r ≡ Layout)
+of_header image arch rule.HeaderTruncated place h = (lit≤ tt, lit≤ tt, refl)
+of_header image arch rule.ArchMismatch place h = (lit≤ tt, lit≤ tt, refl)
+of_header image arch rule.FileType place h = (lit≤ tt, lit≤ tt, refl)
+of_header image arch rule.CommandsOutside place h = (lit≤ tt, lit≤ tt, refl)
+of_header image arch rule.CommandWalk place h = (lit≤ tt, lit≤ tt, refl)
+of_header image arch other place h = absurd h
+
+of_commands : (image commands : List ℕ) (r : Rule) (place : ℕ) → BreaksCommands image commands r place
+    → (rank rule.CommandShort ≤ rank r) × (rank r ≤ rank rule.Entry) × (profile_of r ≡ Layout)
+of_commands image commands rule.CommandShort place h = (lit≤ tt, lit≤ tt, refl)
+of_commands image commands rule.CommandRepeated place h = (lit≤ tt, lit≤ tt, refl)
+of_commands image commands rule.DylibId place h = (lit≤ tt, lit≤ tt, refl)
+of_commands image commands rule.Name place h = (lit≤ tt, lit≤ tt, refl)
+of_commands image commands rule.SegmentAddress place h = (lit≤ tt, lit≤ tt, refl)
+of_commands image commands rule.SegmentSize place h = (lit≤ tt, lit≤ tt, refl)
+of_commands image commands rule.SegmentFile place h = (lit≤ tt, lit≤ tt, refl)
+of_commands image commands rule.SegmentOverlap place h = (lit≤ tt, lit≤ tt, refl)
+of_commands image commands rule.SectionAddress place h = (lit≤ tt, lit≤ tt, refl)
+of_commands image commands rule.SectionFile place h = (lit≤ tt, lit≤ tt, refl)
+of_commands image commands rule.SectionRelocs place h = (lit≤ tt, lit≤ tt, refl)
+of_commands image commands rule.TableRange place h = (lit≤ tt, lit≤ tt, refl)
+of_commands image commands rule.SymbolGroup place h = (lit≤ tt, lit≤ tt, refl)
+of_commands image commands rule.SymbolName place h = (lit≤ tt, lit≤ tt, refl)
+of_commands image commands rule.SymbolSection place h = (lit≤ tt, lit≤ tt, refl)
+of_commands image commands rule.IndirectIndex place h = (lit≤ tt, lit≤ tt, refl)
+of_commands image commands rule.Entry place h = (lit≤ tt, lit≤ tt, refl)
+of_commands image commands other place h = absurd h
 
 -- a rule that a file breaks comes no later than the last of the file
 pub file_rule_rank : (file : List ℕ) (r : Rule) (place : ℕ) → BreaksFile file r place → rank r ≤ rank rule.FatEmpty
-file_rule_rank file rule.Magic place n = search rules
-file_rule_rank file other place n = search rules
+file_rule_rank file r place h = (of_file file r place h).0
 
 -- and a rule that an image breaks no later than the last of the layout
 pub layout_rule_rank : (image : List ℕ) (arch : Option (ℕ × ℕ)) (r : Rule) (place : ℕ) → BreaksImage image arch r place → rank r ≤ rank rule.Entry
-layout_rule_rank image arch rule.Magic place h = search rules
-layout_rule_rank image arch other place h = search rules
+layout_rule_rank image arch r place (inl h) = let early = (of_header image arch r place h).1 in omega arith
+layout_rule_rank image arch r place (inr (commands, are, h)) = (of_commands image commands r place h).1
 
 -- a rule that an image breaks comes after the rules of the file
 pub image_rule_rank : (image : List ℕ) (arch : Option (ℕ × ℕ)) (r : Rule) (place : ℕ) → BreaksImage image arch r place → rank rule.HeaderTruncated ≤ rank r
-image_rule_rank image arch rule.Magic place h = search rules
-image_rule_rank image arch other place h = search rules
+image_rule_rank image arch r place (inl h) = (of_header image arch r place h).0
+image_rule_rank image arch r place (inr (commands, are, h)) = let late = (of_commands image commands r place h).0 in omega arith
 
 -- a rule that a header breaks comes before those of the commands
 pub header_rule_rank : (image : List ℕ) (arch : Option (ℕ × ℕ)) (r : Rule) (place : ℕ) → BreaksHeader image arch r place → rank r < rank rule.CommandShort
-header_rule_rank image arch rule.Magic place h = search rules
-header_rule_rank image arch other place h = search rules
+header_rule_rank image arch r place h = (of_header image arch r place h).1
 
 -- what a header breaks where it is compared with no architecture it breaks where it is
 pub header_alone : (image : List ℕ) (arch : Option (ℕ × ℕ)) (r : Rule) (place : ℕ) → BreaksHeader image None r place → BreaksHeader image arch r place
@@ -69,12 +119,11 @@ commands_alone image arch r place late (inr h) = inr h
 
 -- What a file breaks, or an image, is of the layout
 file_of_layout : (file : List ℕ) (r : Rule) (place : ℕ) → BreaksFile file r place → profile_of r ≡ Layout
-file_of_layout file rule.Magic place h = refl
-file_of_layout file other place h = search rules
+file_of_layout file r place h = (of_file file r place h).1
 
 image_of_layout : (image : List ℕ) (arch : Option (ℕ × ℕ)) (r : Rule) (place : ℕ) → BreaksImage image arch r place → profile_of r ≡ Layout
-image_of_layout image arch rule.Magic place h = refl
-image_of_layout image arch other place h = search rules
+image_of_layout image arch r place (inl h) = (of_header image arch r place h).2
+image_of_layout image arch r place (inr (commands, are, h)) = (of_commands image commands r place h).2
 
 scope_of_layout : (file : List ℕ) (scope : ℕ) (r : Rule) (place : ℕ) → IsBrokenIn file scope r place → profile_of r ≡ Layout
 scope_of_layout file zero r place h = file_of_layout file r place h
