@@ -135,7 +135,8 @@ rules! {
     FunctionVariants = 42,
     /// Linked: a table is not in a `__LINKEDIT` that can be read and not written, or is encrypted.
     TableHome = 43,
-    /// Linked: there is a table, and the headers cannot be read in memory, or can be written.
+    /// Linked: there is a table, and the headers cannot be read in memory, or can be written, or are not
+    /// where a segment named `__TEXT` is.
     HeaderHome = 44,
     /// Linked: an opcode of the rebase stream is not known, or an operand of it is wrong.
     RebaseOpcode = 45,
@@ -155,8 +156,8 @@ rules! {
     BindTotal = 52,
     /// Linked: the names that a bind stream looks up have more bytes than the stream.
     BindNames = 53,
-    /// Linked: the header of chained fixups is not all in their table, or is of no known version or
-    /// format.
+    /// Linked: a command names no table of chained fixups; or their header is not all in the table, or is
+    /// of no known version or format.
     ChainHeader = 54,
     /// Linked: the table of chained fixups has entries for more segments than there are; or the
     /// starts of a segment's chains are not all in it, are of no known format, are none of a writable
