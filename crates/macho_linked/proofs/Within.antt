@@ -23,7 +23,7 @@ either : {X : Type 0} (stream : List ℕ) (next : ℕ) (b : Bool) (x y : Option 
 either stream next true x y first second = first
 either stream next false x y first second = second
 
-part_of : (b : Bool) (given bytes : List ℕ) → cond b (Some given) None ≡ Some bytes → given ≡ bytes
+pub part_of : {X : Type 0} (b : Bool) (given bytes : X) → cond b (Some given) None ≡ Some bytes → given ≡ bytes
 part_of true given bytes is = cc
 part_of false given bytes is = absurd (cc)
 
@@ -32,7 +32,7 @@ further stream next later less None is = tt
 further stream next later less (Some r) is = (omega arith, is.1)
 
 -- A number
-number_whole : (stream bytes : List ℕ) → number_bytes stream ≡ Some bytes → length bytes ≤ length stream
+pub number_whole : (stream bytes : List ℕ) → number_bytes stream ≡ Some bytes → length bytes ≤ length stream
 unfolding number_bytes
 number_whole stream bytes is =
     let size = position_or_len (λ byte. nat_lt byte 0x80) stream + 1 in

@@ -1,4 +1,5 @@
 pub mod Numbers
+pub mod FunctionStarts
 pub mod Opcodes
 pub mod Steps
 pub mod Cursor

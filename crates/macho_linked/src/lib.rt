@@ -11,6 +11,7 @@ pub mod chains;
 mod check;
 pub mod cursor;
 pub mod fixup_chains;
+pub mod function_starts;
 pub mod homes;
 pub mod kinds;
 pub mod law;
