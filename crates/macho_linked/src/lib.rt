@@ -10,6 +10,7 @@ pub mod chain_starts;
 pub mod chains;
 mod check;
 pub mod cursor;
+pub mod data_in_code;
 pub mod fixup_chains;
 pub mod function_starts;
 pub mod homes;
