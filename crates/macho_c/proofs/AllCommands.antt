@@ -9,7 +9,7 @@ use Rattle.macho_fields.specs.LoadCommands.{structure_of, structure_size}
 use Rattle.macho_fields.specs.Segment.{segments_of}
 use Rattle.macho_fields.specs.declared.header.loader.TheConstants as loader
 use Rattle.macho_fields.specs.declared.load_command.Structure.{Structure}
-use Rattle.macho_fields.specs.declared.load_command.Structure.TheVariants.{BuildVersionCommand, DylibCommand, SymtabCommand, DysymtabCommand, DyldInfoCommand, EncryptionInfoCommand64}
+use Rattle.macho_fields.specs.declared.load_command.Structure.TheVariants.{BuildVersionCommand, DylibCommand, SymtabCommand, DysymtabCommand, DyldInfoCommand, EncryptionInfoCommand64, LinkeditDataCommand}
 use Rattle.macho_fields.proofs.LoadCommands.{library_structure}
 use Rattle.macho_fields.proofs.Opened.{structure_inside, sections_inside, command_inside}
 use Rattle.std.specs.Option.{option_map, option_map_or}
@@ -142,6 +142,9 @@ module _ (image : List ℕ) (opened : IsOpened image) where
 
   pub encryption_infos_wanted : wanted_left wanted.EncryptionInfos image start ≡ bounding wanted.EncryptionInfos image
   encryption_infos_wanted = structures_wanted EncryptionInfoCommand64 (has_cmd wanted.EncryptionInfos) (by_cmd loader.LC_ENCRYPTION_INFO_64 EncryptionInfoCommand64 refl)
+
+  pub data_wanted : (cmd : ℕ) → structure_of cmd ≡ Some LinkeditDataCommand → wanted_left (wanted.LinkeditData cmd) image start ≡ with_cmd image cmd (commands_of image)
+  data_wanted cmd listed = structures_wanted LinkeditDataCommand (λ other. other == cmd) (by_cmd cmd LinkeditDataCommand listed)
 
   -- the libraries that are loaded are no more than the commands
   pub libraries_few : (place : ℕ) → length (libraries_left place image start) ≤ length (commands_in image)

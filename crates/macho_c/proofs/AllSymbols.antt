@@ -88,7 +88,7 @@ in_front xs n k other less = elim (cases_lt k (length xs)) [
 fits_inside : (image : List ℕ) (start n each : ℕ) → ¬ IsOutside image (start, n, each) → 0 < n → start + n * each ≤ length image
 fits_inside image start n each inside some = elim (cases_lt (length image) (start + n * each)) [ inl past ↦ absurd (inside (some, past)) | inr most ↦ most ]
 
-no_items : (image : List ℕ) (start each : ℕ) → items_inside image start each 0 ≡ []
+pub no_items : (image : List ℕ) (start each : ℕ) → items_inside image start each 0 ≡ []
 no_items image start each = elim (cases_Bool (nat_le (start + each * 0) (length image))) [ inl t ↦ rw t refl | inr f ↦ rw f refl ]
 
 pub items_counted : (image : List ℕ) (start each n : ℕ) → ¬ IsOutside image (start, n, each) → length (items_inside image start each n) ≡ n

@@ -7,7 +7,9 @@ pub mod BoundedTables
 pub mod Counts
 pub mod Data
 pub mod Ended
+pub mod Entries
 pub mod Loads
+pub mod NamedData
 pub mod NamedSymbols
 pub mod NearestSymbol
 pub mod Numbered
@@ -17,6 +19,7 @@ pub mod Ranged
 pub mod Reached
 pub mod Relocated
 pub mod ShownSymbols
+pub mod Started
 pub mod Supplied
 pub mod SymbolWalks
 pub mod SymbolsAt

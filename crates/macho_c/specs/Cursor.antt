@@ -1,10 +1,14 @@
 -- A batch of rows of a table, which a cursor of the caller reads on.
-use Rattle.std.specs.Prelude.{◌≡◌, ℕ, ◌≤◌, ◌⊎◌, List, [], ◌++◌, length, take, drop}
+use Rattle.std.specs.Prelude.{◌≡◌, ℕ, ◌==◌, ◌≤◌, ◌⊎◌, List, [], ◌++◌, length, take, drop, if◌then◌else◌}
 use Rattle.macho_c.specs.declared.cursor.KesvuotCursor.{KesvuotCursor}
 
 -- the cursor of the first row of any table
 abbrev pub start : KesvuotCursor
 start = record { place = 0; commands = 0; segment = 0; items = 0 }
+
+-- a cursor at which a table is read on, from the one of its first row where `place` is 0
+abbrev pub begun : KesvuotCursor → KesvuotCursor → KesvuotCursor
+begun first cursor = if cursor.place == 0 then first else cursor
 
 -- `left` has the rows that remain at a cursor, which was `before` and now is `after`. The table had
 -- `old`, and has `new`: the first n rows of it and those that now remain are those that remained before.

@@ -4,8 +4,10 @@ pub mod Builds
 pub mod Commands
 pub mod Compared
 pub mod Cursor
+pub mod DataInCode
 pub mod Explain
 pub mod Explained
+pub mod FunctionStarts
 pub mod Image
 pub mod Layout
 pub mod Libraries

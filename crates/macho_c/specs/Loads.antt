@@ -100,6 +100,11 @@ is_encryption_info image command =
     (command_cmd image command == loader.LC_ENCRYPTION_INFO_64)
     && nat_le 24 (command_size image command)
 
+-- linkedit_data_command has 16
+abbrev pub is_linkedit_data : ℕ → List ℕ → ℕ → Bool
+is_linkedit_data cmd image command =
+    (command_cmd image command == cmd) && nat_le 16 (command_size image command)
+
 abbrev pub is_wanted : Wanted → List ℕ → ℕ → Bool
 is_wanted wanted.All image command = true
 is_wanted wanted.Segments image command = is_segment image command
@@ -110,6 +115,7 @@ is_wanted wanted.Symtabs image command = is_symtab image command
 is_wanted wanted.Dysymtabs image command = is_dysymtab image command
 is_wanted wanted.DyldInfos image command = has_dyld_info image command
 is_wanted wanted.EncryptionInfos image command = is_encryption_info image command
+is_wanted (wanted.LinkeditData cmd) image command = is_linkedit_data cmd image command
 
 -- those that remain at a cursor
 abbrev pub wanted_left : Wanted → List ℕ → KesvuotCursor → List ℕ

@@ -37,7 +37,7 @@ use macho_image::{Image, Symtab};
 /// `LC_UUID` is there.
 const HAS_UUID: u32 = 1;
 /// A segment shows the start of the image.
-const HAS_BASE: u32 = 2;
+pub(crate) const HAS_BASE: u32 = 2;
 /// `LC_MAIN` and a base are there, and the address of the entry is below 2^64.
 const HAS_ENTRY: u32 = 4;
 /// `LC_SYMTAB` is there.

@@ -5,17 +5,18 @@ ghost use Rattle.macho_fields.specs.Bytes.{bytes_of};
 ghost use Rattle.macho_fields.specs.LoadCommands.{structure_of, structure_size};
 ghost use Rattle.macho_fields.specs.declared.load_command.Structure.TheVariants.{LinkeditDataCommand};
 ghost use Rattle.macho_image.specs.Opened.{IsOpened};
-ghost use Rattle.macho_c.specs.Linkedit.{IsAnswer, IsData, PassesImage};
+ghost use Rattle.macho_c.specs.Linkedit.{IsAnswer, IsData, PassesImage, named_data};
 ghost use Rattle.macho_c.specs.Image.{image_in};
 ghost use Rattle.macho_c.specs.Rows.{IsBrokenImage, HasUnbrokenHeaders};
 ghost use Rattle.macho_c.specs.Spans.{span_at};
 ghost use Rattle.macho_c.specs.Status.{KESVUOT_NONE};
 
 use crate::image::KesvuotImage;
+use crate::load::{Wanted, first_wanted};
 use crate::span::{Held, KesvuotSpan, NO_SPAN};
 use crate::status::{NONE, OK};
 use macho_fields::header::loader::linkedit_data_command::{DATAOFF, DATASIZE};
-use macho_fields::{Order, Span, Structure, structure_of};
+use macho_fields::{Bytes, Order, Span, Structure, structure_of};
 use macho_image::Image;
 
 /// Writes where the data lies in the file that the first `linkedit_data_command` with this `cmd` names.
@@ -86,3 +87,22 @@ fn data_at(held: &Held, command: u64) -> Option<KesvuotSpan>
     let bytes = held.bytes.part(data)?;
     Some(held.span_of(data.start, bytes))
 }
+
+// The data in an image that the first `linkedit_data_command` with this `cmd` names that holds its structure,
+// by its place in the image. It is empty if there is none, or if it ends past the image.
+pub(crate) fn named_data(image: Bytes, cmd: u32) -> Span
+    ensures start { result.start ≡ (named_data cmd (bytes_of image.entry)).0 }
+    ensures len { result.len ≡ (named_data cmd (bytes_of image.entry)).1 }
+{
+    let Some(command) = first_wanted(image, Wanted::LinkeditData(cmd)) else {
+        return NO_DATA;
+    };
+    let data = Span {
+        start: u64::from(image.read_u32(Order::Little, command.place + DATAOFF)),
+        len: u64::from(image.read_u32(Order::Little, command.place + DATASIZE)),
+    };
+    if image.contains(data) { data } else { NO_DATA }
+}
+
+// No data.
+const NO_DATA: Span = Span { start: 0, len: 0 };

@@ -52,6 +52,8 @@ const DYLD_INFO_COMMAND_SIZE: u64 = 48;
 
 const ENCRYPTION_INFO_COMMAND_64_SIZE: u64 = 24;
 
+const LINKEDIT_DATA_COMMAND_SIZE: u64 = 16;
+
 // A load command: it lies among the commands of the image. (`load_command`)
 #[derive(Clone, Copy)]
 pub(crate) struct Load {
@@ -75,6 +77,8 @@ pub(crate) enum Wanted {
     Dysymtabs,
     DyldInfos,
     EncryptionInfos,
+    // Those with this `cmd`, which is that of a `linkedit_data_command`.
+    LinkeditData(u32),
 }
 
 // The first load command that is wanted.
@@ -173,6 +177,7 @@ fn is_wanted(image: Bytes, load: Load, wanted: Wanted) -> bool
         Wanted::EncryptionInfos => {
             load.cmd == LC_ENCRYPTION_INFO_64 && load.size >= ENCRYPTION_INFO_COMMAND_64_SIZE
         }
+        Wanted::LinkeditData(cmd) => load.cmd == cmd && load.size >= LINKEDIT_DATA_COMMAND_SIZE,
     }
 }
 

@@ -1,0 +1,122 @@
+//! The data in the code of an image. (`mach-o/loader.h`: `LC_DATA_IN_CODE`)
+
+ghost use Rattle.std.specs.Prelude.{◌≡◌, ◌+◌, ◌≤◌, length};
+ghost use Rattle.macho_fields.specs.Bytes.{bytes_of};
+ghost use Rattle.macho_c.specs.Cursor.{start, begun, IsBatch};
+ghost use Rattle.macho_c.specs.DataInCode.{entry_row, first_entry, entries_left, HasAllEntries};
+ghost use Rattle.macho_c.specs.Image.{image_in, ShowsUnbroken};
+
+use crate::cursor::KesvuotCursor;
+use crate::image::KesvuotImage;
+use crate::linkedit::named_data;
+use crate::span::{Held, KesvuotSpan};
+use crate::table::{Table, fill};
+use macho_fields::Order;
+use macho_fields::header::loader::LC_DATA_IN_CODE;
+
+/// Data in code. (`data_in_code_entry`)
+#[repr(C)]
+#[derive(Clone, Copy)]
+pub struct KesvuotDataInCode {
+    /// Where the data lies in the file: nowhere if it ends past the image.
+    pub bytes: KesvuotSpan,
+    /// Where it begins in the image.
+    pub offset: u32,
+    pub length: u16,
+    pub kind: u16,
+}
+
+/// Writes the entries of the first `LC_DATA_IN_CODE` from the cursor on to the rows of the table, until either
+/// runs out, moves the cursor past them, and returns how many it wrote. Later rows are unchanged. Only the
+/// first batch looks for the command.
+#[unsafe(no_mangle)]
+pub extern "C" fn kesvuot_read_data_in_code(
+    file: &[u8],
+    image: &KesvuotImage,
+    cursor: &mut KesvuotCursor,
+    rows: &mut [KesvuotDataInCode],
+) -> usize
+    ensures rows { IsBatch (entries_left image.now.slice.offset (image_in file.now image.now)) cursor.old
+        cursor.new result rows.old rows.new }
+    ensures all { ShowsUnbroken file.now image.now
+        → HasAllEntries image.now.slice.offset (image_in file.now image.now)
+        (entries_left image.now.slice.offset (image_in file.now image.now) start) }
+{
+    let entries = DataInCode {
+        image: image.held(file),
+    };
+    fill(&entries, cursor, rows)
+}
+
+// The data in the code of an image.
+#[derive(Clone, Copy)]
+struct DataInCode<'a> {
+    image: Held<'a>,
+}
+
+impl<'a> DataInCode<'a> {
+    // Where the table is read on. The cursor has the place of the next entry in the image, and how many
+    // there are from there on.
+    fn begun(&self, cursor: &KesvuotCursor) -> KesvuotCursor
+        ensures { result ≡ begun (first_entry (bytes_of self.now.image.bytes)) cursor.now }
+    {
+        if cursor.place != 0 {
+            return *cursor;
+        }
+        let data = named_data(self.image.bytes, LC_DATA_IN_CODE);
+        KesvuotCursor {
+            place: data.start,
+            commands: 0,
+            segment: 0,
+            items: data.len / DATA_IN_CODE_ENTRY_SIZE,
+        }
+    }
+}
+
+impl<'a> Table for DataInCode<'a> {
+    ghost use Rattle.macho_fields.specs.Bytes.{bytes_of};
+    ghost use Rattle.macho_c.specs.DataInCode.{entries_left};
+
+    type Row = KesvuotDataInCode;
+
+    ghost left = { λ t. entries_left t.image.place (bytes_of t.image.bytes) };
+
+    fn next(&self, cursor: &mut KesvuotCursor) -> Option<KesvuotDataInCode> {
+        let at = self.begun(cursor);
+        if at.items == 0 {
+            return None;
+        }
+        if !self
+            .image
+            .bytes
+            .contains_table(at.place, at.items, DATA_IN_CODE_ENTRY_SIZE)
+        {
+            return None;
+        }
+        cursor.place = at.place + DATA_IN_CODE_ENTRY_SIZE;
+        cursor.items = at.items - 1;
+        Some(row_of(&self.image, at.place))
+    }
+}
+
+// The row of the entry at a place.
+fn row_of(image: &Held, place: u64) -> KesvuotDataInCode
+    requires { place + 8 ≤ length (bytes_of image.now.bytes) }
+    ensures { result ≡ entry_row image.now.place (bytes_of image.now.bytes) place }
+{
+    let offset = image.bytes.read_u32(Order::Little, place);
+    let length = image.bytes.read_u16(Order::Little, place + LENGTH);
+    KesvuotDataInCode {
+        bytes: image.part(u64::from(offset), u64::from(length)),
+        offset,
+        length,
+        kind: image.bytes.read_u16(Order::Little, place + KIND),
+    }
+}
+
+// The size of `data_in_code_entry`, and the offsets of `length` and `kind` in it.
+const DATA_IN_CODE_ENTRY_SIZE: u64 = 8;
+
+const LENGTH: u64 = 4;
+
+const KIND: u64 = 6;
