@@ -148,8 +148,8 @@ static const struct table tables[TABLE_COUNT] = {
     {read_indirects, sizeof(uint32_t), offsetof(struct kesvuot_image, indirect_count)},
 };
 
-// How many relocations of a section are read.
-enum { RELOCATIONS = 8 };
+// How many relocations of a section are read, and how many functions at once.
+enum { RELOCATIONS = 8, CODE_ROWS = 8 };
 
 // All rows of a table, and two more, which no call writes.
 struct rows {
@@ -288,6 +288,31 @@ static void check_relocations(const struct held *held, uint32_t reloff, uint32_t
         CHECK(row->symbolnum == (words[1] & 0xffffff) && row->pcrel == (words[1] >> 24 & 1));
         CHECK(row->length == (words[1] >> 25 & 3) && row->external == (words[1] >> 27 & 1));
         CHECK(row->type == words[1] >> 28);
+    }
+}
+
+// Some functions and some data in code, from a cursor on, in two batches.
+static void check_code(const struct held *held, struct kesvuot_cursor cursor) {
+    uint64_t starts[2 * CODE_ROWS + 1];
+    struct kesvuot_data_in_code data[CODE_ROWS + 1];
+    struct kesvuot_cursor next = cursor;
+    memset(starts, UNWRITTEN, sizeof starts);
+    memset(data, UNWRITTEN, sizeof data);
+    size_t count = kesvuot_read_function_starts(OF(held), &next, starts, CODE_ROWS);
+    const size_t more = kesvuot_read_function_starts(OF(held), &next, starts + count, CODE_ROWS);
+    CHECK(count == CODE_ROWS || more == 0);
+    count += more;
+    CHECK(is_unwritten((const uint8_t *)&starts[count], sizeof *starts));
+    for (size_t k = 1; k < count; k++) {
+        CHECK(starts[k - 1] < starts[k]);
+    }
+    count = kesvuot_read_data_in_code(OF(held), &cursor, data, CODE_ROWS);
+    CHECK(is_unwritten((const uint8_t *)&data[count], sizeof *data));
+    for (size_t k = 0; k < count; k++) {
+        check_inside(held, data[k].bytes);
+        if (!is_empty(data[k].bytes)) {
+            check_part(held, data[k].bytes, data[k].offset, data[k].length);
+        }
     }
 }
 
@@ -695,6 +720,8 @@ static void check_any(const struct held *held, struct kesvuot_cursor cursor, siz
     check_bounded(held, (uint32_t)cursor.items, &data);
     check_bounded(held, 1 + (uint32_t)cursor.place % KESVUOT_TABLE_ENCRYPTED, &data);
     check_relocations(held, (uint32_t)cursor.place, (uint32_t)cursor.segment, cursor.items, REFUSED);
+    check_code(held, cursor);
+    check_code(held, (struct kesvuot_cursor){0});
     uint64_t version;
     uint32_t status = kesvuot_find_source_version(OF(held), &version);
     CHECK(status == KESVUOT_OK || (status == KESVUOT_NONE && version == 0));

@@ -395,6 +395,26 @@ def wanted_relocations(image, section):
         yield address, *fields, int(address >= 1 << 31)
 
 
+def wanted_starts(image):
+    """The sums of the ULEB128 numbers from the base on, up to a number 0, or one that is none or too large."""
+    address, rest = image.base, wanted_data(image, 0x26) or b""
+    while address is not None and rest:
+        size = next((k + 1 for k, byte in enumerate(rest) if byte < 0x80), 11)
+        distance = sum((byte & 0x7f) << 7 * k for k, byte in enumerate(rest[:size]))
+        if size > 10 or distance == 0 or distance >= 1 << 64 or address + distance >= 1 << 64:
+            break
+        address, rest = address + distance, rest[size:]
+        yield address
+
+
+def wanted_data_in_code(image):
+    """The whole entries. Data that ends past the image has no bytes."""
+    entries = wanted_data(image, 0x29) or b""
+    for offset, length, kind in struct.iter_unpack("<I2H", entries[:len(entries) // 8 * 8]):
+        part = image.data[offset:offset + length]
+        yield part if len(part) == length else b"", offset, length, kind
+
+
 def wanted_table(image, structure, place, count, size):
     """The bytes of a table, by the names of the fields that bound it in the first command of this structure."""
     for it in image.listed:
@@ -480,6 +500,8 @@ def compare_image(found, wanted):
     yield "dynamic_linker", linker, wanted_paths(wanted, LC_LOAD_DYLINKER)[:1]
     for section, it in zip(found.sections, wanted.sections):
         yield "relocations", list(found.relocations(section)), list(wanted_relocations(wanted, it))
+    yield "function_starts", list(found.function_starts()), list(wanted_starts(wanted))
+    yield "data_in_code", list(map(as_bytes, found.data_in_code())), list(wanted_data_in_code(wanted))
     for table, fields in zip(kesvuot.BoundedTable, BOUNDED_TABLES):
         part = found.table(table)
         yield f"table {table.name}", None if part is None else part.tobytes(), wanted_table(wanted, *fields)

@@ -383,7 +383,10 @@ struct kesvuot_cursor {  /* the numbers are the library's own, and any are safe 
     uint64_t commands;   /* how many load commands are before it */
     uint64_t segment;    /* where the LC_SEGMENT_64 of the next section begins in the slice */
     uint64_t items;      /* of kesvuot_read_symbols, kesvuot_read_indirects and kesvuot_read_relocations the index of
-                            the next row, which you can also set; otherwise a count of sections */
+                            the next row, which you can also set; otherwise a count of sections. Of
+                            kesvuot_read_function_starts and kesvuot_read_data_in_code: `place` is where the next number
+                            or entry begins in the slice, `items` how many bytes or entries there are from there on, and
+                            `segment` the address of the last function */
 };
 
 struct kesvuot_segment {       /* LC_SEGMENT_64. No address is in two segments */
@@ -465,6 +468,13 @@ struct kesvuot_relocation { /* relocation_info of <mach-o/reloc.h>. No field of 
                                length << 25 | pcrel << 24 | symbolnum */
 };
 
+struct kesvuot_data_in_code {  /* data_in_code_entry. No field of it is judged */
+    struct kesvuot_span bytes; /* the data in the file; empty if it does not all lie in the slice */
+    uint32_t offset;           /* where the data begins in the slice */
+    uint16_t length;           /* its size in bytes */
+    uint16_t kind;             /* KESVUOT_DICE_KIND_DATA or another of these, or any other number */
+};
+
 size_t kesvuot_read_commands(const void *file, size_t size, const struct kesvuot_image *image,
                              struct kesvuot_cursor *cursor, struct kesvuot_command *rows, size_t max);
 size_t kesvuot_read_segments(const void *file, size_t size, const struct kesvuot_image *image,
@@ -491,6 +501,21 @@ size_t kesvuot_read_indirects(const void *file, size_t size, const struct kesvuo
 size_t kesvuot_read_relocations(const void *file, size_t size, const struct kesvuot_image *image, uint32_t reloff,
                                 uint32_t nreloc, struct kesvuot_cursor *cursor, struct kesvuot_relocation *rows,
                                 size_t max);
+
+/* The addresses of functions, before any slide, by the first LC_FUNCTION_STARTS. Each is below the next one.
+ * The data of the command is ULEB128 numbers: each says how far a function is past the one before it, and the first one
+ * how far past `base` of the image. The functions end before a number 0, a number that does not end in the data or in 10
+ * bytes, an address of 2^64 or more, and at the end of the data. There are none if the image has no base. In a file that
+ * was not accepted, there are also none if the data ends past the slice.
+ * No profile judges the numbers yet: an address can be in no segment, or in one without code. */
+size_t kesvuot_read_function_starts(const void *file, size_t size, const struct kesvuot_image *image,
+                                    struct kesvuot_cursor *cursor, uint64_t *rows, size_t max);
+
+/* The data in the code, by the first LC_DATA_IN_CODE: the entries that are whole. In a file that was not accepted, there
+ * are none if the data of the command ends past the slice.
+ * No profile judges the entries yet: they can be in any order, overlap, and be of no code. */
+size_t kesvuot_read_data_in_code(const void *file, size_t size, const struct kesvuot_image *image,
+                                 struct kesvuot_cursor *cursor, struct kesvuot_data_in_code *rows, size_t max);
 
 /* The name of a symbol, by its strx.
  * OK: the name, which ends before the first zero byte of the strings from strx on. It can be empty.
@@ -704,6 +729,13 @@ uint32_t kesvuot_find_address(const void *file, size_t size, const struct kesvuo
 #define KESVUOT_CPU_SUBTYPE_ARM64_ALL 0
 #define KESVUOT_CPU_SUBTYPE_ARM64E 2
 
+/* The kinds of data in code. (mach-o/loader.h) */
+#define KESVUOT_DICE_KIND_DATA 1
+#define KESVUOT_DICE_KIND_JUMP_TABLE8 2
+#define KESVUOT_DICE_KIND_JUMP_TABLE16 3
+#define KESVUOT_DICE_KIND_JUMP_TABLE32 4
+#define KESVUOT_DICE_KIND_ABS_JUMP_TABLE32 5
+
 /* The bits of a protection. (mach/vm_prot.h) */
 #define KESVUOT_VM_PROT_READ 1
 #define KESVUOT_VM_PROT_WRITE 2
@@ -732,6 +764,7 @@ KESVUOT_HOLDS(sizeof(struct kesvuot_build) == 16);
 KESVUOT_HOLDS(sizeof(struct kesvuot_command) == 40);
 KESVUOT_HOLDS(sizeof(struct kesvuot_symbol) == 24);
 KESVUOT_HOLDS(sizeof(struct kesvuot_relocation) == 16);
+KESVUOT_HOLDS(sizeof(struct kesvuot_data_in_code) == 24);
 KESVUOT_HOLDS(offsetof(struct kesvuot_verdict, rule) == 16);
 KESVUOT_HOLDS(offsetof(struct kesvuot_part, kind) == 24);
 KESVUOT_HOLDS(offsetof(struct kesvuot_explanation, value) == 96);
@@ -749,6 +782,7 @@ KESVUOT_HOLDS(offsetof(struct kesvuot_library, cmd) == 16);
 KESVUOT_HOLDS(offsetof(struct kesvuot_command, cmd) == 32);
 KESVUOT_HOLDS(offsetof(struct kesvuot_symbol, desc) == 16);
 KESVUOT_HOLDS(offsetof(struct kesvuot_relocation, scattered) == 12);
+KESVUOT_HOLDS(offsetof(struct kesvuot_data_in_code, kind) == 22);
 #undef KESVUOT_HOLDS
 #endif
 

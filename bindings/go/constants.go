@@ -105,6 +105,13 @@ const (
 	CPU_SUBTYPE_ARM64_ALL  = 0
 	CPU_SUBTYPE_ARM64E     = 2
 
+	// The kinds of data in code. (mach-o/loader.h)
+	DICE_KIND_DATA             = 1
+	DICE_KIND_JUMP_TABLE8      = 2
+	DICE_KIND_JUMP_TABLE16     = 3
+	DICE_KIND_JUMP_TABLE32     = 4
+	DICE_KIND_ABS_JUMP_TABLE32 = 5
+
 	// The bits of a protection. (mach/vm_prot.h)
 	VM_PROT_READ    = 1
 	VM_PROT_WRITE   = 2

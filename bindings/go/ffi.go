@@ -3,7 +3,7 @@ package kesvuot
 // #cgo pkg-config: kesvuot
 // #include <kesvuot.h>
 //
-// enum table { SEGMENTS, SECTIONS, LIBRARIES, BUILDS, COMMANDS, SYMBOLS, INDIRECTS };
+// enum table { SEGMENTS, SECTIONS, LIBRARIES, BUILDS, COMMANDS, SYMBOLS, INDIRECTS, FUNCTION_STARTS, DATA_IN_CODE };
 //
 // static size_t read_rows(enum table table, const void *file, size_t size, const struct kesvuot_image *image,
 //                         struct kesvuot_cursor *cursor, void *rows, size_t max) {
@@ -20,6 +20,10 @@ package kesvuot
 //         return kesvuot_read_commands(file, size, image, cursor, rows, max);
 //     case SYMBOLS:
 //         return kesvuot_read_symbols(file, size, image, cursor, rows, max);
+//     case FUNCTION_STARTS:
+//         return kesvuot_read_function_starts(file, size, image, cursor, rows, max);
+//     case DATA_IN_CODE:
+//         return kesvuot_read_data_in_code(file, size, image, cursor, rows, max);
 //     default:
 //         return kesvuot_read_indirects(file, size, image, cursor, rows, max);
 //     }
@@ -219,7 +223,9 @@ type (
 	symbolRow   = C.struct_kesvuot_symbol
 	indirectRow = C.uint32_t
 
-	relocationRow = C.struct_kesvuot_relocation
+	relocationRow    = C.struct_kesvuot_relocation
+	functionStartRow = C.uint64_t
+	dataInCodeRow    = C.struct_kesvuot_data_in_code
 )
 
 const (
@@ -249,6 +255,9 @@ const (
 	commandTable  = table(C.COMMANDS)
 	symbolTable   = table(C.SYMBOLS)
 	indirectTable = table(C.INDIRECTS)
+
+	functionStartTable = table(C.FUNCTION_STARTS)
+	dataInCodeTable    = table(C.DATA_IN_CODE)
 )
 
 // readRows returns up to count of the next rows of a table. There are fewer if the bytes have changed.

@@ -557,6 +557,43 @@ func TestRelocations(t *testing.T) {
 	same(t, "no relocations", len(image.Relocations(&section)), 0)
 }
 
+// An executable with LC_FUNCTION_STARTS (0x26) of these numbers, and LC_DATA_IN_CODE (0x29) of these entries.
+func withCode(numbers []byte, entries []byte) []byte {
+	const place = 136
+	file := words(0xfeedfacf, 0x01000007, 3, 2, 3, 104, 0, 0,
+		0x19, 72, 0, 0, 0, 0, 0, 1, 0x1000, 0, 0, 0, 0x88, 0, 5, 5, 0, 0,
+		0x26, 16, place, uint32(len(numbers)), 0x29, 16, place+uint32(len(numbers)), uint32(len(entries)))
+	return append(append(file, numbers...), entries...)
+}
+
+func TestCode(t *testing.T) {
+	// 0x440, 0x10, 0x3fff, and a 0 before another number.
+	numbers := []byte{0xc0, 0x08, 0x10, 0xff, 0x7f, 0, 5}
+	entries := append(words(136, 7|5<<16, 8, 0xffff|1<<16), 1, 2, 3)
+	image := verified(t, withCode(numbers, entries)).Images()[0]
+	var starts []uint64
+	for found := image.FunctionStarts(); found.Next(); {
+		starts = append(starts, found.Address())
+	}
+	same(t, "the functions", starts, []uint64{0x100000440, 0x100000450, 0x10000444f})
+	data := image.DataInCode()
+	same(t, "how many entries", len(data), 2)
+	same(t, "the data", string(data[0].Bytes), string(numbers))
+	same(t, "its fields", []uint32{data[0].Offset, uint32(data[0].Length), uint32(data[0].Kind)},
+		[]uint32{136, 7, DICE_KIND_ABS_JUMP_TABLE32})
+	same(t, "data past the image", []uint32{uint32(len(data[1].Bytes)), uint32(data[1].Length)}, []uint32{0, 0xffff})
+	for _, count := range []int{0, batch - 1, batch, batch + 1, 2 * batch} {
+		image = verified(t, withCode(bytes.Repeat([]byte{1}, count), make([]byte, 8*count))).Images()[0]
+		found := image.FunctionStarts()
+		for index := 1; index <= count; index++ {
+			same(t, "whether there is another", found.Next(), true)
+			same(t, "it", found.Address(), uint64(0x100000000+index))
+		}
+		same(t, "the end", []bool{found.Next(), found.Next()}, []bool{false, false})
+		same(t, "how many entries", len(image.DataInCode()), count)
+	}
+}
+
 func TestBatches(t *testing.T) {
 	for _, count := range []int{0, 1, batch - 1, batch, batch + 1, 3*batch + 5} {
 		var symbols [][2]uint8
@@ -647,6 +684,9 @@ func TestChangedBytes(t *testing.T) {
 		image.Table(StringTable)
 		image.SourceVersion()
 		image.Relocations(&Section{Reloff: 8, Nreloc: 1 << 31})
+		image.DataInCode()
+		for starts := image.FunctionStarts(); starts.Next(); {
+		}
 	}
 }
 

@@ -178,6 +178,80 @@ func (image *Image) Relocations(section *Section) []Relocation {
 	return relocations
 }
 
+// A DataInCode is a data_in_code_entry. No rule judges its fields.
+type DataInCode struct {
+	// Bytes are the data. There are none if it does not all lie in the image.
+	Bytes []byte
+	// Offset is where the data begins in the image, and Length its size.
+	Offset uint32
+	Length uint16
+	// Kind is DICE_KIND_DATA or another of these constants, or any other number.
+	Kind uint16
+}
+
+// An uncounted goes over rows of a table whose length nothing says. It reads them in batches.
+type uncounted[Raw any] struct {
+	image  *Image
+	table  table
+	cursor cursor
+	held   []Raw
+	isLast bool
+}
+
+// next returns the next row. It is not ok if there is none.
+func (rows *uncounted[Raw]) next() (row *Raw, ok bool) {
+	if len(rows.held) == 0 && !rows.isLast {
+		rows.held = readRows[Raw](rows.image, rows.table, &rows.cursor, batch)
+		rows.isLast = len(rows.held) < batch
+	}
+	if len(rows.held) == 0 {
+		return nil, false
+	}
+	row, rows.held = &rows.held[0], rows.held[1:]
+	return row, true
+}
+
+// FunctionStarts goes over the addresses of functions, before any slide. It reads them in batches.
+//
+//	for starts := image.FunctionStarts(); starts.Next(); {
+//		address := starts.Address()
+//	}
+type FunctionStarts struct {
+	rows    uncounted[functionStartRow]
+	address uint64
+}
+
+// FunctionStarts goes over the functions, by the first LC_FUNCTION_STARTS. Each is at a lower address than the next one.
+// They end before a number 0 of its data, a number that does not end in it, and an address of 2^64 or more. There are
+// none if the image has no base. No profile judges them yet: an address can be in no segment.
+func (image *Image) FunctionStarts() *FunctionStarts {
+	return &FunctionStarts{rows: uncounted[functionStartRow]{image: image, table: functionStartTable}}
+}
+
+// Next goes on to the next function. It returns false if there is none.
+func (starts *FunctionStarts) Next() bool {
+	row, ok := starts.rows.next()
+	if ok {
+		starts.address = uint64(*row)
+	}
+	return ok
+}
+
+// Address returns the address of the function that Next has gone on to.
+func (starts *FunctionStarts) Address() uint64 { return starts.address }
+
+// DataInCode returns the data in the code, by the whole entries of the first LC_DATA_IN_CODE. No profile judges them
+// yet: they can be in any order, overlap, and be of no code.
+func (image *Image) DataInCode() []DataInCode {
+	var found []DataInCode
+	rows := uncounted[dataInCodeRow]{image: image, table: dataInCodeTable}
+	for row, ok := rows.next(); ok; row, ok = rows.next() {
+		found = append(found,
+			DataInCode{image.part(row.bytes), uint32(row.offset), uint16(row.length), uint16(row.kind)})
+	}
+	return found
+}
+
 // A Symbol is an nlist_64. Its name is Image.Name, or Symbols.Name in a loop.
 type Symbol struct {
 	Value uint64

@@ -554,6 +554,92 @@ static void try_relocations(void) {
     CHECK(read_relocations(&image, 3, 4, 4, rows) == 0 && read_relocations(&image, 3, UINT64_MAX, 4, rows) == 0);
 }
 
+// An image with a segment at 0x100000000, LC_FUNCTION_STARTS (0x26) and LC_DATA_IN_CODE (0x29).
+static const uint32_t CODE[] = {
+    0xfeedfacf, 0x01000007, 3, 2, 3, 104, 0, 0,
+    0x19, 72, 0, 0, 0, 0, 0, 1, 0x1000, 0, 0, 0, 188, 0, 5, 5, 0, 0,
+    0x26, 16, 136, 18, 0x29, 16, 156, 31,
+    // 0x440, 1, 0x7f, 0x3fff, 0xfffffffeffffbb40 in ten bytes, 1 and 5
+    0x7f0108c0, 0xf6c07fff, 0xffeffffe, 0x1ffffff, 0x501,
+    // three entries: the last byte, two bytes of which one is past the image, the data of LC_FUNCTION_STARTS; another one
+    // of which the data has seven bytes
+    187, 1 | 5 << 16, 187, 2 | 2 << 16, 136, 18 | 0xffffu << 16, 0, 8 | 1 << 16,
+};
+enum { CODE_SIZE = sizeof CODE, STARTS = 5, ENTRIES = 3, STARTS_SIZE_AT = 29, BEFORE = 40 };
+
+static const uint64_t CODE_STARTS[STARTS] = {0x100000440, 0x100000441, 0x1000004c0, 0x1000044bf, UINT64_MAX};
+
+// Reads all functions in batches of `each`. There are `wanted`, each as far past `base` as that of CODE_STARTS.
+static void try_starts(const void *bytes, const struct kesvuot_image *image, size_t each, size_t wanted) {
+    struct kesvuot_cursor cursor = {0};
+    uint64_t rows[STARTS + 2];
+    for (size_t first = 0; first <= wanted; first += each) {
+        const size_t left = wanted - first, count = left < each ? left : each;
+        memset(rows, UNWRITTEN, sizeof rows);
+        CHECK(kesvuot_read_function_starts(bytes, CODE_SIZE, image, &cursor, rows, each) == count);
+        for (size_t k = 0; k < count; k++) {
+            CHECK(rows[k] == image->base + (CODE_STARTS[first + k] - 0x100000000));
+        }
+        CHECK(is_filled(rows + count, sizeof rows - count * sizeof *rows, UNWRITTEN));
+    }
+    CHECK(kesvuot_read_function_starts(bytes, CODE_SIZE, image, &cursor, rows, 1) == 0);
+}
+
+static void try_function_starts(void) {
+    struct kesvuot_image image = image_of_tables(CODE, CODE_SIZE);
+    uint32_t words[CODE_SIZE / sizeof *CODE];
+    for (size_t each = 1; each <= STARTS + 2; each++) {
+        try_starts(CODE, &image, each, STARTS);
+    }
+    // What is read of so many bytes of the data: no number that does not end in it.
+    static const struct {
+        uint32_t size;
+        size_t wanted;
+    } cut[] = {{17, 5}, {16, 5}, {15, 4}, {6, 4}, {5, 3}, {4, 3}, {3, 2}, {2, 1}, {1, 0}, {0, 0}};
+    memcpy(words, CODE, CODE_SIZE);
+    CHECK(words[STARTS_SIZE_AT] == 18);
+    for (size_t k = 0; k < sizeof cut / sizeof *cut; k++) {
+        words[STARTS_SIZE_AT] = cut[k].size;
+        try_starts(words, &image, 2, cut[k].wanted);
+    }
+    // The data ends past the image; then it has a number 0 in place of 1.
+    words[STARTS_SIZE_AT] = CODE_SIZE - 136 + 1;
+    try_starts(words, &image, 2, 0);
+    memcpy(words, CODE, CODE_SIZE);
+    ((uint8_t *)words)[138] = 0;
+    try_starts(words, &image, 2, 1);
+    // From another base, of which the address 2^64 - 1 is no more one, and without a base.
+    image.base++;
+    try_starts(CODE, &image, 2, 4);
+    image.has &= ~(uint32_t)KESVUOT_HAS_BASE;
+    try_starts(CODE, &image, 2, 0);
+}
+
+static void try_data_in_code(void) {
+    static const struct kesvuot_data_in_code wanted[] = {
+        {{BEFORE + 187, 1}, 187, 1, 5}, {{0, 0}, 187, 2, 2}, {{BEFORE + 136, 18}, 136, 18, 0xffff}};
+    // The image is at 40 in a longer file.
+    static uint8_t file[BEFORE + CODE_SIZE];
+    struct kesvuot_image image = image_of_tables(CODE, CODE_SIZE);
+    struct kesvuot_data_in_code rows[ENTRIES + 1];
+    memcpy(file + BEFORE, CODE, CODE_SIZE);
+    image.slice.offset = BEFORE;
+    for (size_t each = 1; each <= ENTRIES + 1; each++) {
+        struct kesvuot_cursor cursor = {0};
+        for (size_t first = 0; first <= ENTRIES; first += each) {
+            const size_t left = ENTRIES - first, count = left < each ? left : each;
+            memset(rows, UNWRITTEN, sizeof rows);
+            CHECK(kesvuot_read_data_in_code(file, sizeof file, &image, &cursor, rows, each) == count);
+            CHECK(memcmp(rows, wanted + first, count * sizeof *rows) == 0);
+            CHECK(is_filled(rows + count, sizeof rows - count * sizeof *rows, UNWRITTEN));
+        }
+    }
+    // The entries end past an image that is shorter.
+    struct kesvuot_cursor cursor = {0};
+    image.slice.size -= 2;
+    CHECK(kesvuot_read_data_in_code(file, sizeof file, &image, &cursor, rows, ENTRIES) == 0);
+}
+
 static void try_versions(void) {
     static const struct kesvuot_build wanted[] = {
         {3, 1, 2, 0x2f}, {3, 4, 5, 0x32}, {4, 6, 7, 0x30}, {1, 8, 9, 0x24}, {2, 10, 11, 0x25}};
@@ -754,6 +840,8 @@ int main(int count, char **words) {
     try_bounded_tables();
     try_empty_table();
     try_relocations();
+    try_function_starts();
+    try_data_in_code();
     try_versions();
     try_no_image();
     try_symbols();

@@ -124,6 +124,9 @@ static void take_tables(const struct kesvuot_image *image, size_t size) {
     TAKE_TABLE(struct kesvuot_command, kesvuot_read_commands, (take(row->bytes, size), take(row->name, size)));
     TAKE_TABLE(struct kesvuot_symbol, kesvuot_read_symbols, take_name(image, size, row->strx));
     TAKE_TABLE(uint32_t, kesvuot_read_indirects, (void)row);
+    TAKE_TABLE(uint64_t, kesvuot_read_function_starts, CHECK(row == rows || row[-1] < *row));
+    TAKE_TABLE(struct kesvuot_data_in_code, kesvuot_read_data_in_code,
+               (take(row->bytes, size), CHECK(row->bytes.size == 0 || row->bytes.size == row->length)));
 }
 
 // The relocations of any section.

@@ -138,6 +138,8 @@ FIRST_BATCH(libraries, struct kesvuot_library)
 FIRST_BATCH(builds, struct kesvuot_build)
 FIRST_BATCH(symbols, struct kesvuot_symbol)
 FIRST_BATCH(indirects, uint32_t)
+FIRST_BATCH(function_starts, uint64_t)
+FIRST_BATCH(data_in_code, struct kesvuot_data_in_code)
 
 static size_t symbol_name(const struct file *file, const struct kesvuot_image *image) {
     static struct kesvuot_symbol rows[BATCH];
@@ -218,5 +220,6 @@ const struct view views[VIEWS] = {
     {"read_indirects", read_indirects}, {"symbol_name", symbol_name}, {"read_names", read_names},
     {"find_data", find_data}, {"find_address", find_address}, {"read_relocations", read_relocations},
     {"find_table", find_table}, {"find_source_version", find_source_version}, {"index_symbols", index_symbols},
-    {"find_symbol", find_symbol}, {"find_name", find_name},
+    {"find_symbol", find_symbol}, {"find_name", find_name}, {"read_function_starts", read_function_starts},
+    {"read_data_in_code", read_data_in_code},
 };

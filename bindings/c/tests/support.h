@@ -59,7 +59,7 @@ struct view {
     size_t (*call)(const struct file *file, const struct kesvuot_image *image);
 };
 
-enum { VIEWS = 17 };
+enum { VIEWS = 19 };
 extern const struct view views[VIEWS];
 
 #endif

@@ -14,7 +14,7 @@ from . import _library, _opcodes, _reading, _rows
 from ._library import CHANGED, IMAGE, SPAN, TEXT, VERDICT, Bytes, Data, address_of, load
 from ._opcodes import Bind, Rebase
 from ._rows import (
-    Build, Command, Library, NamedReader, Reader, Relocation, Section, Segment, Symbol, Table, WalkedReader)
+    Build, Command, DataInCode, Library, NamedReader, Reader, Relocation, Section, Segment, Symbol, Table, WalkedReader)
 from .constants import LC_LOAD_DYLINKER, LC_RPATH
 
 # Room for the layout of most files. A longer one takes a second call.
@@ -310,6 +310,17 @@ class Image(Slice):
         """The relocations of a section of this image."""
         numbers = section.reloff, section.nreloc
         return Table(Reader(self._data, self._image, _rows.RELOCATIONS, *numbers).read, range(section.nreloc))
+
+    def function_starts(self) -> Iterator[int]:
+        """The addresses of functions, before any slide, by the first LC_FUNCTION_STARTS. Each is below the next one.
+        They end before a number 0 of its data, a number that does not end in it, and an address of 2^64 or more. There
+        are none if the image has no base. No profile judges them yet: an address can be in no segment."""
+        return _rows.batches(self._data, self._image, _rows.FUNCTION_STARTS)
+
+    def data_in_code(self) -> Iterator[DataInCode]:
+        """The data in the code, by the whole entries of the first LC_DATA_IN_CODE. No profile judges them yet: they can
+        be in any order, overlap, and be of no code."""
+        return _rows.batches(self._data, self._image, _rows.DATA_IN_CODE)
 
     def table(self, table: BoundedTable) -> Optional[memoryview]:
         """A table of the image, or None if no command bounds it. Of several such commands it is a table of the first.

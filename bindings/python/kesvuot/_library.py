@@ -82,7 +82,8 @@ def _declare(library: Any) -> None:
         "index_symbols": (size, [pointer, size, pointer, pointer, size]),
         "find_symbol": (u32, [pointer, size, pointer, pointer, size, u64, pointer, pointer]),
         "find_name": (u32, [pointer, size, pointer, pointer, size, pointer, pointer])}
-    for table in ("segments", "sections", "libraries", "builds", "commands", "symbols", "indirects"):
+    for table in ("segments", "sections", "libraries", "builds", "commands", "symbols", "indirects",
+                  "function_starts", "data_in_code"):
         calls[f"read_{table}"] = (size, [pointer, size, pointer, pointer, pointer, size])
     for name, (result, arguments) in calls.items():
         call = getattr(library, f"kesvuot_{name}")

@@ -163,6 +163,22 @@ class Relocation(NamedTuple):
     scattered: bool
 
 
+class DataInCode(NamedTuple):
+    """A data_in_code_entry. No rule judges its fields.
+
+    `bytes`: the data, empty if it does not all lie in the image
+    `offset`, `length`: where it begins in the image, and its size
+    `kind`: DICE_KIND_DATA or another of these constants, or any other number"""
+
+    bytes: memoryview
+    offset: int
+    length: int
+    kind: int
+
+    def __repr__(self) -> str:
+        return _text(self)
+
+
 class Kind(NamedTuple):
     """A kind of rows: the call that writes them, the form of one, and the function that makes rows of the fields."""
 
@@ -198,12 +214,16 @@ def _symbols(_data: Bytes, rows: Fields) -> Iterator[Symbol]:
             for value, strx, section, desc, kind, sect in rows)
 
 
-def _indirects(_data: Bytes, rows: Fields) -> Iterator[int]:
+def _numbers(_data: Bytes, rows: Fields) -> Iterator[int]:
     return (value for value, in rows)
 
 
 def _relocations(_data: Bytes, rows: Fields) -> Iterator[Relocation]:
     return map(Relocation._make, rows)
+
+
+def _data_in_code(data: Bytes, rows: Fields) -> Iterator[DataInCode]:
+    return (DataInCode(data.part(offset, size), *numbers) for offset, size, *numbers in rows)
 
 
 # In the forms of kesvuot.h, each 2Q at the start is a span, x is reserved or not taken, and ? and ?3x are numbers that
@@ -213,7 +233,9 @@ SECTIONS = Kind("kesvuot_read_sections", Struct("@6Q2Q7I?3x"), _sections)
 LIBRARIES = Kind("kesvuot_read_libraries", Struct("@2Q3I4x"), _libraries)
 BUILDS = Kind("kesvuot_read_builds", Struct("@4I"), _builds)
 SYMBOLS = Kind("kesvuot_read_symbols", Struct("@QIIHBB4x"), _symbols)
-INDIRECTS = Kind("kesvuot_read_indirects", Struct("@I"), _indirects)
+INDIRECTS = Kind("kesvuot_read_indirects", Struct("@I"), _numbers)
+FUNCTION_STARTS = Kind("kesvuot_read_function_starts", Struct("@Q"), _numbers)
+DATA_IN_CODE = Kind("kesvuot_read_data_in_code", Struct("@2QI2H"), _data_in_code)
 RELOCATIONS = Kind("kesvuot_read_relocations", Struct("@2I?B?B?3x"), _relocations)
 
 
@@ -283,6 +305,16 @@ class NamedReader(Reader):
         load().kesvuot_read_names(self._data.address, len(self._data), self._image,
                                   ctypes.byref(ctypes.c_char.from_buffer(rows)), count, spans, count)
         return spans
+
+
+def batches(data: Bytes, image: Any, kind: Kind) -> Iterator[Any]:
+    """The rows of a table whose length nothing says, in batches, as they are asked for."""
+    size = kind.form.size
+    rows, cursor = ctypes.create_string_buffer(BATCH * size), ctypes.create_string_buffer(CURSOR.size)
+    written = BATCH
+    while written == BATCH:
+        written = getattr(load(), kind.call)(data.address, len(data), image, cursor, rows, BATCH)
+        yield from kind.make(data, kind.form.iter_unpack(rows.raw[:written * size]))
 
 
 class WalkedReader(Reader):

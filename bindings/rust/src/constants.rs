@@ -105,6 +105,13 @@ pub const CPU_SUBTYPE_X86_64_H: u32 = 8;
 pub const CPU_SUBTYPE_ARM64_ALL: u32 = 0;
 pub const CPU_SUBTYPE_ARM64E: u32 = 2;
 
+// The kinds of data in code. (mach-o/loader.h)
+pub const DICE_KIND_DATA: u16 = 1;
+pub const DICE_KIND_JUMP_TABLE8: u16 = 2;
+pub const DICE_KIND_JUMP_TABLE16: u16 = 3;
+pub const DICE_KIND_JUMP_TABLE32: u16 = 4;
+pub const DICE_KIND_ABS_JUMP_TABLE32: u16 = 5;
+
 // The bits of a protection. (mach/vm_prot.h)
 pub const VM_PROT_READ: u32 = 1;
 pub const VM_PROT_WRITE: u32 = 2;

@@ -202,6 +202,13 @@ structures! {
         r#type: u8,
         scattered: u32,
     }
+
+    kesvuot_data_in_code = DataInCode {
+        bytes: Span,
+        offset: u32,
+        length: u16,
+        kind: u16,
+    }
 }
 
 /// `struct kesvuot_text`: a constant of the library.
@@ -494,6 +501,8 @@ tables! {
     Command: kesvuot_read_commands,
     Symbol: kesvuot_read_symbols,
     u32: kesvuot_read_indirects,
+    u64: kesvuot_read_function_starts,
+    DataInCode: kesvuot_read_data_in_code,
 }
 
 /// The status, and where the name at `strx` in the strings is.

@@ -6,9 +6,9 @@ use crate::ffi::{self, Raw, Span};
 use alloc::vec::Vec;
 
 use crate::parts::{
-    Build, Command, Indirect, Library, Relocation, Section, Segment, Symbol, Table,
+    Build, Command, DataInCode, Indirect, Library, Relocation, Section, Segment, Symbol, Table,
 };
-use crate::rows::{Row, Rows};
+use crate::rows::{Row, Rows, UncountedRows};
 use crate::symbol_index::SymbolIndex;
 
 /// An image of an accepted file.
@@ -426,6 +426,31 @@ impl<'a> Image<'a> {
             .into_iter()
             .map(Relocation::from)
             .collect()
+    }
+
+    /// The addresses of functions, before any slide, by the first `LC_FUNCTION_STARTS`. Each is below the next
+    /// one. They end before a number 0 of its data, a number that does not end in it, and an address of 2^64 or
+    /// more. There are none if the image has no base. No profile judges them yet: an address can be in no
+    /// segment.
+    ///
+    /// ```
+    /// # let path = concat!(env!("CARGO_MANIFEST_DIR"), "/../../tests/real/program");
+    /// # let file = std::fs::read(path)?;
+    /// # let image = kesvuot::verify(&file)?.image(0).unwrap();
+    /// let starts: Vec<u64> = image.function_starts().collect();
+    /// assert_eq!(starts, [0x1_0000_0440]);
+    /// # Ok::<(), Box<dyn std::error::Error>>(())
+    /// ```
+    #[must_use]
+    pub fn function_starts(&self) -> UncountedRows<'a, u64> {
+        UncountedRows::new(*self)
+    }
+
+    /// The data in the code, by the whole entries of the first `LC_DATA_IN_CODE`. No profile judges them yet:
+    /// they can be in any order, overlap, and be of no code.
+    #[must_use]
+    pub fn data_in_code(&self) -> UncountedRows<'a, DataInCode<'a>> {
+        UncountedRows::new(*self)
     }
 
     /// What is at an address, before any slide. `None` if no segment has the address.

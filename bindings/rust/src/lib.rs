@@ -67,8 +67,10 @@ pub use explain::{explain, Explanation, Part, PartKind};
 pub use file::{verify_file, FileError};
 pub use image::{Dysymtab, Image, Source, Symtab};
 pub use named_symbols::NamedSymbols;
-pub use parts::{Build, Command, Indirect, Library, Relocation, Section, Segment, Symbol, Table};
-pub use rows::Rows;
+pub use parts::{
+    Build, Command, DataInCode, Indirect, Library, Relocation, Section, Segment, Symbol, Table,
+};
+pub use rows::{Rows, UncountedRows};
 pub use rule::{ParseRuleError, Rule};
 pub use symbol_index::SymbolIndex;
 pub use verified::{Slice, Slices, Verified, VerifiedBuf};

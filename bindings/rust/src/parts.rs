@@ -256,6 +256,42 @@ impl From<ffi::Relocation> for Relocation {
     }
 }
 
+/// Data in code. (`data_in_code_entry` of `<mach-o/loader.h>`) No rule judges its fields.
+#[derive(Clone, Copy, Debug, PartialEq, Eq)]
+#[non_exhaustive]
+pub struct DataInCode<'a> {
+    /// The data, empty if it does not all lie in the image.
+    pub bytes: &'a [u8],
+    /// Where it begins in the image.
+    pub offset: u32,
+    /// How many bytes it has.
+    pub length: u16,
+    /// `DICE_KIND_DATA` or another of these constants, or any other number.
+    pub kind: u16,
+}
+
+impl<'a> Row<'a> for DataInCode<'a> {
+    type Raw = ffi::DataInCode;
+
+    fn new(raw: ffi::DataInCode, image: &Image<'a>) -> Self {
+        DataInCode {
+            bytes: image.part(raw.bytes),
+            offset: raw.offset,
+            length: raw.length,
+            kind: raw.kind,
+        }
+    }
+}
+
+/// The address of a function.
+impl<'a> Row<'a> for u64 {
+    type Raw = u64;
+
+    fn new(raw: u64, _: &Image<'a>) -> Self {
+        raw
+    }
+}
+
 macro_rules! tables {
     ($($(#[$doc:meta])* $name:ident = $number:literal,)*) => {
         /// A table of an image, by the command that bounds it.

@@ -138,6 +138,54 @@ impl<'a, T: Row<'a>> fmt::Debug for Rows<'a, T> {
     }
 }
 
+/// Rows of a table of an image whose length nothing says, in the order of the table.
+#[derive(Clone)]
+pub struct UncountedRows<'a, T: Row<'a>> {
+    image: Image<'a>,
+    /// Rows that were read and not yet returned.
+    held: vec::IntoIter<T::Raw>,
+    /// Where the rows after them are.
+    cursor: Cursor,
+    /// There are no rows after them.
+    is_last: bool,
+}
+
+impl<'a, T: Row<'a>> UncountedRows<'a, T> {
+    /// The first rows of a table.
+    pub(crate) fn new(image: Image<'a>) -> Self {
+        UncountedRows {
+            image,
+            held: Vec::new().into_iter(),
+            cursor: Cursor::default(),
+            is_last: false,
+        }
+    }
+}
+
+impl<'a, T: Row<'a>> Iterator for UncountedRows<'a, T> {
+    type Item = T;
+
+    fn next(&mut self) -> Option<T> {
+        if self.held.len() == 0 && !self.is_last {
+            let mut rows = vec![T::Raw::default(); to_usize(BATCH)];
+            let (file, image) = (self.image.file(), self.image.raw());
+            let written = T::Raw::fill(file, image, &mut self.cursor, &mut rows);
+            self.is_last = written < rows.len();
+            rows.truncate(written);
+            self.held = rows.into_iter();
+        }
+        Some(T::new(self.held.next()?, &self.image))
+    }
+}
+
+impl<'a, T: Row<'a>> FusedIterator for UncountedRows<'a, T> {}
+
+impl<'a, T: Row<'a>> fmt::Debug for UncountedRows<'a, T> {
+    fn fmt(&self, f: &mut fmt::Formatter<'_>) -> fmt::Result {
+        f.debug_struct("UncountedRows").finish_non_exhaustive()
+    }
+}
+
 #[cfg(test)]
 mod tests {
     use std::cell::RefCell;

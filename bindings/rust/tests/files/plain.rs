@@ -8,6 +8,8 @@ const LC_DYSYMTAB: u32 = 0xb;
 const LC_ID_DYLIB: u32 = 0xd;
 const LC_SEGMENT_64: u32 = 0x19;
 const LC_UUID: u32 = 0x1b;
+const LC_FUNCTION_STARTS: u32 = 0x26;
+const LC_DATA_IN_CODE: u32 = 0x29;
 const LC_SOURCE_VERSION: u32 = 0x2a;
 const LC_BUILD_VERSION: u32 = 0x32;
 /// `version_min_command`: `LC_VERSION_MIN_MACOSX`, `_IPHONEOS`, `_TVOS` and `_WATCHOS`, and the platform of
@@ -104,6 +106,7 @@ pub fn compare(image: &Image) {
     compare_linkedit(image, &commands);
     compare_bounded(image, &commands);
     compare_relocations(image);
+    compare_code(image, &commands);
     compare_addresses(image, &commands);
 }
 
@@ -487,6 +490,51 @@ fn compare_relocations(image: &Image) {
         });
         assert_eq!(found.collect::<Vec<_>>(), wanted.collect::<Vec<_>>());
     }
+}
+
+/// The data of the first command with this `cmd`.
+fn data_of<'a>(image: &Image<'a>, commands: &[Plain], cmd: u32) -> &'a [u8] {
+    let (start, size) = first_of(commands, cmd).map_or((0, 0), |command| {
+        (word(command, 8) as usize, word(command, 12) as usize)
+    });
+    if size == 0 {
+        return &[];
+    }
+    &image.bytes()[start..][..size]
+}
+
+/// The sums of the ULEB128 numbers, and the whole entries.
+fn compare_code(image: &Image, commands: &[Plain]) {
+    let (mut starts, mut address, mut number) = (Vec::new(), image.base(), Vec::new());
+    for byte in data_of(image, commands, LC_FUNCTION_STARTS) {
+        number.push(byte & 0x7f);
+        if byte & 0x80 == 0 {
+            let mut digits = number.iter().rev();
+            let distance = digits.try_fold(0_u64, |value, digit| {
+                value.checked_mul(0x80)?.checked_add(u64::from(*digit))
+            });
+            let is_short = number.len() <= 10;
+            address = address.and_then(|address| {
+                let distance = distance.filter(|distance| *distance > 0 && is_short)?;
+                address.checked_add(distance)
+            });
+            starts.extend(address);
+            number.clear();
+        }
+    }
+    assert_eq!(image.function_starts().collect::<Vec<_>>(), starts);
+    let entries = data_of(image, commands, LC_DATA_IN_CODE).chunks_exact(8);
+    let wanted = entries.map(|entry| (word(entry, 0), word(entry, 4)));
+    let found = image.data_in_code().map(|found| {
+        let (start, size) = (found.offset as usize, usize::from(found.length));
+        let bytes = image.bytes().get(start..).and_then(|rest| rest.get(..size));
+        assert_eq!(found.bytes, bytes.unwrap_or(&[]));
+        (
+            found.offset,
+            u32::from(found.length) | u32::from(found.kind) << 16,
+        )
+    });
+    assert_eq!(found.collect::<Vec<_>>(), wanted.collect::<Vec<_>>());
 }
 
 fn compare_addresses(image: &Image, commands: &[Plain]) {
