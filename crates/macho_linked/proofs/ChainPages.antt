@@ -1,42 +1,100 @@
 -- The pointers of a page, one after the other: the first with a mistake is at the least place.
-use Rattle.std.proofs.Common.{◌≡◌, ◌↔◌, ℕ, ◌+◌, ◌-◌, ◌*◌, ◌≤◌, ◌<◌, ◌⊎◌, Bool, true, false, IsTrue, suc, List, [], ◌∷◌, length, min, Any, Option, Some, None, refl, sym, ◌∙◌, subst, arith, inl, inr}
-use Rattle.std.specs.Prelude.{unwrap_or, cond, IsSomeAnd}
-use Rattle.std.proofs.lemmas.Bool.{cases_lt}
+use Rattle.std.proofs.Common.{◌≡◌, ◌↔◌, ℕ, ◌+◌, ◌-◌, ◌*◌, ◌≤◌, ◌<◌, ◌⊎◌, Bool, true, false, IsTrue, suc, zero, List, [], ◌∷◌, length, min, Any, Contains, slice_get, Option, Some, None, refl, sym, ap, ◌∙◌, subst, arith, inl, inr}
+use Rattle.std.specs.Prelude.{◌==◌, nat_le, not, unwrap_or, cond, IsSomeAnd}
+use Rattle.std.specs.Option.{option_map}
+use Rattle.std.proofs.lemmas.Bool.{cases_lt, eq-eqb, leb-true, le-leb}
 use Rattle.macho_fields.specs.FirstPlace.{IsNoted, IsLeastPlace}
-use Rattle.macho_fields.specs.Image.{commands_of}
+use Rattle.macho_fields.specs.Image.{command_cmd, commands_of, with_cmd}
 use Rattle.macho_fields.specs.Segment.{fileoff, filesize, PassesImage}
 use Rattle.macho_fields.specs.declared.header.loader.TheConstants as loader
-use Rattle.macho_image.proofs.FirstWithCmd.{first_none}
-use Rattle.macho_rules.proofs.Searches.{one_of}
+use Rattle.macho_image.specs.Command.{CommandView, command_of, command_at, first_with_cmd}
+use Rattle.macho_image.specs.Opened.{IsCommandOf}
+use Rattle.macho_image.specs.declared.command.Command.{Command}
+use Rattle.macho_image.proofs.FirstWithCmd.{first_is, first_none}
+use Rattle.macho_rules.proofs.Mapped.{filtered}
+use Rattle.macho_rules.proofs.OneCommand.{no_first, first_at}
+use Rattle.macho_rules.proofs.Searches.{any_of, one_of}
 use Rattle.macho_spans.specs.declared.span.Span.{Span}
-use Rattle.macho_linked.specs.ChainPages.{IsRoom, AtPointer, first_encryption}
-use Rattle.macho_linked.specs.ChainPointers.{pointer_at, page_start_offset, first_offset, Fits, Lead, HasChain, HasBadNext, BindsNone, BreaksPageSlot, BreaksPageBind}
+use Rattle.macho_linked.specs.ChainPages.{IsRoom, IsEncryptionOf, IsClear, AtPointer}
+use Rattle.macho_linked.specs.ChainPointers.{pointer_at, page_start_offset, first_offset, Fits, Lead, HasChain, HasBadNext, BindsNone, BreaksPageSlot, BreaksPageBind, encryption_count}
 use Rattle.macho_linked.specs.Homes.{bytes_of_segment, Encrypts}
 use Rattle.macho_linked.specs.Limits.{room}
 use Rattle.macho_linked.specs.Segments.{is_writable, is_protected}
+use Rattle.macho_linked.specs.declared.chain_pages.Encryption.{Encryption}
 use Rattle.macho_linked.specs.declared.chain_pointers.ChainPointer.{ChainPointer}
 use Rattle.macho_linked.specs.declared.chain_starts.SegmentStarts.{SegmentStarts}
+use Rattle.macho_linked.proofs.Nots.{not_true, true_not}
 use Rattle.macho_linked.proofs.TableSurveys.{least_same}
+
+-- What is encrypted
+
+-- there is one at most, as they were counted
+pub few_counted : (count all : ℕ) → count ≡ all → IsTrue (nat_le count 1) ↔ (all ≤ 1)
+few_counted count all are = (λ few. let low = leb-true count 1 few in omega (arith, low, are), λ low. le-leb count 1 (omega (arith, low, are)))
+
+module _ (image : List ℕ) (encryption : Encryption) (is : IsEncryptionOf image encryption) where
+  abbrev first_encryption : Option ℕ
+  first_encryption = first_with_cmd image loader.LC_ENCRYPTION_INFO_64 (commands_of image)
+
+  -- no command has an encrypted range
+  none_encrypted : encryption.first ≡ None → (span : Span) → ¬ Any (Encrypts span image) (commands_of image)
+  none_encrypted none span any =
+      let (command, listed, encrypts) = one_of (Encrypts span image) (commands_of image) any in
+      let nothing : first_encryption ≡ None = no_first (command_at image) first_encryption (sym (ap (option_map command_of) none) ∙ is.first) in
+      first_none image loader.LC_ENCRYPTION_INFO_64 command (commands_of image) nothing listed encrypts.0
+
+  pub none_clear : encryption.first ≡ None → encryption_count image ≤ 1 → (span : Span) → IsClear span image
+  none_clear none single span = (single, none_encrypted none span)
+
+  -- one has
+  module _ (command : Command) (some : encryption.first ≡ Some command) where
+    its_view : (place : ℕ) × (first_encryption ≡ Some place) × (command_of command ≡ command_at image place)
+    its_view = first_at (command_at image) first_encryption (command_of command) (sym (ap (option_map command_of) some) ∙ is.first)
+
+    at_place : its_view.0 ≡ command.place
+    at_place = sym (ap (λ (v : CommandView). v.place) its_view.2)
+
+    its_place : first_encryption ≡ Some command.place
+    its_place = its_view.1 ∙ ap Some at_place
+
+    pub encryption_listed : IsCommandOf image (command_of command)
+    encryption_listed = record {
+      opened = is.opened;
+      listed = (first_is image loader.LC_ENCRYPTION_INFO_64 command.place (commands_of image) its_place).0;
+      same = subst (λ p. command_of command ≡ command_at image p) at_place its_view.2;
+    }
+
+    -- and no other one
+    single_encrypts : encryption_count image ≤ 1 → (span : Span) → Any (Encrypts span image) (commands_of image) → Encrypts span image command.place
+    single_encrypts single span any =
+        let (other, listed, encrypts) = one_of (Encrypts span image) (commands_of image) any in
+        let among = filtered (λ c. command_cmd image c == loader.LC_ENCRYPTION_INFO_64) (commands_of image) other listed (eq-eqb (command_cmd image other) loader.LC_ENCRYPTION_INFO_64 encrypts.0) in
+        subst (Encrypts span image) (only (with_cmd image loader.LC_ENCRYPTION_INFO_64 (commands_of image)) other single among its_place) encrypts
+      where
+        only : (places : List ℕ) (other : ℕ) → length places ≤ 1 → Contains places other → slice_get places 0 ≡ Some command.place → other ≡ command.place
+        only [] other few (k, less, at) found = absurd (omega arith)
+        only (place ∷ places) other few (zero, less, at) found = sym at ∙ cc
+        only (place ∷ places) other few (suc k, less, at) found = absurd (omega arith)
+
+    pub single_clear : encryption_count image ≤ 1 → (span : Span) (encrypts : Bool) → (IsTrue encrypts ↔ Encrypts span image command.place) → IsTrue (not encrypts) ↔ IsClear span image
+    single_clear single span encrypts says = (
+      λ clear. (single, λ any. not_true encrypts clear (says.1 (single_encrypts single span any))),
+      λ clear. true_not encrypts (λ encrypted. clear.1 (any_of (Encrypts span image) (commands_of image) command.place encryption_listed.listed (says.0 encrypted))),
+    )
 
 -- Where a pointer fits
 
--- no command has an encrypted range
-pub none_encrypted : (image : List ℕ) (span : Span) → first_encryption image ≡ None → ¬ Any (Encrypts span image) (commands_of image)
-none_encrypted image span none any =
-    let (command, listed, encrypts) = one_of (Encrypts span image) (commands_of image) any in
-    first_none image loader.LC_ENCRYPTION_INFO_64 command (commands_of image) none listed encrypts.0
-
 module _ (image : List ℕ) (segment : ℕ) where
-  -- a kernel decrypts some of the segment
-  pub room_none : (¬ (is_protected image segment ≡ false)) ⊎ Any (Encrypts (bytes_of_segment image segment) image) (commands_of image) → IsRoom image segment 0
+  -- a kernel decrypts some of the segment, or there is more than one encrypted range
+  pub room_none : (¬ (is_protected image segment ≡ false)) ⊎ (¬ IsClear (bytes_of_segment image segment) image) → IsRoom image segment 0
   room_none why end some = (
     λ low. absurd (omega arith),
-    λ to. elim why [ inl decrypted ↦ absurd (decrypted to.plain) | inr encrypted ↦ absurd (to.clear encrypted) ],
+    λ to. elim why [ inl decrypted ↦ absurd (decrypted to.plain) | inr encrypted ↦ absurd (encrypted (to.single, to.clear)) ],
   )
 
   -- or none of it
-  pub room_whole : is_protected image segment ≡ false → ¬ Any (Encrypts (bytes_of_segment image segment) image) (commands_of image) → IsRoom image segment (room image segment)
-  room_whole plain clear end some = (λ low. record { written = low; plain = plain; clear = clear }, λ to. to.written)
+  pub room_whole : is_protected image segment ≡ false → IsClear (bytes_of_segment image segment) image → IsRoom image segment (room image segment)
+  room_whole plain clear end some = (λ low. record { written = low; plain = plain; single = clear.0; clear = clear.1 }, λ to. to.written)
 
   -- what can be written of it lies in the image
   room_inside : (end : ℕ) → 0 < end → end ≤ room image segment → ¬ PassesImage image segment → fileoff image segment + end ≤ length image

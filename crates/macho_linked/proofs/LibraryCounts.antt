@@ -1,4 +1,4 @@
--- How many libraries the commands of an image load.
+-- How many commands of an image are of some kinds, such as those that load libraries.
 use Rattle.std.proofs.Common.{◌≡◌, ℕ, ◌^◌, ◌<◌, Bool, List, [], ◌∷◌, suc, length, map, filter, refl, ap, ◌∙◌, arith, inl, inr}
 use Rattle.std.proofs.lemmas.Bool.{cases_Bool}
 use Rattle.std.proofs.lemmas.List.{length-map}
@@ -22,10 +22,13 @@ module _ (image : List ℕ) (all : List CommandView) (are : all ≡ map (command
       let count : length all ≡ length (commands_of image) = ap length are ∙ length-map (commands_of image) (command_at image) in
       omega (arith, fit, count, inside, short)
 
-  -- all are counted
-  pub libraries_counted : length (filter loads all) ≡ library_count image
-  libraries_counted = ap (λ these. length (filter loads these)) are ∙ counted (commands_of image)
+  -- all whose cmd passes a test are counted
+  pub kinds_counted : (test : ℕ → Bool) → length (filter (λ (v : CommandView). test v.cmd) all) ≡ length (filter (λ command. test (command_cmd image command)) (commands_of image))
+  kinds_counted test = ap (λ these. length (filter (λ (v : CommandView). test v.cmd) these)) are ∙ counted (commands_of image)
     where
-      counted : (places : List ℕ) → length (filter loads (map (command_at image) places)) ≡ length (filter (λ command. loads_library (command_cmd image command)) places)
+      counted : (places : List ℕ) → length (filter (λ (v : CommandView). test v.cmd) (map (command_at image) places)) ≡ length (filter (λ command. test (command_cmd image command)) places)
       counted [] = refl
-      counted (place ∷ places) = elim (cases_Bool (loads_library (command_cmd image place))) [ inl t ↦ rw t (ap suc (counted places)) | inr f ↦ rw f (counted places) ]
+      counted (place ∷ places) = elim (cases_Bool (test (command_cmd image place))) [ inl t ↦ rw t (ap suc (counted places)) | inr f ↦ rw f (counted places) ]
+
+  pub libraries_counted : length (filter loads all) ≡ library_count image
+  libraries_counted = kinds_counted loads_library

@@ -24,6 +24,7 @@ module _ (image : List ℕ) (segment : ℕ) (starts : SegmentStarts) (page : ℕ
     record {
       written = surely_below _ _ (λ past. sure (λ fits. past fits.1.written));
       plain = false_from_ne_true (is_protected image segment) (λ is. sure (λ fits. false≢true (sym fits.1.plain ∙ is)));
+      single = surely_below _ _ (λ more. sure (λ fits. more fits.1.single));
       clear = λ any. sure (λ fits. fits.1.clear any);
     },
   )

@@ -3,9 +3,10 @@
 -- (mach-o/fixup-chains.h: dyld_chained_starts_in_segment, dyld_chained_ptr_64_rebase,
 -- dyld_chained_ptr_64_bind, dyld_chained_ptr_arm64e_rebase, dyld_chained_ptr_arm64e_bind,
 -- dyld_chained_ptr_arm64e_bind24)
-use Rattle.std.specs.Prelude.{◌≡◌, ◌≢◌, ℕ, suc, ◌+◌, ◌*◌, ◌/◌, ◌%◌, ◌^◌, ◌≤◌, ◌<◌, ◌==◌, ◌⊎◌, List, [], ◌∷◌, slice_index, false, Any, Some, None, IsSomeAnd, bit_and, if◌then◌else◌}
-use Rattle.macho_fields.specs.Image.{long, commands_of}
+use Rattle.std.specs.Prelude.{◌≡◌, ◌≢◌, ℕ, suc, ◌+◌, ◌*◌, ◌/◌, ◌%◌, ◌^◌, ◌≤◌, ◌<◌, ◌==◌, ◌⊎◌, List, [], ◌∷◌, length, slice_index, false, Any, Some, None, IsSomeAnd, bit_and, if◌then◌else◌}
+use Rattle.macho_fields.specs.Image.{long, commands_of, with_cmd}
 use Rattle.macho_fields.specs.Segment.{all_segments, fileoff}
+use Rattle.macho_fields.specs.declared.header.loader.TheConstants as loader
 use Rattle.macho_linked.specs.ChainStarts.{half, seg_count, starts_of, HasBadEntries}
 use Rattle.macho_linked.specs.Homes.{bytes_of_segment, Encrypts}
 use Rattle.macho_linked.specs.Limits.{room}
@@ -52,11 +53,17 @@ page_start chains starts page = half chains (page_start_offset starts page)
 abbrev pub first_offset : List ℕ → SegmentStarts → ℕ → ℕ
 first_offset chains starts page = page * starts.page_size + page_start chains starts page
 
+-- how many commands have an encrypted range
+abbrev pub encryption_count : List ℕ → ℕ
+encryption_count image = length (with_cmd image loader.LC_ENCRYPTION_INFO_64 (commands_of image))
+
 -- A loader finds the bytes of a segment up to an offset as they are in the file, and can write them: it has
--- them in the file, it can be written, and a kernel decrypts none of it.
+-- them in the file, it can be written, and a kernel decrypts none of it. No segment of an image with more than
+-- one encrypted range has such bytes.
 pub record IsRoomTo (image : List ℕ) (segment : ℕ) (end : ℕ) : Type 0 where
   pub written : end ≤ room image segment
   pub plain : is_protected image segment ≡ false
+  pub single : encryption_count image ≤ 1
   pub clear : ¬ Any (Encrypts (bytes_of_segment image segment) image) (commands_of image)
 
 -- the pointer at an offset ends in its page, and where a loader can write it

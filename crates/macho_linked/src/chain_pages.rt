@@ -1,16 +1,14 @@
 //! The pages of the segments in which pointers are chained, and the rules about these pointers. The offset of a
 //! pointer is one in its segment. (`mach-o/fixup-chains.h`: `dyld_chained_starts_in_segment`)
 
-ghost use Rattle.std.specs.Prelude.{◌≡◌, ◌↔◌, ◌+◌, ◌^◌, ◌≤◌, ◌<◌, length, Any, None, IsTrue};
+ghost use Rattle.std.specs.Prelude.{◌≡◌, ◌↔◌, ◌+◌, ◌^◌, ◌≤◌, ◌<◌, length, None, IsTrue};
 ghost use Rattle.macho_fields.specs.Bytes.{bytes_of};
-ghost use Rattle.macho_fields.specs.Image.{commands_of};
 ghost use Rattle.macho_fields.specs.Layers.{NothingBreaks};
 ghost use Rattle.macho_fields.specs.Rules.{BreaksImage as Breaks};
 ghost use Rattle.macho_fields.specs.Segment.{PassesImage};
-ghost use Rattle.macho_linked.specs.ChainPages.{AreLeastPlaces, IsRoom, AtPointer, OfPages, first_encryption};
+ghost use Rattle.macho_linked.specs.ChainPages.{AreLeastPlaces, IsRoom, IsEncryptionOf, IsClear, AtPointer, OfPages};
 ghost use Rattle.macho_linked.specs.ChainPointers.{Fits, HasBadNext, BindsNone, BreaksPageSlot, BreaksPageBind, BreaksChainSlot, BreaksChainBind, page_start_offset};
 ghost use Rattle.macho_linked.specs.ChainStarts.{entry_offset};
-ghost use Rattle.macho_linked.specs.Homes.{Encrypts};
 ghost use Rattle.macho_linked.specs.Items.{OfItem};
 
 use crate::chain_header::ChainHeader;
@@ -21,15 +19,15 @@ use crate::fixup_chains::{
     DYLD_CHAINED_PTR_START_NONE, DYLD_CHAINED_STARTS_IN_SEGMENT_SIZE, PAGE_START_SIZE,
     SEG_INFO_OFFSET_SIZE,
 };
-use crate::homes::is_encrypted;
+use crate::homes::encrypts;
 use crate::limits::room;
 use crate::segment::is_protected;
 use crate::step::POINTER_SIZE;
 use crate::stream::note_if;
-use crate::streams::{first_place, lesser};
+use crate::streams::lesser;
 use macho_fields::header::loader::{LC_ENCRYPTION_INFO_64, SEGMENT_COMMAND_64_SIZE};
 use macho_fields::{Bytes, Order, Span};
-use macho_image::{Image, Segment};
+use macho_image::{Command, Image, Segment};
 
 /// Where the pointers of the chains first break each of their rules, as places in the image.
 #[derive(Clone, Copy, Debug)]
@@ -98,7 +96,7 @@ fn survey(image: &Image, table: u64, chains: Bytes, header: ChainHeader) -> Poin
     if has_bad_entries(image, chains, header, count) {
         return found;
     }
-    let encryption = first_place(image, LC_ENCRYPTION_INFO_64);
+    let encryption = Encryption::of(image);
     let mut index = 0;
     for segment in image.segments() {
         if index == count {
@@ -111,12 +109,11 @@ fn survey(image: &Image, table: u64, chains: Bytes, header: ChainHeader) -> Poin
     found
 }
 
-// Follows the chains of the segment, which has this index. The first command with an encrypted range is at
-// `encryption`, if there is one.
+// Follows the chains of the segment, which has this index.
 fn segment_survey(
     image: &Image,
     segment: &Segment,
-    encryption: Option<u64>,
+    encryption: Encryption,
     table: u64,
     chains: Bytes,
     header: ChainHeader,
@@ -125,7 +122,7 @@ fn segment_survey(
     requires image { segment.now.image ≡ image.now }
     requires structure { segment.now.place + SEGMENT_COMMAND_64_SIZE ≤ length segment.now.image }
     requires file { ¬ PassesImage segment.now.image segment.now.place }
-    requires encryption { encryption ≡ first_encryption image.now }
+    requires encryption { IsEncryptionOf image.now encryption }
     requires table { table + length (bytes_of chains) < 2 ^ 64 }
     requires entry { entry_offset header index + SEG_INFO_OFFSET_SIZE ≤ length (bytes_of chains) }
     ensures { AreLeastPlaces
@@ -157,37 +154,70 @@ pub struct ChainLimits {
 }
 
 /// The offset up to which a loader finds the segment as it is in the file, and can write it. It is 0 if a kernel
-/// decrypts some of it.
+/// decrypts some of it, or if the image has more than one encrypted range.
 pub fn plain_room(image: &Image, segment: &Segment) -> u64
     requires image { segment.now.image ≡ image.now }
     requires structure { segment.now.place + SEGMENT_COMMAND_64_SIZE ≤ length segment.now.image }
     ensures { IsRoom segment.now.image segment.now.place result }
 {
-    room_beside(image, segment, first_place(image, LC_ENCRYPTION_INFO_64))
+    room_beside(image, segment, Encryption::of(image))
 }
 
-// The same, where the first command with an encrypted range is known.
-fn room_beside(image: &Image, segment: &Segment, encryption: Option<u64>) -> u64
+// The same, where it is known what is encrypted of the image.
+fn room_beside(image: &Image, segment: &Segment, encryption: Encryption) -> u64
     requires image { segment.now.image ≡ image.now }
     requires structure { segment.now.place + SEGMENT_COMMAND_64_SIZE ≤ length segment.now.image }
-    requires encryption { encryption ≡ first_encryption image.now }
+    requires encryption { IsEncryptionOf image.now encryption }
     ensures { IsRoom segment.now.image segment.now.place result }
 {
-    if is_protected(segment) || shares_encrypted(image, segment.file_part(), encryption) {
-        0
-    } else {
+    if !is_protected(segment) && is_clear(image, segment.file_part(), encryption) {
         room(segment)
+    } else {
+        0
     }
 }
 
-// Whether a byte of the span is in an encrypted range. The commands are walked only if one of them has such a range.
-fn shares_encrypted(image: &Image, span: Span, encryption: Option<u64>) -> bool
-    requires { encryption ≡ first_encryption image.now }
-    ensures { IsTrue result ↔ Any (Encrypts span image.now) (commands_of image.now) }
+// The commands of an image with encrypted ranges. If there are several, no segment has room for pointers, so only the
+// first one is ever compared with a segment.
+#[derive(Clone, Copy, Debug)]
+struct Encryption<'a> {
+    // The first of them.
+    first: Option<Command<'a>>,
+    // Whether there is no second one.
+    is_single: bool,
+}
+
+impl<'a> Encryption<'a> {
+    ghost use Rattle.macho_linked.specs.ChainPages.{IsEncryptionOf};
+
+    // Walks over the commands, at most twice.
+    fn of(image: &Image<'a>) -> Encryption<'a>
+        ensures { IsEncryptionOf image.now result }
+    {
+        // The commands lie in the image, so their number is below 2^64.
+        prove!(image.bytes().len() <= u64::MAX);
+        let count = image
+            .commands()
+            .filter(|command| command.cmd == LC_ENCRYPTION_INFO_64)
+            .count();
+        Encryption {
+            first: image.first_command(LC_ENCRYPTION_INFO_64),
+            is_single: count <= 1,
+        }
+    }
+}
+
+// Whether the image has at most one encrypted range, and no byte of the span is in it.
+fn is_clear(image: &Image, span: Span, encryption: Encryption) -> bool
+    requires { IsEncryptionOf image.now encryption }
+    ensures { IsTrue result ↔ IsClear span image.now }
 {
-    match encryption {
-        Some(_) => is_encrypted(image, span),
-        None => false,
+    if !encryption.is_single {
+        return false;
+    }
+    match encryption.first {
+        Some(command) => !encrypts(image, &command, span),
+        None => true,
     }
 }
 

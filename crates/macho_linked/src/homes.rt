@@ -201,7 +201,7 @@ pub fn is_home(segment: &Segment, table: Span) -> bool
 }
 
 // Whether a byte of the table is in an encrypted range.
-pub(crate) fn is_encrypted(image: &Image, table: Span) -> bool
+fn is_encrypted(image: &Image, table: Span) -> bool
     ensures { IsTrue result ↔ Any (Encrypts table image.now) (commands_of image.now) }
 {
     image
@@ -210,7 +210,7 @@ pub(crate) fn is_encrypted(image: &Image, table: Span) -> bool
 }
 
 // Whether the command has an encrypted range with a byte of the table.
-fn encrypts(image: &Image, command: &Command, table: Span) -> bool
+pub(crate) fn encrypts(image: &Image, command: &Command, table: Span) -> bool
     requires { IsCommandOf image.now (command_of command.now) }
     ensures { IsTrue result ↔ Encrypts table image.now command.now.place }
 {

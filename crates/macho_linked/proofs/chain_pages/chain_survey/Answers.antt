@@ -1,4 +1,4 @@
-use Rattle.std.proofs.Common.{◌≡◌, ◌+◌, ◌≤◌, ℕ, List, Some, ap, ◌∙◌, sym, subst, arith}
+use Rattle.std.proofs.Common.{◌≡◌, ◌+◌, ◌≤◌, ℕ, List, Some, length, ap, ◌∙◌, sym, subst, arith}
 use Rattle.macho_fields.specs.Bytes.{bytes_of}
 use Rattle.macho_fields.specs.FirstPlace.{IsLeastPlace}
 use Rattle.macho_fields.specs.Image.{long}
@@ -30,6 +30,17 @@ loop-next-init c =
       slot = walk_start image segment c.args.starts c.args.page (HasBadNext image segment c.args.starts c.args.page) c.args.first;
       bind = walk_start image segment c.args.starts c.args.page (BindsNone image segment c.args.starts c.args.limits.imports) c.args.first;
     }
+
+pub overflow_add-place : goal.overflow_add-place
+overflow_add-place c =
+    let image = c.args.segment.now.image in
+    let segment = c.args.segment.now.place in
+    let fits = limit_fits image segment c.args.starts c.args.page c.args.limits.room c.page_limit-last.result c.requires.room c.page_limit-last.ensures in
+    let first = (fits c.args.first).1 c.requires.first in
+    let low : c.loop-next.offset + 8 ≤ c.page_limit-last.result = omega (arith, first, c.loop-next.invariant.within) in
+    let inside = fits_inside image segment c.args.starts c.args.page c.requires.file c.loop-next.offset ((fits c.loop-next.offset).0 low) in
+    let bound = c.image-image.type_inv in
+    omega (arith, inside, bound, c.fileoff-start.ensures, ap length c.image-image.ensures)
 
 pub read-pointer-requires : goal.read-pointer-requires
 read-pointer-requires c =
