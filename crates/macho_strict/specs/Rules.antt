@@ -85,7 +85,7 @@ HasMisplacedRange image command =
     ⊎ ¬ Any (HasBytes image (cryptoff image command)
     (cryptoff image command + cryptsize image command)) (all_segments image))
 
--- the place is in the name of a command, up to and with the zero byte that ends it
+-- the place is in the name of a command, up to and including the zero byte that ends it
 abbrev pub IsInName : List ℕ → ℕ → Structure → ℕ → Type 0
 IsInName image command structure place =
     (has_name structure ≡ true) × (name_start image command ≤ place)

@@ -294,7 +294,7 @@ impl Chains<'_> {
         Some(index)
     }
 
-    // How many bytes the names up to and with that of the import with this index have, a zero byte for each
+    // How many bytes the names up to and including that of the import with this index have, a zero byte for each
     // included. It is `None` if those before it have more bytes than the table.
     fn names_size(&self, index: u32) -> Option<u128>
         requires inside { ¬ ImportsEndPast (bytes_of self.now.bytes) self.now.header }

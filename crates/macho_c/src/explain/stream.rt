@@ -180,13 +180,13 @@ fn opcode_conflict(
     }
 }
 
-// How many pointers were written up to and with an opcode.
+// How many pointers were written up to and including an opcode.
 fn written_with(reached: &Reached) -> Option<u64> {
     let own = u128::from(reached.step?.writes());
     Some(clamped(reached.written.saturating_add(own)))
 }
 
-// How many bytes of names were looked up up to and with an opcode.
+// How many bytes of names were looked up up to and including an opcode.
 fn named_with(reached: &Reached) -> Option<u64> {
     let own = u128::from(reached.cursor.looks_up(reached.step?));
     Some(clamped(reached.named.saturating_add(own)))
