@@ -503,16 +503,16 @@ size_t kesvuot_read_relocations(const void *file, size_t size, const struct kesv
                                 size_t max);
 
 /* The addresses of functions, before any slide, by the first LC_FUNCTION_STARTS. Each is below the next one.
- * The data of the command is ULEB128 numbers: each says how far a function is past the one before it, and the first one
- * how far past `base` of the image. The functions end before a number 0, a number that does not end in the data or in 10
- * bytes, an address of 2^64 or more, and at the end of the data. There are none if the image has no base. In a file that
- * was not accepted, there are also none if the data ends past the slice.
+ * The data of the command is ULEB128 numbers: each says how far a function is past the one before it, and the first
+ * one how far past `base` of the image. The functions end before a number 0, a number that does not end in the data or
+ * in 10 bytes, an address of 2^64 or more, and at the end of the data. There are none if the image has no base. In a
+ * file that was not accepted, there are also none if the data ends past the slice.
  * No profile judges the numbers yet: an address can be in no segment, or in one without code. */
 size_t kesvuot_read_function_starts(const void *file, size_t size, const struct kesvuot_image *image,
                                     struct kesvuot_cursor *cursor, uint64_t *rows, size_t max);
 
-/* The data in the code, by the first LC_DATA_IN_CODE: the entries that are whole. In a file that was not accepted, there
- * are none if the data of the command ends past the slice.
+/* The data in the code, by the first LC_DATA_IN_CODE: the entries that are whole. In a file that was not accepted,
+ * there are none if the data of the command ends past the slice.
  * No profile judges the entries yet: they can be in any order, overlap, and be of no code. */
 size_t kesvuot_read_data_in_code(const void *file, size_t size, const struct kesvuot_image *image,
                                  struct kesvuot_cursor *cursor, struct kesvuot_data_in_code *rows, size_t max);

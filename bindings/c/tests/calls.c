@@ -561,8 +561,8 @@ static const uint32_t CODE[] = {
     0x26, 16, 136, 18, 0x29, 16, 156, 31,
     // 0x440, 1, 0x7f, 0x3fff, 0xfffffffeffffbb40 in ten bytes, 1 and 5
     0x7f0108c0, 0xf6c07fff, 0xffeffffe, 0x1ffffff, 0x501,
-    // three entries: the last byte, two bytes of which one is past the image, the data of LC_FUNCTION_STARTS; another one
-    // of which the data has seven bytes
+    // three entries: the last byte, two bytes of which one is past the image, the data of LC_FUNCTION_STARTS; another
+    // one, of which the data has seven bytes
     187, 1 | 5 << 16, 187, 2 | 2 << 16, 136, 18 | 0xffffu << 16, 0, 8 | 1 << 16,
 };
 enum { CODE_SIZE = sizeof CODE, STARTS = 5, ENTRIES = 3, STARTS_SIZE_AT = 29, BEFORE = 40 };
