@@ -70,6 +70,9 @@ rank rule.ChainTotal = 57
 rank rule.ChainLibrary = 58
 rank rule.ChainSlot = 59
 rank rule.ChainBind = 60
+rank rule.FunctionNumber = 61
+rank rule.FunctionStart = 62
+rank rule.DataInCode = 63
 
 -- the number by which programs know a rule. It never changes: a rule that is added takes the next free
 -- one, wherever it stands
@@ -134,6 +137,9 @@ rule_number rule.ChainTotal = 57
 rule_number rule.ChainLibrary = 58
 rule_number rule.ChainSlot = 59
 rule_number rule.ChainBind = 60
+rule_number rule.FunctionNumber = 61
+rule_number rule.FunctionStart = 62
+rule_number rule.DataInCode = 63
 
 -- the profile that a rule belongs to
 abbrev pub profile_of : Rule → Profile
@@ -166,6 +172,9 @@ profile_of rule.ChainTotal = Linked
 profile_of rule.ChainLibrary = Linked
 profile_of rule.ChainSlot = Linked
 profile_of rule.ChainBind = Linked
+profile_of rule.FunctionNumber = Linked
+profile_of rule.FunctionStart = Linked
+profile_of rule.DataInCode = Linked
 profile_of other = Layout
 
 -- the name of a rule, as ASCII text
@@ -230,6 +239,9 @@ name_of rule.ChainTotal = codes "chain-total"
 name_of rule.ChainLibrary = codes "chain-library"
 name_of rule.ChainSlot = codes "chain-slot"
 name_of rule.ChainBind = codes "chain-bind"
+name_of rule.FunctionNumber = codes "function-number"
+name_of rule.FunctionStart = codes "function-start"
+name_of rule.DataInCode = codes "data-in-code"
 
 -- the text of a break: the name of its rule, and its place in lower-case hexadecimal
 abbrev pub text_of : Break → List ℕ

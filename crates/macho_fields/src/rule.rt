@@ -151,6 +151,13 @@ pub enum Rule {
     ChainSlot = 59,
     /// A pointer of a chain binds an import that is not there.
     ChainBind = 60,
+    /// A number of the function starts does not end, or a byte after the last one is not 0.
+    FunctionNumber = 61,
+    /// A function does not start in the file bytes of a mapped segment.
+    FunctionStart = 62,
+    /// An entry of the data in code is cut, of a kind that is not known, or not in the file bytes of an
+    /// executable segment.
+    DataInCode = 63,
 }
 
 // The name of a rule with what comes after it, so that one list serves every reader of names.
@@ -217,6 +224,9 @@ macro_rules! name_before {
             Rule::ChainLibrary => concat!("chain-library", $end),
             Rule::ChainSlot => concat!("chain-slot", $end),
             Rule::ChainBind => concat!("chain-bind", $end),
+            Rule::FunctionNumber => concat!("function-number", $end),
+            Rule::FunctionStart => concat!("function-start", $end),
+            Rule::DataInCode => concat!("data-in-code", $end),
         }
     };
 }
@@ -284,6 +294,9 @@ impl Rule {
         Rule::ChainLibrary,
         Rule::ChainSlot,
         Rule::ChainBind,
+        Rule::FunctionNumber,
+        Rule::FunctionStart,
+        Rule::DataInCode,
     ];
 
     /// The name of the rule in reports, in lower case.
@@ -358,7 +371,10 @@ impl Rule {
             | Rule::ChainTotal
             | Rule::ChainLibrary
             | Rule::ChainSlot
-            | Rule::ChainBind => Profile::Linked,
+            | Rule::ChainBind
+            | Rule::FunctionNumber
+            | Rule::FunctionStart
+            | Rule::DataInCode => Profile::Linked,
             _ => Profile::Layout,
         }
     }
