@@ -1,12 +1,13 @@
 -- The first command of each unique kind.
 use Rattle.std.proofs.Common.{◌≡◌, ◌==◌, ◌&&◌, ℕ, suc, zero, ◌<◌, List, [], ◌∷◌, ◌++◌, Bool, true, false, not, cond}
 use Rattle.std.proofs.Common.{map, length, set, get_or, Contains, find, Option, Some, None, refl, sym, ap, ap₂, ◌∙◌, subst, arith, inl, inr}
-use Rattle.std.specs.Prelude.{⊤}
+use Rattle.std.specs.Prelude.{⊤, unwrap_or}
 use Rattle.std.specs.List.{list_any, position_or_len}
 use Rattle.std.specs.Option.{option_map, option_or}
 use Rattle.std.proofs.lemmas.List.Quantifiers.{position-Some}
 use Rattle.std.proofs.lemmas.Bool.{cases_Bool, cases_lt, lt-ltb, false≢true, and_parts, not-true, eqb-true, eq-eqb, ne_eqb}
 use Rattle.std.proofs.lemmas.List.{get_or-map, get_or_default}
+use Rattle.std.proofs.lemmas.List.Elements.{Contains-append_cases}
 use Rattle.std.proofs.lemmas.List.Folds.{Any-from_list_any, list_any-from_Any}
 use Rattle.std.proofs.lemmas.List.Sums.{fails_before_first}
 use Rattle.macho_fields.specs.Image.{command_cmd}
@@ -14,7 +15,7 @@ use Rattle.macho_fields.specs.LoadCommands.{structure_of, unique_commands, uniqu
 use Rattle.macho_fields.specs.declared.header.loader.TheConstants as loader
 use Rattle.macho_fields.specs.LoadCommands.{LoadCommand}
 use Rattle.macho_fields.specs.declared.load_command.Structure.TheVariants.{SymtabCommand}
-use Rattle.macho_fields.proofs.Lists.{none_by_test, none_in_nil, contains_first, contains_later}
+use Rattle.macho_fields.proofs.Lists.{none_by_test, none_in_nil, contains_first, contains_later, first_or_later}
 use Rattle.macho_image.specs.Command.{first_with_cmd}
 use Rattle.macho_image.specs.Walk.{AreFirst}
 use Rattle.macho_image.specs.declared.unique.UniquePlaces.{UniquePlaces}
@@ -131,36 +132,6 @@ no_index_is_unique cmd none unique =
     let (i, command, less, at, test) = Any-from_list_any (λ command. command.cmd == cmd) unique_commands unique in
     no_cmd_at cmd none (i, less, get_or-map (λ command. command.cmd) unique_commands i command cmd less ∙ (ap (λ (c : LoadCommand). c.cmd) at ∙ eqb-true command.cmd cmd test))
 
-pub place_at : (image commands : List ℕ) (places : List (Option ℕ)) (cmd i : ℕ) → unique_index cmd ≡ Some i
-    → places ≡ map (λ unique. first_with_cmd image unique commands) unique_cmds → get_or places i None ≡ first_with_cmd image cmd commands
-place_at image commands places cmd i is first =
-    let (less, at) = cmd_at cmd i is in
-    ap (λ ps. get_or ps i None) first ∙ (get_or-map (λ unique. first_with_cmd image unique commands) unique_cmds i cmd None less ∙ ap (λ unique. first_with_cmd image unique commands) at)
-
-pub note_place : (image commands : List ℕ) (places : List (Option ℕ)) (cmd i p : ℕ) → unique_index cmd ≡ Some i → cmd ≡ command_cmd image p
-    → places ≡ map (λ unique. first_with_cmd image unique commands) unique_cmds
-    → set places i (option_or (get_or places i None) (Some p)) ≡ map (λ unique. first_with_cmd image unique (commands ++ p ∷ [])) unique_cmds
-note_place image commands places cmd i p is cmd_is first =
-    let (less, at) = cmd_at cmd i is in
-    let here = place_at image commands places cmd i is first in
-    ap (λ ps. set ps i (option_or (get_or places i None) (Some p))) first
-    ∙ set_one (λ unique. first_with_cmd image unique commands) (λ unique. first_with_cmd image unique (commands ++ p ∷ [])) cmd i (option_or (get_or places i None) (Some p)) unique_cmds
-    (distinct_by_test unique_cmds refl) less at others (first_more image cmd p commands ∙ ap₂ (λ old new. option_or old new) (sym here) mine)
-  where
-    mine : cond (command_cmd image p == cmd) (Some p) None ≡ Some p
-    mine = rw (eq-eqb (command_cmd image p) cmd (sym cmd_is)) refl
-
-    others : (k : ℕ) → ¬ (k ≡ cmd) → first_with_cmd image k (commands ++ p ∷ []) ≡ first_with_cmd image k commands
-    others k other = first_other image k p commands (λ same. other (sym (cmd_is ∙ same)))
-
-pub note_other : (image commands : List ℕ) (places : List (Option ℕ)) (cmd p : ℕ) → unique_index cmd ≡ None → cmd ≡ command_cmd image p
-    → places ≡ map (λ unique. first_with_cmd image unique commands) unique_cmds → places ≡ map (λ unique. first_with_cmd image unique (commands ++ p ∷ [])) unique_cmds
-note_other image commands places cmd p is cmd_is first =
-    first ∙ sym (same_values (λ unique. first_with_cmd image unique commands) (λ unique. first_with_cmd image unique (commands ++ p ∷ [])) unique_cmds
-    (λ k has. first_other image k p commands (λ same. no_cmd_at cmd is (subst (Contains unique_cmds) (sym (cmd_is ∙ same)) has))))
-
--- A command of which an image has any number changes no place
-
 no_index : (cmd : ℕ) → ¬ IsUnique cmd → unique_index cmd ≡ None
 no_index cmd other = by (unique_index cmd) refl
   where
@@ -168,9 +139,76 @@ no_index cmd other = by (unique_index cmd) refl
     by None is = refl
     by (Some i) is = absurd (other (index_is_unique cmd i is))
 
-pub first_kept : (image commands : List ℕ) (unique : UniquePlaces) (cmd p : ℕ) → ¬ IsUnique cmd → cmd ≡ command_cmd image p → AreFirst image commands unique
-    → AreFirst image (commands ++ p ∷ []) unique
-first_kept image commands unique cmd p other is first = record { places = note_other image commands unique.places cmd p (no_index cmd other) is first.places }
+-- no command of one more is at 0
+none_at_zero : (commands : List ℕ) (p : ℕ) → ¬ Contains commands 0 → 0 < p → ¬ Contains (commands ++ p ∷ []) 0
+none_at_zero commands p none after has = elim (Contains-append_cases commands (p ∷ []) 0 has) [
+  | inl before ↦ none before
+  | inr here ↦ elim (first_or_later p 0 [] here) [ inl same ↦ omega arith | inr later ↦ none_in_nil 0 later ]
+]
+
+-- what a place says of the first command, which is not at 0
+by_place : (first : Option ℕ) (place : ℕ) → place ≡ unwrap_or first 0 → ¬ (first ≡ Some 0) → (place ≡ 0 → first ≡ None) × (¬ (place ≡ 0) → first ≡ Some place)
+by_place None place is other = (λ none. refl, λ some. absurd (some is))
+by_place (Some p) place is other = (λ none. absurd (other (ap Some (sym is ∙ none))), λ some. ap Some (sym is))
+
+module _ (image commands : List ℕ) (unique : UniquePlaces) (first : AreFirst image commands unique) where
+  -- a command of a kind of which an image has at most one
+  module _ (cmd i : ℕ) (is : unique_index cmd ≡ Some i) where
+    place_at : get_or unique.places i 0 ≡ unwrap_or (first_with_cmd image cmd commands) 0
+    place_at =
+        let (less, at) = cmd_at cmd i is in
+        ap (λ ps. get_or ps i 0) first.places
+        ∙ (get_or-map (λ other. unwrap_or (first_with_cmd image other commands) 0) unique_cmds i cmd 0 less
+        ∙ ap (λ other. unwrap_or (first_with_cmd image other commands) 0) at)
+
+    by_index : (get_or unique.places i 0 ≡ 0 → first_with_cmd image cmd commands ≡ None) × (¬ (get_or unique.places i 0 ≡ 0) → first_with_cmd image cmd commands ≡ Some (get_or unique.places i 0))
+    by_index = by_place (first_with_cmd image cmd commands) (get_or unique.places i 0) place_at (λ at. first.after_header ((first_is image cmd 0 commands at).0))
+
+    pub none_at : get_or unique.places i 0 ≡ 0 → first_with_cmd image cmd commands ≡ None
+    none_at = by_index.0
+
+    pub some_at : ¬ (get_or unique.places i 0 ≡ 0) → first_with_cmd image cmd commands ≡ Some (get_or unique.places i 0)
+    some_at = by_index.1
+
+    -- one command more of the kind
+    module _ (p : ℕ) (cmd_is : cmd ≡ command_cmd image p) (after : 0 < p) where
+      others : (k : ℕ) → ¬ (k ≡ cmd) → first_with_cmd image k (commands ++ p ∷ []) ≡ first_with_cmd image k commands
+      others k other = first_other image k p commands (λ same. other (sym (cmd_is ∙ same)))
+
+      pub first_noted : get_or unique.places i 0 ≡ 0 → AreFirst image (commands ++ p ∷ []) (record { places = set unique.places i p })
+      first_noted empty =
+          let (less, at) = cmd_at cmd i is in record {
+            places = ap (λ ps. set ps i p) first.places
+                ∙ set_one (λ k. unwrap_or (first_with_cmd image k commands) 0) (λ k. unwrap_or (first_with_cmd image k (commands ++ p ∷ [])) 0) cmd i p unique_cmds
+                (distinct_by_test unique_cmds refl) less at (λ k other. ap (λ found. unwrap_or found 0) (others k other)) (ap (λ found. unwrap_or found 0) found);
+            after_header = none_at_zero commands p first.after_header after;
+          }
+        where
+          found : first_with_cmd image cmd (commands ++ p ∷ []) ≡ Some p
+          found = first_more image cmd p commands ∙ ap₂ (λ old new. option_or old (cond new (Some p) None)) (none_at empty) (eq-eqb (command_cmd image p) cmd (sym cmd_is))
+
+      pub second_noted : ¬ (get_or unique.places i 0 ≡ 0) → AreFirst image (commands ++ p ∷ []) unique
+      second_noted some = record {
+        places = first.places ∙ sym (same_values (λ k. unwrap_or (first_with_cmd image k commands) 0) (λ k. unwrap_or (first_with_cmd image k (commands ++ p ∷ [])) 0) unique_cmds (λ k has. ap (λ found. unwrap_or found 0) (same k)));
+        after_header = none_at_zero commands p first.after_header after;
+      }
+        where
+          same : (k : ℕ) → first_with_cmd image k (commands ++ p ∷ []) ≡ first_with_cmd image k commands
+          same k = elim (cases_Bool (k == cmd)) [
+            | inl is_it ↦
+                let it = some_at some in
+                subst (λ n. first_with_cmd image n (commands ++ p ∷ []) ≡ first_with_cmd image n commands) (sym (eqb-true k cmd is_it))
+                (first_more image cmd p commands ∙ (ap (λ old. option_or old (cond (command_cmd image p == cmd) (Some p) None)) it ∙ sym it))
+            | inr other ↦ others k (λ e. false≢true (sym other ∙ eq-eqb k cmd e))
+          ]
+
+  -- a command of which an image has any number changes no place
+  pub first_kept : (cmd p : ℕ) → ¬ IsUnique cmd → cmd ≡ command_cmd image p → 0 < p → AreFirst image (commands ++ p ∷ []) unique
+  first_kept cmd p other cmd_is after = record {
+    places = first.places ∙ sym (same_values (λ k. unwrap_or (first_with_cmd image k commands) 0) (λ k. unwrap_or (first_with_cmd image k (commands ++ p ∷ [])) 0) unique_cmds
+        (λ k has. ap (λ found. unwrap_or found 0) (first_other image k p commands (λ same. no_cmd_at cmd (no_index cmd other) (subst (Contains unique_cmds) (sym (cmd_is ∙ same)) has)))));
+    after_header = none_at_zero commands p first.after_header after;
+  }
 
 none_found : {X : Type 0} (test : X → Bool) (xs : List X) → find test xs ≡ None → list_any test xs ≡ false
 none_found test [] none = refl

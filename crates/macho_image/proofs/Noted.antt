@@ -50,6 +50,10 @@ module _ (image : List ℕ) (walked place : ℕ) (at : IsAt image walked place) 
   pub passed_next : first_commands image (walked + 1) ≡ first_commands image walked ++ place ∷ []
   passed_next = passed_and 1 ∙ ap (λ ps. ps ++ place ∷ []) (sym passed_are)
 
+  -- it is after the header
+  pub passed_header : 0 < place
+  passed_header = let after = chain_up image 32 at.places place at.chain in omega (arith, after)
+
   -- those that were passed are before it
   pub passed_before : (q : ℕ) → Contains (first_commands image walked) q → q < place
   passed_before q has = chain_below image 32 at.places place at.chain q (subst (λ ps. Contains ps q) passed_are has)
@@ -129,7 +133,7 @@ module _ (image : List ℕ) (walked place : ℕ) (at : IsAt image walked place) 
     -- a command that is not listed is no landmark
     pub landmarks_kept : (landmarks : Landmarks) → structure_of cmd ≡ None → AreLandmarks image walked landmarks → AreLandmarks image (walked + 1) landmarks
     landmarks_kept landmarks none are = record {
-      first = subst (λ ps. AreFirst image ps landmarks.unique) (sym passed_next) (first_kept image (first_commands image walked) landmarks.unique cmd place (unlisted_is_not_unique cmd none) is are.first);
+      first = subst (λ ps. AreFirst image ps landmarks.unique) (sym passed_next) (first_kept image (first_commands image walked) landmarks.unique are.first cmd place (unlisted_is_not_unique cmd none) is passed_header);
       segments = range_kept (is_segment image) landmarks.segments are.segments (fails_as_segment (unlisted_is_no_segment cmd none));
       tables = range_kept (names_table image) landmarks.tables are.tables (names_by None none);
     }

@@ -1,6 +1,6 @@
 -- A walk over the commands of an image, and what it notes of them.
 use Rattle.std.specs.Prelude.{◌≡◌, ℕ, ◌+◌, ◌-◌, ◌≤◌, ◌<◌, ◌==◌, List, []}
-use Rattle.std.specs.Prelude.{length, map, filter, All, Bool, true, false, not}
+use Rattle.std.specs.Prelude.{length, map, filter, All, Bool, true, false, not, Contains, unwrap_or}
 use Rattle.std.specs.Option.{option_map_or}
 use Rattle.macho_fields.specs.Bytes.{bytes_of}
 use Rattle.macho_fields.specs.Command.{IsShort, HasBadName, RepeatsEarlier}
@@ -25,9 +25,11 @@ use Rattle.macho_image.specs.declared.walk.Candidate.{Candidate}
 abbrev pub breaks_of : Candidate → Rule → ℕ → Type 0
 breaks_of candidate = BreaksImage (bytes_of candidate.bytes) candidate.arch
 
--- for each unique cmd, in their order, the place is that of its first command
+-- for each unique cmd, in their order, the place is that of its first command, and 0 where it has
+-- none: no command is at 0
 pub record AreFirst (image commands : List ℕ) (unique : UniquePlaces) : Type 0 where
-  pub places : unique.places ≡ map (λ cmd. first_with_cmd image cmd commands) unique_cmds
+  pub places : unique.places ≡ map (λ cmd. unwrap_or (first_with_cmd image cmd commands) 0) unique_cmds
+  pub after_header : ¬ Contains commands 0
 
 -- the command is long enough for its structure, and has a bad name
 abbrev pub IsWholeAndMisnamed : List ℕ → ℕ → Type 0

@@ -1,6 +1,6 @@
 //! The commands of which an image has at most one. (`mach-o/loader.h`: `load_command`)
 
-ghost use Rattle.std.specs.Prelude.{◌≡◌, ◌∷◌, ◌++◌, ◌↔◌, [], ℕ, List, None, IsTrue, IsSome};
+ghost use Rattle.std.specs.Prelude.{◌≡◌, ◌<◌, ◌∷◌, ◌++◌, ◌↔◌, [], ℕ, List, None, IsTrue, IsSome};
 ghost use Rattle.macho_fields.specs.Image.{command_cmd};
 ghost use Rattle.macho_fields.specs.LoadCommands.{IsUnique};
 ghost use Rattle.macho_image.specs.Command.{first_with_cmd};
@@ -9,11 +9,11 @@ ghost use Rattle.macho_image.specs.Walk.{AreFirst};
 use crate::command::Command;
 use macho_fields::{UNIQUE_COUNT, unique_index};
 
-// For each of these commands, at its `macho_fields::unique_index`, the place of the first one, or
-// `None` if there is none.
+// For each of these commands, at its `macho_fields::unique_index`, the place of the first one, or 0 if
+// there is none: no command is at 0, where the header is.
 #[derive(Clone, Copy)]
 pub(crate) struct UniquePlaces {
-    places: [Option<u64>; UNIQUE_COUNT],
+    places: [u64; UNIQUE_COUNT],
 }
 
 impl UniquePlaces {
@@ -22,7 +22,7 @@ impl UniquePlaces {
         ensures { (image : List ℕ) → AreFirst image [] result }
     {
         UniquePlaces {
-            places: [None; UNIQUE_COUNT],
+            places: [0; UNIQUE_COUNT],
         }
     }
 
@@ -33,7 +33,11 @@ impl UniquePlaces {
         ensures other { ¬ IsUnique cmd → result ≡ None }
     {
         let index = unique_index(cmd)?;
-        self.places[index]
+        let place = self.places[index];
+        if place == 0 {
+            return None;
+        }
+        Some(place)
     }
 
     // Notes a command that comes after those noted before. Returns whether it is a second one of
@@ -41,7 +45,7 @@ impl UniquePlaces {
     pub(crate) fn note(&mut self, command: Command) -> bool
         ensures first { (image commands : List ℕ)
             → command.entry.cmd ≡ command_cmd image command.entry.place
-            → AreFirst image commands self.old
+            → 0 < command.entry.place → AreFirst image commands self.old
             → AreFirst image (commands ++ command.entry.place ∷ []) self.new }
         ensures second { (image commands : List ℕ) → AreFirst image commands self.old
             → (IsTrue result ↔ IsUnique command.entry.cmd
@@ -50,8 +54,10 @@ impl UniquePlaces {
         let Some(index) = unique_index(command.cmd) else {
             return false;
         };
-        let is_second = self.places[index].is_some();
-        self.places[index] = self.places[index].or(Some(command.place));
-        is_second
+        if self.places[index] != 0 {
+            return true;
+        }
+        self.places[index] = command.place;
+        false
     }
 }

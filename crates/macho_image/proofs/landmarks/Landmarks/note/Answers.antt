@@ -2,7 +2,7 @@ use Rattle.std.proofs.Common.{◌≡◌, ◌+◌, ℕ, List, not, ap, sym, subst
 use Rattle.macho_fields.specs.Image.{command_cmd}
 use Rattle.macho_image.specs.Walk.{AreFirst, AreLandmarks, IsAt, IsRange, first_commands, is_segment, names_table}
 use Rattle.macho_image.proofs.FirstWithCmd.{first_kept, segment_is_not_unique}
-use Rattle.macho_image.proofs.Noted.{fails_as_segment, names_by, passed_next, passes_as_segment, range_kept, range_noted, segment_names_none}
+use Rattle.macho_image.proofs.Noted.{fails_as_segment, names_by, passed_header, passed_next, passes_as_segment, range_kept, range_noted, segment_names_none}
 use Rattle.macho_image.proofs.Repeated.{repeats_second}
 use Rattle.macho_image.proofs.landmarks.Landmarks.note.Goals as goal
 use Rattle.macho_image.proofs.landmarks.Landmarks.note.Goals.{After-note-2, then-not-is_empty, else-not-is_empty}
@@ -13,7 +13,7 @@ returns-then-command-eq-LC_SEGMENT_64-clause-landmarks c image at is are =
     let place = c.args.command.place in
     let same = c.if-command-eq-LC_SEGMENT_64.true in record {
       first = subst (λ ps. AreFirst image ps before.unique) (sym (passed_next image c.args.index place at))
-          (first_kept image (first_commands image c.args.index) before.unique c.args.command.cmd place (segment_is_not_unique c.args.command.cmd same) is are.first);
+          (first_kept image (first_commands image c.args.index) before.unique are.first c.args.command.cmd place (segment_is_not_unique c.args.command.cmd same) is (passed_header image c.args.index place at));
       segments = range_noted image c.args.index place at (is_segment image) before.segments are.segments c.note.new.self (passes_as_segment image c.args.index place at c.args.command.cmd is same)
           c.note.ensures.first c.note.ensures.more;
       tables = range_kept image c.args.index place at (names_table image) before.tables are.tables
@@ -51,7 +51,7 @@ returns-clause-landmarks c image at is are =
     let place = c.args.command.place in
     let (same_unique, same_segments, tables) = tables_noted c image at is are in record {
       first = subst (λ ps. AreFirst image ps c.note-2.new.self) (sym (passed_next image c.args.index place at))
-          (c.note-2.ensures.first image (first_commands image c.args.index) is (subst (AreFirst image (first_commands image c.args.index)) (sym same_unique) are.first));
+          (c.note-2.ensures.first image (first_commands image c.args.index) is (passed_header image c.args.index place at) (subst (AreFirst image (first_commands image c.args.index)) (sym same_unique) are.first));
       segments = subst (IsRange image (is_segment image) (c.args.index + 1)) (sym same_segments)
           (range_kept image c.args.index place at (is_segment image) c.args.self.now.segments are.segments
           (fails_as_segment image c.args.index place at c.args.command.cmd is c.if-command-eq-LC_SEGMENT_64.false));
