@@ -41,7 +41,7 @@ least_same P Q to from None none = λ p q. none p (from p q)
 least_same P Q to from (Some place) (here, least) = (to place here, λ p q. least p (from p q))
 
 module _ (wanted : Wanted) (bytes : List ℕ) (spans : List Span) (start end : ℕ) (stray : Option ℕ) (walked : Walked wanted bytes spans start end stray) where
-  begins_before_end : start ≤ end
+  pub begins_before_end : start ≤ end
   begins_before_end = elim walked.last [
     | inl none ↦ omega (arith, none)
     | inr (j, filled, same) ↦ let low = walked.ends j filled in omega (arith, low, same)

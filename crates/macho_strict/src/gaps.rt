@@ -99,7 +99,7 @@ pub(crate) struct Gaps<'a> {
 }
 
 impl<'a> Gaps<'a> {
-    ghost use Rattle.std.specs.Prelude.{◌≡◌, ◌≤◌, ◌↔◌, ◌++◌, [], ◌∷◌, List, ℕ, true, IsTrue};
+    ghost use Rattle.std.specs.Prelude.{◌≡◌, ◌≤◌, ◌<◌, ◌↔◌, ◌++◌, [], ◌∷◌, List, ℕ, true, IsTrue};
     ghost use Rattle.macho_fields.specs.Bytes.{bytes_of};
     ghost use Rattle.macho_fields.specs.FirstPlace.{IsLeastPlace};
     ghost use Rattle.macho_spans.specs.declared.span.Span.{Span};
@@ -130,13 +130,42 @@ impl<'a> Gaps<'a> {
         if span.len == 0 {
             return;
         }
-        self.ascend = self.ascends_to(span.start);
+        if self.ascends_to(span.start) {
+            self.pass_after(span);
+        } else {
+            self.pass_back(span);
+        }
+    }
+
+    // Passes one more span, with which the spans ascend. It is not empty.
+    fn pass_after(&mut self, span: Span)
+        requires filled { 0 < span.len }
+        requires ascend { self.old.ascend ≡ true }
+        requires after { self.old.end ≤ span.start }
+        ensures { (wanted : Wanted) (bytes : List ℕ) (spans : List Span)
+            → ArePassed wanted bytes spans self.old
+            → ArePassed wanted bytes (spans ++ span ∷ []) self.new }
+    {
+        // Most spans begin where the one before them ends.
+        if self.end < u128::from(span.start) {
+            self.stray = self.stray_before(span.start);
+        }
+        self.start = span.start;
+        self.end = span.end();
+    }
+
+    // Passes one more span, with which the spans do not ascend. It is not empty.
+    fn pass_back(&mut self, span: Span)
+        requires filled { 0 < span.len }
+        requires back { ¬ ((self.old.ascend ≡ true) × (self.old.end ≤ span.start)) }
+        ensures { (wanted : Wanted) (bytes : List ℕ) (spans : List Span)
+            → ArePassed wanted bytes spans self.old
+            → ArePassed wanted bytes (spans ++ span ∷ []) self.new }
+    {
+        self.ascend = false;
         self.by_start = self.by_start && self.start <= span.start;
         if self.by_start {
-            // Most spans begin where the one before them ends.
-            if self.end < u128::from(span.start) {
-                self.stray = self.stray_before(span.start);
-            }
+            self.stray = self.stray_before(span.start);
             self.start = span.start;
             self.end = self.end.max(span.end());
         }
