@@ -153,6 +153,14 @@ struct linkedit_data_command {
 #define LC_FUNCTION_VARIANTS 0x37u
 #define LC_FUNCTION_VARIANT_FIXUPS 0x38u
 
+struct data_in_code_entry {
+    uint32_t offset;
+    uint16_t length, kind;
+};
+
+#define DICE_KIND_DATA 1u
+#define DICE_KIND_ABS_JUMP_TABLE32 5u
+
 struct dyld_info_command {
     uint32_t cmd, cmdsize, rebase_off, rebase_size, bind_off, bind_size, weak_bind_off, weak_bind_size, lazy_bind_off,
         lazy_bind_size, export_off, export_size;
@@ -1587,7 +1595,7 @@ static void judge_universal_strictly(const struct file *file, const struct unive
 // The linked profile of docs/LINKED.md, of files that break no rule above
 
 // The kinds of linked data that a command names, a bit for each. Fixups and exports can be of one command.
-enum { FIXUPS = 1, EXPORTS = 2, FUNCTION_STARTS = 4, DATA_IN_CODE = 8, SIGNATURE = 16 };
+enum { FIXUPS = 1, EXPORTS = 2, STARTS = 4, CODE = 8, SIGNATURE = 16 };
 
 static inline unsigned kinds_of(size_t slot) {
     switch (slot) {
@@ -1599,9 +1607,9 @@ static inline unsigned kinds_of(size_t slot) {
     case SLOT(LC_DYLD_EXPORTS_TRIE):
         return EXPORTS;
     case SLOT(LC_FUNCTION_STARTS):
-        return FUNCTION_STARTS;
+        return STARTS;
     case SLOT(LC_DATA_IN_CODE):
-        return DATA_IN_CODE;
+        return CODE;
     case SLOT(LC_CODE_SIGNATURE):
         return SIGNATURE;
     default:
@@ -2310,6 +2318,109 @@ static void judge_chains(const struct linked *linked, uint64_t place) {
     judge_imports(&chains);
 }
 
+// The file parts of mapped segments, sorted: by their addresses, or those that are executable by their bytes in the
+// file.
+static struct spans sorted_parts(const struct image *image, bool by_address, struct gathered *parts) {
+    const struct range *segments = &image->segments;
+    begin_gathered(parts, image->segment_count);
+    for (uint64_t place = segments->first; place != 0; place = next_place(image, segments, place)) {
+        const uint8_t *command = image->bytes + place;
+        if (!is_command(image, place, LC_SEGMENT_64)) {
+            continue;
+        }
+        struct segment segment = read_segment(command);
+        if (is_mapped(&segment) && (by_address || (protection_of(command) & VM_PROT_EXECUTE) != 0)) {
+            gather(parts, by_address ? segment.vmaddr : segment.fileoff, segment.filesize, place);
+        }
+    }
+    return sort_gathered(parts);
+}
+
+// function-number and function-start, in one walk over the numbers. Addresses ascend, and so do the parts: the one at
+// `part` is the first that ends at the address or after it. A sum of 2^64 or more breaks function-start, and wraps: of
+// what is noted after that no place is less.
+static void judge_starts_of(const struct linked *linked, struct stream *numbers, uint64_t start,
+    const struct spans *parts) {
+    const struct image *image = linked->image;
+    const struct span *part = parts->sorted, *end = part + parts->count;
+    uint64_t address = image->base, distance;
+    while (numbers->at < numbers->size) {
+        uint64_t place = start + numbers->at;
+        if (!read_number(numbers, &distance)) {
+            note_in(image, FUNCTION_NUMBER, place);
+            return;
+        }
+        if (distance == 0) {
+            uint64_t stray = first_nonzero(numbers->bytes, numbers->at, numbers->size);
+            if (stray < numbers->size) {
+                note_in(image, FUNCTION_NUMBER, start + stray);
+            }
+            return;
+        }
+        address += distance;
+        while (part < end && part->last < address) {
+            part++;
+        }
+        if (address < distance || part == end || address < part->start) {
+            note_in(image, FUNCTION_START, place);
+        }
+    }
+}
+
+// The rules of the function starts of an LC_FUNCTION_STARTS, which has some bytes.
+static void judge_function_starts(const struct linked *linked, const uint8_t *command) {
+    struct gathered gathered;
+    struct spans parts = sorted_parts(linked->image, true, &gathered);
+    uint64_t start = FIELD(command, linkedit_data_command, dataoff);
+    struct stream numbers = begin_stream(linked, start, FIELD(command, linkedit_data_command, datasize));
+    judge_starts_of(linked, &numbers, start, &parts);
+    free(gathered.spans);
+}
+
+// Whether the bytes of an entry are all in one of the parts, of which `part` is the one that was found last. An entry
+// without bytes is in each.
+static bool is_in_code(uint64_t offset, uint64_t length, const struct spans *parts, const struct span **part) {
+    if (length == 0) {
+        return true;
+    }
+    if (parts->count == 0) {
+        return false;
+    }
+    if (offset < (*part)->start || offset > (*part)->last) {
+        *part = last_up_to(parts, offset);
+    }
+    return offset >= (*part)->start && offset + (length - 1) <= (*part)->last;
+}
+
+// data-in-code: the entries
+static void judge_entries_of_code(const struct image *image, uint64_t start, uint64_t size, const struct spans *parts) {
+    const struct span *part = parts->sorted;
+    for (uint64_t place = start; place < start + size; place += sizeof(struct data_in_code_entry)) {
+        const uint8_t *entry = image->bytes + place;
+        uint64_t kind = FIELD(entry, data_in_code_entry, kind);
+        uint64_t offset = FIELD(entry, data_in_code_entry, offset);
+        uint64_t length = FIELD(entry, data_in_code_entry, length);
+        if (kind < DICE_KIND_DATA || kind > DICE_KIND_ABS_JUMP_TABLE32 || !is_in_code(offset, length, parts, &part)) {
+            note_in(image, DATA_IN_CODE, place);
+            return;
+        }
+    }
+}
+
+// data-in-code, of an LC_DATA_IN_CODE
+static void judge_data_in_code(const struct image *image, const uint8_t *command) {
+    uint64_t start = FIELD(command, linkedit_data_command, dataoff);
+    uint64_t size = FIELD(command, linkedit_data_command, datasize);
+    if (size % sizeof(struct data_in_code_entry) != 0) {
+        note_in(image, DATA_IN_CODE, start);
+        return;
+    }
+    struct gathered gathered;
+    struct spans parts = sorted_parts(image, false, &gathered);
+    judge_entries_of_code(image, start, size, &parts);
+    free(gathered.spans);
+}
+
 static void judge_image_linked(const struct image *image) {
     struct linked linked = {.image = image};
     survey_linked(&linked);
@@ -2326,6 +2437,10 @@ static void judge_image_linked(const struct image *image) {
             judge_streams(&linked, command, bounded_tables + listed_commands[slot].first_table);
         } else if (slot == SLOT(LC_DYLD_CHAINED_FIXUPS)) {
             judge_chains(&linked, linked.commands[k]);
+        } else if (slot == SLOT(LC_FUNCTION_STARTS)) {
+            judge_function_starts(&linked, command);
+        } else if (slot == SLOT(LC_DATA_IN_CODE)) {
+            judge_data_in_code(image, command);
         }
     }
 }

@@ -55,6 +55,7 @@ STRUCTURES = {
     "note_command": "u32 cmd  u32 cmdsize  16bytes data_owner  u64 offset  u64 size",
     "build_version_command": "u32 cmd  u32 cmdsize  u32 platform  u32 minos  u32 sdk  u32 ntools",
     "entry_point_command": "u32 cmd  u32 cmdsize  u64 entryoff  u64 stacksize",
+    "data_in_code_entry": "u32 offset  u16 length  u16 kind",
     # mach-o/nlist.h
     "nlist_64": "u32 n_strx  u8 n_type  u8 n_sect  u16 n_desc  u64 n_value",
     # mach-o/fixup-chains.h, without the arrays that follow
@@ -111,6 +112,9 @@ PAGE_SIZES = (0x1000, 0x4000)
 SPECIAL_ORDINALS = 15
 DYLD_CHAINED_PTR_START_NONE = 0xffff
 PAGE_START_SIZE, POINTER_SIZE = 2, 8
+
+# The kinds of data in code, from DICE_KIND_DATA up to and including DICE_KIND_ABS_JUMP_TABLE32.
+DICE_KINDS = range(1, 6)
 
 # The byte that Apple's linker fills the gaps of code with.
 NOP = b"\x90"
@@ -1190,6 +1194,75 @@ def chain_bind(image):
             if pointer is not None and pointer.binds is not None and pointer.binds >= count:
                 yield pointer.place
 
+# Function starts and data in code
+
+def table_of(image, kind):
+    """The table of this kind, of which one command names one, or None. (After `table-repeated` there is at most one.)"""
+    return next((table for table in linked_tables(image) if table.kind == kind), None)
+
+def function_numbers(image):
+    """The numbers of the function starts, up to the 0 that ends them, each with its place; and the place of the first
+    number that does not end or byte that is not 0, or None."""
+    table = table_of(image, "function starts")
+    numbers = []
+    place = table.start if table else 0
+    end = table.end if table else 0
+    while place < end:
+        try:
+            distance, after = operand(image.data, place, end, "number")
+        except Malformed:
+            return numbers, place
+        if distance == 0:
+            stray = first_other(image.data, after, end, b"\0")
+            return numbers, stray if stray < end else None
+        numbers.append((place, distance))
+        place = after
+    return numbers, None
+
+def last_before(starts, number_of):
+    """Of ascending starts the index of the last one that is not above the number, or None."""
+    at = bisect.bisect(starts, number_of)
+    return at - 1 if at > 0 else None
+
+def function_number(image):
+    """The number does not end in the table, or is not below 2^64; or a byte after the number 0 is not 0."""
+    _, broken = function_numbers(image)
+    if broken is not None:
+        yield broken
+
+def function_start(image):
+    """The base + the numbers up to and including this one is in no file part that is mapped."""
+    # No two segments share an address, so of those that begin at the address or before it only the last can have it.
+    mapped = sorted(filter(is_mapped, image.segments), key=lambda segment: segment.vmaddr)
+    starts = [segment.vmaddr for segment in mapped]
+    address = image.base
+    for place, distance in function_numbers(image)[0]:
+        address += distance
+        at = last_before(starts, address)
+        if at is None or not is_in_file_part(address, mapped[at]):
+            yield place
+            return
+
+def data_in_code(image):
+    """The size is no multiple of 8; or the kind of an entry is not known, or its bytes are in no file part that is
+    mapped and executable."""
+    table = table_of(image, "data in code")
+    if table is None:
+        return
+    if (table.end - table.start) % SIZES["data_in_code_entry"] != 0:
+        yield table.start
+        return
+    # No two segments share a byte, so of those that begin at the offset or before it only the last can have it.
+    code = sorted((segment.fileoff, segment.fileoff + segment.filesize) for segment in image.segments
+                  if is_mapped(segment) and segment.initprot & VM_PROT_EXECUTE and segment.filesize > 0)
+    starts = [start for start, _ in code]
+    for place in range(table.start, table.end, SIZES["data_in_code_entry"]):
+        entry = read(image.data, place, "data_in_code_entry")
+        at = last_before(starts, entry.offset)
+        if entry.kind not in DICE_KINDS or at is None or entry.offset + entry.length > code[at][1]:
+            yield place
+            return
+
 # Order of judgment
 
 RULES_OF_THE_FILE = [
@@ -1210,6 +1283,7 @@ LINKED_RULES_OF_AN_IMAGE = [
     table_repeated, function_variants, table_home, header_home, rebase_opcode, rebase_slot, rebase_total, bind_opcode,
     bind_library, bind_symbol, bind_slot, bind_total, bind_names,
     chain_header, chain_starts, chain_imports, chain_total, chain_library, chain_slot, chain_bind,
+    function_number, function_start, data_in_code,
 ]
 
 def first_of(file, rules_of_the_file, rules_of_an_image):
