@@ -1,5 +1,5 @@
 """Mutants of tables: of the streams of opcodes that LC_DYLD_INFO names, of the chain table of LC_DYLD_CHAINED_FIXUPS
-and the pointers of its chains, and of what they depend on. Each way changes a file and keeps its length, so most
+and the pointers of its chains, of function starts and data in code, and of what they depend on. Each way changes a file and keeps its length, so most
 mutants break no rule of the layout or of the strict profile.
 
 tests/dyld_trials.py uses them. Nothing of the oracle is used here, so that a mistake in it does not hide itself.
@@ -10,6 +10,7 @@ from collections import namedtuple
 MAGIC_64 = bytes.fromhex("cffaedfe")
 LC_SEGMENT_64, LC_DYLD_INFO, LC_DYLD_INFO_ONLY = 0x19, 0x22, 0x80000022
 LC_DYLD_CHAINED_FIXUPS = 0x80000034
+LC_FUNCTION_STARTS, LC_DATA_IN_CODE = 0x26, 0x29
 LOADS = (0xc, 0x80000018, 0x8000001f, 0x20, 0x80000023)
 STREAMS = ("rebase", "bind", "weak", "lazy")
 WORD = 2 ** 64
@@ -19,6 +20,10 @@ Stream = namedtuple("Stream", "name field start end")
 
 # A chain table: as of a stream, without a name, and with where its image begins.
 Chains = namedtuple("Chains", "field start end image")
+
+# A table of function starts or of data in code: as a chain table.
+Starts = namedtuple("Starts", "field start end image")
+Entries = namedtuple("Entries", "field start end image")
 
 # A page of a segment with starts: the place of its page start; where the page begins, and where the bytes of the
 # segment end, in the file; the page's size, and the format of its pointers.
@@ -35,6 +40,8 @@ PAGE_SIZES = (0x1000, 0x4000)
 # says bind, and how many bits the ordinal has.
 POINTERS = {1: (11, 8, 62, 16), 2: (12, 4, 63, 24), 6: (12, 4, 63, 24), 9: (11, 8, 62, 16), 12: (11, 8, 62, 24)}
 NEXT_BIT, POINTER_SIZE, NO_CHAIN = 51, 8, 0xffff
+# mach-o/loader.h. The size of a data_in_code_entry, whose fields are of 4, 2 and 2 bytes.
+ENTRY_SIZE = 8
 # No more than so many items of one kind are changed.
 MOST_ITEMS = 40
 
@@ -76,19 +83,22 @@ def streams(data):
                         found.append(Stream(name, field, start, start + size))
     return found
 
-def chains(data):
-    """The chain tables of a file that have bytes."""
+KINDS = {LC_DYLD_CHAINED_FIXUPS: Chains, LC_FUNCTION_STARTS: Starts, LC_DATA_IN_CODE: Entries}
+
+def other_tables(data):
+    """The tables of a file that are no streams, and have bytes."""
     found = []
     for image in starts_of_images(data):
         for place in commands(data, image):
-            if word(data, place) == LC_DYLD_CHAINED_FIXUPS and word(data, place + 4) >= 16:
+            kind = KINDS.get(word(data, place))
+            if kind is not None and word(data, place + 4) >= 16:
                 start, size = image + word(data, place + 8), word(data, place + 12)
                 if 0 < size and start + size <= len(data):
-                    found.append(Chains(place + 8, start, start + size, image))
+                    found.append(kind(place + 8, start, start + size, image))
     return found
 
 def tables(data):
-    return streams(data) + chains(data)
+    return streams(data) + other_tables(data)
 
 def number_end(data, place, end):
     """Where a number ends, if it does before the end."""
@@ -461,6 +471,76 @@ def lose_zero(rng, data, table):
     place = rng.randrange(max(table.start, table.end - last), table.end)
     return set_word(data, place, 0 if data[place] else 0x61, 1)
 
+# The ways of function starts
+
+def distances(data, table):
+    """The numbers of function starts: of each its place, its end, and the sum of those before it."""
+    found = []
+    place, total = table.start, 0
+    while place < table.end:
+        end = number_end(data, place, table.end)
+        found.append((place, end, total))
+        total += sum((byte & 0x7f) << 7 * k for k, byte in enumerate(data[place:end]))
+        place = end
+    return found
+
+def some_edge(rng, data, image, offset):
+    """Where a segment of the image begins or ends, by its addresses or by its bytes. `offset` is that of a field."""
+    places = [place for place in commands(data, image) if word(data, place) == LC_SEGMENT_64]
+    if not places:
+        return 0
+    place = rng.choice(places)
+    return word(data, place + offset, 8) + word(data, place + rng.choice((32, 48, 48)), 8) * rng.choice((0, 1, 1))
+
+def some_distance(rng, data, table, total):
+    """A number of function starts, of which this is the sum before it: up to the edge of a segment, or any other one."""
+    near = rng.choice((0, 0, -1, 1, rng.randrange(-64, 64)))
+    base = next((word(data, place + 24, 8) for place in commands(data, table.image)
+                 if word(data, place) == LC_SEGMENT_64 and word(data, place + 40, 8) == 0
+                 and word(data, place + 48, 8) > 0), 0)
+    edge = some_edge(rng, data, table.image, 24) - base - total + near
+    number = rng.choice((edge, edge, edge, rng.randrange(1, 64), 0, 2 ** 64 - base - total + near,
+                         2 ** rng.choice((7, 14, 32, 63, 64)) + near))
+    number = number % WORD if rng.random() < 0.9 else abs(number) % 2 ** 71
+    return uleb(number, rng.choice((0, 0, 0, 0, 0, 1, 2, 8, 9, 10)))
+
+def set_distance(rng, data, table):
+    """A number of function starts is another one."""
+    start, end, total = rng.choice(distances(data, table)[:MOST_ITEMS])
+    return replace(data, table, start, end, some_distance(rng, data, table, total))
+
+def add_distances(rng, data, table):
+    """Numbers are added to function starts before one, once or up to the end of the table."""
+    start, _, total = rng.choice(distances(data, table)[:MOST_ITEMS])
+    content = some_distance(rng, data, table, total) * rng.choice((1, 1, 1, 1, 2, 3, table.end - table.start))
+    return replace(data, table, start, start, content)
+
+# The ways of data in code
+
+def set_entry(rng, data, table):
+    """A field of an entry of data in code is another one: its start or its end is at the edge of a segment, or near."""
+    count = (table.end - table.start) // ENTRY_SIZE
+    if count == 0:
+        return set_byte(rng, data, table)
+    place = table.start + ENTRY_SIZE * rng.randrange(min(count, MOST_ITEMS))
+    offset, length = word(data, place), word(data, place + 4, 2)
+    near = rng.choice((0, 0, -1, 1, rng.randrange(-8, 8)))
+    edge = some_edge(rng, data, table.image, 40) + near
+    way = rng.randrange(5)
+    if way == 0:
+        return set_word(data, place + 6, rng.choice((*range(8), 0x100, 0xffff)), 2)
+    if way == 1:
+        return set_word(data, place + 4, rng.choice((0, 1, edge - offset, length + near, 0xffff)), 2)
+    if way == 2:
+        return set_word(data, place, rng.choice((edge, 0, 2 ** 32 - 1)))
+    return set_word(data, place, edge - length)
+
+def repeat_entry(rng, data, table):
+    """Entries are there again in place of others, all over the table or up to its end."""
+    at = table.start + rng.randrange(table.end - table.start)
+    place = at if rng.random() < 0.1 else at - (at - table.start) % ENTRY_SIZE
+    return replace(data, table, at, at, data[place:place + ENTRY_SIZE] * rng.choice((1, 2, table.end - table.start)))
+
 # With how often each is taken.
 WAYS = {set_number: 40, flip_bit: 20, set_byte: 15, add_opcode: 20, set_opcode: 20, remove_opcodes: 8,
         repeat_opcodes: 12, move_table: 4, move_tables: 2, set_protection: 3, set_size: 3, set_name: 3, set_library: 1}
@@ -469,12 +549,20 @@ CHAIN_WAYS = {set_page_start: 25, set_pointer: 40, set_chain: 25, set_chain_fiel
               set_ordinal: 8, repeat_import: 8, exchange_entries: 4, lose_zero: 8, move_table: 4, set_protection: 3,
               set_size: 3, set_name: 3, set_library: 1}
 
+STARTS_WAYS = {set_distance: 50, add_distances: 25, flip_bit: 10, set_byte: 10, move_table: 8, set_protection: 4,
+               set_size: 8, set_name: 1}
+
+ENTRIES_WAYS = {set_entry: 70, repeat_entry: 10, flip_bit: 10, set_byte: 10, move_table: 12, set_protection: 10,
+                set_size: 10, set_name: 1}
+
+WAYS_OF_KINDS = {Stream: WAYS, Chains: CHAIN_WAYS, Starts: STARTS_WAYS, Entries: ENTRIES_WAYS}
+
 def change(rng, data):
     """The file with one change of a table, or of what it depends on."""
     found = tables(data)
     if not found:
         return data
     table = rng.choice(found)
-    ways = CHAIN_WAYS if isinstance(table, Chains) else WAYS
+    ways = WAYS_OF_KINDS[type(table)]
     way = rng.choices(list(ways), list(ways.values()))[0]
     return way(rng, data, table)
