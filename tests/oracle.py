@@ -1244,8 +1244,8 @@ def function_start(image):
             return
 
 def data_in_code(image):
-    """The size is no multiple of 8; or the kind of an entry is not known, or its bytes are in no file part that is
-    mapped and executable."""
+    """The size is no multiple of 8; or the kind of an entry is not known, or its bytes are not all in the file bytes of
+    one executable segment."""
     table = table_of(image, "data in code")
     if table is None:
         return
@@ -1259,7 +1259,8 @@ def data_in_code(image):
     for place in range(table.start, table.end, SIZES["data_in_code_entry"]):
         entry = read(image.data, place, "data_in_code_entry")
         at = last_before(starts, entry.offset)
-        if entry.kind not in DICE_KINDS or at is None or entry.offset + entry.length > code[at][1]:
+        is_in_code = entry.length == 0 or at is not None and entry.offset + entry.length <= code[at][1]
+        if entry.kind not in DICE_KINDS or not is_in_code:
             yield place
             return
 
