@@ -2318,8 +2318,7 @@ static void judge_chains(const struct linked *linked, uint64_t place) {
     judge_imports(&chains);
 }
 
-// The file parts of mapped segments, sorted: by their addresses, or those that are executable by their bytes in the
-// file.
+// The file parts of mapped segments, sorted by their addresses, or the bytes in the file of executable ones.
 static struct spans sorted_parts(const struct image *image, bool by_address, struct gathered *parts) {
     const struct range *segments = &image->segments;
     begin_gathered(parts, image->segment_count);
@@ -2329,7 +2328,7 @@ static struct spans sorted_parts(const struct image *image, bool by_address, str
             continue;
         }
         struct segment segment = read_segment(command);
-        if (is_mapped(&segment) && (by_address || (protection_of(command) & VM_PROT_EXECUTE) != 0)) {
+        if (by_address ? is_mapped(&segment) : (protection_of(command) & VM_PROT_EXECUTE) != 0) {
             gather(parts, by_address ? segment.vmaddr : segment.fileoff, segment.filesize, place);
         }
     }

@@ -1254,7 +1254,7 @@ def data_in_code(image):
         return
     # No two segments share a byte, so of those that begin at the offset or before it only the last can have it.
     code = sorted((segment.fileoff, segment.fileoff + segment.filesize) for segment in image.segments
-                  if is_mapped(segment) and segment.initprot & VM_PROT_EXECUTE and segment.filesize > 0)
+                  if segment.initprot & VM_PROT_EXECUTE and segment.filesize > 0)
     starts = [start for start, _ in code]
     for place in range(table.start, table.end, SIZES["data_in_code_entry"]):
         entry = read(image.data, place, "data_in_code_entry")
