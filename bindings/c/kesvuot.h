@@ -140,7 +140,10 @@ enum {
     KESVUOT_CHAIN_TOTAL = 57,
     KESVUOT_CHAIN_LIBRARY = 58,
     KESVUOT_CHAIN_SLOT = 59,
-    KESVUOT_CHAIN_BIND = 60
+    KESVUOT_CHAIN_BIND = 60,
+    KESVUOT_FUNCTION_NUMBER = 61,
+    KESVUOT_FUNCTION_START = 62,
+    KESVUOT_DATA_IN_CODE = 63
 };
 
 /* The verdict on a file */
@@ -168,10 +171,13 @@ uint32_t kesvuot_verify(const void *file, size_t size, struct kesvuot_verdict *v
 uint32_t kesvuot_verify_strictly(const void *file, size_t size, struct kesvuot_verdict *verdict);
 
 /* Judges a file as kesvuot_verify_strictly does, and then by the rules of the linked profile: where the linked data of
- * an image lies, and what the opcodes of LC_DYLD_INFO and LC_DYLD_INFO_ONLY, the table of LC_DYLD_CHAINED_FIXUPS and
- * the chains of pointers in the pages ask a dynamic loader for. LINKED.md says what that means.
+ * an image lies, what the opcodes of LC_DYLD_INFO and LC_DYLD_INFO_ONLY, the table of LC_DYLD_CHAINED_FIXUPS and the
+ * chains of pointers in the pages ask a dynamic loader for, and where functions start and data is in code. LINKED.md
+ * says what that means.
  * Every file that is OK here is also OK for kesvuot_verify_strictly.
- * Memory can run out wherever it can for kesvuot_verify_strictly, and nowhere else. */
+ * Memory can run out wherever it can for kesvuot_verify_strictly. Otherwise it can run out only in a file that breaks
+ * no rule of kesvuot_verify_strictly, and only if some slice has more than 16 mapped segments, or several executable
+ * ones that have bytes in the file. */
 uint32_t kesvuot_verify_linked(const void *file, size_t size, struct kesvuot_verdict *verdict);
 
 /* Writes the layout of an accepted file as text, as macho-check prints it: up to `max` bytes, from its first byte on.
@@ -468,7 +474,7 @@ struct kesvuot_relocation { /* relocation_info of <mach-o/reloc.h>. No field of 
                                length << 25 | pcrel << 24 | symbolnum */
 };
 
-struct kesvuot_data_in_code {  /* data_in_code_entry. No field of it is judged */
+struct kesvuot_data_in_code {  /* data_in_code_entry. The linked profile judges its fields */
     struct kesvuot_span bytes; /* the data in the file; empty if it does not all lie in the slice */
     uint32_t offset;           /* where the data begins in the slice */
     uint16_t length;           /* its size in bytes */
@@ -507,13 +513,15 @@ size_t kesvuot_read_relocations(const void *file, size_t size, const struct kesv
  * one how far past `base` of the image. The functions end before a number 0, a number that does not end in the data or
  * in 10 bytes, an address of 2^64 or more, and at the end of the data. There are none if the image has no base. In a
  * file that was not accepted, there are also none if the data ends past the slice.
- * No profile judges the numbers yet: an address can be in no segment, or in one without code. */
+ * In a file that kesvuot_verify_linked accepts each is the address of a byte of the file, and no number is left out. In
+ * any other one can be in no segment. Either way it can be in a segment that is not executable. */
 size_t kesvuot_read_function_starts(const void *file, size_t size, const struct kesvuot_image *image,
                                     struct kesvuot_cursor *cursor, uint64_t *rows, size_t max);
 
 /* The data in the code, by the first LC_DATA_IN_CODE: the entries that are whole. In a file that was not accepted,
  * there are none if the data of the command ends past the slice.
- * No profile judges the entries yet: they can be in any order, overlap, and be of no code. */
+ * They can be in any order, and overlap. In a file that kesvuot_verify_linked accepts all entries are whole and of a
+ * known kind, and the bytes of each are in one executable segment. In any other they can be of no code. */
 size_t kesvuot_read_data_in_code(const void *file, size_t size, const struct kesvuot_image *image,
                                  struct kesvuot_cursor *cursor, struct kesvuot_data_in_code *rows, size_t max);
 

@@ -178,7 +178,7 @@ func (image *Image) Relocations(section *Section) []Relocation {
 	return relocations
 }
 
-// A DataInCode is a data_in_code_entry. No rule judges its fields.
+// A DataInCode is a data_in_code_entry. The linked profile judges its fields.
 type DataInCode struct {
 	// Bytes are the data. There are none if it does not all lie in the image.
 	Bytes []byte
@@ -223,7 +223,8 @@ type FunctionStarts struct {
 
 // FunctionStarts goes over the functions, by the first LC_FUNCTION_STARTS. Each is at a lower address than the next one.
 // They end before a number 0 of its data, a number that does not end in it, and an address of 2^64 or more. There are
-// none if the image has no base. No profile judges them yet: an address can be in no segment.
+// none if the image has no base. In a file that VerifyLinked accepts each is the address of a byte of the file. In any
+// other one can be in no segment.
 func (image *Image) FunctionStarts() *FunctionStarts {
 	return &FunctionStarts{rows: uncounted[functionStartRow]{image: image, table: functionStartTable}}
 }
@@ -240,8 +241,9 @@ func (starts *FunctionStarts) Next() bool {
 // Address returns the address of the function that Next has gone on to.
 func (starts *FunctionStarts) Address() uint64 { return starts.address }
 
-// DataInCode returns the data in the code, by the whole entries of the first LC_DATA_IN_CODE. No profile judges them
-// yet: they can be in any order, overlap, and be of no code.
+// DataInCode returns the data in the code, by the whole entries of the first LC_DATA_IN_CODE, which can be in any order,
+// and overlap. In a file that VerifyLinked accepts the bytes of each are in one executable segment. In any other they can
+// be of no code.
 func (image *Image) DataInCode() []DataInCode {
 	var found []DataInCode
 	rows := uncounted[dataInCodeRow]{image: image, table: dataInCodeTable}

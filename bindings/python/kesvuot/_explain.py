@@ -36,7 +36,8 @@ MEMORY = frozenset(("segment-memory", "section-memory"))
 MOST_NAMES = 20
 # The tables whose contents each profile judges in part, and those whose contents the linked profile judges.
 JUDGED_TABLES = {"symbols", "strings", "indirect symbols"}
-JUDGED_BY_LINKED = {"rebase opcodes", "bind opcodes", "weak bind opcodes", "lazy bind opcodes", "chained fixups"}
+JUDGED_BY_LINKED = {"rebase opcodes", "bind opcodes", "weak bind opcodes", "lazy bind opcodes", "chained fixups",
+                    "function starts", "data in code"}
 
 Rows = List[Tuple[str, ...]]
 

@@ -314,12 +314,14 @@ class Image(Slice):
     def function_starts(self) -> Iterator[int]:
         """The addresses of functions, before any slide, by the first LC_FUNCTION_STARTS. Each is below the next one.
         They end before a number 0 of its data, a number that does not end in it, and an address of 2^64 or more. There
-        are none if the image has no base. No profile judges them yet: an address can be in no segment."""
+        are none if the image has no base. In a file that `verify_linked` accepts each is the address of a byte of the
+        file. In any other one can be in no segment."""
         return _rows.batches(self._data, self._image, _rows.FUNCTION_STARTS)
 
     def data_in_code(self) -> Iterator[DataInCode]:
-        """The data in the code, by the whole entries of the first LC_DATA_IN_CODE. No profile judges them yet: they can
-        be in any order, overlap, and be of no code."""
+        """The data in the code, by the whole entries of the first LC_DATA_IN_CODE, which can be in any order, and
+        overlap. In a file that `verify_linked` accepts the bytes of each are in one executable segment. In any other
+        they can be of no code."""
         return _rows.batches(self._data, self._image, _rows.DATA_IN_CODE)
 
     def table(self, table: BoundedTable) -> Optional[memoryview]:
@@ -449,8 +451,9 @@ def verify_file(path: Union[str, bytes, "os.PathLike[str]", "os.PathLike[bytes]"
 
 def verify_linked(data: Data) -> File:
     """Judges a file by the rules of the strict profile, and then by those of docs/LINKED.md: where the linked data of
-    an image lies, and what the opcodes of LC_DYLD_INFO and LC_DYLD_INFO_ONLY, the table of LC_DYLD_CHAINED_FIXUPS and
-    the chains of pointers in the pages ask a dynamic loader for. Raises what `verify` raises."""
+    an image lies, what the opcodes of LC_DYLD_INFO and LC_DYLD_INFO_ONLY, the table of LC_DYLD_CHAINED_FIXUPS and the
+    chains of pointers in the pages ask a dynamic loader for, and where functions start and data is in code. Raises what
+    `verify` raises."""
     return _judge(data, load().kesvuot_verify_linked)
 
 

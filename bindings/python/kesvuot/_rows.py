@@ -164,7 +164,7 @@ class Relocation(NamedTuple):
 
 
 class DataInCode(NamedTuple):
-    """A data_in_code_entry. No rule judges its fields.
+    """A data_in_code_entry. The linked profile judges its fields.
 
     `bytes`: the data, empty if it does not all lie in the image
     `offset`, `length`: where it begins in the image, and its size

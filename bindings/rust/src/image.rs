@@ -430,8 +430,8 @@ impl<'a> Image<'a> {
 
     /// The addresses of functions, before any slide, by the first `LC_FUNCTION_STARTS`. Each is below the next
     /// one. They end before a number 0 of its data, a number that does not end in it, and an address of 2^64 or
-    /// more. There are none if the image has no base. No profile judges them yet: an address can be in no
-    /// segment.
+    /// more. There are none if the image has no base. In a file that [`verify_linked`](crate::verify_linked)
+    /// accepts each is the address of a byte of the file. In any other one can be in no segment.
     ///
     /// ```
     /// # let path = concat!(env!("CARGO_MANIFEST_DIR"), "/../../tests/real/program");
@@ -446,8 +446,9 @@ impl<'a> Image<'a> {
         UncountedRows::new(*self)
     }
 
-    /// The data in the code, by the whole entries of the first `LC_DATA_IN_CODE`. No profile judges them yet:
-    /// they can be in any order, overlap, and be of no code.
+    /// The data in the code, by the whole entries of the first `LC_DATA_IN_CODE`, which can be in any order, and
+    /// overlap. In a file that [`verify_linked`](crate::verify_linked) accepts the bytes of each are in one
+    /// executable segment. In any other they can be of no code.
     #[must_use]
     pub fn data_in_code(&self) -> UncountedRows<'a, DataInCode<'a>> {
         UncountedRows::new(*self)

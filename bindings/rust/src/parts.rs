@@ -256,7 +256,7 @@ impl From<ffi::Relocation> for Relocation {
     }
 }
 
-/// Data in code. (`data_in_code_entry` of `<mach-o/loader.h>`) No rule judges its fields.
+/// Data in code. (`data_in_code_entry` of `<mach-o/loader.h>`) The linked profile judges its fields.
 #[derive(Clone, Copy, Debug, PartialEq, Eq)]
 #[non_exhaustive]
 pub struct DataInCode<'a> {

@@ -174,6 +174,13 @@ rules! {
     ChainSlot = 59,
     /// Linked: a pointer of a chain binds an import that is not there.
     ChainBind = 60,
+    /// Linked: a number of the function starts does not end, or a byte after the last one is not 0.
+    FunctionNumber = 61,
+    /// Linked: a function does not start in the file bytes of a mapped segment.
+    FunctionStart = 62,
+    /// Linked: an entry of the data in code is cut, of a kind that is not known, or not in the file bytes
+    /// of an executable segment.
+    DataInCode = 63,
 }
 
 impl Rule {
