@@ -67,6 +67,10 @@ whose LC_MAIN names an address of no segment. That breaks the last rule, so all 
                                     N / 100 writable segments, each with the starts of one page without a chain
     pointers-Nm                     chained fixups with a pointer in each N bytes of N MiB of zeros, in chains of 16 KiB.
                                     Each fourth one binds one of 10,000 imports
+    starts-N                        N functions, of 16 bytes each
+    starts-N-shuffled               N segments of 16 bytes in no order, each with a function
+    dice-N                          N entries of data in code, in no order, each of 8 of the 16 bytes of a function
+    dice-N-shuffled                 N executable segments of 16 bytes in no order, each with an entry, in another order
 """
 
 from __future__ import annotations
@@ -90,17 +94,18 @@ CPU_TYPE_ARM64, CPU_SUBTYPE_ARM64_ALL = 0x0100000C, 0
 MH_OBJECT, MH_EXECUTE = 1, 2
 LC_SYMTAB, LC_DYSYMTAB, LC_LOAD_DYLIB, LC_SEGMENT_64, LC_MAIN = 0x2, 0xB, 0xC, 0x19, 0x80000028
 LC_ENCRYPTION_INFO_64, LC_ATOM_INFO, LC_RPATH, LC_DYLD_INFO_ONLY = 0x2C, 0x36, 0x8000001C, 0x80000022
-LC_DYLD_CHAINED_FIXUPS = 0x80000034
+LC_FUNCTION_STARTS, LC_DATA_IN_CODE, LC_DYLD_CHAINED_FIXUPS = 0x26, 0x29, 0x80000034
 LC_UNLISTED = 0x7FFFFFFF
 VM_PROT_READ, VM_PROT_WRITE, VM_PROT_EXECUTE = 1, 2, 4
 HEADER_SIZE, SEGMENT_SIZE, SECTION_SIZE = 32, 72, 80
-ENCRYPTION_INFO_SIZE, ATOM_INFO_SIZE, CHAINED_FIXUPS_SIZE = 24, 16, 16
+ENCRYPTION_INFO_SIZE, LINKEDIT_DATA_SIZE = 24, 16
 SYMTAB_SIZE, DYSYMTAB_SIZE, MAIN_SIZE, SYMBOL_SIZE = 24, 80, 24, 16
 LIBRARY_SIZE, DYLD_INFO_SIZE, POINTER_SIZE = 32, 48, 8
 FAT_HEADER_SIZE, FAT_ARCH_SIZE = 8, 20
 S_ZEROFILL = 1
 RELOCATION_SIZE = 8
 N_SECT = 0xE
+DICE_KIND_DATA = 1
 NOP = 0x90
 
 # mach-o/fixup-chains.h
@@ -111,6 +116,7 @@ NEXT_BIT, NEXT_STEP, BIND_BIT, LARGE_PAGE = 51, 4, 63, 0x4000
 BASE = 0x1_0000_0000
 FAR = 0x2_0000_0000
 PAGE = 0x1000
+FUNCTION_SIZE = 16
 
 
 # Structures
@@ -157,8 +163,8 @@ def encryption_info(cryptoff: int, cryptsize: int) -> bytes:
     return struct.pack("<6I", LC_ENCRYPTION_INFO_64, ENCRYPTION_INFO_SIZE, cryptoff, cryptsize, 0, 0)
 
 
-def atom_info(dataoff: int, datasize: int) -> bytes:
-    return struct.pack("<4I", LC_ATOM_INFO, ATOM_INFO_SIZE, dataoff, datasize)
+def linkedit_data(cmd: int, dataoff: int, datasize: int) -> bytes:
+    return struct.pack("<4I", cmd, LINKEDIT_DATA_SIZE, dataoff, datasize)
 
 
 def dyld_info(start: int, sizes: Iterable[int]) -> bytes:
@@ -168,10 +174,6 @@ def dyld_info(start: int, sizes: Iterable[int]) -> bytes:
         fields += [start, size]
         start += size
     return struct.pack("<12I", LC_DYLD_INFO_ONLY, DYLD_INFO_SIZE, *fields, 0, 0)
-
-
-def chained_fixups(dataoff: int, datasize: int) -> bytes:
-    return struct.pack("<4I", LC_DYLD_CHAINED_FIXUPS, CHAINED_FIXUPS_SIZE, dataoff, datasize)
 
 
 def chain_table(starts: Iterable[bytes], names: Iterable[bytes]) -> bytes:
@@ -555,7 +557,7 @@ def plain(out: BinaryIO, mebibytes: int) -> str:
 def with_chains(out: BinaryIO, segments_count: int, names_of_imports: Iterable[bytes]) -> str:
     """An executable with so many writable segments of a pointer each, which have the starts of one page without a
     chain, and imports of these names, with their zero bytes."""
-    start = HEADER_SIZE + (segments_count + 2) * SEGMENT_SIZE + LIBRARY_SIZE + CHAINED_FIXUPS_SIZE + MAIN_SIZE
+    start = HEADER_SIZE + (segments_count + 2) * SEGMENT_SIZE + LIBRARY_SIZE + LINKEDIT_DATA_SIZE + MAIN_SIZE
     text_size = -(-start // PAGE) * PAGE
     addresses = [BASE + text_size + PAGE * k for k in range(segments_count)]
     starts = [struct.pack("<I2HQI2H", STARTS_SIZE, PAGE, DYLD_CHAINED_PTR_64, address - BASE, 0, 1,
@@ -567,7 +569,7 @@ def with_chains(out: BinaryIO, segments_count: int, names_of_imports: Iterable[b
                                 initprot=VM_PROT_READ | VM_PROT_WRITE))
     place = start + POINTER_SIZE * segments_count
     commands.append(segment(b"__LINKEDIT", 2 * FAR, len(table), place, len(table), initprot=VM_PROT_READ))
-    commands += [library(0), chained_fixups(place, len(table))]
+    commands += [library(0), linkedit_data(LC_DYLD_CHAINED_FIXUPS, place, len(table))]
     return image(out, b"".join(commands), len(commands), [bytes(POINTER_SIZE * segments_count), table], accepted=True)
 
 
@@ -589,7 +591,7 @@ def chained_pages(distance: int, count: int, imports_count: int) -> Iterator[byt
 
 
 def chained_pointers(out: BinaryIO, mebibytes: int) -> str:
-    start = HEADER_SIZE + 3 * SEGMENT_SIZE + SECTION_SIZE + LIBRARY_SIZE + CHAINED_FIXUPS_SIZE + MAIN_SIZE
+    start = HEADER_SIZE + 3 * SEGMENT_SIZE + SECTION_SIZE + LIBRARY_SIZE + LINKEDIT_DATA_SIZE + MAIN_SIZE
     size = mebibytes * MIB
     place, count, imports_count = start + size, size // LARGE_PAGE, 10_000
     starts = struct.pack("<I2HQIH", STARTS_SIZE - 2 + 2 * count, LARGE_PAGE, DYLD_CHAINED_PTR_64, FAR - BASE, 0, count)
@@ -598,13 +600,47 @@ def chained_pointers(out: BinaryIO, mebibytes: int) -> str:
     commands += segment(b"__DATA", FAR, size, start, size, section(b"__data", FAR, size, start, segname=b"__DATA"),
                         VM_PROT_READ | VM_PROT_WRITE)
     commands += segment(b"__LINKEDIT", 2 * FAR, len(table), place, len(table), initprot=VM_PROT_READ)
-    commands += library(0) + chained_fixups(place, len(table))
+    commands += library(0) + linkedit_data(LC_DYLD_CHAINED_FIXUPS, place, len(table))
 
     def tail() -> Iterator[bytes]:
         yield from chained_pages(mebibytes, count, imports_count)
         yield table
 
     return image(out, commands, 5, tail(), accepted=True)
+
+
+def with_functions(out: BinaryIO, cmd: int, text_size: int, numbers: list[int], table_of: Callable[[int], bytes]) -> str:
+    """An executable with a text of zeros, a segment of 16 zeros for each of the numbers, in their order, and the table
+    of this command. `table_of` makes it, from where the text begins."""
+    start = HEADER_SIZE + (2 + len(numbers)) * SEGMENT_SIZE + LINKEDIT_DATA_SIZE + MAIN_SIZE
+    place, table = start + text_size, table_of(start)
+    end = place + FUNCTION_SIZE * len(numbers)
+    commands = [segment(b"__TEXT", BASE, place, 0, place)]
+    commands += [segment(b"__CODE", FAR + 2 * PAGE * number, PAGE, place + FUNCTION_SIZE * number, FUNCTION_SIZE)
+                 for number in numbers]
+    commands.append(segment(b"__LINKEDIT", 2 * FAR, len(table), end, len(table), initprot=VM_PROT_READ))
+    commands.append(linkedit_data(cmd, end, len(table)))
+    return image(out, b"".join(commands), len(commands), [bytes(end - start), table], accepted=True)
+
+
+def function_starts(out: BinaryIO, count: int, order: str) -> str:
+    """The functions are in the text, or if there is an order each is in a segment of its own."""
+    if order:
+        table = uleb(FAR - BASE) + uleb(2 * PAGE) * (count - 1) + DONE
+        return with_functions(out, LC_FUNCTION_STARTS, 0, ordered(count, order), lambda start: table)
+    later = uleb(FUNCTION_SIZE) * (count - 1) + DONE
+    return with_functions(out, LC_FUNCTION_STARTS, FUNCTION_SIZE * count, [], lambda start: uleb(start) + later)
+
+
+def data_in_code(out: BinaryIO, count: int, order: str) -> str:
+    """The entries are of the text, or if there is an order each is of a segment of its own."""
+    def table_of(start: int) -> bytes:
+        offsets = (start + FUNCTION_SIZE * number for number in reversed(ordered(count, "shuffled")))
+        return b"".join(struct.pack("<I2H", offset, FUNCTION_SIZE // 2, DICE_KIND_DATA) for offset in offsets)
+
+    if order:
+        return with_functions(out, LC_DATA_IN_CODE, 0, ordered(count, order), table_of)
+    return with_functions(out, LC_DATA_IN_CODE, FUNCTION_SIZE * count, [], table_of)
 
 
 # The commands of which a file has many.
@@ -660,6 +696,10 @@ def maker(name: str) -> Callable[[BinaryIO], str]:
         return partial(encrypted, count=size, order=order)
     if kind == "rebases":
         return partial(rebases, count=size, by_one=order == "one")
+    if kind == "starts":
+        return partial(function_starts, count=size, order=order)
+    if kind == "dice":
+        return partial(data_in_code, count=size, order=order)
     return lambda out: SIZED[kind](out, size)
 
 
@@ -911,7 +951,7 @@ def random_elements(rng: random.Random, count: int) -> str:
     are zero-fill and have none, and some have a relocation. Some files have an LC_ATOM_INFO, whose data may end past
     the file."""
     atoms = rng.choice((0, 0, 1))
-    end = HEADER_SIZE + SEGMENT_SIZE + SECTION_SIZE * count + ATOM_INFO_SIZE * atoms
+    end = HEADER_SIZE + SEGMENT_SIZE + SECTION_SIZE * count + LINKEDIT_DATA_SIZE * atoms
     sections = b""
     # The elements but the headers, and the place of each. No range is in the headers.
     elements: list[tuple[range, int]] = []
@@ -926,7 +966,7 @@ def random_elements(rng: random.Random, count: int) -> str:
     for _ in range(atoms):
         start, size = rng.randrange(72), rng.randrange(4)
         elements += [(range(start, start + size), HEADER_SIZE + len(commands))]
-        commands += atom_info(end + start, size)
+        commands += linkedit_data(LC_ATOM_INFO, end + start, size)
     covered = [any(place in it for it, _ in elements) for place in range(71)]
     tail = random_tail(rng, covered, (1, 1, 1), (100, 20, 1))
     alike = first_alike(elements, lambda one, other: share(one[0], other[0]))
