@@ -19,7 +19,7 @@ import oracle  # pylint: disable=wrong-import-position
 NO_INDEX, MOST = 2 ** 32 - 1, 2 ** 64 - 1
 KINDS = """none file magic fat_header fat_table fat_arch slice header headers command segment segment_memory section
 section_bytes section_memory relocations table group name symbol indirect opcode byte chain_header chain_array
-chain_entry chain_starts chain_import page_start chain_pointer""".split()
+chain_entry chain_starts chain_import page_start chain_pointer function_number data_in_code""".split()
 # What has addresses or indices in place of offsets.
 OF_NUMBERS = {"segment_memory", "section_memory", "group"}
 
@@ -778,6 +778,45 @@ def chain_bind(image: Any, place: int) -> Explanation:
                        segment_part(image, segment), pointer.binds, oracle.fixups_header(image, table).imports_count)
 
 
+def linked_table(image: Any, kind: str) -> Part:
+    """The table of an LC_FUNCTION_STARTS or LC_DATA_IN_CODE."""
+    return table_parts(image, listed_at(image, oracle.table_of(image, kind).command))[0]
+
+
+def function_number(image: Any, place: int) -> Explanation:
+    table, (numbers, _) = linked_table(image, "function starts"), oracle.function_numbers(image)
+    # Past all numbers is either one that is broken, or the 0.
+    end = max((oracle.operand(image.data, it, image.length, "number")[1] for it, _ in numbers), default=table.start)
+    at = structure("function_number", place, 1, len(numbers)) if place == end else structure("byte", place, 1)
+    return Explanation(at, table, NONE, image.data[place], 0)
+
+
+def function_start(image: Any, place: int) -> Explanation:
+    numbers = [(it, distance) for it, distance in oracle.function_numbers(image)[0] if it <= place]
+    address = image.base + sum(distance for _, distance in numbers)
+    end = oracle.operand(image.data, place, image.length, "number")[1]
+    at = structure("function_number", place, end - place, len(numbers) - 1)
+    table = linked_table(image, "function starts")
+    for segment in image.segments:
+        if segment.vmaddr <= address < segment.vmaddr + segment.vmsize:
+            return Explanation(at, table, memory_part(image, segment), address, segment.vmaddr + segment.filesize)
+    return Explanation(at, table, NONE, address, 0)
+
+
+def data_in_code(image: Any, place: int) -> Explanation:
+    """`value` is where the bytes of an entry end, and `limit` where those of the segment do in which they begin."""
+    table = linked_table(image, "data in code")
+    at = structure("data_in_code", place, min(8, table.start + table.size - place), (place - table.start) // 8)
+    if table.size % 8:
+        return Explanation(at, table, NONE, table.size, 8)
+    offset, end = little(image.data, place), little(image.data, place) + little(image.data, place + 4, 2)
+    for segment in image.segments:
+        is_code = segment.initprot & oracle.VM_PROT_EXECUTE
+        if is_code and segment.fileoff <= offset < segment.fileoff + segment.filesize:
+            return Explanation(at, table, segment_part(image, segment), end, segment.fileoff + segment.filesize)
+    return Explanation(at, table, NONE, end, 0)
+
+
 OF_FILE = {rule.__name__: rule for rule in (
     magic, fat_truncated, fat_slice_outside, fat_slice_in_table, fat_align, fat_overlap, fat_duplicate,
     fat_slice_magic, fat_empty, fat_stray_byte)}
@@ -787,5 +826,6 @@ OF_IMAGE = {rule.__name__: rule for rule in (
     section_relocs, table_range, symbol_group, symbol_name, symbol_section, indirect_index, entry, commands_end,
     header_segment, segment_file_overlap, element_overlap, stray_byte, encrypted_range, command_slack, unclaimed_byte,
     table_repeated, function_variants, table_home, header_home, rebase_opcode, bind_opcode, bind_library, bind_symbol,
-    bind_names, chain_header, chain_starts, chain_imports, chain_total, chain_library, chain_slot, chain_bind)}
+    bind_names, chain_header, chain_starts, chain_imports, chain_total, chain_library, chain_slot, chain_bind,
+    function_number, function_start, data_in_code)}
 OF_IMAGE.update(rebase_slot=bad_slot, bind_slot=bad_slot, rebase_total=total, bind_total=total)

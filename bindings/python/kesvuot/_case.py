@@ -42,10 +42,10 @@ FIELDS = {
     "command": "cmd cmdsize", "segment": "fileoff filesize", "segment-memory": "vmaddr vmsize",
     "section-bytes": "offset size", "section-memory": "addr size", "relocations": "reloff nreloc",
     "chain-header": "imports_count", "chain-starts": "size page_size pointer_format segment_offset page_count"}
-# The structures of chained fixups, by the parts that they are.
-CHAIN_STRUCTURES = {
+# The structures of linked data, by the parts that they are.
+LINKED_STRUCTURES = {
     "chain-header": "dyld_chained_fixups_header", "chain-array": "dyld_chained_starts_in_image",
-    "chain-starts": "dyld_chained_starts_in_segment"}
+    "chain-starts": "dyld_chained_starts_in_segment", "data-in-code": "data_in_code_entry"}
 GROUP_FIELDS = ("ilocalsym nlocalsym", "iextdefsym nextdefsym", "iundefsym nundefsym")
 # Those that a rule reads besides: of the structure at the place, and of that of the second part.
 MORE_FIELDS: Dict[str, Tuple[str, str]] = {
@@ -60,7 +60,8 @@ MORE_FIELDS: Dict[str, Tuple[str, str]] = {
     **dict.fromkeys(("rebase-slot", "bind-slot"), ("", "vmsize initprot")),
     "chain-header": ("dataoff datasize fixups_version imports_format symbols_format", ""),
     "chain-starts": ("starts_offset seg_count", "vmaddr vmsize initprot"),
-    "chain-imports": ("imports_offset imports_count imports_format", ""), "chain-slot": ("", "initprot flags")}
+    "chain-imports": ("imports_offset imports_count imports_format", ""), "chain-slot": ("", "initprot flags"),
+    "function-start": ("", "filesize"), "data-in-code": ("offset length kind", "initprot")}
 
 
 class Spot(NamedTuple):
@@ -138,6 +139,10 @@ class Case:
             return f"the page_start of page {wanted.index}"
         if wanted.kind == "chain-pointer":
             return f"the pointer at {wanted.start:#x}"
+        if wanted.kind == "function-number":
+            return f"the number of function {wanted.index}"
+        if wanted.kind == "data-in-code":
+            return f"entry {wanted.index} of data in code"
         if wanted.kind == "group":
             return f"the group of {GROUPS[wanted.index or 0]} symbols"
         part = self.found(wanted)
@@ -191,8 +196,8 @@ class Case:
             return "mach_header_64", place
         if kind in ("section", "section-bytes", "section-memory", "relocations"):
             return "section_64", place
-        if kind in CHAIN_STRUCTURES:
-            return CHAIN_STRUCTURES[kind], part.start
+        if kind in LINKED_STRUCTURES:
+            return LINKED_STRUCTURES[kind], part.start
         if kind == "symbol" or (kind == "name" and self.explanation.symbol is not None):
             return "nlist_64", place
         if kind in ("command", "segment", "segment-memory", "table", "group",

@@ -27,6 +27,9 @@ IMPORT_SIZES = {1: 4, 2: 8, 3: 16}
 POINTER_FORMATS = (1, 2, 6, 9, 12)
 PAGE_SIZES = (0x1000, 0x4000)
 STARTS_SIZE, PAGE_START_SIZE, ENTRY_SIZE, POINTER_SIZE = 22, 2, 4, 8
+# The kinds of data in code, and the size of an entry. The last address.
+DICE_KINDS, DICE_SIZE = (1, 2, 3, 4, 5), 8
+MOST = (1 << 64) - 1
 
 
 class Story(NamedTuple):
@@ -504,6 +507,37 @@ def _chain_bind(it: Teller) -> Story:
                     "imports_count")
 
 
+def _function_number(it: Teller) -> Story:
+    if it.at_part.kind == "byte":
+        return it.story(f"the byte {it.value:02x} is past the number 0, which ends {it.first}.", "byte")
+    return it.story(f"{it.at} does not end in {it.first}, or is too large.", "byte")
+
+
+def _function_start(it: Teller) -> Story:
+    function = f"function {it.at_part.index}"
+    if not it.second:
+        more = " or past it" if it.value == MOST else ""
+        return it.story(f"{function} starts at {it.value:#x}{more}, which is in no segment.", "address of the function")
+    return it.story(f"{function} starts at {it.value:#x} in {it.second}, whose bytes in the file end at {it.limit:#x}.",
+                    "address of the function", "vmaddr + filesize")
+
+
+def _data_in_code(it: Teller) -> Story:
+    size = it.first_part.size
+    if size % DICE_SIZE:
+        return it.story(f"{it.first} has {count_text(size, 'byte')}, and each entry has {DICE_SIZE}.",
+                        "size of the table", "size of an entry")
+    numbers = "offset + length", "fileoff + filesize" if it.second else ""
+    kind = it.case.number("kind")
+    if kind not in DICE_KINDS:
+        return it.story(f"{it.at} has the kind {kind}, and {_known(DICE_KINDS)}.", *numbers)
+    if not it.second:
+        begins = it.case.number("offset")
+        return it.story(f"{it.at} begins at {begins:#x}, which is in no executable segment.", *numbers)
+    return it.story(f"{it.at} ends at {it.value:#x}, past the bytes of {it.second}, which end at {it.limit:#x}.",
+                    *numbers)
+
+
 def _function_variants(it: Teller) -> Story:
     return it.story(f"by {it.at} newer loaders write to the image, and no rule reads what it names.", "cmd")
 
@@ -538,7 +572,8 @@ STORIES: Dict[str, Callable[[Teller], Story]] = {
     "bind-opcode": _opcode, "bind-library": _bind_library, "bind-symbol": _bind_symbol, "bind-slot": _slot,
     "bind-total": _total, "bind-names": _bind_names, "chain-header": _chain_header, "chain-starts": _chain_starts,
     "chain-imports": _chain_imports, "chain-total": _chain_total,
-    "chain-library": lambda it: _library(it, "is of"), "chain-slot": _chain_slot, "chain-bind": _chain_bind}
+    "chain-library": lambda it: _library(it, "is of"), "chain-slot": _chain_slot, "chain-bind": _chain_bind,
+    "function-number": _function_number, "function-start": _function_start, "data-in-code": _data_in_code}
 
 
 class Told(NamedTuple):

@@ -55,6 +55,7 @@ STRUCTURES: Dict[str, Tuple[Field, ...]] = {name: _fields(words) for name, words
     "note_command": "cmd cmdsize data_owner:16 offset:8 size:8",
     "build_version_command": "cmd cmdsize platform minos sdk ntools",
     "entry_point_command": "cmd cmdsize entryoff:8 stacksize:8",
+    "data_in_code_entry": "offset length:2 kind:2",
     "nlist_64": "n_strx n_type:1 n_sect:1 n_desc:2 n_value:8",
     "dyld_chained_fixups_header":
         "fixups_version starts_offset imports_offset symbols_offset imports_count imports_format symbols_format",
