@@ -262,7 +262,7 @@ def repeat_range(rng, data, _):
     return data[:place] + (start % 2 ** (8 * width)).to_bytes(width, "little") + count + data[place + 2 * width:]
 
 def change_table(rng, data, _):
-    """A stream of opcodes or a chain table is changed, or what it depends on."""
+    """A table of linked data is changed, or what it depends on."""
     return table_mutants.change(rng, data)
 
 # With how often each is taken; and the ways that are taken as well where a further profile is judged.

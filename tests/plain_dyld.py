@@ -1,5 +1,5 @@
 """The plain dyld of docs/LINKED.md, under watch: it follows the opcodes and the chains of an image, checks nothing, and
-really writes.
+really writes. Then it goes to each function and to the data in code, as tools do.
 
 Its memory is a copy of the file bytes of the mapped segments, with zeros after them, and with other bytes where a
 kernel decrypts some. The slide, by which segments would be at other addresses, it takes from the segments named
@@ -8,7 +8,8 @@ raises `Breach`: a byte of a table or of the headers that is read outside of the
 longer the file's; a write that is no whole pointer in the file bytes of one writable segment; a pointer of a
 chain that is read elsewhere, or that is no longer the file's; a segment, a library or an import that is not there;
 pages that are not those of the segment, or cannot be written; more writes of a stream or of all chains than the budget,
-or more steps than the bytes and writes explain. So it ends on all files, and on one that breaks the rules it says how.
+or more steps than the bytes and writes explain; a function where the file has no byte; data of no kind, or not in the
+bytes of one executable segment. So it ends on all files, and on one that breaks the rules it says how.
 
 Of tests/oracle.py it takes the commands of an image, and nothing that decodes a stream.
 """
@@ -40,10 +41,11 @@ BIND_OPCODE_DO_BIND_ADD_ADDR_ULEB = 0xa0
 BIND_OPCODE_DO_BIND_ADD_ADDR_IMM_SCALED = 0xb0
 BIND_OPCODE_DO_BIND_ULEB_TIMES_SKIPPING_ULEB = 0xc0
 LC_DYLD_INFO, LC_DYLD_INFO_ONLY = 0x22, 0x80000022
-LC_DYLD_CHAINED_FIXUPS = 0x80000034
+LC_FUNCTION_STARTS, LC_DATA_IN_CODE, LC_DYLD_CHAINED_FIXUPS = 0x26, 0x29, 0x80000034
+DICE_KIND_DATA, DICE_KIND_ABS_JUMP_TABLE32, ENTRY_SIZE = 1, 5, 8
 LOADS = (0xc, 0x80000018, 0x8000001f, 0x20, 0x80000023)
 LC_ENCRYPTION_INFO_64 = 0x2c
-VM_PROT_READ, VM_PROT_WRITE = 1, 2
+VM_PROT_READ, VM_PROT_WRITE, VM_PROT_EXECUTE = 1, 2, 4
 SG_PROTECTED_VERSION_1 = 8
 
 # mach-o/fixup-chains.h. Of an import, by its format: its size, how many bits its ordinal has, and from which bit up to
@@ -443,8 +445,35 @@ class Dyld:
         found = self.read_imports(start + imports_offset, count, form, start + symbols_offset)
         self.follow_starts(start + starts_offset, found)
 
+    # What tools read
+
+    def visit_functions(self, start, size):
+        """Goes to each function, where the file has a byte."""
+        self.begin(start, size, 1)
+        address = self.image.base
+        while self.place < self.end:
+            distance = self.number()
+            if distance == 0:
+                return
+            address = (address + distance) % WORD
+            _, content, offset = self.memory.part_of(address, 1)
+            if offset >= len(content):
+                raise Breach("the file has no byte for the function at 0x%x" % address)
+
+    def visit_data(self, start, size):
+        """Takes the bytes of each entry for data in code, which is in one executable segment."""
+        self.begin(start, size, 1)
+        for place in range(start, start + size, ENTRY_SIZE):
+            offset, length, kind = (self.number_at(place + at, width) for at, width in ((0, 4), (4, 2), (6, 2)))
+            if not DICE_KIND_DATA <= kind <= DICE_KIND_ABS_JUMP_TABLE32:
+                raise Breach("data of kind %d is not known" % kind)
+            if length > 0 and not any(segment.fileoff <= offset and offset + length <= segment.fileoff + segment.filesize
+                                      for segment in self.image.segments if segment.initprot & VM_PROT_EXECUTE):
+                raise Breach("the %d bytes of data at 0x%x are in no executable segment" % (length, offset))
+
     def load(self):
-        """Follows the streams of each command that names some, and the chains of each chain table."""
+        """Follows the streams of each command that names some, and the chains of each chain table. Then it reads the
+        function starts and the data in code, which still are those of the file."""
         for command in self.image.listed:
             if command.cmd == LC_DYLD_CHAINED_FIXUPS:
                 self.follow_chains(command.dataoff, command.datasize)
@@ -453,6 +482,11 @@ class Dyld:
                 self.follow("bind", command.bind_off, command.bind_size)
                 self.follow("weak", command.weak_bind_off, command.weak_bind_size)
                 self.follow("lazy", command.lazy_bind_off, command.lazy_bind_size)
+        for command in self.image.listed:
+            if command.cmd == LC_FUNCTION_STARTS and command.datasize > 0:
+                self.visit_functions(command.dataoff, command.datasize)
+            if command.cmd == LC_DATA_IN_CODE and command.datasize > 0:
+                self.visit_data(command.dataoff, command.datasize)
 
     def follow(self, stream, start, size):
         if size == 0:
