@@ -320,24 +320,27 @@ enum rule { RULES(AS_CONSTANT) RULE_COUNT };
 
 static const char *const rule_names[RULE_COUNT] = {RULES(AS_NAME)};
 
-// The rules that were found broken, a bit for each, and the least place in the file at which each of these is. The
-// first broken rule is that of the least bit, once all rules before it have been judged.
+// The first of the rules that were found broken, and the least place in the file at which it is: RULE_COUNT where there
+// is none. It is the answer once all rules before it have been judged.
 struct breaks {
-    uint64_t broken;
-    uint64_t places[RULE_COUNT];
+    enum rule first;
+    uint64_t place;
 };
 
 __attribute__((cold, noinline)) static void note(struct breaks *breaks, enum rule rule, uint64_t place) {
-    uint64_t bit = (uint64_t)1 << rule;
-    if ((breaks->broken & bit) == 0 || place < breaks->places[rule]) {
-        breaks->places[rule] = place;
+    if (rule < breaks->first || (rule == breaks->first && place < breaks->place)) {
+        breaks->first = rule;
+        breaks->place = place;
     }
-    breaks->broken |= bit;
 }
 
 // Whether no rule before this one was found broken.
 static bool is_kept_below(const struct breaks *breaks, enum rule rule) {
-    return (breaks->broken & (((uint64_t)1 << rule) - 1)) == 0;
+    return breaks->first >= rule;
+}
+
+static bool is_unbroken(const struct breaks *breaks) {
+    return breaks->first == RULE_COUNT;
 }
 
 // Ends the program without a verdict.
@@ -634,10 +637,10 @@ static void judge_entries(const struct universal *file, struct breaks *breaks) {
         }
         follow(&archs, arch, arch, place);
     }
-    if (breaks->broken == 0) {
+    if (is_unbroken(breaks)) {
         judge_fat_overlap(file, &bytes, breaks);
     }
-    if (breaks->broken == 0) {
+    if (is_unbroken(breaks)) {
         judge_fat_duplicate(file, &archs, breaks);
     }
 }
@@ -1201,7 +1204,7 @@ static void judge_surveyed(const struct image *image) {
     if (is_kept_below(image->breaks, SEGMENT_OVERLAP)) {
         judge_segment_overlap(image);
     }
-    if (image->breaks->broken != 0) {
+    if (!is_unbroken(image->breaks)) {
         return;
     }
     if (image->dysymtab != 0 && breaks_symbol_group(image)) {
@@ -1232,7 +1235,7 @@ static void judge_slices(const struct file *file, const struct universal *univer
             note(breaks, FAT_SLICE_MAGIC, entry.offset);
         } else if (is_read(universal, &entry)) {
             is_empty = false;
-            if (breaks->broken == 0) {
+            if (is_unbroken(breaks)) {
                 begin_image(&image, file, entry.offset, entry.size, breaks);
                 survey(&image, &entry.arch);
                 judge_surveyed(&image);
@@ -1529,10 +1532,10 @@ static void judge_elements(const struct image *image, const struct spans *parts)
     begin_gathered(&gathered, 1 + 2 * image->section_count + image->table_count);
     gather_elements(image, &gathered);
     struct spans elements = judge_gathered(image, ELEMENT_OVERLAP, &gathered);
-    if (image->breaks->broken == 0) {
+    if (is_unbroken(image->breaks)) {
         judge_strays(image->breaks, STRAY_BYTE, image, parts->sorted, parts->count);
     }
-    if (image->breaks->broken == 0) {
+    if (is_unbroken(image->breaks)) {
         judge_commands(image, parts);
         judge_unclaimed_byte(image, &elements, parts);
     }
@@ -1547,7 +1550,7 @@ static void judge_file_parts(const struct image *image) {
         note_in(image, HEADER_SEGMENT, offsetof(struct mach_header_64, sizeofcmds));
     } else {
         struct spans parts = judge_gathered(image, SEGMENT_FILE_OVERLAP, &gathered);
-        if (image->breaks->broken == 0) {
+        if (is_unbroken(image->breaks)) {
             judge_elements(image, &parts);
         }
     }
@@ -1582,7 +1585,7 @@ static void judge_universal_strictly(const struct file *file, const struct unive
                                      struct breaks *breaks) {
     struct image image;
     judge_fat_stray_byte(file, universal, breaks);
-    for (uint64_t k = 0; k < universal->nfat_arch && breaks->broken == 0; k++) {
+    for (uint64_t k = 0; k < universal->nfat_arch && is_unbroken(breaks); k++) {
         struct entry entry = read_entry(universal, k);
         if (is_read(universal, &entry)) {
             begin_image(&image, file, entry.offset, entry.size, breaks);
@@ -2426,7 +2429,7 @@ static void judge_image_linked(const struct image *image) {
     for (size_t k = 0; k < linked.command_count && is_kept_below(image->breaks, TABLE_HOME); k++) {
         judge_homes(&linked, linked.commands[k]);
     }
-    if (image->breaks->broken != 0) {
+    if (!is_unbroken(image->breaks)) {
         return;
     }
     for (size_t k = 0; k < linked.command_count; k++) {
@@ -2448,7 +2451,7 @@ static void judge_image_linked(const struct image *image) {
 static void judge_universal_linked(const struct file *file, const struct universal *universal,
                                    struct breaks *breaks) {
     struct image image;
-    for (uint64_t k = 0; k < universal->nfat_arch && breaks->broken == 0; k++) {
+    for (uint64_t k = 0; k < universal->nfat_arch && is_unbroken(breaks); k++) {
         struct entry entry = read_entry(universal, k);
         if (is_read(universal, &entry)) {
             begin_image(&image, file, entry.offset, entry.size, breaks);
@@ -2571,10 +2574,9 @@ static const char *arch_name(const struct arch *arch) {
 }
 
 static void print_break(const struct breaks *breaks) {
-    int first = __builtin_ctzll(breaks->broken);
     PUT("refused: ");
-    put_word(rule_names[first]);
-    PUT_LABELLED(" at ", breaks->places[first]);
+    put_word(rule_names[breaks->first]);
+    PUT_LABELLED(" at ", breaks->place);
     PUT("\n");
 }
 
@@ -2779,13 +2781,13 @@ static void check_image(const struct file *file, struct breaks *breaks, enum pro
     begin_image(&image, file, 0, file->size, breaks);
     survey(&image, NULL);
     judge_surveyed(&image);
-    if (breaks->broken == 0 && profile >= STRICT) {
+    if (is_unbroken(breaks) && profile >= STRICT) {
         judge_image_strictly(&image);
     }
-    if (breaks->broken == 0 && profile >= LINKED) {
+    if (is_unbroken(breaks) && profile >= LINKED) {
         judge_image_linked(&image);
     }
-    if (breaks->broken == 0) {
+    if (is_unbroken(breaks)) {
         print_accepted(1);
         print_image(0, &image);
     }
@@ -2799,17 +2801,17 @@ static void check_universal(const struct file *file, struct breaks *breaks, enum
         return;
     }
     judge_entries(&universal, breaks);
-    if (breaks->broken != 0) {
+    if (!is_unbroken(breaks)) {
         return;
     }
     judge_slices(file, &universal, breaks);
-    if (breaks->broken == 0 && profile >= STRICT) {
+    if (is_unbroken(breaks) && profile >= STRICT) {
         judge_universal_strictly(file, &universal, breaks);
     }
-    if (breaks->broken == 0 && profile >= LINKED) {
+    if (is_unbroken(breaks) && profile >= LINKED) {
         judge_universal_linked(file, &universal, breaks);
     }
-    if (breaks->broken == 0) {
+    if (is_unbroken(breaks)) {
         print_universal(file, &universal, breaks);
     }
 }
@@ -2817,7 +2819,7 @@ static void check_universal(const struct file *file, struct breaks *breaks, enum
 int main(int argc, char **argv) {
     enum profile profile = argc == 1 ? LAYOUT : strcmp(argv[1], "--linked") == 0 ? LINKED : STRICT;
     struct file file = read_input();
-    struct breaks breaks = {.broken = 0};
+    struct breaks breaks = {.first = RULE_COUNT};
     if (breaks_magic(&file)) {
         note(&breaks, MAGIC, 0);
     } else if (is_fat_magic(read_big(file.bytes, sizeof(uint32_t)))) {
@@ -2825,10 +2827,10 @@ int main(int argc, char **argv) {
     } else {
         check_image(&file, &breaks, profile);
     }
-    if (breaks.broken != 0) {
+    if (!is_unbroken(&breaks)) {
         print_break(&breaks);
     }
     flush_output();
     free(file.bytes);
-    return breaks.broken == 0 ? ACCEPTED : REFUSED;
+    return is_unbroken(&breaks) ? ACCEPTED : REFUSED;
 }
