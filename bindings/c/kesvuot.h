@@ -320,8 +320,8 @@ uint32_t kesvuot_arch_named(const void *name, size_t name_size, uint32_t *cputyp
  * All other offsets, such as `fileoff`, are fields of the format and count from the start of the slice: in the file the
  * byte is at image.slice.offset + fileoff. Reserved fields are 0.
  *
- * A name contains no zero byte, and can be empty. A zero byte follows a nonempty name of a command, library or symbol,
- * but not always that of a segment or section, which can fill all its 16 bytes: use size.
+ * A name contains no zero byte, and can be empty. A zero byte follows a nonempty name of a command, library, symbol or
+ * export, but not always that of a segment or section, which can fill all its 16 bytes: use size.
  *
  * The comments of the fields say what holds of them in an accepted file. "Any number" is not judged: test such a field
  * before you use it as an index, an offset or a shift. */
@@ -582,6 +582,35 @@ uint32_t kesvuot_find_symbol(const void *file, size_t size, const struct kesvuot
 uint32_t kesvuot_find_name(const void *file, size_t size, const struct kesvuot_image *image, const void *name,
                            size_t name_size, struct kesvuot_symbol *symbol, uint64_t *number);
 
+/* Exports
+ *
+ * What an image offers to other images under a name, by its export trie. No profile judges the trie yet. */
+
+struct kesvuot_export {       /* an export. No field of it is judged */
+    uint64_t flags;           /* EXPORT_SYMBOL_FLAGS_..: any number. With the mask KIND_MASK it is a regular symbol (0),
+                                 a thread-local one (1) or an absolute one (2) */
+    uint64_t address;         /* before any slide: the sum of the base and a number of the trie, modulo 2^64, but of an
+                                 absolute symbol the number alone. 0 of a re-export. It can be in no segment */
+    uint64_t resolver;        /* STUB_AND_RESOLVER: the address of the function that finds the one to call, a sum as
+                                 well. `address` is then that of a stub. Otherwise, and of a re-export, 0 */
+    uint64_t ordinal;         /* REEXPORT: which library has the symbol, counted from 1 on in the order of
+                                 kesvuot_read_libraries. Any number. Otherwise 0 */
+    struct kesvuot_span name; /* REEXPORT: its name there. Empty if that is the same, and of all other exports */
+    uint64_t reserved;
+};
+
+/* What an image exports under a name of `name_size` bytes, as a dynamic loader looks it up: at each node of the trie,
+ * the first edge whose string begins the rest of the name leads on. The trie is the data of the first
+ * LC_DYLD_EXPORTS_TRIE. If there is none, or if its data is empty or ends past the slice, it is KESVUOT_TABLE_EXPORT of
+ * the first LC_DYLD_INFO or LC_DYLD_INFO_ONLY. Addresses count from `base` of the image, which is 0 if it has none.
+ * OK: the export is written.
+ * NONE: the image exports no such name, or has no trie. Also if a node on the way does not end in the trie, if a number
+ * or the name of the export does not end in its part of the node, or if the nodes on the way, each counted as often as
+ * it is met, have more bytes than the trie. All fields are 0.
+ * The call goes over the load commands, and then over the nodes on the way. It takes no memory. */
+uint32_t kesvuot_find_export(const void *file, size_t size, const struct kesvuot_image *image, const void *name,
+                             size_t name_size, struct kesvuot_export *found);
+
 /* The data of the first linkedit_data_command with this cmd, such as LC_CODE_SIGNATURE (0x1d) or LC_FUNCTION_STARTS
  * (0x26).
  * OK: all datasize bytes from dataoff on. If datasize is 0, there are none, whatever dataoff is.
@@ -748,6 +777,16 @@ uint32_t kesvuot_find_address(const void *file, size_t size, const struct kesvuo
 #define KESVUOT_DICE_KIND_JUMP_TABLE32 4
 #define KESVUOT_DICE_KIND_ABS_JUMP_TABLE32 5
 
+/* The flags of an export: a mask, its values, and bits. (mach-o/loader.h) */
+#define KESVUOT_EXPORT_SYMBOL_FLAGS_KIND_MASK 0x3
+#define KESVUOT_EXPORT_SYMBOL_FLAGS_KIND_REGULAR 0x0
+#define KESVUOT_EXPORT_SYMBOL_FLAGS_KIND_THREAD_LOCAL 0x1
+#define KESVUOT_EXPORT_SYMBOL_FLAGS_KIND_ABSOLUTE 0x2
+#define KESVUOT_EXPORT_SYMBOL_FLAGS_WEAK_DEFINITION 0x4
+#define KESVUOT_EXPORT_SYMBOL_FLAGS_REEXPORT 0x8
+#define KESVUOT_EXPORT_SYMBOL_FLAGS_STUB_AND_RESOLVER 0x10
+#define KESVUOT_EXPORT_SYMBOL_FLAGS_STATIC_RESOLVER 0x20
+
 /* The bits of a protection. (mach/vm_prot.h) */
 #define KESVUOT_VM_PROT_READ 1
 #define KESVUOT_VM_PROT_WRITE 2
@@ -777,6 +816,7 @@ KESVUOT_HOLDS(sizeof(struct kesvuot_command) == 40);
 KESVUOT_HOLDS(sizeof(struct kesvuot_symbol) == 24);
 KESVUOT_HOLDS(sizeof(struct kesvuot_relocation) == 16);
 KESVUOT_HOLDS(sizeof(struct kesvuot_data_in_code) == 24);
+KESVUOT_HOLDS(sizeof(struct kesvuot_export) == 56);
 KESVUOT_HOLDS(offsetof(struct kesvuot_verdict, rule) == 16);
 KESVUOT_HOLDS(offsetof(struct kesvuot_part, kind) == 24);
 KESVUOT_HOLDS(offsetof(struct kesvuot_explanation, value) == 96);
@@ -795,6 +835,7 @@ KESVUOT_HOLDS(offsetof(struct kesvuot_command, cmd) == 32);
 KESVUOT_HOLDS(offsetof(struct kesvuot_symbol, desc) == 16);
 KESVUOT_HOLDS(offsetof(struct kesvuot_relocation, scattered) == 12);
 KESVUOT_HOLDS(offsetof(struct kesvuot_data_in_code, kind) == 22);
+KESVUOT_HOLDS(offsetof(struct kesvuot_export, ordinal) == 24);
 #undef KESVUOT_HOLDS
 #endif
 

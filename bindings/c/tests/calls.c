@@ -640,6 +640,106 @@ static void try_data_in_code(void) {
     CHECK(kesvuot_read_data_in_code(file, sizeof file, &image, &cursor, rows, ENTRIES) == 0);
 }
 
+// An image with a segment at 0x100000000, LC_DYLD_INFO (0x22) and LC_DYLD_EXPORTS_TRIE (0x80000033). The trie is at
+// 168, and each line of it is a node. The table of LC_DYLD_INFO is at 222, and exports the empty name at 7.
+static const struct {
+    uint32_t words[42];
+    uint8_t bytes[58];
+} EXPORTS = {
+    {0xfeedfacf, 0x01000007, 3, 2, 3, 136, 0, 0,
+     0x19, 72, 0, 0, 0, 0, 0, 1, 0x1000, 0, 0, 0, 226, 0, 5, 5, 0, 0,
+     0x22, 48, 0, 0, 0, 0, 0, 0, 0, 0, 222, 4, 0x80000033, 16, 168, 54},
+    {0, 1, '_', 0, 5,
+     0, 6, 'a', 0, 25, 'c', 0, 29, 'q', 0, 33, 'r', 0, 38, 's', 0, 45, 't', 0, 50,
+     2, 4, 0x10, 0, // a weak definition
+     2, 2, 0x30, 0, // an absolute symbol
+     3, 8, 1, 0, 0, // the same name of library 1
+     5, 8, 2, '_', 'x', 0, 0, // _x of library 2
+     3, 0x10, 0x40, 0x50, 0, // a stub and a resolver
+     2, 1, 0x20, 0, // a thread-local symbol
+     2, 0, 7, 0}};
+enum { EXPORTS_SIZE = 226, TRIE_SIZE_AT = 41, NAME_AT = 168 + 41 };
+
+static const struct kesvuot_export NO_EXPORT = {0, 0, 0, 0, {0, 0}, 0};
+
+// What the image exports under a name: between guard pages, if it has a size.
+static void try_export(const uint8_t *bytes, size_t size, const struct kesvuot_image *image, const char *name,
+                       size_t name_size, struct kesvuot_export wanted) {
+    const bool is_found = memcmp(&wanted, &NO_EXPORT, sizeof wanted) != 0;
+    const struct file guarded = file_of(name, name_size, AT_END);
+    struct kesvuot_export found;
+    memset(&found, UNWRITTEN, sizeof found);
+    CHECK(kesvuot_find_export(bytes, size, image, name_size ? (char *)guarded.bytes : name, name_size, &found) ==
+          (is_found ? KESVUOT_OK : KESVUOT_NONE));
+    CHECK(memcmp(&found, &wanted, sizeof found) == 0);
+    release(guarded);
+}
+
+// All exports, of a file in which the image begins at an offset, and names that are none.
+static void try_all_exports(const uint8_t *bytes, size_t size, const struct kesvuot_image *image, uint64_t offset) {
+    const uint64_t base = image->base;
+    const struct {
+        const char *name;
+        struct kesvuot_export wanted;
+    } exports[] = {
+        {"_a", {4, base + 0x10, 0, 0, {0, 0}, 0}}, {"_c", {2, 0x30, 0, 0, {0, 0}, 0}},
+        {"_q", {8, 0, 0, 1, {0, 0}, 0}}, {"_r", {8, 0, 0, 2, {offset + NAME_AT, 2}, 0}},
+        {"_s", {0x10, base + 0x40, base + 0x50, 0, {0, 0}, 0}}, {"_t", {1, base + 0x20, 0, 0, {0, 0}, 0}}};
+    for (size_t k = 0; k < sizeof exports / sizeof *exports; k++) {
+        const char *name = exports[k].name;
+        try_export(bytes, size, image, name, 2, exports[k].wanted);
+        try_export(bytes, size, image, name, 1, NO_EXPORT);
+        try_export(bytes, size, image, name + 1, 1, NO_EXPORT);
+        // With its zero byte.
+        try_export(bytes, size, image, name, 3, NO_EXPORT);
+    }
+    try_export(bytes, size, image, "", 0, NO_EXPORT);
+    try_export(bytes, size, image, NULL, 0, NO_EXPORT);
+    try_export(bytes, size, image, "_x", 2, NO_EXPORT);
+    try_export(bytes, size, image, "_aa", 3, NO_EXPORT);
+}
+
+static void try_exports(void) {
+    static uint8_t file[BEFORE + EXPORTS_SIZE];
+    struct kesvuot_image image = image_of_tables(&EXPORTS, EXPORTS_SIZE);
+    const struct file guarded = file_of(&EXPORTS, EXPORTS_SIZE, AT_END);
+    try_all_exports(guarded.bytes, EXPORTS_SIZE, &image, 0);
+    release(guarded);
+    memcpy(file + BEFORE, &EXPORTS, EXPORTS_SIZE);
+    image.slice.offset = BEFORE;
+    try_all_exports(file, sizeof file, &image, BEFORE);
+    // From another base, past which some addresses are 2^64 or more, and from 0.
+    image.base = UINT64_MAX - 0x20;
+    try_all_exports(file, sizeof file, &image, BEFORE);
+    image.base = 0;
+    try_all_exports(file, sizeof file, &image, BEFORE);
+}
+
+// The trie of LC_DYLD_EXPORTS_TRIE ends sooner: no node is read that does not end in it. If it has no bytes, or ends
+// past the image, the table of LC_DYLD_INFO is the trie.
+static void try_cut_exports(void) {
+    struct kesvuot_image image = image_of_tables(&EXPORTS, EXPORTS_SIZE);
+    const struct kesvuot_export a = {4, image.base + 0x10, 0, 0, {0, 0}, 0};
+    const struct kesvuot_export of_no_name = {0, image.base + 7, 0, 0, {0, 0}, 0};
+    uint32_t words[EXPORTS_SIZE / 4 + 1];
+    const uint8_t *bytes = (const uint8_t *)words;
+    memcpy(words, &EXPORTS, EXPORTS_SIZE);
+    CHECK(words[TRIE_SIZE_AT] == 54);
+    for (uint32_t size = 1; size < 54; size++) {
+        words[TRIE_SIZE_AT] = size;
+        try_export(bytes, EXPORTS_SIZE, &image, "_t", 2, NO_EXPORT);
+        try_export(bytes, EXPORTS_SIZE, &image, "_a", 2, size < 29 ? NO_EXPORT : a);
+        try_export(bytes, EXPORTS_SIZE, &image, "", 0, NO_EXPORT);
+    }
+    for (int is_past = 0; is_past < 2; is_past++) {
+        words[TRIE_SIZE_AT] = is_past ? EXPORTS_SIZE - 168 + 1 : 0;
+        try_export(bytes, EXPORTS_SIZE, &image, "_a", 2, NO_EXPORT);
+        try_export(bytes, EXPORTS_SIZE, &image, "", 0, of_no_name);
+    }
+    image.slice.size -= 2;
+    try_export(bytes, EXPORTS_SIZE, &image, "", 0, NO_EXPORT);
+}
+
 static void try_versions(void) {
     static const struct kesvuot_build wanted[] = {
         {3, 1, 2, 0x2f}, {3, 4, 5, 0x32}, {4, 6, 7, 0x30}, {1, 8, 9, 0x24}, {2, 10, 11, 0x25}};
@@ -842,6 +942,8 @@ int main(int count, char **words) {
     try_relocations();
     try_function_starts();
     try_data_in_code();
+    try_exports();
+    try_cut_exports();
     try_versions();
     try_no_image();
     try_symbols();

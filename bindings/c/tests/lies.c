@@ -211,6 +211,24 @@ static void take_symbols(const struct kesvuot_image *image, size_t size) {
     calls++;
 }
 
+// Looks up a name that is bytes of the file: any of them, or some that have an underscore first, as most exports have.
+static void take_export(const struct kesvuot_image *image, size_t size) {
+    struct kesvuot_export found, none;
+    memset(&found, UNWRITTEN, sizeof found);
+    memset(&none, 0, sizeof none);
+    size_t start = draw_below(size + 1);
+    if (draw_below(2)) {
+        const uint8_t *underscore = memchr(file.bytes + start, '_', size - start);
+        start = underscore ? (size_t)(underscore - file.bytes) : start;
+    }
+    const size_t most = size - start, length = draw_below(most < 9 ? most + 1 : 9);
+    const uint32_t status = kesvuot_find_export(file.bytes, size, image, file.bytes + start, length, &found);
+    CHECK(status == KESVUOT_OK || (status == KESVUOT_NONE && memcmp(&found, &none, sizeof none) == 0));
+    CHECK(found.flags & KESVUOT_EXPORT_SYMBOL_FLAGS_REEXPORT ? found.address == 0 : found.ordinal == 0);
+    CHECK(found.name.size == 0 || memchr(file.bytes + found.name.offset, 0, found.name.size) == NULL);
+    take(found.name, size);
+}
+
 static void take_all(const struct kesvuot_image *image, size_t size) {
     static const uint32_t cmds[] = {0x1d, 0x1e, 0x26, 0x29, 0x2b, 0x2e, 0x80000033, 0x80000034, 0x2, 0x19};
     struct kesvuot_span bytes;
@@ -221,6 +239,7 @@ static void take_all(const struct kesvuot_image *image, size_t size) {
     take_explanation(size);
     take_name(image, size, (uint32_t)lie(draw_below(0x200)));
     take_symbols(image, size);
+    take_export(image, size);
     kesvuot_find_data(file.bytes, size, image, cmds[draw_below(sizeof cmds / sizeof *cmds)], &bytes);
     take(bytes, size);
     const uint64_t address = draw_below(2) ? lie(image->base) : image->base + draw_below(0x20000);

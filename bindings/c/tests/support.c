@@ -207,11 +207,18 @@ static size_t find_symbol(const struct file *file, const struct kesvuot_image *i
     return at;
 }
 
+static const char NO_SYMBOL[] = "_no symbol";
+
 static size_t find_name(const struct file *file, const struct kesvuot_image *image) {
-    static const char name[] = "_no symbol";
+    const size_t size = sizeof NO_SYMBOL - 1;
     struct kesvuot_symbol symbol;
     uint64_t number;
-    return kesvuot_find_name(file->bytes, file->size, image, name, sizeof name - 1, &symbol, &number) == KESVUOT_OK;
+    return kesvuot_find_name(file->bytes, file->size, image, NO_SYMBOL, size, &symbol, &number) == KESVUOT_OK;
+}
+
+static size_t find_export(const struct file *file, const struct kesvuot_image *image) {
+    struct kesvuot_export found;
+    return kesvuot_find_export(file->bytes, file->size, image, NO_SYMBOL, sizeof NO_SYMBOL - 1, &found) == KESVUOT_OK;
 }
 
 const struct view views[VIEWS] = {
@@ -221,5 +228,5 @@ const struct view views[VIEWS] = {
     {"find_data", find_data}, {"find_address", find_address}, {"read_relocations", read_relocations},
     {"find_table", find_table}, {"find_source_version", find_source_version}, {"index_symbols", index_symbols},
     {"find_symbol", find_symbol}, {"find_name", find_name}, {"read_function_starts", read_function_starts},
-    {"read_data_in_code", read_data_in_code},
+    {"read_data_in_code", read_data_in_code}, {"find_export", find_export},
 };

@@ -112,6 +112,16 @@ pub const DICE_KIND_JUMP_TABLE16: u16 = 3;
 pub const DICE_KIND_JUMP_TABLE32: u16 = 4;
 pub const DICE_KIND_ABS_JUMP_TABLE32: u16 = 5;
 
+// The flags of an export: a mask, its values, and bits. (mach-o/loader.h)
+pub const EXPORT_SYMBOL_FLAGS_KIND_MASK: u64 = 0x3;
+pub const EXPORT_SYMBOL_FLAGS_KIND_REGULAR: u64 = 0x0;
+pub const EXPORT_SYMBOL_FLAGS_KIND_THREAD_LOCAL: u64 = 0x1;
+pub const EXPORT_SYMBOL_FLAGS_KIND_ABSOLUTE: u64 = 0x2;
+pub const EXPORT_SYMBOL_FLAGS_WEAK_DEFINITION: u64 = 0x4;
+pub const EXPORT_SYMBOL_FLAGS_REEXPORT: u64 = 0x8;
+pub const EXPORT_SYMBOL_FLAGS_STUB_AND_RESOLVER: u64 = 0x10;
+pub const EXPORT_SYMBOL_FLAGS_STATIC_RESOLVER: u64 = 0x20;
+
 // The bits of a protection. (mach/vm_prot.h)
 pub const VM_PROT_READ: u32 = 1;
 pub const VM_PROT_WRITE: u32 = 2;
