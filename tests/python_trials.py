@@ -12,6 +12,7 @@ import array
 import ctypes
 import gc
 import io
+import itertools
 import json
 import mmap
 import os
@@ -31,6 +32,7 @@ from types import SimpleNamespace
 TOP = Path(__file__).resolve().parent.parent
 sys.path[:0] = [str(TOP / "bindings" / "python"), str(TOP / "bench"), str(TOP / "tests")]
 import explanations  # pylint: disable=wrong-import-position
+import export_trie  # pylint: disable=wrong-import-position
 import images  # pylint: disable=wrong-import-position
 import kesvuot  # pylint: disable=wrong-import-position
 import oracle  # pylint: disable=wrong-import-position
@@ -541,6 +543,14 @@ def is_plain(symbol):
     return symbol[3] & 0xE0 == 0
 
 
+def exported_names(table):
+    """The first names of an export trie, up to what is none."""
+    try:
+        yield from (name for name, _ in itertools.islice(export_trie.read_all(table), LOOKED_UP))
+    except oracle.Malformed:
+        return
+
+
 def compare_lookups(found, wanted):
     """The symbols by address, of those that have N_SECT, and by name."""
     symbols, names = list(wanted_symbols(wanted)), list(wanted_names(wanted))
@@ -556,6 +566,10 @@ def compare_lookups(found, wanted):
         first = (symbol for symbol, other in zip(symbols, names) if symbol[1] and is_plain(symbol) and other == name)
         symbol = found.symbol_named(name)
         yield f"symbol {name!r:.99}", symbol and as_bytes(symbol), next(first, None)
+    table = export_trie.table_of(wanted)
+    for name in {*named, b"", b"_no symbol", *exported_names(table)}:
+        yield (f"export {name!r:.99}", as_bytes(found.find_export(name) or ()),
+               export_trie.from_base(export_trie.look_up(table, name), wanted.base) or ())
 
 
 def compare_slice(found, wanted):
@@ -918,6 +932,8 @@ def judge_texts_of_rows(report, data):
     report.case("a command", str(command),
                 f"Command(bytes=<{len(command.bytes)} bytes>, name=b'/usr/lib/dyld', place={command.place}, cmd=14)")
     report.case("a symbol", str(image.symbols[0]).split(", desc=")[0] + ")", "Symbol(value=4294968384, strx=2)")
+    report.case("an export", str(image.find_export("_start")),
+                "Export(flags=0, address=4294968384, resolver=None, ordinal=None, name=None)")
 
 
 def made(name):

@@ -11,10 +11,11 @@ from typing import Any, Iterator, NamedTuple, Optional, SupportsIndex, Tuple, Un
 from uuid import UUID
 
 from . import _library, _opcodes, _reading, _rows
-from ._library import CHANGED, IMAGE, SPAN, TEXT, VERDICT, Bytes, Data, address_of, load
+from ._library import CHANGED, EXPORT, IMAGE, SPAN, TEXT, VERDICT, Bytes, Data, address_of, load
 from ._opcodes import Bind, Rebase
 from ._rows import (
-    Build, Command, DataInCode, Library, NamedReader, Reader, Relocation, Section, Segment, Symbol, Table, WalkedReader)
+    Build, Command, DataInCode, Export, Library, NamedReader, Reader, Relocation, Section, Segment, Symbol, Table,
+    WalkedReader)
 from .constants import LC_LOAD_DYLINKER, LC_RPATH
 
 # Room for the layout of most files. A longer one takes a second call.
@@ -279,6 +280,15 @@ class Image(Slice):
         status = load().kesvuot_find_name(self._data.address, len(self._data), self._image, wanted.address, len(wanted),
                                           symbol, ctypes.byref(ctypes.c_uint64()))
         return _rows.symbol_of(self._data, symbol) if status == _library.OK else None
+
+    def find_export(self, name: Union[Data, str]) -> Optional[Export]:
+        """What the image exports under this name, of bytes or of a text in UTF-8, as a dynamic loader looks it up in the
+        export trie: that of LC_DYLD_EXPORTS_TRIE, or of LC_DYLD_INFO or LC_DYLD_INFO_ONLY. None if there is none, or if
+        the bytes on the way to it are no trie, which no profile judges yet. Each call rescans the load commands."""
+        wanted, written = _bytes_of(name), ctypes.create_string_buffer(EXPORT.size)
+        status = load().kesvuot_find_export(
+            self._data.address, len(self._data), self._image, wanted.address, len(wanted), written)
+        return _rows.export_of(self._data, written) if status == _library.OK else None
 
     @cached_property
     def local_symbols(self) -> Table[Symbol]:

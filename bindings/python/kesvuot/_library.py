@@ -26,6 +26,7 @@ TEXT = struct.Struct("@PN")
 VERDICT = struct.Struct("@2QI4x")
 EXPLANATION = struct.Struct("@3Q2I3Q2I3Q2I2Q4I")
 IMAGE = struct.Struct("@2Q13Q2Q3I4x12I16s16x")
+EXPORT = struct.Struct("@6Q8x")
 
 CHANGED = "the bytes have changed after the verdict"
 
@@ -81,7 +82,8 @@ def _declare(library: Any) -> None:
         "find_address": (u32, [pointer, size, pointer, u64, pointer]),
         "index_symbols": (size, [pointer, size, pointer, pointer, size]),
         "find_symbol": (u32, [pointer, size, pointer, pointer, size, u64, pointer, pointer]),
-        "find_name": (u32, [pointer, size, pointer, pointer, size, pointer, pointer])}
+        "find_name": (u32, [pointer, size, pointer, pointer, size, pointer, pointer]),
+        "find_export": (u32, [pointer, size, pointer, pointer, size, pointer])}
     for table in ("segments", "sections", "libraries", "builds", "commands", "symbols", "indirects",
                   "function_starts", "data_in_code"):
         calls[f"read_{table}"] = (size, [pointer, size, pointer, pointer, pointer, size])

@@ -8,7 +8,8 @@ from struct import Struct
 from typing import (
     Any, Callable, Iterable, Iterator, NamedTuple, Optional, Sequence, SupportsIndex, Tuple, TypeVar, Union, overload)
 
-from ._library import CHANGED, CURSOR, NO_SECTION, SPAN, Bytes, load
+from ._library import CHANGED, CURSOR, EXPORT, NO_SECTION, SPAN, Bytes, load
+from .constants import EXPORT_SYMBOL_FLAGS_REEXPORT, EXPORT_SYMBOL_FLAGS_STUB_AND_RESOLVER
 
 Row = TypeVar("Row")
 Fields = Iterable[Tuple[Any, ...]]
@@ -179,6 +180,27 @@ class DataInCode(NamedTuple):
         return _text(self)
 
 
+class Export(NamedTuple):
+    """What an image offers to others under a name. No rule judges its fields.
+
+    `flags`: of EXPORT_SYMBOL_FLAGS_.., or any other number. With EXPORT_SYMBOL_FLAGS_KIND_MASK it is a regular symbol, a
+    thread-local one or an absolute one
+    `address`: before any slide, and it can be in no segment. None of a re-export
+    `resolver`: with EXPORT_SYMBOL_FLAGS_STUB_AND_RESOLVER the address of the function that finds the one to call. Then
+    `address` is that of a stub. Otherwise None
+    `ordinal`: of a re-export which of the `libraries` has the symbol, from 1 on, or any other number. Otherwise None
+    `name`: of a re-export its name there, empty if that is the same. Otherwise None"""
+
+    flags: int
+    address: Optional[int]
+    resolver: Optional[int]
+    ordinal: Optional[int]
+    name: Optional[memoryview]
+
+    def __repr__(self) -> str:
+        return _text(self)
+
+
 class Kind(NamedTuple):
     """A kind of rows: the call that writes them, the form of one, and the function that makes rows of the fields."""
 
@@ -242,6 +264,15 @@ RELOCATIONS = Kind("kesvuot_read_relocations", Struct("@2I?B?B?3x"), _relocation
 def symbol_of(data: Bytes, written: Any) -> Symbol:
     """The symbol of a row that the library has written."""
     return next(_symbols(data, [SYMBOLS.form.unpack(written)]))
+
+
+def export_of(data: Bytes, written: Any) -> Export:
+    """The export that the library has written."""
+    flags, address, resolver, ordinal, *name = EXPORT.unpack(written)
+    if flags & EXPORT_SYMBOL_FLAGS_REEXPORT:
+        return Export(flags, None, None, ordinal, data.part(*name))
+    has_resolver = flags & EXPORT_SYMBOL_FLAGS_STUB_AND_RESOLVER
+    return Export(flags, address, resolver if has_resolver else None, None, None)
 
 
 def commands_of(image: int) -> Kind:
