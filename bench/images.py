@@ -71,6 +71,8 @@ whose LC_MAIN names an address of no segment. That breaks the last rule, so all 
     starts-N-shuffled               N segments of 16 bytes in no order, each with a function
     dice-N                          N entries of data in code, in no order, each of 8 of the 16 bytes of a function
     dice-N-shuffled                 N executable segments of 16 bytes in no order, each with an entry, in another order
+    exports-N                       an export trie of N nodes, each with an edge of no bytes to the next, so that a
+                                    look-up of any name passes all. The last one has no edge. Accepted
 """
 
 from __future__ import annotations
@@ -94,7 +96,8 @@ CPU_TYPE_ARM64, CPU_SUBTYPE_ARM64_ALL = 0x0100000C, 0
 MH_OBJECT, MH_EXECUTE = 1, 2
 LC_SYMTAB, LC_DYSYMTAB, LC_LOAD_DYLIB, LC_SEGMENT_64, LC_MAIN = 0x2, 0xB, 0xC, 0x19, 0x80000028
 LC_ENCRYPTION_INFO_64, LC_ATOM_INFO, LC_RPATH, LC_DYLD_INFO_ONLY = 0x2C, 0x36, 0x8000001C, 0x80000022
-LC_FUNCTION_STARTS, LC_DATA_IN_CODE, LC_DYLD_CHAINED_FIXUPS = 0x26, 0x29, 0x80000034
+LC_FUNCTION_STARTS, LC_DATA_IN_CODE = 0x26, 0x29
+LC_DYLD_EXPORTS_TRIE, LC_DYLD_CHAINED_FIXUPS = 0x80000033, 0x80000034
 LC_UNLISTED = 0x7FFFFFFF
 VM_PROT_READ, VM_PROT_WRITE, VM_PROT_EXECUTE = 1, 2, 4
 HEADER_SIZE, SEGMENT_SIZE, SECTION_SIZE = 32, 72, 80
@@ -643,6 +646,23 @@ def data_in_code(out: BinaryIO, count: int, order: str) -> str:
     return with_functions(out, LC_DATA_IN_CODE, FUNCTION_SIZE * count, [], table_of)
 
 
+def chained_nodes(count: int) -> Iterator[bytes]:
+    """So many nodes of 7 bytes, but for the last: no symbol, one edge, no bytes, and the offset of the next node in
+    four bytes."""
+    for k in range(1, count):
+        digits = [7 * k >> shift & 0x7F for shift in (0, 7, 14, 21)]
+        yield bytes([0, 1, 0, *(digit | 0x80 for digit in digits[:3]), digits[3]])
+    yield bytes(2)
+
+
+def exports(out: BinaryIO, count: int) -> str:
+    trie = b"".join(chained_nodes(count))
+    place = HEADER_SIZE + SEGMENT_SIZE + LINKEDIT_DATA_SIZE + MAIN_SIZE
+    size = place + len(trie)
+    commands = segment(b"__TEXT", BASE, size, 0, size) + linkedit_data(LC_DYLD_EXPORTS_TRIE, place, len(trie))
+    return image(out, commands, 2, [trie], accepted=True)
+
+
 # The commands of which a file has many.
 REPEATED = {"commands": unlisted, "libraries": libraries}
 
@@ -667,6 +687,7 @@ SIZED = {
     "plain": plain,
     "chains": chains,
     "pointers": chained_pointers,
+    "exports": exports,
 }
 
 
