@@ -209,6 +209,15 @@ structures! {
         length: u16,
         kind: u16,
     }
+
+    kesvuot_export = Export {
+        flags: u64,
+        address: u64,
+        resolver: u64,
+        ordinal: u64,
+        name: Span,
+        reserved: u64,
+    }
 }
 
 /// `struct kesvuot_text`: a constant of the library.
@@ -325,6 +334,14 @@ extern "C" {
         name_size: usize,
         symbol: *mut Symbol,
         number: *mut u64,
+    ) -> u32;
+    fn kesvuot_find_export(
+        file: *const c_void,
+        size: usize,
+        image: *const Image,
+        name: *const c_void,
+        name_size: usize,
+        found: *mut Export,
     ) -> u32;
 }
 
@@ -614,6 +631,16 @@ pub fn find_name(file: &[u8], image: &Image, name: &[u8]) -> (u32, Symbol, u64) 
     let status =
         unsafe { kesvuot_find_name(at, file.len(), image, start, size, &mut symbol, &mut number) };
     (status, symbol, number)
+}
+
+/// The status, and what an image exports under a name.
+pub fn find_export(file: &[u8], image: &Image, name: &[u8]) -> (u32, Export) {
+    let (at, mut found) = (file.as_ptr().cast(), Export::default());
+    let (start, size) = (name.as_ptr().cast(), name.len());
+    // SAFETY: the file and the name may be read, and nobody changes them meanwhile. The export may be
+    // written.
+    let status = unsafe { kesvuot_find_export(at, file.len(), image, start, size, &mut found) };
+    (status, found)
 }
 
 #[cfg(test)]

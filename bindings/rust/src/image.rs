@@ -6,7 +6,8 @@ use crate::ffi::{self, Raw, Span};
 use alloc::vec::Vec;
 
 use crate::parts::{
-    Build, Command, DataInCode, Indirect, Library, Relocation, Section, Segment, Symbol, Table,
+    Build, Command, DataInCode, Export, Indirect, Library, Relocation, Section, Segment, Symbol,
+    Table,
 };
 use crate::rows::{Row, Rows, UncountedRows};
 use crate::symbol_index::SymbolIndex;
@@ -356,6 +357,29 @@ impl<'a> Image<'a> {
     pub fn symbol_named(&self, name: impl AsRef<[u8]>) -> Option<(u64, Symbol)> {
         let (status, symbol, number) = ffi::find_name(self.file, &self.raw, name.as_ref());
         (status == ffi::OK).then(|| (number, Symbol::new(symbol, self)))
+    }
+
+    /// What the image exports under this name, as a dynamic loader looks it up in the export trie: that of
+    /// `LC_DYLD_EXPORTS_TRIE`, or of `LC_DYLD_INFO` or `LC_DYLD_INFO_ONLY`. `None` if there is none, or if the
+    /// bytes on the way to it are no trie, which no profile judges yet.
+    ///
+    /// Each call rescans the load commands. It takes no memory.
+    ///
+    /// ```
+    /// # let path = concat!(env!("CARGO_MANIFEST_DIR"), "/../../tests/real/program");
+    /// # let file = std::fs::read(path)?;
+    /// # let image = kesvuot::verify(&file)?.image(0).unwrap();
+    /// use kesvuot::ExportKind;
+    ///
+    /// let start = image.find_export("_start").unwrap();
+    /// assert_eq!(start.kind, ExportKind::Regular(0x1_0000_0440));
+    /// assert_eq!(image.find_export("_star"), None);
+    /// # Ok::<(), Box<dyn std::error::Error>>(())
+    /// ```
+    #[must_use]
+    pub fn find_export(&self, name: impl AsRef<[u8]>) -> Option<Export<'a>> {
+        let (status, found) = ffi::find_export(self.file, &self.raw, name.as_ref());
+        (status == ffi::OK).then(|| Export::new(found, self))
     }
 
     /// The symbols by address: sort them once, and look up many addresses.

@@ -68,7 +68,8 @@ pub use file::{verify_file, FileError};
 pub use image::{Dysymtab, Image, Source, Symtab};
 pub use named_symbols::NamedSymbols;
 pub use parts::{
-    Build, Command, DataInCode, Indirect, Library, Relocation, Section, Segment, Symbol, Table,
+    Build, Command, DataInCode, Export, ExportKind, Indirect, Library, Relocation, Section,
+    Segment, Symbol, Table,
 };
 pub use rows::{Rows, UncountedRows};
 pub use rule::{ParseRuleError, Rule};

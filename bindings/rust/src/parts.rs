@@ -3,7 +3,12 @@
 use core::fmt;
 use core::ops::Range;
 
-use crate::constants::{INDIRECT_SYMBOL_ABS, INDIRECT_SYMBOL_LOCAL, N_SECT, N_STAB, N_TYPE};
+use crate::constants::{
+    EXPORT_SYMBOL_FLAGS_KIND_ABSOLUTE, EXPORT_SYMBOL_FLAGS_KIND_MASK,
+    EXPORT_SYMBOL_FLAGS_KIND_REGULAR, EXPORT_SYMBOL_FLAGS_KIND_THREAD_LOCAL,
+    EXPORT_SYMBOL_FLAGS_REEXPORT, EXPORT_SYMBOL_FLAGS_STUB_AND_RESOLVER, INDIRECT_SYMBOL_ABS,
+    INDIRECT_SYMBOL_LOCAL, N_SECT, N_STAB, N_TYPE,
+};
 use crate::rows::Row;
 use crate::{ffi, Image};
 
@@ -279,6 +284,72 @@ impl<'a> Row<'a> for DataInCode<'a> {
             offset: raw.offset,
             length: raw.length,
             kind: raw.kind,
+        }
+    }
+}
+
+/// What an image offers to others under a name. No rule judges its fields.
+#[derive(Clone, Copy, Debug, PartialEq, Eq)]
+#[non_exhaustive]
+pub struct Export<'a> {
+    /// `EXPORT_SYMBOL_FLAGS_WEAK_DEFINITION` and other such bits, or any other number.
+    pub flags: u64,
+    /// What the name leads to, as the flags say.
+    pub kind: ExportKind<'a>,
+}
+
+/// What an exported name leads to. An address is one before any slide, and it can be in no segment.
+#[derive(Clone, Copy, Debug, PartialEq, Eq)]
+#[non_exhaustive]
+pub enum ExportKind<'a> {
+    /// An address in the image.
+    Regular(u64),
+    /// The address of what describes a thread-local variable.
+    ThreadLocal(u64),
+    /// A number that no slide changes.
+    Absolute(u64),
+    /// A function that another one finds.
+    Resolved {
+        /// The address of a stub, which calls it.
+        stub: u64,
+        /// The address of the function that finds it.
+        resolver: u64,
+    },
+    /// A symbol of another library.
+    ReExport {
+        /// Which of [`Image::libraries`] has it, counted from 1 on, or any other number.
+        ordinal: u64,
+        /// Its name there, empty if that is the same.
+        name: &'a [u8],
+    },
+    /// An address, of a kind that `<mach-o/loader.h>` does not name.
+    Other(u64),
+}
+
+impl<'a> Export<'a> {
+    pub(crate) fn new(raw: ffi::Export, image: &Image<'a>) -> Self {
+        let has = |flag| raw.flags & flag != 0;
+        let kind = if has(EXPORT_SYMBOL_FLAGS_REEXPORT) {
+            ExportKind::ReExport {
+                ordinal: raw.ordinal,
+                name: image.part(raw.name),
+            }
+        } else if has(EXPORT_SYMBOL_FLAGS_STUB_AND_RESOLVER) {
+            ExportKind::Resolved {
+                stub: raw.address,
+                resolver: raw.resolver,
+            }
+        } else {
+            match raw.flags & EXPORT_SYMBOL_FLAGS_KIND_MASK {
+                EXPORT_SYMBOL_FLAGS_KIND_REGULAR => ExportKind::Regular(raw.address),
+                EXPORT_SYMBOL_FLAGS_KIND_THREAD_LOCAL => ExportKind::ThreadLocal(raw.address),
+                EXPORT_SYMBOL_FLAGS_KIND_ABSOLUTE => ExportKind::Absolute(raw.address),
+                _ => ExportKind::Other(raw.address),
+            }
+        };
+        Export {
+            flags: raw.flags,
+            kind,
         }
     }
 }

@@ -1,7 +1,8 @@
 //! The parts of an image, read from its bytes by the structures of `<mach-o/loader.h>` and
 //! `<mach-o/nlist.h>` alone, and compared with what the crate gives.
 
-use kesvuot::{Image, Library, Source, Symbol, Table};
+use kesvuot::constants::{EXPORT_SYMBOL_FLAGS_REEXPORT, EXPORT_SYMBOL_FLAGS_STUB_AND_RESOLVER};
+use kesvuot::{ExportKind, Image, Library, Source, Symbol, Table};
 
 const LC_SYMTAB: u32 = 0x2;
 const LC_DYSYMTAB: u32 = 0xb;
@@ -21,6 +22,7 @@ const LC_RPATH: u32 = 0x8000_001c;
 const DYLD_INFOS: [u32; 2] = [0x22, 0x8000_0022];
 const LC_ENCRYPTION_INFO_64: u32 = 0x2c;
 const LC_MAIN: u32 = 0x8000_0028;
+const LC_DYLD_EXPORTS_TRIE: u32 = 0x8000_0033;
 /// `dylib_command`: `LC_LOAD_DYLIB`, `LC_ID_DYLIB` and their kin.
 const LIBRARIES: [u32; 6] = [0xc, 0xd, 0x20, 0x8000_0018, 0x8000_001f, 0x8000_0023];
 /// Other commands with a name: `LC_LOAD_DYLINKER`, `LC_ID_DYLINKER`, `LC_DYLD_ENVIRONMENT`,
@@ -107,6 +109,7 @@ pub fn compare(image: &Image) {
     compare_bounded(image, &commands);
     compare_relocations(image);
     compare_code(image, &commands);
+    compare_exports(image, &commands);
     compare_addresses(image, &commands);
 }
 
@@ -503,24 +506,32 @@ fn data_of<'a>(image: &Image<'a>, commands: &[Plain], cmd: u32) -> &'a [u8] {
     &image.bytes()[start..][..size]
 }
 
+/// Takes a number of ULEB128 from the front of bytes.
+fn take_number(bytes: &mut &[u8]) -> Option<u64> {
+    let last = bytes.iter().take(10).position(|byte| byte & 0x80 == 0)?;
+    let (number, rest) = bytes.split_at(last + 1);
+    *bytes = rest;
+    number.iter().rev().try_fold(0_u64, |value, byte| {
+        value.checked_mul(0x80)?.checked_add(u64::from(byte & 0x7f))
+    })
+}
+
+/// Takes a string from the front of bytes, and the zero byte that ends it.
+fn take_string<'a>(bytes: &mut &'a [u8]) -> Option<&'a [u8]> {
+    let end = bytes.iter().position(|&byte| byte == 0)?;
+    let string = &bytes[..end];
+    *bytes = &bytes[end + 1..];
+    Some(string)
+}
+
 /// The sums of the ULEB128 numbers, and the whole entries.
 fn compare_code(image: &Image, commands: &[Plain]) {
-    let (mut starts, mut address, mut number) = (Vec::new(), image.base(), Vec::new());
-    for byte in data_of(image, commands, LC_FUNCTION_STARTS) {
-        number.push(byte & 0x7f);
-        if byte & 0x80 == 0 {
-            let mut digits = number.iter().rev();
-            let distance = digits.try_fold(0_u64, |value, digit| {
-                value.checked_mul(0x80)?.checked_add(u64::from(*digit))
-            });
-            let is_short = number.len() <= 10;
-            address = address.and_then(|address| {
-                let distance = distance.filter(|distance| *distance > 0 && is_short)?;
-                address.checked_add(distance)
-            });
-            starts.extend(address);
-            number.clear();
-        }
+    let (mut starts, mut address) = (Vec::new(), image.base());
+    let mut numbers = data_of(image, commands, LC_FUNCTION_STARTS);
+    while let Some(last) = address {
+        let distance = take_number(&mut numbers).filter(|&distance| distance > 0);
+        address = distance.and_then(|distance| last.checked_add(distance));
+        starts.extend(address);
     }
     assert_eq!(image.function_starts().collect::<Vec<_>>(), starts);
     let entries = data_of(image, commands, LC_DATA_IN_CODE).chunks_exact(8);
@@ -535,6 +546,78 @@ fn compare_code(image: &Image, commands: &[Plain]) {
         )
     });
     assert_eq!(found.collect::<Vec<_>>(), wanted.collect::<Vec<_>>());
+}
+
+/// The names of an export trie with what is said of each, from the node at `place` on, to which `name` leads. `None` if
+/// bytes are no node, or if more of them than `left` are passed.
+fn exports_from(
+    trie: &[u8],
+    place: u64,
+    name: &[u8],
+    left: &mut usize,
+    found: &mut Vec<(Vec<u8>, Vec<u8>)>,
+) -> Option<()> {
+    let node = trie.get(usize::try_from(place).ok()?..)?;
+    let mut rest = node;
+    let size = usize::try_from(take_number(&mut rest)?).ok()?;
+    let (said, after) = (rest.get(..size)?, rest.get(size..)?);
+    let (&count, mut rest) = after.split_first()?;
+    let mut edges = Vec::new();
+    for _ in 0..count {
+        edges.push((take_string(&mut rest)?, take_number(&mut rest)?));
+    }
+    *left = left.checked_sub(node.len() - rest.len())?;
+    if size > 0 {
+        found.push((name.to_vec(), said.to_vec()));
+    }
+    for (label, child) in edges {
+        exports_from(trie, child, &[name, label].concat(), left, found)?;
+    }
+    Some(())
+}
+
+/// The flags, and what else the bytes say of an export. `None` if a number or the name does not end in them.
+fn export_of(mut said: &[u8], base: u64) -> Option<(u64, ExportKind<'_>)> {
+    let (flags, number) = (take_number(&mut said)?, take_number(&mut said)?);
+    let address = base.wrapping_add(number);
+    let kind = if flags & EXPORT_SYMBOL_FLAGS_REEXPORT != 0 {
+        let (ordinal, name) = (number, take_string(&mut said)?);
+        ExportKind::ReExport { ordinal, name }
+    } else if flags & EXPORT_SYMBOL_FLAGS_STUB_AND_RESOLVER != 0 {
+        let (stub, resolver) = (address, base.wrapping_add(take_number(&mut said)?));
+        ExportKind::Resolved { stub, resolver }
+    } else {
+        match flags & 3 {
+            0 => ExportKind::Regular(address),
+            1 => ExportKind::ThreadLocal(address),
+            2 => ExportKind::Absolute(number),
+            _ => ExportKind::Other(address),
+        }
+    };
+    Some((flags, kind))
+}
+
+/// All that a trie exports, as far as it is one.
+fn compare_exports(image: &Image, commands: &[Plain]) {
+    let info = DYLD_INFOS.iter().find_map(|&cmd| first_of(commands, cmd));
+    let of_info = info.map_or(&[][..], |command| {
+        part(
+            image.bytes(),
+            word(command, 40).into(),
+            word(command, 44).into(),
+        )
+    });
+    let trie = match data_of(image, commands, LC_DYLD_EXPORTS_TRIE) {
+        [] => of_info,
+        trie => trie,
+    };
+    let (mut left, mut named) = (trie.len(), Vec::new());
+    let _ = exports_from(trie, 0, &[], &mut left, &mut named);
+    for (name, said) in &named {
+        let found = image.find_export(name);
+        let wanted = export_of(said, image.base().unwrap_or(0));
+        assert_eq!(found.map(|export| (export.flags, export.kind)), wanted);
+    }
 }
 
 fn compare_addresses(image: &Image, commands: &[Plain]) {
