@@ -226,6 +226,8 @@ type (
 	relocationRow    = C.struct_kesvuot_relocation
 	functionStartRow = C.uint64_t
 	dataInCodeRow    = C.struct_kesvuot_data_in_code
+
+	exportRow = C.struct_kesvuot_export
 )
 
 const (
@@ -392,6 +394,14 @@ func findName(image *Image, name string) (row symbolRow, ok bool) {
 	var number C.uint64_t
 	status := C.kesvuot_find_name(unsafe.Pointer(&image.file[0]), C.size_t(len(image.file)), &image.numbers,
 		unsafe.Pointer(&bytes[0]), C.size_t(len(name)), &row, &number)
+	return row, status == C.KESVUOT_OK
+}
+
+// findExport returns what an image exports under a name.
+func findExport(image *Image, name string) (row exportRow, ok bool) {
+	bytes := atLeastOne([]byte(name))
+	status := C.kesvuot_find_export(unsafe.Pointer(&image.file[0]), C.size_t(len(image.file)), &image.numbers,
+		unsafe.Pointer(&bytes[0]), C.size_t(len(name)), &row)
 	return row, status == C.KESVUOT_OK
 }
 

@@ -594,6 +594,46 @@ func TestCode(t *testing.T) {
 	}
 }
 
+// An executable with LC_DYLD_EXPORTS_TRIE (0x80000033) of this trie.
+func withTrie(trie string) []byte {
+	const place = 120
+	size := uint32(len(trie))
+	file := words(0xfeedfacf, 0x01000007, 3, 2, 2, 88, 0, 0,
+		0x19, 72, 0, 0, 0, 0, 0, 1, 0x1000, 0, 0, 0, place+size, 0, 5, 5, 0, 0, 0x80000033, 16, place, size)
+	return append(file, trie...)
+}
+
+func TestExports(t *testing.T) {
+	// Each string is a node.
+	image := verified(t, withTrie("\x00\x01_\x00\x05"+
+		"\x00\x05a\x00\x16k\x00\x1aq\x00\x1er\x00\x23s\x00\x2a"+
+		"\x02\x05\x10\x00"+"\x02\x02\x30\x00"+"\x03\x08\x01\x00\x00"+"\x05\x08\x02_x\x00\x00"+"\x03\x10\x40\x50\x00",
+	)).Images()[0]
+	const base = 0x100000000
+	for name, wanted := range map[string]Export{
+		"_a": {Flags: EXPORT_SYMBOL_FLAGS_KIND_THREAD_LOCAL | EXPORT_SYMBOL_FLAGS_WEAK_DEFINITION, Address: base + 0x10},
+		"_k": {Flags: EXPORT_SYMBOL_FLAGS_KIND_ABSOLUTE, Address: 0x30},
+		"_q": {Flags: EXPORT_SYMBOL_FLAGS_REEXPORT, Ordinal: 1},
+		"_r": {Flags: EXPORT_SYMBOL_FLAGS_REEXPORT, Ordinal: 2, Name: []byte("_x")},
+		"_s": {Flags: EXPORT_SYMBOL_FLAGS_STUB_AND_RESOLVER, Address: base + 0x40, Resolver: base + 0x50},
+	} {
+		found, ok := image.FindExport(name)
+		same(t, "whether there is "+name, ok, true)
+		same(t, "the name of "+name, string(found.Name), string(wanted.Name))
+		found.Name, wanted.Name = nil, nil
+		same(t, name, found, wanted)
+	}
+	for _, name := range []string{"", "_", "a", "_aa", "_a\x00", "_x"} {
+		_, ok := image.FindExport(name)
+		same(t, fmt.Sprintf("whether there is %q", name), ok, false)
+	}
+	for _, image := range verified(t, readReal(t, "library")).Images() {
+		found, ok := image.FindExport("_twice")
+		symbol, _ := image.SymbolNamed("_twice")
+		same(t, "an export of the library", []any{found.Address, ok}, []any{symbol.Value, true})
+	}
+}
+
 func TestBatches(t *testing.T) {
 	for _, count := range []int{0, 1, batch - 1, batch, batch + 1, 3*batch + 5} {
 		var symbols [][2]uint8
@@ -685,6 +725,7 @@ func TestChangedBytes(t *testing.T) {
 		image.SourceVersion()
 		image.Relocations(&Section{Reloff: 8, Nreloc: 1 << 31})
 		image.DataInCode()
+		image.FindExport("_start")
 		for starts := image.FunctionStarts(); starts.Next(); {
 		}
 	}

@@ -391,6 +391,40 @@ func (image *Image) SymbolNamed(name string) (symbol Symbol, ok bool) {
 	return newSymbol(&row), true
 }
 
+// An Export is what an image offers to others under a name. No rule judges its fields.
+type Export struct {
+	// Flags are bits of EXPORT_SYMBOL_FLAGS_.., or any other number. With EXPORT_SYMBOL_FLAGS_KIND_MASK it is a regular
+	// symbol, a thread-local one or an absolute one.
+	Flags uint64
+	// Address is one before any slide, and can be in no segment. It is 0 of a re-export (EXPORT_SYMBOL_FLAGS_REEXPORT).
+	Address uint64
+	// Resolver is the address of the function that finds the one to call, if the flags have
+	// EXPORT_SYMBOL_FLAGS_STUB_AND_RESOLVER. Address is then that of a stub. It is 0 of all others.
+	Resolver uint64
+	// Ordinal is which of the Libraries has the symbol of a re-export, counted from 1 on, or any other number. It is 0 of
+	// all others.
+	Ordinal uint64
+	// Name is the name of a re-export there, empty if that is the same. All others have none.
+	Name []byte
+}
+
+// FindExport returns what the image exports under this name, as a dynamic loader looks it up in the export trie: that of
+// LC_DYLD_EXPORTS_TRIE, or of LC_DYLD_INFO or LC_DYLD_INFO_ONLY. It is not ok if there is none, or if the bytes on the
+// way to it are no trie, which no profile judges yet. Each call rescans the load commands.
+func (image *Image) FindExport(name string) (export Export, ok bool) {
+	row, ok := findExport(image, name)
+	if !ok {
+		return Export{}, false
+	}
+	return Export{
+		Flags:    uint64(row.flags),
+		Address:  uint64(row.address),
+		Resolver: uint64(row.resolver),
+		Ordinal:  uint64(row.ordinal),
+		Name:     image.part(row.name),
+	}, true
+}
+
 func newSymbol(row *symbolRow) Symbol {
 	section := -1
 	if row.section != noSection {
