@@ -47,7 +47,7 @@ enum accepted { REFUSED = 0, ACCEPTED, ACCEPTED_STRICTLY };
 // Counters
 
 // The kinds from RULES on are the rules, by their numbers.
-enum { TABLES = 0, SLICES = 9, IMAGE, ADDRESS, DATA, BOUNDED, NAME, RULES, KINDS = RULES + 64 };
+enum { TABLES = 0, SLICES = 9, IMAGE, ADDRESS, DATA, BOUNDED, NAME, EXPORT, RULES, KINDS = RULES + 64 };
 
 __attribute__((section("__libfuzzer_extra_counters"))) static uint8_t counters[64 * KINDS];
 
@@ -313,6 +313,189 @@ static void check_code(const struct held *held, struct kesvuot_cursor cursor) {
         if (!is_empty(data[k].bytes)) {
             check_part(held, data[k].bytes, data[k].offset, data[k].length);
         }
+    }
+}
+
+// Exports, beside a plain reader of tries (mach-o/loader.h)
+
+// Bytes of a trie, or of a name.
+struct part {
+    const uint8_t *at;
+    size_t size;
+};
+
+struct edge {
+    struct part label;
+    uint64_t child;
+};
+
+struct node {
+    struct part said; // of a name that ends at the node
+    size_t size;
+    unsigned count;
+    struct edge edges[255];
+};
+
+// Takes a number of ULEB128 from the front of the bytes.
+static bool take_number(struct part *rest, uint64_t *number) {
+    *number = 0;
+    for (unsigned shift = 0; shift < 70 && rest->size > 0; shift += 7) {
+        const uint8_t byte = *rest->at++;
+        rest->size--;
+        if (shift == 63 && (byte & 0x7e) != 0) {
+            return false;
+        }
+        *number |= (uint64_t)(byte & 0x7f) << shift;
+        if (byte < 0x80) {
+            return true;
+        }
+    }
+    return false;
+}
+
+// Takes a string, and the zero byte that ends it.
+static bool take_string(struct part *rest, struct part *string) {
+    const uint8_t *end = rest->size > 0 ? memchr(rest->at, 0, rest->size) : NULL;
+    if (end == NULL) {
+        return false;
+    }
+    *string = (struct part){rest->at, (size_t)(end - rest->at)};
+    rest->at += string->size + 1;
+    rest->size -= string->size + 1;
+    return true;
+}
+
+// The node at an offset, if all of it lies in the trie.
+static bool read_node(struct part trie, uint64_t offset, struct node *node) {
+    uint64_t size;
+    if (offset >= trie.size) {
+        return false;
+    }
+    struct part rest = {trie.at + offset, trie.size - (size_t)offset};
+    if (!take_number(&rest, &size) || size >= rest.size) {
+        return false;
+    }
+    node->said = (struct part){rest.at, (size_t)size};
+    node->count = rest.at[size];
+    rest = (struct part){rest.at + size + 1, rest.size - (size_t)size - 1};
+    for (unsigned k = 0; k < node->count; k++) {
+        if (!take_string(&rest, &node->edges[k].label) || !take_number(&rest, &node->edges[k].child)) {
+            return false;
+        }
+    }
+    node->size = trie.size - (size_t)offset - rest.size;
+    return true;
+}
+
+static bool begins(struct part name, struct part label) {
+    return label.size <= name.size && memcmp(name.at, label.at, label.size) == 0;
+}
+
+// What the trie says of a name. The nodes that are passed have no more bytes in all than the trie.
+static bool find_said(struct part trie, struct part name, struct part *said) {
+    struct node node;
+    uint64_t place = 0;
+    size_t left = trie.size;
+    while (read_node(trie, place, &node) && node.size <= left) {
+        unsigned k = 0;
+        left -= node.size;
+        if (name.size == 0 && node.said.size > 0) {
+            *said = node.said;
+            return true;
+        }
+        while (k < node.count && !begins(name, node.edges[k].label)) {
+            k++;
+        }
+        if (k == node.count) {
+            return false;
+        }
+        name.at += node.edges[k].label.size;
+        name.size -= node.edges[k].label.size;
+        place = node.edges[k].child;
+    }
+    return false;
+}
+
+// What it says as the library has to write it.
+static bool read_said(const struct held *held, struct part said, struct kesvuot_export *wanted) {
+    const uint64_t base = held->image.base;
+    struct part name;
+    uint64_t number;
+    *wanted = (struct kesvuot_export){.flags = 0};
+    if (!take_number(&said, &wanted->flags) || !take_number(&said, &number)) {
+        return false;
+    }
+    if ((wanted->flags & KESVUOT_EXPORT_SYMBOL_FLAGS_REEXPORT) != 0) {
+        wanted->ordinal = number;
+        if (!take_string(&said, &name)) {
+            return false;
+        }
+        if (name.size > 0) {
+            wanted->name = (struct kesvuot_span){(uint64_t)(name.at - held->file.bytes), name.size};
+        }
+        return true;
+    }
+    const uint64_t kind = wanted->flags & KESVUOT_EXPORT_SYMBOL_FLAGS_KIND_MASK;
+    wanted->address = kind == KESVUOT_EXPORT_SYMBOL_FLAGS_KIND_ABSOLUTE ? number : base + number;
+    if ((wanted->flags & KESVUOT_EXPORT_SYMBOL_FLAGS_STUB_AND_RESOLVER) != 0) {
+        if (!take_number(&said, &number)) {
+            return false;
+        }
+        wanted->resolver = base + number;
+    }
+    return true;
+}
+
+// Looks up a name in any image.
+static uint32_t check_export(const struct held *held, struct part name, struct kesvuot_export *found) {
+    memset(found, UNWRITTEN, sizeof *found);
+    const uint32_t status = kesvuot_find_export(OF(held), name.at, name.size, found);
+    const bool is_re_export = (found->flags & KESVUOT_EXPORT_SYMBOL_FLAGS_REEXPORT) != 0;
+    const struct kesvuot_export none = {.flags = 0};
+    CHECK(status == KESVUOT_OK || (status == KESVUOT_NONE && memcmp(found, &none, sizeof none) == 0));
+    CHECK(found->reserved == 0);
+    CHECK(is_re_export ? found->address == 0 && found->resolver == 0 : found->ordinal == 0 && is_empty(found->name));
+    check_inside(held, found->name);
+    check_ended(held, found->name);
+    reach(EXPORT, status);
+    return status;
+}
+
+// Looks up a name in an image that was accepted, whose trie this is.
+static void check_known_export(const struct held *held, struct part trie, struct part name) {
+    struct kesvuot_export found, wanted;
+    struct part said;
+    const bool is_found = find_said(trie, name, &said) && read_said(held, said, &wanted);
+    CHECK((check_export(held, name, &found) == KESVUOT_OK) == is_found);
+    CHECK(!is_found || memcmp(&found, &wanted, sizeof found) == 0);
+}
+
+// The names on a way through the trie of an image that was accepted, and each with one byte more.
+static void check_exports(const struct held *held) {
+    struct kesvuot_span span;
+    struct node node;
+    uint8_t name[128];
+    size_t size = 0;
+    uint64_t place = 0;
+    kesvuot_find_data(OF(held), LC_DYLD_EXPORTS_TRIE, &span);
+    if (is_empty(span)) {
+        kesvuot_find_table(OF(held), KESVUOT_TABLE_EXPORT, &span);
+    }
+    const struct part trie = {bytes_at(held, span), (size_t)span.size};
+    for (unsigned step = 0; step < 20; step++) {
+        name[size] = '_';
+        check_known_export(held, trie, (struct part){name, size});
+        check_known_export(held, trie, (struct part){name, size + 1});
+        if (!read_node(trie, place, &node) || node.count == 0) {
+            return;
+        }
+        const struct edge *edge = &node.edges[(trie.size + step) % node.count];
+        if (size + edge->label.size >= sizeof name) {
+            return;
+        }
+        memcpy(name + size, edge->label.at, edge->label.size);
+        size += edge->label.size;
+        place = edge->child;
     }
 }
 
@@ -654,6 +837,7 @@ static void check_tables(const struct held *held, enum accepted accepted) {
         check_section_addresses(held, &all[SEGMENTS], &all[SECTIONS]);
         check_all_data(held, &all[COMMANDS]);
         check_all_bounded(held, &all[COMMANDS]);
+        check_exports(held);
     }
     if (accepted == ACCEPTED_STRICTLY) {
         check_covered(held, &all[SEGMENTS]);
@@ -673,7 +857,7 @@ static void check_address(const struct held *held, uint64_t address) {
     reach(ADDRESS, status);
 }
 
-// An index of any numbers, and a name of bytes of the file.
+// An index of any numbers, and a name of bytes of the file, of a symbol and of an export.
 static void check_any_symbol(const struct held *held, struct kesvuot_cursor cursor) {
     const uint32_t index[] = {(uint32_t)cursor.items, (uint32_t)cursor.place, 0, (uint32_t)cursor.commands};
     struct kesvuot_symbol symbol;
@@ -685,6 +869,9 @@ static void check_any_symbol(const struct held *held, struct kesvuot_cursor curs
     const size_t size = held->file.size < 3 ? held->file.size : 3;
     status = kesvuot_find_name(OF(held), held->file.bytes + (held->file.size - size) / 2, size, &symbol, &number);
     CHECK(status == KESVUOT_OK ? symbol.strx > 0 : status == KESVUOT_NONE && number == 0);
+    struct kesvuot_export found;
+    check_export(held, (struct part){held->file.bytes + (held->file.size - size) / 2, size}, &found);
+    check_export(held, (struct part){NULL, 0}, &found);
 }
 
 static void check_any(const struct held *held, struct kesvuot_cursor cursor, size_t max) {
