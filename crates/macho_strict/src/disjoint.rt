@@ -8,9 +8,9 @@ use macho_fields::{Span, SpansByStart};
 use std::cell::Cell;
 use std::marker::Model;
 
-// Spans by their starts, of which no two share a place.
+/// Spans by their starts, of which no two share a place.
 #[derive(Drop)]
-pub(crate) struct Disjoint {
+pub struct Disjoint {
     spans: SpansByStart,
     // The index of the span that held the last place of those that mostly ascend.
     last: Cell<usize>,
@@ -30,7 +30,8 @@ impl Model for Disjoint {
 }
 
 impl Disjoint {
-    ghost use Rattle.std.specs.Prelude.{IfSome, Some};
+    ghost use Rattle.std.specs.Prelude.{◌↔◌, ◌<◌, Any, IfSome, IsTrue, Some};
+    ghost use Rattle.macho_spans.specs.Span.{IsInside};
     ghost use Rattle.macho_strict.specs.Disjoint.{IsHolding};
 
     // The spans, each of which ends where the next one begins, or before that.
@@ -52,7 +53,18 @@ impl Disjoint {
         if span.holds(place) { Some(span) } else { None }
     }
 
-    // The same, for places that mostly ascend: the span that held the last place and the one after it are
+    /// Whether the range, which is not empty, lies in one of the spans.
+    pub fn has_range(&self, range: Span) -> bool
+        requires { 0 < range.len }
+        ensures { IsTrue result ↔ Any (IsInside range) self.now }
+    {
+        match self.holding(range.start) {
+            Some(span) => range.inside(&span),
+            None => false,
+        }
+    }
+
+    // The span that holds the place, of places that mostly ascend: the span that held the last place and the one after it are
     // looked at before all are searched.
     pub(crate) fn holding_next(&self, place: u64) -> Option<Span>
         ensures { IsHolding self.now place result }

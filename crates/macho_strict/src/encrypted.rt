@@ -1,6 +1,6 @@
 //! The rule of the encrypted range. (`mach-o/loader.h`: `encryption_info_command_64`)
 
-ghost use Rattle.std.specs.Prelude.{◌≡◌, ◌<◌, ◌↔◌, Any, MatchOption, IsPermutation, IsTrue};
+ghost use Rattle.std.specs.Prelude.{◌≡◌, ◌↔◌, MatchOption, IsPermutation, IsTrue};
 ghost use Rattle.macho_fields.specs.Bytes.{bytes_of};
 ghost use Rattle.macho_fields.specs.FirstPlace.{IsLeastPlace};
 ghost use Rattle.macho_fields.specs.Layers.{KeptBelow};
@@ -9,7 +9,6 @@ ghost use Rattle.macho_fields.specs.declared.rule.Rule.{Rule};
 ghost use Rattle.macho_image.specs.Command.{command_of};
 ghost use Rattle.macho_image.specs.Opened.{IsCommandOf};
 ghost use Rattle.macho_rules.specs.Check.{ContinuesWithMemory};
-ghost use Rattle.macho_spans.specs.Span.{IsInside};
 ghost use Rattle.macho_strict.specs.Encrypted.{IsEncrypted, encrypted_span};
 ghost use Rattle.macho_strict.specs.FileParts.{IsSurveyOf};
 ghost use Rattle.macho_strict.specs.Passed.{occupied};
@@ -58,7 +57,7 @@ fn first_misplaced(image: &Image, parts: &Disjoint) -> Option<u64>
     let commands_end = image.commands_end();
     for command in image.commands() {
         if let Some(range) = encrypted(bytes, &command)
-            && (range.start < commands_end || !is_in_one(parts, range))
+            && (range.start < commands_end || !parts.has_range(range))
         {
             return Some(command.place);
         }
@@ -82,15 +81,4 @@ pub(crate) fn encrypted(image: Bytes, command: &Command) -> Option<Span>
         return None;
     }
     Some(Span { start, len })
-}
-
-// Whether the range, which is not empty, lies in one of the parts.
-fn is_in_one(parts: &Disjoint, range: Span) -> bool
-    requires { 0 < range.len }
-    ensures { IsTrue result ↔ Any (IsInside range) parts.now }
-{
-    match parts.holding(range.start) {
-        Some(part) => range.inside(&part),
-        None => false,
-    }
 }

@@ -1,6 +1,6 @@
 //! The bytes of segments that lie in no element. (`mach-o/loader.h`)
 
-ghost use Rattle.std.specs.Prelude.{◌≡◌, ◌++◌, IfOk, OnOk, OnErr};
+ghost use Rattle.std.specs.Prelude.{◌≡◌, ◌++◌, IfOk, IsPermutation, OnOk, OnErr};
 ghost use Rattle.macho_fields.specs.FirstPlace.{IsLeastPlace};
 ghost use Rattle.macho_fields.specs.Layers.{KeptBelow};
 ghost use Rattle.macho_fields.specs.RuleList.{rank};
@@ -56,11 +56,13 @@ fn first_unclaimed(alloc: Global, image: &Image, claims: &Claims) -> Result<Opti
     Ok(claims.stray(image, Wanted::Unpadded(&code)))
 }
 
-// The bytes of the segments that may be executed, of those that have some.
-fn code_of(alloc: Global, image: &Image) -> Result<Disjoint, AllocError>
+/// The bytes of the segments that may be executed, of those that have some. It takes memory: 24 bytes for each
+/// segment.
+pub fn code_of(alloc: Global, image: &Image) -> Result<Disjoint, AllocError>
     requires opened { IsOpened image.now }
     requires kept { KeptBelow (BreaksStrictImage image.now) (rank Rule.UnclaimedByte) }
-    ensures { IfOk result (CoverSame (code_parts image.now)) }
+    ensures cover { IfOk result (CoverSame (code_parts image.now)) }
+    ensures parts { IfOk result (IsPermutation (occupied (code_parts image.now))) }
 {
     let mut list = SpanList::with_capacity(alloc, count_of(FileParts::of(image)))?;
     push_code(&mut list, image)?;
@@ -82,8 +84,8 @@ fn push_code(list: &mut SpanList, image: &Image) -> Result<(), AllocError>
     Ok(())
 }
 
-// Whether the segment may be executed.
-fn is_code(segment: &Segment) -> bool
+/// Whether the segment may be executed.
+pub fn is_code(segment: &Segment) -> bool
     ensures { result ≡ is_code segment.now.image segment.now.place }
 {
     segment.initprot() & u64::from(VM_PROT_EXECUTE) != 0

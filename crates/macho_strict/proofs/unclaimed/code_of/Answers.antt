@@ -20,9 +20,16 @@ new-requires c =
     let apart = parts_apart image c.requires.opened (λ p broken. c.requires.kept rule.SegmentFileOverlap p (lit< tt) broken) in
     disjoint_sorted (code_parts image) (sorted_spans c.sorted.result) moved c.sorted.ensures.rising (none_share_filtered (part_of image) (is_code image) (all_segments image) apart)
 
-pub returns : goal.returns
-returns c =
+pub returns-clause-cover : goal.returns-clause-cover
+returns-clause-cover c =
     let image = c.args.image.now in
     let listed : c.push_code.new.list.spans ≡ occupied (code_parts image) = c.in_ok-push_code.ensures ∙ ap (λ (spans : List Span). spans ++ occupied (code_parts image)) c.in_ok-list.ensures.none in
     subst (λ (spans : List Span). CoverSame (code_parts image) spans) (sym c.new.ensures)
     (cover_listed (code_parts image) c.push_code.new.list.spans (sorted_spans c.sorted.result) listed c.sorted.ensures.permutation)
+
+pub returns-clause-parts : goal.returns-clause-parts
+returns-clause-parts c =
+    let image = c.args.image.now in
+    let listed : c.push_code.new.list.spans ≡ occupied (code_parts image) = c.in_ok-push_code.ensures ∙ ap (λ (spans : List Span). spans ++ occupied (code_parts image)) c.in_ok-list.ensures.none in
+    subst (λ (spans : List Span). IsPermutation (occupied (code_parts image)) spans) (sym c.new.ensures)
+    (subst (λ (spans : List Span). IsPermutation spans (sorted_spans c.sorted.result)) listed c.sorted.ensures.permutation)

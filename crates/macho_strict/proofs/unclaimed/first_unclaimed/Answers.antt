@@ -41,7 +41,7 @@ returns-in_err-code-clause-memory c =
 pub returns-clause-found : goal.returns-clause-found
 returns-clause-found c =
     let image = c.args.image.now in
-    least_unpadded image (keeps_stray image c.requires.kept) (keeps_apart image c.requires.kept) c.in_ok-code.code c.in_ok-code.ensures c.stray.result c.stray.ensures
+    least_unpadded image (keeps_stray image c.requires.kept) (keeps_apart image c.requires.kept) c.in_ok-code.code c.in_ok-code.ensures.cover c.stray.result c.stray.ensures
 
 pub returns-then-read_u8-clause-found : goal.returns-then-read_u8-clause-found
 returns-then-read_u8-clause-found c =
