@@ -147,6 +147,32 @@ module _ (image : List ℕ) {all : List SegmentView} (are : AreSegments image al
       (cases_from_any _ _ r (λ (s : SegmentView). P s.image s.place) (λ (s : SegmentView). ¬ P s.image s.place) ran segments_yield (λ s q k. (says s true q k).1.0 refl)
       (λ s q k. let (same, is) = says s false q k in (same, λ has. false≢true (is.1 has))))
 
+  -- what is found has P, and is one of the image
+  pub find_segment : {F : Type 0} {g : Mut F (Bor SegmentView × Unit {0}) Bool} {f : F} (u : List SegmentView) (P : List ℕ → ℕ → Type 0) (r : Option SegmentView)
+      → FindsItem (YieldsFirst (λ (left : List SegmentView). left)) g all f r u
+      → ((y : Bor SegmentView) (b : Bool) (q : F) → Called g f (y, tt) b q → (q ≡ f) × (IsTrue b ↔ P y.now.image y.now.place))
+      → MatchOption r (¬ Any (P image) (all_segments image)) (λ s. P image s.place × (s.image ≡ image) × Contains (all_segments image) s.place)
+  find_segment {F = F} {g = g} {f = f} u P r ran says = of_search r (first_from_find _ _ r (λ (s : SegmentView). P s.image s.place) (λ (s : SegmentView). ¬ P s.image s.place) ran segments_yield (λ s q k. (at s true q k).1.0 refl) (λ s q k. let (same, is) = at s false q k in (same, λ has. false≢true (is.1 has))))
+    where
+      at : (s : SegmentView) (b : Bool) (q : F) → CalledAt g f s b q → (q ≡ f) × (IsTrue b ↔ P s.image s.place)
+      at s b q k = let (same, is) = says k.shown b q k.called in (same, subst (λ (y : SegmentView). IsTrue b ↔ P y.image y.place) k.shows is)
+
+      of_search : (r : Option SegmentView)
+          → MatchOption r (AllWithin (λ (s : SegmentView). ¬ P s.image s.place) all 0 (length all)) (λ x. P x.image x.place × (i : ℕ) × (i < length all) × HoldsAt (λ y. y ≡ x) all i × AllWithin (λ (s : SegmentView). ¬ P s.image s.place) all 0 i)
+          → MatchOption r (¬ Any (P image) (all_segments image)) (λ s. P image s.place × (s.image ≡ image) × Contains (all_segments image) s.place)
+      of_search None none = λ any. none_any (λ (s : SegmentView). P s.image s.place) all none (any_mapped (λ (s : SegmentView). P s.image s.place) (segment_at image) (all_segments image) all are any)
+      of_search (Some s) (here, i, less, is, none) =
+          let has : Contains all s = (i, less, is s) in
+          let same = ap (λ (t : SegmentView). t.image) (segment_of image all are s has) in
+          (subst (λ (bytes : List ℕ). P bytes s.place) same here, same, segment_among image all are s has)
+
+-- what holds of what was found, or where nothing was
+pub match_none : {X : Type 0} (A : Type 0) (B : X → Type 0) (r : Option X) → MatchOption r A B → r ≡ None → A
+match_none A B r found is = subst (λ o. MatchOption o A B) is found
+
+pub match_some : {X : Type 0} (A : Type 0) (B : X → Type 0) (r : Option X) → MatchOption r A B → (x : X) → r ≡ Some x → B x
+match_some A B r found x is = subst (λ o. MatchOption o A B) is found
+
 -- The tables of a command, if its number is one of some
 
 module _ (image : List ℕ) (command : CommandView) (is : IsCommandOf image command) (wanted : ℕ → Bool) (tables : List TableFields)

@@ -39,7 +39,7 @@ kept : {X : Type 0} (b : Bool) (given : X) (x : X) → cond b (Some given) None 
 kept true given x is = refl
 kept false given x is = absurd (cc)
 
-number_size : (stream bytes : List ℕ) → number_bytes stream ≡ Some bytes → (0 < length bytes) × (length bytes ≤ length stream)
+pub number_size : (stream bytes : List ℕ) → number_bytes stream ≡ Some bytes → (0 < length bytes) × (length bytes ≤ length stream)
 unfolding number_bytes
 number_size stream bytes is =
     let size = position_or_len (λ byte. nat_lt byte 0x80) stream + 1 in

@@ -19,12 +19,17 @@ use Rattle.macho_rules.proofs.Judged.{opened_facts, opened_commands}
 use Rattle.macho_rules.proofs.Verdicts.{file_inside, unbroken_opened}
 use Rattle.macho_linked.specs.Chains.{chained_fixups, NoHeader, BadStarts, BadImports, LongNames, UnknownLibrary, InNoBytes}
 use Rattle.macho_linked.specs.Images.{dyld_info, opcodes_of, fields_of, Undecoded, NoLibrary, NoName, NoSlot, TooMany, TooLong, InStream, InRebases, InBindsOf, InBinds}
+use Rattle.macho_linked.specs.DataInCode.{BadEntry}
 use Rattle.macho_linked.specs.Rules.{BreaksImage}
+use Rattle.macho_linked.specs.StartNumbers.{BadNumber, StrayStart}
 use Rattle.macho_linked.specs.declared.step.Opcodes.{Opcodes}
 use Rattle.macho_linked.specs.declared.streams.Stream.{Stream}
 use Rattle.macho_linked.specs.declared.streams.Stream.TheVariants as streams
 use Rattle.macho_linked.proofs.ChainTables.{no_header, bad_starts, bad_imports, long_names, unknown_library, chains_near}
+use Rattle.macho_linked.proofs.DataInCode.{bad_entry_near}
+use Rattle.macho_linked.proofs.DataTables.{data_near}
 use Rattle.macho_linked.proofs.PointerSurveys.{slots_near, binds_near}
+use Rattle.macho_linked.proofs.StartNumbers.{bad_number_near, stray_start_near}
 use Rattle.macho_linked.proofs.TableSurveys.{named_first, IsStreamRule, undecoded, no_library, no_name, no_slot, too_many, too_long}
 
 part_short : (start size : ℕ) (bytes : List ℕ) (offset : ℕ) → offset < length (part start size bytes) → start + offset ≤ length bytes
@@ -87,6 +92,9 @@ module _ (image : List ℕ) (none : NothingBreaks (Breaks image None)) where
   place_inside rule.ChainLibrary place broken = chains_near image none UnknownLibrary (unknown_library image) place broken
   place_inside rule.ChainSlot place broken = slots_near image none place broken
   place_inside rule.ChainBind place broken = binds_near image none place broken
+  place_inside rule.FunctionNumber place broken = data_near image loader.LC_FUNCTION_STARTS refl none BadNumber (bad_number_near image) place broken
+  place_inside rule.FunctionStart place broken = data_near image loader.LC_FUNCTION_STARTS refl none StrayStart (stray_start_near image) place broken
+  place_inside rule.DataInCode place broken = data_near image loader.LC_DATA_IN_CODE refl none BadEntry (bad_entry_near image) place broken
   place_inside other place broken = absurd broken
 
 -- and so in the file

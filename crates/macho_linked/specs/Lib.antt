@@ -17,8 +17,15 @@ pub mod ChainImports
 pub mod ChainPointers
 pub mod ChainPages
 pub mod Chains
+pub mod DataTables
+pub mod StartNumbers
+pub mod Functions
+pub mod FileBytes
+pub mod DataInCode
+pub mod CodeParts
 pub mod Rules
 pub mod Harmless
+pub mod Located
 pub mod Dyld
 pub mod ChainDyld
 pub mod Verdict

@@ -7,9 +7,11 @@ use Rattle.macho_fields.specs.declared.rule.Rule.{Rule}
 use Rattle.macho_fields.specs.declared.rule.Rule.TheVariants as rule
 use Rattle.macho_linked.specs.ChainPointers.{BreaksChainSlot, BreaksChainBind}
 use Rattle.macho_linked.specs.Chains.{BadStarts, BadImports, LongNames, UnknownLibrary, InChains, BreaksChainHeader, InPointers}
+use Rattle.macho_linked.specs.DataInCode.{BreaksDataInCode}
 use Rattle.macho_linked.specs.Homes.{BreaksTableHome, BreaksHeaderHome}
 use Rattle.macho_linked.specs.Images.{Undecoded, NoLibrary, NoName, NoSlot, TooMany, TooLong, InRebases, InBinds}
 use Rattle.macho_linked.specs.Kinds.{BreaksTableRepeated, BreaksFunctionVariants}
+use Rattle.macho_linked.specs.StartNumbers.{BreaksFunctionNumber, BreaksFunctionStart}
 
 -- the image breaks the rule at the place
 abbrev pub BreaksImage : List ℕ → Rule → ℕ → Type 0
@@ -33,6 +35,9 @@ BreaksImage image rule.ChainTotal place = InChains image LongNames place
 BreaksImage image rule.ChainLibrary place = InChains image UnknownLibrary place
 BreaksImage image rule.ChainSlot place = InPointers image BreaksChainSlot place
 BreaksImage image rule.ChainBind place = InPointers image BreaksChainBind place
+BreaksImage image rule.FunctionNumber place = BreaksFunctionNumber image place
+BreaksImage image rule.FunctionStart place = BreaksFunctionStart image place
+BreaksImage image rule.DataInCode place = BreaksDataInCode image place
 BreaksImage image other place = ⊥
 
 -- a file breaks none but in its images

@@ -1,25 +1,46 @@
 //! The linked rules of an image, in their order.
 
-ghost use Rattle.std.specs.Prelude.{None};
+ghost use Rattle.std.specs.Prelude.{None, OnOk, IfErr};
 ghost use Rattle.macho_fields.specs.First.{rank};
 ghost use Rattle.macho_fields.specs.FirstPlace.{IsLeastPlace};
-ghost use Rattle.macho_fields.specs.Layers.{NothingBreaks, KeptBelow, Continues, Decides};
+ghost use Rattle.macho_fields.specs.Layers.{NothingBreaks, KeptBelow, Continues};
 ghost use Rattle.macho_fields.specs.Rules.{BreaksImage as Breaks};
+ghost use Rattle.macho_fields.specs.declared.rule.Rule.{Rule};
 ghost use Rattle.macho_linked.specs.Rules.{BreaksImage};
+ghost use Rattle.macho_linked.specs.Verdict.{TakesMemory};
+ghost use Rattle.macho_rules.specs.Check.{ContinuesWithMemory};
+ghost use Rattle.macho_rules.specs.Verdict.{IsRefusalOf};
+ghost use Rattle.macho_strict.specs.Rules.{BreaksStrictImage};
 
 use crate::chain_pages::PointerSurvey;
 use crate::chains::ChainSurvey;
+use crate::data_in_code::data_in_code;
+use crate::function_starts::FunctionStartSurvey;
 use crate::homes::{header_home, table_home};
 use crate::kinds::{function_variants, table_repeated};
 use crate::streams::StreamSurveys;
 use macho_fields::{Break, Rule};
 use macho_image::Image;
+use macho_rules::Refusal;
+use std::alloc::Global;
 
-// Decides the linked rules of an image that breaks no rule of the layout, in their order. It returns the
-// first broken one, with its place in the image.
-pub(crate) fn check_image(image: &Image) -> Result<(), Break>
+// Decides the linked rules of an image that breaks no rule of the layout and no strict rule, in their order. It
+// returns the first broken one, with its place in the image.
+pub(crate) fn check_image(alloc: Global, image: &Image) -> Result<(), Refusal>
+    requires layout { NothingBreaks (Breaks image.now None) }
+    requires strictly { NothingBreaks (BreaksStrictImage image.now) }
+    ensures unbroken { OnOk result (NothingBreaks (BreaksImage image.now)) }
+    ensures refused { IfErr result (IsRefusalOf (BreaksImage image.now) (TakesMemory image.now)) }
+{
+    check_fixups(image)?;
+    check_functions(alloc, image)?;
+    Ok(())
+}
+
+// The rules up to those of what a loader writes.
+fn check_fixups(image: &Image) -> Result<(), Break>
     requires { NothingBreaks (Breaks image.now None) }
-    ensures { Decides (BreaksImage image.now) result }
+    ensures { Continues (BreaksImage image.now) Rule.ChainBind result }
 {
     judge(image, Rule::TableRepeated, table_repeated(image))?;
     judge(image, Rule::FunctionVariants, function_variants(image))?;
@@ -44,6 +65,20 @@ pub(crate) fn check_image(image: &Image) -> Result<(), Break>
     let pointers = PointerSurvey::of(image);
     judge(image, Rule::ChainSlot, pointers.slot)?;
     judge(image, Rule::ChainBind, pointers.bind)?;
+    Ok(())
+}
+
+// The rules of functions and of data in code.
+fn check_functions(alloc: Global, image: &Image) -> Result<(), Refusal>
+    requires layout { NothingBreaks (Breaks image.now None) }
+    requires strictly { NothingBreaks (BreaksStrictImage image.now) }
+    requires kept { KeptBelow (BreaksImage image.now) (rank Rule.FunctionNumber) }
+    ensures { ContinuesWithMemory (BreaksImage image.now) Rule.DataInCode (TakesMemory image.now) result }
+{
+    let functions = FunctionStartSurvey::of(alloc, image)?;
+    judge(image, Rule::FunctionNumber, functions.number)?;
+    judge(image, Rule::FunctionStart, functions.start)?;
+    judge(image, Rule::DataInCode, data_in_code(alloc, image)?)?;
     Ok(())
 }
 

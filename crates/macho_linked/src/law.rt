@@ -6,9 +6,11 @@ ghost use Rattle.macho_fields.specs.RuleList.{profile_of};
 ghost use Rattle.macho_fields.specs.declared.rule.Profile.TheVariants.{Linked};
 ghost use Rattle.macho_fields.specs.First.{IsUnbroken};
 ghost use Rattle.macho_linked.specs.ChainDyld.{AreChainedSafely};
+ghost use Rattle.macho_linked.specs.DataInCode.{AreDataInCodeConstants};
 ghost use Rattle.macho_linked.specs.Dyld.{AreFollowedSafely};
 ghost use Rattle.macho_linked.specs.FixupChains.{AreFixupChainsConstants};
 ghost use Rattle.macho_linked.specs.Harmless.{AreHarmless};
+ghost use Rattle.macho_linked.specs.Located.{AreLocated};
 ghost use Rattle.macho_linked.specs.Opcodes.{AreOpcodeConstants};
 ghost use Rattle.macho_linked.specs.Rules.{IsFirstLinkedBroken, IsLinkedUnbroken};
 
@@ -24,6 +26,12 @@ pub fn opcode_constants_are_those_of_the_header()
 /// `specs/FixupChains.antt` lists them.
 pub fn fixup_chains_constants_are_those_of_the_header()
     ensures { AreFixupChainsConstants }
+{}
+
+/// Each constant of `data_in_code` is the number that `mach-o/loader.h` defines, as `specs/DataInCode.antt`
+/// lists them.
+pub fn data_in_code_constants_are_those_of_the_header()
+    ensures { AreDataInCodeConstants }
 {}
 
 /// A file has at most one first broken linked rule.
@@ -58,4 +66,11 @@ pub fn linked_unbroken_is_chained_safely(file: &[u8])
     requires unbroken { IsUnbroken file.now }
     requires linked { IsLinkedUnbroken file.now }
     ensures { AreChainedSafely file.now }
+{}
+
+/// The functions and the data in code of such a file are bytes of the file.
+pub fn linked_unbroken_is_located(file: &[u8])
+    requires unbroken { IsUnbroken file.now }
+    requires linked { IsLinkedUnbroken file.now }
+    ensures { AreLocated file.now }
 {}

@@ -1,6 +1,6 @@
 #![tactic(auto)]
-//! The linked profile: where the linked data of an image lies, and what the opcodes and the chained fixups
-//! that a dynamic loader follows ask it to write.
+//! The linked profile: where the linked data of an image lies, what the opcodes and the chained fixups that a
+//! dynamic loader follows ask it to write, and where its functions and its data in code are.
 
 pub mod chain_header;
 pub mod chain_imports;
@@ -9,8 +9,11 @@ pub mod chain_pointers;
 pub mod chain_starts;
 pub mod chains;
 mod check;
+mod code_parts;
 pub mod cursor;
 pub mod data_in_code;
+pub mod data_table;
+pub mod file_bytes;
 pub mod fixup_chains;
 pub mod function_starts;
 pub mod homes;

@@ -7,8 +7,9 @@ ghost use Rattle.macho_fields.specs.Loader.{IsSound};
 ghost use Rattle.macho_linked.specs.ChainDyld.{AreChainedSafely};
 ghost use Rattle.macho_linked.specs.Dyld.{AreFollowedSafely};
 ghost use Rattle.macho_linked.specs.Harmless.{AreHarmless};
-ghost use Rattle.macho_linked.specs.Rules.{IsBrokenIn, IsLinkedUnbroken, IsFirstLinkedBroken};
-ghost use Rattle.macho_linked.specs.Verdict.{IsLinkedRefusal, IsScopeBreak};
+ghost use Rattle.macho_linked.specs.Located.{AreLocated};
+ghost use Rattle.macho_linked.specs.Rules.{IsBrokenIn, IsLinkedUnbroken};
+ghost use Rattle.macho_linked.specs.Verdict.{IsLinkedRefusal, IsLinkedBreak, IsScopeBreak};
 ghost use Rattle.macho_strict.specs.Accounted.{IsAccounted};
 ghost use Rattle.macho_strict.specs.First.{IsStrictlyUnbroken};
 
@@ -21,7 +22,9 @@ use std::alloc::Global;
 /// Decides the rules of a file as `macho_strict::verify_strictly` does, and then the linked rules, in their
 /// order: accepts it, or returns the first broken one, with its place in the file.
 ///
-/// The linked rules are those of its 64-bit slices, in the order of the table. They take no memory.
+/// The linked rules are those of its 64-bit slices, in the order of the table. They take memory only for function
+/// starts of an image with more than 16 mapped segments, and for data in code of one with several segments that may
+/// be executed: at most 72 bytes for each segment.
 pub fn verify_linked<'a>(alloc: Global, file: &'a [u8]) -> Result<Verified<'a>, Refusal>
     // It accepts only a file that breaks no rule of the three profiles, and refuses only one that breaks
     // one of them, unless there is no memory.
@@ -30,35 +33,38 @@ pub fn verify_linked<'a>(alloc: Global, file: &'a [u8]) -> Result<Verified<'a>, 
     ensures linked { OnOk result (IsLinkedUnbroken file.now) }
     ensures refused { IfErr result (IsLinkedRefusal file.now) }
 
-    // What it accepts is sound, and accounted for; its opcodes are harmless, and the plain dyld follows
-    // them and its chained fixups safely.
+    // What it accepts is sound, and accounted for; its opcodes are harmless, the plain dyld follows them and
+    // its chained fixups safely, and its functions and its data in code are bytes of the file.
     ensures sound { OnOk result (IsSound file.now) }
     ensures accounted { OnOk result (IsAccounted file.now) }
     ensures harmless { OnOk result (AreHarmless file.now) }
     ensures followed { OnOk result (AreFollowedSafely file.now) }
     ensures chained { OnOk result (AreChainedSafely file.now) }
+    ensures located { OnOk result (AreLocated file.now) }
     ensures file { IfOk result (λ verified. verified ≡ file.now) }
 {
     let verified = verify_strictly(alloc, file)?;
-    check_linked(&verified)?;
+    check_linked(alloc, &verified)?;
     Ok(verified)
 }
 
 // Decides the linked rules of each 64-bit slice of a file, one slice after the other. The place of a break
 // is its offset in the file.
-fn check_linked(verified: &Verified) -> Result<(), Break>
+fn check_linked(alloc: Global, verified: &Verified) -> Result<(), Refusal>
+    requires { IsStrictlyUnbroken verified.now }
     ensures unbroken { OnOk result (IsLinkedUnbroken verified.now) }
-    ensures refused { IfErr result (IsFirstLinkedBroken verified.now) }
+    ensures refused { IfErr result (IsLinkedBreak verified.now) }
 {
     for index in 0..verified.slice_count() {
-        check_slice(verified, index)?;
+        check_slice(alloc, verified, index)?;
     }
     Ok(())
 }
 
 // Decides the linked rules of the slice with this index, if it has an image. The place of a break is its
 // offset in the file.
-fn check_slice(verified: &Verified, index: u64) -> Result<(), Break>
+fn check_slice(alloc: Global, verified: &Verified, index: u64) -> Result<(), Refusal>
+    requires { IsStrictlyUnbroken verified.now }
     ensures unbroken { OnOk result (NothingBreaks (IsBrokenIn verified.now (suc index))) }
     ensures refused { IfErr result (IsScopeBreak verified.now (suc index)) }
 {
@@ -68,13 +74,14 @@ fn check_slice(verified: &Verified, index: u64) -> Result<(), Break>
     let Some(image) = verified.image(index) else {
         return Ok(());
     };
-    match check_image(&image) {
+    match check_image(alloc, &image) {
         Ok(()) => Ok(()),
-        Err(broken) => {
+        Err(Refusal::Broken(broken)) => {
             // The image lies in the file, so its places do too.
             prove!(verified.bytes().len() <= u64::MAX);
             let place = slice.span.start + broken.place;
-            Err(Break::at(broken.rule, place))
+            Err(Refusal::Broken(Break::at(broken.rule, place)))
         }
+        Err(Refusal::Memory) => Err(Refusal::Memory),
     }
 }

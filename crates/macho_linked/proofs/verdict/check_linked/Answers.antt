@@ -1,7 +1,7 @@
 use Rattle.std.proofs.Common.{arith}
 use Rattle.macho_rules.proofs.Verdicts.{passed_on}
-use Rattle.macho_linked.specs.Rules.{IsFirstLinkedBroken}
-use Rattle.macho_linked.proofs.Verdicts.{file_kept, slice_kept, slice_broken, slices_kept}
+use Rattle.macho_linked.specs.Verdict.{IsLinkedBreak}
+use Rattle.macho_linked.proofs.Verdicts.{file_kept, slice_kept, slice_refused, slices_kept}
 use Rattle.macho_linked.proofs.verdict.check_linked.Goals as goal
 
 pub loop-index-init : goal.loop-index-init
@@ -9,9 +9,9 @@ loop-index-init c = file_kept c.args.verified.now
 
 pub returns-in_err-check_slice-clause-refused : goal.returns-in_err-check_slice-clause-refused
 returns-in_err-check_slice-clause-refused c =
-    let b = c.in_err-check_slice.field-0.0 in
-    passed_on (IsFirstLinkedBroken c.args.verified.now) c.from_residual.result b c.from_residual.ensures.1
-    (slice_broken c.args.verified.now c.loop-index.index c.loop-index.invariant b c.in_err-check_slice.ensures.refused)
+    let r = c.in_err-check_slice.field-0.0 in
+    passed_on (IsLinkedBreak c.args.verified.now) c.from_residual.result r c.from_residual.ensures.1
+    (slice_refused c.args.verified.now c.loop-index.index c.loop-index.invariant r c.in_err-check_slice.ensures.refused)
 
 pub loop-index-preserved : goal.loop-index-preserved
 loop-index-preserved c = slice_kept c.args.verified.now c.loop-index.index c.loop-index.invariant c.in_ok-check_slice.ensures.unbroken

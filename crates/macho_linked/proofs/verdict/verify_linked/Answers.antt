@@ -1,11 +1,12 @@
-use Rattle.std.proofs.Common.{List, ℕ, subst}
+use Rattle.std.proofs.Common.{List, ℕ, sym, subst}
 use Rattle.macho_rules.proofs.Verdicts.{passed_on}
-use Rattle.macho_linked.specs.Rules.{IsLinkedUnbroken, IsFirstLinkedBroken}
-use Rattle.macho_linked.specs.Verdict.{IsLinkedRefusal}
-use Rattle.macho_rules.specs.declared.refusal.Refusal.TheVariants as refusal
+use Rattle.macho_strict.specs.First.{IsStrictlyUnbroken}
+use Rattle.macho_linked.specs.Rules.{IsLinkedUnbroken}
+use Rattle.macho_linked.specs.Verdict.{IsLinkedRefusal, IsLinkedBreak}
 use Rattle.macho_linked.proofs.ChainDyld.{file_chained_safely}
 use Rattle.macho_linked.proofs.Dyld.{file_followed_safely}
 use Rattle.macho_linked.proofs.Harmless.{harmless_file}
+use Rattle.macho_linked.proofs.Located.{file_located}
 use Rattle.macho_linked.proofs.Verdicts.{strict_refused, linked_refused}
 use Rattle.macho_linked.proofs.verdict.verify_linked.Goals as goal
 
@@ -17,10 +18,13 @@ returns-in_err-verified-clause-refused c =
 pub returns-in_err-check_linked-clause-refused : goal.returns-in_err-check_linked-clause-refused
 returns-in_err-check_linked-clause-refused c =
     let file = c.args.file.now in
-    let b = c.in_err-check_linked.field-0.0 in
-    passed_on (IsLinkedRefusal file) c.from_residual-in_err-check_linked.result (refusal.Broken b) c.from_residual-in_err-check_linked.ensures.1
-    (linked_refused file c.in_ok-verified.ensures.accepted c.in_ok-verified.ensures.strictly b
-    (subst (λ (bytes : List ℕ). IsFirstLinkedBroken bytes b) c.in_ok-verified.ensures.file c.in_err-check_linked.ensures.refused))
+    let r = c.in_err-check_linked.field-0.0 in
+    passed_on (IsLinkedRefusal file) c.from_residual-in_err-check_linked.result r c.from_residual-in_err-check_linked.ensures.1
+    (linked_refused file c.in_ok-verified.ensures.accepted c.in_ok-verified.ensures.strictly r
+    (subst (λ (bytes : List ℕ). IsLinkedBreak bytes r) c.in_ok-verified.ensures.file c.in_err-check_linked.ensures.refused))
+
+pub check_linked-requires : goal.check_linked-requires
+check_linked-requires c = subst IsStrictlyUnbroken (sym c.in_ok-verified.ensures.file) c.in_ok-verified.ensures.strictly
 
 pub returns-clause-linked : goal.returns-clause-linked
 returns-clause-linked c = subst IsLinkedUnbroken c.in_ok-verified.ensures.file c.in_ok-check_linked.ensures.unbroken
@@ -36,3 +40,7 @@ returns-clause-followed c =
 pub returns-clause-chained : goal.returns-clause-chained
 returns-clause-chained c =
     file_chained_safely c.args.file.now c.in_ok-verified.ensures.accepted (subst IsLinkedUnbroken c.in_ok-verified.ensures.file c.in_ok-check_linked.ensures.unbroken)
+
+pub returns-clause-located : goal.returns-clause-located
+returns-clause-located c =
+    file_located c.args.file.now c.in_ok-verified.ensures.accepted (subst IsLinkedUnbroken c.in_ok-verified.ensures.file c.in_ok-check_linked.ensures.unbroken)
