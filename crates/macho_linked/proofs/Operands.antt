@@ -47,15 +47,17 @@ last_fails stream next place from there =
     ne_eqb _ 0 (λ is. there.1 (ap (slice_index stream) (sym same) ∙ (sym (get_or-drop next stream (place - next) 0) ∙ is))) in
     let all = list_all_at is_zero (drop next stream) (place - next) 0 (omega arith) here in rw all refl
 
--- a name ends at its first zero byte
+-- a string ends at its first zero byte
+pub ended_size : (bytes : List ℕ) (start z : ℕ) → start ≤ z → slice_get bytes z ≡ Some 0 → (HasZero bytes start z → ⊥) → start + length (string_from start bytes) ≡ z
+ended_size bytes start z from there first =
+    let inside = slice_get_within bytes z 0 there in
+    let is = string_ends bytes start z from there first in
+    let size : length (part start (z - start) bytes) ≡ z - start = length-take-le (z - start) (drop start bytes) (rw (length-drop start bytes) (omega arith)) in rw (← is, size) (omega arith)
+
+-- and a name does
 pub name_ends : (flags : ℕ) (stream : List ℕ) (name z : ℕ) → name ≤ z → slice_get stream z ≡ Some 0 → (HasZero stream name z → ⊥)
     → with_name flags stream name ≡ Some (step.SetSymbol (record { start = name; len = z + 1 - name }) flags, z + 1)
-name_ends flags stream name z from there first =
-    let inside = slice_get_within stream z 0 there in
-    let is = string_ends stream name z from there first in
-    let size : length (part name (z - name) stream) ≡ z - name = length-take-le (z - name) (drop name stream) (rw (length-drop name stream) (omega arith)) in
-    let end : name + length (string_from name stream) ≡ z = rw (← is, size) (omega arith) in
-    rw (end, lt-ltb z (length stream) inside) refl
+name_ends flags stream name z from there first = rw (ended_size stream name z from there first, lt-ltb z (length stream) (slice_get_within stream z 0 there)) refl
 
 -- a string without a zero byte has all bytes that follow
 pub endless_size : (bytes : List ℕ) (start : ℕ) → (HasZero bytes start (start + length bytes) → ⊥) → length (string_from start bytes) ≡ length bytes - start

@@ -1,6 +1,6 @@
 -- The imports of chained fixups, and where they break their rules. An offset is one in the table.
 -- (mach-o/fixup-chains.h: dyld_chained_import, dyld_chained_import_addend, dyld_chained_import_addend64)
-use Rattle.std.specs.Prelude.{◌≡◌, ℕ, zero, suc, ◌+◌, ◌-◌, ◌*◌, ◌/◌, ◌^◌, ◌<◌, ◌⊎◌, nat_lt, List, length, None, bit_and, if◌then◌else◌}
+use Rattle.std.specs.Prelude.{◌≡◌, ◌≢◌, ℕ, zero, suc, ◌+◌, ◌-◌, ◌*◌, ◌/◌, ◌^◌, ◌≤◌, ◌<◌, ◌⊎◌, nat_lt, List, length, slice_get, Option, Some, None, IsSomeAnd, bit_and, if◌then◌else◌}
 use Rattle.macho_fields.specs.Field.{string_from, HasZero}
 use Rattle.macho_fields.specs.FirstPlace.{IsLeastPlace}
 use Rattle.macho_fields.specs.Symbol.{number_of}
@@ -54,9 +54,10 @@ names_size chains header zero = 0
 names_size chains header (suc k) =
     names_size chains header k + (length (string_from (import_name_start chains header k) chains) + 1)
 
--- a total is right up to so many: it is the sum, or both are more
-abbrev pub IsTotalUpTo : ℕ → ℕ → ℕ → Type 0
-IsTotalUpTo most sum total = (total ≡ sum) ⊎ ((most < sum) × (most < total))
+-- a name does not begin past the one before it, right past a zero byte
+abbrev pub MayShare : List ℕ → Option ℕ → ℕ → Type 0
+MayShare chains before name =
+    IsSomeAnd before (λ start. (name ≤ start) ⊎ (slice_get chains (name - 1) ≢ Some 0))
 
 -- What the rules say of an import
 

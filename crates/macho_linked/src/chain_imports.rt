@@ -2,10 +2,11 @@
 //! (`mach-o/fixup-chains.h`: `dyld_chained_import`, `dyld_chained_import_addend`,
 //! `dyld_chained_import_addend64`)
 
-ghost use Rattle.std.specs.Prelude.{◌≡◌, ◌↔◌, ◌+◌, ◌^◌, ◌≤◌, ◌<◌, ℕ, length};
+ghost use Rattle.std.specs.Prelude.{◌≡◌, ◌↔◌, ◌+◌, ◌^◌, ◌≤◌, ◌<◌, ℕ, length, IsTrue};
 ghost use Rattle.macho_fields.specs.Bytes.{bytes_of};
 ghost use Rattle.macho_fields.specs.Field.{string_from, HasZero};
-ghost use Rattle.macho_linked.specs.ChainImports.{ImportsEndPast, IsTotalUpTo, AreLeastImports};
+ghost use Rattle.macho_fields.specs.FirstPlace.{IsLeastPlace};
+ghost use Rattle.macho_linked.specs.ChainImports.{ImportsEndPast, MayShare, BreaksChainTotal, AreLeastImports};
 
 use crate::chain_header::{ChainHeader, ImportFormat, word_at};
 use crate::stream::{SPECIAL_ORDINALS, note_if};
@@ -182,31 +183,59 @@ fn survey(chains: Bytes, header: ChainHeader, libraries: u64) -> ImportSurvey
 {
     let end = zeros_end(chains);
     let mut found = ImportSurvey::unbroken();
-    let mut total = 0;
+    let mut shared = None;
+    let mut before = None;
     for index in 0..header.imports_count {
-        let import = header.import(chains, index);
         let offset = header.import_offset(index);
+        let import = Import::read(chains, header.imports_format, offset);
         let name = header.name_of(import);
-        total = total_with(chains, total, name);
-        let is_long = total > u128::from(chains.len());
+        let is_shared = may_share(chains, before, name);
         let is_unknown = import.ordinal.is_no_library(libraries);
+        before = Some(name);
         note_if(&mut found.imports, name >= end, offset);
-        note_if(&mut found.total, is_long, offset);
         note_if(&mut found.library, is_unknown, offset);
+        note_if(&mut shared, is_shared, offset);
     }
-    found
+    match (shared, found.imports) {
+        // The names share no byte, and end in the table, so they have no more bytes than it.
+        (None, None) => found,
+        _ => ImportSurvey {
+            total: first_past_total(chains, header),
+            ..found
+        },
+    }
 }
 
-// The total of some names with that of the name at `start`. If the total is more than the table, it stays so,
-// and the name is not read.
-fn total_with(chains: Bytes, before: u128, start: u64) -> u128
-    ensures { IsTotalUpTo (length (bytes_of chains.entry))
-        (before + (length (string_from start (bytes_of chains.entry)) + 1)) result }
+// Whether a name may share bytes with the one before it: it does not begin past that, right past a zero byte.
+fn may_share(chains: Bytes, before: Option<u64>, name: u64) -> bool
+    ensures { IsTrue result ↔ MayShare (bytes_of chains.entry) before name }
 {
-    if before > u128::from(chains.len()) {
-        return before;
+    let Some(start) = before else {
+        return false;
+    };
+    if name <= start {
+        return true;
     }
-    before + name_size(chains, start)
+    match chains.u8_at(name - 1) {
+        Some(byte) => byte != 0,
+        None => true,
+    }
+}
+
+// The first import with which the names have more bytes than the table, where the imports end in it. No name
+// is read past it.
+fn first_past_total(chains: Bytes, header: ChainHeader) -> Option<u64>
+    requires { ¬ ImportsEndPast (bytes_of chains) header }
+    ensures { IsLeastPlace (BreaksChainTotal (bytes_of chains.entry) header) result }
+{
+    let mut total: u128 = 0;
+    for index in 0..header.imports_count {
+        total += name_size(chains, header.name_start(chains, index));
+        if total > u128::from(chains.len()) {
+            return Some(header.import_offset(index));
+        }
+    }
+    None
 }
 
 impl ChainHeader {
@@ -280,8 +309,8 @@ pub fn name_size(chains: Bytes, start: u64) -> u128
         start,
         len: chains.len(),
     };
-    match chains.string_in(rest) {
-        Some(name) => name.len() as u128 + 1,
+    match chains.first_zero(rest) {
+        Some(zero) => u128::from(zero - start) + 1,
         None => u128::from(chains.len().saturating_sub(start)) + 1,
     }
 }

@@ -1,6 +1,6 @@
 //! The rules of one stream of opcodes, in one pass over it.
 
-ghost use Rattle.std.specs.Prelude.{◌≡◌, ◌-◌, ◌^◌, ◌<◌, min, Some, IsTrue};
+ghost use Rattle.std.specs.Prelude.{◌≡◌, ◌-◌, ◌^◌, ◌<◌, min, unwrap_or, Some, IsTrue};
 ghost use Rattle.macho_fields.specs.Bytes.{bytes_of};
 ghost use Rattle.macho_fields.specs.FirstPlace.{IsNoted};
 ghost use Rattle.macho_linked.specs.Streams.{reach as reach_of, IsStreamSurvey};
@@ -132,22 +132,24 @@ impl StreamSurvey {
 }
 
 // Notes the place if the rule is broken there, and none was noted before.
+#[inline(always)]
 pub(crate) fn note_if(found: &mut Option<u64>, is_broken: bool, place: u64)
     ensures { IsNoted (IsTrue is_broken) place found.old found.new }
 {
-    if is_broken && found.is_none() {
-        set(found, place);
+    if is_broken {
+        note_broken(found, place);
     }
 }
 
-// Sets the place. It is no part of the loop, so that the survey stays in memory, and the loop has the
-// registers.
+// Notes a place outside the loop that looks for it: a rule is seldom broken.
 #[cold]
 #[inline(never)]
-fn set(found: &mut Option<u64>, place: u64)
-    ensures { found.new ≡ Some place }
+fn note_broken(found: &mut Option<u64>, place: u64)
+    ensures { found.new ≡ Some (unwrap_or found.old place) }
 {
-    *found = Some(place);
+    if found.is_none() {
+        *found = Some(place);
+    }
 }
 
 impl Limits {
