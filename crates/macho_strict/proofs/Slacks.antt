@@ -64,7 +64,7 @@ least_around image command start end name ending before after is from named with
 -- A command with a structure
 
 -- a structure with a name has no records
-no_records : (image : List ℕ) (command : ℕ) (s : Structure) → has_name s ≡ true → least_size image command s ≡ structure_size s
+pub no_records : (image : List ℕ) (command : ℕ) (s : Structure) → has_name s ≡ true → least_size image command s ≡ structure_size s
 no_records image command structure.DylibCommand named = refl
 no_records image command structure.DylinkerCommand named = refl
 no_records image command structure.RpathCommand named = refl

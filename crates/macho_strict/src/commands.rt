@@ -32,7 +32,9 @@ pub(crate) struct NotedCommands<'a> {
 }
 
 impl<'a> NotedCommands<'a> {
-    // Goes over the load commands of the image.
+    // Goes over the load commands of the image. It is not made part of the verdict, so that the loop has
+    // the registers to itself.
+    #[inline(never)]
     pub(crate) fn of(alloc: Global, image: &Image<'a>) -> NotedCommands<'a>
         ensures { IsNotedOf image.now result }
     {

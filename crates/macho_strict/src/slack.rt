@@ -28,12 +28,13 @@ pub(crate) fn first_slack(
 {
     let structure = structure?;
     let end = command.place + u64::from(command.size);
-    let described = described_end(image, command.place, structure);
     if structure.has_name() {
-        nonzero_around_name(image, command.place, described, end)
-    } else {
-        nonzero_within(image, described, end)
+        // No records follow a structure with a name.
+        let fields_end = command.place + structure.size();
+        return nonzero_around_name(image, command.place, fields_end, end);
     }
+    let described = described_end(image, command.place, structure);
+    nonzero_within(image, described, end)
 }
 
 // The first place past the structure and the records of the command at `place`.

@@ -3,7 +3,7 @@ use Rattle.macho_fields.specs.Bytes.{bytes_of}
 use Rattle.macho_fields.specs.Command.{name_start}
 use Rattle.macho_fields.specs.Field.{HasZero}
 use Rattle.macho_image.specs.Command.{command_of}
-use Rattle.macho_strict.proofs.Slacks.{command_within, least_within, counted, name_ends, offset_within, name_after, least_named, least_unnamed}
+use Rattle.macho_strict.proofs.Slacks.{command_within, least_within, counted, no_records, name_ends, offset_within, name_after, least_named, least_unnamed}
 use Rattle.macho_strict.proofs.slack.first_slack.Goals as goal
 
 pub described_end-described-requires-clause-inside : goal.described_end-described-requires-clause-inside
@@ -18,8 +18,9 @@ described_end-described-requires-clause-counted c =
 
 pub nonzero_around_name-requires-clause-head : goal.nonzero_around_name-requires-clause-head
 nonzero_around_name-requires-clause-head c =
-    let within = offset_within (bytes_of c.args.image) (command_of c.args.command.now) c.requires.judged c.in_ok-structure.structure (sym c.requires.structure ∙ c.in_ok-structure.was) (sym c.has_name.ensures.name ∙ c.if-has_name.true) in
-    omega (arith, within, c.described_end-described.ensures)
+    let named = sym c.has_name.ensures.name ∙ c.if-has_name.true in
+    let within = offset_within (bytes_of c.args.image) (command_of c.args.command.now) c.requires.judged c.in_ok-structure.structure (sym c.requires.structure ∙ c.in_ok-structure.was) named in
+    omega (arith, within, c.size.ensures.size, no_records (bytes_of c.args.image) c.args.command.now.place c.in_ok-structure.structure named)
 
 pub nonzero_around_name-requires-clause-name : goal.nonzero_around_name-requires-clause-name
 nonzero_around_name-requires-clause-name c =
@@ -28,8 +29,9 @@ nonzero_around_name-requires-clause-name c =
 
 pub nonzero_around_name-requires-clause-after : goal.nonzero_around_name-requires-clause-after
 nonzero_around_name-requires-clause-after c =
-    let after = name_after (bytes_of c.args.image) (command_of c.args.command.now) c.requires.judged c.in_ok-structure.structure (sym c.requires.structure ∙ c.in_ok-structure.was) (sym c.has_name.ensures.name ∙ c.if-has_name.true) in
-    omega (arith, after, c.described_end-described.ensures)
+    let named = sym c.has_name.ensures.name ∙ c.if-has_name.true in
+    let after = name_after (bytes_of c.args.image) (command_of c.args.command.now) c.requires.judged c.in_ok-structure.structure (sym c.requires.structure ∙ c.in_ok-structure.was) named in
+    omega (arith, after, c.size.ensures.size, no_records (bytes_of c.args.image) c.args.command.now.place c.in_ok-structure.structure named)
 
 pub nonzero_around_name-requires-clause-inside : goal.nonzero_around_name-requires-clause-inside
 nonzero_around_name-requires-clause-inside c =
@@ -43,10 +45,11 @@ nonzero_within-requires c =
 
 pub returns-then-has_name : goal.returns-then-has_name
 returns-then-has_name c =
-    least_named (bytes_of c.args.image) (command_of c.args.command.now) c.requires.judged c.in_ok-structure.structure (sym c.requires.structure ∙ c.in_ok-structure.was) c.described_end-described.result (c.args.command.now.place + c.from.result) c.nonzero_around_name.result (sym c.has_name.ensures.name ∙ c.if-has_name.true)
-    c.described_end-described.ensures (omega (arith, c.from.ensures)) c.nonzero_around_name.ensures
+    let named = sym c.has_name.ensures.name ∙ c.if-has_name.true in
+    least_named (bytes_of c.args.image) (command_of c.args.command.now) c.requires.judged c.in_ok-structure.structure (sym c.requires.structure ∙ c.in_ok-structure.was) (c.args.command.now.place + c.size.result) (c.args.command.now.place + c.from.result) c.nonzero_around_name.result named
+    (omega (arith, c.size.ensures.size, no_records (bytes_of c.args.image) c.args.command.now.place c.in_ok-structure.structure named)) (omega (arith, c.from.ensures)) c.nonzero_around_name.ensures
 
-pub returns-else-has_name : goal.returns-else-has_name
-returns-else-has_name c =
+pub returns : goal.returns
+returns c =
     least_unnamed (bytes_of c.args.image) (command_of c.args.command.now) c.requires.judged c.in_ok-structure.structure (sym c.requires.structure ∙ c.in_ok-structure.was) c.described_end-described.result (c.args.command.now.place + c.from.result) c.nonzero_within.result (sym c.has_name.ensures.name ∙ c.if-has_name.false)
     c.described_end-described.ensures (omega (arith, c.from.ensures)) c.nonzero_within.ensures
