@@ -70,9 +70,14 @@ rank rule.ChainTotal = 57
 rank rule.ChainLibrary = 58
 rank rule.ChainSlot = 59
 rank rule.ChainBind = 60
-rank rule.FunctionNumber = 61
-rank rule.FunctionStart = 62
-rank rule.DataInCode = 63
+rank rule.ExportNode = 61
+rank rule.ExportTotal = 62
+rank rule.ExportTerminal = 63
+rank rule.ExportLibrary = 64
+rank rule.ExportAddress = 65
+rank rule.FunctionNumber = 66
+rank rule.FunctionStart = 67
+rank rule.DataInCode = 68
 
 -- the number by which programs know a rule. It never changes: a rule that is added takes the next free
 -- one, wherever it stands
@@ -140,6 +145,11 @@ rule_number rule.ChainBind = 60
 rule_number rule.FunctionNumber = 61
 rule_number rule.FunctionStart = 62
 rule_number rule.DataInCode = 63
+rule_number rule.ExportNode = 64
+rule_number rule.ExportTotal = 65
+rule_number rule.ExportTerminal = 66
+rule_number rule.ExportLibrary = 67
+rule_number rule.ExportAddress = 68
 
 -- the profile that a rule belongs to
 abbrev pub profile_of : Rule → Profile
@@ -172,6 +182,11 @@ profile_of rule.ChainTotal = Linked
 profile_of rule.ChainLibrary = Linked
 profile_of rule.ChainSlot = Linked
 profile_of rule.ChainBind = Linked
+profile_of rule.ExportNode = Linked
+profile_of rule.ExportTotal = Linked
+profile_of rule.ExportTerminal = Linked
+profile_of rule.ExportLibrary = Linked
+profile_of rule.ExportAddress = Linked
 profile_of rule.FunctionNumber = Linked
 profile_of rule.FunctionStart = Linked
 profile_of rule.DataInCode = Linked
@@ -239,6 +254,11 @@ name_of rule.ChainTotal = codes "chain-total"
 name_of rule.ChainLibrary = codes "chain-library"
 name_of rule.ChainSlot = codes "chain-slot"
 name_of rule.ChainBind = codes "chain-bind"
+name_of rule.ExportNode = codes "export-node"
+name_of rule.ExportTotal = codes "export-total"
+name_of rule.ExportTerminal = codes "export-terminal"
+name_of rule.ExportLibrary = codes "export-library"
+name_of rule.ExportAddress = codes "export-address"
 name_of rule.FunctionNumber = codes "function-number"
 name_of rule.FunctionStart = codes "function-start"
 name_of rule.DataInCode = codes "data-in-code"

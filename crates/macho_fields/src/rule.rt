@@ -151,6 +151,16 @@ pub enum Rule {
     ChainSlot = 59,
     /// A pointer of a chain binds an import that is not there.
     ChainBind = 60,
+    /// A node of the export trie does not end in it.
+    ExportNode = 64,
+    /// The nodes of the export trie, each as often as it is met, have more bytes than it.
+    ExportTotal = 65,
+    /// What a node of the export trie says of a symbol does not end where it should, or is of no known kind.
+    ExportTerminal = 66,
+    /// An export is of a library that the image does not load.
+    ExportLibrary = 67,
+    /// An export has an address in no segment.
+    ExportAddress = 68,
     /// A number of the function starts does not end, or a byte after the last one is not 0.
     FunctionNumber = 61,
     /// A function does not start in the file bytes of a mapped segment.
@@ -224,6 +234,11 @@ macro_rules! name_before {
             Rule::ChainLibrary => concat!("chain-library", $end),
             Rule::ChainSlot => concat!("chain-slot", $end),
             Rule::ChainBind => concat!("chain-bind", $end),
+            Rule::ExportNode => concat!("export-node", $end),
+            Rule::ExportTotal => concat!("export-total", $end),
+            Rule::ExportTerminal => concat!("export-terminal", $end),
+            Rule::ExportLibrary => concat!("export-library", $end),
+            Rule::ExportAddress => concat!("export-address", $end),
             Rule::FunctionNumber => concat!("function-number", $end),
             Rule::FunctionStart => concat!("function-start", $end),
             Rule::DataInCode => concat!("data-in-code", $end),
@@ -294,6 +309,11 @@ impl Rule {
         Rule::ChainLibrary,
         Rule::ChainSlot,
         Rule::ChainBind,
+        Rule::ExportNode,
+        Rule::ExportTotal,
+        Rule::ExportTerminal,
+        Rule::ExportLibrary,
+        Rule::ExportAddress,
         Rule::FunctionNumber,
         Rule::FunctionStart,
         Rule::DataInCode,
@@ -352,6 +372,7 @@ impl Rule {
             | Rule::EncryptedRange
             | Rule::CommandSlack
             | Rule::UnclaimedByte => Profile::Strict,
+            // Homes and opcodes.
             Rule::TableRepeated
             | Rule::FunctionVariants
             | Rule::TableHome
@@ -364,14 +385,21 @@ impl Rule {
             | Rule::BindSymbol
             | Rule::BindSlot
             | Rule::BindTotal
-            | Rule::BindNames
-            | Rule::ChainHeader
+            | Rule::BindNames => Profile::Linked,
+            // Chained fixups.
+            Rule::ChainHeader
             | Rule::ChainStarts
             | Rule::ChainImports
             | Rule::ChainTotal
             | Rule::ChainLibrary
             | Rule::ChainSlot
-            | Rule::ChainBind
+            | Rule::ChainBind => Profile::Linked,
+            // Exports, functions, and data in code.
+            Rule::ExportNode
+            | Rule::ExportTotal
+            | Rule::ExportTerminal
+            | Rule::ExportLibrary
+            | Rule::ExportAddress
             | Rule::FunctionNumber
             | Rule::FunctionStart
             | Rule::DataInCode => Profile::Linked,
