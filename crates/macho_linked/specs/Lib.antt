@@ -1,5 +1,6 @@
 pub mod Numbers
 pub mod FunctionStarts
+pub mod ExportTrie
 pub mod Opcodes
 pub mod Steps
 pub mod Cursor

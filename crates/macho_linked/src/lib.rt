@@ -13,6 +13,7 @@ mod code_parts;
 pub mod cursor;
 pub mod data_in_code;
 pub mod data_table;
+pub mod export_trie;
 pub mod file_bytes;
 pub mod fixup_chains;
 pub mod function_starts;
