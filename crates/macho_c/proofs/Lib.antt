@@ -8,6 +8,7 @@ pub mod Counts
 pub mod Data
 pub mod Ended
 pub mod Entries
+pub mod FoundExports
 pub mod Loads
 pub mod NamedData
 pub mod NamedSymbols

@@ -7,6 +7,7 @@ pub mod Cursor
 pub mod DataInCode
 pub mod Explain
 pub mod Explained
+pub mod Exports
 pub mod FunctionStarts
 pub mod Image
 pub mod Layout

@@ -12,6 +12,7 @@ mod commands;
 mod cursor;
 mod data_in_code;
 mod explain;
+mod exports;
 mod function_starts;
 mod image;
 mod indirects;
