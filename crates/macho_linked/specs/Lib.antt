@@ -1,6 +1,7 @@
 pub mod Numbers
 pub mod FunctionStarts
 pub mod ExportTrie
+pub mod ExportWalk
 pub mod Opcodes
 pub mod Steps
 pub mod Cursor
@@ -24,6 +25,8 @@ pub mod Functions
 pub mod FileBytes
 pub mod DataInCode
 pub mod CodeParts
+pub mod Exports
+pub mod ExportNodes
 pub mod Rules
 pub mod Harmless
 pub mod Located

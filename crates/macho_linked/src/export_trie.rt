@@ -90,7 +90,7 @@ impl Export {
     // Reads the export in a terminal part. It returns the place past it, or `None` if a number or the name does
     // not end in the part.
     #[tactic(auto, unfolding(crate::specs::ExportTrie::export_in))]
-    fn read(trie: Bytes, terminal: Span) -> Option<(Export, u64)>
+    pub(crate) fn read(trie: Bytes, terminal: Span) -> Option<(Export, u64)>
         requires { end_of terminal ≤ length (bytes_of trie) }
         ensures { result ≡ export_in (bytes_of trie.entry) terminal }
     {

@@ -14,6 +14,8 @@ pub mod cursor;
 pub mod data_in_code;
 pub mod data_table;
 pub mod export_trie;
+mod export_walk;
+pub mod exports;
 pub mod file_bytes;
 pub mod fixup_chains;
 pub mod function_starts;

@@ -95,7 +95,7 @@ impl StreamSurvey {
 }
 
 // The place of the command that names the streams, if there is one.
-fn dyld_info(image: &Image) -> Option<u64>
+pub(crate) fn dyld_info(image: &Image) -> Option<u64>
     ensures { result ≡ dyld_info_of image.now }
 {
     match first_place(image, LC_DYLD_INFO_ONLY) {
