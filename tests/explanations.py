@@ -19,7 +19,7 @@ import oracle  # pylint: disable=wrong-import-position
 NO_INDEX, MOST = 2 ** 32 - 1, 2 ** 64 - 1
 KINDS = """none file magic fat_header fat_table fat_arch slice header headers command segment segment_memory section
 section_bytes section_memory relocations table group name symbol indirect opcode byte chain_header chain_array
-chain_entry chain_starts chain_import page_start chain_pointer function_number data_in_code""".split()
+chain_entry chain_starts chain_import page_start chain_pointer function_start data_in_code_entry data_in_code""".split()
 # What has addresses or indices in place of offsets.
 OF_NUMBERS = {"segment_memory", "section_memory", "group"}
 
@@ -784,37 +784,35 @@ def linked_table(image: Any, kind: str) -> Part:
 
 
 def function_number(image: Any, place: int) -> Explanation:
-    table, (numbers, _) = linked_table(image, "function starts"), oracle.function_numbers(image)
-    # Past all numbers is either one that is broken, or the 0.
-    end = max((oracle.operand(image.data, it, image.length, "number")[1] for it, _ in numbers), default=table.start)
-    at = structure("function_number", place, 1, len(numbers)) if place == end else structure("byte", place, 1)
-    return Explanation(at, table, NONE, image.data[place], 0)
+    return Explanation(structure("byte", place, 1), linked_table(image, "function starts"), NONE, image.data[place], 0)
 
 
 def function_start(image: Any, place: int) -> Explanation:
-    numbers = [(it, distance) for it, distance in oracle.function_numbers(image)[0] if it <= place]
-    address = image.base + sum(distance for _, distance in numbers)
+    address = image.base + sum(distance for it, distance in oracle.function_numbers(image)[0] if it <= place)
     end = oracle.operand(image.data, place, image.length, "number")[1]
-    at = structure("function_number", place, end - place, len(numbers) - 1)
-    table = linked_table(image, "function starts")
+    at, table = structure("function_start", place, end - place), linked_table(image, "function starts")
     for segment in image.segments:
-        if segment.vmaddr <= address < segment.vmaddr + segment.vmsize:
+        if segment.vmaddr <= most(address) < segment.vmaddr + segment.vmsize:
             return Explanation(at, table, memory_part(image, segment), address, segment.vmaddr + segment.filesize)
     return Explanation(at, table, NONE, address, 0)
 
 
 def data_in_code(image: Any, place: int) -> Explanation:
-    """`value` is where the bytes of an entry end, and `limit` where those of the segment do in which they begin."""
+    """Of an entry whose kind is known `value` is where its bytes end, and `limit` where those of the segment do in which
+    they begin."""
     table = linked_table(image, "data in code")
-    at = structure("data_in_code", place, min(8, table.start + table.size - place), (place - table.start) // 8)
     if table.size % 8:
-        return Explanation(at, table, NONE, table.size, 8)
-    offset, end = little(image.data, place), little(image.data, place) + little(image.data, place + 4, 2)
+        return Explanation(structure("byte", place, 1), table, NONE, table.size, 8)
+    index, entry = (place - table.start) // 8, oracle.read(image.data, place, "data_in_code_entry")
+    at = structure("data_in_code_entry", place, 8, index)
+    data = Part("data_in_code", index, entry.offset, entry.length, place)
+    if entry.kind not in oracle.DICE_KINDS:
+        return Explanation(at, table, NONE, entry.kind, oracle.DICE_KINDS[-1])
     for segment in image.segments:
-        is_code = segment.initprot & oracle.VM_PROT_EXECUTE
-        if is_code and segment.fileoff <= offset < segment.fileoff + segment.filesize:
-            return Explanation(at, table, segment_part(image, segment), end, segment.fileoff + segment.filesize)
-    return Explanation(at, table, NONE, end, 0)
+        if segment.fileoff <= entry.offset < segment.fileoff + segment.filesize:
+            return Explanation(at, data, segment_part(image, segment), entry.offset + entry.length,
+                               segment.fileoff + segment.filesize)
+    return Explanation(at, data, NONE, entry.offset + entry.length, 0)
 
 
 OF_FILE = {rule.__name__: rule for rule in (

@@ -261,10 +261,9 @@ enum {
     KESVUOT_PART_CHAIN_IMPORT = 27,   /* an import of chained fixups. The index counts from 0 */
     KESVUOT_PART_PAGE_START = 28,     /* page_start of the page with this index, which counts from 0 */
     KESVUOT_PART_CHAIN_POINTER = 29,  /* a pointer of a chain, 8 bytes, with the index of its page */
-    KESVUOT_PART_FUNCTION_NUMBER = 30, /* a number of LC_FUNCTION_STARTS, or its first byte if it does not end or is too
-                                         large. The index is that of its function in kesvuot_read_function_starts */
-    KESVUOT_PART_DATA_IN_CODE = 31    /* data_in_code_entry, or as much of it as the table has, with the index of
-                                         kesvuot_read_data_in_code */
+    KESVUOT_PART_FUNCTION_START = 30, /* a number of LC_FUNCTION_STARTS */
+    KESVUOT_PART_DATA_IN_CODE_ENTRY = 31, /* data_in_code_entry, with the index of kesvuot_read_data_in_code */
+    KESVUOT_PART_DATA_IN_CODE = 32    /* the bytes of the file that it describes, with the same index */
 };
 
 /* A structure, or what a structure describes. A part lies where the file says, which can be past the file. */

@@ -41,11 +41,11 @@ FIELDS = {
     "fat-table": "nfat_arch", "slice": "offset size", "headers": "sizeofcmds",
     "command": "cmd cmdsize", "segment": "fileoff filesize", "segment-memory": "vmaddr vmsize",
     "section-bytes": "offset size", "section-memory": "addr size", "relocations": "reloff nreloc",
-    "chain-header": "imports_count", "chain-starts": "size page_size pointer_format segment_offset page_count"}
-# The structures of linked data, by the parts that they are.
-LINKED_STRUCTURES = {
+    "data-in-code": "offset length", "chain-header": "imports_count", "chain-starts": "size page_size pointer_format segment_offset page_count"}
+# The structures of chained fixups, by the parts that they are.
+CHAIN_STRUCTURES = {
     "chain-header": "dyld_chained_fixups_header", "chain-array": "dyld_chained_starts_in_image",
-    "chain-starts": "dyld_chained_starts_in_segment", "data-in-code": "data_in_code_entry"}
+    "chain-starts": "dyld_chained_starts_in_segment"}
 GROUP_FIELDS = ("ilocalsym nlocalsym", "iextdefsym nextdefsym", "iundefsym nundefsym")
 # Those that a rule reads besides: of the structure at the place, and of that of the second part.
 MORE_FIELDS: Dict[str, Tuple[str, str]] = {
@@ -139,10 +139,12 @@ class Case:
             return f"the page_start of page {wanted.index}"
         if wanted.kind == "chain-pointer":
             return f"the pointer at {wanted.start:#x}"
-        if wanted.kind == "function-number":
-            return f"the number of function {wanted.index}"
-        if wanted.kind == "data-in-code":
+        if wanted.kind == "function-start":
+            return f"the number at {wanted.start:#x}"
+        if wanted.kind == "data-in-code-entry":
             return f"entry {wanted.index} of data in code"
+        if wanted.kind == "data-in-code":
+            return f"the data of entry {wanted.index}"
         if wanted.kind == "group":
             return f"the group of {GROUPS[wanted.index or 0]} symbols"
         part = self.found(wanted)
@@ -196,8 +198,10 @@ class Case:
             return "mach_header_64", place
         if kind in ("section", "section-bytes", "section-memory", "relocations"):
             return "section_64", place
-        if kind in LINKED_STRUCTURES:
-            return LINKED_STRUCTURES[kind], part.start
+        if kind in CHAIN_STRUCTURES:
+            return CHAIN_STRUCTURES[kind], part.start
+        if kind in ("data-in-code-entry", "data-in-code"):
+            return "data_in_code_entry", place
         if kind == "symbol" or (kind == "name" and self.explanation.symbol is not None):
             return "nlist_64", place
         if kind in ("command", "segment", "segment-memory", "table", "group",

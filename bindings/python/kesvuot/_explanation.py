@@ -14,7 +14,8 @@ from ._library import EXPLANATION, VERDICT, Bytes, Data, load
 KINDS = ("file", "magic", "fat-header", "fat-table", "fat-arch", "slice", "header", "headers", "command", "segment",
          "segment-memory", "section", "section-bytes", "section-memory", "relocations", "table", "group", "name",
          "symbol", "indirect", "opcode", "byte", "chain-header", "chain-array", "chain-entry", "chain-starts",
-         "chain-import", "page-start", "chain-pointer", "function-number", "data-in-code")
+         "chain-import", "page-start", "chain-pointer", "function-start", "data-in-code-entry",
+         "data-in-code")
 
 
 class Part(NamedTuple):

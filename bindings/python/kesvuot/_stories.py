@@ -17,7 +17,7 @@ Number = Tuple[str, int]
 
 NO_PART = FilePart("", None, 0, 0, 0)
 LC_ID_DYLIB = "LC_ID_DYLIB"
-READ, WRITE = 1, 2
+READ, WRITE, EXECUTE = 1, 2, 4
 SG_PROTECTED_VERSION_1 = 8
 POINTER = 1
 # The least ordinal of a library, BIND_SPECIAL_DYLIB_WEAK_LOOKUP.
@@ -27,8 +27,8 @@ IMPORT_SIZES = {1: 4, 2: 8, 3: 16}
 POINTER_FORMATS = (1, 2, 6, 9, 12)
 PAGE_SIZES = (0x1000, 0x4000)
 STARTS_SIZE, PAGE_START_SIZE, ENTRY_SIZE, POINTER_SIZE = 22, 2, 4, 8
-# The kinds of data in code, and the size of an entry. The last address.
-DICE_KINDS, DICE_SIZE = (1, 2, 3, 4, 5), 8
+# The kinds of data in code, and the last address.
+DICE_KINDS = (1, 2, 3, 4, 5)
 MOST = (1 << 64) - 1
 
 
@@ -508,33 +508,46 @@ def _chain_bind(it: Teller) -> Story:
 
 
 def _function_number(it: Teller) -> Story:
-    if it.at_part.kind == "byte":
+    if _is_past_zero(it):
         return it.story(f"the byte {it.value:02x} is past the number 0, which ends {it.first}.", "byte")
-    return it.story(f"{it.at} does not end in {it.first}, or is too large.", "byte")
+    return it.story(f"the number at {it.at_part.start:#x} does not end in {it.first}, or is too large.", "byte")
+
+
+def _is_past_zero(it: Teller) -> bool:
+    """Whether a number 0 of the function starts ends before the place."""
+    is_zero = True
+    for byte in it.case.data[it.first_part.start:it.at_part.start]:
+        is_zero = is_zero and not byte & 0x7F
+        if byte < 0x80 and is_zero:
+            return True
+        is_zero = is_zero or byte < 0x80
+    return False
 
 
 def _function_start(it: Teller) -> Story:
-    function = f"function {it.at_part.index}"
+    starts, number = f"the function of {it.at} starts at {it.value:#x}", "address of the function"
+    if it.value == MOST:
+        return it.story(f"{starts} or past it, where the file has no byte.", number)
     if not it.second:
-        more = " or past it" if it.value == MOST else ""
-        return it.story(f"{function} starts at {it.value:#x}{more}, which is in no segment.", "address of the function")
-    return it.story(f"{function} starts at {it.value:#x} in {it.second}, whose bytes in the file end at {it.limit:#x}.",
-                    "address of the function", "vmaddr + filesize")
+        return it.story(f"{starts}, which is in no segment.", number)
+    return it.story(f"{starts} in {it.second}, whose bytes in the file end at {it.limit:#x}.", number,
+                    "vmaddr + filesize")
 
 
 def _data_in_code(it: Teller) -> Story:
-    size = it.first_part.size
-    if size % DICE_SIZE:
-        return it.story(f"{it.first} has {count_text(size, 'byte')}, and each entry has {DICE_SIZE}.",
+    if it.at_part.kind == "byte":
+        return it.story(f"{it.first} has {count_text(it.value, 'byte')}, and each entry has {it.limit}.",
                         "size of the table", "size of an entry")
-    numbers = "offset + length", "fileoff + filesize" if it.second else ""
-    kind = it.case.number("kind")
-    if kind not in DICE_KINDS:
-        return it.story(f"{it.at} has the kind {kind}, and {_known(DICE_KINDS)}.", *numbers)
+    if it.first_part.kind == "table":
+        return it.story(f"{it.at} is of kind {it.value}, and {_known(DICE_KINDS)}.", "kind", "greatest kind")
+    begins = it.case.number("offset")
     if not it.second:
-        begins = it.case.number("offset")
-        return it.story(f"{it.at} begins at {begins:#x}, which is in no executable segment.", *numbers)
-    return it.story(f"{it.at} ends at {it.value:#x}, past the bytes of {it.second}, which end at {it.limit:#x}.",
+        return it.story(f"{it.first} begins at {begins:#x}, which is in no segment.", "offset + length")
+    numbers = "offset + length", "fileoff + filesize"
+    if not _segment_number(it, "initprot") & EXECUTE:
+        return it.story(f"{it.first} begins in {it.second}, which is not executable: "
+                        f"{protection_text(_segment_number(it, 'initprot'))}.", *numbers)
+    return it.story(f"{it.first} ends at {it.value:#x}, past the bytes of {it.second}, which end at {it.limit:#x}.",
                     *numbers)
 
 

@@ -91,12 +91,12 @@ kinds! {
     PageStart = 28,
     /// A pointer of a chain, 8 bytes, with the index of its page.
     ChainPointer = 29,
-    /// A number of `LC_FUNCTION_STARTS`, or its first byte if it does not end or is too large. The
-    /// index is that of its function in `Image::function_starts`.
-    FunctionNumber = 30,
-    /// `data_in_code_entry`, or as much of it as the table has, with the index of
-    /// `Image::data_in_code`.
-    DataInCode = 31,
+    /// A number of `LC_FUNCTION_STARTS`.
+    FunctionStart = 30,
+    /// `data_in_code_entry`, with the index of `Image::data_in_code`.
+    DataInCodeEntry = 31,
+    /// The bytes that it describes, with the same index.
+    DataInCode = 32,
 }
 
 /// A structure, or what a structure describes. It lies where the file says, which can be past the
