@@ -153,6 +153,11 @@ struct linkedit_data_command {
 #define LC_FUNCTION_VARIANTS 0x37u
 #define LC_FUNCTION_VARIANT_FIXUPS 0x38u
 
+#define EXPORT_SYMBOL_FLAGS_KIND_MASK 0x3u
+#define EXPORT_SYMBOL_FLAGS_KIND_ABSOLUTE 0x2u
+#define EXPORT_SYMBOL_FLAGS_REEXPORT 0x8u
+#define EXPORT_SYMBOL_FLAGS_STUB_AND_RESOLVER 0x10u
+
 struct data_in_code_entry {
     uint32_t offset;
     uint16_t length, kind;
@@ -2321,21 +2326,193 @@ static void judge_chains(const struct linked *linked, uint64_t place) {
     judge_imports(&chains);
 }
 
-// The file parts of mapped segments, sorted by their addresses, or the bytes in the file of executable ones.
-static struct spans sorted_parts(const struct image *image, bool by_address, struct gathered *parts) {
+// What of a segment is gathered: its addresses, its file part, where it is mapped, or its bytes in the file, where it is
+// executable.
+enum part { MEMORY, FILE_PART, CODE_PART };
+
+static inline void gather_part(struct gathered *parts, const uint8_t *command, enum part part, uint64_t place) {
+    struct segment segment = read_segment(command);
+    if (part == MEMORY) {
+        gather(parts, segment.vmaddr, segment.vmsize, place);
+    } else if (part == FILE_PART && is_mapped(&segment)) {
+        gather(parts, segment.vmaddr, segment.filesize, place);
+    } else if (part == CODE_PART && (protection_of(command) & VM_PROT_EXECUTE) != 0) {
+        gather(parts, segment.fileoff, segment.filesize, place);
+    }
+}
+
+// These of all segments, sorted.
+static struct spans sorted_parts(const struct image *image, enum part part, struct gathered *parts) {
     const struct range *segments = &image->segments;
     begin_gathered(parts, image->segment_count);
     for (uint64_t place = segments->first; place != 0; place = next_place(image, segments, place)) {
-        const uint8_t *command = image->bytes + place;
-        if (!is_command(image, place, LC_SEGMENT_64)) {
-            continue;
-        }
-        struct segment segment = read_segment(command);
-        if (by_address ? is_mapped(&segment) : (protection_of(command) & VM_PROT_EXECUTE) != 0) {
-            gather(parts, by_address ? segment.vmaddr : segment.fileoff, segment.filesize, place);
+        if (is_command(image, place, LC_SEGMENT_64)) {
+            gather_part(parts, image->bytes + place, part, place);
         }
     }
     return sort_gathered(parts);
+}
+
+// A node whose children are not all met: where its next edge begins, as an offset of the table, and how many are left.
+struct open_node {
+    uint64_t edge, edges_left;
+};
+
+// An export trie. `bytes` is at what is read next. The nodes met have so many bytes. The open nodes are those from the
+// root down to the one whose children are met.
+struct trie {
+    const struct linked *linked;
+    uint64_t start, met;
+    struct stream bytes;
+    struct open_node *open;
+    size_t depth, room;
+    struct spans memory;
+    const struct span *last_found;
+};
+
+__attribute__((noinline)) static void make_room_for_node(struct trie *trie) {
+    trie->room = trie->room == 0 ? 64 : 2 * trie->room;
+    trie->open = realloc(trie->open, trie->room * sizeof *trie->open);
+    if (trie->open == NULL) {
+        stop(NO_MEMORY, "no memory");
+    }
+}
+
+static inline void open_children(struct trie *trie, uint64_t edge, uint64_t edges_left) {
+    if (trie->depth == trie->room) {
+        make_room_for_node(trie);
+    }
+    trie->open[trie->depth++] = (struct open_node){edge, edges_left};
+}
+
+// Whether the base + a number, as a whole number, is an address of a segment.
+static bool is_in_memory(struct trie *trie, uint64_t number) {
+    uint64_t address = trie->linked->image->base + number;
+    if (address < number) {
+        return false;
+    }
+    if (address < trie->last_found->start || address > trie->last_found->last) {
+        trie->last_found = last_up_to(&trie->memory, address);
+    }
+    return address >= trie->last_found->start && address <= trie->last_found->last;
+}
+
+// export-library, of a re-export: reads its ordinal and its name.
+static bool judge_reexport(struct trie *trie, struct stream *terminal, uint64_t place) {
+    const struct linked *linked = trie->linked;
+    uint64_t ordinal;
+    if (!read_number(terminal, &ordinal) || !read_name(terminal)) {
+        return false;
+    }
+    if (ordinal > linked->library_count && ordinal < -(uint64_t)SPECIAL_LIBRARIES) {
+        note_in(linked->image, EXPORT_LIBRARY, place);
+    }
+    return true;
+}
+
+// export-address, of another export: reads its address, and its resolver if it has one.
+static bool judge_address(struct trie *trie, struct stream *terminal, uint64_t flags, uint64_t place) {
+    uint64_t address, resolver = 0;
+    bool has_resolver = (flags & EXPORT_SYMBOL_FLAGS_STUB_AND_RESOLVER) != 0;
+    if (!read_number(terminal, &address) || (has_resolver && !read_number(terminal, &resolver))) {
+        return false;
+    }
+    if ((flags & EXPORT_SYMBOL_FLAGS_KIND_MASK) != EXPORT_SYMBOL_FLAGS_KIND_ABSOLUTE &&
+        (!is_in_memory(trie, address) || (has_resolver && !is_in_memory(trie, resolver)))) {
+        note_in(trie->linked->image, EXPORT_ADDRESS, place);
+    }
+    return true;
+}
+
+static inline bool are_known_flags(uint64_t flags) {
+    return flags <= 0x1f && (flags & EXPORT_SYMBOL_FLAGS_KIND_MASK) != 3 &&
+        (flags & (EXPORT_SYMBOL_FLAGS_REEXPORT | EXPORT_SYMBOL_FLAGS_STUB_AND_RESOLVER)) != 0x18;
+}
+
+// export-terminal, of a terminal part of so many bytes, with the rules of what it says.
+static void judge_terminal(struct trie *trie, uint64_t size, uint64_t place) {
+    struct stream terminal = {.bytes = trie->bytes.bytes + trie->bytes.at, .size = size};
+    uint64_t flags;
+    bool is_read = read_number(&terminal, &flags) && are_known_flags(flags) &&
+        ((flags & EXPORT_SYMBOL_FLAGS_REEXPORT) != 0 ? judge_reexport(trie, &terminal, place)
+                                                     : judge_address(trie, &terminal, flags, place));
+    if (!is_read || terminal.at != size) {
+        note_in(trie->linked->image, EXPORT_TERMINAL, place);
+    }
+}
+
+static inline bool read_edge(struct stream *bytes, uint64_t *child) {
+    return read_name(bytes) && read_number(bytes, child);
+}
+
+static inline bool read_edges(struct stream *bytes, uint64_t count) {
+    uint64_t child;
+    while (count > 0 && read_edge(bytes, &child)) {
+        count--;
+    }
+    return count == 0;
+}
+
+// The node that begins at an offset of the table. Whether the walk goes on.
+static bool meet_node(struct trie *trie, uint64_t offset) {
+    const struct image *image = trie->linked->image;
+    struct stream *bytes = &trie->bytes;
+    uint64_t size, place = trie->start + offset;
+    bytes->at = offset;
+    if (!read_number(bytes, &size) || size >= bytes->size - bytes->at) {
+        note_in(image, EXPORT_NODE, place);
+        return false;
+    }
+    if (size > 0) {
+        judge_terminal(trie, size, place);
+    }
+    uint64_t count = bytes->bytes[bytes->at + size], edge = bytes->at + size + 1;
+    bytes->at = edge;
+    if (!read_edges(bytes, count)) {
+        note_in(image, EXPORT_NODE, place);
+        return false;
+    }
+    trie->met += bytes->at - offset;
+    if (trie->met > bytes->size) {
+        note_in(image, EXPORT_TOTAL, place);
+        return false;
+    }
+    if (count > 0) {
+        open_children(trie, edge, count);
+    }
+    return true;
+}
+
+// The rules of exports, in one walk over the nodes, a node before its children. The open nodes have edges left. A child
+// past the table would begin at its end.
+static void judge_nodes(struct trie *trie) {
+    struct stream *bytes = &trie->bytes;
+    bool goes_on = meet_node(trie, 0);
+    while (goes_on && trie->depth > 0) {
+        struct open_node *last = &trie->open[trie->depth - 1];
+        uint64_t child = 0;
+        bytes->at = last->edge;
+        read_edge(bytes, &child);
+        last->edge = bytes->at;
+        if (--last->edges_left == 0) {
+            trie->depth--;
+        }
+        goes_on = meet_node(trie, child < bytes->size ? child : bytes->size);
+    }
+}
+
+// The rules of the export trie at a start, if it has some bytes. There is a base, so some segment is mapped.
+static void judge_exports(const struct linked *linked, uint64_t start, uint64_t size) {
+    if (size == 0) {
+        return;
+    }
+    struct gathered gathered;
+    struct trie trie = {.linked = linked, .start = start, .bytes = begin_stream(linked, start, size)};
+    trie.memory = sorted_parts(linked->image, MEMORY, &gathered);
+    trie.last_found = trie.memory.sorted;
+    judge_nodes(&trie);
+    free(trie.open);
+    free(gathered.spans);
 }
 
 // function-number and function-start, in one walk over the numbers. Addresses ascend, and so do the parts: the one at
@@ -2372,7 +2549,7 @@ static void judge_starts_of(const struct linked *linked, struct stream *numbers,
 // The rules of the function starts of an LC_FUNCTION_STARTS, which has some bytes.
 static void judge_function_starts(const struct linked *linked, const uint8_t *command) {
     struct gathered gathered;
-    struct spans parts = sorted_parts(linked->image, true, &gathered);
+    struct spans parts = sorted_parts(linked->image, FILE_PART, &gathered);
     uint64_t start = FIELD(command, linkedit_data_command, dataoff);
     struct stream numbers = begin_stream(linked, start, FIELD(command, linkedit_data_command, datasize));
     judge_starts_of(linked, &numbers, start, &parts);
@@ -2418,7 +2595,7 @@ static void judge_data_in_code(const struct image *image, const uint8_t *command
         return;
     }
     struct gathered gathered;
-    struct spans parts = sorted_parts(image, false, &gathered);
+    struct spans parts = sorted_parts(image, CODE_PART, &gathered);
     judge_entries_of_code(image, start, size, &parts);
     free(gathered.spans);
 }
@@ -2437,8 +2614,13 @@ static void judge_image_linked(const struct image *image) {
         size_t slot = slot_of(FIELD(command, load_command, cmd));
         if (slot == SLOT(LC_DYLD_INFO) || slot == SLOT(LC_DYLD_INFO_ONLY)) {
             judge_streams(&linked, command, bounded_tables + listed_commands[slot].first_table);
+            judge_exports(&linked, FIELD(command, dyld_info_command, export_off),
+                          FIELD(command, dyld_info_command, export_size));
         } else if (slot == SLOT(LC_DYLD_CHAINED_FIXUPS)) {
             judge_chains(&linked, linked.commands[k]);
+        } else if (slot == SLOT(LC_DYLD_EXPORTS_TRIE)) {
+            judge_exports(&linked, FIELD(command, linkedit_data_command, dataoff),
+                          FIELD(command, linkedit_data_command, datasize));
         } else if (slot == SLOT(LC_FUNCTION_STARTS)) {
             judge_function_starts(&linked, command);
         } else if (slot == SLOT(LC_DATA_IN_CODE)) {

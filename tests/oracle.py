@@ -113,6 +113,13 @@ SPECIAL_ORDINALS = 15
 DYLD_CHAINED_PTR_START_NONE = 0xffff
 PAGE_START_SIZE, POINTER_SIZE = 2, 8
 
+# Of exports: the flags that are judged, and what some of them say; and the least ordinal that is below 0, where ordinals
+# have 64 bits.
+EXPORT_SYMBOL_FLAGS = 0x1f
+EXPORT_SYMBOL_FLAGS_KIND_MASK, EXPORT_SYMBOL_FLAGS_KIND_ABSOLUTE, KIND_UNKNOWN = 0x3, 0x2, 0x3
+EXPORT_SYMBOL_FLAGS_REEXPORT, EXPORT_SYMBOL_FLAGS_STUB_AND_RESOLVER = 0x8, 0x10
+LEAST_SPECIAL_ORDINAL = 2 ** 64 + BIND_SPECIAL_DYLIB_WEAK_LOOKUP
+
 # The kinds of data in code, from DICE_KIND_DATA up to and including DICE_KIND_ABS_JUMP_TABLE32.
 DICE_KINDS = range(1, 6)
 
@@ -249,6 +256,8 @@ class Image:
         self.is_64_bit = data[:4] == MH_MAGIC_64
         # What `decode` has found, by the start of a stream. No two streams share a byte.
         self.decoded = {}
+        # What `walk` has found.
+        self.walked = None
 
     @cached_property
     def header(self):
@@ -1194,11 +1203,132 @@ def chain_bind(image):
             if pointer is not None and pointer.binds is not None and pointer.binds >= count:
                 yield pointer.place
 
-# Function starts and data in code
+# Exports
 
 def table_of(image, kind):
     """The table of this kind, of which one command names one, or None. (After `table-repeated` there is at most one.)"""
     return next((table for table in linked_tables(image) if table.kind == kind), None)
+
+def last_before(starts, number_of):
+    """Of ascending starts the index of the last one that is not above the number, or None."""
+    at = bisect.bisect(starts, number_of)
+    return at - 1 if at > 0 else None
+
+def read_node(image, table, place):
+    """The node that begins at a place: where its terminal part begins and ends, its children, as offsets in the table,
+    and where it ends."""
+    size, start = operand(image.data, place, table.end, "number")
+    # The count of the edges is the byte past the terminal part.
+    count = start + size
+    if count >= table.end:
+        raise Malformed
+    node = SimpleNamespace(place=place, start=start, terminal_end=count, end=count + 1, children=[])
+    for _ in range(image.data[count]):
+        _, node.end = operand(image.data, node.end, table.end, "name")
+        child, node.end = operand(image.data, node.end, table.end, "number")
+        node.children.append(child)
+    return node
+
+def walk(image):
+    """The nodes of the export trie that are met, and the rule that ends the walk, with its place, or None."""
+    if image.walked is None:
+        table = table_of(image, "exports")
+        image.walked = walk_once(image, table) if table else ([], None)
+    return image.walked
+
+def walk_once(image, table):
+    nodes = []
+    total = 0
+    waiting = [0]
+    while waiting:
+        # A child that is not in the table would begin past its end.
+        place = min(table.start + waiting.pop(), table.end)
+        try:
+            node = read_node(image, table, place)
+        except Malformed:
+            return nodes, ("export_node", place)
+        total += node.end - place
+        if total > table.end - table.start:
+            return nodes, ("export_total", place)
+        nodes.append(node)
+        # The first child is met next, and what is below it before the second.
+        waiting += reversed(node.children)
+    return nodes, None
+
+def export_node(image):
+    """The node does not end in the table."""
+    _, broken = walk(image)
+    if broken and broken[0] == "export_node":
+        yield broken[1]
+
+def export_total(image):
+    """The nodes met up to and including this one, each as often as it is met, have more bytes than the table."""
+    _, broken = walk(image)
+    if broken and broken[0] == "export_total":
+        yield broken[1]
+
+def read_export(image, node):
+    """What the terminal part of a node says: the flags, and an ordinal, or an address and a resolver."""
+    def following(kind, place):
+        return operand(image.data, place, node.terminal_end, kind)
+
+    export = SimpleNamespace(place=node.place, ordinal=None, offsets=[])
+    export.flags, place = following("number", node.start)
+    if export.flags & EXPORT_SYMBOL_FLAGS_REEXPORT:
+        export.ordinal, place = following("number", place)
+        _, place = following("name", place)
+    else:
+        for _ in range(2 if export.flags & EXPORT_SYMBOL_FLAGS_STUB_AND_RESOLVER else 1):
+            offset, place = following("number", place)
+            export.offsets.append(offset)
+    if place != node.terminal_end:
+        raise Malformed
+    return export
+
+def exports(image):
+    """The exports of the nodes that are met, in any order. (After `export-terminal` each is read to its end.)"""
+    return [read_export(image, node) for node in walk(image)[0] if node.terminal_end > node.start]
+
+def has_known_flags(flags):
+    """The flags are all known, and so is the kind; and a re-export has no resolver."""
+    both = EXPORT_SYMBOL_FLAGS_REEXPORT | EXPORT_SYMBOL_FLAGS_STUB_AND_RESOLVER
+    return (flags & ~EXPORT_SYMBOL_FLAGS == 0 and flags & EXPORT_SYMBOL_FLAGS_KIND_MASK != KIND_UNKNOWN
+            and flags & both != both)
+
+def export_terminal(image):
+    """The node has a terminal part that is not read exactly to its end, or whose flags are not known."""
+    for node in walk(image)[0]:
+        if node.terminal_end > node.start:
+            try:
+                is_known = has_known_flags(read_export(image, node).flags)
+            except Malformed:
+                is_known = False
+            if not is_known:
+                yield node.place
+
+def export_library(image):
+    """The ordinal of a re-export is above the number of libraries, and below -3 as a number of 64 bits."""
+    count = library_count(image)
+    for export in exports(image):
+        if export.ordinal is not None and count < export.ordinal < LEAST_SPECIAL_ORDINAL:
+            yield export.place
+
+def is_relative(export):
+    """The numbers of the export count from the base. (A re-export has none.)"""
+    return export.flags & EXPORT_SYMBOL_FLAGS_KIND_MASK != EXPORT_SYMBOL_FLAGS_KIND_ABSOLUTE
+
+def export_address(image):
+    """The base + the address, or the base + the resolver, is in no segment."""
+    # No two segments share an address, so of those that begin at the address or before it only the last can have it.
+    mapped = sorted((segment.vmaddr, segment.vmaddr + segment.vmsize) for segment in image.segments if is_mapped(segment))
+    starts = [start for start, _ in mapped]
+    for export in filter(is_relative, exports(image)):
+        for offset in export.offsets:
+            at = last_before(starts, image.base + offset)
+            if at is None or image.base + offset >= mapped[at][1]:
+                yield export.place
+
+# Function starts and data in code
 
 def function_numbers(image):
     """The numbers of the function starts, up to the 0 that ends them, each with its place; and the place of the first
@@ -1218,11 +1348,6 @@ def function_numbers(image):
         numbers.append((place, distance))
         place = after
     return numbers, None
-
-def last_before(starts, number_of):
-    """Of ascending starts the index of the last one that is not above the number, or None."""
-    at = bisect.bisect(starts, number_of)
-    return at - 1 if at > 0 else None
 
 def function_number(image):
     """The number does not end in the table, or is not below 2^64; or a byte after the number 0 is not 0."""
@@ -1284,6 +1409,7 @@ LINKED_RULES_OF_AN_IMAGE = [
     table_repeated, function_variants, table_home, header_home, rebase_opcode, rebase_slot, rebase_total, bind_opcode,
     bind_library, bind_symbol, bind_slot, bind_total, bind_names,
     chain_header, chain_starts, chain_imports, chain_total, chain_library, chain_slot, chain_bind,
+    export_node, export_total, export_terminal, export_library, export_address,
     function_number, function_start, data_in_code,
 ]
 
