@@ -1,6 +1,6 @@
 """Mutants of tables: of the streams of opcodes that LC_DYLD_INFO names, of the chain table of LC_DYLD_CHAINED_FIXUPS
-and the pointers of its chains, of function starts and data in code, and of what they depend on. Each way changes a file and keeps its length, so most
-mutants break no rule of the layout or of the strict profile.
+and the pointers of its chains, of export tries, of function starts and data in code, and of what they depend on. Each
+way changes a file and keeps its length, so most mutants break no rule of the layout or of the strict profile.
 
 tests/dyld_trials.py uses them. Nothing of the oracle is used here, so that a mistake in it does not hide itself.
 """
@@ -10,7 +10,7 @@ from collections import namedtuple
 MAGIC_64 = bytes.fromhex("cffaedfe")
 LC_SEGMENT_64, LC_DYLD_INFO, LC_DYLD_INFO_ONLY = 0x19, 0x22, 0x80000022
 LC_DYLD_CHAINED_FIXUPS = 0x80000034
-LC_FUNCTION_STARTS, LC_DATA_IN_CODE = 0x26, 0x29
+LC_DYLD_EXPORTS_TRIE, LC_FUNCTION_STARTS, LC_DATA_IN_CODE = 0x80000033, 0x26, 0x29
 LOADS = (0xc, 0x80000018, 0x8000001f, 0x20, 0x80000023)
 STREAMS = ("rebase", "bind", "weak", "lazy")
 WORD = 2 ** 64
@@ -21,7 +21,8 @@ Stream = namedtuple("Stream", "name field start end")
 # A chain table: as of a stream, without a name, and with where its image begins.
 Chains = namedtuple("Chains", "field start end image")
 
-# A table of function starts or of data in code: as a chain table.
+# An export trie, or a table of function starts or of data in code: as a chain table.
+Trie = namedtuple("Trie", "field start end image")
 Starts = namedtuple("Starts", "field start end image")
 Entries = namedtuple("Entries", "field start end image")
 
@@ -42,6 +43,9 @@ POINTERS = {1: (11, 8, 62, 16), 2: (12, 4, 63, 24), 6: (12, 4, 63, 24), 9: (11, 
 NEXT_BIT, POINTER_SIZE, NO_CHAIN = 51, 8, 0xffff
 # mach-o/loader.h. The size of a data_in_code_entry, whose fields are of 4, 2 and 2 bytes.
 ENTRY_SIZE = 8
+EXPORT_FLAGS = (0x00, 0x01, 0x02, 0x03, 0x04, 0x08, 0x08, 0x0a, 0x10, 0x10, 0x12, 0x18, 0x20)
+# The place of export_off in a dyld_info_command, past those of the streams.
+EXPORTS = 40
 # No more than so many items of one kind are changed.
 MOST_ITEMS = 40
 
@@ -83,18 +87,20 @@ def streams(data):
                         found.append(Stream(name, field, start, start + size))
     return found
 
-KINDS = {LC_DYLD_CHAINED_FIXUPS: Chains, LC_FUNCTION_STARTS: Starts, LC_DATA_IN_CODE: Entries}
+# Of the commands that name one table that is no stream: where its start is in the command, and its kind.
+KINDS = {LC_DYLD_CHAINED_FIXUPS: (8, Chains), LC_FUNCTION_STARTS: (8, Starts), LC_DATA_IN_CODE: (8, Entries),
+         LC_DYLD_EXPORTS_TRIE: (8, Trie), LC_DYLD_INFO: (EXPORTS, Trie), LC_DYLD_INFO_ONLY: (EXPORTS, Trie)}
 
 def other_tables(data):
     """The tables of a file that are no streams, and have bytes."""
     found = []
     for image in starts_of_images(data):
         for place in commands(data, image):
-            kind = KINDS.get(word(data, place))
-            if kind is not None and word(data, place + 4) >= 16:
-                start, size = image + word(data, place + 8), word(data, place + 12)
+            field, kind = KINDS.get(word(data, place), (0, None))
+            if kind is not None and word(data, place + 4) >= field + 8:
+                start, size = image + word(data, place + field), word(data, place + field + 4)
                 if 0 < size and start + size <= len(data):
-                    found.append(kind(place + 8, start, start + size, image))
+                    found.append(kind(place + field, start, start + size, image))
     return found
 
 def tables(data):
@@ -471,6 +477,150 @@ def lose_zero(rng, data, table):
     place = rng.randrange(max(table.start, table.end - last), table.end)
     return set_word(data, place, 0 if data[place] else 0x61, 1)
 
+def base_of(data, image):
+    return next((word(data, place + 24, 8) for place in commands(data, image)
+                 if word(data, place) == LC_SEGMENT_64 and word(data, place + 40, 8) == 0
+                 and word(data, place + 48, 8) > 0), 0)
+
+# The ways of export tries
+
+# A node: its place, the places of its parts, and its edges, of each the place of the label and that of the child.
+Node = namedtuple("Node", "place terminal count edges end")
+
+def nodes(data, table):
+    """The nodes of a trie to which edges lead, roughly, each once."""
+    found, seen, waiting = [], set(), [0]
+    while waiting and len(found) < MOST_ITEMS:
+        offset = waiting.pop()
+        place = table.start + offset
+        if offset in seen or place >= table.end:
+            continue
+        seen.add(offset)
+        terminal = number_end(data, place, table.end)
+        count = min(terminal + number_at(data, place, terminal), table.end - 1)
+        at, edges = count + 1, []
+        for _ in range(data[count]):
+            zero = data.find(0, at, table.end)
+            if zero < 0 or zero + 1 >= table.end:
+                break
+            end = number_end(data, zero + 1, table.end)
+            edges.append((at, zero + 1, end))
+            waiting.append(number_at(data, zero + 1, end))
+            at = end
+        found.append(Node(place, terminal, count, edges, at))
+    return found
+
+def number_at(data, start, end):
+    return sum((byte & 0x7f) << 7 * k for k, byte in enumerate(data[start:end]))
+
+def put(data, table, place, content):
+    """The bytes of a table from a place on are others. Nothing moves."""
+    content = content[:table.end - place]
+    return data[:place] + content + data[place + len(content):]
+
+def some_export_address(rng, data, table):
+    """An address from the base on: at the edge of a segment, or any other one."""
+    near = rng.choice((0, 0, -1, 1, rng.randrange(-64, 64)))
+    places = [place for place in commands(data, table.image) if word(data, place) == LC_SEGMENT_64]
+    place = rng.choice(places or [table.image])
+    base = base_of(data, table.image)
+    edge = word(data, place + 24, 8) + word(data, place + 32, 8) * rng.choice((0, 1, 1)) - base + near
+    number = rng.choice((edge, edge, edge, 0, WORD - base + near, 2 ** rng.choice((7, 32, 63, 64)) + near))
+    return number % WORD if rng.random() < 0.95 else abs(number) % 2 ** 71
+
+def some_terminal(rng, data, table):
+    """The bytes of a terminal part, with its size before it."""
+    flags = rng.choice(EXPORT_FLAGS)
+    spare = rng.choice((0, 0, 0, 0, 0, 1, 8, 9, 10))
+    if flags & 8:
+        ordinal = rng.choice((0, 1, 1, 2, 3, 0xfd, WORD - 1, WORD - 3, WORD - 4))
+        content = uleb(flags) + uleb(ordinal, spare) + rng.choice((b"\0", b"\0", b"_a\0", b"_a"))
+    else:
+        content = uleb(flags, spare if rng.random() < 0.1 else 0) + uleb(some_export_address(rng, data, table), spare)
+        if flags & 0x10 and rng.random() < 0.9:
+            content += uleb(some_export_address(rng, data, table))
+    size = max(len(content) + rng.choice((0, 0, 0, 0, 0, 0, -1, 1)), 0)
+    return uleb(size, rng.choice((0, 0, 0, 0, 0, 1, 9, 10))) + content
+
+def set_terminal(rng, data, table):
+    """The terminal part of a node is another one. What follows moves, or stays and is written over."""
+    node = rng.choice(nodes(data, table))
+    content = some_terminal(rng, data, table)
+    if rng.random() < 0.3:
+        return replace(data, table, node.place, node.count, content)
+    return put(data, table, node.place, content + data[node.count:node.end])
+
+def set_field_of_terminal(rng, data, table):
+    """A number of a terminal part is another one of as many bytes, so that nothing moves."""
+    exports = [node for node in nodes(data, table) if node.count > node.terminal]
+    if not exports:
+        return set_terminal(rng, data, table)
+    node = rng.choice(exports)
+    at = number_end(data, node.terminal, node.count)
+    start, end = rng.choice(((node.terminal, at), (at, number_end(data, at, node.count))))
+    number = rng.choice(EXPORT_FLAGS) if start == node.terminal else some_export_address(rng, data, table)
+    content = uleb(number)
+    if len(content) < end - start:
+        content = uleb(number, end - start - len(content))
+    return put(data, table, start, content[:end - start])
+
+def set_child(rng, data, table):
+    """The child of an edge is another one: one of the nodes, or near the end of the table."""
+    found = nodes(data, table)
+    edges = [edge for node in found for edge in node.edges]
+    if not edges:
+        return add_edges(rng, data, table)
+    _, start, end = rng.choice(edges)
+    size = table.end - table.start
+    number = rng.choice((rng.choice(found).place - table.start, rng.choice(found).place - table.start,
+                         size + rng.randrange(-3, 2), rng.randrange(size), WORD - rng.randrange(1, 999),
+                         2 ** rng.choice((32, 63, 64))))
+    content = uleb(number, rng.choice((0, 0, 0, 0, 8, 9, 10)))
+    if len(content) < end - start:
+        content = uleb(number, end - start - len(content))
+    if len(content) <= end - start:
+        return put(data, table, start, content)
+    return replace(data, table, start, end, content)
+
+def add_edges(rng, data, table):
+    """A node has other edges: to nodes, or to the end of the table, once or often."""
+    found = nodes(data, table)
+    node = rng.choice(found)
+    count = rng.choice((0, 1, 1, 2, 2, 3, 255))
+    edge = rng.choice((b"\0", b"a\0", b"_b\0")) + uleb(rng.choice(found).place - table.start)
+    others = [rng.choice((b"\0", b"c\0")) + uleb(rng.choice(found).place - table.start) for _ in range(count)]
+    content = bytes((count,)) + b"".join(others if rng.random() < 0.7 else [edge] * count)
+    return put(data, table, node.count, content)
+
+def new_trie(rng, data, table):
+    """A whole trie of a few nodes, in any order, that have edges to each other."""
+    size = table.end - table.start
+    count = rng.choice((1, 2, 3, 5, 9, 20))
+    heads = [some_terminal(rng, data, table) if rng.random() < 0.6 else b"\0" for _ in range(count)]
+    is_ahead = rng.random() < 0.7
+    links = [[rng.randrange(node + 1, count) if is_ahead and node + 1 < count else rng.randrange(count)
+              for _ in range(0 if is_ahead and node + 1 == count else rng.choice((0, 1, 1, 2, 3)))]
+             for node in range(count)]
+    sizes = [len(head) + 1 + sum(4 for _ in link) for head, link in zip(heads, links)]
+    # The root is the first. The others stand in any order, with gaps or without.
+    order = [0] + rng.sample(range(1, count), count - 1)
+    starts, at = {}, 0
+    for node in order:
+        starts[node] = at
+        at += sizes[node] + rng.choice((0, 0, 0, 3))
+    content = bytearray(at)
+    for node in order:
+        edges = b"".join(bytes((0x61 + k, 0)) + uleb(starts[child], int(starts[child] < 0x80))
+                         for k, child in enumerate(links[node]))
+        whole = heads[node] + bytes((len(links[node]),)) + edges
+        content[starts[node]:starts[node] + len(whole)] = whole
+    data = data[:table.start] + bytes(content)[:size].ljust(size, b"\0") + data[table.end:]
+    if rng.random() < 0.6 and at <= size:
+        data = set_word(data, table.field + 4, max(at + rng.choice((0, 0, 0, -1, 1)), 0))
+        rest = table.start + word(data, table.field + 4)
+        data = data[:rest] + bytes(table.end - rest) + data[table.end:] if rest <= table.end else data
+    return data
+
 # The ways of function starts
 
 def distances(data, table):
@@ -495,9 +645,7 @@ def some_edge(rng, data, image, offset):
 def some_distance(rng, data, table, total):
     """A number of function starts, of which this is the sum before it: up to the edge of a segment, or any other one."""
     near = rng.choice((0, 0, -1, 1, rng.randrange(-64, 64)))
-    base = next((word(data, place + 24, 8) for place in commands(data, table.image)
-                 if word(data, place) == LC_SEGMENT_64 and word(data, place + 40, 8) == 0
-                 and word(data, place + 48, 8) > 0), 0)
+    base = base_of(data, table.image)
     edge = some_edge(rng, data, table.image, 24) - base - total + near
     number = rng.choice((edge, edge, edge, rng.randrange(1, 64), 0, 2 ** 64 - base - total + near,
                          2 ** rng.choice((7, 14, 32, 63, 64)) + near))
@@ -549,13 +697,16 @@ CHAIN_WAYS = {set_page_start: 25, set_pointer: 40, set_chain: 25, set_chain_fiel
               set_ordinal: 8, repeat_import: 8, exchange_entries: 4, lose_zero: 8, move_table: 4, set_protection: 3,
               set_size: 3, set_name: 3, set_library: 1}
 
+TRIE_WAYS = {set_terminal: 15, set_field_of_terminal: 20, set_child: 20, add_edges: 10, new_trie: 30, flip_bit: 10,
+             set_byte: 10, move_table: 6, set_protection: 2, set_size: 6, set_name: 1, set_library: 2}
+
 STARTS_WAYS = {set_distance: 50, add_distances: 25, flip_bit: 10, set_byte: 10, move_table: 8, set_protection: 4,
                set_size: 8, set_name: 1}
 
 ENTRIES_WAYS = {set_entry: 70, repeat_entry: 10, flip_bit: 10, set_byte: 10, move_table: 12, set_protection: 10,
                 set_size: 10, set_name: 1}
 
-WAYS_OF_KINDS = {Stream: WAYS, Chains: CHAIN_WAYS, Starts: STARTS_WAYS, Entries: ENTRIES_WAYS}
+WAYS_OF_KINDS = {Stream: WAYS, Chains: CHAIN_WAYS, Trie: TRIE_WAYS, Starts: STARTS_WAYS, Entries: ENTRIES_WAYS}
 
 def change(rng, data):
     """The file with one change of a table, or of what it depends on."""
