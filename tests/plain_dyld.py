@@ -11,6 +11,9 @@ pages that are not those of the segment, or cannot be written; more writes of a 
 or more steps than the bytes and writes explain; a function where the file has no byte; data of no kind, or not in the
 bytes of one executable segment. So it ends on all files, and on one that breaks the rules it says how.
 
+Of an export trie it reads all nodes, as a tool that lists the exports does, and looks some of the names up. There a
+breach is also a terminal part that is not read to its end or says what is not known, and an address in no segment.
+
 Of tests/oracle.py it takes the commands of an image, and nothing that decodes a stream.
 """
 
@@ -41,8 +44,13 @@ BIND_OPCODE_DO_BIND_ADD_ADDR_ULEB = 0xa0
 BIND_OPCODE_DO_BIND_ADD_ADDR_IMM_SCALED = 0xb0
 BIND_OPCODE_DO_BIND_ULEB_TIMES_SKIPPING_ULEB = 0xc0
 LC_DYLD_INFO, LC_DYLD_INFO_ONLY = 0x22, 0x80000022
-LC_FUNCTION_STARTS, LC_DATA_IN_CODE, LC_DYLD_CHAINED_FIXUPS = 0x26, 0x29, 0x80000034
+LC_FUNCTION_STARTS, LC_DATA_IN_CODE, LC_DYLD_EXPORTS_TRIE = 0x26, 0x29, 0x80000033
+LC_DYLD_CHAINED_FIXUPS = 0x80000034
 DICE_KIND_DATA, DICE_KIND_ABS_JUMP_TABLE32, ENTRY_SIZE = 1, 5, 8
+EXPORT_SYMBOL_FLAGS_KIND_ABSOLUTE = 0x02
+EXPORT_SYMBOL_FLAGS_REEXPORT = 0x08
+EXPORT_SYMBOL_FLAGS_STUB_AND_RESOLVER = 0x10
+KNOWN_KINDS = (0, 1, 2)
 LOADS = (0xc, 0x80000018, 0x8000001f, 0x20, 0x80000023)
 LC_ENCRYPTION_INFO_64 = 0x2c
 VM_PROT_READ, VM_PROT_WRITE, VM_PROT_EXECUTE = 1, 2, 4
@@ -65,6 +73,9 @@ WORD = 2 ** 64
 SLIDE = 0x12345678000
 # What a look-up finds: an address whose bytes are all opcodes that no stream may have.
 FOUND = 0xf1f2f3f4f5f6f7f8
+
+# Of an export trie no more than so many names are looked up, and none that is longer.
+MOST_LOOK_UPS, LONGEST_NAME = 20, 1000
 
 # What is written for chains, in the place of a stream.
 CHAINS = "chains"
@@ -169,6 +180,13 @@ class Dyld:
 
     def look_up(self, ordinal, name):
         """Finds the library, and then the name, which it returns."""
+        self.find_library(ordinal)
+        if name is None:
+            raise Breach("there is no name")
+        return self.name_at(name)
+
+    def find_library(self, ordinal):
+        """Reads the name of a library. The image itself and the special ones have none."""
         if ordinal > 0:
             if ordinal > len(self.libraries):
                 raise Breach("library %d is not there" % ordinal)
@@ -176,9 +194,6 @@ class Dyld:
             self.header(place + self.header(place + 8, 4), 1)
         elif ordinal < -3:
             raise Breach("library %d is not there" % ordinal)
-        if name is None:
-            raise Breach("there is no name")
-        return self.name_at(name)
 
     # A table, in memory. It is where the last segment named __LINKEDIT has it, by the slide of the first named __TEXT.
     # That of the last one is for slots.
@@ -471,9 +486,86 @@ class Dyld:
                                       for segment in self.image.segments if segment.initprot & VM_PROT_EXECUTE):
                 raise Breach("the %d bytes of data at 0x%x are in no executable segment" % (length, offset))
 
+    def visit_exports(self, start, size):
+        """Goes to each node, as often as an edge leads there, with a list of those that wait and no other one. Then it
+        looks some of the names up."""
+        if size == 0:
+            return
+        self.begin(start, size, 1)
+        names = []
+        # The place of a node, and the name that led there, or None if that is too long to be looked up.
+        waiting = [(0, b"")]
+        while waiting:
+            offset, name = waiting.pop()
+            has_export, edges = self.read_node(offset)
+            if has_export and name is not None and len(names) < MOST_LOOK_UPS:
+                names.append(name)
+            waiting += [(child, longer(name, label)) for label, child in reversed(edges)]
+        for name in [*names, b"_main", b"", max(names, default=b"") + b"_"]:
+            self.begin(start, size, 1)
+            self.find_export(name)
+
+    def read_node(self, offset):
+        """Whether a node has an export, which is read, and its edges: of each the label and the child."""
+        self.place = self.start + offset
+        size = self.number()
+        past = self.place + size
+        if size > 0:
+            self.read_terminal(past)
+        self.place = past
+        edges = []
+        for _ in range(self.next_byte()):
+            label = self.label()
+            edges.append((label, self.number()))
+        return size > 0, edges
+
+    def label(self):
+        label = bytearray()
+        while True:
+            byte = self.next_byte()
+            if byte == 0:
+                return bytes(label)
+            label.append(byte)
+
+    def read_terminal(self, past):
+        """Reads an export, as far as its flags say. Then it has to be past the terminal part."""
+        flags = self.number()
+        if flags & 3 not in KNOWN_KINDS or flags > 0x1f or flags & 0x18 == 0x18:
+            raise Breach("flags 0x%x of an export are not known" % flags)
+        if flags & EXPORT_SYMBOL_FLAGS_REEXPORT:
+            self.find_library(self.signed(self.number()))
+            self.label()
+        else:
+            for _ in range(2 if flags & EXPORT_SYMBOL_FLAGS_STUB_AND_RESOLVER else 1):
+                self.read_export(self.number(), flags & 3)
+        if self.place != past:
+            raise Breach("an export ends at 0x%x, and not at 0x%x" % (self.place, past))
+
+    @staticmethod
+    def signed(number):
+        return number - WORD if number >= WORD // 2 else number
+
+    def read_export(self, number, kind):
+        """Goes to the address of an export, which need not be in the file."""
+        if kind != EXPORT_SYMBOL_FLAGS_KIND_ABSOLUTE:
+            self.memory.part_of(self.image.base + number, 1)
+
+    def find_export(self, name):
+        """Looks a name up: compares it once, by the first edge that fits, and keeps no list of where it has been."""
+        offset = 0
+        while True:
+            has_export, edges = self.read_node(offset)
+            if name == b"" and has_export:
+                return
+            fitting = [(label, child) for label, child in edges if name.startswith(label)]
+            if not fitting:
+                return
+            (label, offset), *_ = fitting
+            name = name[len(label):]
+
     def load(self):
         """Follows the streams of each command that names some, and the chains of each chain table. Then it reads the
-        function starts and the data in code, which still are those of the file."""
+        exports, the function starts and the data in code, which still are those of the file."""
         for command in self.image.listed:
             if command.cmd == LC_DYLD_CHAINED_FIXUPS:
                 self.follow_chains(command.dataoff, command.datasize)
@@ -483,6 +575,10 @@ class Dyld:
                 self.follow("weak", command.weak_bind_off, command.weak_bind_size)
                 self.follow("lazy", command.lazy_bind_off, command.lazy_bind_size)
         for command in self.image.listed:
+            if command.cmd == LC_DYLD_EXPORTS_TRIE:
+                self.visit_exports(command.dataoff, command.datasize)
+            if command.cmd in (LC_DYLD_INFO, LC_DYLD_INFO_ONLY):
+                self.visit_exports(command.export_off, command.export_size)
             if command.cmd == LC_FUNCTION_STARTS and command.datasize > 0:
                 self.visit_functions(command.dataoff, command.datasize)
             if command.cmd == LC_DATA_IN_CODE and command.datasize > 0:
@@ -496,6 +592,9 @@ class Dyld:
             self.follow_rebases()
         else:
             self.follow_binds(stream)
+
+def longer(name, label):
+    return None if name is None or len(name) + len(label) > LONGEST_NAME else name + label
 
 def load(image):
     """Loads an image that has been opened, and returns what was written."""
