@@ -1000,7 +1000,7 @@ static bool is_strict(uint32_t rule) {
 }
 
 static bool is_linked(uint32_t rule) {
-    return rule >= KESVUOT_TABLE_REPEATED && rule <= KESVUOT_DATA_IN_CODE;
+    return rule >= KESVUOT_TABLE_REPEATED && rule <= KESVUOT_EXPORT_ADDRESS;
 }
 
 // The verdict is whole.
@@ -1021,7 +1021,7 @@ static void check_explanation(const uint8_t *file, size_t size, const struct kes
     struct kesvuot_explanation found;
     for (uint32_t other = 0; other < 4; other++) {
         struct kesvuot_verdict asked = *verdict;
-        asked.rule = (asked.rule + 7 * other) % (KESVUOT_DATA_IN_CODE + 2);
+        asked.rule = (asked.rule + 7 * other) % (KESVUOT_EXPORT_ADDRESS + 2);
         asked.place += other;
         memset(&found, UNWRITTEN, sizeof found);
         const uint32_t status = kesvuot_explain(file, size, &asked, &found);
@@ -1144,7 +1144,7 @@ static void check_constants(void) {
     for (; kesvuot_find_rule(rule, &name) == KESVUOT_OK; rule++) {
         CHECK(name.size > 0 && name.size == strlen(name.at));
     }
-    CHECK(rule > KESVUOT_DATA_IN_CODE && name.size == 0);
+    CHECK(rule > KESVUOT_EXPORT_ADDRESS && name.size == 0);
     CHECK(kesvuot_find_rule(0, &name) == KESVUOT_NONE && name.size == 0);
     CHECK(kesvuot_find_rule(UINT32_MAX, &name) == KESVUOT_NONE && name.size == 0);
     for (uint32_t number = 0; number < 256; number++) {

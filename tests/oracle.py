@@ -113,7 +113,7 @@ SPECIAL_ORDINALS = 15
 DYLD_CHAINED_PTR_START_NONE = 0xffff
 PAGE_START_SIZE, POINTER_SIZE = 2, 8
 
-# Of exports: the flags that are judged, and what some of them say; and the least ordinal that is below 0, where ordinals
+# Of exports: the flags that are known, and what some of them say; and the least ordinal that is below 0, where these
 # have 64 bits.
 EXPORT_SYMBOL_FLAGS = 0x1f
 EXPORT_SYMBOL_FLAGS_KIND_MASK, EXPORT_SYMBOL_FLAGS_KIND_ABSOLUTE, KIND_UNKNOWN = 0x3, 0x2, 0x3

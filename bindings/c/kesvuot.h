@@ -141,6 +141,11 @@ enum {
     KESVUOT_CHAIN_LIBRARY = 58,
     KESVUOT_CHAIN_SLOT = 59,
     KESVUOT_CHAIN_BIND = 60,
+    KESVUOT_EXPORT_NODE = 64,
+    KESVUOT_EXPORT_TOTAL = 65,
+    KESVUOT_EXPORT_TERMINAL = 66,
+    KESVUOT_EXPORT_LIBRARY = 67,
+    KESVUOT_EXPORT_ADDRESS = 68,
     KESVUOT_FUNCTION_NUMBER = 61,
     KESVUOT_FUNCTION_START = 62,
     KESVUOT_DATA_IN_CODE = 63
@@ -172,12 +177,12 @@ uint32_t kesvuot_verify_strictly(const void *file, size_t size, struct kesvuot_v
 
 /* Judges a file as kesvuot_verify_strictly does, and then by the rules of the linked profile: where the linked data of
  * an image lies, what the opcodes of LC_DYLD_INFO and LC_DYLD_INFO_ONLY, the table of LC_DYLD_CHAINED_FIXUPS and the
- * chains of pointers in the pages ask a dynamic loader for, and where functions start and data is in code. LINKED.md
- * says what that means.
+ * chains of pointers in the pages ask a dynamic loader for, what the image exports, and where functions start and data
+ * is in code. LINKED.md says what that means.
  * Every file that is OK here is also OK for kesvuot_verify_strictly.
  * Memory can run out wherever it can for kesvuot_verify_strictly. Otherwise it can run out only in a file that breaks
- * no rule of kesvuot_verify_strictly, and only if some slice has more than 16 mapped segments, or several executable
- * ones that have bytes in the file. */
+ * no rule of kesvuot_verify_strictly, and only if some slice has more than 16 mapped segments, several executable ones
+ * that have bytes in the file, or an export trie. */
 uint32_t kesvuot_verify_linked(const void *file, size_t size, struct kesvuot_verdict *verdict);
 
 /* Writes the layout of an accepted file as text, as macho-check prints it: up to `max` bytes, from its first byte on.

@@ -43,7 +43,7 @@ static void try_version_and_rules(void) {
         CHECK(name.size == strlen(name.at) && name.size > 0);
         CHECK(kesvuot_rule_name(rule) == name.at);
     }
-    CHECK(rule > KESVUOT_DATA_IN_CODE);
+    CHECK(rule > KESVUOT_EXPORT_ADDRESS);
     try_no_rule(rule);
     try_no_rule(0);
     try_no_rule(UINT32_MAX);
@@ -215,7 +215,7 @@ static void try_explanations(void) {
     CHECK(found.first.start + found.first.size == library.size && found.second.kind == KESVUOT_PART_FILE);
     CHECK(found.value == library.size && found.limit == cut && found.slice == 1);
     CHECK(found.command == KESVUOT_NO_INDEX && found.section == KESVUOT_NO_INDEX && found.symbol == KESVUOT_NO_INDEX);
-    const struct kesvuot_verdict none[] = {{.rule = 0}, {.rule = KESVUOT_DATA_IN_CODE + 1}, {.rule = UINT32_MAX},
+    const struct kesvuot_verdict none[] = {{.rule = 0}, {.rule = KESVUOT_EXPORT_ADDRESS + 1}, {.rule = UINT32_MAX},
         {.rule = KESVUOT_MAGIC, .place = 1}, {.rule = KESVUOT_SEGMENT_FILE, .place = UINT64_MAX}};
     for (size_t index = 0; index < sizeof none / sizeof *none; index++) {
         memset(&found, UNWRITTEN, sizeof found);

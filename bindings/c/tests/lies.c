@@ -169,7 +169,7 @@ static void take_explanation(size_t size) {
         kesvuot_verify_linked(file.bytes, size, &verdict);
     }
     if (!verdict.rule || draw_below(4) == 0) {
-        verdict.rule = (uint32_t)(draw_below(8) ? draw_below(KESVUOT_DATA_IN_CODE + 2) : draw());
+        verdict.rule = (uint32_t)(draw_below(8) ? draw_below(KESVUOT_EXPORT_ADDRESS + 2) : draw());
         verdict.place = lie(draw_below(2) ? verdict.place : 4 * draw_below(0x100));
     }
     verdict.slices = draw();

@@ -37,7 +37,7 @@ MOST_NAMES = 20
 # The tables whose contents each profile judges in part, and those whose contents the linked profile judges.
 JUDGED_TABLES = {"symbols", "strings", "indirect symbols"}
 JUDGED_BY_LINKED = {"rebase opcodes", "bind opcodes", "weak bind opcodes", "lazy bind opcodes", "chained fixups",
-                    "function starts", "data in code"}
+                    "export trie", "exports trie", "function starts", "data in code"}
 
 Rows = List[Tuple[str, ...]]
 

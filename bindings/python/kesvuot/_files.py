@@ -462,8 +462,8 @@ def verify_file(path: Union[str, bytes, "os.PathLike[str]", "os.PathLike[bytes]"
 def verify_linked(data: Data) -> File:
     """Judges a file by the rules of the strict profile, and then by those of docs/LINKED.md: where the linked data of
     an image lies, what the opcodes of LC_DYLD_INFO and LC_DYLD_INFO_ONLY, the table of LC_DYLD_CHAINED_FIXUPS and the
-    chains of pointers in the pages ask a dynamic loader for, and where functions start and data is in code. Raises what
-    `verify` raises."""
+    chains of pointers in the pages ask a dynamic loader for, what the image exports, and where functions start and data
+    is in code. Raises what `verify` raises."""
     return _judge(data, load().kesvuot_verify_linked)
 
 

@@ -107,8 +107,8 @@ pub fn verify_strictly(file: &[u8]) -> Result<Verified<'_>, Error> {
 /// Judges a file by the rules of the linked profile too, after those of [`verify_strictly`]: where
 /// the linked data of an image lies, what the opcodes of `LC_DYLD_INFO` and `LC_DYLD_INFO_ONLY`, the
 /// table of `LC_DYLD_CHAINED_FIXUPS` and the chains of pointers in the pages ask a dynamic loader for,
-/// and where functions start and data is in code. `docs/LINKED.md` says what that means. Whatever is
-/// accepted here is accepted by [`verify_strictly`].
+/// what the image exports, and where functions start and data is in code. `docs/LINKED.md` says what
+/// that means. Whatever is accepted here is accepted by [`verify_strictly`].
 ///
 /// # Errors
 ///

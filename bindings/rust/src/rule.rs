@@ -174,6 +174,16 @@ rules! {
     ChainSlot = 59,
     /// Linked: a pointer of a chain binds an import that is not there.
     ChainBind = 60,
+    /// Linked: a node of the export trie does not end in the table.
+    ExportNode = 64,
+    /// Linked: the nodes of the export trie, each as often as it is met, have more bytes than the table.
+    ExportTotal = 65,
+    /// Linked: an export does not end where its node says, or has flags that are not known.
+    ExportTerminal = 66,
+    /// Linked: an export is of a library that is not there.
+    ExportLibrary = 67,
+    /// Linked: the address of an export, or its resolver, is in no segment.
+    ExportAddress = 68,
     /// Linked: a number of the function starts does not end, or a byte after the last one is not 0.
     FunctionNumber = 61,
     /// Linked: a function does not start in the file bytes of a mapped segment.
