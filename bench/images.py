@@ -71,7 +71,13 @@ whose LC_MAIN names an address of no segment. That breaks the last rule, so all 
     starts-N-shuffled               N segments of 16 bytes in no order, each with a function
     dice-N                          N entries of data in code, in no order, each of 8 of the 16 bytes of a function
     dice-N-shuffled                 N executable segments of 16 bytes in no order, each with an entry, in another order
-    exports-N                       an export trie of N nodes, each with an edge of no bytes to the next, so that a
+    exports-N                       an export trie with N exports, a power of ten: the address of each 16 bytes of a text.
+                                    Their names are numbers, and each digit has a node
+    exports-N-shuffled              N segments of 16 bytes in no order, each with an export
+    trie-Nm                         an export trie of N MiB, a power of two, without exports. Its nodes have two edges or
+                                    none
+    trie-N-deep                     an export trie of N nodes, each below the one before, and an export
+    path-N                          an export trie of N nodes, each with an edge of no bytes to the next, so that a
                                     look-up of any name passes all. The last one has no edge. Accepted
 """
 
@@ -646,16 +652,88 @@ def data_in_code(out: BinaryIO, count: int, order: str) -> str:
     return with_functions(out, LC_DATA_IN_CODE, FUNCTION_SIZE * count, [], table_of)
 
 
+def long_number(number: int, size: int) -> bytes:
+    """A number as a ULEB128 of so many bytes, with zeros at its end."""
+    return bytes(number >> 7 * k & 0x7F | 0x80 for k in range(size - 1)) + bytes((number >> 7 * (size - 1),))
+
+
+# The offset of a child has four bytes. These are the first two of it, by its lower 14 bits, and the last two, by the
+# upper ones.
+CHILD_SIZE, HALF_BITS = 4, 14
+LOWER_HALVES = [bytes((half & 0x7F | 0x80, half >> 7 | 0x80)) for half in range(1 << HALF_BITS)]
+UPPER_HALVES = [bytes((half & 0x7F | 0x80, half >> 7)) for half in range(1 << HALF_BITS)]
+
+
+def child(place: int) -> bytes:
+    return LOWER_HALVES[place & (1 << HALF_BITS) - 1] + UPPER_HALVES[place >> HALF_BITS]
+
+
+def trie(labels: list[bytes], height: int, leaf: Callable[[int], bytes]) -> bytes:
+    """An export trie whose nodes have an edge for each label, with its zero byte, down to the leaves, which all have one
+    size. A child comes past its parent, and past all that is below an earlier child."""
+    own = 2 + sum(len(label) + CHILD_SIZE for label in labels)
+    sizes = [len(leaf(0))]
+    for _ in range(height):
+        sizes.append(own + len(labels) * sizes[-1])
+
+    def below(place: int, level: int, first: int) -> bytes:
+        parts = [head]
+        places = range(place + own, place + sizes[level], sizes[level - 1])
+        for label, it in zip(labels, places):
+            parts += (label, child(it))
+        if level == 1:
+            parts += map(leaf, range(first, first + len(labels)))
+        else:
+            leaves = len(labels) ** (level - 1)
+            parts += [below(it, level - 1, first + k * leaves) for k, it in enumerate(places)]
+        return b"".join(parts)
+
+    head = bytes((0, len(labels)))
+    return below(0, height, 0)
+
+
+def export(address: int) -> bytes:
+    """A node with an export at an address, and without edges."""
+    number = long_number(address, 5)
+    return bytes((1 + len(number), 0)) + number + b"\0"
+
+
+DIGITS = [b"%d\0" % digit for digit in range(10)]
+
+
+def exports(out: BinaryIO, count: int, order: str) -> str:
+    """The exports are in the text, or if there is an order each is in a segment of its own."""
+    height = len(str(count)) - 1
+    assert count == 10 ** height
+    if order:
+        table = trie(DIGITS, height, lambda number: export(FAR - BASE + 2 * PAGE * number))
+        return with_functions(out, LC_DYLD_EXPORTS_TRIE, 0, ordered(count, order), lambda start: table)
+    return with_functions(out, LC_DYLD_EXPORTS_TRIE, FUNCTION_SIZE * count, [], lambda start: trie(
+        DIGITS, height, lambda number: export(start + FUNCTION_SIZE * number)))
+
+
+def empty_trie(out: BinaryIO, mebibytes: int) -> str:
+    """A node with edges and one without have 16 bytes."""
+    height = (mebibytes * MIB // 16).bit_length() - 1
+    assert 16 * 2 ** height == mebibytes * MIB
+    table = trie([b"a\0", b"b\0"], height, lambda number: b"\0\0")
+    return with_functions(out, LC_DYLD_EXPORTS_TRIE, 0, [], lambda start: table)
+
+
+def deep_trie(out: BinaryIO, count: int) -> str:
+    table = b"".join(b"\0\1a\0" + child(8 * k) for k in range(1, count)) + export(0)
+    return with_functions(out, LC_DYLD_EXPORTS_TRIE, 0, [], lambda start: table)
+
+
 def chained_nodes(count: int) -> Iterator[bytes]:
     """So many nodes of 7 bytes, but for the last: no symbol, one edge, no bytes, and the offset of the next node in
     four bytes."""
     for k in range(1, count):
-        digits = [7 * k >> shift & 0x7F for shift in (0, 7, 14, 21)]
-        yield bytes([0, 1, 0, *(digit | 0x80 for digit in digits[:3]), digits[3]])
+        yield b"\0\1\0" + child(7 * k)
     yield bytes(2)
 
 
-def exports(out: BinaryIO, count: int) -> str:
+def long_path(out: BinaryIO, count: int) -> str:
     trie = b"".join(chained_nodes(count))
     place = HEADER_SIZE + SEGMENT_SIZE + LINKEDIT_DATA_SIZE + MAIN_SIZE
     size = place + len(trie)
@@ -687,7 +765,8 @@ SIZED = {
     "plain": plain,
     "chains": chains,
     "pointers": chained_pointers,
-    "exports": exports,
+    "path": long_path,
+    "trie": empty_trie,
 }
 
 
@@ -721,6 +800,10 @@ def maker(name: str) -> Callable[[BinaryIO], str]:
         return partial(function_starts, count=size, order=order)
     if kind == "dice":
         return partial(data_in_code, count=size, order=order)
+    if kind == "exports":
+        return partial(exports, count=size, order=order)
+    if kind == "trie" and order == "deep":
+        return partial(deep_trie, count=size)
     return lambda out: SIZED[kind](out, size)
 
 
