@@ -1238,7 +1238,7 @@ def walk(image):
 
 def walk_once(image, table):
     nodes = []
-    total = 0
+    left = table.end - table.start
     waiting = [0]
     while waiting:
         # A child that is not in the table would begin past its end.
@@ -1247,8 +1247,8 @@ def walk_once(image, table):
             node = read_node(image, table, place)
         except Malformed:
             return nodes, ("export_node", place)
-        total += node.end - place
-        if total > table.end - table.start:
+        left -= node.end - place
+        if left < 0:
             return nodes, ("export_total", place)
         nodes.append(node)
         # The first child is met next, and what is below it before the second.
