@@ -19,7 +19,8 @@ import oracle  # pylint: disable=wrong-import-position
 NO_INDEX, MOST = 2 ** 32 - 1, 2 ** 64 - 1
 KINDS = """none file magic fat_header fat_table fat_arch slice header headers command segment segment_memory section
 section_bytes section_memory relocations table group name symbol indirect opcode byte chain_header chain_array
-chain_entry chain_starts chain_import page_start chain_pointer function_start data_in_code_entry data_in_code""".split()
+chain_entry chain_starts chain_import page_start chain_pointer function_start data_in_code_entry data_in_code
+export_node""".split()
 # What has addresses or indices in place of offsets.
 OF_NUMBERS = {"segment_memory", "section_memory", "group"}
 
@@ -66,7 +67,8 @@ def explain(data: bytes, rule: str, place: int) -> Explanation:
     if name in OF_FILE:
         found = OF_FILE[name](file, place)
         return found._replace(value=most(found.value), limit=most(found.limit))
-    index = slice_with(file, place - (rule == "command-walk"))
+    # The place of these rules can be just past the slice.
+    index = slice_with(file, place - (rule in ("command-walk", "export-node")))
     image = file.slices[index]
     found = OF_IMAGE[name](image, place - image.start)
     parts = [in_file(file, image, index, part) for part in found[:3]]
@@ -779,8 +781,53 @@ def chain_bind(image: Any, place: int) -> Explanation:
 
 
 def linked_table(image: Any, kind: str) -> Part:
-    """The table of an LC_FUNCTION_STARTS or LC_DATA_IN_CODE."""
-    return table_parts(image, listed_at(image, oracle.table_of(image, kind).command))[0]
+    """The table of this kind, of which there is one."""
+    table = oracle.table_of(image, kind)
+    return next(part for part in table_parts(image, listed_at(image, table.command))
+                if (part.start, part.size) == (table.start, table.end - table.start))
+
+
+def of_node(image: Any, place: int, value: int, limit: int) -> Explanation:
+    table = oracle.table_of(image, "exports")
+    try:
+        end = oracle.read_node(image, table, place).end
+    except oracle.Malformed:
+        end = table.end
+    return Explanation(structure("export_node", place, end - place), linked_table(image, "exports"), NONE, value, limit)
+
+
+def export_node(image: Any, place: int) -> Explanation:
+    table = oracle.table_of(image, "exports")
+    return of_node(image, place, place - table.start, table.end - table.start)
+
+
+def export_total(image: Any, place: int) -> Explanation:
+    table = oracle.table_of(image, "exports")
+    return of_node(image, place, oracle.read_node(image, table, place).end - place, table.end - table.start)
+
+
+def export_terminal(image: Any, place: int) -> Explanation:
+    node = oracle.read_node(image, oracle.table_of(image, "exports"), place)
+    try:
+        flags = oracle.operand(image.data, node.start, node.terminal_end, "number")[0]
+    except oracle.Malformed:
+        flags = 0
+    return of_node(image, place, flags, oracle.EXPORT_SYMBOL_FLAGS)
+
+
+def export_at(image: Any, place: int) -> Any:
+    return oracle.read_export(image, oracle.read_node(image, oracle.table_of(image, "exports"), place))
+
+
+def export_library(image: Any, place: int) -> Explanation:
+    return of_node(image, place, export_at(image, place).ordinal, oracle.library_count(image))
+
+
+def export_address(image: Any, place: int) -> Explanation:
+    addresses = (image.base + offset for offset in export_at(image, place).offsets)
+    address = next(it for it in addresses if not any(segment.vmaddr <= it < segment.vmaddr + segment.vmsize
+                                                     for segment in image.segments))
+    return of_node(image, place, address, 0)
 
 
 def function_number(image: Any, place: int) -> Explanation:
@@ -825,5 +872,6 @@ OF_IMAGE = {rule.__name__: rule for rule in (
     header_segment, segment_file_overlap, element_overlap, stray_byte, encrypted_range, command_slack, unclaimed_byte,
     table_repeated, function_variants, table_home, header_home, rebase_opcode, bind_opcode, bind_library, bind_symbol,
     bind_names, chain_header, chain_starts, chain_imports, chain_total, chain_library, chain_slot, chain_bind,
-    function_number, function_start, data_in_code)}
+    export_node, export_total, export_terminal, export_library, export_address, function_number, function_start,
+    data_in_code)}
 OF_IMAGE.update(rebase_slot=bad_slot, bind_slot=bad_slot, rebase_total=total, bind_total=total)

@@ -1029,7 +1029,7 @@ static void check_explanation(const uint8_t *file, size_t size, const struct kes
         if (status == KESVUOT_OK) {
             CHECK(found.at.start <= asked.place && asked.place - found.at.start <= found.at.size);
             CHECK(found.at.start <= size && found.at.size <= size - found.at.start);
-            CHECK(found.at.kind > KESVUOT_PART_NONE && found.at.kind <= KESVUOT_PART_DATA_IN_CODE);
+            CHECK(found.at.kind > KESVUOT_PART_NONE && found.at.kind <= KESVUOT_PART_EXPORT_NODE);
         } else {
             CHECK(found.at.kind == KESVUOT_PART_NONE && found.slice == KESVUOT_NO_INDEX);
         }

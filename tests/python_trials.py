@@ -152,7 +152,7 @@ def explain_vectors(report):
              for _, vectors in oracle_trials.read_all_vectors(profile) for vector in vectors]
     report.alike("explanations", "refusals", ((name, said[2], wanted_explanation(data, *said[:2]))
                                               for name, data, said in found if said))
-    report.case("rules that are explained", len({said[0] for _, _, said in found if said}), 63)
+    report.case("rules that are explained", len({said[0] for _, _, said in found if said}), 68)
     other = kesvuot.Refused("section-file", 1 << 64), kesvuot.Refused("no-rule", 0), kesvuot.Refused("magic", 1)
     report.case("no refusals of these bytes", [kesvuot.explain(b"", refused) for refused in other], [None, None, None])
 

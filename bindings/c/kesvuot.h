@@ -268,7 +268,9 @@ enum {
     KESVUOT_PART_CHAIN_POINTER = 29,  /* a pointer of a chain, 8 bytes, with the index of its page */
     KESVUOT_PART_FUNCTION_START = 30, /* a number of LC_FUNCTION_STARTS */
     KESVUOT_PART_DATA_IN_CODE_ENTRY = 31, /* data_in_code_entry, with the index of kesvuot_read_data_in_code */
-    KESVUOT_PART_DATA_IN_CODE = 32    /* the bytes of the file that it describes, with the same index */
+    KESVUOT_PART_DATA_IN_CODE = 32,   /* the bytes of the file that it describes, with the same index */
+    KESVUOT_PART_EXPORT_NODE = 33     /* a node of an export trie, up to the end of its last edge, or if it does not end
+                                         in the table, up to the end of that: no bytes if it would begin past it */
 };
 
 /* A structure, or what a structure describes. A part lies where the file says, which can be past the file. */

@@ -38,6 +38,7 @@ const (
 	FunctionStart PartKind = 30
 	DataEntry     PartKind = 31
 	DataBytes     PartKind = 32
+	ExportNode    PartKind = 33
 )
 
 // NoIndex is the index of nothing.

@@ -177,10 +177,10 @@ static void take_explanation(size_t size) {
     calls++;
     if (status == KESVUOT_OK) {
         explained++;
-        CHECK(found.at.kind > KESVUOT_PART_NONE && found.at.kind <= KESVUOT_PART_DATA_IN_CODE);
+        CHECK(found.at.kind > KESVUOT_PART_NONE && found.at.kind <= KESVUOT_PART_EXPORT_NODE);
         CHECK(found.at.start <= verdict.place && verdict.place - found.at.start <= found.at.size);
         CHECK(found.at.start <= size && found.at.size <= size - found.at.start);
-        CHECK(found.first.kind <= KESVUOT_PART_DATA_IN_CODE && found.second.kind <= KESVUOT_PART_DATA_IN_CODE);
+        CHECK(found.first.kind <= KESVUOT_PART_EXPORT_NODE && found.second.kind <= KESVUOT_PART_EXPORT_NODE);
     } else {
         CHECK(status == KESVUOT_NONE && memcmp(&found, &none, sizeof none) == 0);
     }

@@ -145,6 +145,8 @@ class Case:
             return f"entry {wanted.index} of data in code"
         if wanted.kind == "data-in-code":
             return f"the data of entry {wanted.index}"
+        if wanted.kind == "export-node":
+            return f"the node at {wanted.start:#x}"
         if wanted.kind == "group":
             return f"the group of {GROUPS[wanted.index or 0]} symbols"
         part = self.found(wanted)

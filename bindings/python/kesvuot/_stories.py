@@ -507,6 +507,29 @@ def _chain_bind(it: Teller) -> Story:
                     "imports_count")
 
 
+def _export_node(it: Teller) -> Story:
+    if it.value >= it.limit:
+        return it.story(f"an edge leads past the end of {it.first}, which has {count_text(it.limit, 'byte')}.",
+                        "offset of the node", "size of the table")
+    return it.story(f"{it.at} does not end in {it.first}, or a number of it is too large.", "offset of the node",
+                    "size of the table")
+
+
+def _export_total(it: Teller) -> Story:
+    return it.story(f"with {it.at}, the nodes that are met have more bytes than {it.first}, which has {it.limit}.",
+                    "bytes of the node", "size of the table")
+
+
+def _export_terminal(it: Teller) -> Story:
+    return it.story(f"the export of {it.at} has the flags {it.value:#x}, and is not read exactly to its end, or has flags "
+                    "that are not known.", "flags", "flags that are known")
+
+
+def _export_address(it: Teller) -> Story:
+    where = "past all addresses" if it.value == MOST else f"to {it.value:#x}"
+    return it.story(f"{it.at} leads {where}, which is in no segment.", "address")
+
+
 def _function_number(it: Teller) -> Story:
     if _is_past_zero(it):
         return it.story(f"the byte {it.value:02x} is past the number 0, which ends {it.first}.", "byte")
@@ -586,6 +609,8 @@ STORIES: Dict[str, Callable[[Teller], Story]] = {
     "bind-total": _total, "bind-names": _bind_names, "chain-header": _chain_header, "chain-starts": _chain_starts,
     "chain-imports": _chain_imports, "chain-total": _chain_total,
     "chain-library": lambda it: _library(it, "is of"), "chain-slot": _chain_slot, "chain-bind": _chain_bind,
+    "export-node": _export_node, "export-total": _export_total, "export-terminal": _export_terminal,
+    "export-library": lambda it: _library(it, "is of"), "export-address": _export_address,
     "function-number": _function_number, "function-start": _function_start, "data-in-code": _data_in_code}
 
 

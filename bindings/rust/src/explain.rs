@@ -97,6 +97,9 @@ kinds! {
     DataInCodeEntry = 31,
     /// The bytes that it describes, with the same index.
     DataInCode = 32,
+    /// A node of an export trie, up to the end of its last edge, or if it does not end in the table,
+    /// up to the end of that: no bytes if it would begin past it.
+    ExportNode = 33,
 }
 
 /// A structure, or what a structure describes. It lies where the file says, which can be past the
