@@ -71,11 +71,11 @@ whose LC_MAIN names an address of no segment. That breaks the last rule, so all 
     starts-N-shuffled               N segments of 16 bytes in no order, each with a function
     dice-N                          N entries of data in code, in no order, each of 8 of the 16 bytes of a function
     dice-N-shuffled                 N executable segments of 16 bytes in no order, each with an entry, in another order
-    exports-N                       an export trie with N exports, a power of ten: the address of each 16 bytes of a text.
-                                    Their names are numbers, and each digit has a node
+    exports-N                       an export trie with N exports, a power of ten, whose names are numbers. Each digit
+                                    has a node, and each 16 bytes of a text an export
     exports-N-shuffled              N segments of 16 bytes in no order, each with an export
-    trie-Nm                         an export trie of N MiB, a power of two, without exports. Its nodes have two edges or
-                                    none
+    trie-Nm                         an export trie of N MiB, a power of two, without exports. Its nodes have two
+                                    edges or none
     trie-N-deep                     an export trie of N nodes, each below the one before, and an export
     path-N                          an export trie of N nodes, each with an edge of no bytes to the next, so that a
                                     look-up of any name passes all. The last one has no edge. Accepted
@@ -669,8 +669,8 @@ def child(place: int) -> bytes:
 
 
 def trie(labels: list[bytes], height: int, leaf: Callable[[int], bytes]) -> bytes:
-    """An export trie whose nodes have an edge for each label, with its zero byte, down to the leaves, which all have one
-    size. A child comes past its parent, and past all that is below an earlier child."""
+    """An export trie whose nodes have an edge for each label, with its zero byte, down to the leaves, which all have
+    one size. A child comes past its parent, and past all that is below an earlier child."""
     own = 2 + sum(len(label) + CHILD_SIZE for label in labels)
     sizes = [len(leaf(0))]
     for _ in range(height):
