@@ -190,11 +190,11 @@ fn survey(chains: Bytes, header: ChainHeader, libraries: u64) -> ImportSurvey
         let import = Import::read(chains, header.imports_format, offset);
         let name = header.name_of(import);
         let is_shared = may_share(chains, before, name);
-        let is_unknown = import.ordinal.is_no_library(libraries);
+        note_if(&mut shared, is_shared, offset);
         before = Some(name);
         note_if(&mut found.imports, name >= end, offset);
+        let is_unknown = import.ordinal.is_no_library(libraries);
         note_if(&mut found.library, is_unknown, offset);
-        note_if(&mut shared, is_shared, offset);
     }
     match (shared, found.imports) {
         // The names share no byte, and end in the table, so they have no more bytes than it.

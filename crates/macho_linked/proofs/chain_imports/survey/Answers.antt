@@ -25,7 +25,7 @@ loop-index-preserved c =
     walked_more c.args.libraries chains header index c.loop-index.before c.loop-index.shared c.loop-index.found c.loop-index.invariant c.import_offset-offset.result c.import_offset-offset.ensures
     c.name_of-name.result _ _ _ _ _ name c.may_share-is_shared.ensures endless
     (subst (λ (i : Import). IsTrue c.is_no_library-is_unknown.result ↔ IsNoLibrary c.args.libraries i.ordinal) import c.is_no_library-is_unknown.ensures)
-    refl c.note_if-in-loop-index-2.ensures c.note_if.ensures c.note_if-in-loop-index.ensures
+    refl c.note_if.ensures c.note_if-in-loop-index.ensures c.note_if-in-loop-index-2.ensures
 
 pub returns-in-None-None : goal.returns-in-None-None
 returns-in-None-None c =
