@@ -1,6 +1,6 @@
 -- From what is found in the table of the chained fixups to the places in the image.
 use Rattle.std.proofs.Common.{◌≡◌, ℕ, ◌+◌, ◌^◌, ◌≤◌, ◌<◌, ◌⊎◌, List, [], ◌∷◌, length, Contains, Option, Some, None, lit<, refl, sym, ap, ◌∙◌, subst, arith, inl, inr}
-use Rattle.std.specs.Prelude.{IsSomeAnd}
+use Rattle.std.specs.Prelude.{IsSomeAnd, MatchOption}
 use Rattle.std.specs.Option.{option_map}
 use Rattle.std.proofs.lemmas.Bool.{cases_lt}
 use Rattle.std.proofs.lemmas.Bool.Decides.{leb_tells}
@@ -20,7 +20,7 @@ use Rattle.macho_spans.specs.declared.span.Span.{Span}
 use Rattle.macho_linked.specs.ChainHeader.{chain_header}
 use Rattle.macho_linked.specs.ChainImports.{AtImport, import_bits, HasNoNameEnd, PassesTable, IsOfNoLibrary, BreaksChainImports, BreaksChainTotal, BreaksChainLibrary}
 use Rattle.macho_linked.specs.ChainStarts.{entry_offset, HasBadEntries, HasBadStarts, BreaksChainStarts}
-use Rattle.macho_linked.specs.Chains.{chained_fixups, IsChainTable, NoHeader, HasHeader, BadStarts, BadImports, LongNames, UnknownLibrary, InChainTable, InChains, InNoBytes, BreaksChainHeader, AreLeastInChains, AreLeastInTable, AreLeastInImage, ChainsFitAt, moved_chains, unbroken_chains}
+use Rattle.macho_linked.specs.Chains.{chained_fixups, IsChainTable, IsTableOf, AreChainedFixups, NoHeader, HasHeader, BadStarts, BadImports, LongNames, UnknownLibrary, InChainTable, InChains, InNoBytes, BreaksChainHeader, AreLeastInChains, AreLeastInTable, AreLeastInImage, ChainsFitAt, moved_chains, unbroken_chains}
 use Rattle.macho_linked.specs.Homes.{bytes_of_table}
 use Rattle.macho_linked.specs.Items.{AtItem}
 use Rattle.macho_linked.specs.Limits.{library_count}
@@ -28,6 +28,8 @@ use Rattle.macho_linked.specs.declared.chain_header.ChainHeader.{ChainHeader}
 use Rattle.macho_linked.specs.declared.chain_header.ImportFormat.{ImportFormat}
 use Rattle.macho_linked.specs.declared.chain_header.ImportFormat.TheVariants as format
 use Rattle.macho_linked.specs.declared.chains.ChainSurvey.{ChainSurvey}
+use Rattle.macho_linked.specs.declared.chains.ChainTable.{ChainTable}
+use Rattle.macho_linked.specs.declared.chains.ChainedFixups.{ChainedFixups}
 use Rattle.macho_linked.proofs.ChainImports.{import_inside}
 use Rattle.macho_linked.proofs.Items.{least_where, least_other}
 use Rattle.macho_linked.proofs.NamedTables.{LieInside, table_named, table_inside, bounds_inside}
@@ -150,6 +152,13 @@ survey_moved image table survey some are = record {
     at Rule found least = least_where (0 < table.1) _ _ some (least_moved (Rule image (part table.0 table.1 image)) table.0 found least)
 
 -- The table of an image
+
+-- what was read of it
+pub table_read : (image : List ℕ) (fixups : ChainedFixups) (table : ChainTable) → AreChainedFixups image fixups → fixups.table ≡ Some table → IsTableOf image table
+table_read image fixups table are is = subst (λ (found : Option ChainTable). MatchOption found ((span : Span) → ¬ IsChainTable image span) (IsTableOf image)) is are.table
+
+pub none_read : (image : List ℕ) (fixups : ChainedFixups) → AreChainedFixups image fixups → fixups.table ≡ None → (span : Span) → ¬ IsChainTable image span
+none_read image fixups are is = subst (λ (found : Option ChainTable). MatchOption found ((span : Span) → ¬ IsChainTable image span) (IsTableOf image)) is are.table
 
 -- the bytes of the table that a command names
 pub chain_table_of : (image : List ℕ) (command : ℕ) → chained_fixups image ≡ Some command → 0 < (table_at image command linkedit_data_table).1

@@ -1,7 +1,8 @@
 -- The chained fixups of an image, and where they break their rules. A place is one in the image.
 -- (mach-o/loader.h: linkedit_data_command)
-use Rattle.std.specs.Prelude.{◌≡◌, ℕ, ◌+◌, ◌^◌, ◌<◌, ◌⊎◌, List, Option, None, IfSome, IsSomeAnd}
+use Rattle.std.specs.Prelude.{◌≡◌, ℕ, ◌+◌, ◌^◌, ◌<◌, ◌⊎◌, List, length, Option, None, IfSome, IsSomeAnd, MatchOption}
 use Rattle.std.specs.Option.{option_map}
+use Rattle.macho_fields.specs.Bytes.{bytes_of}
 use Rattle.macho_fields.specs.Field.{part}
 use Rattle.macho_fields.specs.FirstPlace.{IsLeastPlace}
 use Rattle.macho_fields.specs.Image.{commands_of}
@@ -16,6 +17,8 @@ use Rattle.macho_linked.specs.Homes.{bytes_of_table}
 use Rattle.macho_linked.specs.Limits.{library_count}
 use Rattle.macho_linked.specs.declared.chain_header.ChainHeader.{ChainHeader}
 use Rattle.macho_linked.specs.declared.chains.ChainSurvey.{ChainSurvey}
+use Rattle.macho_linked.specs.declared.chains.ChainTable.{ChainTable}
+use Rattle.macho_linked.specs.declared.chains.ChainedFixups.{ChainedFixups}
 use Rattle.macho_spans.specs.declared.span.Span.{Span}
 
 -- the command that names them, of which there is at most one after table-repeated
@@ -27,6 +30,18 @@ abbrev pub IsChainTable : List ℕ → Span → Type 0
 IsChainTable image table =
     IsSomeAnd (chained_fixups image)
     (λ command. (table ≡ bytes_of_table (table_at image command linkedit_data_table)) × (0 < table.len))
+
+-- the table that was read is that of the image: its start, its bytes, and the header with which they begin
+pub record IsTableOf (image : List ℕ) (table : ChainTable) : Type 0 where
+  pub named : IsChainTable image (record { start = table.start; len = length (bytes_of table.bytes) })
+  pub near : table.start + length (bytes_of table.bytes) < 2 ^ 64
+  pub bytes : bytes_of table.bytes ≡ part table.start (length (bytes_of table.bytes)) image
+  pub header : table.header ≡ chain_header (bytes_of table.bytes)
+
+-- the command of the image, and its table, where it has bytes
+pub record AreChainedFixups (image : List ℕ) (fixups : ChainedFixups) : Type 0 where
+  pub command : fixups.command ≡ chained_fixups image
+  pub table : MatchOption fixups.table ((table : Span) → ¬ IsChainTable image table) (IsTableOf image)
 
 -- The rules of an image and the bytes of its table, at an offset in the table. Where there is no header, no
 -- other rule is broken.

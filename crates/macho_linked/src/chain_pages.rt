@@ -14,7 +14,7 @@ ghost use Rattle.macho_linked.specs.Items.{OfItem};
 use crate::chain_header::ChainHeader;
 use crate::chain_pointers::ChainPointer;
 use crate::chain_starts::{SegmentStarts, half_at, has_bad_entries};
-use crate::chains::chain_table;
+use crate::chains::ChainedFixups;
 use crate::fixup_chains::{
     DYLD_CHAINED_PTR_START_NONE, DYLD_CHAINED_STARTS_IN_SEGMENT_SIZE, PAGE_START_SIZE,
     SEG_INFO_OFFSET_SIZE,
@@ -44,19 +44,19 @@ impl PointerSurvey {
     ghost use Rattle.macho_fields.specs.Rules.{BreaksImage as Breaks};
     ghost use Rattle.macho_linked.specs.ChainPages.{AreLeastPlaces, unbroken_pointers, joined_pointers};
     ghost use Rattle.macho_linked.specs.ChainPointers.{BreaksChainSlot, BreaksChainBind};
-    ghost use Rattle.macho_linked.specs.Chains.{InPointers};
+    ghost use Rattle.macho_linked.specs.Chains.{AreChainedFixups, InPointers};
 
     // Follows the chains of an image that breaks no rule of the layout. Each pointer is read once.
-    pub(crate) fn of(image: &Image) -> PointerSurvey
-        requires { NothingBreaks (Breaks image.now None) }
+    pub(crate) fn of(image: &Image, fixups: &ChainedFixups) -> PointerSurvey
+        requires unbroken { NothingBreaks (Breaks image.now None) }
+        requires fixups { AreChainedFixups image.now fixups.now }
         ensures { AreLeastPlaces (InPointers image.now BreaksChainSlot) (InPointers image.now BreaksChainBind) result }
     {
-        let Some(table) = chain_table(image) else {
+        let Some(table) = fixups.table else {
             return PointerSurvey::unbroken();
         };
-        let chains = image.bytes().slice(table);
-        match ChainHeader::read(chains) {
-            Some(header) => survey(image, table.start, chains, header),
+        match table.header {
+            Some(header) => survey(image, table.start, table.bytes, header),
             None => PointerSurvey::unbroken(),
         }
     }

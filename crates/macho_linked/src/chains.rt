@@ -1,12 +1,10 @@
 //! The chained fixups of an image, and where they first break each of their rules. (`mach-o/loader.h`:
 //! `linkedit_data_command`)
 
-ghost use Rattle.std.specs.Prelude.{◌≤◌, length, None, IfSome, MatchOption};
+ghost use Rattle.std.specs.Prelude.{◌≡◌};
 ghost use Rattle.macho_fields.specs.Bytes.{bytes_of};
-ghost use Rattle.macho_fields.specs.Layers.{NothingBreaks};
-ghost use Rattle.macho_fields.specs.Rules.{BreaksImage as Breaks};
-ghost use Rattle.macho_linked.specs.Chains.{AreLeastInTable, IsChainTable};
-ghost use Rattle.macho_spans.specs.Span.{end_of};
+ghost use Rattle.macho_linked.specs.ChainHeader.{chain_header};
+ghost use Rattle.macho_linked.specs.Chains.{AreLeastInTable};
 
 use crate::chain_header::ChainHeader;
 use crate::chain_imports::ImportSurvey;
@@ -14,10 +12,81 @@ use crate::chain_starts::chain_starts;
 use crate::homes::span_of;
 use crate::limits::library_count;
 use crate::streams::{bounded_at, first_place, place_from};
+use macho_fields::Bytes;
 use macho_fields::header::loader::LC_DYLD_CHAINED_FIXUPS;
 use macho_fields::header::loader::linkedit_data_command::DATAOFF;
-use macho_fields::{Bytes, Span};
 use macho_image::Image;
+
+/// The chained fixups of an image.
+#[derive(Clone, Copy, Debug)]
+pub struct ChainedFixups<'a> {
+    /// Where the command begins that names them, if there is one.
+    pub command: Option<u64>,
+    /// The table that it names, if this has bytes.
+    pub table: Option<ChainTable<'a>>,
+}
+
+/// A table of chained fixups.
+#[derive(Clone, Copy, Debug)]
+pub struct ChainTable<'a> {
+    /// Where it begins in the image.
+    pub start: u64,
+    /// Its bytes.
+    pub bytes: Bytes<'a>,
+    /// Its header, if this is known.
+    pub header: Option<ChainHeader>,
+}
+
+impl<'a> ChainedFixups<'a> {
+    ghost use Rattle.std.specs.Prelude.{None};
+    ghost use Rattle.macho_fields.specs.Layers.{NothingBreaks};
+    ghost use Rattle.macho_fields.specs.Rules.{BreaksImage as Breaks};
+    ghost use Rattle.macho_linked.specs.Chains.{AreChainedFixups};
+
+    /// Those of an image that breaks no rule of the layout.
+    pub fn of(image: &Image<'a>) -> ChainedFixups<'a>
+        requires { NothingBreaks (Breaks image.now None) }
+        ensures { AreChainedFixups image.now result }
+    {
+        match first_place(image, LC_DYLD_CHAINED_FIXUPS) {
+            Some(command) => ChainedFixups {
+                command: Some(command),
+                table: ChainTable::read(image, command),
+            },
+            None => ChainedFixups {
+                command: None,
+                table: None,
+            },
+        }
+    }
+}
+
+impl<'a> ChainTable<'a> {
+    ghost use Rattle.std.specs.Prelude.{◌≡◌, None, Some, MatchOption};
+    ghost use Rattle.macho_fields.specs.Layers.{NothingBreaks};
+    ghost use Rattle.macho_fields.specs.Rules.{BreaksImage as Breaks};
+    ghost use Rattle.macho_linked.specs.Chains.{chained_fixups, IsChainTable, IsTableOf};
+    ghost use Rattle.macho_spans.specs.declared.span.Span.{Span};
+
+    // The table that the command names. It is `None` if it has no bytes.
+    fn read(image: &Image<'a>, command: u64) -> Option<ChainTable<'a>>
+        requires unbroken { NothingBreaks (Breaks image.now None) }
+        requires named { chained_fixups image.now ≡ Some command }
+        ensures { MatchOption result
+            ((table : Span) → ¬ IsChainTable image.now table) (IsTableOf image.now) }
+    {
+        let span = span_of(image, command, bounded_at(DATAOFF));
+        if span.len == 0 {
+            return None;
+        }
+        let bytes = image.bytes().slice(span);
+        Some(ChainTable {
+            start: span.start,
+            bytes,
+            header: ChainHeader::read(bytes),
+        })
+    }
+}
 
 /// Where the chained fixups first break each of their rules.
 #[derive(Clone, Copy, Debug)]
@@ -36,20 +105,18 @@ pub struct ChainSurvey {
 }
 
 impl ChainSurvey {
-    ghost use Rattle.std.specs.Prelude.{◌≡◌, None};
-    ghost use Rattle.macho_fields.specs.Layers.{NothingBreaks};
-    ghost use Rattle.macho_fields.specs.Rules.{BreaksImage as Breaks};
-    ghost use Rattle.macho_linked.specs.Chains.{unbroken_chains, moved_chains, AreLeastInImage, ChainsFitAt};
+    ghost use Rattle.std.specs.Prelude.{◌≡◌};
+    ghost use Rattle.macho_linked.specs.Chains.{unbroken_chains, moved_chains, AreChainedFixups, AreLeastInImage, ChainsFitAt};
 
-    // Goes over the table of an image that breaks no rule of the layout. The places are those in the image.
-    pub(crate) fn of(image: &Image) -> ChainSurvey
-        requires { NothingBreaks (Breaks image.now None) }
+    // Goes over the table of the image. The places are those in the image.
+    pub(crate) fn of(image: &Image, fixups: &ChainedFixups) -> ChainSurvey
+        requires { AreChainedFixups image.now fixups.now }
         ensures { AreLeastInImage image.now result }
     {
-        match chain_table(image) {
-            Some(table) => survey(image, image.bytes().slice(table)).moved(table.start),
+        match fixups.table {
+            Some(table) => survey(image, table).moved(table.start),
             None => ChainSurvey {
-                header: first_place(image, LC_DYLD_CHAINED_FIXUPS),
+                header: fixups.command,
                 ..ChainSurvey::unbroken()
             },
         }
@@ -83,24 +150,13 @@ impl ChainSurvey {
     }
 }
 
-/// Where the table of the chained fixups is in an image that breaks no rule of the layout. It is `None` if no
-/// command names it, or it has no bytes.
-pub fn chain_table(image: &Image) -> Option<Span>
-    requires { NothingBreaks (Breaks image.now None) }
-    ensures table { MatchOption result
-        ((table : Span) → ¬ IsChainTable image.now table) (IsChainTable image.now) }
-    ensures inside { IfSome result (λ table. end_of table ≤ length image.now) }
+// Goes over the bytes of a table. The places are offsets in it.
+fn survey(image: &Image, table: ChainTable) -> ChainSurvey
+    requires { table.header ≡ chain_header (bytes_of table.bytes) }
+    ensures { AreLeastInTable image.now (bytes_of table.entry.bytes) result }
 {
-    let command = first_place(image, LC_DYLD_CHAINED_FIXUPS)?;
-    let table = span_of(image, command, bounded_at(DATAOFF));
-    if table.len > 0 { Some(table) } else { None }
-}
-
-// Goes over the bytes of the table. The places are offsets in it.
-fn survey(image: &Image, chains: Bytes) -> ChainSurvey
-    ensures { AreLeastInTable image.now (bytes_of chains.entry) result }
-{
-    let Some(header) = ChainHeader::read(chains) else {
+    let chains = table.bytes;
+    let Some(header) = table.header else {
         return ChainSurvey {
             header: Some(0),
             ..ChainSurvey::unbroken()

@@ -13,7 +13,7 @@ ghost use Rattle.macho_rules.specs.Verdict.{IsRefusalOf};
 ghost use Rattle.macho_strict.specs.Rules.{BreaksStrictImage};
 
 use crate::chain_pages::PointerSurvey;
-use crate::chains::ChainSurvey;
+use crate::chains::{ChainSurvey, ChainedFixups};
 use crate::data_in_code::data_in_code;
 use crate::function_starts::FunctionStartSurvey;
 use crate::homes::{header_home, table_home};
@@ -56,13 +56,14 @@ fn check_fixups(image: &Image) -> Result<(), Break>
     judge(image, Rule::BindSlot, binds.slot)?;
     judge(image, Rule::BindTotal, binds.total)?;
     judge(image, Rule::BindNames, binds.names)?;
-    let chains = ChainSurvey::of(image);
+    let fixups = ChainedFixups::of(image);
+    let chains = ChainSurvey::of(image, &fixups);
     judge(image, Rule::ChainHeader, chains.header)?;
     judge(image, Rule::ChainStarts, chains.starts)?;
     judge(image, Rule::ChainImports, chains.imports)?;
     judge(image, Rule::ChainTotal, chains.total)?;
     judge(image, Rule::ChainLibrary, chains.library)?;
-    let pointers = PointerSurvey::of(image);
+    let pointers = PointerSurvey::of(image, &fixups);
     judge(image, Rule::ChainSlot, pointers.slot)?;
     judge(image, Rule::ChainBind, pointers.bind)?;
     Ok(())
