@@ -3,6 +3,8 @@
 //! layout, a strict one or a linked one.
 
 mod judge;
+#[cfg(test)]
+mod tests;
 
 use judge::LinkedRules;
 use macho_program::{Program, Tool, run_process};
