@@ -28,6 +28,7 @@ use Rattle.macho_linked.specs.declared.streams.Stream.TheVariants as streams
 use Rattle.macho_linked.proofs.ChainTables.{no_header, bad_starts, bad_imports, long_names, unknown_library, chains_near}
 use Rattle.macho_linked.proofs.DataInCode.{bad_entry_near}
 use Rattle.macho_linked.proofs.DataTables.{data_near}
+use Rattle.macho_linked.proofs.ExportPlaces.{node_inside, total_inside, terminal_inside, library_inside, address_inside}
 use Rattle.macho_linked.proofs.PointerSurveys.{slots_near, binds_near}
 use Rattle.macho_linked.proofs.StartNumbers.{bad_number_near, stray_start_near}
 use Rattle.macho_linked.proofs.TableSurveys.{named_first, IsStreamRule, undecoded, no_library, no_name, no_slot, too_many, too_long}
@@ -92,6 +93,11 @@ module _ (image : List ℕ) (none : NothingBreaks (Breaks image None)) where
   place_inside rule.ChainLibrary place broken = chains_near image none UnknownLibrary (unknown_library image) place broken
   place_inside rule.ChainSlot place broken = slots_near image none place broken
   place_inside rule.ChainBind place broken = binds_near image none place broken
+  place_inside rule.ExportNode place broken = node_inside image none place broken
+  place_inside rule.ExportTotal place broken = total_inside image none place broken
+  place_inside rule.ExportTerminal place broken = terminal_inside image none place broken
+  place_inside rule.ExportLibrary place broken = library_inside image none place broken
+  place_inside rule.ExportAddress place broken = address_inside image none place broken
   place_inside rule.FunctionNumber place broken = data_near image loader.LC_FUNCTION_STARTS refl none BadNumber (bad_number_near image) place broken
   place_inside rule.FunctionStart place broken = data_near image loader.LC_FUNCTION_STARTS refl none StrayStart (stray_start_near image) place broken
   place_inside rule.DataInCode place broken = data_near image loader.LC_DATA_IN_CODE refl none BadEntry (bad_entry_near image) place broken

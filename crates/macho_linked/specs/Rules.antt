@@ -8,6 +8,7 @@ use Rattle.macho_fields.specs.declared.rule.Rule.TheVariants as rule
 use Rattle.macho_linked.specs.ChainPointers.{BreaksChainSlot, BreaksChainBind}
 use Rattle.macho_linked.specs.Chains.{BadStarts, BadImports, LongNames, UnknownLibrary, InChains, BreaksChainHeader, InPointers}
 use Rattle.macho_linked.specs.DataInCode.{BreaksDataInCode}
+use Rattle.macho_linked.specs.Exports.{BreaksExportNode, BreaksExportTotal, BreaksExportTerminal, BreaksExportLibrary, BreaksExportAddress}
 use Rattle.macho_linked.specs.Homes.{BreaksTableHome, BreaksHeaderHome}
 use Rattle.macho_linked.specs.Images.{Undecoded, NoLibrary, NoName, NoSlot, TooMany, TooLong, InRebases, InBinds}
 use Rattle.macho_linked.specs.Kinds.{BreaksTableRepeated, BreaksFunctionVariants}
@@ -35,6 +36,11 @@ BreaksImage image rule.ChainTotal place = InChains image LongNames place
 BreaksImage image rule.ChainLibrary place = InChains image UnknownLibrary place
 BreaksImage image rule.ChainSlot place = InPointers image BreaksChainSlot place
 BreaksImage image rule.ChainBind place = InPointers image BreaksChainBind place
+BreaksImage image rule.ExportNode place = BreaksExportNode image place
+BreaksImage image rule.ExportTotal place = BreaksExportTotal image place
+BreaksImage image rule.ExportTerminal place = BreaksExportTerminal image place
+BreaksImage image rule.ExportLibrary place = BreaksExportLibrary image place
+BreaksImage image rule.ExportAddress place = BreaksExportAddress image place
 BreaksImage image rule.FunctionNumber place = BreaksFunctionNumber image place
 BreaksImage image rule.FunctionStart place = BreaksFunctionStart image place
 BreaksImage image rule.DataInCode place = BreaksDataInCode image place

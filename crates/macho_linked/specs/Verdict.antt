@@ -9,12 +9,13 @@ use Rattle.macho_rules.specs.declared.refusal.Refusal.TheVariants as refusal
 use Rattle.macho_strict.specs.First.{IsStrictlyUnbroken}
 use Rattle.macho_strict.specs.Verdict.{IsStrictRefusal}
 use Rattle.macho_linked.specs.CodeParts.{HasSeveralCodeParts}
+use Rattle.macho_linked.specs.Exports.{HasExports}
 use Rattle.macho_linked.specs.FileBytes.{HasManySegments}
 use Rattle.macho_linked.specs.Rules.{IsBrokenIn, IsFirstLinkedBroken}
 
--- An image has many mapped segments, or several that may be executed.
+-- An image has exports, many mapped segments, or several that may be executed.
 abbrev pub TakesMemory : List ℕ → Type 0
-TakesMemory image = HasManySegments image ⊎ HasSeveralCodeParts image
+TakesMemory image = HasExports image ⊎ HasManySegments image ⊎ HasSeveralCodeParts image
 
 -- the image in a slice takes memory
 abbrev pub TakesMemoryIn : List ℕ → ℕ → Type 0

@@ -15,6 +15,7 @@ ghost use Rattle.macho_strict.specs.Rules.{BreaksStrictImage};
 use crate::chain_pages::PointerSurvey;
 use crate::chains::{ChainSurvey, ChainedFixups};
 use crate::data_in_code::data_in_code;
+use crate::exports::ExportSurvey;
 use crate::function_starts::FunctionStartSurvey;
 use crate::homes::{header_home, table_home};
 use crate::kinds::{function_variants, table_repeated};
@@ -33,6 +34,7 @@ pub(crate) fn check_image(alloc: Global, image: &Image) -> Result<(), Refusal>
     ensures refused { IfErr result (IsRefusalOf (BreaksImage image.now) (TakesMemory image.now)) }
 {
     check_fixups(image)?;
+    check_exports(alloc, image)?;
     check_functions(alloc, image)?;
     Ok(())
 }
@@ -66,6 +68,21 @@ fn check_fixups(image: &Image) -> Result<(), Break>
     let pointers = PointerSurvey::of(image, &fixups);
     judge(image, Rule::ChainSlot, pointers.slot)?;
     judge(image, Rule::ChainBind, pointers.bind)?;
+    Ok(())
+}
+
+// The rules of exports.
+fn check_exports(alloc: Global, image: &Image) -> Result<(), Refusal>
+    requires layout { NothingBreaks (Breaks image.now None) }
+    requires kept { KeptBelow (BreaksImage image.now) (rank Rule.ExportNode) }
+    ensures { ContinuesWithMemory (BreaksImage image.now) Rule.ExportAddress (TakesMemory image.now) result }
+{
+    let exports = ExportSurvey::of(alloc, image)?;
+    judge(image, Rule::ExportNode, exports.node)?;
+    judge(image, Rule::ExportTotal, exports.total)?;
+    judge(image, Rule::ExportTerminal, exports.terminal)?;
+    judge(image, Rule::ExportLibrary, exports.library)?;
+    judge(image, Rule::ExportAddress, exports.address)?;
     Ok(())
 }
 

@@ -8,7 +8,7 @@ use Rattle.macho_linked.proofs.check.check_functions.Goals as goal
 pub returns-in_err-functions : goal.returns-in_err-functions
 returns-in_err-functions c =
     let image = c.args.image.now in
-    without_memory (BreaksImage image) rule.DataInCode (TakesMemory image) (inl c.in_err-functions.ensures.memory) c.from_residual.result c.from_residual.ensures.1
+    without_memory (BreaksImage image) rule.DataInCode (TakesMemory image) (inr (inl c.in_err-functions.ensures.memory)) c.from_residual.result c.from_residual.ensures.1
 
 pub returns-in_err-judge : goal.returns-in_err-judge
 returns-in_err-judge c =
@@ -23,7 +23,7 @@ returns-in_err-judge-2 c =
 pub returns-in_err-data_in_code : goal.returns-in_err-data_in_code
 returns-in_err-data_in_code c =
     let image = c.args.image.now in
-    without_memory (BreaksImage image) rule.DataInCode (TakesMemory image) (inr c.in_err-data_in_code.ensures.memory) c.from_residual-in_err-data_in_code.result c.from_residual-in_err-data_in_code.ensures.1
+    without_memory (BreaksImage image) rule.DataInCode (TakesMemory image) (inr (inr c.in_err-data_in_code.ensures.memory)) c.from_residual-in_err-data_in_code.result c.from_residual-in_err-data_in_code.ensures.1
 
 pub returns-in_err-judge-3 : goal.returns-in_err-judge-3
 returns-in_err-judge-3 c =

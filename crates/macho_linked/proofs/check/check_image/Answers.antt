@@ -11,6 +11,12 @@ returns-in_err-check_fixups-clause-refused c =
     let image = c.args.image.now in
     passed_on (IsRefusalOf (BreaksImage image) (TakesMemory image)) c.from_residual.result (refusal.Broken c.in_err-check_fixups.field-0.0) c.from_residual.ensures.1 c.in_err-check_fixups.ensures
 
+pub returns-in_err-check_exports-clause-refused : goal.returns-in_err-check_exports-clause-refused
+returns-in_err-check_exports-clause-refused c =
+    let image = c.args.image.now in
+    passed_on (IsRefusalOf (BreaksImage image) (TakesMemory image)) c.from_residual-in_err-check_exports.result c.in_err-check_exports.field-0.0 c.from_residual-in_err-check_exports.ensures.1
+    c.in_err-check_exports.ensures
+
 pub returns-in_err-check_functions-clause-refused : goal.returns-in_err-check_functions-clause-refused
 returns-in_err-check_functions-clause-refused c =
     let image = c.args.image.now in
