@@ -590,9 +590,9 @@ uint32_t kesvuot_find_name(const void *file, size_t size, const struct kesvuot_i
 
 /* Exports
  *
- * What an image offers to other images under a name, by its export trie. No profile judges the trie yet. */
+ * What an image offers to other images under a name, by its export trie. Only the linked profile judges the trie. */
 
-struct kesvuot_export {       /* an export. No field of it is judged */
+struct kesvuot_export {       /* an export. Only kesvuot_verify_linked judges its fields */
     uint64_t flags;           /* EXPORT_SYMBOL_FLAGS_..: any number. With the mask KIND_MASK it is a regular symbol (0),
                                  a thread-local one (1) or an absolute one (2) */
     uint64_t address;         /* before any slide: the sum of the base and a number of the trie, modulo 2^64, but of an

@@ -391,7 +391,7 @@ func (image *Image) SymbolNamed(name string) (symbol Symbol, ok bool) {
 	return newSymbol(&row), true
 }
 
-// An Export is what an image offers to others under a name. No rule judges its fields.
+// An Export is what an image offers to others under a name. Only the linked profile judges its fields.
 type Export struct {
 	// Flags are bits of EXPORT_SYMBOL_FLAGS_.., or any other number. With EXPORT_SYMBOL_FLAGS_KIND_MASK it is a regular
 	// symbol, a thread-local one or an absolute one.
@@ -410,7 +410,7 @@ type Export struct {
 
 // FindExport returns what the image exports under this name, as a dynamic loader looks it up in the export trie: that of
 // LC_DYLD_EXPORTS_TRIE, or of LC_DYLD_INFO or LC_DYLD_INFO_ONLY. It is not ok if there is none, or if the bytes on the
-// way to it are no trie, which no profile judges yet. Each call rescans the load commands.
+// way to it are no trie, which only the linked profile judges. Each call rescans the load commands.
 func (image *Image) FindExport(name string) (export Export, ok bool) {
 	row, ok := findExport(image, name)
 	if !ok {

@@ -284,7 +284,8 @@ class Image(Slice):
     def find_export(self, name: Union[Data, str]) -> Optional[Export]:
         """What the image exports under this name, of bytes or of a text in UTF-8, as a dynamic loader looks it up in the
         export trie: that of LC_DYLD_EXPORTS_TRIE, or of LC_DYLD_INFO or LC_DYLD_INFO_ONLY. None if there is none, or if
-        the bytes on the way to it are no trie, which no profile judges yet. Each call rescans the load commands."""
+        the bytes on the way to it are no trie, which only the linked profile judges. Each call rescans the load
+        commands."""
         wanted, written = _bytes_of(name), ctypes.create_string_buffer(EXPORT.size)
         status = load().kesvuot_find_export(
             self._data.address, len(self._data), self._image, wanted.address, len(wanted), written)

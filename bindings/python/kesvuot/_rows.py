@@ -181,7 +181,7 @@ class DataInCode(NamedTuple):
 
 
 class Export(NamedTuple):
-    """What an image offers to others under a name. No rule judges its fields.
+    """What an image offers to others under a name. Only the linked profile judges its fields.
 
     `flags`: of EXPORT_SYMBOL_FLAGS_.., or any other number. With EXPORT_SYMBOL_FLAGS_KIND_MASK it is a regular symbol, a
     thread-local one or an absolute one

@@ -361,7 +361,7 @@ impl<'a> Image<'a> {
 
     /// What the image exports under this name, as a dynamic loader looks it up in the export trie: that of
     /// `LC_DYLD_EXPORTS_TRIE`, or of `LC_DYLD_INFO` or `LC_DYLD_INFO_ONLY`. `None` if there is none, or if the
-    /// bytes on the way to it are no trie, which no profile judges yet.
+    /// bytes on the way to it are no trie, which only the linked profile judges.
     ///
     /// Each call rescans the load commands. It takes no memory.
     ///

@@ -288,7 +288,7 @@ impl<'a> Row<'a> for DataInCode<'a> {
     }
 }
 
-/// What an image offers to others under a name. No rule judges its fields.
+/// What an image offers to others under a name. Only the linked profile judges its fields.
 #[derive(Clone, Copy, Debug, PartialEq, Eq)]
 #[non_exhaustive]
 pub struct Export<'a> {
