@@ -73,8 +73,8 @@ impl DataInCodeEntry {
         }
     }
 
-    // The bytes that it describes.
-    fn bytes(self) -> Span
+    /// The bytes that it describes.
+    pub fn bytes(self) -> Span
         ensures { result ≡ bytes_of_entry self }
     {
         Span {
@@ -98,8 +98,8 @@ fn lies_outside(code: &CodeParts, bytes: Span) -> bool
     bytes.len > 0 && !code.has(bytes)
 }
 
-// Whether the kind has a meaning.
-fn is_known_kind(kind: u16) -> bool
+/// Whether the kind has a meaning.
+pub fn is_known_kind(kind: u16) -> bool
     ensures { result ≡ is_known_kind_of kind }
 {
     matches!(

@@ -36,7 +36,8 @@ pub fn next_start(table: Bytes, address: u64) -> Option<(u64, u64)>
 /// Where the functions of an image first break each of their rules.
 #[derive(Clone, Copy, Debug)]
 pub struct FunctionStartSurvey {
-    /// The first number that has no 64 bits, or the first byte past the last number that is not 0.
+    /// Where a number should be and none of 64 bits is, or the first byte that is not 0 past the number 0 that
+    /// ends the table.
     pub number: Option<u64>,
     /// The number of the first function that is not at a byte of the file.
     pub start: Option<u64>,

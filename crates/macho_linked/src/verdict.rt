@@ -23,8 +23,8 @@ use std::alloc::Global;
 /// order: accepts it, or returns the first broken one, with its place in the file.
 ///
 /// The linked rules are those of its 64-bit slices, in the order of the table. They take memory only for function
-/// starts of an image with more than 16 mapped segments, and for data in code of one with several segments that may
-/// be executed: at most 72 bytes for each segment.
+/// starts of an image with more than 16 mapped segments, 48 bytes for each of these, and for data in code of one
+/// with several segments that may be executed, 24 bytes for each segment.
 pub fn verify_linked<'a>(alloc: Global, file: &'a [u8]) -> Result<Verified<'a>, Refusal>
     // It accepts only a file that breaks no rule of the three profiles, and refuses only one that breaks
     // one of them, unless there is no memory.
