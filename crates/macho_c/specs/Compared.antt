@@ -1,18 +1,24 @@
 -- What an explanation has of each rule: the numbers that the rule compares, and of overlaps what both parts
 -- share. (docs/LIBRARY.md)
 use Rattle.std.specs.Prelude.{◌≡◌, ℕ, ◌+◌, ◌-◌, ◌*◌, ◌^◌, ◌≤◌, ◌<◌, ◌⊎◌, min, List, length, Some, slice_get, true}
+use Rattle.macho_fields.specs.Field.{part}
 use Rattle.macho_fields.specs.Image.{command_cmd, command_size, commands_of}
-use Rattle.macho_fields.specs.Segment.{all_segments, vmaddr, vmsize, fileoff, filesize, section_address, section_size, section_offset, reloff, nreloc, section_count}
+use Rattle.macho_fields.specs.Segment.{all_segments, base_of, vmaddr, vmsize, fileoff, filesize, section_address, section_size, section_offset, reloff, nreloc, section_count}
 use Rattle.macho_fields.specs.Symbol.{n_strx, n_sect}
 use Rattle.macho_fields.specs.Universal.{FileSlice, slices_of}
 use Rattle.macho_fields.specs.declared.header.loader.TheConstants as loader
 use Rattle.macho_fields.specs.declared.rule.Rule.{Rule}
 use Rattle.macho_fields.specs.declared.rule.Rule.TheVariants as rule
 use Rattle.macho_linked.specs.ChainPointers.{pointer_of}
+use Rattle.macho_linked.specs.DataInCode.{entry_at}
 use Rattle.macho_linked.specs.Kinds.{share_kind}
 use Rattle.macho_linked.specs.Limits.{budget_of, library_count}
+use Rattle.macho_linked.specs.StartNumbers.{IsStartAt}
 use Rattle.macho_linked.specs.declared.chain_starts.PointerFormat.{PointerFormat}
+use Rattle.macho_linked.specs.declared.data_in_code.DataInCodeEntry.{DataInCodeEntry}
+use Rattle.macho_linked.specs.declared.data_in_code.TheConstants as dice
 use Rattle.macho_linked.specs.declared.fixup_chains.TheConstants as chained
+use Rattle.macho_spans.specs.declared.span.Span.{Span}
 use Rattle.macho_c.specs.Explain.{all_loads, IsCommandAt, IsSectionAt, IsSymbolAt, no_index, long_at, word_at}
 use Rattle.macho_c.specs.Segments.{last_address}
 use Rattle.macho_c.specs.declared.explain.conflict.Conflict.{Conflict}
@@ -63,6 +69,24 @@ IsChainSize image size =
 abbrev pub Binds : List ℕ → ℕ → ℕ → Type 0
 Binds image place ordinal =
     (format : PointerFormat) × ((pointer_of format (long_at image place)).import ≡ Some ordinal)
+
+-- the number at an offset of a table of function starts is that of a function at this address
+abbrev pub IsStartShown : List ℕ → ℕ → ℕ → ℕ → Type 0
+IsStartShown table base offset address =
+    (function : ℕ) × IsStartAt table base offset function × (address ≡ written function)
+
+-- a number at the place of an image, in such a table of it, is
+abbrev pub IsFunctionShown : List ℕ → ℕ → ℕ → Type 0
+IsFunctionShown image place address =
+    (table : Span) × (base : ℕ) × (offset : ℕ) × (base_of image (commands_of image) ≡ Some base)
+    × (place ≡ table.start + offset)
+    × IsStartShown (part table.start table.len image) base offset address
+
+-- the kind of an entry of data in code, and the last one that has a meaning; or where its bytes end
+abbrev pub IsEntryShown : DataInCodeEntry → Conflict → Type 0
+IsEntryShown entry c =
+    ((c.value ≡ entry.kind) × (c.limit ≡ dice.DICE_KIND_ABS_JUMP_TABLE32))
+    ⊎ (c.value ≡ entry.offset + entry.length)
 
 -- what is shown of a rule of an image that is broken at a place of it
 abbrev pub Shows : Rule → List ℕ → ℕ → Conflict → Type 0
@@ -117,6 +141,10 @@ Shows rule.ChainImports image place c = IsChainSize image c.limit
 Shows rule.ChainTotal image place c = IsChainSize image c.limit
 Shows rule.ChainLibrary image place c = c.limit ≡ library_count image
 Shows rule.ChainBind image place c = Binds image place c.value
+Shows rule.FunctionNumber image place c = (slice_get image place ≡ Some c.value) × (c.limit ≡ 0)
+Shows rule.FunctionStart image place c = IsFunctionShown image place c.value
+Shows rule.DataInCode image place c =
+    (c.limit ≡ dice.DATA_IN_CODE_ENTRY_SIZE) ⊎ IsEntryShown (entry_at image place) c
 Shows other image place c = Unit {0}
 
 -- the slice with the index has P

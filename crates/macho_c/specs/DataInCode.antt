@@ -1,10 +1,8 @@
 -- The data in the code of an image, by its first LC_DATA_IN_CODE. (mach-o/loader.h: data_in_code_entry)
 use Rattle.std.specs.Prelude.{◌≡◌, ℕ, ◌+◌, ◌/◌, List, [], length, map, MatchOption}
-use Rattle.macho_fields.specs.Image.{word}
-use Rattle.macho_fields.specs.Field.{number}
 use Rattle.macho_fields.specs.declared.header.loader.TheConstants as loader
-use Rattle.macho_fields.specs.declared.bytes.Order.TheVariants.{Little}
 use Rattle.macho_image.specs.Symbol.{items_inside}
+use Rattle.macho_linked.specs.DataInCode.{entry_at}
 use Rattle.macho_c.specs.Cursor.{begun}
 use Rattle.macho_c.specs.Image.{only}
 use Rattle.macho_c.specs.Linkedit.{dataoff, datasize, named_data}
@@ -12,25 +10,15 @@ use Rattle.macho_c.specs.Spans.{part_or_none, span_of}
 use Rattle.macho_c.specs.declared.cursor.KesvuotCursor.{KesvuotCursor}
 use Rattle.macho_c.specs.declared.data_in_code.KesvuotDataInCode.{KesvuotDataInCode}
 
--- data_in_code_entry has 8 bytes: offset at 0, length of 2 bytes at 4, kind of 2 bytes at 6
-abbrev pub entry_offset : List ℕ → ℕ → ℕ
-entry_offset image entry = word image entry
-
-abbrev pub entry_length : List ℕ → ℕ → ℕ
-entry_length image entry = number Little 2 image (entry + 4)
-
-abbrev pub entry_kind : List ℕ → ℕ → ℕ
-entry_kind image entry = number Little 2 image (entry + 6)
-
 -- the row of an entry, in an image that begins at `place` in the file: its data is nowhere where it ends
 -- past the image
 abbrev pub entry_row : ℕ → List ℕ → ℕ → KesvuotDataInCode
 entry_row place image entry = record {
-  bytes = span_of (place + entry_offset image entry)
-      (part_or_none (entry_offset image entry) (entry_length image entry) image);
-  offset = entry_offset image entry;
-  length = entry_length image entry;
-  kind = entry_kind image entry;
+  bytes = span_of (place + (entry_at image entry).offset)
+      (part_or_none (entry_at image entry).offset (entry_at image entry).length image);
+  offset = (entry_at image entry).offset;
+  length = (entry_at image entry).length;
+  kind = (entry_at image entry).kind;
 }
 
 -- before the first entry: all whole ones in the data of the command

@@ -11,8 +11,8 @@ use crate::image::KesvuotImage;
 use crate::linkedit::named_data;
 use crate::span::{Held, KesvuotSpan};
 use crate::table::{Table, fill};
-use macho_fields::Order;
 use macho_fields::header::loader::LC_DATA_IN_CODE;
+use macho_linked::data_in_code::{DATA_IN_CODE_ENTRY_SIZE, DataInCodeEntry};
 
 /// Data in code. (`data_in_code_entry`)
 #[repr(C)]
@@ -104,19 +104,11 @@ fn row_of(image: &Held, place: u64) -> KesvuotDataInCode
     requires { place + 8 ≤ length (bytes_of image.now.bytes) }
     ensures { result ≡ entry_row image.now.place (bytes_of image.now.bytes) place }
 {
-    let offset = image.bytes.read_u32(Order::Little, place);
-    let length = image.bytes.read_u16(Order::Little, place + LENGTH);
+    let entry = DataInCodeEntry::read(image.bytes, place);
     KesvuotDataInCode {
-        bytes: image.part(u64::from(offset), u64::from(length)),
-        offset,
-        length,
-        kind: image.bytes.read_u16(Order::Little, place + KIND),
+        bytes: image.part(u64::from(entry.offset), u64::from(entry.length)),
+        offset: entry.offset,
+        length: entry.length,
+        kind: entry.kind,
     }
 }
-
-// The size of `data_in_code_entry`, and the offsets of `length` and `kind` in it.
-const DATA_IN_CODE_ENTRY_SIZE: u64 = 8;
-
-const LENGTH: u64 = 4;
-
-const KIND: u64 = 6;

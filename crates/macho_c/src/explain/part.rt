@@ -82,6 +82,12 @@ pub(crate) const CHAIN_IMPORT: u32 = 27;
 pub(crate) const PAGE_START: u32 = 28;
 /// A pointer of a chain.
 pub(crate) const CHAIN_POINTER: u32 = 29;
+/// A number of function starts.
+pub(crate) const FUNCTION_START: u32 = 30;
+/// `data_in_code_entry`
+pub(crate) const DATA_IN_CODE_ENTRY: u32 = 31;
+/// The bytes that a `data_in_code_entry` describes.
+pub(crate) const DATA_IN_CODE: u32 = 32;
 
 /// No part.
 pub(crate) const NO_PART: KesvuotPart = KesvuotPart {

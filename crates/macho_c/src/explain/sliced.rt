@@ -15,6 +15,7 @@ use crate::explain::chains::explain_chains;
 use crate::explain::conflict::Conflict;
 use crate::explain::element::{explain_byte, explain_element};
 use crate::explain::entries::slice_part;
+use crate::explain::functions::explain_functions;
 use crate::explain::header::explain_header;
 use crate::explain::part::{
     COMMAND, HEADERS, KesvuotPart, NO_INDEX, SEGMENT, SEGMENT_MEMORY, structure,
@@ -95,6 +96,7 @@ enum Subject {
     Byte,
     Stream,
     Chains,
+    Functions,
 }
 
 // What each rule of an image is about.
@@ -133,6 +135,7 @@ fn subject_of(rule: Rule) -> Subject {
         | Rule::ChainLibrary
         | Rule::ChainSlot
         | Rule::ChainBind => Subject::Chains,
+        Rule::FunctionNumber | Rule::FunctionStart | Rule::DataInCode => Subject::Functions,
         _ => Subject::Command,
     }
 }
@@ -160,6 +163,7 @@ fn explain_in(
         Subject::Byte => explain_byte(sliced, rule, place),
         Subject::Stream => explain_stream(sliced, rule, place),
         Subject::Chains => explain_chains(sliced, rule, place),
+        Subject::Functions => explain_functions(sliced, rule, place),
     }
 }
 
