@@ -56,7 +56,7 @@ module _ (at : Met → ℕ) (P : Met → Type 0) (done : List Met) (next : Met) 
   least_noted false old new says is least = subst (IsLeastPlace (AtMet at P more)) (sym is) (least_kept old (λ has. false≢true (says.1 has)) least)
 
 -- none of them has P
-abbrev HaveNone : (Met → Type 0) → List Met → Type 0
+abbrev pub HaveNone : (Met → Type 0) → List Met → Type 0
 HaveNone P done = (met : Met) → Contains done met → ¬ P met
 
 none_least : (at : Met → ℕ) (P : Met → Type 0) (done : List Met) → HaveNone P done → IsLeastPlace (AtMet at P done) None

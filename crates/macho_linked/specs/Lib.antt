@@ -27,6 +27,7 @@ pub mod DataInCode
 pub mod CodeParts
 pub mod Exports
 pub mod ExportNodes
+pub mod ExportLaw
 pub mod Rules
 pub mod Harmless
 pub mod Located
