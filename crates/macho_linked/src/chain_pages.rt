@@ -144,13 +144,13 @@ fn segment_survey(
     }
 }
 
-/// What the pointers of a segment are compared with.
-#[derive(Clone, Copy, Debug, PartialEq, Eq)]
-pub struct ChainLimits {
-    /// The offset up to which a loader can write the segment as it is in the file.
-    pub room: u64,
-    /// How many imports there are.
-    pub imports: u32,
+// What the pointers of a segment are compared with.
+#[derive(Clone, Copy, Debug)]
+struct ChainLimits {
+    // The offset up to which a loader can write the segment as it is in the file.
+    room: u64,
+    // How many imports there are.
+    imports: u32,
 }
 
 /// The offset up to which a loader finds the segment as it is in the file, and can write it. It is 0 if a kernel
