@@ -1,15 +1,15 @@
 -- The export trie: names, nodes, and the way of a name.
-use Rattle.std.proofs.Common.{◌≡◌, ◌∙◌, ℕ, zero, suc, ◌+◌, ◌-◌, ◌≤◌, ◌<◌, ◌==◌, ◌⊎◌, List, [], ◌∷◌, length, take, drop, Bool, true, false, cond, Option, Some, None, MatchOption, IfSome, inl, inr, refl, sym, ap, subst, arith, slice_get, length-drop}
+use Rattle.std.proofs.Common.{◌≡◌, ◌∙◌, ℕ, zero, suc, ◌+◌, ◌-◌, ◌≤◌, ◌<◌, ◌==◌, ◌⊎◌, List, [], ◌∷◌, length, drop, Bool, true, false, cond, Option, Some, None, inl, inr, refl, sym, ap, subst, arith, slice_get, length-drop}
 use Rattle.std.specs.Prelude.{nat_lt, ◌&&◌, find}
 use Rattle.std.specs.Option.{option_map, option_and_then, option_or, is_some}
-use Rattle.std.proofs.lemmas.Bool.{cases_lt, lt-ltb, le-ltb, ltb-true, ne_eqb}
+use Rattle.std.proofs.lemmas.Bool.{cases_lt, lt-ltb, le-ltb, ltb-true}
 use Rattle.std.proofs.Math.ListN.{drop_of_length-le}
 use Rattle.std.proofs.lemmas.List.{length-take-le}
 use Rattle.std.proofs.lemmas.Option.{slice_get_within, same_Some}
 use Rattle.macho_fields.specs.Field.{part, string_from, HasZero}
 use Rattle.macho_fields.proofs.Strings.{string_ends}
 use Rattle.macho_spans.specs.declared.span.Span.{Span}
-use Rattle.macho_linked.specs.ExportTrie.{Node, name_at, edge_at, edges_at, head_at, node_at, begins_with, ends, terminal_from}
+use Rattle.macho_linked.specs.ExportTrie.{Node, name_at, edge_at, edges_at, head_at, node_at, begins_with, terminal_from}
 use Rattle.macho_linked.specs.Numbers.{number_bytes, unsigned_at}
 use Rattle.macho_linked.specs.declared.export_trie.ExportEdge.{ExportEdge}
 use Rattle.macho_linked.specs.declared.export_trie.ExportNode.{ExportNode}
