@@ -1,7 +1,7 @@
 -- From what is found in the export trie to the places in the image.
 use Rattle.std.proofs.Common.{◌≡◌, ◌∙◌, ℕ, zero, suc, ◌+◌, ◌^◌, ◌≤◌, ◌<◌, List, length, Option, Some, None, lit<, refl, sym, subst, arith, inl, inr}
 use Rattle.std.specs.Prelude.{IfSome, IsSomeAnd}
-use Rattle.std.specs.Option.{option_map}
+use Rattle.std.specs.Option.{option_map, option_map_or}
 use Rattle.std.proofs.lemmas.Bool.{cases_lt, ne_eqb}
 use Rattle.std.proofs.lemmas.Option.{same_Some, none-some}
 use Rattle.macho_fields.proofs.Options.{some_of}
@@ -22,8 +22,8 @@ use Rattle.macho_image.specs.Command.{first_with_cmd}
 use Rattle.macho_spans.specs.Span.{end_of}
 use Rattle.macho_spans.specs.declared.span.Span.{Span}
 use Rattle.macho_linked.specs.ExportTrie.{Node, node_at, head_at}
-use Rattle.macho_linked.specs.ExportWalk.{Met, AtMet, HasNoEnd, own_place, place_or_end}
-use Rattle.macho_linked.specs.Exports.{IsMapped, EndlessNode, TooManyBytes, BadTerminal, UnknownLibrary, UnknownAddress, InExports, export_table, some_bytes, AreLeastInTrie, AreLeastInImage, moved_exports, ExportsFitAt}
+use Rattle.macho_linked.specs.ExportWalk.{Met, AtMet, HasNoEnd, own_place, place_or_end, met_nodes}
+use Rattle.macho_linked.specs.Exports.{IsMapped, EndlessNode, TooManyBytes, BadTerminal, UnknownLibrary, UnknownAddress, InExports, export_table, some_bytes, AreLeastInTrie, AreLeastInImage, moved_exports, ExportsFitAt, exports_data, info_exports, BreaksExportNode, BreaksExportTotal, BreaksExportTerminal, BreaksExportLibrary, BreaksExportAddress}
 use Rattle.macho_linked.specs.Images.{dyld_info, bounded_at}
 use Rattle.macho_linked.specs.declared.export_trie.ExportNode.{ExportNode}
 use Rattle.macho_linked.specs.declared.exports.ExportSurvey.{ExportSurvey}
@@ -32,6 +32,8 @@ use Rattle.macho_linked.proofs.ExportNodes.{met_headless}
 use Rattle.macho_linked.proofs.ExportTries.{number_ends}
 use Rattle.macho_linked.proofs.NamedTables.{LieInside, table_inside, bounds_inside}
 use Rattle.macho_linked.proofs.TableSurveys.{named_first, info_has, least_moved}
+use Rattle.macho_linked.specs.Homes.{bytes_of_table}
+use Rattle.macho_image.proofs.ReadParts.{length-part}
 
 -- The tables that commands name
 
@@ -133,3 +135,49 @@ exports_listed image table survey is are = record {
         subst
         (λ (o : Option Span). IsLeastPlace (λ place. IsSomeAnd o (λ t. (offset : ℕ) × (place ≡ t.start + offset) × Rule image (part t.start t.len image) offset)) (option_map (λ offset. table.start + offset) found))
         (sym is) (least_moved (Rule image (part table.start table.len image)) table.start found least)
+
+-- A place at which a rule is broken lies in the image
+
+module _ (image : List ℕ) (keeps : NothingBreaks (BreaksImage image None)) where
+  abbrev data_of : ℕ → Option Span
+  data_of command = some_bytes (bytes_of_table (table_at image command linkedit_data_table))
+
+  abbrev info_of : ℕ → Option Span
+  info_of command = some_bytes (bytes_of_table (table_at image command (bounded_at 40)))
+
+  data_ends : (table : Span) (first : Option ℕ) → first_with_cmd image loader.LC_DYLD_EXPORTS_TRIE (commands_of image) ≡ first → option_map_or data_of first None ≡ Some table → end_of table ≤ length image
+  data_ends table None none is = absurd (none-some table is)
+  data_ends table (Some command) some is = (some_inside image (bytes_of_table (table_at image command linkedit_data_table)) (Some table) (sym is) (data_inside image keeps command some)).0
+
+  info_ends : (table : Span) (first : Option ℕ) → dyld_info image ≡ first → option_map_or info_of first None ≡ Some table → end_of table ≤ length image
+  info_ends table None none is = absurd (none-some table is)
+  info_ends table (Some command) some is = (some_inside image (bytes_of_table (table_at image command (bounded_at 40))) (Some table) (sym is) (info_inside image keeps command some)).0
+
+  trie_ends : (table : Span) → export_table image ≡ Some table → end_of table ≤ length image
+  trie_ends table is = either (exports_data image) refl is
+    where
+      either : (first : Option Span) → exports_data image ≡ first → option_map_or (λ t. Some t) first (info_exports image) ≡ Some table → end_of table ≤ length image
+      either None none at = info_ends table (dyld_info image) refl at
+      either (Some t) some at = data_ends table (first_with_cmd image loader.LC_DYLD_EXPORTS_TRIE (commands_of image)) refl (some ∙ at)
+
+  rule_inside : (Rule : List ℕ → List ℕ → ℕ → Type 0) → ((trie : List ℕ) (offset : ℕ) → Rule image trie offset → offset ≤ length trie) → (place : ℕ) → InExports image Rule place → place ≤ length image
+  rule_inside Rule near place broken =
+      let (table, is, (offset, at, here)) = some_of (λ t. (offset : ℕ) × (place ≡ t.start + offset) × Rule image (part t.start t.len image) offset) (export_table image) broken in
+      let inside = trie_ends table is in
+      let size = length-part table.start table.len image inside in
+      let within = near (part table.start table.len image) offset here in omega (arith, at, within, size, inside)
+
+  pub node_inside : (place : ℕ) → BreaksExportNode image place → place ≤ length image
+  node_inside = rule_inside EndlessNode (λ trie. endless_near trie (met_nodes trie))
+
+  pub total_inside : (place : ℕ) → BreaksExportTotal image place → place ≤ length image
+  total_inside = rule_inside TooManyBytes (λ trie. node_rule_near trie _ (met_nodes trie))
+
+  pub terminal_inside : (place : ℕ) → BreaksExportTerminal image place → place ≤ length image
+  terminal_inside = rule_inside BadTerminal (λ trie. node_rule_near trie _ (met_nodes trie))
+
+  pub library_inside : (place : ℕ) → BreaksExportLibrary image place → place ≤ length image
+  library_inside = rule_inside UnknownLibrary (λ trie. node_rule_near trie _ (met_nodes trie))
+
+  pub address_inside : (place : ℕ) → BreaksExportAddress image place → place ≤ length image
+  address_inside = rule_inside UnknownAddress (λ trie. node_rule_near trie _ (met_nodes trie))
