@@ -1,7 +1,7 @@
 -- What the export trie of an image promises that breaks none of its rules.
 use Rattle.std.proofs.Common.{◌≡◌, ◌∙◌, ℕ, zero, suc, ◌+◌, ◌-◌, ◌^◌, ◌≤◌, ◌<◌, ◌⊎◌, List, [], ◌∷◌, ◌++◌, length, map, drop, Contains, Bool, cond, Option, Some, None, refl, sym, ap, subst, arith, inl, inr}
 use Rattle.std.specs.Prelude.{find, Any, IsSomeAnd, IfSome}
-use Rattle.std.specs.Option.{option_and_then}
+use Rattle.std.specs.Option.{option_and_then, option_map_or}
 use Rattle.std.proofs.lemmas.Bool.{cases_lt, cases_Bool, le-ltb}
 use Rattle.std.proofs.lemmas.List.{append_assoc, map-append}
 use Rattle.std.proofs.lemmas.Option.{same_Some, none-some}
@@ -11,7 +11,7 @@ use Rattle.macho_fields.specs.Field.{part}
 use Rattle.macho_fields.specs.Image.{commands_of}
 use Rattle.macho_fields.specs.Segment.{all_segments, base_of, vmaddr, vmsize, Supplies}
 use Rattle.macho_spans.specs.declared.span.Span.{Span}
-use Rattle.macho_linked.specs.ExportLaw.{IsThere, IsSoundTerminal, AreSoundNodes, IsNeverCut, AreSoundExports}
+use Rattle.macho_linked.specs.ExportLaw.{IsThere, IsSoundTerminal, AreSoundNodes, IsWay, node_bytes, way_bytes, AreShortWays, IsNeverCut, AreSoundExports}
 use Rattle.macho_linked.specs.ExportTrie.{Node, node_at, head_at, edges_at, begins_with, ends, terminal_from, find_terminal}
 use Rattle.macho_linked.specs.ExportWalk.{Met, walk, met_nodes, children, AtMet, HasNoEnd, PassesTable, HasTerminal, IsBadTerminal, HasExport, whole_export}
 use Rattle.macho_linked.specs.Exports.{IsMapped, IsOfNoLibrary, LeadsNowhere, EndlessNode, TooManyBytes, BadTerminal, UnknownLibrary, UnknownAddress, is_absolute, export_table, HasNoLibrary, HasNoAddress, InExports, BreaksExportNode, BreaksExportTotal, BreaksExportTerminal, BreaksExportLibrary, BreaksExportAddress}
@@ -44,6 +44,14 @@ node_begins trie place node is = by_head (head_at trie place) refl
     by_head : (head : Option ExportNode) → head_at trie place ≡ head → place < node.end
     by_head None none = absurd (none-some node (sym (met_headless trie place none) ∙ is))
     by_head (Some head) some = by_edges head (edges_at head.edge_count trie head.edges) some refl
+
+-- an item of a list, and what is before it and after it
+contains_split : (xs : List ℕ) (x : ℕ) → Contains xs x → (before : List ℕ) × (after : List ℕ) × (xs ≡ before ++ x ∷ after)
+contains_split [] x (k, less, at) = absurd (omega (arith, less))
+contains_split (y ∷ ys) x among = elim (first_or_later y x ys among) [
+  | inl same ↦ ([], ys, ap (λ (z : ℕ). z ∷ ys) same)
+  | inr later ↦ let (before, after, split) = contains_split ys x later in (y ∷ before, after, ap (λ (l : List ℕ). y ∷ l) split)
+]
 
 -- Walks in which no node is broken
 
@@ -89,6 +97,10 @@ module _ (trie : List ℕ) where
       let same = subst (λ (w : List ℕ). AreWhole trie (walk m trie (left - (node.end - place)) w)) (sym (append_assoc (children node) some others)) rest in
       let (n, l, less, more, then) = whole_past bound m (left - (node.end - place)) (children node ++ some) others (omega (arith, begins, fits, enough)) (omega (arith, begins, fits, few)) same in
       (n, l, omega (arith, less), more, then)
+
+  -- the bytes of a node that is there
+  bytes_at : (place : ℕ) (node : Node) → node_at trie place ≡ Some node → node_bytes trie place ≡ node.end - place
+  bytes_at place node at = ap (λ (o : Option Node). option_map_or (λ (n : Node). n.end - place) o 0) at
 
   -- an edge that leads on is one of the node
   found_split : (test : ExportEdge → Bool) (edges : List ExportEdge) (edge : ExportEdge) → find test edges ≡ Some edge
@@ -152,6 +164,31 @@ module _ (trie : List ℕ) where
   unfolding find_terminal
   never_cut whole most left name more fits =
       same_way (length trie) (length trie + 1) (length trie) 0 [] (omega arith) (omega arith) whole most (length trie) left (length trie) name more (omega arith) fits (omega arith)
+
+  -- a way has as many bytes as the walk from its first node on may have, or fewer
+  way_fits : (bound m left place : ℕ) (waiting : List ℕ) → left < m → left ≤ bound → AreWhole trie (walk m trie left (place ∷ waiting))
+      → (way : List ℕ) → IsWay trie place way → way_bytes trie (place ∷ way) ≤ left
+  way_fits bound zero left place waiting enough few whole way is = absurd (omega arith)
+  way_fits bound (suc m) left place waiting enough few whole [] is =
+      let (node, at, fits, rest) = whole_step m left place waiting whole in
+      let bytes = bytes_at place node at in omega (arith, bytes, fits)
+  way_fits zero (suc m) left place waiting enough few whole (next ∷ way) is =
+      let (node, at, fits, rest) = whole_step m left place waiting whole in
+      let begins = node_begins trie place node at in absurd (omega (arith, begins, fits, few))
+  way_fits (suc bound) (suc m) left place waiting enough few whole (next ∷ way) (parent, at_parent, among, onward) =
+      let (node, at, fits, rest) = whole_step m left place waiting whole in
+      let begins = node_begins trie place node at in
+      let bytes = bytes_at place node at in
+      let same : parent ≡ node = same_Some parent node (sym at_parent ∙ at) in
+      let (before, after, split) = contains_split (children node) next (subst (λ (n : Node). Contains (children n) next) same among) in
+      let wait : children node ++ waiting ≡ before ++ next ∷ (after ++ waiting) = ap (λ (p : List ℕ). p ++ waiting) split ∙ append_assoc before (next ∷ after) waiting in
+      let (n, r, less, more, then) = whole_past left m (left - (node.end - place)) before (next ∷ (after ++ waiting)) (omega (arith, begins, fits, enough)) (omega arith)
+      (subst (λ (w : List ℕ). AreWhole trie (walk m trie (left - (node.end - place)) w)) wait rest) in
+      let later = way_fits bound n r next (after ++ waiting) more (omega (arith, less, begins, fits, few)) then way onward in
+      omega (arith, bytes, later, less, fits)
+
+  pub short_ways : AreWhole trie (met_nodes trie) → AreShortWays trie
+  short_ways whole way is = way_fits (length trie) (length trie + 1) (length trie) 0 [] (omega arith) (omega arith) whole way is
 
 -- What exports lead to
 
@@ -253,4 +290,4 @@ module _ (image : List ℕ) where
           by_node (Some node) at = (node, at, λ some. by_export node at some (whole_export trie node.terminal) refl)
 
     pub sound_exports : AreSoundExports image
-    sound_exports table is = (sound_nodes table is, never_cut (trie table is) (whole table is))
+    sound_exports table is = (sound_nodes table is, short_ways (trie table is) (whole table is), never_cut (trie table is) (whole table is))

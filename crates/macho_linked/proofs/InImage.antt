@@ -28,7 +28,7 @@ use Rattle.macho_linked.specs.declared.streams.Stream.TheVariants as streams
 use Rattle.macho_linked.proofs.ChainTables.{no_header, bad_starts, bad_imports, long_names, unknown_library, chains_near}
 use Rattle.macho_linked.proofs.DataInCode.{bad_entry_near}
 use Rattle.macho_linked.proofs.DataTables.{data_near}
-use Rattle.macho_linked.proofs.ExportPlaces.{node_inside, total_inside, terminal_inside, library_inside, address_inside}
+use Rattle.macho_linked.proofs.ExportTables.{node_inside, total_inside, terminal_inside, library_inside, address_inside}
 use Rattle.macho_linked.proofs.PointerSurveys.{slots_near, binds_near}
 use Rattle.macho_linked.proofs.StartNumbers.{bad_number_near, stray_start_near}
 use Rattle.macho_linked.proofs.TableSurveys.{named_first, IsStreamRule, undecoded, no_library, no_name, no_slot, too_many, too_long}

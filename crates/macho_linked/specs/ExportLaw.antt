@@ -1,11 +1,13 @@
 -- What the export trie of an image promises that breaks none of its rules.
-use Rattle.std.specs.Prelude.{◌≡◌, ℕ, ◌+◌, ◌-◌, ◌^◌, ◌≤◌, ◌<◌, ◌⊎◌, List, length, Contains, Option, Some, IfSome, true}
+use Rattle.std.specs.Prelude.{◌≡◌, ℕ, ◌+◌, ◌-◌, ◌^◌, ◌≤◌, ◌<◌, ◌⊎◌, List, [], ◌∷◌, length, All, Contains, Option, Some, IfSome, true}
+use Rattle.std.specs.Option.{option_map_or}
 use Rattle.macho_fields.specs.Field.{part}
 use Rattle.macho_fields.specs.Image.{commands_of}
 use Rattle.macho_fields.specs.Segment.{base_of}
+use Rattle.macho_fields.specs.Universal.{slices_of, slice_bytes, IsImage}
 use Rattle.macho_spans.specs.declared.span.Span.{Span}
 use Rattle.macho_linked.specs.ExportTrie.{Node, node_at, terminal_from, find_terminal}
-use Rattle.macho_linked.specs.ExportWalk.{Met, met_nodes, whole_export}
+use Rattle.macho_linked.specs.ExportWalk.{Met, met_nodes, children, whole_export}
 use Rattle.macho_linked.specs.Exports.{IsMapped, is_absolute, export_table}
 use Rattle.macho_linked.specs.Limits.{library_count}
 use Rattle.macho_linked.specs.declared.export_trie.Export.{Export}
@@ -37,6 +39,25 @@ AreSoundNodes image trie =
     → (node : Node) × (node_at trie met.place ≡ Some node)
     × (0 < node.terminal.len → IsSoundTerminal image trie node.terminal)
 
+-- A way from a place on: each later place is one to which an edge of the node at the one before leads. The nodes
+-- that a look-up passes are such a way.
+abbrev pub IsWay : List ℕ → ℕ → List ℕ → Type 0
+IsWay trie place [] = Unit {0}
+IsWay trie place (next ∷ way) =
+    (node : Node) × (node_at trie place ≡ Some node) × Contains (children node) next × IsWay trie next way
+
+-- the bytes of the node at a place, and of those at several
+abbrev pub node_bytes : List ℕ → ℕ → ℕ
+node_bytes trie place = option_map_or (λ (node : Node). node.end - place) (node_at trie place) 0
+
+abbrev pub way_bytes : List ℕ → List ℕ → ℕ
+way_bytes trie [] = 0
+way_bytes trie (place ∷ way) = node_bytes trie place + way_bytes trie way
+
+-- No way from the root has more bytes than the table. So each one ends, since a node has a byte or more.
+abbrev pub AreShortWays : List ℕ → Type 0
+AreShortWays trie = (way : List ℕ) → IsWay trie 0 way → way_bytes trie (0 ∷ way) ≤ length trie
+
 -- A look-up is not cut: with more steps, and where the nodes on its way may have more bytes, it finds the same.
 abbrev pub IsNeverCut : List ℕ → Type 0
 IsNeverCut trie =
@@ -47,4 +68,10 @@ IsNeverCut trie =
 abbrev pub AreSoundExports : List ℕ → Type 0
 AreSoundExports image =
     (table : Span) → export_table image ≡ Some table
-    → AreSoundNodes image (part table.start table.len image) × IsNeverCut (part table.start table.len image)
+    → AreSoundNodes image (part table.start table.len image) × AreShortWays (part table.start table.len image)
+    × IsNeverCut (part table.start table.len image)
+
+-- of a file: that of each 64-bit slice is
+abbrev pub HasSoundExports : List ℕ → Type 0
+HasSoundExports file =
+    All (λ slice. IsImage (slice_bytes file slice) → AreSoundExports (slice_bytes file slice)) (slices_of file)

@@ -7,8 +7,7 @@ ghost use Rattle.macho_fields.specs.Layers.{NothingBreaks};
 ghost use Rattle.macho_fields.specs.Rules.{BreaksImage as Breaks};
 ghost use Rattle.macho_spans.specs.Span.{end_of};
 ghost use Rattle.macho_linked.specs.ExportWalk.{have_meaning as have_meaning_of, whole_export};
-ghost use Rattle.macho_linked.specs.ExportLaw.{AreSoundExports};
-ghost use Rattle.macho_linked.specs.Exports.{BreaksExportNode, BreaksExportTotal, BreaksExportTerminal, BreaksExportLibrary, BreaksExportAddress, export_table as export_table_of, exports_data as exports_data_of, info_exports as info_exports_of, some_bytes as some_bytes_of, is_absolute as is_absolute_of, IsNotedLeast, IsOfNoLibrary, AreLeastInTrie};
+ghost use Rattle.macho_linked.specs.Exports.{export_table as export_table_of, exports_data as exports_data_of, info_exports as info_exports_of, some_bytes as some_bytes_of, is_absolute as is_absolute_of, IsNotedLeast, IsOfNoLibrary, AreLeastInTrie};
 
 use crate::export_trie::{
     EXPORT_SYMBOL_FLAGS_KIND_ABSOLUTE, EXPORT_SYMBOL_FLAGS_KIND_MASK, EXPORT_SYMBOL_FLAGS_REEXPORT,
@@ -108,17 +107,6 @@ impl ExportSurvey {
         }
     }
 }
-
-/// In an image that breaks none of the rules of its export trie, each node that is met has an export that leads to
-/// what is there, or none, and no look-up of a name is cut.
-pub fn unbroken_exports_are_sound(image: &[u8])
-    requires nodes { (place : ℕ) → ¬ BreaksExportNode image.now place }
-    requires totals { (place : ℕ) → ¬ BreaksExportTotal image.now place }
-    requires terminals { (place : ℕ) → ¬ BreaksExportTerminal image.now place }
-    requires libraries { (place : ℕ) → ¬ BreaksExportLibrary image.now place }
-    requires addresses { (place : ℕ) → ¬ BreaksExportAddress image.now place }
-    ensures { AreSoundExports image.now }
-{}
 
 // The lesser of the least place of a rule and this one, if the rule is broken here.
 fn least_with(least: Option<u64>, is_broken: bool, place: u64) -> Option<u64>

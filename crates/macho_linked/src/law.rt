@@ -8,6 +8,7 @@ ghost use Rattle.macho_fields.specs.First.{IsUnbroken};
 ghost use Rattle.macho_linked.specs.ChainDyld.{AreChainedSafely};
 ghost use Rattle.macho_linked.specs.DataInCode.{AreDataInCodeConstants};
 ghost use Rattle.macho_linked.specs.Dyld.{AreFollowedSafely};
+ghost use Rattle.macho_linked.specs.ExportLaw.{HasSoundExports};
 ghost use Rattle.macho_linked.specs.FixupChains.{AreFixupChainsConstants};
 ghost use Rattle.macho_linked.specs.Harmless.{AreHarmless};
 ghost use Rattle.macho_linked.specs.Located.{AreLocated};
@@ -66,6 +67,14 @@ pub fn linked_unbroken_is_chained_safely(file: &[u8])
     requires unbroken { IsUnbroken file.now }
     requires linked { IsLinkedUnbroken file.now }
     ensures { AreChainedSafely file.now }
+{}
+
+/// Each node of the export tries of such a file has an export that leads to what is there, or none, and no look-up
+/// of a name is cut by its bounds.
+pub fn linked_unbroken_has_sound_exports(file: &[u8])
+    requires unbroken { IsUnbroken file.now }
+    requires linked { IsLinkedUnbroken file.now }
+    ensures { HasSoundExports file.now }
 {}
 
 /// The functions and the data in code of such a file are bytes of the file.

@@ -6,6 +6,7 @@ ghost use Rattle.macho_fields.specs.Layers.{NothingBreaks};
 ghost use Rattle.macho_fields.specs.Loader.{IsSound};
 ghost use Rattle.macho_linked.specs.ChainDyld.{AreChainedSafely};
 ghost use Rattle.macho_linked.specs.Dyld.{AreFollowedSafely};
+ghost use Rattle.macho_linked.specs.ExportLaw.{HasSoundExports};
 ghost use Rattle.macho_linked.specs.Harmless.{AreHarmless};
 ghost use Rattle.macho_linked.specs.Located.{AreLocated};
 ghost use Rattle.macho_linked.specs.Rules.{IsBrokenIn, IsLinkedUnbroken};
@@ -22,9 +23,10 @@ use std::alloc::Global;
 /// Decides the rules of a file as `macho_strict::verify_strictly` does, and then the linked rules, in their
 /// order: accepts it, or returns the first broken one, with its place in the file.
 ///
-/// The linked rules are those of its 64-bit slices, in the order of the table. They take memory only for function
-/// starts of an image with more than 16 mapped segments, 48 bytes for each of these, and for data in code of one
-/// with several segments that may be executed, 24 bytes for each segment.
+/// The linked rules are those of its 64-bit slices, in the order of the table. They take memory only for an export
+/// trie, 48 bytes for each mapped segment, and up to 16 for each node that waits; for function starts of an image
+/// with more than 16 mapped segments, 48 bytes for each of these; and for data in code of one with several segments
+/// that may be executed, 24 bytes for each segment.
 pub fn verify_linked<'a>(alloc: Global, file: &'a [u8]) -> Result<Verified<'a>, Refusal>
     // It accepts only a file that breaks no rule of the three profiles, and refuses only one that breaks
     // one of them, unless there is no memory.
@@ -34,12 +36,14 @@ pub fn verify_linked<'a>(alloc: Global, file: &'a [u8]) -> Result<Verified<'a>, 
     ensures refused { IfErr result (IsLinkedRefusal file.now) }
 
     // What it accepts is sound, and accounted for; its opcodes are harmless, the plain dyld follows them and
-    // its chained fixups safely, and its functions and its data in code are bytes of the file.
+    // its chained fixups safely, its exports lead to what is there, each look-up of a name ends, and its
+    // functions and its data in code are bytes of the file.
     ensures sound { OnOk result (IsSound file.now) }
     ensures accounted { OnOk result (IsAccounted file.now) }
     ensures harmless { OnOk result (AreHarmless file.now) }
     ensures followed { OnOk result (AreFollowedSafely file.now) }
     ensures chained { OnOk result (AreChainedSafely file.now) }
+    ensures exports { OnOk result (HasSoundExports file.now) }
     ensures located { OnOk result (AreLocated file.now) }
     ensures file { IfOk result (λ verified. verified ≡ file.now) }
 {
