@@ -10,8 +10,11 @@ use Rattle.macho_rules.specs.declared.refusal.Refusal.TheVariants as refusal
 use Rattle.macho_strict.specs.Accounted.{IsAccounted}
 use Rattle.macho_strict.specs.First.{IsStrictlyUnbroken, IsFirstStrictlyBroken}
 use Rattle.macho_strict.specs.Verdict.{IsStrictRefusal}
+use Rattle.macho_linked.specs.ChainDyld.{AreChainedSafely}
 use Rattle.macho_linked.specs.Dyld.{AreFollowedSafely}
+use Rattle.macho_linked.specs.ExportLaw.{HasSoundExports}
 use Rattle.macho_linked.specs.Harmless.{AreHarmless}
+use Rattle.macho_linked.specs.Located.{AreLocated}
 use Rattle.macho_linked.specs.Rules.{IsLinkedUnbroken, IsFirstLinkedBroken}
 use Rattle.macho_linked.specs.Verdict.{IsLinkedRefusal}
 use Rattle.macho_c.specs.Status.{KESVUOT_OK, KESVUOT_REFUSED, KESVUOT_NO_MEMORY}
@@ -61,10 +64,12 @@ IsStrictVerdict file status v =
     ((status ≡ KESVUOT_OK) × IsAcceptedStrictly file v) ⊎ ((status ≡ KESVUOT_REFUSED) × IsRefusedStrictly file v)
     ⊎ ((status ≡ KESVUOT_NO_MEMORY) × IsUndecidedStrictly file v)
 
--- The file breaks no linked rule either. Its opcodes are harmless, and the plain dyld follows them safely.
+-- The file breaks no linked rule either. Its opcodes are harmless, the plain dyld follows them and its chained
+-- fixups safely, its exports lead to what is there, and its functions and its data in code are bytes of the file.
 abbrev pub IsLinkedAccepted : List ℕ → KesvuotVerdict → Type 0
 IsLinkedAccepted file v =
     IsAcceptedStrictly file v × IsLinkedUnbroken file × AreHarmless file × AreFollowedSafely file
+    × AreChainedSafely file × HasSoundExports file × AreLocated file
 
 -- The verdict has the first broken rule of the strict verdict, or if that accepts the file the first
 -- broken linked one.

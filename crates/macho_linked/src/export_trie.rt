@@ -99,10 +99,10 @@ impl Export {
     ghost use Rattle.macho_spans.specs.Span.{end_of};
     ghost use Rattle.macho_linked.specs.ExportTrie.{export_at, export_in};
 
-    // Reads the export in a terminal part. It returns the place past it, or `None` if a number or the name does
-    // not end in the part.
+    /// Reads the export in a terminal part. It returns the place past it, or `None` if a number or the name does
+    /// not end in the part.
     #[tactic(auto, unfolding(crate::specs::ExportTrie::export_in))]
-    pub(crate) fn read(trie: Bytes, terminal: Span) -> Option<(Export, u64)>
+    pub fn read(trie: Bytes, terminal: Span) -> Option<(Export, u64)>
         requires { end_of terminal ≤ length (bytes_of trie) }
         ensures { result ≡ export_in (bytes_of trie.entry) terminal }
     {
@@ -205,9 +205,9 @@ impl ExportNode {
         })
     }
 
-    // The first edge whose label begins the name, if there is one, and the place past the node. It reads all
-    // edges, and returns `None` if they do not end in the table.
-    fn follow(self, trie: Bytes, name: &[u8]) -> Option<(Option<ExportEdge>, u64)>
+    /// The first edge whose label begins the name, if there is one, and the place past the node. It reads all
+    /// edges, and returns `None` if they do not end in the table.
+    pub fn follow(self, trie: Bytes, name: &[u8]) -> Option<(Option<ExportEdge>, u64)>
         ensures first { result ≡ option_map (λ edges. (find (begins_with (bytes_of trie.entry) name.now) edges.0, edges.1))
             (edges_at self.edge_count (bytes_of trie.entry) self.edges) }
         ensures fits { IfSome result (λ followed. IfSome followed.0 (λ edge. edge.label.len ≤ length name.now)) }

@@ -25,8 +25,8 @@ use macho_image::Image;
 use macho_rules::Mapping;
 use std::alloc::{AllocError, Global};
 
-// The greatest flags of which each bit has a meaning.
-const MOST_FLAGS: u64 = 0x1f;
+/// The greatest flags of an export of which each bit has a meaning.
+pub const MOST_FLAGS: u64 = 0x1f;
 
 // The least ordinal that is a special one: -3, in 64 bits.
 const LEAST_SPECIAL_ORDINAL: u64 = u64::MAX - 2;
