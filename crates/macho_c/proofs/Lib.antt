@@ -19,6 +19,7 @@ pub mod PartFits
 pub mod Ranged
 pub mod Reached
 pub mod Relocated
+pub mod ShownExports
 pub mod ShownSymbols
 pub mod Started
 pub mod Supplied

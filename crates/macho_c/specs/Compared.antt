@@ -1,6 +1,7 @@
 -- What an explanation has of each rule: the numbers that the rule compares, and of overlaps what both parts
 -- share. (docs/LIBRARY.md)
-use Rattle.std.specs.Prelude.{◌≡◌, ℕ, ◌+◌, ◌-◌, ◌*◌, ◌^◌, ◌≤◌, ◌<◌, ◌⊎◌, min, List, length, Some, slice_get, true}
+use Rattle.std.specs.Prelude.{◌≡◌, ℕ, ◌+◌, ◌-◌, ◌*◌, ◌^◌, ◌≤◌, ◌<◌, ◌⊎◌, min, take, List, length, Option, Some, IsSomeAnd, slice_get, true}
+use Rattle.std.specs.Option.{option_map_or}
 use Rattle.macho_fields.specs.Field.{part}
 use Rattle.macho_fields.specs.Image.{command_cmd, command_size, commands_of}
 use Rattle.macho_fields.specs.Segment.{all_segments, base_of, vmaddr, vmsize, fileoff, filesize, section_address, section_size, section_offset, reloff, nreloc, section_count}
@@ -11,13 +12,18 @@ use Rattle.macho_fields.specs.declared.rule.Rule.{Rule}
 use Rattle.macho_fields.specs.declared.rule.Rule.TheVariants as rule
 use Rattle.macho_linked.specs.ChainPointers.{pointer_of}
 use Rattle.macho_linked.specs.DataInCode.{entry_at}
+use Rattle.macho_linked.specs.ExportTrie.{Node, node_at, export_in}
 use Rattle.macho_linked.specs.Kinds.{share_kind}
 use Rattle.macho_linked.specs.Limits.{budget_of, library_count}
+use Rattle.macho_linked.specs.Numbers.{unsigned_at}
 use Rattle.macho_linked.specs.StartNumbers.{IsStartAt}
 use Rattle.macho_linked.specs.declared.chain_starts.PointerFormat.{PointerFormat}
 use Rattle.macho_linked.specs.declared.data_in_code.DataInCodeEntry.{DataInCodeEntry}
 use Rattle.macho_linked.specs.declared.data_in_code.TheConstants as dice
+use Rattle.macho_linked.specs.declared.export_trie.Target.{Target}
+use Rattle.macho_linked.specs.declared.export_trie.Target.TheVariants as target
 use Rattle.macho_linked.specs.declared.fixup_chains.TheConstants as chained
+use Rattle.macho_spans.specs.Span.{end_of}
 use Rattle.macho_spans.specs.declared.span.Span.{Span}
 use Rattle.macho_c.specs.Explain.{all_loads, IsCommandAt, IsSectionAt, IsSymbolAt, no_index, long_at, word_at}
 use Rattle.macho_c.specs.Segments.{last_address}
@@ -88,6 +94,68 @@ IsEntryShown entry c =
     ((c.value ≡ entry.kind) × (c.limit ≡ dice.DICE_KIND_ABS_JUMP_TABLE32))
     ⊎ (c.value ≡ entry.offset + entry.length)
 
+-- the place is at an offset of a table of the image, whose bytes have P
+abbrev pub InTable : List ℕ → ℕ → (List ℕ → ℕ → Type 0) → Type 0
+InTable image place P =
+    (table : Span) × (offset : ℕ) × (place ≡ table.start + offset)
+    × P (part table.start table.len image) offset
+
+-- the flags of an export, or 0 where they do not end in its terminal part
+unfoldable pub flags_shown : List ℕ → Span → ℕ
+flags_shown trie terminal =
+    option_map_or (λ flags. flags.0) (unsigned_at (take (end_of terminal) trie) terminal.start) 0
+
+-- an export is in the terminal part, and what it leads to has P
+abbrev pub HasTarget : List ℕ → Span → (Target → Type 0) → Type 0
+HasTarget trie terminal P = IsSomeAnd (export_in trie terminal) (λ e. P e.0.target)
+
+-- the ordinal of the library that has a symbol
+abbrev pub HasOrdinal : ℕ → Target → Type 0
+HasOrdinal value (target.Reexport ordinal name) = value ≡ ordinal
+HasOrdinal value other = ⊥
+
+-- a segment has the address
+abbrev pub HasAddress : List ℕ → ℕ → Type 0
+HasAddress image address =
+    (segment : ℕ) × (vmaddr image segment ≤ address)
+    × (address < vmaddr image segment + vmsize image segment)
+
+-- an address, or that of its resolver where a segment has the first. Both count from the base.
+abbrev pub IsAddressShown : List ℕ → ℕ → ℕ → Option ℕ → ℕ → Type 0
+IsAddressShown image base address resolver value =
+    (value ≡ written (base + address))
+    ⊎ (HasAddress image (base + address) × IsSomeAnd resolver (λ r. value ≡ written (base + r)))
+
+-- such an address of a symbol
+abbrev pub LeadsTo : List ℕ → ℕ → Target → Type 0
+LeadsTo image value (target.Address address resolver) =
+    IsSomeAnd (base_of image (commands_of image)) (λ base. IsAddressShown image base address resolver value)
+LeadsTo image value other = ⊥
+
+-- what is shown of the node at an offset of an export trie: of no other rule than these
+abbrev pub ShowsNode : Rule → List ℕ → List ℕ → ℕ → ℕ → ℕ → Type 0
+ShowsNode rule.ExportNode image trie offset value limit = (value ≡ offset) × (limit ≡ length trie)
+ShowsNode rule.ExportTotal image trie offset value limit =
+    IsSomeAnd (node_at trie offset) (λ node. value ≡ node.end - offset) × (limit ≡ length trie)
+ShowsNode rule.ExportTerminal image trie offset value limit =
+    IsSomeAnd (node_at trie offset) (λ node. value ≡ flags_shown trie node.terminal) × (limit ≡ 0x1f)
+ShowsNode rule.ExportLibrary image trie offset value limit =
+    IsSomeAnd (node_at trie offset) (λ node. HasTarget trie node.terminal (HasOrdinal value))
+    × (limit ≡ library_count image)
+ShowsNode rule.ExportAddress image trie offset value limit =
+    IsSomeAnd (node_at trie offset) (λ node. HasTarget trie node.terminal (LeadsTo image value))
+    × (limit ≡ 0)
+ShowsNode other image trie offset value limit = ⊥
+
+-- such a node, at the place
+abbrev pub ShowsExport : Rule → List ℕ → ℕ → Conflict → Type 0
+ShowsExport rule image place c =
+    InTable image place (λ trie offset. ShowsNode rule image trie offset c.value c.limit)
+
+-- What only proofs need: where the terminal part of a node is, and where the node ends.
+abbrev pub node_bounds : Node → Span × ℕ
+node_bounds node = (node.terminal, node.end)
+
 -- what is shown of a rule of an image that is broken at a place of it
 abbrev pub Shows : Rule → List ℕ → ℕ → Conflict → Type 0
 Shows rule.HeaderTruncated image place c = (c.value ≡ 32) × (c.limit ≡ length image)
@@ -141,6 +209,11 @@ Shows rule.ChainImports image place c = IsChainSize image c.limit
 Shows rule.ChainTotal image place c = IsChainSize image c.limit
 Shows rule.ChainLibrary image place c = c.limit ≡ library_count image
 Shows rule.ChainBind image place c = Binds image place c.value
+Shows rule.ExportNode image place c = ShowsExport rule.ExportNode image place c
+Shows rule.ExportTotal image place c = ShowsExport rule.ExportTotal image place c
+Shows rule.ExportTerminal image place c = ShowsExport rule.ExportTerminal image place c
+Shows rule.ExportLibrary image place c = ShowsExport rule.ExportLibrary image place c
+Shows rule.ExportAddress image place c = ShowsExport rule.ExportAddress image place c
 Shows rule.FunctionNumber image place c = (slice_get image place ≡ Some c.value) × (c.limit ≡ 0)
 Shows rule.FunctionStart image place c = IsFunctionShown image place c.value
 Shows rule.DataInCode image place c =

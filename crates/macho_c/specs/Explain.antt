@@ -110,6 +110,8 @@ pub record IsSegmentRow (image : List ℕ) (segment : SegmentAt) : Type 0 where
 -- what is said of the segment that is sought
 abbrev pub MeetsSegment : SegmentWith → SegmentAt → Type 0
 MeetsSegment (with.Command place) segment = segment.place ≡ place
+MeetsSegment (with.Address address) segment =
+    (segment.row.vmaddr ≤ address) × (address < segment.row.vmaddr + segment.row.vmsize)
 MeetsSegment other segment = Unit {0}
 
 -- the segment that is sought, with its fields

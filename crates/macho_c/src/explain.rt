@@ -4,6 +4,7 @@ mod chains;
 mod conflict;
 mod element;
 mod entries;
+mod exports;
 mod functions;
 mod gaps;
 mod header;

@@ -36,7 +36,7 @@ pub(crate) fn explain_functions(sliced: &Sliced, rule: Rule, place: u64) -> Opti
 }
 
 // The table of the first command with this `cmd`.
-fn data_table(sliced: &Sliced, cmd: u32) -> Option<Bounded> {
+pub(crate) fn data_table(sliced: &Sliced, cmd: u32) -> Option<Bounded> {
     let walked = walk_to(sliced.held.bytes, Sought::First(cmd))?;
     let fields = tables_of(cmd).first()?;
     Some(table_by(sliced, walked.load.place, *fields, 0))

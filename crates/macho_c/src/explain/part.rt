@@ -88,6 +88,8 @@ pub(crate) const FUNCTION_START: u32 = 30;
 pub(crate) const DATA_IN_CODE_ENTRY: u32 = 31;
 /// The bytes that a `data_in_code_entry` describes.
 pub(crate) const DATA_IN_CODE: u32 = 32;
+/// A node of an export trie.
+pub(crate) const EXPORT_NODE: u32 = 33;
 
 /// No part.
 pub(crate) const NO_PART: KesvuotPart = KesvuotPart {

@@ -15,6 +15,7 @@ use crate::explain::chains::explain_chains;
 use crate::explain::conflict::Conflict;
 use crate::explain::element::{explain_byte, explain_element};
 use crate::explain::entries::slice_part;
+use crate::explain::exports::explain_exports;
 use crate::explain::functions::explain_functions;
 use crate::explain::header::explain_header;
 use crate::explain::part::{
@@ -56,14 +57,14 @@ pub(crate) fn explain_image(file: &[u8], rule: Rule, place: u64) -> Option<Kesvu
     Some(explanation(index, spot, conflict))
 }
 
-// A byte of the image that breaks a rule at a place. A walk can end just past the image.
+// A byte of the image that breaks a rule at a place. A walk over commands, and an export trie, can end just past
+// the image.
 fn byte_of(rule: Rule, place: u64) -> Option<u64>
     ensures { IfSome result (λ byte. (byte ≤ place) × (place ≤ byte + 1)) }
 {
-    if rule == Rule::CommandWalk {
-        place.checked_sub(1)
-    } else {
-        Some(place)
+    match rule {
+        Rule::CommandWalk | Rule::ExportNode => place.checked_sub(1),
+        _ => Some(place),
     }
 }
 
@@ -96,6 +97,7 @@ enum Subject {
     Byte,
     Stream,
     Chains,
+    Exports,
     Functions,
 }
 
@@ -135,6 +137,11 @@ fn subject_of(rule: Rule) -> Subject {
         | Rule::ChainLibrary
         | Rule::ChainSlot
         | Rule::ChainBind => Subject::Chains,
+        Rule::ExportNode
+        | Rule::ExportTotal
+        | Rule::ExportTerminal
+        | Rule::ExportLibrary
+        | Rule::ExportAddress => Subject::Exports,
         Rule::FunctionNumber | Rule::FunctionStart | Rule::DataInCode => Subject::Functions,
         _ => Subject::Command,
     }
@@ -163,6 +170,7 @@ fn explain_in(
         Subject::Byte => explain_byte(sliced, rule, place),
         Subject::Stream => explain_stream(sliced, rule, place),
         Subject::Chains => explain_chains(sliced, rule, place),
+        Subject::Exports => explain_exports(sliced, rule, place),
         Subject::Functions => explain_functions(sliced, rule, place),
     }
 }

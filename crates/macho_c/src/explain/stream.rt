@@ -81,8 +81,8 @@ fn stream_with<'a>(sliced: &Sliced<'a>, place: u64) -> Option<Stream<'a>> {
     None
 }
 
-// The command that names the streams.
-fn dyld_info(sliced: &Sliced) -> Option<Load> {
+// The command that names the streams, and the exports.
+pub(crate) fn dyld_info(sliced: &Sliced) -> Option<Load> {
     let bytes = sliced.held.bytes;
     match walk_to(bytes, Sought::First(LC_DYLD_INFO_ONLY)) {
         Some(walked) => Some(walked.load),
