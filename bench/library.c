@@ -48,7 +48,7 @@ static const uint32_t rule_numbers[RULE_COUNT] = {RULES(AS_NUMBER)};
 
 // The verdict of bench/floor.c: the number that the library has for the rule, or 0.
 static uint64_t by_hand(const struct file *file) {
-    struct breaks breaks = {.broken = 0};
+    struct breaks breaks = {.first = RULE_COUNT};
     struct universal universal;
     struct image image;
     if (breaks_magic(file)) {
@@ -61,11 +61,11 @@ static uint64_t by_hand(const struct file *file) {
         note(&breaks, FAT_TRUNCATED, offsetof(struct fat_header, nfat_arch));
     } else {
         judge_entries(&universal, &breaks);
-        if (breaks.broken == 0) {
+        if (is_unbroken(&breaks)) {
             judge_slices(file, &universal, &breaks);
         }
     }
-    return breaks.broken == 0 ? 0 : rule_numbers[__builtin_ctzll(breaks.broken)];
+    return is_unbroken(&breaks) ? 0 : rule_numbers[breaks.first];
 }
 
 static uint64_t walk_sections(const uint8_t *segment) {
