@@ -46,8 +46,11 @@ enum accepted { REFUSED = 0, ACCEPTED, ACCEPTED_STRICTLY };
 
 // Counters
 
-// The kinds from RULES on are the rules, by their numbers.
-enum { TABLES = 0, SLICES = 9, IMAGE, ADDRESS, DATA, BOUNDED, NAME, EXPORT, RULES, KINDS = RULES + 64 };
+// The kinds from RULES on are the rules, by their numbers. KESVUOT_EXPORT_ADDRESS is the greatest of these.
+enum {
+    TABLES = 0, SLICES = 9, IMAGE, ADDRESS, DATA, BOUNDED, NAME, EXPORT, RULES,
+    KINDS = RULES + KESVUOT_EXPORT_ADDRESS + 1
+};
 
 __attribute__((section("__libfuzzer_extra_counters"))) static uint8_t counters[64 * KINDS];
 
