@@ -78,6 +78,15 @@ rank rule.ExportAddress = 65
 rank rule.FunctionNumber = 66
 rank rule.FunctionStart = 67
 rank rule.DataInCode = 68
+rank rule.SignatureBlob = 69
+rank rule.SignatureDirectory = 70
+rank rule.SignatureWhole = 71
+rank rule.SymbolLibrary = 72
+rank rule.SymbolValue = 73
+rank rule.SymbolIndirect = 74
+rank rule.Relocation = 75
+rank rule.Thread = 76
+rank rule.CommandContent = 77
 
 -- the number by which programs know a rule. It never changes: a rule that is added takes the next free
 -- one, wherever it stands
@@ -150,6 +159,15 @@ rule_number rule.ExportTotal = 65
 rule_number rule.ExportTerminal = 66
 rule_number rule.ExportLibrary = 67
 rule_number rule.ExportAddress = 68
+rule_number rule.SignatureBlob = 69
+rule_number rule.SignatureDirectory = 70
+rule_number rule.SignatureWhole = 71
+rule_number rule.SymbolLibrary = 72
+rule_number rule.SymbolValue = 73
+rule_number rule.SymbolIndirect = 74
+rule_number rule.Relocation = 75
+rule_number rule.Thread = 76
+rule_number rule.CommandContent = 77
 
 -- the profile that a rule belongs to
 abbrev pub profile_of : Rule → Profile
@@ -190,6 +208,15 @@ profile_of rule.ExportAddress = Linked
 profile_of rule.FunctionNumber = Linked
 profile_of rule.FunctionStart = Linked
 profile_of rule.DataInCode = Linked
+profile_of rule.SignatureBlob = Linked
+profile_of rule.SignatureDirectory = Linked
+profile_of rule.SignatureWhole = Linked
+profile_of rule.SymbolLibrary = Linked
+profile_of rule.SymbolValue = Linked
+profile_of rule.SymbolIndirect = Linked
+profile_of rule.Relocation = Linked
+profile_of rule.Thread = Linked
+profile_of rule.CommandContent = Linked
 profile_of other = Layout
 
 -- the name of a rule, as ASCII text
@@ -262,6 +289,15 @@ name_of rule.ExportAddress = codes "export-address"
 name_of rule.FunctionNumber = codes "function-number"
 name_of rule.FunctionStart = codes "function-start"
 name_of rule.DataInCode = codes "data-in-code"
+name_of rule.SignatureBlob = codes "signature-blob"
+name_of rule.SignatureDirectory = codes "signature-directory"
+name_of rule.SignatureWhole = codes "signature-whole"
+name_of rule.SymbolLibrary = codes "symbol-library"
+name_of rule.SymbolValue = codes "symbol-value"
+name_of rule.SymbolIndirect = codes "symbol-indirect"
+name_of rule.Relocation = codes "relocation"
+name_of rule.Thread = codes "thread"
+name_of rule.CommandContent = codes "command-content"
 
 -- the text of a break: the name of its rule, and its place in lower-case hexadecimal
 abbrev pub text_of : Break → List ℕ

@@ -168,6 +168,24 @@ pub enum Rule {
     /// An entry of the data in code is cut, of a kind that is not known, or not in the file bytes of an
     /// executable segment.
     DataInCode = 63,
+    /// A blob of the code signature is not where it can be read, or does not begin as its magic number says.
+    SignatureBlob = 69,
+    /// A code directory is missing, cut, or of no known form, or something that it names is not inside of it.
+    SignatureDirectory = 70,
+    /// A code directory does not cover the bytes up to the signature.
+    SignatureWhole = 71,
+    /// A symbol is of a library that the image does not load.
+    SymbolLibrary = 72,
+    /// A symbol that a section defines has an address in no segment.
+    SymbolValue = 73,
+    /// The name that an indirect symbol stands in for does not end within the string table.
+    SymbolIndirect = 74,
+    /// A relocation is of no symbol or section of the image, or of no pointer that can be written.
+    Relocation = 75,
+    /// The state of a thread is cut or not known, or its entry point is at no executable byte of the file.
+    Thread = 76,
+    /// What a load command holds is not inside of it or of the image, or the command has no place in it.
+    CommandContent = 77,
 }
 
 // The name of a rule with what comes after it, so that one list serves every reader of names.
@@ -242,6 +260,15 @@ macro_rules! name_before {
             Rule::FunctionNumber => concat!("function-number", $end),
             Rule::FunctionStart => concat!("function-start", $end),
             Rule::DataInCode => concat!("data-in-code", $end),
+            Rule::SignatureBlob => concat!("signature-blob", $end),
+            Rule::SignatureDirectory => concat!("signature-directory", $end),
+            Rule::SignatureWhole => concat!("signature-whole", $end),
+            Rule::SymbolLibrary => concat!("symbol-library", $end),
+            Rule::SymbolValue => concat!("symbol-value", $end),
+            Rule::SymbolIndirect => concat!("symbol-indirect", $end),
+            Rule::Relocation => concat!("relocation", $end),
+            Rule::Thread => concat!("thread", $end),
+            Rule::CommandContent => concat!("command-content", $end),
         }
     };
 }
@@ -317,6 +344,15 @@ impl Rule {
         Rule::FunctionNumber,
         Rule::FunctionStart,
         Rule::DataInCode,
+        Rule::SignatureBlob,
+        Rule::SignatureDirectory,
+        Rule::SignatureWhole,
+        Rule::SymbolLibrary,
+        Rule::SymbolValue,
+        Rule::SymbolIndirect,
+        Rule::Relocation,
+        Rule::Thread,
+        Rule::CommandContent,
     ];
 
     /// The name of the rule in reports, in lower case.
@@ -363,6 +399,38 @@ impl Rule {
         ensures { result ≡ profile_of self }
     {
         match self {
+            // The file, an image and its commands, and what these name.
+            Rule::Magic
+            | Rule::FatTruncated
+            | Rule::FatSliceOutside
+            | Rule::FatSliceInTable
+            | Rule::FatAlign
+            | Rule::FatOverlap
+            | Rule::FatDuplicate
+            | Rule::FatSliceMagic
+            | Rule::FatEmpty => Profile::Layout,
+            Rule::HeaderTruncated
+            | Rule::ArchMismatch
+            | Rule::FileType
+            | Rule::CommandsOutside
+            | Rule::CommandWalk
+            | Rule::CommandShort
+            | Rule::CommandRepeated
+            | Rule::DylibId
+            | Rule::Name => Profile::Layout,
+            Rule::SegmentAddress
+            | Rule::SegmentSize
+            | Rule::SegmentFile
+            | Rule::SegmentOverlap
+            | Rule::SectionAddress
+            | Rule::SectionFile
+            | Rule::SectionRelocs
+            | Rule::TableRange
+            | Rule::SymbolGroup
+            | Rule::SymbolName
+            | Rule::SymbolSection
+            | Rule::IndirectIndex
+            | Rule::Entry => Profile::Layout,
             Rule::FatStrayByte
             | Rule::CommandsEnd
             | Rule::HeaderSegment
@@ -372,38 +440,7 @@ impl Rule {
             | Rule::EncryptedRange
             | Rule::CommandSlack
             | Rule::UnclaimedByte => Profile::Strict,
-            // Homes and opcodes.
-            Rule::TableRepeated
-            | Rule::FunctionVariants
-            | Rule::TableHome
-            | Rule::HeaderHome
-            | Rule::RebaseOpcode
-            | Rule::RebaseSlot
-            | Rule::RebaseTotal
-            | Rule::BindOpcode
-            | Rule::BindLibrary
-            | Rule::BindSymbol
-            | Rule::BindSlot
-            | Rule::BindTotal
-            | Rule::BindNames => Profile::Linked,
-            // Chained fixups.
-            Rule::ChainHeader
-            | Rule::ChainStarts
-            | Rule::ChainImports
-            | Rule::ChainTotal
-            | Rule::ChainLibrary
-            | Rule::ChainSlot
-            | Rule::ChainBind => Profile::Linked,
-            // Exports, functions, and data in code.
-            Rule::ExportNode
-            | Rule::ExportTotal
-            | Rule::ExportTerminal
-            | Rule::ExportLibrary
-            | Rule::ExportAddress
-            | Rule::FunctionNumber
-            | Rule::FunctionStart
-            | Rule::DataInCode => Profile::Linked,
-            _ => Profile::Layout,
+            _ => Profile::Linked,
         }
     }
 
