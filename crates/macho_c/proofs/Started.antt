@@ -9,8 +9,8 @@ use Rattle.macho_fields.specs.Field.{part}
 use Rattle.macho_fields.specs.Image.{commands_of}
 use Rattle.macho_fields.specs.Segment.{base_of}
 use Rattle.macho_fields.specs.declared.header.loader.TheConstants as loader
-use Rattle.macho_linked.specs.FunctionStarts.{next_start, function_starts}
-use Rattle.macho_linked.proofs.FunctionStarts.{starts_next, starts_none}
+use Rattle.macho_tables.specs.FunctionStarts.{next_start, function_starts}
+use Rattle.macho_tables.proofs.FunctionStarts.{starts_next, starts_none}
 use Rattle.macho_c.specs.Cursor.{start, begun}
 use Rattle.macho_c.specs.FunctionStarts.{first_start, starts_at, starts_left, HasAllStarts}
 use Rattle.macho_c.specs.Image.{ShowsUnbroken, image_in, only, bit}

@@ -11,15 +11,15 @@ use Rattle.macho_fields.specs.declared.header.loader.TheConstants as loader
 use Rattle.macho_fields.specs.declared.rule.Rule.{Rule}
 use Rattle.macho_fields.specs.declared.rule.Rule.TheVariants as rule
 use Rattle.macho_linked.specs.ChainPointers.{pointer_of}
-use Rattle.macho_linked.specs.DataInCode.{entry_at}
+use Rattle.macho_tables.specs.DataInCode.{entry_at}
 use Rattle.macho_linked.specs.ExportTrie.{Node, node_at, export_in}
-use Rattle.macho_linked.specs.Kinds.{share_kind}
-use Rattle.macho_linked.specs.Limits.{budget_of, library_count}
-use Rattle.macho_linked.specs.Numbers.{unsigned_at}
-use Rattle.macho_linked.specs.StartNumbers.{IsStartAt}
+use Rattle.macho_tables.specs.Kinds.{share_kind}
+use Rattle.macho_tables.specs.Limits.{budget_of, library_count}
+use Rattle.macho_tables.specs.Numbers.{unsigned_at}
+use Rattle.macho_tables.specs.StartNumbers.{IsStartAt}
 use Rattle.macho_linked.specs.declared.chain_starts.PointerFormat.{PointerFormat}
-use Rattle.macho_linked.specs.declared.data_in_code.DataInCodeEntry.{DataInCodeEntry}
-use Rattle.macho_linked.specs.declared.data_in_code.TheConstants as dice
+use Rattle.macho_tables.specs.declared.data_in_code.DataInCodeEntry.{DataInCodeEntry}
+use Rattle.macho_tables.specs.declared.data_in_code.TheConstants as dice
 use Rattle.macho_linked.specs.declared.export_trie.Target.{Target}
 use Rattle.macho_linked.specs.declared.export_trie.Target.TheVariants as target
 use Rattle.macho_linked.specs.declared.fixup_chains.TheConstants as chained

@@ -2,7 +2,7 @@
 use Rattle.std.specs.Prelude.{◌≡◌, ℕ, ◌+◌, ◌/◌, List, [], length, map, MatchOption}
 use Rattle.macho_fields.specs.declared.header.loader.TheConstants as loader
 use Rattle.macho_image.specs.Symbol.{items_inside}
-use Rattle.macho_linked.specs.DataInCode.{entry_at}
+use Rattle.macho_tables.specs.DataInCode.{entry_at}
 use Rattle.macho_c.specs.Cursor.{begun}
 use Rattle.macho_c.specs.Image.{only}
 use Rattle.macho_c.specs.Linkedit.{dataoff, datasize, named_data}

@@ -12,7 +12,7 @@ use Rattle.macho_fields.specs.declared.load_command.TableFields.{TableFields}
 use Rattle.macho_fields.specs.declared.load_command.Width.TheVariants.{Uint32}
 use Rattle.macho_image.specs.Symbol.{symbols_of, symbol_at}
 use Rattle.macho_image.specs.declared.symbol.Symbol.{Symbol}
-use Rattle.macho_linked.specs.Kinds.{share_kind}
+use Rattle.macho_tables.specs.Kinds.{share_kind}
 use Rattle.macho_c.specs.Cursor.{start as first_cursor}
 use Rattle.macho_c.specs.Loads.{wanted_left, IsLoad}
 use Rattle.macho_c.specs.Sections.{nsects_at}

@@ -5,7 +5,7 @@ use Rattle.macho_fields.specs.Field.{part}
 use Rattle.macho_fields.specs.Image.{commands_of}
 use Rattle.macho_fields.specs.Segment.{base_of}
 use Rattle.macho_fields.specs.declared.header.loader.TheConstants as loader
-use Rattle.macho_linked.specs.FunctionStarts.{function_starts}
+use Rattle.macho_tables.specs.FunctionStarts.{function_starts}
 use Rattle.macho_c.specs.Cursor.{start, begun}
 use Rattle.macho_c.specs.Image.{only}
 use Rattle.macho_c.specs.Linkedit.{dataoff, datasize, named_data}

@@ -12,7 +12,7 @@ use crate::linkedit::named_data;
 use crate::span::{Held, KesvuotSpan};
 use crate::table::{Table, fill};
 use macho_fields::header::loader::LC_DATA_IN_CODE;
-use macho_linked::data_in_code::{DATA_IN_CODE_ENTRY_SIZE, DataInCodeEntry};
+use macho_tables::data_in_code::{DATA_IN_CODE_ENTRY_SIZE, DataInCodeEntry};
 
 /// Data in code. (`data_in_code_entry`)
 #[repr(C)]

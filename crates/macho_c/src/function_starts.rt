@@ -13,7 +13,7 @@ use crate::parts::part_or_none;
 use crate::table::{Table, fill};
 use macho_fields::header::loader::LC_FUNCTION_STARTS;
 use macho_fields::{Bytes, Span};
-use macho_linked::function_starts::next_start;
+use macho_tables::function_starts::next_start;
 
 /// Writes the addresses of functions from the cursor on to the rows of the table, until either runs out,
 /// moves the cursor past them, and returns how many it wrote. Later rows are unchanged. They are those of the

@@ -7,7 +7,7 @@ use Rattle.std.specs.Option.{option_map_or}
 use Rattle.std.proofs.lemmas.List.Sums.{sum_by_more, sum_by-take-le}
 use Rattle.macho_fields.specs.Segment.{all_segments}
 use Rattle.macho_linked.specs.ChainStarts.{starts_of, starts_end, StartsEndBy, BreaksChainStarts}
-use Rattle.macho_linked.specs.Limits.{room, budget_of}
+use Rattle.macho_tables.specs.Limits.{room, budget_of}
 use Rattle.macho_linked.specs.declared.chain_header.ChainHeader.{ChainHeader}
 use Rattle.macho_linked.specs.declared.chain_starts.SegmentStarts.{SegmentStarts}
 use Rattle.macho_linked.proofs.UnbrokenStarts.{entries, entries_few, entries_inside, its_fields, past_others}

@@ -13,7 +13,7 @@ use Rattle.macho_linked.specs.ChainDyld.{IsMapped, ChainState, IsChainTableAt, I
 use Rattle.macho_linked.specs.ChainHeader.{chain_header}
 use Rattle.macho_linked.specs.Chains.{chained_fixups}
 use Rattle.macho_linked.specs.Dyld.{IsKept}
-use Rattle.macho_linked.specs.Kinds.{names_linked_data}
+use Rattle.macho_tables.specs.Kinds.{names_linked_data}
 use Rattle.macho_linked.specs.Rules.{BreaksImage, IsLinkedUnbroken}
 use Rattle.macho_linked.specs.declared.chain_header.ChainHeader.{ChainHeader}
 use Rattle.macho_linked.proofs.ChainCounts.{moved_first}
@@ -22,7 +22,7 @@ use Rattle.macho_linked.proofs.ChainPlaces.{come_first}
 use Rattle.macho_linked.proofs.ChainTables.{chain_table_listed}
 use Rattle.macho_linked.proofs.Harmless.{of_images}
 use Rattle.macho_linked.proofs.Memory.{same_in_memory}
-use Rattle.macho_linked.proofs.TableSurveys.{named_first}
+use Rattle.macho_tables.proofs.Places.{named_first}
 use Rattle.macho_linked.proofs.UnbrokenChains.{AreGoodChains, header_there, chains_good}
 
 module _ (image : List ℕ) (kept : NothingBreaks (BreaksImage image)) (unbroken : NothingBreaks (layout.BreaksImage image None)) (table : ℕ × ℕ × ℕ) (home : ℕ)

@@ -16,9 +16,9 @@ use Rattle.macho_spans.specs.Span.{Covers}
 use Rattle.macho_spans.specs.declared.span.Span.{Span}
 use Rattle.macho_linked.specs.ChainDyld.{IsMapped}
 use Rattle.macho_linked.specs.ChainPointers.{IsRoomTo}
-use Rattle.macho_linked.specs.Homes.{bytes_of_segment}
-use Rattle.macho_linked.specs.Limits.{room}
-use Rattle.macho_linked.specs.Segments.{is_writable}
+use Rattle.macho_tables.specs.Homes.{bytes_of_segment}
+use Rattle.macho_tables.specs.Limits.{room}
+use Rattle.macho_tables.specs.Segments.{is_writable}
 use Rattle.macho_linked.proofs.Memory.{encrypts_around, segment_among, writable_mapped, of_one_segment}
 
 -- From an offset of a segment on, and in the segments after it, a loader finds what is in the file

@@ -7,10 +7,10 @@ use Rattle.macho_fields.specs.Field.{string_from}
 use Rattle.macho_fields.specs.FirstPlace.{IsNoted, IsLeastPlace}
 use Rattle.macho_fields.proofs.Strings.{zero_after}
 use Rattle.macho_linked.specs.ChainImports.{import_bits, import_offset, import_name_start, names_size, MayShare, HasNoNameEnd, PassesTable, IsOfNoLibrary, ImportsEndPast, BreaksChainTotal, AreLeastImports, unbroken_imports}
-use Rattle.macho_linked.specs.Items.{AtItem, IsFirstItem}
+use Rattle.macho_tables.specs.Items.{AtItem, IsFirstItem}
 use Rattle.macho_linked.specs.declared.chain_header.ChainHeader.{ChainHeader}
 use Rattle.macho_linked.specs.declared.chain_imports.ImportSurvey.{ImportSurvey}
-use Rattle.macho_linked.proofs.Items.{first_item, noted_item, least_where, least_other, item_inside, items_rise}
+use Rattle.macho_tables.proofs.Items.{first_item, noted_item, least_where, least_other, item_inside, items_rise}
 
 -- a string ends by a place that is past it, right past a zero byte
 ended_by : (bytes : List ℕ) (start next : ℕ) → start < next → slice_get bytes (next - 1) ≡ Some 0 → start + length (string_from start bytes) < next

@@ -11,7 +11,8 @@ use Rattle.macho_linked.specs.ChainDyld.{number_in, array_in, count_in, entry_in
 use Rattle.macho_linked.specs.ChainHeader.{chain_header, header_with, import_format, is_known}
 use Rattle.macho_linked.specs.ChainPointers.{page_start, first_offset}
 use Rattle.macho_linked.specs.Dyld.{bytes_from}
-use Rattle.macho_linked.specs.ChainStarts.{half, pointer_format, seg_info_offset, entry_offset}
+use Rattle.macho_linked.specs.ChainStarts.{pointer_format, seg_info_offset, entry_offset}
+use Rattle.macho_tables.specs.Fields.{half}
 use Rattle.macho_linked.specs.declared.chain_header.ChainHeader.{ChainHeader}
 use Rattle.macho_linked.specs.declared.chain_header.ImportFormat.{ImportFormat}
 use Rattle.macho_linked.specs.declared.chain_starts.SegmentStarts.{SegmentStarts}

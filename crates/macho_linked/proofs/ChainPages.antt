@@ -17,14 +17,14 @@ use Rattle.macho_rules.proofs.Searches.{any_of, one_of}
 use Rattle.macho_spans.specs.declared.span.Span.{Span}
 use Rattle.macho_linked.specs.ChainPages.{IsRoom, IsEncryptionOf, IsClear, AtPointer}
 use Rattle.macho_linked.specs.ChainPointers.{pointer_at, page_start_offset, first_offset, Fits, Lead, HasChain, HasBadNext, BindsNone, BreaksPageSlot, BreaksPageBind, encryption_count}
-use Rattle.macho_linked.specs.Homes.{bytes_of_segment, Encrypts}
-use Rattle.macho_linked.specs.Limits.{room}
-use Rattle.macho_linked.specs.Segments.{is_writable, is_protected}
+use Rattle.macho_tables.specs.Homes.{bytes_of_segment, Encrypts}
+use Rattle.macho_tables.specs.Limits.{room}
+use Rattle.macho_tables.specs.Segments.{is_writable, is_protected}
 use Rattle.macho_linked.specs.declared.chain_pages.Encryption.{Encryption}
 use Rattle.macho_linked.specs.declared.chain_pointers.ChainPointer.{ChainPointer}
 use Rattle.macho_linked.specs.declared.chain_starts.SegmentStarts.{SegmentStarts}
-use Rattle.macho_linked.proofs.Nots.{not_true, true_not}
-use Rattle.macho_linked.proofs.TableSurveys.{least_same}
+use Rattle.macho_tables.proofs.Nots.{not_true, true_not}
+use Rattle.macho_tables.proofs.Places.{least_same}
 
 -- What is encrypted
 

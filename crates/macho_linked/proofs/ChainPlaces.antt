@@ -9,7 +9,7 @@ use Rattle.macho_linked.specs.ChainDyld.{IsMapped}
 use Rattle.macho_linked.specs.ChainPointers.{pointer_at, first_offset, ComesTo, HasChain, BreaksChainSlot}
 use Rattle.macho_linked.specs.ChainStarts.{starts_of, BreaksChainStarts}
 use Rattle.macho_linked.specs.Dyld.{IsKept}
-use Rattle.macho_linked.specs.Limits.{room}
+use Rattle.macho_tables.specs.Limits.{room}
 use Rattle.macho_linked.specs.declared.chain_header.ChainHeader.{ChainHeader}
 use Rattle.macho_linked.specs.declared.chain_starts.SegmentStarts.{SegmentStarts}
 use Rattle.macho_linked.proofs.ChainFresh.{IsFresh, room_whole, fresh_first, fresh_same, fresh_next, fresh_past}

@@ -6,10 +6,10 @@ use Rattle.macho_fields.specs.Image.{commands_of}
 use Rattle.macho_fields.specs.Segment.{all_segments, base_of}
 use Rattle.macho_image.specs.Segment.{SegmentView, segment_at}
 use Rattle.macho_linked.specs.ChainStarts.{seg_info_offset, starts_of, starts_end, StartsEndBy, IsReach, AreOf, HasBadStarts, HasBadEntries}
-use Rattle.macho_linked.specs.Items.{IsFirstItem}
+use Rattle.macho_tables.specs.Items.{IsFirstItem}
 use Rattle.macho_linked.specs.declared.chain_header.ChainHeader.{ChainHeader}
 use Rattle.macho_linked.specs.declared.chain_starts.SegmentStarts.{SegmentStarts}
-use Rattle.macho_linked.proofs.SegmentWalks.{ArePassed, passed_none, passed_more, passed_all}
+use Rattle.macho_tables.proofs.SegmentWalks.{ArePassed, passed_none, passed_more, passed_all}
 
 module _ (chains : List ℕ) (header : ChainHeader) where
   -- those that an entry names

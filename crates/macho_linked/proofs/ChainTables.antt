@@ -20,10 +20,11 @@ use Rattle.macho_spans.specs.declared.span.Span.{Span}
 use Rattle.macho_linked.specs.ChainHeader.{chain_header}
 use Rattle.macho_linked.specs.ChainImports.{AtImport, import_bits, HasNoNameEnd, PassesTable, IsOfNoLibrary, BreaksChainImports, BreaksChainTotal, BreaksChainLibrary}
 use Rattle.macho_linked.specs.ChainStarts.{entry_offset, HasBadEntries, HasBadStarts, BreaksChainStarts}
-use Rattle.macho_linked.specs.Chains.{chained_fixups, IsChainTable, IsTableOf, AreChainedFixups, NoHeader, HasHeader, BadStarts, BadImports, LongNames, UnknownLibrary, InChainTable, InChains, InNoBytes, BreaksChainHeader, AreLeastInChains, AreLeastInTable, AreLeastInImage, ChainsFitAt, moved_chains, unbroken_chains}
-use Rattle.macho_linked.specs.Homes.{bytes_of_table}
-use Rattle.macho_linked.specs.Items.{AtItem}
-use Rattle.macho_linked.specs.Limits.{library_count}
+use Rattle.macho_linked.specs.Chains.{chained_fixups, IsChainTable, IsTableOf, AreChainedFixups, NoHeader, HasHeader, BadStarts, BadImports, LongNames, UnknownLibrary, InChains, InNoBytes, BreaksChainHeader, AreLeastInChains, AreLeastInTable, AreLeastInImage, ChainsFitAt, moved_chains, unbroken_chains}
+use Rattle.macho_tables.specs.DataTables.{InTableBytes}
+use Rattle.macho_tables.specs.Homes.{bytes_of_table}
+use Rattle.macho_tables.specs.Items.{AtItem}
+use Rattle.macho_tables.specs.Limits.{library_count}
 use Rattle.macho_linked.specs.declared.chain_header.ChainHeader.{ChainHeader}
 use Rattle.macho_linked.specs.declared.chain_header.ImportFormat.{ImportFormat}
 use Rattle.macho_linked.specs.declared.chain_header.ImportFormat.TheVariants as format
@@ -31,14 +32,11 @@ use Rattle.macho_linked.specs.declared.chains.ChainSurvey.{ChainSurvey}
 use Rattle.macho_linked.specs.declared.chains.ChainTable.{ChainTable}
 use Rattle.macho_linked.specs.declared.chains.ChainedFixups.{ChainedFixups}
 use Rattle.macho_linked.proofs.ChainImports.{import_inside}
-use Rattle.macho_linked.proofs.Items.{least_where, least_other}
-use Rattle.macho_linked.proofs.NamedTables.{LieInside, table_named, table_inside, bounds_inside}
-use Rattle.macho_linked.proofs.TableSurveys.{fits_moved, least_moved, named_first}
+use Rattle.macho_tables.proofs.Items.{least_where, least_other}
+use Rattle.macho_tables.proofs.NamedTables.{LieInside, table_named, table_inside, bounds_inside}
+use Rattle.macho_tables.proofs.Places.{fits_moved, least_moved, named_first}
 
 -- The rules are broken at offsets in a table that has bytes
-
-abbrev pub IsChainRule : List ℕ → (List ℕ → List ℕ → ℕ → Type 0) → Type 0
-IsChainRule image Rule = (chains : List ℕ) (offset : ℕ) → 0 < length chains → Rule image chains offset → offset < length chains
 
 some_bytes : (f : ImportFormat) → 0 < (import_bits f).size
 some_bytes format.Import = omega arith
@@ -74,23 +72,23 @@ starts_near image chains header offset some broken =
 module _ (image : List ℕ) where
   -- a rule of a header
   with_header : (X : List ℕ → ChainHeader → ℕ → Type 0) → ((chains : List ℕ) (header : ChainHeader) (offset : ℕ) → 0 < length chains → X chains header offset → offset < length chains)
-      → IsChainRule image (λ bytes chains offset. HasHeader chains (λ header. X chains header offset))
+      → IsTableRule image (λ bytes chains offset. HasHeader chains (λ header. X chains header offset))
   with_header X inside chains offset some broken =
       let (header, is, here) = some_of (λ header. X chains header offset) (chain_header chains) broken in inside chains header offset some here
 
-  pub no_header : IsChainRule image NoHeader
+  pub no_header : IsTableRule image NoHeader
   no_header chains offset some (at, none) = omega arith
 
-  pub bad_starts : IsChainRule image BadStarts
+  pub bad_starts : IsTableRule image BadStarts
   bad_starts = with_header (BreaksChainStarts image) (starts_near image)
 
-  pub bad_imports : IsChainRule image BadImports
+  pub bad_imports : IsTableRule image BadImports
   bad_imports = with_header BreaksChainImports imports_near
 
-  pub long_names : IsChainRule image LongNames
+  pub long_names : IsTableRule image LongNames
   long_names = with_header BreaksChainTotal (λ chains header offset some. at_import_inside chains header (PassesTable chains header) offset)
 
-  pub unknown_library : IsChainRule image UnknownLibrary
+  pub unknown_library : IsTableRule image UnknownLibrary
   unknown_library =
       with_header (BreaksChainLibrary (library_count image))
       (λ chains header offset some. at_import_inside chains header (IsOfNoLibrary (library_count image) chains header) offset)
@@ -138,7 +136,7 @@ survey_fits image chains survey start some are fits = record {
 
 -- in the image they are the least too
 pub survey_moved : (image : List ℕ) (table : ℕ × ℕ × ℕ) (survey : ChainSurvey) → 0 < table.1 → AreLeastInTable image (part table.0 table.1 image) survey
-    → AreLeastInChains (InChainTable image table NoHeader) (InChainTable image table) (moved_chains table.0 survey)
+    → AreLeastInChains (InTableBytes image table NoHeader) (InTableBytes image table) (moved_chains table.0 survey)
 survey_moved image table survey some are = record {
   header = at NoHeader survey.header are.header;
   starts = at BadStarts survey.starts are.starts;
@@ -148,7 +146,7 @@ survey_moved image table survey some are = record {
 }
   where
     at : (Rule : List ℕ → List ℕ → ℕ → Type 0) (found : Option ℕ) → IsLeastPlace (Rule image (part table.0 table.1 image)) found
-        → IsLeastPlace (InChainTable image table Rule) (option_map (λ offset. table.0 + offset) found)
+        → IsLeastPlace (InTableBytes image table Rule) (option_map (λ offset. table.0 + offset) found)
     at Rule found least = least_where (0 < table.1) _ _ some (least_moved (Rule image (part table.0 table.1 image)) table.0 found least)
 
 -- The table of an image
@@ -179,7 +177,7 @@ chains_unlisted image none = record {
   where
     nothing : (Rule : List ℕ → List ℕ → ℕ → Type 0) (place : ℕ) → ¬ InChains image Rule place
     nothing Rule place broken =
-        let (command, is, (some, here)) = some_of (λ c. InChainTable image (table_at image c linkedit_data_table) Rule place) (chained_fixups image) broken in
+        let (command, is, (some, here)) = some_of (λ c. InTableBytes image (table_at image c linkedit_data_table) Rule place) (chained_fixups image) broken in
         none (bytes_of_table (table_at image command linkedit_data_table)) (chain_table_of image command is some)
 
     -- the place is that of the command
@@ -222,10 +220,10 @@ module _ (image : List ℕ) (table : Span) (is : IsChainTable image table) where
       let (command, at, (same, some)) = some_of (λ c. (table ≡ bytes_of_table (table_at image c linkedit_data_table)) × (0 < table.len)) (chained_fixups image) is in
       let bounds = table_at image command linkedit_data_table in
       let here = survey_moved image (table.start, table.len, 1) survey some are in
-      let there = subst (λ (t : Span). AreLeastInChains (InChainTable image (t.start, t.len, 1) NoHeader) (InChainTable image (t.start, t.len, 1)) (moved_chains table.start survey)) same here in
+      let there = subst (λ (t : Span). AreLeastInChains (InTableBytes image (t.start, t.len, 1) NoHeader) (InTableBytes image (t.start, t.len, 1)) (moved_chains table.start survey)) same here in
       subst
-      (λ (found : Option ℕ). AreLeastInChains (λ place. IsSomeAnd found (λ c. InChainTable image (table_at image c linkedit_data_table) NoHeader place))
-      (λ Rule place. IsSomeAnd found (λ c. InChainTable image (table_at image c linkedit_data_table) Rule place)) (moved_chains table.start survey)) (sym at) there
+      (λ (found : Option ℕ). AreLeastInChains (λ place. IsSomeAnd found (λ c. InTableBytes image (table_at image c linkedit_data_table) NoHeader place))
+      (λ Rule place. IsSomeAnd found (λ c. InTableBytes image (table_at image c linkedit_data_table) Rule place)) (moved_chains table.start survey)) (sym at) there
 
   pub chains_listed : (survey : ChainSurvey) → AreLeastInTable image (part table.start table.len image) survey → AreLeastInImage image (moved_chains table.start survey)
   chains_listed survey are =
@@ -263,9 +261,9 @@ module _ (image : List ℕ) (command : ℕ) (is : chained_fixups image ≡ Some 
     chains_inside = table_inside image keeps command LinkeditDataCommand is_linkedit linkedit_data_table its_table refl
 
 -- a place at which a rule is broken lies in the image
-pub chains_near : (image : List ℕ) → NothingBreaks (BreaksImage image None) → (Rule : List ℕ → List ℕ → ℕ → Type 0) → IsChainRule image Rule → (place : ℕ) → InChains image Rule place → place ≤ length image
+pub chains_near : (image : List ℕ) → NothingBreaks (BreaksImage image None) → (Rule : List ℕ → List ℕ → ℕ → Type 0) → IsTableRule image Rule → (place : ℕ) → InChains image Rule place → place ≤ length image
 chains_near image keeps Rule inside place broken =
-    let (command, is, (some, (offset, at, here))) = some_of (λ c. InChainTable image (table_at image c linkedit_data_table) Rule place) (chained_fixups image) broken in
+    let (command, is, (some, (offset, at, here))) = some_of (λ c. InTableBytes image (table_at image c linkedit_data_table) Rule place) (chained_fixups image) broken in
     let table = table_at image command linkedit_data_table in
     let fits = chains_inside image command is keeps some in
     let size = length-part table.0 table.1 image fits in

@@ -5,7 +5,8 @@ use Rattle.std.proofs.lemmas.Option.{none-some}
 use Rattle.macho_fields.proofs.Options.{of_some, some_has}
 use Rattle.macho_spans.specs.declared.span.Span.{Span}
 use Rattle.macho_linked.specs.ExportWalk.{whole_export, HasExport}
-use Rattle.macho_linked.specs.Exports.{IsMapped, LeadsNowhere, ResolvesNowhere, HasNoLibrary, HasNoAddress, AreNodeBreaks}
+use Rattle.macho_linked.specs.Exports.{LeadsNowhere, ResolvesNowhere, HasNoLibrary, HasNoAddress, AreNodeBreaks}
+use Rattle.macho_tables.specs.MappedAddresses.{IsMapped}
 use Rattle.macho_linked.specs.declared.export_trie.Export.{Export}
 use Rattle.macho_linked.specs.declared.export_trie.Target.{Target}
 use Rattle.macho_linked.specs.declared.export_trie.Target.TheVariants as target

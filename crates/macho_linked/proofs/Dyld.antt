@@ -12,16 +12,17 @@ use Rattle.macho_fields.specs.Rules as layout
 use Rattle.macho_fields.specs.Segment.{all_segments, vmaddr, vmsize, filesize}
 use Rattle.macho_fields.specs.Symbol.{table_at, tables_of}
 use Rattle.macho_fields.proofs.Options.{some_of, of_some}
-use Rattle.macho_linked.specs.Kinds.{names_linked_data}
+use Rattle.macho_tables.specs.Kinds.{names_linked_data}
 use Rattle.macho_image.proofs.ReadParts.{length-part}
 use Rattle.macho_rules.proofs.Searches.{mapped_has}
 use Rattle.macho_spans.specs.Span.{Covers}
 use Rattle.macho_linked.specs.Cursor.{start, moved, cursor_after, writes}
 use Rattle.macho_linked.specs.Dyld.{State, bytes_from, Takes, IsLast, slot, Moves, Reaches, IsKept, IsAt, IsSafe, IsFollowedSafely, AreFollowedSafely}
 use Rattle.macho_linked.specs.Harmless.{all_streams, streams_of, IsStream, WritesAt, IsHarmless}
-use Rattle.macho_linked.specs.Images.{dyld_info, opcodes_of, fields_of}
+use Rattle.macho_linked.specs.Images.{opcodes_of, fields_of}
+use Rattle.macho_tables.specs.Places.{dyld_info}
 use Rattle.macho_linked.specs.Rules.{BreaksImage, IsLinkedUnbroken}
-use Rattle.macho_linked.specs.Segments.{is_writable, is_constant}
+use Rattle.macho_tables.specs.Segments.{is_writable, is_constant}
 use Rattle.macho_linked.specs.Steps.{step_at, AreStepsFrom, AreSteps}
 use Rattle.macho_linked.specs.declared.cursor.Cursor.{Cursor}
 use Rattle.macho_linked.specs.declared.step.Opcodes.{Opcodes}
@@ -32,7 +33,8 @@ use Rattle.macho_linked.proofs.Harmless.{harmless_image, of_images}
 use Rattle.macho_linked.proofs.Memory.{segment_among, never_constant, same_in_memory}
 use Rattle.macho_linked.proofs.Prefixes.{step_same}
 use Rattle.macho_linked.proofs.StepChains.{steps_more, steps_on}
-use Rattle.macho_linked.proofs.TableSurveys.{info_has, stream_named, stream_inside}
+use Rattle.macho_linked.proofs.TableSurveys.{stream_named, stream_inside}
+use Rattle.macho_tables.proofs.Places.{info_has}
 use Rattle.macho_linked.proofs.Within.{step_within}
 
 -- Two lists that agree as far as both go: an opcode that one has is that of the other, but for the last

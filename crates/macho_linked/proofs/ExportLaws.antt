@@ -14,8 +14,9 @@ use Rattle.macho_spans.specs.declared.span.Span.{Span}
 use Rattle.macho_linked.specs.ExportLaw.{IsThere, IsSoundTerminal, AreSoundNodes, IsWay, node_bytes, way_bytes, AreShortWays, IsNeverCut, AreSoundExports}
 use Rattle.macho_linked.specs.ExportTrie.{Node, node_at, head_at, edges_at, begins_with, ends, terminal_from, find_terminal}
 use Rattle.macho_linked.specs.ExportWalk.{Met, walk, met_nodes, children, AtMet, HasNoEnd, PassesTable, HasTerminal, IsBadTerminal, HasExport, whole_export}
-use Rattle.macho_linked.specs.Exports.{IsMapped, IsOfNoLibrary, LeadsNowhere, EndlessNode, TooManyBytes, BadTerminal, UnknownLibrary, UnknownAddress, is_absolute, export_table, HasNoLibrary, HasNoAddress, InExports, BreaksExportNode, BreaksExportTotal, BreaksExportTerminal, BreaksExportLibrary, BreaksExportAddress}
-use Rattle.macho_linked.specs.Limits.{library_count}
+use Rattle.macho_linked.specs.Exports.{IsOfNoLibrary, LeadsNowhere, EndlessNode, TooManyBytes, BadTerminal, UnknownLibrary, UnknownAddress, is_absolute, export_table, HasNoLibrary, HasNoAddress, InExports, BreaksExportNode, BreaksExportTotal, BreaksExportTerminal, BreaksExportLibrary, BreaksExportAddress}
+use Rattle.macho_tables.specs.MappedAddresses.{IsMapped}
+use Rattle.macho_tables.specs.Limits.{library_count}
 use Rattle.macho_linked.specs.declared.export_trie.Export.{Export}
 use Rattle.macho_linked.specs.declared.export_trie.ExportEdge.{ExportEdge}
 use Rattle.macho_linked.specs.declared.export_trie.ExportNode.{ExportNode}

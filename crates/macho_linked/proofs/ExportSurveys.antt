@@ -13,11 +13,11 @@ use Rattle.macho_linked.specs.ExportNodes.{IsMetAt}
 use Rattle.macho_linked.specs.ExportTrie.{Node, node_at}
 use Rattle.macho_linked.specs.ExportWalk.{Met, walk, met_nodes, children, AtMet, own_place, place_or_end, HasNoEnd, PassesTable, HasTerminal, IsBadTerminal, HasExport}
 use Rattle.macho_linked.specs.Exports.{HasNoLibrary, HasNoAddress, AreLeastInTrie, AreNodeBreaks, IsNotedLeast, unbroken_exports}
-use Rattle.macho_linked.specs.Images.{lesser}
+use Rattle.macho_tables.specs.Places.{lesser}
 use Rattle.macho_linked.specs.declared.export_walk.MetNode.{MetNode}
 use Rattle.macho_linked.specs.declared.exports.ExportSurvey.{ExportSurvey}
 use Rattle.macho_linked.specs.declared.exports.NodeBreaks.{NodeBreaks}
-use Rattle.macho_linked.proofs.TableSurveys.{least_same, least_joined}
+use Rattle.macho_tables.proofs.Places.{least_same, least_joined}
 
 -- One node more
 

@@ -23,16 +23,17 @@ use Rattle.macho_spans.specs.Span.{end_of}
 use Rattle.macho_spans.specs.declared.span.Span.{Span}
 use Rattle.macho_linked.specs.ExportTrie.{Node, node_at, head_at}
 use Rattle.macho_linked.specs.ExportWalk.{Met, AtMet, HasNoEnd, own_place, place_or_end, met_nodes}
-use Rattle.macho_linked.specs.Exports.{IsMapped, EndlessNode, TooManyBytes, BadTerminal, UnknownLibrary, UnknownAddress, InExports, export_table, some_bytes, AreLeastInTrie, AreLeastInImage, moved_exports, ExportsFitAt, exports_data, info_exports, BreaksExportNode, BreaksExportTotal, BreaksExportTerminal, BreaksExportLibrary, BreaksExportAddress}
-use Rattle.macho_linked.specs.Images.{dyld_info, bounded_at}
+use Rattle.macho_linked.specs.Exports.{EndlessNode, TooManyBytes, BadTerminal, UnknownLibrary, UnknownAddress, InExports, export_table, some_bytes, AreLeastInTrie, AreLeastInImage, moved_exports, ExportsFitAt, exports_data, info_exports, BreaksExportNode, BreaksExportTotal, BreaksExportTerminal, BreaksExportLibrary, BreaksExportAddress}
+use Rattle.macho_tables.specs.MappedAddresses.{IsMapped}
+use Rattle.macho_tables.specs.Places.{dyld_info, bounded_at}
 use Rattle.macho_linked.specs.declared.export_trie.ExportNode.{ExportNode}
 use Rattle.macho_linked.specs.declared.exports.ExportSurvey.{ExportSurvey}
-use Rattle.macho_linked.specs.Numbers.{unsigned_at}
+use Rattle.macho_tables.specs.Numbers.{unsigned_at}
 use Rattle.macho_linked.proofs.ExportNodes.{met_headless}
 use Rattle.macho_linked.proofs.ExportTries.{number_ends}
-use Rattle.macho_linked.proofs.NamedTables.{LieInside, table_inside, bounds_inside}
-use Rattle.macho_linked.proofs.TableSurveys.{named_first, info_has, least_moved}
-use Rattle.macho_linked.specs.Homes.{bytes_of_table}
+use Rattle.macho_tables.proofs.NamedTables.{LieInside, table_inside, bounds_inside}
+use Rattle.macho_tables.proofs.Places.{named_first, info_has, least_moved}
+use Rattle.macho_tables.specs.Homes.{bytes_of_table}
 use Rattle.macho_image.proofs.ReadParts.{length-part}
 
 -- The tables that commands name
@@ -65,14 +66,6 @@ some_inside image table (Some found) is inside = by_len table.len refl
         let one : table ≡ found = same_Some table found (sym (is ∙ same)) in
         let less : 0 < table.len = omega (arith, some) in
         subst (λ (t : Span). (end_of t ≤ length image) × (0 < t.len)) one (inside less, less)
-
--- an address to which a segment is mapped has 64 bits
-pub mapped_near : (image : List ℕ) → NothingBreaks (BreaksImage image None) → (address : ℕ) → IsMapped image address → address < 2 ^ 64
-mapped_near image keeps address (k, segment, less, at, covers) =
-    elim (cases_lt (2 ^ 64) (vmaddr image segment + vmsize image segment)) [
-      | inl past ↦ absurd (keeps rule.SegmentAddress segment (inr (commands_of image, opened_commands image (unbroken_opened image keeps), ((k, less, at), past))))
-      | inr inside ↦ let below = covers.1 in omega (arith, below, inside)
-    ]
 
 -- Where a rule is broken
 

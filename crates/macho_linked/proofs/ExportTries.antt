@@ -10,11 +10,11 @@ use Rattle.macho_fields.specs.Field.{part, string_from, HasZero}
 use Rattle.macho_fields.proofs.Strings.{string_ends}
 use Rattle.macho_spans.specs.declared.span.Span.{Span}
 use Rattle.macho_linked.specs.ExportTrie.{Node, name_at, edge_at, edges_at, head_at, node_at, begins_with, terminal_from}
-use Rattle.macho_linked.specs.Numbers.{number_bytes, unsigned_at}
+use Rattle.macho_tables.specs.Numbers.{number_bytes, unsigned_at}
 use Rattle.macho_linked.specs.declared.export_trie.ExportEdge.{ExportEdge}
 use Rattle.macho_linked.specs.declared.export_trie.ExportNode.{ExportNode}
 use Rattle.macho_linked.proofs.Operands.{endless_size}
-use Rattle.macho_linked.proofs.Within.{IsWithin, unsigned_within}
+use Rattle.macho_tables.proofs.NumberEnds.{IsWithin, unsigned_within}
 
 -- What an option is made of
 

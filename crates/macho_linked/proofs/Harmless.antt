@@ -21,10 +21,11 @@ use Rattle.macho_rules.proofs.Searches.{mapped_has}
 use Rattle.macho_rules.proofs.Verdicts.{unbroken_image_sound}
 use Rattle.macho_linked.specs.Cursor.{cursor_after, writes}
 use Rattle.macho_linked.specs.Harmless.{all_streams, streams_of, IsStream, SaysAt, IsSlot, IsHarmless, AreHarmless}
-use Rattle.macho_linked.specs.Images.{dyld_info, Undecoded, NoLibrary, NoName, NoSlot, TooMany, InTable, InStream, InRebases, InBinds, InBindsOf, opcodes_of, fields_of}
-use Rattle.macho_linked.specs.Limits.{room, rooms_of, budget_of, library_count}
+use Rattle.macho_linked.specs.Images.{Undecoded, NoLibrary, NoName, NoSlot, TooMany, InTable, InStream, InRebases, InBinds, InBindsOf, opcodes_of, fields_of}
+use Rattle.macho_tables.specs.Places.{dyld_info}
+use Rattle.macho_tables.specs.Limits.{room, rooms_of, budget_of, library_count}
 use Rattle.macho_linked.specs.Rules.{BreaksFile, BreaksSlice, BreaksImage, IsLinkedUnbroken}
-use Rattle.macho_linked.specs.Segments.{is_writable}
+use Rattle.macho_tables.specs.Segments.{is_writable}
 use Rattle.macho_linked.specs.Steps.{step_at, AreStepsFrom, AreSteps}
 use Rattle.macho_linked.specs.Streams.{pointers, EndsInRoom, reach}
 use Rattle.macho_linked.specs.declared.step.Opcodes.{Opcodes}

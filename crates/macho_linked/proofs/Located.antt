@@ -23,19 +23,19 @@ use Rattle.macho_image.proofs.ReadParts.{length-part}
 use Rattle.macho_spans.specs.Span.{end_of}
 use Rattle.macho_spans.specs.declared.span.Span.{Span}
 use Rattle.macho_strict.specs.Unclaimed.{is_code}
-use Rattle.macho_linked.specs.DataInCode.{entry_at, entry_place, entry_count, is_known_kind, bytes_of_entry, IsCodeOf, IsBadEntry, BadEntry}
-use Rattle.macho_linked.specs.DataTables.{IsDataTable}
-use Rattle.macho_linked.specs.FunctionStarts.{next_start, starts_up_to, function_starts}
-use Rattle.macho_linked.specs.Homes.{bytes_of_segment, bytes_of_table}
+use Rattle.macho_tables.specs.DataInCode.{entry_at, entry_place, entry_count, is_known_kind, bytes_of_entry, IsCodeOf, IsBadEntry, BadEntry}
+use Rattle.macho_tables.specs.DataTables.{IsDataTable}
+use Rattle.macho_tables.specs.FunctionStarts.{next_start, starts_up_to, function_starts}
+use Rattle.macho_tables.specs.Homes.{bytes_of_segment, bytes_of_table}
 use Rattle.macho_linked.specs.Located.{IsLocatedEntry, IsLocated, AreLocated}
-use Rattle.macho_linked.specs.Numbers.{number_bytes, digits_value, unsigned_at}
+use Rattle.macho_tables.specs.Numbers.{number_bytes, digits_value, unsigned_at}
 use Rattle.macho_linked.specs.Rules.{BreaksImage, IsLinkedUnbroken}
-use Rattle.macho_linked.specs.StartNumbers.{AreNumbers, IsFileAddress, StrayStart}
-use Rattle.macho_linked.specs.declared.data_in_code.DataInCodeEntry.{DataInCodeEntry}
-use Rattle.macho_linked.proofs.DataTables.{broken_in_image, data_inside}
-use Rattle.macho_linked.proofs.FileBytes.{file_or_not}
+use Rattle.macho_tables.specs.StartNumbers.{AreNumbers, IsFileAddress, StrayStart}
+use Rattle.macho_tables.specs.declared.data_in_code.DataInCodeEntry.{DataInCodeEntry}
+use Rattle.macho_tables.proofs.DataTables.{broken_in_image, data_inside}
+use Rattle.macho_tables.proofs.FileBytes.{file_or_not}
 use Rattle.macho_linked.proofs.Harmless.{of_images}
-use Rattle.macho_linked.proofs.StartNumbers.{numbers_more, stray_here}
+use Rattle.macho_tables.proofs.StartNumbers.{numbers_more, stray_here}
 
 -- The first number of what is left of the data
 kept : {X : Type 0} (b : Bool) (given : X) (x : X) → cond b (Some given) None ≡ Some x → (b ≡ true) × (given ≡ x)

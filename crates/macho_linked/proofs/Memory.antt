@@ -17,10 +17,10 @@ use Rattle.macho_rules.proofs.Verdicts.{unbroken_opened, unbroken_image_sound}
 use Rattle.macho_spans.specs.Span.{Covers, Shares}
 use Rattle.macho_spans.specs.declared.span.Span.{Span}
 use Rattle.macho_linked.specs.Dyld.{IsKept}
-use Rattle.macho_linked.specs.Homes.{bytes_of_table, Encrypts, IsHome, IsAstray, HasHome, IsHomeless}
-use Rattle.macho_linked.specs.Kinds.{names_linked_data}
+use Rattle.macho_tables.specs.Homes.{bytes_of_table, Encrypts, IsHome, IsAstray, HasHome, IsHomeless}
+use Rattle.macho_tables.specs.Kinds.{names_linked_data}
 use Rattle.macho_linked.specs.Rules.{BreaksImage}
-use Rattle.macho_linked.specs.Segments.{is_writable, is_constant, IsLinkedit}
+use Rattle.macho_tables.specs.Segments.{is_writable, is_constant, IsLinkedit}
 
 -- the byte with an offset in a part of the image
 part_at : (image : List ℕ) (start size k : ℕ) → k < size → get_or (part start size image) k 0 ≡ get_or image (start + k) 0

@@ -6,8 +6,8 @@ use Rattle.std.specs.Option.{option_map, option_and_then}
 use Rattle.std.proofs.lemmas.Bool.{cases_Bool}
 use Rattle.macho_fields.specs.Field.{string_from}
 use Rattle.macho_linked.specs.Cursor.{start, moved, cursor_after}
-use Rattle.macho_linked.specs.Limits.{AreRooms}
-use Rattle.macho_linked.specs.Numbers.{unsigned_at, signed_at}
+use Rattle.macho_tables.specs.Limits.{AreRooms}
+use Rattle.macho_tables.specs.Numbers.{unsigned_at, signed_at}
 use Rattle.macho_linked.specs.Steps.{with_number, opcode_step, step_at, AreStepsFrom, AreSteps}
 use Rattle.macho_linked.specs.Streams.{EndsInRoom, WritesOutside, reach}
 use Rattle.macho_linked.specs.declared.cursor.Cursor.{Cursor}

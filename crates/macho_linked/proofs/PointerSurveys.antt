@@ -23,17 +23,17 @@ use Rattle.macho_linked.specs.ChainPages.{AreLeastPlaces, OfPages, unbroken_poin
 use Rattle.macho_linked.specs.ChainPointers.{page_start_offset, Fits, OfSomePage, BreaksPageSlot, BreaksPageBind, BreaksChainSlot, BreaksChainBind}
 use Rattle.macho_linked.specs.ChainStarts.{segment_starts, starts_of, seg_info_offset, seg_count, HasBadEntries}
 use Rattle.macho_linked.specs.Chains.{chained_fixups, IsChainTable, OfTable, InPointers}
-use Rattle.macho_linked.specs.Homes.{bytes_of_table}
-use Rattle.macho_linked.specs.Images.{lesser}
-use Rattle.macho_linked.specs.Items.{OfItem}
+use Rattle.macho_tables.specs.Homes.{bytes_of_table}
+use Rattle.macho_tables.specs.Places.{lesser}
+use Rattle.macho_tables.specs.Items.{OfItem}
 use Rattle.macho_linked.specs.declared.chain_header.ChainHeader.{ChainHeader}
 use Rattle.macho_linked.specs.declared.chain_pages.PointerSurvey.{PointerSurvey}
 use Rattle.macho_linked.specs.declared.chain_starts.SegmentStarts.{SegmentStarts}
 use Rattle.macho_linked.proofs.ChainPages.{fits_inside}
 use Rattle.macho_linked.proofs.ChainTables.{chain_table_of, chain_table_some, chains_inside}
-use Rattle.macho_linked.proofs.Items.{least_where}
+use Rattle.macho_tables.proofs.Items.{least_where}
 use Rattle.macho_linked.proofs.UnbrokenStarts.{read_starts}
-use Rattle.macho_linked.proofs.TableSurveys.{least_same, least_joined}
+use Rattle.macho_tables.proofs.Places.{least_same, least_joined}
 
 -- Items, one after the other
 

@@ -9,13 +9,13 @@ use Rattle.std.proofs.lemmas.List.Sums.{position_or_len_is, fails_before_first, 
 use Rattle.std.proofs.lemmas.Option.{slice_get_within, slice_get-get_or, get_or_from_slice_get}
 use Rattle.macho_fields.specs.Field.{string_from}
 use Rattle.macho_linked.specs.Dyld.{IsLast}
-use Rattle.macho_linked.specs.Numbers.{number_bytes, unsigned_at, signed_at}
+use Rattle.macho_tables.specs.Numbers.{number_bytes, unsigned_at, signed_at}
 use Rattle.macho_linked.specs.Steps.{with_number, with_count_and_skip, with_addend, with_name, opcode_step, step_at}
 use Rattle.macho_linked.specs.declared.step.Opcodes.{Opcodes}
 use Rattle.macho_linked.specs.declared.step.Step.{Step}
 use Rattle.macho_linked.specs.declared.step.Step.TheVariants as step
 use Rattle.macho_linked.proofs.OpcodeCases.{Operands, opcode_alike}
-use Rattle.macho_linked.proofs.Within.{IsWithin, unsigned_within}
+use Rattle.macho_tables.proofs.NumberEnds.{IsWithin, unsigned_within}
 
 -- the first byte that passes is the same in a longer list
 position_same : (p : ℕ → Bool) (xs ys : List ℕ) → position_or_len p xs < length xs → position_or_len p (xs ++ ys) ≡ position_or_len p xs

@@ -15,9 +15,9 @@ use Rattle.macho_fields.proofs.Decided.{not_not, both_or_not, any_or_not, some_o
 use Rattle.macho_fields.proofs.Options.{some_of}
 use Rattle.macho_image.specs.Segment.{segment_name}
 use Rattle.macho_rules.proofs.Searches.{any_of}
-use Rattle.macho_linked.specs.Homes.{HasLinkedData, IsTextElsewhere, IsSafeBase, HasSafeBase}
+use Rattle.macho_tables.specs.Homes.{HasLinkedData, IsTextElsewhere, IsSafeBase, HasSafeBase}
 use Rattle.macho_linked.specs.Rules.{BreaksImage}
-use Rattle.macho_linked.specs.Segments.{is_constant, IsText}
+use Rattle.macho_tables.specs.Segments.{is_constant, IsText}
 
 opposite_or_not : {P : Type 0} → P ⊎ ¬ P → (¬ P) ⊎ ¬ (¬ P)
 opposite_or_not (inl p) = inr (λ n. n p)

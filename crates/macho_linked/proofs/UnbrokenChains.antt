@@ -11,8 +11,9 @@ use Rattle.macho_linked.specs.ChainHeader.{chain_header}
 use Rattle.macho_linked.specs.ChainImports.{BreaksChainImports, BreaksChainTotal, BreaksChainLibrary}
 use Rattle.macho_linked.specs.ChainPointers.{BreaksChainSlot, BreaksChainBind}
 use Rattle.macho_linked.specs.ChainStarts.{BreaksChainStarts}
-use Rattle.macho_linked.specs.Chains.{HasHeader, chained_fixups, NoHeader, BadStarts, BadImports, LongNames, UnknownLibrary, InChainTable, InChains, OfTable, InPointers}
-use Rattle.macho_linked.specs.Limits.{library_count}
+use Rattle.macho_linked.specs.Chains.{HasHeader, chained_fixups, NoHeader, BadStarts, BadImports, LongNames, UnknownLibrary, InChains, OfTable, InPointers}
+use Rattle.macho_tables.specs.DataTables.{InTableBytes}
+use Rattle.macho_tables.specs.Limits.{library_count}
 use Rattle.macho_linked.specs.Rules.{BreaksImage}
 use Rattle.macho_linked.specs.declared.chain_header.ChainHeader.{ChainHeader}
 
@@ -42,8 +43,8 @@ module _ (image : List ℕ) (kept : NothingBreaks (BreaksImage image)) (table : 
   -- a rule of the table
   unbroken_in : (Rule : List ℕ → List ℕ → ℕ → Type 0) → ((place : ℕ) → ¬ InChains image Rule place) → (offset : ℕ) → ¬ Rule image chains offset
   unbroken_in Rule none offset broken =
-      none (table.0 + offset) (of_some (λ c. InChainTable image (table_at image c linkedit_data_table) Rule (table.0 + offset)) (chained_fixups image) command named
-      (subst (λ (t : ℕ × ℕ × ℕ). InChainTable image t Rule (table.0 + offset)) is_table (some, (offset, refl, broken))))
+      none (table.0 + offset) (of_some (λ c. InTableBytes image (table_at image c linkedit_data_table) Rule (table.0 + offset)) (chained_fixups image) command named
+      (subst (λ (t : ℕ × ℕ × ℕ). InTableBytes image t Rule (table.0 + offset)) is_table (some, (offset, refl, broken))))
 
   -- there is a header
   pub header_there : (header : ChainHeader) × (chain_header chains ≡ Some header)

@@ -4,9 +4,9 @@ use Rattle.std.proofs.lemmas.Bool.{cases_lt}
 use Rattle.macho_fields.proofs.Decided.{zero_or_none}
 use Rattle.macho_linked.specs.ChainDyld.{IsImportThere}
 use Rattle.macho_linked.specs.ChainImports.{import_bits, import_offset, import_name_start, names_size, ImportsEndPast, BreaksChainImports, BreaksChainTotal, BreaksChainLibrary}
-use Rattle.macho_linked.specs.Limits.{library_count}
+use Rattle.macho_tables.specs.Limits.{library_count}
 use Rattle.macho_linked.specs.declared.chain_header.ChainHeader.{ChainHeader}
-use Rattle.macho_linked.proofs.Items.{items_rise}
+use Rattle.macho_tables.proofs.Items.{items_rise}
 
 module _ (image chains : List ℕ) (header : ChainHeader) (kept : (offset : ℕ) → ¬ BreaksChainImports chains header offset) where
   imports_end : ¬ ImportsEndPast chains header

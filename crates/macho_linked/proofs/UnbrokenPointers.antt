@@ -6,7 +6,7 @@ use Rattle.macho_fields.specs.Segment.{all_segments, fileoff}
 use Rattle.macho_fields.proofs.Options.{of_some}
 use Rattle.macho_linked.specs.ChainPointers.{pointer_at, page_start_offset, first_offset, Fits, Lead, HasChain, ComesTo, BreaksPageSlot, BreaksPageBind, OfSomePage, BreaksChainSlot, BreaksChainBind}
 use Rattle.macho_linked.specs.ChainStarts.{starts_of, seg_count, HasBadEntries, BreaksChainStarts}
-use Rattle.macho_linked.specs.Segments.{is_protected}
+use Rattle.macho_tables.specs.Segments.{is_protected}
 use Rattle.macho_linked.specs.declared.chain_header.ChainHeader.{ChainHeader}
 use Rattle.macho_linked.specs.declared.chain_starts.SegmentStarts.{SegmentStarts}
 use Rattle.macho_linked.proofs.UnbrokenStarts.{entries, count_is, entries_good}

@@ -7,8 +7,9 @@ use Rattle.std.proofs.lemmas.Bool.Decides.{leb_tells}
 use Rattle.std.proofs.lemmas.Option.{none-some, same_Some, slice_get-get_or}
 use Rattle.macho_fields.specs.Image.{word, commands_of}
 use Rattle.macho_fields.specs.Segment.{all_segments, base_of, vmaddr}
-use Rattle.macho_linked.specs.ChainStarts.{half, pointer_format, starts_with, are_whole, segment_starts, seg_count, entry_offset, seg_info_offset, starts_of, starts_end, StartsEndBy, HasBadStarts, HasBadEntries, BreaksChainStarts}
-use Rattle.macho_linked.specs.Items.{AtItem}
+use Rattle.macho_linked.specs.ChainStarts.{pointer_format, starts_with, are_whole, segment_starts, seg_count, entry_offset, seg_info_offset, starts_of, starts_end, StartsEndBy, HasBadStarts, HasBadEntries, BreaksChainStarts}
+use Rattle.macho_tables.specs.Fields.{half}
+use Rattle.macho_tables.specs.Items.{AtItem}
 use Rattle.macho_linked.specs.declared.chain_header.ChainHeader.{ChainHeader}
 use Rattle.macho_linked.specs.declared.chain_starts.PointerFormat.{PointerFormat}
 use Rattle.macho_linked.specs.declared.chain_starts.SegmentStarts.{SegmentStarts}

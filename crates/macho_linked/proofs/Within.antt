@@ -7,54 +7,16 @@ use Rattle.std.proofs.lemmas.Bool.{cases_lt, lt-ltb, le-ltb}
 use Rattle.std.proofs.lemmas.List.{length-take}
 use Rattle.std.proofs.lemmas.Option.{slice_get_within}
 use Rattle.macho_fields.specs.Field.{string_from}
-use Rattle.macho_linked.specs.Numbers.{number_bytes, unsigned_at, signed_at}
+use Rattle.macho_tables.proofs.NumberEnds.{IsWithin, either, unsigned_within, signed_within}
 use Rattle.macho_linked.specs.Steps.{with_number, with_count_and_skip, with_addend, with_name, last_step, opcode_step, step_at}
 use Rattle.macho_linked.specs.declared.step.Opcodes.{Opcodes}
 use Rattle.macho_linked.specs.declared.step.Step.{Step}
 use Rattle.macho_linked.specs.declared.step.Step.TheVariants as step
 use Rattle.macho_linked.proofs.OpcodeCases.{Operands, opcode_alike}
 
--- what is read at a place ends past it, or at it, and in the stream
-abbrev pub IsWithin : {X : Type 0} → List ℕ → ℕ → Option (X × ℕ) → Type 0
-IsWithin stream next read = MatchOption read (Unit {0}) (λ r. (next ≤ r.1) × (r.1 ≤ length stream))
-
-either : {X : Type 0} (stream : List ℕ) (next : ℕ) (b : Bool) (x y : Option (X × ℕ)) → IsWithin stream next x → IsWithin stream next y
-    → IsWithin stream next (cond b x y)
-either stream next true x y first second = first
-either stream next false x y first second = second
-
-pub part_of : {X : Type 0} (b : Bool) (given bytes : X) → cond b (Some given) None ≡ Some bytes → given ≡ bytes
-part_of true given bytes is = cc
-part_of false given bytes is = absurd (cc)
-
 further : {X : Type 0} (stream : List ℕ) (next later : ℕ) → next ≤ later → (read : Option (X × ℕ)) → IsWithin stream later read → IsWithin stream next read
 further stream next later less None is = tt
 further stream next later less (Some r) is = (omega arith, is.1)
-
--- A number
-pub number_whole : (stream bytes : List ℕ) → number_bytes stream ≡ Some bytes → length bytes ≤ length stream
-unfolding number_bytes
-number_whole stream bytes is =
-    let size = position_or_len (λ byte. nat_lt byte 0x80) stream + 1 in
-    let given = part_of _ (take size stream) bytes is in
-    let count = length-take size stream in rw (← given, count) (omega arith)
-
-number_within : {X : Type 0} (stream : List ℕ) (place : ℕ) (fits : List ℕ → Bool) (value : List ℕ → X) → place ≤ length stream
-    → (read : Option (List ℕ)) → number_bytes (drop place stream) ≡ read
-    → IsWithin stream place (option_and_then (λ bytes. cond (fits bytes) (Some (value bytes, place + length bytes)) None) read)
-number_within stream place fits value inside None is = tt
-number_within stream place fits value inside (Some bytes) is =
-    let whole = number_whole (drop place stream) bytes is in
-    let size = length-drop place stream in
-    either stream place (fits bytes) _ _ (omega arith, omega arith) tt
-
-pub unsigned_within : (stream : List ℕ) (place : ℕ) → place ≤ length stream → IsWithin stream place (unsigned_at stream place)
-unfolding unsigned_at
-unsigned_within stream place inside = number_within stream place _ _ inside _ refl
-
-signed_within : (stream : List ℕ) (place : ℕ) → place ≤ length stream → IsWithin stream place (signed_at stream place)
-unfolding signed_at
-signed_within stream place inside = number_within stream place _ _ inside _ refl
 
 module _ (stream : List ℕ) (next : ℕ) (inside : next ≤ length stream) where
   plain : (s : Step) → IsWithin stream next (Some (s, next))

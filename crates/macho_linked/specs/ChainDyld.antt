@@ -16,14 +16,14 @@ use Rattle.macho_linked.specs.ChainPointers.{pointer_of}
 use Rattle.macho_linked.specs.ChainStarts.{pointer_format, entry_offset}
 use Rattle.macho_linked.specs.Chains.{chained_fixups}
 use Rattle.macho_linked.specs.Dyld.{bytes_from, IsKept}
-use Rattle.macho_linked.specs.Homes.{Encrypts}
-use Rattle.macho_linked.specs.Limits.{budget_of, library_count}
-use Rattle.macho_linked.specs.Segments.{is_protected, is_writable, IsLinkedit}
+use Rattle.macho_tables.specs.Homes.{Encrypts}
+use Rattle.macho_tables.specs.Limits.{budget_of, library_count}
+use Rattle.macho_tables.specs.Segments.{is_protected, is_writable, IsLinkedit}
 use Rattle.macho_linked.specs.declared.chain_header.ChainHeader.{ChainHeader}
 use Rattle.macho_linked.specs.declared.chain_pointers.ChainPointer.{ChainPointer}
 use Rattle.macho_linked.specs.declared.chain_starts.PointerFormat.{PointerFormat}
 use Rattle.macho_linked.specs.declared.fixup_chains.TheConstants as chained
-use Rattle.macho_linked.specs.declared.step.TheConstants as size
+use Rattle.macho_tables.specs.declared.limits.TheConstants as size
 use Rattle.macho_spans.specs.Span.{Covers}
 
 -- What a loader has: memory, how many segments it is done with, how many pages of the next one, and the

@@ -5,7 +5,7 @@ use Rattle.macho_fields.specs.Field.{string_from, HasZero}
 use Rattle.macho_fields.specs.FirstPlace.{IsLeastPlace}
 use Rattle.macho_fields.specs.Symbol.{number_of}
 use Rattle.macho_fields.specs.declared.load_command.Width.TheVariants.{Uint32, Uint64}
-use Rattle.macho_linked.specs.Items.{AtItem}
+use Rattle.macho_tables.specs.Items.{AtItem}
 use Rattle.macho_linked.specs.declared.chain_header.ChainHeader.{ChainHeader}
 use Rattle.macho_linked.specs.declared.chain_header.ImportFormat.{ImportFormat}
 use Rattle.macho_linked.specs.declared.chain_header.ImportFormat.TheVariants as format
@@ -14,7 +14,7 @@ use Rattle.macho_linked.specs.declared.chain_imports.ImportBits.{ImportBits}
 use Rattle.macho_linked.specs.declared.chain_imports.ImportSurvey.{ImportSurvey}
 use Rattle.macho_linked.specs.declared.chain_imports.Ordinal.{Ordinal}
 use Rattle.macho_linked.specs.declared.chain_imports.Ordinal.TheVariants as ordinal
-use Rattle.macho_linked.specs.declared.stream.TheConstants as stream
+use Rattle.macho_tables.specs.declared.limits.TheConstants as limit
 
 -- The structures: their size, the width of the bits with which they begin, which of these are lib_ordinal, and
 -- from which on they are name_offset. What is between the two, weak_import and reserved bits, is not looked at.
@@ -72,7 +72,7 @@ PassesTable chains header k = length chains < names_size chains header (suc k)
 -- the ordinal is above the number of libraries, or so far below 0 that it has no meaning
 abbrev pub IsNoLibrary : ℕ → Ordinal → Type 0
 IsNoLibrary libraries (ordinal.Library number) = libraries < number
-IsNoLibrary libraries (ordinal.Special below) = stream.SPECIAL_ORDINALS < below
+IsNoLibrary libraries (ordinal.Special below) = limit.SPECIAL_ORDINALS < below
 
 abbrev pub IsOfNoLibrary : ℕ → List ℕ → ChainHeader → ℕ → Type 0
 IsOfNoLibrary libraries chains header k = IsNoLibrary libraries (import_of chains header k).ordinal

@@ -9,9 +9,9 @@ use Rattle.macho_image.specs.Command.{first_with_cmd, command_of, command_at}
 use Rattle.macho_image.specs.Opened.{IsOpened}
 use Rattle.macho_linked.specs.ChainPointers.{Lead, Fits, IsRoomTo, encryption_count}
 use Rattle.macho_linked.specs.ChainStarts.{starts_of}
-use Rattle.macho_linked.specs.Homes.{Encrypts}
-use Rattle.macho_linked.specs.Images.{lesser}
-use Rattle.macho_linked.specs.Items.{OfItem}
+use Rattle.macho_tables.specs.Homes.{Encrypts}
+use Rattle.macho_tables.specs.Places.{lesser}
+use Rattle.macho_tables.specs.Items.{OfItem}
 use Rattle.macho_linked.specs.declared.chain_header.ChainHeader.{ChainHeader}
 use Rattle.macho_linked.specs.declared.chain_pages.Encryption.{Encryption}
 use Rattle.macho_linked.specs.declared.chain_pages.PointerSurvey.{PointerSurvey}

@@ -7,10 +7,11 @@ use Rattle.std.specs.Prelude.{◌≡◌, ◌≢◌, ℕ, suc, ◌+◌, ◌*◌, 
 use Rattle.macho_fields.specs.Image.{long, commands_of, with_cmd}
 use Rattle.macho_fields.specs.Segment.{all_segments, fileoff}
 use Rattle.macho_fields.specs.declared.header.loader.TheConstants as loader
-use Rattle.macho_linked.specs.ChainStarts.{half, seg_count, starts_of, HasBadEntries}
-use Rattle.macho_linked.specs.Homes.{bytes_of_segment, Encrypts}
-use Rattle.macho_linked.specs.Limits.{room}
-use Rattle.macho_linked.specs.Segments.{is_protected}
+use Rattle.macho_linked.specs.ChainStarts.{seg_count, starts_of, HasBadEntries}
+use Rattle.macho_tables.specs.Fields.{half}
+use Rattle.macho_tables.specs.Homes.{bytes_of_segment, Encrypts}
+use Rattle.macho_tables.specs.Limits.{room}
+use Rattle.macho_tables.specs.Segments.{is_protected}
 use Rattle.macho_linked.specs.declared.chain_header.ChainHeader.{ChainHeader}
 use Rattle.macho_linked.specs.declared.chain_pointers.ChainPointer.{ChainPointer}
 use Rattle.macho_linked.specs.declared.chain_pointers.PointerBits.{PointerBits}
@@ -18,7 +19,7 @@ use Rattle.macho_linked.specs.declared.chain_starts.PointerFormat.{PointerFormat
 use Rattle.macho_linked.specs.declared.chain_starts.PointerFormat.TheVariants as format
 use Rattle.macho_linked.specs.declared.chain_starts.SegmentStarts.{SegmentStarts}
 use Rattle.macho_linked.specs.declared.fixup_chains.TheConstants as chained
-use Rattle.macho_linked.specs.declared.step.TheConstants as size
+use Rattle.macho_tables.specs.declared.limits.TheConstants as size
 
 -- The bits of a pointer: from which on they are `next`, which these are then, how many bytes a step of next
 -- has, which bit is `bind`, and which of the lowest bits are the ordinal of the import

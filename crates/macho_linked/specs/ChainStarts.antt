@@ -6,17 +6,13 @@ use Rattle.macho_fields.specs.Field.{number, field}
 use Rattle.macho_fields.specs.Image.{word, long, commands_of}
 use Rattle.macho_fields.specs.Segment.{all_segments, base_of, vmaddr}
 use Rattle.macho_fields.specs.declared.bytes.Order.TheVariants.{Little}
-use Rattle.macho_linked.specs.Items.{AtItem}
-use Rattle.macho_linked.specs.Segments.{is_writable}
+use Rattle.macho_tables.specs.Items.{AtItem}
+use Rattle.macho_tables.specs.Segments.{is_writable}
 use Rattle.macho_linked.specs.declared.chain_header.ChainHeader.{ChainHeader}
 use Rattle.macho_linked.specs.declared.chain_starts.PointerFormat.{PointerFormat}
 use Rattle.macho_linked.specs.declared.chain_starts.PointerFormat.TheVariants as format
 use Rattle.macho_linked.specs.declared.chain_starts.SegmentStarts.{SegmentStarts}
 use Rattle.macho_linked.specs.declared.fixup_chains.TheConstants as chained
-
--- a field of 16 bits
-abbrev pub half : List ℕ → ℕ → ℕ
-half chains offset = number Little 2 chains offset
 
 -- pointer_format
 abbrev pub pointer_format : ℕ → Option PointerFormat

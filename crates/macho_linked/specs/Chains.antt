@@ -13,8 +13,9 @@ use Rattle.macho_image.specs.Command.{first_with_cmd}
 use Rattle.macho_linked.specs.ChainHeader.{chain_header}
 use Rattle.macho_linked.specs.ChainImports.{BreaksChainImports, BreaksChainTotal, BreaksChainLibrary}
 use Rattle.macho_linked.specs.ChainStarts.{BreaksChainStarts}
-use Rattle.macho_linked.specs.Homes.{bytes_of_table}
-use Rattle.macho_linked.specs.Limits.{library_count}
+use Rattle.macho_tables.specs.DataTables.{InTableBytes}
+use Rattle.macho_tables.specs.Homes.{bytes_of_table}
+use Rattle.macho_tables.specs.Limits.{library_count}
 use Rattle.macho_linked.specs.declared.chain_header.ChainHeader.{ChainHeader}
 use Rattle.macho_linked.specs.declared.chains.ChainSurvey.{ChainSurvey}
 use Rattle.macho_linked.specs.declared.chains.ChainTable.{ChainTable}
@@ -66,12 +67,6 @@ abbrev pub UnknownLibrary : List ℕ → List ℕ → ℕ → Type 0
 UnknownLibrary image chains offset =
     HasHeader chains (λ header. BreaksChainLibrary (library_count image) chains header offset)
 
--- such a rule, of the bytes of a table that has some, at a place of the image
-abbrev pub InChainTable : List ℕ → ℕ × ℕ × ℕ → (List ℕ → List ℕ → ℕ → Type 0) → ℕ → Type 0
-InChainTable image table Rule place =
-    (0 < table.1)
-    × ((offset : ℕ) × (place ≡ table.0 + offset) × Rule image (part table.0 table.1 image) offset)
-
 -- a rule of the pointers, of a table that has some bytes
 abbrev pub OfTable : List ℕ → ℕ × ℕ × ℕ → (List ℕ → ℕ → List ℕ → ChainHeader → ℕ → Type 0) → ℕ → Type 0
 OfTable image table Rule place =
@@ -82,7 +77,7 @@ OfTable image table Rule place =
 abbrev pub InChains : List ℕ → (List ℕ → List ℕ → ℕ → Type 0) → ℕ → Type 0
 InChains image Rule place =
     IsSomeAnd (chained_fixups image)
-    (λ command. InChainTable image (table_at image command linkedit_data_table) Rule place)
+    (λ command. InTableBytes image (table_at image command linkedit_data_table) Rule place)
 
 -- loaders read a header where the command says, and its table has no bytes, which is reported at the command
 abbrev pub InNoBytes : List ℕ → ℕ → Type 0

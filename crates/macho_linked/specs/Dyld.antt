@@ -10,9 +10,9 @@ use Rattle.macho_fields.specs.Segment.{all_segments, vmaddr, vmsize, fileoff, fi
 use Rattle.macho_fields.specs.Universal.{slices_of, slice_bytes, IsImage}
 use Rattle.macho_linked.specs.Cursor.{start, moved, cursor_after, writes}
 use Rattle.macho_linked.specs.Harmless.{streams_of}
-use Rattle.macho_linked.specs.Homes.{Encrypts}
-use Rattle.macho_linked.specs.Images.{dyld_info}
-use Rattle.macho_linked.specs.Segments.{is_writable, is_constant, is_protected, IsLinkedit}
+use Rattle.macho_tables.specs.Homes.{Encrypts}
+use Rattle.macho_tables.specs.Places.{dyld_info}
+use Rattle.macho_tables.specs.Segments.{is_writable, is_constant, is_protected, IsLinkedit}
 use Rattle.macho_linked.specs.Steps.{step_at, AreSteps}
 use Rattle.macho_linked.specs.declared.cursor.Cursor.{Cursor}
 use Rattle.macho_linked.specs.declared.opcode.TheConstants as opcode
@@ -20,7 +20,7 @@ use Rattle.macho_linked.specs.declared.step.Opcodes.{Opcodes}
 use Rattle.macho_linked.specs.declared.step.Opcodes.TheVariants as opcodes
 use Rattle.macho_linked.specs.declared.step.Step.{Step}
 use Rattle.macho_linked.specs.declared.step.Step.TheVariants as step
-use Rattle.macho_linked.specs.declared.step.TheConstants as size
+use Rattle.macho_tables.specs.declared.limits.TheConstants as size
 use Rattle.macho_spans.specs.Span.{Covers}
 
 -- What a loader has: memory, its place in the stream, and what the opcodes before have set

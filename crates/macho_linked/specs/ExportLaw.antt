@@ -8,8 +8,9 @@ use Rattle.macho_fields.specs.Universal.{slices_of, slice_bytes, IsImage}
 use Rattle.macho_spans.specs.declared.span.Span.{Span}
 use Rattle.macho_linked.specs.ExportTrie.{Node, node_at, terminal_from, find_terminal}
 use Rattle.macho_linked.specs.ExportWalk.{Met, met_nodes, children, whole_export}
-use Rattle.macho_linked.specs.Exports.{IsMapped, is_absolute, export_table}
-use Rattle.macho_linked.specs.Limits.{library_count}
+use Rattle.macho_linked.specs.Exports.{is_absolute, export_table}
+use Rattle.macho_tables.specs.MappedAddresses.{IsMapped}
+use Rattle.macho_tables.specs.Limits.{library_count}
 use Rattle.macho_linked.specs.declared.export_trie.Export.{Export}
 use Rattle.macho_linked.specs.declared.export_trie.Target.{Target}
 use Rattle.macho_linked.specs.declared.export_trie.Target.TheVariants as target

@@ -6,7 +6,7 @@ use Rattle.std.specs.List.{starts_with}
 use Rattle.std.specs.Option.{option_map, option_and_then}
 use Rattle.macho_fields.specs.Field.{part, string_from}
 use Rattle.macho_spans.specs.declared.span.Span.{Span}
-use Rattle.macho_linked.specs.Numbers.{unsigned_at}
+use Rattle.macho_tables.specs.Numbers.{unsigned_at}
 use Rattle.macho_linked.specs.declared.export_trie.Export.{Export}
 use Rattle.macho_linked.specs.declared.export_trie.ExportEdge.{ExportEdge}
 use Rattle.macho_linked.specs.declared.export_trie.ExportNode.{ExportNode}

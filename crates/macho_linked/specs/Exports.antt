@@ -10,12 +10,12 @@ use Rattle.macho_fields.specs.Symbol.{table_at}
 use Rattle.macho_fields.specs.LoadCommands.{linkedit_data_table}
 use Rattle.macho_fields.specs.declared.header.loader.TheConstants as loader
 use Rattle.macho_image.specs.Command.{first_with_cmd}
-use Rattle.macho_rules.specs.Mapping.{sources, GivesSources}
 use Rattle.macho_spans.specs.declared.span.Span.{Span}
 use Rattle.macho_linked.specs.ExportWalk.{met_nodes, AtMet, own_place, place_or_end, HasNoEnd, PassesTable, HasTerminal, IsBadTerminal, HasExport}
-use Rattle.macho_linked.specs.Homes.{bytes_of_table}
-use Rattle.macho_linked.specs.Images.{dyld_info, bounded_at, lesser}
-use Rattle.macho_linked.specs.Limits.{library_count}
+use Rattle.macho_tables.specs.MappedAddresses.{IsMapped, AreMappedAddresses}
+use Rattle.macho_tables.specs.Homes.{bytes_of_table}
+use Rattle.macho_tables.specs.Places.{dyld_info, bounded_at, lesser}
+use Rattle.macho_tables.specs.Limits.{library_count}
 use Rattle.macho_linked.specs.declared.export_trie.Export.{Export}
 use Rattle.macho_linked.specs.declared.export_trie.Target.{Target}
 use Rattle.macho_linked.specs.declared.export_trie.Target.TheVariants as target
@@ -31,10 +31,6 @@ use Rattle.macho_linked.specs.declared.exports.NodeBreaks.{NodeBreaks}
 abbrev pub IsOfNoLibrary : ℕ → Target → Type 0
 IsOfNoLibrary libraries (target.Reexport ordinal name) = (libraries < ordinal) × (ordinal < 2 ^ 64 - 3)
 IsOfNoLibrary libraries other = ⊥
-
--- some segment is mapped to the address
-abbrev pub IsMapped : List ℕ → ℕ → Type 0
-IsMapped image address = Any (λ segment. Supplies image segment address) (all_segments image)
 
 -- no segment is mapped to the address of it, or it has a resolver and none is mapped to the address of that. Both
 -- count from the base.
@@ -146,8 +142,7 @@ HasExports image = (table : Span) × (export_table image ≡ Some table)
 pub record AreDestinations (image : List ℕ) (destinations : Destinations) : Type 0 where
   pub libraries : destinations.libraries ≡ library_count image
   pub base : destinations.base ≡ base_of image (commands_of image)
-  pub mapping : GivesSources image (sources destinations.mapping)
-  pub near : (address : ℕ) → IsMapped image address → address < 2 ^ 64
+  pub addresses : AreMappedAddresses image destinations.addresses
 
 -- these rules a terminal part breaks
 pub record AreNodeBreaks (image trie : List ℕ) (bounds : Span) (breaks : NodeBreaks) : Type 0 where

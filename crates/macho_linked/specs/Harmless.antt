@@ -7,17 +7,18 @@ use Rattle.macho_fields.specs.Segment.{all_segments, base_of, vmaddr, filesize, 
 use Rattle.macho_fields.specs.Symbol.{table_at}
 use Rattle.macho_fields.specs.Universal.{slices_of, slice_bytes, IsImage}
 use Rattle.macho_linked.specs.Cursor.{cursor_after}
-use Rattle.macho_linked.specs.Homes.{IsHome, HasLinkedData}
-use Rattle.macho_linked.specs.Images.{dyld_info, opcodes_of, fields_of}
-use Rattle.macho_linked.specs.Limits.{budget_of, library_count}
-use Rattle.macho_linked.specs.Segments.{is_writable, IsText}
+use Rattle.macho_tables.specs.Homes.{IsHome, HasLinkedData}
+use Rattle.macho_linked.specs.Images.{opcodes_of, fields_of}
+use Rattle.macho_tables.specs.Places.{dyld_info}
+use Rattle.macho_tables.specs.Limits.{budget_of, library_count}
+use Rattle.macho_tables.specs.Segments.{is_writable, IsText}
 use Rattle.macho_linked.specs.Steps.{step_at, AreSteps}
 use Rattle.macho_linked.specs.Streams.{pointers}
 use Rattle.macho_linked.specs.declared.step.Opcodes.{Opcodes}
 use Rattle.macho_linked.specs.declared.step.Opcodes.TheVariants as opcodes
 use Rattle.macho_linked.specs.declared.step.Step.{Step}
 use Rattle.macho_linked.specs.declared.step.Step.TheVariants as step
-use Rattle.macho_linked.specs.declared.step.TheConstants as size
+use Rattle.macho_tables.specs.declared.limits.TheConstants as size
 use Rattle.macho_linked.specs.declared.streams.Stream.{Stream}
 use Rattle.macho_linked.specs.declared.streams.Stream.TheVariants as streams
 use Rattle.macho_spans.specs.declared.span.Span.{Span}

@@ -1,7 +1,7 @@
 -- The streams of an image, and where they break their rules. A place is one in the image.
 -- (mach-o/loader.h: dyld_info_command)
 use Rattle.std.specs.Prelude.{◌≡◌, ℕ, ◌+◌, ◌^◌, ◌<◌, ◌⊎◌, List, length, min, Option, Some, None, IfSome, IsSomeAnd}
-use Rattle.std.specs.Option.{option_map, option_map_or}
+use Rattle.std.specs.Option.{option_map}
 use Rattle.macho_fields.specs.Field.{part}
 use Rattle.macho_fields.specs.FirstPlace.{IsLeastPlace}
 use Rattle.macho_fields.specs.Image.{commands_of}
@@ -10,7 +10,8 @@ use Rattle.macho_fields.specs.Symbol.{table_at}
 use Rattle.macho_fields.specs.declared.header.loader.TheConstants as loader
 use Rattle.macho_fields.specs.declared.load_command.TableFields.{TableFields}
 use Rattle.macho_image.specs.Command.{first_with_cmd}
-use Rattle.macho_linked.specs.Limits.{rooms_of, library_count, budget_of}
+use Rattle.macho_tables.specs.Places.{dyld_info, bounded_at, lesser}
+use Rattle.macho_tables.specs.Limits.{rooms_of, library_count, budget_of}
 use Rattle.macho_linked.specs.Streams.{At, pointers, names, IsUndecoded, NamesNoLibrary, LacksName, WritesOutside, PassesBudget, PassesNames}
 use Rattle.macho_linked.specs.declared.step.Opcodes.{Opcodes}
 use Rattle.macho_linked.specs.declared.step.Opcodes.TheVariants as opcodes
@@ -18,19 +19,8 @@ use Rattle.macho_linked.specs.declared.stream.StreamSurvey.{StreamSurvey}
 use Rattle.macho_linked.specs.declared.streams.Stream.{Stream}
 use Rattle.macho_linked.specs.declared.streams.Stream.TheVariants as streams
 
--- the command that names the streams of an image, of which there is at most one after table-repeated
-abbrev pub dyld_info : List ℕ → Option ℕ
-dyld_info image =
-    option_map_or (λ command. Some command)
-    (first_with_cmd image loader.LC_DYLD_INFO_ONLY (commands_of image))
-    (first_with_cmd image loader.LC_DYLD_INFO (commands_of image))
-
--- dyld_info_command: rebase_off at 8, bind_off 16, weak_bind_off 24 and lazy_bind_off 32. The size of
--- each follows it.
-abbrev pub bounded_at : ℕ → TableFields
-bounded_at place = word_table place (place + 4) 1
-
--- what the opcodes of a stream are, and the fields that bound it
+-- what the opcodes of a stream are, and the fields that bound it: rebase_off at 8, bind_off 16, weak_bind_off 24
+-- and lazy_bind_off 32. The size of each follows it.
 abbrev pub opcodes_of : Stream → Opcodes
 opcodes_of streams.Rebase = opcodes.Rebase
 opcodes_of streams.LazyBind = opcodes.LazyBind
@@ -95,12 +85,6 @@ pub record AreLeast (In : (List ℕ → Opcodes → List ℕ → ℕ → Type 0)
   pub slot : IsLeastPlace (In NoSlot) survey.slot
   pub total : IsLeastPlace (In TooMany) survey.total
   pub names : IsLeastPlace (In TooLong) survey.names
-
--- the lesser of two places
-abbrev pub lesser : Option ℕ → Option ℕ → Option ℕ
-lesser None other = other
-lesser (Some one) None = Some one
-lesser (Some one) (Some other) = Some (min one other)
 
 -- the lesser places of two surveys
 abbrev pub joined : StreamSurvey → StreamSurvey → StreamSurvey

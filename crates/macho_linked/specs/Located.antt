@@ -5,12 +5,12 @@ use Rattle.macho_fields.specs.Image.{commands_of}
 use Rattle.macho_fields.specs.Segment.{all_segments, base_of}
 use Rattle.macho_fields.specs.Universal.{slices_of, slice_bytes, IsImage}
 use Rattle.macho_fields.specs.declared.header.loader.TheConstants as loader
-use Rattle.macho_linked.specs.DataInCode.{entry_at, entry_place, is_known_kind, bytes_of_entry, IsCodeOf}
-use Rattle.macho_linked.specs.DataTables.{IsDataTable}
-use Rattle.macho_linked.specs.FunctionStarts.{function_starts}
-use Rattle.macho_linked.specs.StartNumbers.{IsFileAddress}
-use Rattle.macho_linked.specs.declared.data_in_code.DataInCodeEntry.{DataInCodeEntry}
-use Rattle.macho_linked.specs.declared.data_in_code.TheConstants as dice
+use Rattle.macho_tables.specs.DataInCode.{entry_at, entry_place, is_known_kind, bytes_of_entry, IsCodeOf}
+use Rattle.macho_tables.specs.DataTables.{IsDataTable}
+use Rattle.macho_tables.specs.FunctionStarts.{function_starts}
+use Rattle.macho_tables.specs.StartNumbers.{IsFileAddress}
+use Rattle.macho_tables.specs.declared.data_in_code.DataInCodeEntry.{DataInCodeEntry}
+use Rattle.macho_tables.specs.declared.data_in_code.TheConstants as dice
 use Rattle.macho_spans.specs.declared.span.Span.{Span}
 
 -- the kind of the entry has a meaning, and its bytes, if it has some, are all in the file bytes of one segment

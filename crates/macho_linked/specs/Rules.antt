@@ -7,12 +7,12 @@ use Rattle.macho_fields.specs.declared.rule.Rule.{Rule}
 use Rattle.macho_fields.specs.declared.rule.Rule.TheVariants as rule
 use Rattle.macho_linked.specs.ChainPointers.{BreaksChainSlot, BreaksChainBind}
 use Rattle.macho_linked.specs.Chains.{BadStarts, BadImports, LongNames, UnknownLibrary, InChains, BreaksChainHeader, InPointers}
-use Rattle.macho_linked.specs.DataInCode.{BreaksDataInCode}
+use Rattle.macho_tables.specs.DataInCode.{BreaksDataInCode}
 use Rattle.macho_linked.specs.Exports.{BreaksExportNode, BreaksExportTotal, BreaksExportTerminal, BreaksExportLibrary, BreaksExportAddress}
-use Rattle.macho_linked.specs.Homes.{BreaksTableHome, BreaksHeaderHome}
+use Rattle.macho_tables.specs.Homes.{BreaksTableHome, BreaksHeaderHome}
 use Rattle.macho_linked.specs.Images.{Undecoded, NoLibrary, NoName, NoSlot, TooMany, TooLong, InRebases, InBinds}
-use Rattle.macho_linked.specs.Kinds.{BreaksTableRepeated, BreaksFunctionVariants}
-use Rattle.macho_linked.specs.StartNumbers.{BreaksFunctionNumber, BreaksFunctionStart}
+use Rattle.macho_tables.specs.Kinds.{BreaksTableRepeated, BreaksFunctionVariants}
+use Rattle.macho_tables.specs.StartNumbers.{BreaksFunctionNumber, BreaksFunctionStart}
 
 -- the image breaks the rule at the place
 abbrev pub BreaksImage : List ℕ → Rule → ℕ → Type 0

@@ -8,9 +8,8 @@ use Rattle.macho_linked.specs.declared.cursor.Cursor.{Cursor}
 use Rattle.macho_linked.specs.declared.step.Opcodes.{Opcodes}
 use Rattle.macho_linked.specs.declared.step.Step.{Step}
 use Rattle.macho_linked.specs.declared.step.Step.TheVariants as step
-use Rattle.macho_linked.specs.declared.step.TheConstants as size
+use Rattle.macho_tables.specs.declared.limits.TheConstants as limit
 use Rattle.macho_linked.specs.declared.stream.Limits.{Limits}
-use Rattle.macho_linked.specs.declared.stream.TheConstants as stream
 use Rattle.macho_linked.specs.declared.stream.StreamSurvey.{StreamSurvey}
 
 -- the steps come up to the place, where an opcode should be, and there is none that says anything
@@ -37,7 +36,7 @@ At done P of stream place =
 -- the step sets an ordinal above the number of libraries, or one so far below 0 that it has no meaning
 abbrev pub NamesNoLibrary : ℕ → Cursor → ℕ → Step → Type 0
 NamesNoLibrary libraries cursor written (step.SetLibrary ordinal) = libraries < ordinal
-NamesNoLibrary libraries cursor written (step.SetSpecial below) = stream.SPECIAL_ORDINALS < below
+NamesNoLibrary libraries cursor written (step.SetSpecial below) = limit.SPECIAL_ORDINALS < below
 NamesNoLibrary libraries cursor written other = ⊥
 
 -- the step writes, and no name is set
@@ -47,7 +46,7 @@ LacksName cursor written next = (0 < writes next) × (cursor.name ≡ None)
 -- the offset past the last of some pointers: the first is at an offset, and each other one skip bytes
 -- past the one before it
 abbrev pub reach : ℕ → ℕ → ℕ → ℕ
-reach offset count skip = offset + (count - 1) * (size.POINTER_SIZE + skip) + size.POINTER_SIZE
+reach offset count skip = offset + (count - 1) * (limit.POINTER_SIZE + skip) + limit.POINTER_SIZE
 
 -- Rooms: of each segment how many bytes can be written, from its start on. One that is not there has
 -- none.

@@ -9,7 +9,8 @@ use crate::fixup_chains::{
     DYLD_CHAINED_FIXUPS_HEADER_SIZE, DYLD_CHAINED_IMPORT, DYLD_CHAINED_IMPORT_ADDEND,
     DYLD_CHAINED_IMPORT_ADDEND64,
 };
-use macho_fields::{Bytes, Order};
+use macho_fields::Bytes;
+use macho_tables::fields::word_at;
 
 // The version of the format.
 const VERSION: u32 = 0;
@@ -106,12 +107,4 @@ fn is_known(chains: Bytes) -> bool
     ensures { result ≡ is_known_of (bytes_of chains.entry) }
 {
     word_at(chains, FIXUPS_VERSION) == VERSION && word_at(chains, SYMBOLS_FORMAT) == UNCOMPRESSED
-}
-
-// The field of 32 bits at an offset, which is inside.
-pub(crate) fn word_at(chains: Bytes, offset: u64) -> u32
-    requires { offset + 4 ≤ length (bytes_of chains) }
-    ensures { result ≡ word (bytes_of chains.entry) offset }
-{
-    chains.read_u32(Order::Little, offset)
 }

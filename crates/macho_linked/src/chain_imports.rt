@@ -8,9 +8,11 @@ ghost use Rattle.macho_fields.specs.Field.{string_from, HasZero};
 ghost use Rattle.macho_fields.specs.FirstPlace.{IsLeastPlace};
 ghost use Rattle.macho_linked.specs.ChainImports.{ImportsEndPast, MayShare, BreaksChainTotal, AreLeastImports};
 
-use crate::chain_header::{ChainHeader, ImportFormat, word_at};
-use crate::stream::{SPECIAL_ORDINALS, note_if};
+use crate::chain_header::{ChainHeader, ImportFormat};
 use macho_fields::{Bytes, Order, Span, Width};
+use macho_tables::fields::word_at;
+use macho_tables::limits::SPECIAL_ORDINALS;
+use macho_tables::place::note_if;
 
 // How many of the greatest values of an ordinal are below 0.
 const SPECIAL_VALUES: u64 = 15;

@@ -9,25 +9,24 @@ ghost use Rattle.macho_fields.specs.Segment.{PassesImage};
 ghost use Rattle.macho_linked.specs.ChainPages.{AreLeastPlaces, IsRoom, IsEncryptionOf, IsClear, AtPointer, OfPages};
 ghost use Rattle.macho_linked.specs.ChainPointers.{Fits, HasBadNext, BindsNone, BreaksPageSlot, BreaksPageBind, BreaksChainSlot, BreaksChainBind, page_start_offset};
 ghost use Rattle.macho_linked.specs.ChainStarts.{entry_offset};
-ghost use Rattle.macho_linked.specs.Items.{OfItem};
+ghost use Rattle.macho_tables.specs.Items.{OfItem};
 
 use crate::chain_header::ChainHeader;
 use crate::chain_pointers::ChainPointer;
-use crate::chain_starts::{SegmentStarts, half_at, has_bad_entries};
+use crate::chain_starts::{SegmentStarts, has_bad_entries};
 use crate::chains::ChainedFixups;
 use crate::fixup_chains::{
     DYLD_CHAINED_PTR_START_NONE, DYLD_CHAINED_STARTS_IN_SEGMENT_SIZE, PAGE_START_SIZE,
     SEG_INFO_OFFSET_SIZE,
 };
-use crate::homes::encrypts;
-use crate::limits::room;
-use crate::segment::is_protected;
-use crate::step::POINTER_SIZE;
-use crate::stream::note_if;
-use crate::streams::lesser;
 use macho_fields::header::loader::{LC_ENCRYPTION_INFO_64, SEGMENT_COMMAND_64_SIZE};
 use macho_fields::{Bytes, Order, Span};
 use macho_image::{Command, Image, Segment};
+use macho_tables::fields::half_at;
+use macho_tables::homes::encrypts;
+use macho_tables::limits::{POINTER_SIZE, room};
+use macho_tables::place::{lesser, note_if};
+use macho_tables::segment::is_protected;
 
 /// Where the pointers of the chains first break each of their rules, as places in the image.
 #[derive(Clone, Copy, Debug)]

@@ -7,14 +7,16 @@ ghost use Rattle.macho_fields.specs.Bytes.{bytes_of};
 ghost use Rattle.macho_fields.specs.FirstPlace.{IsLeastPlace};
 ghost use Rattle.macho_fields.specs.Image.{commands_of};
 ghost use Rattle.macho_fields.specs.Segment.{all_segments, base_of};
-ghost use Rattle.macho_linked.specs.ChainStarts.{half, are_whole as are_whole_of, entry_offset, BreaksChainStarts, HasBadEntries, HasBadStarts, IsReach};
-ghost use Rattle.macho_linked.specs.Items.{IsFirstItem};
+ghost use Rattle.macho_linked.specs.ChainStarts.{are_whole as are_whole_of, entry_offset, BreaksChainStarts, HasBadEntries, HasBadStarts, IsReach};
+ghost use Rattle.macho_tables.specs.Fields.{half};
+ghost use Rattle.macho_tables.specs.Items.{IsFirstItem};
 
-use crate::chain_header::{ChainHeader, word_at};
+use crate::chain_header::ChainHeader;
 use crate::fixup_chains::*;
-use crate::segment::is_writable;
 use macho_fields::{Bytes, Order, Span};
 use macho_image::{Image, Segment};
+use macho_tables::fields::{half_at, word_at};
+use macho_tables::segment::is_writable;
 
 // The offsets of the fields in `dyld_chained_starts_in_segment`.
 const SIZE: u64 = 0;
@@ -134,14 +136,6 @@ fn are_whole(chains: Bytes, offset: u64) -> bool
     starts_end <= size
         && size <= chains.len() - offset
         && matches!(half_at(chains, offset + PAGE_SIZE), 0x1000 | 0x4000)
-}
-
-// The field of 16 bits at an offset, which is inside.
-pub(crate) fn half_at(chains: Bytes, offset: u64) -> u16
-    requires { offset + 2 ≤ length (bytes_of chains) }
-    ensures { result ≡ half (bytes_of chains.entry) offset }
-{
-    chains.read_u16(Order::Little, offset)
 }
 
 /// Where the starts are first broken: at the offset 0, if `seg_count` ends past the table; at `seg_count`, if

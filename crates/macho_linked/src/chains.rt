@@ -9,13 +9,13 @@ ghost use Rattle.macho_linked.specs.Chains.{AreLeastInTable};
 use crate::chain_header::ChainHeader;
 use crate::chain_imports::ImportSurvey;
 use crate::chain_starts::chain_starts;
-use crate::homes::span_of;
-use crate::limits::library_count;
-use crate::streams::{bounded_at, first_place, place_from};
 use macho_fields::Bytes;
 use macho_fields::header::loader::LC_DYLD_CHAINED_FIXUPS;
 use macho_fields::header::loader::linkedit_data_command::DATAOFF;
 use macho_image::Image;
+use macho_tables::homes::span_of;
+use macho_tables::limits::library_count;
+use macho_tables::place::{bounded_at, first_place, place_from};
 
 /// The chained fixups of an image.
 #[derive(Clone, Copy, Debug)]

@@ -14,15 +14,15 @@ ghost use Rattle.macho_strict.specs.Rules.{BreaksStrictImage};
 
 use crate::chain_pages::PointerSurvey;
 use crate::chains::{ChainSurvey, ChainedFixups};
-use crate::data_in_code::data_in_code;
 use crate::exports::ExportSurvey;
-use crate::function_starts::FunctionStartSurvey;
-use crate::homes::{header_home, table_home};
-use crate::kinds::{function_variants, table_repeated};
 use crate::streams::StreamSurveys;
 use macho_fields::{Break, Rule};
 use macho_image::Image;
 use macho_rules::Refusal;
+use macho_tables::data_in_code::data_in_code;
+use macho_tables::function_starts::FunctionStartSurvey;
+use macho_tables::homes::{header_home, table_home};
+use macho_tables::kinds::{function_variants, table_repeated};
 use std::alloc::Global;
 
 // Decides the linked rules of an image that breaks no rule of the layout and no strict rule, in their order. It

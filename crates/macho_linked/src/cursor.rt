@@ -2,8 +2,9 @@
 
 ghost use Rattle.std.specs.Prelude.{◌≡◌};
 
-use crate::step::{POINTER_SIZE, Step};
+use crate::step::Step;
 use macho_fields::Span;
+use macho_tables::limits::POINTER_SIZE;
 
 /// What the steps up to a place have set.
 #[derive(Clone, Copy, Debug, PartialEq, Eq)]

@@ -6,8 +6,8 @@ ghost use Rattle.macho_fields.specs.Bytes.{bytes_of};
 ghost use Rattle.macho_spans.specs.Span.{end_of};
 ghost use Rattle.macho_linked.specs.ExportTrie.{name_at, find_terminal as find_terminal_of, find_export as find_export_of};
 
-use crate::numbers::read_uleb;
 use macho_fields::{Bytes, Span};
+use macho_tables::numbers::read_uleb;
 
 /// Of the flags, those that say of which kind a symbol is.
 pub const EXPORT_SYMBOL_FLAGS_KIND_MASK: u64 = 0x03;

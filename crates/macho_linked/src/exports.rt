@@ -14,15 +14,15 @@ use crate::export_trie::{
     EXPORT_SYMBOL_FLAGS_STUB_AND_RESOLVER, Export, Target,
 };
 use crate::export_walk::Waiting;
-use crate::homes::span_of;
-use crate::limits::library_count;
-use crate::streams::{bounded_at, dyld_info, first_place, lesser, place_from};
 use macho_fields::header::loader::LC_DYLD_EXPORTS_TRIE;
 use macho_fields::header::loader::dyld_info_command::EXPORT_OFF;
 use macho_fields::header::loader::linkedit_data_command::DATAOFF;
 use macho_fields::{Bytes, Span};
 use macho_image::Image;
-use macho_rules::Mapping;
+use macho_tables::homes::span_of;
+use macho_tables::limits::library_count;
+use macho_tables::mapped_addresses::MappedAddresses;
+use macho_tables::place::{bounded_at, dyld_info, first_place, lesser, place_from};
 use std::alloc::{AllocError, Global};
 
 /// The greatest flags of an export of which each bit has a meaning.
@@ -207,8 +207,8 @@ struct Destinations {
     libraries: u64,
     // The base of the image, if it has one.
     base: Option<u64>,
-    // What is at its addresses.
-    mapping: Mapping,
+    // To which addresses a segment is mapped.
+    addresses: MappedAddresses,
 }
 
 impl Destinations {
@@ -219,18 +219,19 @@ impl Destinations {
     ghost use Rattle.macho_fields.specs.Rules.{BreaksImage as Breaks};
     ghost use Rattle.macho_fields.specs.Segment.{base_of};
     ghost use Rattle.macho_spans.specs.Span.{end_of};
-    ghost use Rattle.macho_linked.specs.Exports.{AreDestinations, AreNodeBreaks, HasNoLibrary, HasNoAddress, LeadsNowhere, ResolvesNowhere, IsMapped};
+    ghost use Rattle.macho_linked.specs.Exports.{AreDestinations, AreNodeBreaks, HasNoLibrary, HasNoAddress, LeadsNowhere, ResolvesNowhere};
+    ghost use Rattle.macho_tables.specs.MappedAddresses.{IsMapped};
 
     // Those of an image that breaks no rule of the layout.
     fn of(alloc: Global, image: &Image) -> Result<Destinations, AllocError>
         requires { NothingBreaks (Breaks image.now None) }
         ensures { IfOk result (AreDestinations image.now) }
     {
-        let mapping = Mapping::of_image(alloc, image)?;
+        let addresses = MappedAddresses::of(alloc, image)?;
         Ok(Destinations {
             libraries: library_count(image),
             base: image.base(),
-            mapping,
+            addresses,
         })
     }
 
@@ -306,7 +307,7 @@ impl Destinations {
         ensures same { (image : List ℕ) → AreDestinations image self.old → AreDestinations image self.new }
     {
         match base.checked_add(offset) {
-            Some(address) => self.mapping.source(address).is_none(),
+            Some(address) => !self.addresses.has(address),
             None => true,
         }
     }

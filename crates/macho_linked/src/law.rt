@@ -6,7 +6,6 @@ ghost use Rattle.macho_fields.specs.RuleList.{profile_of};
 ghost use Rattle.macho_fields.specs.declared.rule.Profile.TheVariants.{Linked};
 ghost use Rattle.macho_fields.specs.First.{IsUnbroken};
 ghost use Rattle.macho_linked.specs.ChainDyld.{AreChainedSafely};
-ghost use Rattle.macho_linked.specs.DataInCode.{AreDataInCodeConstants};
 ghost use Rattle.macho_linked.specs.Dyld.{AreFollowedSafely};
 ghost use Rattle.macho_linked.specs.ExportLaw.{HasSoundExports};
 ghost use Rattle.macho_linked.specs.FixupChains.{AreFixupChainsConstants};
@@ -27,12 +26,6 @@ pub fn opcode_constants_are_those_of_the_header()
 /// `specs/FixupChains.antt` lists them.
 pub fn fixup_chains_constants_are_those_of_the_header()
     ensures { AreFixupChainsConstants }
-{}
-
-/// Each constant of `data_in_code` is the number that `mach-o/loader.h` defines, as `specs/DataInCode.antt`
-/// lists them.
-pub fn data_in_code_constants_are_those_of_the_header()
-    ensures { AreDataInCodeConstants }
 {}
 
 /// A file has at most one first broken linked rule.

@@ -1,19 +1,17 @@
 //! The rules of one stream of opcodes, in one pass over it.
 
-ghost use Rattle.std.specs.Prelude.{◌≡◌, ◌-◌, ◌^◌, ◌<◌, min, unwrap_or, Some, IsTrue};
+ghost use Rattle.std.specs.Prelude.{◌≡◌, ◌-◌, ◌^◌, ◌<◌, min};
 ghost use Rattle.macho_fields.specs.Bytes.{bytes_of};
-ghost use Rattle.macho_fields.specs.FirstPlace.{IsNoted};
 ghost use Rattle.macho_linked.specs.Streams.{reach as reach_of, IsStreamSurvey};
 
 use crate::cursor::{Cursor, Totals};
-use crate::step::{Opcodes, POINTER_SIZE, Step, step_at};
+use crate::step::{Opcodes, Step, step_at};
 use macho_fields::Bytes;
-
-/// How many segments a step can name: its segment is four bits.
-pub const SEGMENTS: usize = 16;
-
-/// How many ordinals below 0 have a meaning. (`BIND_SPECIAL_DYLIB_WEAK_LOOKUP` is -3.)
-pub const SPECIAL_ORDINALS: u8 = 3;
+use macho_image::Image;
+use macho_tables::limits::{
+    POINTER_SIZE, Rooms, SEGMENTS, SPECIAL_ORDINALS, library_count, rooms_of,
+};
+use macho_tables::place::note_if;
 
 /// What the rules of a stream compare its steps with.
 #[derive(Clone, Copy, Debug, PartialEq, Eq)]
@@ -131,30 +129,24 @@ impl StreamSurvey {
     }
 }
 
-// Notes the place if the rule is broken there, and none was noted before.
-#[inline(always)]
-pub(crate) fn note_if(found: &mut Option<u64>, is_broken: bool, place: u64)
-    ensures { IsNoted (IsTrue is_broken) place found.old found.new }
-{
-    if is_broken {
-        note_broken(found, place);
-    }
-}
-
-// Notes a place outside the loop that looks for it: a rule is seldom broken.
-#[cold]
-#[inline(never)]
-fn note_broken(found: &mut Option<u64>, place: u64)
-    ensures { found.new ≡ Some (unwrap_or found.old place) }
-{
-    if found.is_none() {
-        *found = Some(place);
-    }
-}
-
 impl Limits {
-    ghost use Rattle.std.specs.Prelude.{◌↔◌, ◌<◌, IsTrue};
+    ghost use Rattle.std.specs.Prelude.{◌≡◌, ◌↔◌, ◌<◌, IsTrue};
+    ghost use Rattle.macho_tables.specs.Limits.{AreRooms, rooms_of, budget_of, library_count};
     ghost use Rattle.macho_linked.specs.Streams.{EndsInRoom, reach};
+
+    /// The limits of the streams of the image.
+    pub fn of(image: &Image) -> Limits
+        ensures rooms { AreRooms (rooms_of image.now) result.rooms }
+        ensures libraries { result.libraries ≡ library_count image.now }
+        ensures budget { result.budget ≡ budget_of image.now }
+    {
+        let Rooms { sizes, budget } = rooms_of(image);
+        Limits {
+            rooms: sizes,
+            libraries: library_count(image),
+            budget,
+        }
+    }
 
     // Whether so many pointers from the cursor on all end in the room of the segment that is set.
     #[tactic(auto, using(crate::proofs::Reaches::capped_reach))]

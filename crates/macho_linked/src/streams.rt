@@ -7,19 +7,19 @@ ghost use Rattle.macho_fields.specs.Image.{commands_of};
 ghost use Rattle.macho_fields.specs.Layers.{NothingBreaks};
 ghost use Rattle.macho_fields.specs.Rules.{BreaksImage as Breaks};
 ghost use Rattle.macho_image.specs.Command.{first_with_cmd};
-ghost use Rattle.macho_linked.specs.Images.{dyld_info as dyld_info_of, bounded_at as bounded_at_of, lesser as lesser_of, AreLeast, InStream};
-ghost use Rattle.macho_linked.specs.Limits.{AreRooms, rooms_of, budget_of, library_count};
+ghost use Rattle.macho_linked.specs.Images.{AreLeast, InStream};
+ghost use Rattle.macho_tables.specs.Places.{dyld_info as dyld_info_of, bounded_at as bounded_at_of, lesser as lesser_of};
+ghost use Rattle.macho_tables.specs.Limits.{AreRooms, rooms_of, budget_of, library_count};
 
-use crate::homes::span_of;
-use crate::kinds::place_of;
 use crate::step::Opcodes;
 use crate::stream::{Limits, StreamSurvey, survey};
+use macho_fields::TableFields;
 use macho_fields::header::loader::dyld_info_command::{
     BIND_OFF, LAZY_BIND_OFF, REBASE_OFF, WEAK_BIND_OFF,
 };
-use macho_fields::header::loader::{LC_DYLD_INFO, LC_DYLD_INFO_ONLY};
-use macho_fields::{TableFields, Width};
 use macho_image::Image;
+use macho_tables::homes::span_of;
+use macho_tables::place::{bounded_at, dyld_info, lesser, place_from};
 
 /// Where the streams of an image first break each of their rules, as places in the image.
 #[derive(Clone, Copy, Debug)]
@@ -94,23 +94,6 @@ impl StreamSurvey {
     }
 }
 
-// The place of the command that names the streams, if there is one.
-pub(crate) fn dyld_info(image: &Image) -> Option<u64>
-    ensures { result ≡ dyld_info_of image.now }
-{
-    match first_place(image, LC_DYLD_INFO_ONLY) {
-        Some(command) => Some(command),
-        None => first_place(image, LC_DYLD_INFO),
-    }
-}
-
-// The place of the first command with this `cmd`, if there is one.
-pub(crate) fn first_place(image: &Image, cmd: u32) -> Option<u64>
-    ensures { result ≡ first_with_cmd image.now cmd (commands_of image.now) }
-{
-    place_of(image.first_command(cmd))
-}
-
 // Goes over one stream of the command at `command`.
 fn survey_of(image: &Image, command: u64, stream: Stream, limits: &Limits) -> StreamSurvey
     requires unbroken { NothingBreaks (Breaks image.now None) }
@@ -162,40 +145,5 @@ impl Stream {
             Stream::WeakBind => bounded_at(WEAK_BIND_OFF),
             Stream::LazyBind => bounded_at(LAZY_BIND_OFF),
         }
-    }
-}
-
-// The fields that bound a stream: that at `place` with its start, and its size just past it.
-pub(crate) fn bounded_at(place: u64) -> TableFields
-    requires { place < 2 ^ 32 }
-    ensures { result ≡ bounded_at_of place }
-{
-    TableFields {
-        place,
-        count: place + 4,
-        width: Width::Uint32,
-        item_size: 1,
-    }
-}
-
-// The place that is so far from `start`.
-pub(crate) fn place_from(start: u64, offset: Option<u64>) -> Option<u64>
-    requires { IfSome offset (λ found. start + found < 2 ^ 64) }
-    ensures { result ≡ option_map (λ found. start + found) offset }
-{
-    match offset {
-        Some(found) => Some(start + found),
-        None => None,
-    }
-}
-
-// The lesser of two places.
-pub(crate) fn lesser(one: Option<u64>, other: Option<u64>) -> Option<u64>
-    ensures { result ≡ lesser_of one other }
-{
-    match (one, other) {
-        (Some(one), Some(other)) => Some(one.min(other)),
-        (Some(one), None) => Some(one),
-        (None, other) => other,
     }
 }

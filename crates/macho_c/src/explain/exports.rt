@@ -20,7 +20,7 @@ use macho_fields::header::loader::LC_DYLD_EXPORTS_TRIE;
 use macho_fields::{Bytes, Rule, Span};
 use macho_linked::export_trie::{Export, ExportNode, Target};
 use macho_linked::exports::MOST_FLAGS;
-use macho_linked::numbers::read_uleb;
+use macho_tables::numbers::read_uleb;
 use macho_linked::stream::Limits;
 
 // The index of the exports among the tables of `dyld_info_command`.

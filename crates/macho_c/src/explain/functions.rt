@@ -4,7 +4,7 @@
 ghost use Rattle.std.specs.Prelude.{◌≡◌, ◌+◌, ◌≤◌, length, IfSome};
 ghost use Rattle.macho_fields.specs.Bytes.{bytes_of};
 ghost use Rattle.macho_fields.specs.declared.rule.Rule.{Rule};
-ghost use Rattle.macho_linked.specs.DataInCode.{entry_at};
+ghost use Rattle.macho_tables.specs.DataInCode.{entry_at};
 ghost use Rattle.macho_c.specs.Compared.{IsEntryShown, IsFound, IsStartShown};
 
 use crate::explain::conflict::Conflict;
@@ -18,10 +18,10 @@ use crate::explain::table::{Bounded, table_by, tables_of};
 use crate::explain::walk::{Sought, walk_to};
 use macho_fields::header::loader::{LC_DATA_IN_CODE, LC_FUNCTION_STARTS};
 use macho_fields::{Bytes, Rule, Span};
-use macho_linked::data_in_code::{
+use macho_tables::data_in_code::{
     DATA_IN_CODE_ENTRY_SIZE, DICE_KIND_ABS_JUMP_TABLE32, DataInCodeEntry, is_known_kind,
 };
-use macho_linked::numbers::read_uleb;
+use macho_tables::numbers::read_uleb;
 
 // Explains a rule of functions or of data in code that is broken at the place.
 pub(crate) fn explain_functions(sliced: &Sliced, rule: Rule, place: u64) -> Option<(Spot, Conflict)>

@@ -18,7 +18,7 @@ use macho_fields::header::machine::CPU_SUBTYPE_MASK;
 use macho_fields::header::vm_prot::{VM_PROT_READ, VM_PROT_WRITE};
 use macho_fields::{Bytes, Rule, file_type_of};
 use macho_image::Segment;
-use macho_linked::segment::is_text;
+use macho_tables::segment::is_text;
 
 // The offsets of the fields in `mach_header_64`.
 const CPUTYPE: u64 = 4;

@@ -9,8 +9,8 @@ use crate::explain::walk::{Sought, walk_to};
 use crate::load::Load;
 use macho_fields::header::loader::LC_ENCRYPTION_INFO_64;
 use macho_image::Image;
-use macho_linked::homes::{has_linkedit, is_home};
-use macho_linked::segment::is_linkedit;
+use macho_tables::homes::{has_linkedit, is_home};
+use macho_tables::segment::is_linkedit;
 
 // The first table of a command that has no home, and why.
 pub(crate) fn table_home(sliced: &Sliced, load: Load) -> Option<Conflict> {

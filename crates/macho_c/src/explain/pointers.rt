@@ -21,7 +21,7 @@ use macho_linked::chain_starts::SegmentStarts;
 use macho_linked::fixup_chains::{
     DYLD_CHAINED_PTR_START_NONE, DYLD_CHAINED_STARTS_IN_SEGMENT_SIZE, PAGE_START_SIZE,
 };
-use macho_linked::step::POINTER_SIZE;
+use macho_tables::limits::POINTER_SIZE;
 
 // A segment that has starts.
 #[derive(Clone, Copy)]

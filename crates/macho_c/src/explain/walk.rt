@@ -10,7 +10,7 @@ use crate::load::{Load, Wanted, next_wanted};
 use crate::sections::nsects_at;
 use macho_fields::Bytes;
 use macho_fields::header::loader::MACH_HEADER_64_SIZE;
-use macho_linked::kinds::share_kind;
+use macho_tables::kinds::share_kind;
 
 // Which command is sought.
 #[derive(Clone, Copy)]

@@ -2,7 +2,7 @@ use Rattle.std.proofs.Common.{◌≡◌, ◌+◌, ℕ, sym, subst, arith}
 use Rattle.macho_fields.specs.Bytes.{bytes_of}
 use Rattle.macho_linked.specs.ChainPages.{AreLeastPlaces}
 use Rattle.macho_linked.specs.ChainPointers.{BreaksPageSlot, BreaksPageBind}
-use Rattle.macho_linked.specs.Items.{OfItem}
+use Rattle.macho_tables.specs.Items.{OfItem}
 use Rattle.macho_linked.proofs.PointerSurveys.{survey_start, survey_more}
 use Rattle.macho_linked.proofs.chain_pages.pages_survey.Goals as goal
 

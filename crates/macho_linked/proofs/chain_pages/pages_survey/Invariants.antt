@@ -1,6 +1,6 @@
 use Rattle.macho_linked.specs.ChainPages.{AreLeastPlaces}
 use Rattle.macho_linked.specs.ChainPointers.{BreaksPageSlot, BreaksPageBind}
-use Rattle.macho_linked.specs.Items.{OfItem}
+use Rattle.macho_tables.specs.Items.{OfItem}
 use Rattle.macho_linked.proofs.chain_pages.pages_survey.Given as goal
 
 -- what was found of the pages before

@@ -3,7 +3,7 @@ use Rattle.std.proofs.lemmas.Bool.{false≢true}
 use Rattle.macho_fields.specs.Segment.{fileoff, filesize}
 use Rattle.macho_spans.specs.declared.span.Span.{Span}
 use Rattle.macho_linked.specs.ChainPages.{IsClear}
-use Rattle.macho_linked.specs.Homes.{bytes_of_segment}
+use Rattle.macho_tables.specs.Homes.{bytes_of_segment}
 use Rattle.macho_linked.proofs.ChainPages.{room_none, room_whole}
 use Rattle.macho_linked.proofs.chain_pages.room_beside.Goals as goal
 use Rattle.macho_linked.proofs.chain_pages.room_beside.Goals.{else-not-is_protected-via-then-not-is_protected+else-is_clear, else-not-is_protected-via-else-not-is_protected}

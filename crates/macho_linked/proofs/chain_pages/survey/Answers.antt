@@ -6,10 +6,10 @@ use Rattle.macho_fields.specs.Segment.{PassesImage}
 use Rattle.macho_fields.specs.declared.bytes.Order.TheVariants.{Little}
 use Rattle.macho_linked.specs.ChainPages.{AreLeastPlaces}
 use Rattle.macho_linked.specs.ChainStarts.{seg_count, HasBadEntries}
-use Rattle.macho_linked.specs.Items.{OfItem}
+use Rattle.macho_tables.specs.Items.{OfItem}
 use Rattle.macho_linked.proofs.ChainStarts.{entries_passed}
 use Rattle.macho_linked.proofs.PointerSurveys.{SlotOf, BindOf, its_rules, entries_good, file_part_inside, survey_more}
-use Rattle.macho_linked.proofs.SegmentWalks.{passed_more, its_image, its_place, segment_listed}
+use Rattle.macho_tables.proofs.SegmentWalks.{passed_more, its_image, its_place, segment_listed}
 use Rattle.macho_linked.proofs.chain_pages.survey.Goals as goal
 
 pub returns-then-index-count : goal.returns-then-index-count

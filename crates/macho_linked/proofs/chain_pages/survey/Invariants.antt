@@ -1,8 +1,8 @@
 use Rattle.std.proofs.Common.{◌≤◌}
 use Rattle.macho_linked.specs.ChainPages.{AreLeastPlaces}
-use Rattle.macho_linked.specs.Items.{OfItem}
+use Rattle.macho_tables.specs.Items.{OfItem}
 use Rattle.macho_linked.proofs.PointerSurveys.{SlotOf, BindOf}
-use Rattle.macho_linked.proofs.SegmentWalks.{ArePassed}
+use Rattle.macho_tables.proofs.SegmentWalks.{ArePassed}
 use Rattle.macho_linked.proofs.chain_pages.survey.Given as goal
 
 -- what was found of the segments that were passed

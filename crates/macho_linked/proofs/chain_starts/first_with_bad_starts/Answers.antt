@@ -4,7 +4,7 @@ use Rattle.macho_fields.specs.Image.{commands_of}
 use Rattle.macho_fields.specs.Segment.{all_segments, base_of}
 use Rattle.macho_linked.specs.ChainStarts.{HasBadStarts}
 use Rattle.macho_linked.proofs.ChainStarts.{starts_more, starts_bad, starts_passed, entries_passed}
-use Rattle.macho_linked.proofs.SegmentWalks.{its_image, its_place}
+use Rattle.macho_tables.proofs.SegmentWalks.{its_image, its_place}
 use Rattle.macho_linked.proofs.chain_starts.first_with_bad_starts.Goals as goal
 
 pub past_starts-requires-clause-base : goal.past_starts-requires-clause-base

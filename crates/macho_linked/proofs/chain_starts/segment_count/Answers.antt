@@ -3,8 +3,8 @@ use Rattle.std.proofs.lemmas.Iterator.Consumers.{count_from_yields_List}
 use Rattle.std.proofs.lemmas.List.{length-map}
 use Rattle.macho_fields.specs.Segment.{all_segments}
 use Rattle.macho_image.specs.Segment.{segment_at}
-use Rattle.macho_linked.proofs.Found.{segments_yield}
-use Rattle.macho_linked.proofs.Roomy.{segments_few}
+use Rattle.macho_tables.proofs.Found.{segments_yield}
+use Rattle.macho_tables.proofs.Roomy.{segments_few}
 use Rattle.macho_linked.proofs.chain_starts.segment_count.Goals as goal
 
 pub count-requires-clause-fits : goal.count-requires-clause-fits

@@ -4,7 +4,7 @@ use Rattle.macho_fields.specs.Symbol.{table_at}
 use Rattle.macho_fields.specs.declared.load_command.TableFields.{TableFields}
 use Rattle.macho_spans.specs.Span.{end_of}
 use Rattle.macho_spans.specs.declared.span.Span.{Span}
-use Rattle.macho_linked.specs.Homes.{bytes_of_table}
+use Rattle.macho_tables.specs.Homes.{bytes_of_table}
 use Rattle.macho_linked.proofs.ExportTables.{data_fields, data_inside, some_inside}
 use Rattle.macho_linked.proofs.exports.exports_data.Goals as goal
 

@@ -3,8 +3,8 @@ use Rattle.macho_fields.specs.Symbol.{table_at}
 use Rattle.macho_fields.specs.declared.load_command.TableFields.{TableFields}
 use Rattle.macho_spans.specs.Span.{end_of}
 use Rattle.macho_spans.specs.declared.span.Span.{Span}
-use Rattle.macho_linked.specs.Homes.{bytes_of_table}
-use Rattle.macho_linked.specs.Images.{bounded_at}
+use Rattle.macho_tables.specs.Homes.{bytes_of_table}
+use Rattle.macho_tables.specs.Places.{bounded_at}
 use Rattle.macho_linked.proofs.ExportTables.{info_fields, info_inside, some_inside}
 use Rattle.macho_linked.proofs.exports.info_exports.Goals as goal
 

@@ -5,7 +5,7 @@ use Rattle.macho_fields.specs.Symbol.{table_at}
 use Rattle.macho_fields.specs.declared.load_command.TableFields.{TableFields}
 use Rattle.macho_image.proofs.ReadParts.{length-part}
 use Rattle.macho_spans.specs.declared.span.Span.{Span}
-use Rattle.macho_linked.specs.Homes.{bytes_of_table}
+use Rattle.macho_tables.specs.Homes.{bytes_of_table}
 use Rattle.macho_linked.specs.Images.{opcodes_of, fields_of, moved, AreLeast, InStream}
 use Rattle.macho_linked.specs.Streams.{IsStreamSurvey}
 use Rattle.macho_linked.specs.declared.step.Opcodes.{Opcodes}

@@ -1,7 +1,7 @@
 use Rattle.std.proofs.Common.{◌∷◌, ◌++◌, [], refl, sym, arith}
 use Rattle.std.proofs.lemmas.List.Sums.{sum_by_push}
 use Rattle.macho_fields.specs.Bytes.{bytes_of}
-use Rattle.macho_linked.proofs.StartNumbers.{number_within, numbers_more}
+use Rattle.macho_tables.proofs.StartNumbers.{number_within, numbers_more}
 use Rattle.macho_c.proofs.explain.functions.start_at.Goals as goal
 
 pub loop-place-init : goal.loop-place-init

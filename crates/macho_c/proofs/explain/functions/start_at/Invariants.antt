@@ -1,6 +1,6 @@
 use Rattle.std.proofs.Common.{◌≡◌, ◌+◌, ◌-◌, List, ℕ}
 use Rattle.std.specs.Prelude.{sum}
-use Rattle.macho_linked.specs.StartNumbers.{AreNumbers}
+use Rattle.macho_tables.specs.StartNumbers.{AreNumbers}
 use Rattle.macho_c.proofs.explain.functions.start_at.Given as goal
 
 -- the address is that of the function before the place

@@ -1,5 +1,5 @@
 use Rattle.std.proofs.Common.{◌+◌, ◌∙◌}
-use Rattle.macho_linked.proofs.SegmentWalks.{passed_more, its_image}
+use Rattle.macho_tables.proofs.SegmentWalks.{passed_more, its_image}
 use Rattle.macho_c.proofs.explain.pointers.find_chained.Goals as goal
 
 pub plain_room-requires-clause-image : goal.plain_room-requires-clause-image

@@ -1,5 +1,5 @@
 use Rattle.std.proofs.Common.{ℕ}
-use Rattle.macho_linked.proofs.SegmentWalks.{ArePassed}
+use Rattle.macho_tables.proofs.SegmentWalks.{ArePassed}
 use Rattle.macho_c.proofs.explain.pointers.find_chained.Given as goal
 
 -- some segments were passed

@@ -4,8 +4,8 @@ use Rattle.macho_fields.specs.declared.header.loader.TheConstants as loader
 use Rattle.macho_image.specs.Command.{CommandView}
 use Rattle.macho_linked.specs.ChainPointers.{encryption_count}
 use Rattle.macho_linked.proofs.ChainPages.{few_counted}
-use Rattle.macho_linked.proofs.Found.{commands_yield}
-use Rattle.macho_linked.proofs.LibraryCounts.{commands_few, kinds_counted}
+use Rattle.macho_tables.proofs.Found.{commands_yield}
+use Rattle.macho_tables.proofs.LibraryCounts.{commands_few, kinds_counted}
 use Rattle.macho_linked.proofs.chain_pages.Encryption.of.Goals as goal
 
 pub count-count-requires-clause-fits : goal.count-count-requires-clause-fits

@@ -6,7 +6,7 @@ use Rattle.macho_fields.specs.Symbol.{table_at}
 use Rattle.macho_fields.specs.declared.load_command.TableFields.{TableFields}
 use Rattle.macho_image.proofs.ReadParts.{length-part}
 use Rattle.macho_spans.specs.declared.span.Span.{Span}
-use Rattle.macho_linked.specs.Homes.{bytes_of_table}
+use Rattle.macho_tables.specs.Homes.{bytes_of_table}
 use Rattle.macho_linked.specs.Chains.{IsChainTable}
 use Rattle.macho_linked.proofs.ChainTables.{chain_table_of, chain_fields_inside, chains_inside}
 use Rattle.macho_linked.proofs.chains.ChainTable.read.Goals as goal

@@ -1,6 +1,6 @@
 use Rattle.std.proofs.Common.{ℕ, ◌+◌}
 use Rattle.macho_fields.proofs.Options.{of_some, some_has}
-use Rattle.macho_linked.specs.Exports.{IsMapped}
+use Rattle.macho_tables.specs.MappedAddresses.{IsMapped}
 use Rattle.macho_linked.proofs.exports.Destinations.resolves_nowhere.Goals as goal
 
 pub returns-in-Some-clause-nowhere : goal.returns-in-Some-clause-nowhere

@@ -1,0 +1,16 @@
+pub mod Numbers
+pub mod FunctionStarts
+pub mod Fields
+pub mod Segments
+pub mod Kinds
+pub mod Places
+pub mod Homes
+pub mod Limits
+pub mod Items
+pub mod DataTables
+pub mod StartNumbers
+pub mod Functions
+pub mod FileBytes
+pub mod MappedAddresses
+pub mod DataInCode
+pub mod CodeParts

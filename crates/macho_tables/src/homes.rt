@@ -1,0 +1,232 @@
+//! Where the tables of linked data lie: a loader reads them in memory while it writes, so it must find them
+//! there as they are in the file. (`mach-o/loader.h`)
+
+ghost use Rattle.std.specs.Prelude.{◌≡◌, ◌↔◌, ◌+◌, ◌≤◌, ◌<◌, [], length, IsTrue, Any, if◌then◌else◌};
+ghost use Rattle.std.specs.Option.{option_map_or};
+ghost use Rattle.macho_fields.specs.FirstPlace.{IsLeastPlace};
+ghost use Rattle.macho_fields.specs.Image.{commands_of};
+ghost use Rattle.macho_fields.specs.LoadCommands.{structure_of, table_fields as fields_of, width_size};
+ghost use Rattle.macho_fields.specs.Segment.{all_segments};
+ghost use Rattle.macho_fields.specs.Symbol.{table_at, tables_of};
+ghost use Rattle.macho_image.specs.Command.{command_of};
+ghost use Rattle.macho_image.specs.Opened.{IsCommandOf};
+ghost use Rattle.macho_tables.specs.Homes.{bytes_of_table, Encrypts, IsHome, IsAstray, HasHome, IsHomeless, HasHomeless, BreaksTableHome, HasLinkedData, IsTextElsewhere, HasTextAt, IsSafeBase, HasSafeBase, BreaksHeaderHome};
+ghost use Rattle.macho_tables.specs.Kinds.{names_linked_data as linked_data_of};
+ghost use Rattle.macho_tables.specs.Segments.{IsLinkedit, IsText};
+ghost use Rattle.macho_spans.specs.Span.{Shares};
+
+use crate::kinds::names_linked_data;
+use crate::place::place_of;
+use crate::segment::{is_constant, is_linkedit, is_protected, is_text};
+use macho_fields::header::loader::{LC_ENCRYPTION_INFO_64, SEGMENT_COMMAND_64_SIZE};
+use macho_fields::{Span, TableFields, structure_of};
+use macho_image::{Command, Image, Segment};
+
+/// The place of the first command that names a table of linked data without a home: a loader does not find
+/// it in a segment named `__LINKEDIT`, can write it, or finds other bytes than those of the file.
+pub fn table_home(image: &Image) -> Option<u64>
+    ensures { IsLeastPlace (BreaksTableHome image.now) result }
+{
+    place_of(
+        image
+            .commands()
+            .find(|command| has_homeless(image, command)),
+    )
+}
+
+/// The place 0, if a command names a table of linked data, and the image has no base, or its segment can
+/// be written or not be read, or a loader that goes by the name `__TEXT` takes no address or another one for
+/// the base.
+pub fn header_home(image: &Image) -> Option<u64>
+    ensures { IsLeastPlace (BreaksHeaderHome image.now) result }
+{
+    if has_linked_data(image) && !has_safe_base(image) {
+        Some(0)
+    } else {
+        None
+    }
+}
+
+// Whether a command names a table of linked data that has bytes.
+fn has_linked_data(image: &Image) -> bool
+    ensures { IsTrue result ↔ Any (HasLinkedData image.now) (commands_of image.now) }
+{
+    image.commands().any(|command| has_table(image, &command))
+}
+
+// Whether the command names a table of linked data that has bytes.
+fn has_table(image: &Image, command: &Command) -> bool
+    requires { IsCommandOf image.now (command_of command.now) }
+    ensures { IsTrue result ↔ HasLinkedData image.now command.now.place }
+{
+    linked_fields(command.cmd)
+        .iter()
+        .any(|fields| span_of(image, command.place, *fields).len > 0)
+}
+
+// Whether the image has a base, which loaders find, and cannot write.
+fn has_safe_base(image: &Image) -> bool
+    ensures { IsTrue result ↔ HasSafeBase image.now }
+{
+    let base = image.segments().find(|segment| segment.shows_start());
+    match base {
+        Some(segment) => is_safe_base(image, &segment),
+        None => false,
+    }
+}
+
+// Whether the segment can be read and not written, and loaders take its address for the base.
+fn is_safe_base(image: &Image, segment: &Segment) -> bool
+    requires { segment.now.image ≡ image.now }
+    ensures { IsTrue result ↔ IsSafeBase segment.now.image segment.now.place }
+{
+    is_constant(segment) && has_text_at(image, segment.vmaddr())
+}
+
+// Whether loaders, which go by the name of a segment, take this address for the base.
+fn has_text_at(image: &Image, base: u64) -> bool
+    ensures { IsTrue result ↔ HasTextAt image.now base }
+{
+    has_text(image) && !has_text_elsewhere(image, base)
+}
+
+// Whether some segment is one that loaders take for the one with the base.
+fn has_text(image: &Image) -> bool
+    ensures { IsTrue result ↔ Any (IsText image.now) (all_segments image.now) }
+{
+    image.segments().any(|segment| is_text(&segment))
+}
+
+// Whether some such segment has another address than the base.
+fn has_text_elsewhere(image: &Image, base: u64) -> bool
+    ensures { IsTrue result ↔ Any (IsTextElsewhere base image.now) (all_segments image.now) }
+{
+    image
+        .segments()
+        .any(|segment| is_text(&segment) && segment.vmaddr() != base)
+}
+
+// Whether the command names a table of linked data that has bytes and no home.
+fn has_homeless(image: &Image, command: &Command) -> bool
+    requires { IsCommandOf image.now (command_of command.now) }
+    ensures { IsTrue result ↔ HasHomeless image.now command.now.place }
+{
+    linked_fields(command.cmd)
+        .iter()
+        .any(|fields| is_homeless(image, command.place, *fields))
+}
+
+// The fields that bound the tables of linked data of a command with this `cmd`.
+fn linked_fields(cmd: u32) -> &'static [TableFields]
+    ensures { result.now
+        ≡ (if linked_data_of cmd then option_map_or fields_of (structure_of cmd) [] else []) }
+{
+    if names_linked_data(cmd) {
+        table_fields(cmd)
+    } else {
+        &[]
+    }
+}
+
+// The fields that bound the tables of a command with this `cmd`.
+fn table_fields(cmd: u32) -> &'static [TableFields]
+    ensures { result.now ≡ option_map_or fields_of (structure_of cmd) [] }
+{
+    match structure_of(cmd) {
+        Some(structure) => structure.tables(),
+        None => &[],
+    }
+}
+
+// Whether the table that these fields of the command bound has bytes and no home.
+fn is_homeless(image: &Image, command: u64, fields: TableFields) -> bool
+    requires place { command + fields.place + width_size fields.width ≤ length image.now }
+    requires count { command + fields.count + width_size fields.width ≤ length image.now }
+    ensures { IsTrue result ↔ IsHomeless image.now (table_at image.now command fields) }
+{
+    let table = span_of(image, command, fields);
+    table.len > 0 && !has_home(image, table)
+}
+
+/// The bytes of the table that these fields of the command bound.
+pub fn span_of(image: &Image, command: u64, fields: TableFields) -> Span
+    requires place { command + fields.place + width_size fields.width ≤ length image.now }
+    requires count { command + fields.count + width_size fields.width ≤ length image.now }
+    ensures { result ≡ bytes_of_table (table_at image.now command fields) }
+{
+    let bytes = image.bytes();
+    let start = fields.table_place(bytes, command);
+    let len = fields.item_count(bytes, command);
+    Span { start, len }
+}
+
+// Whether loaders find the table as it is in the file.
+fn has_home(image: &Image, table: Span) -> bool
+    ensures { IsTrue result ↔ HasHome table image.now }
+{
+    has_linkedit(image) && !has_astray(image, table) && !is_encrypted(image, table)
+}
+
+/// Whether some segment is one in which loaders look for tables.
+pub fn has_linkedit(image: &Image) -> bool
+    ensures { IsTrue result ↔ Any (IsLinkedit image.now) (all_segments image.now) }
+{
+    image.segments().any(|segment| is_linkedit(&segment))
+}
+
+// Whether loaders look for the table in some segment that is no home of it.
+fn has_astray(image: &Image, table: Span) -> bool
+    ensures { IsTrue result ↔ Any (IsAstray table image.now) (all_segments image.now) }
+{
+    image.segments().any(|segment| is_astray(&segment, table))
+}
+
+// Whether loaders look for the table in the segment, and it is no home of it.
+fn is_astray(segment: &Segment, table: Span) -> bool
+    requires { segment.now.place + SEGMENT_COMMAND_64_SIZE ≤ length segment.now.image }
+    ensures { IsTrue result ↔ IsAstray table segment.now.image segment.now.place }
+{
+    is_linkedit(segment) && !is_home(segment, table)
+}
+
+/// Whether the segment is a home of the table: mapped, read and not written, not decrypted, with the table
+/// in its file bytes.
+pub fn is_home(segment: &Segment, table: Span) -> bool
+    requires { segment.now.place + SEGMENT_COMMAND_64_SIZE ≤ length segment.now.image }
+    ensures { IsTrue result ↔ IsHome table segment.now.image segment.now.place }
+{
+    segment.vmsize() > 0
+        && is_constant(segment)
+        && !is_protected(segment)
+        && table.inside(&segment.file_part())
+}
+
+// Whether a byte of the table is in an encrypted range.
+fn is_encrypted(image: &Image, table: Span) -> bool
+    ensures { IsTrue result ↔ Any (Encrypts table image.now) (commands_of image.now) }
+{
+    image
+        .commands()
+        .any(|command| encrypts(image, &command, table))
+}
+
+/// Whether the command has an encrypted range with a byte of the table.
+pub fn encrypts(image: &Image, command: &Command, table: Span) -> bool
+    requires { IsCommandOf image.now (command_of command.now) }
+    ensures { IsTrue result ↔ Encrypts table image.now command.now.place }
+{
+    command.cmd == LC_ENCRYPTION_INFO_64 && shares_range(image, command, table)
+}
+
+// Whether one of the ranges that the command bounds has a byte of the table.
+fn shares_range(image: &Image, command: &Command, table: Span) -> bool
+    requires { IsCommandOf image.now (command_of command.now) }
+    ensures { IsTrue result
+        ↔ Any (λ range. Shares (bytes_of_table range) table)
+        (tables_of image.now command.now.place) }
+{
+    table_fields(command.cmd).iter().any(|fields| {
+        let range = span_of(image, command.place, *fields);
+        range.shares(&table)
+    })
+}
