@@ -7,8 +7,8 @@ use Rattle.macho_fields.specs.Field.{part}
 use Rattle.macho_fields.specs.Image.{word, commands_of}
 use Rattle.macho_fields.specs.Segment.{base_of}
 use Rattle.macho_fields.specs.declared.header.loader.TheConstants as loader
-use Rattle.macho_linked.specs.ExportTrie.{terminal_from, find_terminal, find_export}
-use Rattle.macho_linked.specs.declared.export_trie.Export.{Export}
+use Rattle.macho_exports.specs.ExportTrie.{terminal_from, find_terminal, find_export}
+use Rattle.macho_exports.specs.declared.export_trie.Export.{Export}
 use Rattle.macho_c.specs.BoundedTables.{bounding, found_table, IsAnswer, IsWhole}
 use Rattle.macho_c.specs.Exports.{trie_at, trie_in, named_trie, no_export, export_row, IsExport, FindsExport}
 use Rattle.macho_c.specs.Image.{ShowsUnbroken, image_in, only}

@@ -7,9 +7,9 @@ use Rattle.std.proofs.lemmas.Option.{none-some, same_Some}
 use Rattle.macho_fields.specs.declared.rule.Rule.{Rule}
 use Rattle.macho_fields.specs.declared.rule.Rule.TheVariants as rule
 use Rattle.macho_spans.specs.declared.span.Span.{Span}
-use Rattle.macho_linked.specs.ExportTrie.{Node, edges_at, head_at, node_at}
-use Rattle.macho_linked.specs.declared.export_trie.ExportEdge.{ExportEdge}
-use Rattle.macho_linked.specs.declared.export_trie.ExportNode.{ExportNode}
+use Rattle.macho_exports.specs.ExportTrie.{Node, edges_at, head_at, node_at}
+use Rattle.macho_exports.specs.declared.export_trie.ExportEdge.{ExportEdge}
+use Rattle.macho_exports.specs.declared.export_trie.ExportNode.{ExportNode}
 use Rattle.macho_c.specs.Compared.{HasAddress, Shows, ShowsExport, node_bounds}
 use Rattle.macho_c.specs.Explain.{IsSegmentFound}
 use Rattle.macho_c.specs.declared.explain.conflict.Conflict.{Conflict}

@@ -10,19 +10,19 @@ use Rattle.macho_fields.specs.Universal.{FileSlice, slices_of}
 use Rattle.macho_fields.specs.declared.header.loader.TheConstants as loader
 use Rattle.macho_fields.specs.declared.rule.Rule.{Rule}
 use Rattle.macho_fields.specs.declared.rule.Rule.TheVariants as rule
-use Rattle.macho_linked.specs.ChainPointers.{pointer_of}
+use Rattle.macho_chains.specs.ChainPointers.{pointer_of}
 use Rattle.macho_tables.specs.DataInCode.{entry_at}
-use Rattle.macho_linked.specs.ExportTrie.{Node, node_at, export_in}
+use Rattle.macho_exports.specs.ExportTrie.{Node, node_at, export_in}
 use Rattle.macho_tables.specs.Kinds.{share_kind}
 use Rattle.macho_tables.specs.Limits.{budget_of, library_count}
 use Rattle.macho_tables.specs.Numbers.{unsigned_at}
 use Rattle.macho_tables.specs.StartNumbers.{IsStartAt}
-use Rattle.macho_linked.specs.declared.chain_starts.PointerFormat.{PointerFormat}
+use Rattle.macho_chains.specs.declared.chain_starts.PointerFormat.{PointerFormat}
 use Rattle.macho_tables.specs.declared.data_in_code.DataInCodeEntry.{DataInCodeEntry}
 use Rattle.macho_tables.specs.declared.data_in_code.TheConstants as dice
-use Rattle.macho_linked.specs.declared.export_trie.Target.{Target}
-use Rattle.macho_linked.specs.declared.export_trie.Target.TheVariants as target
-use Rattle.macho_linked.specs.declared.fixup_chains.TheConstants as chained
+use Rattle.macho_exports.specs.declared.export_trie.Target.{Target}
+use Rattle.macho_exports.specs.declared.export_trie.Target.TheVariants as target
+use Rattle.macho_chains.specs.declared.fixup_chains.TheConstants as chained
 use Rattle.macho_spans.specs.Span.{end_of}
 use Rattle.macho_spans.specs.declared.span.Span.{Span}
 use Rattle.macho_c.specs.Explain.{all_loads, IsCommandAt, IsSectionAt, IsSymbolAt, no_index, long_at, word_at}

@@ -6,10 +6,10 @@ use Rattle.macho_fields.specs.Field.{part}
 use Rattle.macho_fields.specs.Image.{word, commands_of}
 use Rattle.macho_fields.specs.Segment.{base_of}
 use Rattle.macho_fields.specs.declared.header.loader.TheConstants as loader
-use Rattle.macho_linked.specs.ExportTrie.{EXPORT_SYMBOL_FLAGS_KIND_MASK, EXPORT_SYMBOL_FLAGS_KIND_ABSOLUTE, find_export}
-use Rattle.macho_linked.specs.declared.export_trie.Export.{Export}
-use Rattle.macho_linked.specs.declared.export_trie.Target.{Target}
-use Rattle.macho_linked.specs.declared.export_trie.Target.TheVariants as target
+use Rattle.macho_exports.specs.ExportTrie.{EXPORT_SYMBOL_FLAGS_KIND_MASK, EXPORT_SYMBOL_FLAGS_KIND_ABSOLUTE, find_export}
+use Rattle.macho_exports.specs.declared.export_trie.Export.{Export}
+use Rattle.macho_exports.specs.declared.export_trie.Target.{Target}
+use Rattle.macho_exports.specs.declared.export_trie.Target.TheVariants as target
 use Rattle.macho_c.specs.BoundedTables.{found_table, bounding}
 use Rattle.macho_c.specs.Image.{only}
 use Rattle.macho_c.specs.Linkedit.{dataoff, datasize, named_data}

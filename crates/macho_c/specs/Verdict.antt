@@ -10,9 +10,9 @@ use Rattle.macho_rules.specs.declared.refusal.Refusal.TheVariants as refusal
 use Rattle.macho_strict.specs.Accounted.{IsAccounted}
 use Rattle.macho_strict.specs.First.{IsStrictlyUnbroken, IsFirstStrictlyBroken}
 use Rattle.macho_strict.specs.Verdict.{IsStrictRefusal}
-use Rattle.macho_linked.specs.ChainDyld.{AreChainedSafely}
+use Rattle.macho_chains.specs.ChainDyld.{AreChainedSafely}
 use Rattle.macho_linked.specs.Dyld.{AreFollowedSafely}
-use Rattle.macho_linked.specs.ExportLaw.{HasSoundExports}
+use Rattle.macho_exports.specs.ExportLaw.{HasSoundExports}
 use Rattle.macho_linked.specs.Harmless.{AreHarmless}
 use Rattle.macho_linked.specs.Located.{AreLocated}
 use Rattle.macho_linked.specs.Rules.{IsLinkedUnbroken, IsFirstLinkedBroken}

@@ -16,7 +16,7 @@ use crate::span::{Held, KesvuotSpan, NO_SPAN};
 use crate::status::{NONE, OK};
 use macho_fields::header::loader::LC_DYLD_EXPORTS_TRIE;
 use macho_fields::{Bytes, Span};
-use macho_linked::export_trie::{
+use macho_exports::export_trie::{
     EXPORT_SYMBOL_FLAGS_KIND_ABSOLUTE, EXPORT_SYMBOL_FLAGS_KIND_MASK, Export, Target, find_export,
 };
 

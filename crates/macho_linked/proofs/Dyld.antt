@@ -10,6 +10,7 @@ use Rattle.macho_fields.specs.Image.{command_cmd, commands_of}
 use Rattle.macho_fields.specs.Layers.{NothingBreaks}
 use Rattle.macho_fields.specs.Rules as layout
 use Rattle.macho_fields.specs.Segment.{all_segments, vmaddr, vmsize, filesize}
+use Rattle.macho_fields.specs.declared.rule.Rule.TheVariants as rule
 use Rattle.macho_fields.specs.Symbol.{table_at, tables_of}
 use Rattle.macho_fields.proofs.Options.{some_of, of_some}
 use Rattle.macho_tables.specs.Kinds.{names_linked_data}
@@ -17,7 +18,8 @@ use Rattle.macho_image.proofs.ReadParts.{length-part}
 use Rattle.macho_rules.proofs.Searches.{mapped_has}
 use Rattle.macho_spans.specs.Span.{Covers}
 use Rattle.macho_linked.specs.Cursor.{start, moved, cursor_after, writes}
-use Rattle.macho_linked.specs.Dyld.{State, bytes_from, Takes, IsLast, slot, Moves, Reaches, IsKept, IsAt, IsSafe, IsFollowedSafely, AreFollowedSafely}
+use Rattle.macho_linked.specs.Dyld.{State, Takes, IsLast, slot, Moves, Reaches, IsAt, IsSafe, IsFollowedSafely, AreFollowedSafely}
+use Rattle.macho_tables.specs.Memory.{bytes_from, IsKept}
 use Rattle.macho_linked.specs.Harmless.{all_streams, streams_of, IsStream, WritesAt, IsHarmless}
 use Rattle.macho_linked.specs.Images.{opcodes_of, fields_of}
 use Rattle.macho_tables.specs.Places.{dyld_info}
@@ -30,7 +32,7 @@ use Rattle.macho_linked.specs.declared.step.Step.{Step}
 use Rattle.macho_linked.specs.declared.step.Step.TheVariants as step
 use Rattle.macho_linked.specs.declared.streams.Stream.{Stream}
 use Rattle.macho_linked.proofs.Harmless.{harmless_image, of_images}
-use Rattle.macho_linked.proofs.Memory.{segment_among, never_constant, same_in_memory}
+use Rattle.macho_tables.proofs.Memory.{segment_among, never_constant, same_in_memory}
 use Rattle.macho_linked.proofs.Prefixes.{step_same}
 use Rattle.macho_linked.proofs.StepChains.{steps_more, steps_on}
 use Rattle.macho_linked.proofs.TableSurveys.{stream_named, stream_inside}
@@ -114,7 +116,7 @@ module _ (image : List ℕ) (kept : NothingBreaks (BreaksImage image)) (unbroken
       stream_same k less =
           let (command, info, (has, inside)) = found in
           let (listed, names) = info_names command info in
-          same_in_memory image kept command listed names table has home is_at.found memory still k less
+          same_in_memory image (λ place broken. kept rule.TableHome place broken) command listed names table has home is_at.found memory still k less
 
       -- the opcode that the loader takes is that of the file
       opcode_there : (place : ℕ) (before : List Step) → AreSteps of stream before place → place < length stream → (r : Step × ℕ) × (step_at of stream place ≡ Some r)

@@ -35,7 +35,7 @@ use Rattle.macho_linked.specs.declared.step.Step.TheVariants as step
 use Rattle.macho_linked.specs.declared.streams.Stream.{Stream}
 use Rattle.macho_linked.specs.declared.streams.Stream.TheVariants as streams
 use Rattle.macho_spans.specs.declared.span.Span.{Span}
-use Rattle.macho_linked.proofs.Memory.{never_both}
+use Rattle.macho_tables.proofs.Memory.{never_both}
 use Rattle.macho_linked.proofs.SafeTexts.{text_at_base}
 use Rattle.macho_linked.proofs.StepChains.{steps_more}
 use Rattle.macho_linked.proofs.Within.{step_within}

@@ -17,7 +17,7 @@ use Rattle.macho_fields.proofs.Options.{some_of}
 use Rattle.macho_image.proofs.ReadParts.{length-part}
 use Rattle.macho_rules.proofs.Judged.{opened_facts, opened_commands}
 use Rattle.macho_rules.proofs.Verdicts.{file_inside, unbroken_opened}
-use Rattle.macho_linked.specs.Chains.{chained_fixups, NoHeader, BadStarts, BadImports, LongNames, UnknownLibrary, InNoBytes}
+use Rattle.macho_chains.specs.Chains.{chained_fixups, NoHeader, BadStarts, BadImports, LongNames, UnknownLibrary, InNoBytes}
 use Rattle.macho_linked.specs.Images.{opcodes_of, fields_of, Undecoded, NoLibrary, NoName, NoSlot, TooMany, TooLong, InStream, InRebases, InBindsOf, InBinds}
 use Rattle.macho_tables.specs.Places.{dyld_info}
 use Rattle.macho_tables.specs.DataInCode.{BadEntry}
@@ -26,11 +26,11 @@ use Rattle.macho_tables.specs.StartNumbers.{BadNumber, StrayStart}
 use Rattle.macho_linked.specs.declared.step.Opcodes.{Opcodes}
 use Rattle.macho_linked.specs.declared.streams.Stream.{Stream}
 use Rattle.macho_linked.specs.declared.streams.Stream.TheVariants as streams
-use Rattle.macho_linked.proofs.ChainTables.{no_header, bad_starts, bad_imports, long_names, unknown_library, chains_near}
+use Rattle.macho_chains.proofs.ChainTables.{no_header, bad_starts, bad_imports, long_names, unknown_library, chains_near}
 use Rattle.macho_tables.proofs.DataInCode.{bad_entry_near}
 use Rattle.macho_tables.proofs.DataTables.{data_near}
-use Rattle.macho_linked.proofs.ExportTables.{node_inside, total_inside, terminal_inside, library_inside, address_inside}
-use Rattle.macho_linked.proofs.PointerSurveys.{slots_near, binds_near}
+use Rattle.macho_exports.proofs.ExportTables.{node_inside, total_inside, terminal_inside, library_inside, address_inside}
+use Rattle.macho_chains.proofs.PointerSurveys.{slots_near, binds_near}
 use Rattle.macho_tables.proofs.StartNumbers.{bad_number_near, stray_start_near}
 use Rattle.macho_linked.proofs.TableSurveys.{IsStreamRule, undecoded, no_library, no_name, no_slot, too_many, too_long}
 use Rattle.macho_tables.proofs.Places.{named_first}

@@ -9,6 +9,7 @@ use Rattle.std.proofs.lemmas.Option.{slice_get_within}
 use Rattle.macho_fields.specs.Field.{part, string_from, HasZero}
 use Rattle.macho_fields.specs.NonZero.{IsNonZero, HasNonZero}
 use Rattle.macho_fields.proofs.Strings.{string_ends}
+use Rattle.macho_tables.proofs.StringSizes.{ended_size, endless_size}
 use Rattle.macho_linked.specs.Steps.{with_name, last_step}
 use Rattle.macho_linked.specs.declared.step.Step.TheVariants as step
 
@@ -47,28 +48,10 @@ last_fails stream next place from there =
     ne_eqb _ 0 (λ is. there.1 (ap (slice_index stream) (sym same) ∙ (sym (get_or-drop next stream (place - next) 0) ∙ is))) in
     let all = list_all_at is_zero (drop next stream) (place - next) 0 (omega arith) here in rw all refl
 
--- a string ends at its first zero byte
-pub ended_size : (bytes : List ℕ) (start z : ℕ) → start ≤ z → slice_get bytes z ≡ Some 0 → (HasZero bytes start z → ⊥) → start + length (string_from start bytes) ≡ z
-ended_size bytes start z from there first =
-    let inside = slice_get_within bytes z 0 there in
-    let is = string_ends bytes start z from there first in
-    let size : length (part start (z - start) bytes) ≡ z - start = length-take-le (z - start) (drop start bytes) (rw (length-drop start bytes) (omega arith)) in rw (← is, size) (omega arith)
-
--- and a name does
+-- a name ends at its first zero byte
 pub name_ends : (flags : ℕ) (stream : List ℕ) (name z : ℕ) → name ≤ z → slice_get stream z ≡ Some 0 → (HasZero stream name z → ⊥)
     → with_name flags stream name ≡ Some (step.SetSymbol (record { start = name; len = z + 1 - name }) flags, z + 1)
 name_ends flags stream name z from there first = rw (ended_size stream name z from there first, lt-ltb z (length stream) (slice_get_within stream z 0 there)) refl
-
--- a string without a zero byte has all bytes that follow
-pub endless_size : (bytes : List ℕ) (start : ℕ) → (HasZero bytes start (start + length bytes) → ⊥) → length (string_from start bytes) ≡ length bytes - start
-endless_size bytes start none =
-    let size = length-drop start bytes in
-    let len : position_or_len is_zero (drop start bytes) ≡ length (drop start bytes) =
-    position_or_len_is is_zero (drop start bytes) (length (drop start bytes)) 0 (omega arith)
-    (λ k below. ne_eqb _ 0 (λ is. none (start + k, omega arith, omega arith, omega arith, sym (get_or-drop start bytes k 0) ∙ is)))
-    (λ past. absurd (omega arith)) in
-    let count = length-take (position_or_len is_zero (drop start bytes)) (drop start bytes) in
-    omega (arith, count)
 
 -- a name without a zero byte does not end
 pub name_fails : (flags : ℕ) (stream : List ℕ) (name : ℕ) → (HasZero stream name (name + length stream) → ⊥)

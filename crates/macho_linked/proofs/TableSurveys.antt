@@ -27,6 +27,7 @@ use Rattle.macho_linked.specs.declared.stream.Limits.{Limits}
 use Rattle.macho_linked.specs.declared.stream.StreamSurvey.{StreamSurvey}
 use Rattle.macho_linked.specs.declared.streams.Stream.{Stream}
 use Rattle.macho_linked.specs.declared.streams.Stream.TheVariants as streams
+use Rattle.macho_tables.proofs.Places.{least_same, least_joined, least_moved, fits_moved, named_first, info_has}
 use Rattle.macho_tables.proofs.NamedTables.{LieInside, table_named, table_inside, bounds_inside}
 use Rattle.macho_linked.proofs.NearSegments.{cursor_near, outside_same}
 use Rattle.macho_linked.proofs.Within.{step_within}

@@ -3,16 +3,15 @@
 -- named __TEXT are (header-home). The loader takes segments as the headers of the file have them: these lie in
 -- memory that stays as it is in the file (header-home, IsKept).
 use Rattle.std.specs.Prelude.{◌≡◌, ℕ, zero, suc, ◌+◌, ◌*◌, ◌≤◌, ◌<◌, ◌⊎◌, List, length, map, All, Any, Contains, Some, true, false, slice_get, slice_index, bit_and, IsSomeAnd}
-use Rattle.std.specs.List.{range_with_len}
 use Rattle.macho_fields.specs.Field.{part}
 use Rattle.macho_fields.specs.Image.{commands_of}
 use Rattle.macho_fields.specs.Segment.{all_segments, vmaddr, vmsize, fileoff, filesize}
 use Rattle.macho_fields.specs.Universal.{slices_of, slice_bytes, IsImage}
 use Rattle.macho_linked.specs.Cursor.{start, moved, cursor_after, writes}
 use Rattle.macho_linked.specs.Harmless.{streams_of}
-use Rattle.macho_tables.specs.Homes.{Encrypts}
 use Rattle.macho_tables.specs.Places.{dyld_info}
-use Rattle.macho_tables.specs.Segments.{is_writable, is_constant, is_protected, IsLinkedit}
+use Rattle.macho_tables.specs.Memory.{bytes_from, IsKept}
+use Rattle.macho_tables.specs.Segments.{is_writable, IsLinkedit}
 use Rattle.macho_linked.specs.Steps.{step_at, AreSteps}
 use Rattle.macho_linked.specs.declared.cursor.Cursor.{Cursor}
 use Rattle.macho_linked.specs.declared.opcode.TheConstants as opcode
@@ -28,10 +27,6 @@ pub record State : Type 0 where
   pub memory : ℕ → ℕ
   pub place : ℕ
   pub cursor : Cursor
-
--- so many bytes of memory, from an address on
-abbrev pub bytes_from : (ℕ → ℕ) → ℕ → ℕ → List ℕ
-bytes_from memory address n = map memory (range_with_len address n)
 
 -- The loader takes what is in memory at a place of the stream for an opcode, and goes on at `after`. It
 -- reads as many bytes as it needs, whether or not they are of the stream.
@@ -74,15 +69,6 @@ abbrev pub Reaches : List ℕ → Opcodes → ℕ → ℕ → State → ℕ → 
 Reaches image of home len first zero last = first ≡ last
 Reaches image of home len first (suc n) last =
     (next : State) × Moves image of home len first next × Reaches image of home len next n last
-
--- Memory has the bytes of the file where a loader cannot write and a kernel does not decrypt. It is so
--- when an image has been mapped.
-abbrev pub IsKept : List ℕ → (ℕ → ℕ) → Type 0
-IsKept image memory =
-    (s k : ℕ) → Contains (all_segments image) s → 0 < vmsize image s → is_constant image s ≡ true
-    → is_protected image s ≡ false → k < filesize image s
-    → (¬ Any (Encrypts (record { start = fileoff image s + k; len = 1 }) image) (commands_of image))
-    → memory (vmaddr image s + k) ≡ slice_index image (fileoff image s + k)
 
 -- A stream of the image, by its opcodes and the table of its bytes, begins at an address of memory: where
 -- some segment named __LINKEDIT has it.

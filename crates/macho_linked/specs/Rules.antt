@@ -5,10 +5,10 @@ use Rattle.macho_fields.specs.First.{BreaksIn, NoneIsBroken, IsFirstOfAll}
 use Rattle.macho_fields.specs.declared.rule.Break.{Break}
 use Rattle.macho_fields.specs.declared.rule.Rule.{Rule}
 use Rattle.macho_fields.specs.declared.rule.Rule.TheVariants as rule
-use Rattle.macho_linked.specs.ChainPointers.{BreaksChainSlot, BreaksChainBind}
-use Rattle.macho_linked.specs.Chains.{BadStarts, BadImports, LongNames, UnknownLibrary, InChains, BreaksChainHeader, InPointers}
+use Rattle.macho_chains.specs.ChainPointers.{BreaksChainSlot, BreaksChainBind}
+use Rattle.macho_chains.specs.Chains.{BadStarts, BadImports, LongNames, UnknownLibrary, InChains, BreaksChainHeader, InPointers}
 use Rattle.macho_tables.specs.DataInCode.{BreaksDataInCode}
-use Rattle.macho_linked.specs.Exports.{BreaksExportNode, BreaksExportTotal, BreaksExportTerminal, BreaksExportLibrary, BreaksExportAddress}
+use Rattle.macho_exports.specs.Exports.{BreaksExportNode, BreaksExportTotal, BreaksExportTerminal, BreaksExportLibrary, BreaksExportAddress}
 use Rattle.macho_tables.specs.Homes.{BreaksTableHome, BreaksHeaderHome}
 use Rattle.macho_linked.specs.Images.{Undecoded, NoLibrary, NoName, NoSlot, TooMany, TooLong, InRebases, InBinds}
 use Rattle.macho_tables.specs.Kinds.{BreaksTableRepeated, BreaksFunctionVariants}

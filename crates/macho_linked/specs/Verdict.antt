@@ -9,7 +9,7 @@ use Rattle.macho_rules.specs.declared.refusal.Refusal.TheVariants as refusal
 use Rattle.macho_strict.specs.First.{IsStrictlyUnbroken}
 use Rattle.macho_strict.specs.Verdict.{IsStrictRefusal}
 use Rattle.macho_tables.specs.CodeParts.{HasSeveralCodeParts}
-use Rattle.macho_linked.specs.Exports.{HasExports}
+use Rattle.macho_exports.specs.Exports.{HasExports}
 use Rattle.macho_tables.specs.FileBytes.{HasManySegments}
 use Rattle.macho_linked.specs.Rules.{IsBrokenIn, IsFirstLinkedBroken}
 

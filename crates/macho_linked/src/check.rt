@@ -12,10 +12,10 @@ ghost use Rattle.macho_rules.specs.Check.{ContinuesWithMemory};
 ghost use Rattle.macho_rules.specs.Verdict.{IsRefusalOf};
 ghost use Rattle.macho_strict.specs.Rules.{BreaksStrictImage};
 
-use crate::chain_pages::PointerSurvey;
-use crate::chains::{ChainSurvey, ChainedFixups};
-use crate::exports::ExportSurvey;
 use crate::streams::StreamSurveys;
+use macho_chains::chain_pages::PointerSurvey;
+use macho_chains::chains::{ChainSurvey, ChainedFixups};
+use macho_exports::exports::ExportSurvey;
 use macho_fields::{Break, Rule};
 use macho_image::Image;
 use macho_rules::Refusal;

@@ -5,10 +5,9 @@ ghost use Rattle.std.specs.Prelude.{◌≡◌};
 ghost use Rattle.macho_fields.specs.RuleList.{profile_of};
 ghost use Rattle.macho_fields.specs.declared.rule.Profile.TheVariants.{Linked};
 ghost use Rattle.macho_fields.specs.First.{IsUnbroken};
-ghost use Rattle.macho_linked.specs.ChainDyld.{AreChainedSafely};
+ghost use Rattle.macho_chains.specs.ChainDyld.{AreChainedSafely};
 ghost use Rattle.macho_linked.specs.Dyld.{AreFollowedSafely};
-ghost use Rattle.macho_linked.specs.ExportLaw.{HasSoundExports};
-ghost use Rattle.macho_linked.specs.FixupChains.{AreFixupChainsConstants};
+ghost use Rattle.macho_exports.specs.ExportLaw.{HasSoundExports};
 ghost use Rattle.macho_linked.specs.Harmless.{AreHarmless};
 ghost use Rattle.macho_linked.specs.Located.{AreLocated};
 ghost use Rattle.macho_linked.specs.Opcodes.{AreOpcodeConstants};
@@ -20,12 +19,6 @@ use macho_fields::Break;
 /// them.
 pub fn opcode_constants_are_those_of_the_header()
     ensures { AreOpcodeConstants }
-{}
-
-/// Each constant of `fixup_chains` is the number that `mach-o/fixup-chains.h` defines, as
-/// `specs/FixupChains.antt` lists them.
-pub fn fixup_chains_constants_are_those_of_the_header()
-    ensures { AreFixupChainsConstants }
 {}
 
 /// A file has at most one first broken linked rule.

@@ -1,14 +1,11 @@
 //! The streams of an image, and where they first break each of their rules. (`mach-o/loader.h`:
 //! `dyld_info_command`)
 
-ghost use Rattle.std.specs.Prelude.{◌≡◌, ◌+◌, ◌^◌, ◌<◌, IfSome, Some};
-ghost use Rattle.std.specs.Option.{option_map};
-ghost use Rattle.macho_fields.specs.Image.{commands_of};
+ghost use Rattle.std.specs.Prelude.{◌≡◌, Some};
 ghost use Rattle.macho_fields.specs.Layers.{NothingBreaks};
 ghost use Rattle.macho_fields.specs.Rules.{BreaksImage as Breaks};
-ghost use Rattle.macho_image.specs.Command.{first_with_cmd};
 ghost use Rattle.macho_linked.specs.Images.{AreLeast, InStream};
-ghost use Rattle.macho_tables.specs.Places.{dyld_info as dyld_info_of, bounded_at as bounded_at_of, lesser as lesser_of};
+ghost use Rattle.macho_tables.specs.Places.{dyld_info as dyld_info_of};
 ghost use Rattle.macho_tables.specs.Limits.{AreRooms, rooms_of, budget_of, library_count};
 
 use crate::step::Opcodes;

@@ -2,7 +2,7 @@
 //! the format.
 
 use macho_fields::{Bytes, Span};
-use macho_linked::export_trie::{Export, Target, find_export};
+use macho_exports::export_trie::{Export, Target, find_export};
 
 /// A trie of five nodes, with bytes between them that belong to none.
 const TRIE: &[u8] = &[

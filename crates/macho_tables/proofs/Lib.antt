@@ -1,5 +1,7 @@
 pub mod Digits
 pub mod NumberEnds
+pub mod StringSizes
+pub mod Memory
 pub mod FunctionStarts
 pub mod NamedTables
 pub mod Places

@@ -5,6 +5,7 @@ pub mod Segments
 pub mod Kinds
 pub mod Places
 pub mod Homes
+pub mod Memory
 pub mod Limits
 pub mod Items
 pub mod DataTables

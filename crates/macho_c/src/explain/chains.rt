@@ -3,7 +3,7 @@
 ghost use Rattle.std.specs.Prelude.{◌≡◌, ◌<◌, IfSome};
 ghost use Rattle.macho_fields.specs.Bytes.{bytes_of};
 ghost use Rattle.macho_fields.specs.declared.rule.Rule.{Rule};
-ghost use Rattle.macho_linked.specs.ChainImports.{ImportsEndPast};
+ghost use Rattle.macho_chains.specs.ChainImports.{ImportsEndPast};
 ghost use Rattle.macho_c.specs.Compared.{IsChainSize, IsFound, IsSpot};
 
 use crate::explain::conflict::Conflict;
@@ -19,10 +19,10 @@ use crate::explain::table::{Bounded, table_by, tables_of};
 use crate::explain::walk::{Sought, walk_to};
 use macho_fields::header::loader::LC_DYLD_CHAINED_FIXUPS;
 use macho_fields::{Bytes, Order, Rule, Span};
-use macho_linked::chain_header::ChainHeader;
-use macho_linked::chain_imports::{Ordinal, name_size};
-use macho_linked::chain_starts::{SegmentStarts, segment_count};
-use macho_linked::fixup_chains::{
+use macho_chains::chain_header::ChainHeader;
+use macho_chains::chain_imports::{Ordinal, name_size};
+use macho_chains::chain_starts::{SegmentStarts, segment_count};
+use macho_chains::fixup_chains::{
     DYLD_CHAINED_FIXUPS_HEADER_SIZE, DYLD_CHAINED_STARTS_IN_IMAGE_SIZE,
     DYLD_CHAINED_STARTS_IN_SEGMENT_SIZE, SEG_INFO_OFFSET_SIZE,
 };

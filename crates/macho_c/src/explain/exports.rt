@@ -5,7 +5,7 @@ ghost use Rattle.std.specs.Option.{option_map};
 ghost use Rattle.macho_fields.specs.Bytes.{bytes_of};
 ghost use Rattle.macho_fields.specs.declared.rule.Rule.{Rule};
 ghost use Rattle.macho_spans.specs.Span.{end_of};
-ghost use Rattle.macho_linked.specs.ExportTrie.{node_at as node_at_of};
+ghost use Rattle.macho_exports.specs.ExportTrie.{node_at as node_at_of};
 ghost use Rattle.macho_c.specs.Compared.{HasAddress, HasOrdinal, HasTarget, IsAddressShown, IsFound, LeadsTo, ShowsNode, flags_shown, node_bounds};
 
 use crate::explain::conflict::Conflict;
@@ -18,8 +18,8 @@ use crate::explain::stream::dyld_info;
 use crate::explain::table::{Bounded, table_with};
 use macho_fields::header::loader::LC_DYLD_EXPORTS_TRIE;
 use macho_fields::{Bytes, Rule, Span};
-use macho_linked::export_trie::{Export, ExportNode, Target};
-use macho_linked::exports::MOST_FLAGS;
+use macho_exports::export_trie::{Export, ExportNode, Target};
+use macho_exports::exports::MOST_FLAGS;
 use macho_tables::numbers::read_uleb;
 use macho_linked::stream::Limits;
 

@@ -3,7 +3,7 @@
 ghost use Rattle.std.specs.Prelude.{◌≡◌, IfSome};
 ghost use Rattle.macho_fields.specs.Bytes.{bytes_of};
 ghost use Rattle.macho_fields.specs.declared.rule.Rule.{Rule};
-ghost use Rattle.macho_linked.specs.ChainPointers.{pointer_of};
+ghost use Rattle.macho_chains.specs.ChainPointers.{pointer_of};
 ghost use Rattle.macho_c.specs.Compared.{IsFound};
 ghost use Rattle.macho_c.specs.Explain.{long_at};
 
@@ -15,10 +15,10 @@ use crate::explain::sliced::Sliced;
 use crate::explain::spot::Spot;
 use macho_fields::{Order, Span};
 use macho_image::Image;
-use macho_linked::chain_pages::plain_room;
-use macho_linked::chain_pointers::ChainPointer;
-use macho_linked::chain_starts::SegmentStarts;
-use macho_linked::fixup_chains::{
+use macho_chains::chain_pages::plain_room;
+use macho_chains::chain_pointers::ChainPointer;
+use macho_chains::chain_starts::SegmentStarts;
+use macho_chains::fixup_chains::{
     DYLD_CHAINED_PTR_START_NONE, DYLD_CHAINED_STARTS_IN_SEGMENT_SIZE, PAGE_START_SIZE,
 };
 use macho_tables::limits::POINTER_SIZE;

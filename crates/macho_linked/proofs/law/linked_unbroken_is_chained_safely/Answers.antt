@@ -1,4 +1,4 @@
-use Rattle.macho_linked.proofs.ChainDyld.{file_chained_safely}
+use Rattle.macho_linked.proofs.ChainedSafely.{file_chained_safely}
 use Rattle.macho_linked.proofs.law.linked_unbroken_is_chained_safely.Goals as goal
 
 pub returns : goal.returns

@@ -3,7 +3,7 @@ use Rattle.macho_rules.proofs.Verdicts.{passed_on}
 use Rattle.macho_strict.specs.First.{IsStrictlyUnbroken}
 use Rattle.macho_linked.specs.Rules.{IsLinkedUnbroken}
 use Rattle.macho_linked.specs.Verdict.{IsLinkedRefusal, IsLinkedBreak}
-use Rattle.macho_linked.proofs.ChainDyld.{file_chained_safely}
+use Rattle.macho_linked.proofs.ChainedSafely.{file_chained_safely}
 use Rattle.macho_linked.proofs.Dyld.{file_followed_safely}
 use Rattle.macho_linked.proofs.Harmless.{harmless_file}
 use Rattle.macho_linked.proofs.Located.{file_located}

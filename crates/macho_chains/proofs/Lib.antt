@@ -1,0 +1,16 @@
+pub mod ChainImports
+pub mod ChainPages
+pub mod PointerSurveys
+pub mod ChainStarts
+pub mod ChainTables
+pub mod UnbrokenStarts
+pub mod UnbrokenPointers
+pub mod UnbrokenImports
+pub mod UnbrokenChains
+pub mod ChainMemory
+pub mod ChainReads
+pub mod ChainFresh
+pub mod ChainCounts
+pub mod ChainPlaces
+pub mod ChainMoves
+pub mod ChainDyld

@@ -1,0 +1,5 @@
+pub mod ExportTrie
+pub mod ExportWalk
+pub mod ExportNodes
+pub mod Exports
+pub mod ExportLaw

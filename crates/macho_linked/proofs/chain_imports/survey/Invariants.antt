@@ -1,6 +1,0 @@
-use Rattle.macho_linked.proofs.ChainImports.{AreWalked}
-use Rattle.macho_linked.proofs.chain_imports.survey.Given as goal
-
--- the imports before it are judged
-abbrev pub invariant-loop-index : goal.invariant-loop-index
-invariant-loop-index l = AreWalked l.libraries l.chains.bytes.now l.header l.index l.before l.shared l.found
