@@ -1,14 +1,12 @@
 -- The operands of an opcode: names, and the zeros after the last opcode.
 use Rattle.std.proofs.Common.{◌≡◌, ℕ, suc, ◌+◌, ◌-◌, ◌≤◌, ◌<◌, ◌==◌, Bool, true, false, List, [], ◌∷◌, length, drop, get_or, slice_index, slice_get, Some, None, inl, inr, refl, sym, ap, ◌∙◌, arith, length-drop}
-use Rattle.std.specs.List.{list_all, position_or_len}
+use Rattle.std.specs.List.{list_all}
 use Rattle.std.proofs.lemmas.Bool.{cases_eq, eq-eqb, ne_eqb, lt-ltb, le-ltb}
-use Rattle.std.proofs.lemmas.List.{get_or-drop, length-take, length-take-le}
+use Rattle.std.proofs.lemmas.List.{get_or-drop}
 use Rattle.std.proofs.lemmas.List.Folds.{list_all_at}
-use Rattle.std.proofs.lemmas.List.Sums.{position_or_len_is}
 use Rattle.std.proofs.lemmas.Option.{slice_get_within}
-use Rattle.macho_fields.specs.Field.{part, string_from, HasZero}
+use Rattle.macho_fields.specs.Field.{string_from, HasZero}
 use Rattle.macho_fields.specs.NonZero.{IsNonZero, HasNonZero}
-use Rattle.macho_fields.proofs.Strings.{string_ends}
 use Rattle.macho_tables.proofs.StringSizes.{ended_size, endless_size}
 use Rattle.macho_linked.specs.Steps.{with_name, last_step}
 use Rattle.macho_linked.specs.declared.step.Step.TheVariants as step

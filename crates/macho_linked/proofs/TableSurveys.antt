@@ -1,22 +1,16 @@
 -- From what a walk over the bytes of a stream finds to the places in the image.
-use Rattle.std.proofs.Common.{◌≡◌, ◌↔◌, ℕ, ◌+◌, ◌^◌, ◌≤◌, ◌<◌, ◌⊎◌, List, length, min, Contains, Option, Some, None, lit<, refl, sym, ◌∙◌, subst, arith, inl, inr}
-use Rattle.std.specs.Prelude.{IfSome, IsSomeAnd}
-use Rattle.std.specs.Option.{option_map, option_map_or}
-use Rattle.std.proofs.lemmas.Bool.{cases_lt}
-use Rattle.std.proofs.lemmas.Option.{slice_get_within, get_or_from_slice_get}
+use Rattle.std.proofs.Common.{◌≡◌, ◌↔◌, ℕ, ◌+◌, ◌^◌, ◌≤◌, ◌<◌, ◌⊎◌, List, length, Contains, Option, Some, None, lit<, refl, sym, subst, arith}
+use Rattle.std.specs.Prelude.{IsSomeAnd}
 use Rattle.macho_fields.specs.Field.{part}
 use Rattle.macho_fields.specs.FirstPlace.{IsLeastPlace}
-use Rattle.macho_fields.specs.Image.{command_cmd, commands_of, with_cmd}
+use Rattle.macho_fields.specs.Image.{command_cmd, commands_of}
 use Rattle.macho_fields.specs.Layers.{NothingBreaks}
 use Rattle.macho_fields.specs.LoadCommands.{structure_of, dyld_info_tables}
 use Rattle.macho_fields.specs.Rules.{BreaksImage}
 use Rattle.macho_fields.specs.Symbol.{table_at, tables_of}
 use Rattle.macho_fields.specs.declared.load_command.Structure.TheVariants.{DyldInfoCommand}
-use Rattle.macho_fields.proofs.Parts.{with_cmd_among, with_cmd_is}
-use Rattle.macho_fields.specs.declared.header.loader.TheConstants as loader
-use Rattle.macho_image.specs.Command.{first_with_cmd}
 use Rattle.macho_linked.specs.Images.{Undecoded, NoLibrary, NoName, NoSlot, TooMany, TooLong, InTable, AreLeast, FitsAt, fields_of, joined, moved}
-use Rattle.macho_tables.specs.Places.{lesser, dyld_info}
+use Rattle.macho_tables.specs.Places.{dyld_info}
 use Rattle.macho_tables.specs.Limits.{AreRooms, rooms_of, budget_of, library_count}
 use Rattle.macho_linked.specs.Cursor.{cursor_after}
 use Rattle.macho_linked.specs.Streams.{At, pointers, names, NamesNoLibrary, LacksName, WritesOutside, PassesBudget, PassesNames, IsStreamSurvey, unbroken}
@@ -27,7 +21,7 @@ use Rattle.macho_linked.specs.declared.stream.Limits.{Limits}
 use Rattle.macho_linked.specs.declared.stream.StreamSurvey.{StreamSurvey}
 use Rattle.macho_linked.specs.declared.streams.Stream.{Stream}
 use Rattle.macho_linked.specs.declared.streams.Stream.TheVariants as streams
-use Rattle.macho_tables.proofs.Places.{least_same, least_joined, least_moved, fits_moved, named_first, info_has}
+use Rattle.macho_tables.proofs.Places.{least_same, least_joined, least_moved, fits_moved, info_has}
 use Rattle.macho_tables.proofs.NamedTables.{LieInside, table_named, table_inside, bounds_inside}
 use Rattle.macho_linked.proofs.NearSegments.{cursor_near, outside_same}
 use Rattle.macho_linked.proofs.Within.{step_within}

@@ -1,10 +1,8 @@
 -- An opcode and its operands lie in the stream.
-use Rattle.std.proofs.Common.{◌≡◌, ℕ, ◌+◌, ◌≤◌, ◌<◌, ◌==◌, Bool, true, false, List, length, take, drop, slice_get, Option, Some, None, MatchOption, inl, inr, refl, subst, arith, length-drop}
-use Rattle.std.specs.Prelude.{nat_lt, cond}
-use Rattle.std.specs.List.{list_all, position_or_len}
+use Rattle.std.proofs.Common.{◌≡◌, ℕ, ◌+◌, ◌≤◌, ◌<◌, ◌==◌, List, length, drop, slice_get, Option, Some, None, inl, inr, refl, subst, arith}
+use Rattle.std.specs.List.{list_all}
 use Rattle.std.specs.Option.{option_map, option_and_then}
 use Rattle.std.proofs.lemmas.Bool.{cases_lt, lt-ltb, le-ltb}
-use Rattle.std.proofs.lemmas.List.{length-take}
 use Rattle.std.proofs.lemmas.Option.{slice_get_within}
 use Rattle.macho_fields.specs.Field.{string_from}
 use Rattle.macho_tables.proofs.NumberEnds.{IsWithin, either, unsigned_within, signed_within}

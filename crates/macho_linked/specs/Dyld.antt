@@ -2,10 +2,9 @@
 -- Memory has a byte for each address, and is that of an image loaded at its base, which is where the segments
 -- named __TEXT are (header-home). The loader takes segments as the headers of the file have them: these lie in
 -- memory that stays as it is in the file (header-home, IsKept).
-use Rattle.std.specs.Prelude.{◌≡◌, ℕ, zero, suc, ◌+◌, ◌*◌, ◌≤◌, ◌<◌, ◌⊎◌, List, length, map, All, Any, Contains, Some, true, false, slice_get, slice_index, bit_and, IsSomeAnd}
+use Rattle.std.specs.Prelude.{◌≡◌, ℕ, zero, suc, ◌+◌, ◌*◌, ◌≤◌, ◌<◌, ◌⊎◌, List, length, All, Any, Contains, Some, true, slice_get, slice_index, bit_and, IsSomeAnd}
 use Rattle.macho_fields.specs.Field.{part}
-use Rattle.macho_fields.specs.Image.{commands_of}
-use Rattle.macho_fields.specs.Segment.{all_segments, vmaddr, vmsize, fileoff, filesize}
+use Rattle.macho_fields.specs.Segment.{all_segments, vmaddr, fileoff, filesize}
 use Rattle.macho_fields.specs.Universal.{slices_of, slice_bytes, IsImage}
 use Rattle.macho_linked.specs.Cursor.{start, moved, cursor_after, writes}
 use Rattle.macho_linked.specs.Harmless.{streams_of}

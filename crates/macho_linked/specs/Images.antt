@@ -1,15 +1,11 @@
 -- The streams of an image, and where they break their rules. A place is one in the image.
 -- (mach-o/loader.h: dyld_info_command)
-use Rattle.std.specs.Prelude.{◌≡◌, ℕ, ◌+◌, ◌^◌, ◌<◌, ◌⊎◌, List, length, min, Option, Some, None, IfSome, IsSomeAnd}
+use Rattle.std.specs.Prelude.{◌≡◌, ℕ, ◌+◌, ◌^◌, ◌<◌, ◌⊎◌, List, length, IfSome, IsSomeAnd}
 use Rattle.std.specs.Option.{option_map}
 use Rattle.macho_fields.specs.Field.{part}
 use Rattle.macho_fields.specs.FirstPlace.{IsLeastPlace}
-use Rattle.macho_fields.specs.Image.{commands_of}
-use Rattle.macho_fields.specs.LoadCommands.{word_table}
 use Rattle.macho_fields.specs.Symbol.{table_at}
-use Rattle.macho_fields.specs.declared.header.loader.TheConstants as loader
 use Rattle.macho_fields.specs.declared.load_command.TableFields.{TableFields}
-use Rattle.macho_image.specs.Command.{first_with_cmd}
 use Rattle.macho_tables.specs.Places.{dyld_info, bounded_at, lesser}
 use Rattle.macho_tables.specs.Limits.{rooms_of, library_count, budget_of}
 use Rattle.macho_linked.specs.Streams.{At, pointers, names, IsUndecoded, NamesNoLibrary, LacksName, WritesOutside, PassesBudget, PassesNames}
