@@ -15,6 +15,7 @@ use Rattle.macho_fields.specs.Symbol.{table_at}
 use Rattle.macho_fields.specs.declared.header.loader.TheConstants as loader
 use Rattle.macho_fields.specs.declared.load_command.Structure.TheVariants.{DyldInfoCommand, LinkeditDataCommand}
 use Rattle.macho_image.specs.Command.{first_with_cmd}
+use Rattle.macho_image.specs.Opened.{IsOpened}
 use Rattle.macho_spans.specs.Span.{end_of}
 use Rattle.macho_spans.specs.declared.span.Span.{Span}
 use Rattle.macho_exports.specs.ExportTrie.{Node, node_at, head_at}
@@ -26,27 +27,27 @@ use Rattle.macho_exports.specs.declared.exports.ExportSurvey.{ExportSurvey}
 use Rattle.macho_tables.specs.Numbers.{unsigned_at}
 use Rattle.macho_exports.proofs.ExportNodes.{met_headless}
 use Rattle.macho_exports.proofs.ExportTries.{number_ends}
-use Rattle.macho_tables.proofs.NamedTables.{LieInside, table_inside, bounds_inside}
+use Rattle.macho_tables.proofs.NamedTables.{LieInside, bounds_opened, table_inside}
 use Rattle.macho_tables.proofs.Places.{named_first, info_has, least_moved}
 use Rattle.macho_tables.specs.Homes.{bytes_of_table}
 use Rattle.macho_image.proofs.ReadParts.{length-part}
 
 -- The tables that commands name
 
-module _ (image : List ℕ) (keeps : NothingBreaks (BreaksImage image None)) (command : ℕ) where
+module _ (image : List ℕ) (command : ℕ) where
   module _ (is : first_with_cmd image loader.LC_DYLD_EXPORTS_TRIE (commands_of image) ≡ Some command) where
-    pub data_fields : LieInside image command linkedit_data_table
-    data_fields = bounds_inside image keeps command LinkeditDataCommand (named_first image (λ n. structure_of n ≡ Some LinkeditDataCommand) loader.LC_DYLD_EXPORTS_TRIE refl command is) linkedit_data_table (0, lit< tt, refl)
+    pub data_fields : IsOpened image → LieInside image command linkedit_data_table
+    data_fields opened = bounds_opened image opened command LinkeditDataCommand (named_first image (λ n. structure_of n ≡ Some LinkeditDataCommand) loader.LC_DYLD_EXPORTS_TRIE refl command is) linkedit_data_table (0, lit< tt, refl)
 
-    pub data_inside : 0 < (table_at image command linkedit_data_table).1 → (table_at image command linkedit_data_table).0 + (table_at image command linkedit_data_table).1 ≤ length image
-    data_inside = table_inside image keeps command LinkeditDataCommand (named_first image (λ n. structure_of n ≡ Some LinkeditDataCommand) loader.LC_DYLD_EXPORTS_TRIE refl command is) linkedit_data_table (0, lit< tt, refl) refl
+    pub data_inside : NothingBreaks (BreaksImage image None) → 0 < (table_at image command linkedit_data_table).1 → (table_at image command linkedit_data_table).0 + (table_at image command linkedit_data_table).1 ≤ length image
+    data_inside keeps = table_inside image keeps command LinkeditDataCommand (named_first image (λ n. structure_of n ≡ Some LinkeditDataCommand) loader.LC_DYLD_EXPORTS_TRIE refl command is) linkedit_data_table (0, lit< tt, refl) refl
 
   module _ (is : dyld_info image ≡ Some command) where
-    pub info_fields : LieInside image command (bounded_at 40)
-    info_fields = bounds_inside image keeps command DyldInfoCommand (info_has image (λ n. structure_of n ≡ Some DyldInfoCommand) refl refl command is) (bounded_at 40) (4, lit< tt, refl)
+    pub info_fields : IsOpened image → LieInside image command (bounded_at 40)
+    info_fields opened = bounds_opened image opened command DyldInfoCommand (info_has image (λ n. structure_of n ≡ Some DyldInfoCommand) refl refl command is) (bounded_at 40) (4, lit< tt, refl)
 
-    pub info_inside : 0 < (table_at image command (bounded_at 40)).1 → (table_at image command (bounded_at 40)).0 + (table_at image command (bounded_at 40)).1 ≤ length image
-    info_inside = table_inside image keeps command DyldInfoCommand (info_has image (λ n. structure_of n ≡ Some DyldInfoCommand) refl refl command is) (bounded_at 40) (4, lit< tt, refl) refl
+    pub info_inside : NothingBreaks (BreaksImage image None) → 0 < (table_at image command (bounded_at 40)).1 → (table_at image command (bounded_at 40)).0 + (table_at image command (bounded_at 40)).1 ≤ length image
+    info_inside keeps = table_inside image keeps command DyldInfoCommand (info_has image (λ n. structure_of n ≡ Some DyldInfoCommand) refl refl command is) (bounded_at 40) (4, lit< tt, refl) refl
 
 -- a table that has bytes lies in the image
 pub some_inside : (image : List ℕ) (table : Span) (found : Option Span) → found ≡ some_bytes table → (0 < table.len → end_of table ≤ length image)
@@ -135,11 +136,11 @@ module _ (image : List ℕ) (keeps : NothingBreaks (BreaksImage image None)) whe
 
   data_ends : (table : Span) (first : Option ℕ) → first_with_cmd image loader.LC_DYLD_EXPORTS_TRIE (commands_of image) ≡ first → option_map_or data_of first None ≡ Some table → end_of table ≤ length image
   data_ends table None none is = absurd (none-some table is)
-  data_ends table (Some command) some is = (some_inside image (bytes_of_table (table_at image command linkedit_data_table)) (Some table) (sym is) (data_inside image keeps command some)).0
+  data_ends table (Some command) some is = (some_inside image (bytes_of_table (table_at image command linkedit_data_table)) (Some table) (sym is) (data_inside image command some keeps)).0
 
   info_ends : (table : Span) (first : Option ℕ) → dyld_info image ≡ first → option_map_or info_of first None ≡ Some table → end_of table ≤ length image
   info_ends table None none is = absurd (none-some table is)
-  info_ends table (Some command) some is = (some_inside image (bytes_of_table (table_at image command (bounded_at 40))) (Some table) (sym is) (info_inside image keeps command some)).0
+  info_ends table (Some command) some is = (some_inside image (bytes_of_table (table_at image command (bounded_at 40))) (Some table) (sym is) (info_inside image command some keeps)).0
 
   trie_ends : (table : Span) → export_table image ≡ Some table → end_of table ≤ length image
   trie_ends table is = either (exports_data image) refl is

@@ -5,6 +5,7 @@ ghost use Rattle.std.specs.Prelude.{◌≡◌, ◌↔◌, ◌≤◌, ◌<◌, Li
 ghost use Rattle.macho_fields.specs.Bytes.{bytes_of};
 ghost use Rattle.macho_fields.specs.Layers.{NothingBreaks};
 ghost use Rattle.macho_fields.specs.Rules.{BreaksImage as Breaks};
+ghost use Rattle.macho_image.specs.Opened.{IsOpened};
 ghost use Rattle.macho_spans.specs.Span.{end_of};
 ghost use Rattle.macho_exports.specs.ExportWalk.{have_meaning as have_meaning_of, whole_export};
 ghost use Rattle.macho_exports.specs.Exports.{export_table as export_table_of, exports_data as exports_data_of, info_exports as info_exports_of, some_bytes as some_bytes_of, is_absolute as is_absolute_of, IsNotedLeast, IsOfNoLibrary, AreLeastInTrie};
@@ -119,13 +120,13 @@ fn least_with(least: Option<u64>, is_broken: bool, place: u64) -> Option<u64>
     }
 }
 
-/// Where the export trie is in an image that breaks no rule of the layout: the data of `LC_DYLD_EXPORTS_TRIE`, and
-/// if that has no bytes, the exports of `LC_DYLD_INFO` or `LC_DYLD_INFO_ONLY`. It is `None` if these have none
-/// either.
+/// Where the export trie is in an image: the data of `LC_DYLD_EXPORTS_TRIE`, and if that has no bytes, the exports of
+/// `LC_DYLD_INFO` or `LC_DYLD_INFO_ONLY`. It is `None` if these have none either. In an image that breaks a rule of
+/// the layout it can end past the image.
 pub fn export_table(image: &Image) -> Option<Span>
-    requires { NothingBreaks (Breaks image.now None) }
+    requires { IsOpened image.now }
     ensures table { result ≡ export_table_of image.now }
-    ensures inside { IfSome result (λ table. end_of table ≤ length image.now) }
+    ensures inside { NothingBreaks (Breaks image.now None) → IfSome result (λ table. end_of table ≤ length image.now) }
     ensures some { IfSome result (λ table. 0 < table.len) }
 {
     match exports_data(image) {
@@ -136,9 +137,9 @@ pub fn export_table(image: &Image) -> Option<Span>
 
 // The data of `LC_DYLD_EXPORTS_TRIE`, if it has bytes.
 fn exports_data(image: &Image) -> Option<Span>
-    requires { NothingBreaks (Breaks image.now None) }
+    requires { IsOpened image.now }
     ensures table { result ≡ exports_data_of image.now }
-    ensures inside { IfSome result (λ table. end_of table ≤ length image.now) }
+    ensures inside { NothingBreaks (Breaks image.now None) → IfSome result (λ table. end_of table ≤ length image.now) }
     ensures some { IfSome result (λ table. 0 < table.len) }
 {
     let command = first_place(image, LC_DYLD_EXPORTS_TRIE)?;
@@ -148,9 +149,9 @@ fn exports_data(image: &Image) -> Option<Span>
 
 // The exports of `LC_DYLD_INFO` or `LC_DYLD_INFO_ONLY`, if they have bytes.
 fn info_exports(image: &Image) -> Option<Span>
-    requires { NothingBreaks (Breaks image.now None) }
+    requires { IsOpened image.now }
     ensures table { result ≡ info_exports_of image.now }
-    ensures inside { IfSome result (λ table. end_of table ≤ length image.now) }
+    ensures inside { NothingBreaks (Breaks image.now None) → IfSome result (λ table. end_of table ≤ length image.now) }
     ensures some { IfSome result (λ table. 0 < table.len) }
 {
     let command = dyld_info(image)?;

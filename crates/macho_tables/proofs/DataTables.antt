@@ -1,5 +1,5 @@
 -- From what is found in the table of a linkedit_data_command to the places in the image.
-use Rattle.std.proofs.Common.{◌≡◌, ℕ, ◌+◌, ◌^◌, ◌≤◌, ◌<◌, List, [], ◌∷◌, length, Contains, Option, Some, None, lit<, refl, sym, subst, arith}
+use Rattle.std.proofs.Common.{◌≡◌, ℕ, ◌+◌, ◌^◌, ◌≤◌, ◌<◌, List, [], ◌∷◌, length, Contains, Option, Some, None, lit<, refl, sym, ap, subst, arith}
 use Rattle.std.specs.Prelude.{IfSome, IsSomeAnd}
 use Rattle.std.specs.Option.{option_map}
 use Rattle.macho_fields.specs.Field.{part}
@@ -93,3 +93,12 @@ data_near image cmd is_data keeps Rule inside place broken =
     let size = length-part table.0 table.1 image fits in
     let within = inside (part table.0 table.1 image) offset (omega (arith, size, some)) here in
     omega (arith, at, within, size, fits)
+
+-- a table that has bytes lies in the image
+pub data_table_inside : (image : List ℕ) (cmd : ℕ) → structure_of cmd ≡ Some LinkeditDataCommand → NothingBreaks (BreaksImage image None)
+    → (table : Span) → IsDataTable image cmd table → table.start + table.len ≤ length image
+data_table_inside image cmd is_data keeps table is =
+    let (command, at, (same, some)) = some_of (λ c. (table ≡ bytes_of_table (table_at image c linkedit_data_table)) × (0 < table.len)) (first_with_cmd image cmd (commands_of image)) is in
+    let len : table.len ≡ (table_at image command linkedit_data_table).1 = ap (λ (s : Span). s.len) same in
+    let inside = data_inside image cmd is_data command at keeps (omega (arith, some, len)) in
+    subst (λ (s : Span). s.start + s.len ≤ length image) (sym same) inside

@@ -12,6 +12,7 @@ use Rattle.macho_fields.specs.declared.load_command.TableFields.{TableFields}
 use Rattle.macho_fields.specs.declared.rule.Rule.TheVariants as rule
 use Rattle.macho_fields.proofs.LoadCommands.{table_listed}
 use Rattle.macho_fields.proofs.Opened.{table_fields_inside}
+use Rattle.macho_image.specs.Opened.{IsOpened}
 use Rattle.macho_rules.proofs.Judged.{opened_facts, opened_commands}
 use Rattle.macho_rules.proofs.Searches.{any_of}
 use Rattle.macho_rules.proofs.Verdicts.{unbroken_opened}
@@ -19,6 +20,13 @@ use Rattle.macho_rules.proofs.Verdicts.{unbroken_opened}
 -- the two fields that bound a table lie in the image
 abbrev pub LieInside : List ℕ → ℕ → TableFields → Type 0
 LieInside image command f = (command + f.place + width_size f.width ≤ length image) × (command + f.count + width_size f.width ≤ length image)
+
+-- those of a command of an opened image do
+pub bounds_opened : (image : List ℕ) → IsOpened image → (command : ℕ) (structure : Structure)
+    → Contains (commands_of image) command × (structure_of (command_cmd image command) ≡ Some structure)
+    → (fields : TableFields) → Contains (table_fields structure) fields → LieInside image command fields
+bounds_opened image opened command structure listed fields of =
+    All-contains (LieInside image command) (table_fields structure) fields (table_fields_inside image (commands_of image) (opened_facts image opened) (opened_commands image opened) command structure listed.0 listed.1) of
 
 module _ (image : List ℕ) (keeps : NothingBreaks (BreaksImage image None)) (command : ℕ) (structure : Structure)
     (listed : Contains (commands_of image) command × (structure_of (command_cmd image command) ≡ Some structure))
@@ -40,6 +48,4 @@ module _ (image : List ℕ) (keeps : NothingBreaks (BreaksImage image None)) (co
 
   -- and so do the fields that bound it
   pub bounds_inside : LieInside image command fields
-  bounds_inside =
-      let opened = unbroken_opened image keeps in
-      All-contains (LieInside image command) (table_fields structure) fields (table_fields_inside image (commands_of image) (opened_facts image opened) (opened_commands image opened) command structure listed.0 listed.1) of
+  bounds_inside = bounds_opened image (unbroken_opened image keeps) command structure listed fields of

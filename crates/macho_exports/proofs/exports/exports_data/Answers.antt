@@ -10,11 +10,11 @@ use Rattle.macho_exports.proofs.exports.exports_data.Goals as goal
 
 pub span_of-table-requires-clause-place : goal.span_of-table-requires-clause-place
 span_of-table-requires-clause-place c =
-    rw c.bounded_at.ensures (data_fields c.args.image.now c.requires c.in_ok-command.command (sym c.first_place.ensures ∙ c.in_ok-command.was)).0
+    rw c.bounded_at.ensures (data_fields c.args.image.now c.in_ok-command.command (sym c.first_place.ensures ∙ c.in_ok-command.was) c.requires).0
 
 pub span_of-table-requires-clause-count : goal.span_of-table-requires-clause-count
 span_of-table-requires-clause-count c =
-    rw c.bounded_at.ensures (data_fields c.args.image.now c.requires c.in_ok-command.command (sym c.first_place.ensures ∙ c.in_ok-command.was)).1
+    rw c.bounded_at.ensures (data_fields c.args.image.now c.in_ok-command.command (sym c.first_place.ensures ∙ c.in_ok-command.was) c.requires).1
 
 -- the table that was read is the one that the command names
 is_table : (image : List ℕ) (command : ℕ) (fields : TableFields) (table : Span) → fields ≡ linkedit_data_table → table ≡ bytes_of_table (table_at image command fields)
@@ -29,8 +29,8 @@ found_inside image command table same inside some =
     subst (λ (t : Span). end_of t ≤ length image) (sym same) (inside (subst (λ (t : Span). 0 < t.len) same some))
 
 pub returns-clause-inside : goal.returns-clause-inside
-returns-clause-inside c =
+returns-clause-inside c = λ keeps.
     let image = c.args.image.now in
     let same = is_table image c.in_ok-command.command _ _ c.bounded_at.ensures c.span_of-table.ensures in
     (some_inside image c.span_of-table.result c.some_bytes.result c.some_bytes.ensures
-    (found_inside image c.in_ok-command.command c.span_of-table.result same (data_inside image c.requires c.in_ok-command.command (sym c.first_place.ensures ∙ c.in_ok-command.was)))).0
+    (found_inside image c.in_ok-command.command c.span_of-table.result same (data_inside image c.in_ok-command.command (sym c.first_place.ensures ∙ c.in_ok-command.was) keeps))).0
