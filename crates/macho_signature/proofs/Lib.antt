@@ -1,0 +1,4 @@
+pub mod Surveys
+pub mod Images
+pub mod Pages
+pub mod Signed

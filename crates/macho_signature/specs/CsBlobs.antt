@@ -1,0 +1,43 @@
+-- The constants of code signatures, as one number each. Compare this list with the header by eye: the other
+-- definitions use the constants by name. (cs_blobs.h)
+use Rattle.std.specs.Prelude.{◌≡◌}
+use Rattle.macho_signature.specs.declared.cs_blobs.TheConstants as cs
+
+pub record AreCsBlobsConstants : Type 0 where
+  -- magic numbers
+  pub CSMAGIC_EMBEDDED_SIGNATURE : cs.CSMAGIC_EMBEDDED_SIGNATURE ≡ 0xfade0cc0
+  pub CSMAGIC_CODEDIRECTORY : cs.CSMAGIC_CODEDIRECTORY ≡ 0xfade0c02
+  -- slots
+  pub CSSLOT_CODEDIRECTORY : cs.CSSLOT_CODEDIRECTORY ≡ 0
+  pub CSSLOT_ALTERNATE_CODEDIRECTORIES : cs.CSSLOT_ALTERNATE_CODEDIRECTORIES ≡ 0x1000
+  pub CSSLOT_ALTERNATE_CODEDIRECTORY_MAX : cs.CSSLOT_ALTERNATE_CODEDIRECTORY_MAX ≡ 5
+  -- sizes of structures
+  pub CS_SUPER_BLOB_SIZE : cs.CS_SUPER_BLOB_SIZE ≡ 12
+  pub CS_BLOB_INDEX_SIZE : cs.CS_BLOB_INDEX_SIZE ≡ 8
+  pub CS_GENERIC_BLOB_SIZE : cs.CS_GENERIC_BLOB_SIZE ≡ 8
+  -- versions of a code directory, and the bytes of its fields from each on
+  pub CS_EARLIEST_VERSION : cs.CS_EARLIEST_VERSION ≡ 0x20000
+  pub CS_SUPPORTSSCATTER : cs.CS_SUPPORTSSCATTER ≡ 0x20100
+  pub CS_SUPPORTSTEAMID : cs.CS_SUPPORTSTEAMID ≡ 0x20200
+  pub CS_SUPPORTSCODELIMIT64 : cs.CS_SUPPORTSCODELIMIT64 ≡ 0x20300
+  pub CS_SUPPORTSEXECSEG : cs.CS_SUPPORTSEXECSEG ≡ 0x20400
+  pub CS_SUPPORTSRUNTIME : cs.CS_SUPPORTSRUNTIME ≡ 0x20500
+  pub CS_SUPPORTSLINKAGE : cs.CS_SUPPORTSLINKAGE ≡ 0x20600
+  pub CS_CODE_DIRECTORY_SIZE : cs.CS_CODE_DIRECTORY_SIZE ≡ 44
+  pub SIZE_WITH_SCATTER : cs.SIZE_WITH_SCATTER ≡ 48
+  pub SIZE_WITH_TEAMID : cs.SIZE_WITH_TEAMID ≡ 52
+  pub SIZE_WITH_CODELIMIT64 : cs.SIZE_WITH_CODELIMIT64 ≡ 64
+  pub SIZE_WITH_EXECSEG : cs.SIZE_WITH_EXECSEG ≡ 88
+  pub SIZE_WITH_RUNTIME : cs.SIZE_WITH_RUNTIME ≡ 96
+  pub SIZE_WITH_LINKAGE : cs.SIZE_WITH_LINKAGE ≡ 108
+  -- types of hashes, and their sizes
+  pub CS_HASHTYPE_SHA1 : cs.CS_HASHTYPE_SHA1 ≡ 1
+  pub CS_HASHTYPE_SHA256 : cs.CS_HASHTYPE_SHA256 ≡ 2
+  pub CS_HASHTYPE_SHA256_TRUNCATED : cs.CS_HASHTYPE_SHA256_TRUNCATED ≡ 3
+  pub CS_HASHTYPE_SHA384 : cs.CS_HASHTYPE_SHA384 ≡ 4
+  pub CS_SHA1_LEN : cs.CS_SHA1_LEN ≡ 20
+  pub CS_SHA256_LEN : cs.CS_SHA256_LEN ≡ 32
+  pub CS_SHA256_TRUNCATED_LEN : cs.CS_SHA256_TRUNCATED_LEN ≡ 20
+  pub CS_SHA384_LEN : cs.CS_SHA384_LEN ≡ 48
+  -- the greatest log2 of a page
+  pub MOST_PAGE_SIZE : cs.MOST_PAGE_SIZE ≡ 31

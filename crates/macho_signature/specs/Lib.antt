@@ -1,0 +1,6 @@
+pub mod CsBlobs
+pub mod Superblobs
+pub mod CodeDirectories
+pub mod Signature
+pub mod Surveys
+pub mod Signed
