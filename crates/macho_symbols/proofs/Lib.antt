@@ -1,0 +1,6 @@
+mod FewSpans
+mod NearAddresses
+mod RelocationWalks
+mod SectionNumbers
+mod SymbolWalks
+pub mod Near

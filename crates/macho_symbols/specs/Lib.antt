@@ -1,0 +1,9 @@
+pub mod Addresses
+pub mod Header
+pub mod Nlist
+pub mod Reloc
+pub mod RelocationTables
+pub mod Relocations
+pub mod Sections
+pub mod SymbolLimits
+pub mod Symbols

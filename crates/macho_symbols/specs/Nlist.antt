@@ -1,0 +1,34 @@
+-- What the type and the description of a symbol say of it. (mach-o/nlist.h: nlist_64)
+use Rattle.std.specs.Prelude.{◌≡◌, ◌≢◌, ℕ, ◌/◌, ◌^◌, ◌<◌, ◌⊎◌, bit_and}
+use Rattle.macho_fields.specs.declared.header.nlist.TheConstants.{N_STAB, N_TYPE}
+use Rattle.macho_image.specs.declared.symbol.Symbol.{Symbol}
+use Rattle.macho_symbols.specs.declared.nlist.TheConstants as nlist
+
+-- The constants, as one number each: N_.. and the ordinals that name no library by its number
+pub record AreNlistConstants : Type 0 where
+  pub N_UNDF : nlist.N_UNDF ≡ 0
+  pub N_INDR : nlist.N_INDR ≡ 0xa
+  pub N_PBUD : nlist.N_PBUD ≡ 0xc
+  pub DYNAMIC_LOOKUP_ORDINAL : nlist.DYNAMIC_LOOKUP_ORDINAL ≡ 0xfe
+  pub EXECUTABLE_ORDINAL : nlist.EXECUTABLE_ORDINAL ≡ 0xff
+
+-- n_type: the symbol is no debugging entry (N_STAB), and has the type (N_TYPE)
+abbrev pub HasType : ℕ → Symbol → Type 0
+HasType wanted symbol = (bit_and symbol.kind N_STAB ≡ 0) × (bit_and symbol.kind N_TYPE ≡ wanted)
+
+-- another image defines it. One of type N_UNDF with a value is a common symbol.
+abbrev pub IsImported : Symbol → Type 0
+IsImported symbol =
+    (HasType nlist.N_UNDF symbol × (symbol.value ≡ 0)) ⊎ HasType nlist.N_PBUD symbol
+
+-- n_desc: its upper 8 bits (GET_LIBRARY_ORDINAL)
+abbrev pub library_ordinal : Symbol → ℕ
+library_ordinal symbol = symbol.desc / 2 ^ 8
+
+-- another image defines it, and its ordinal is neither that of the image itself, 0, nor of one of so many
+-- libraries, nor a special one
+abbrev pub NamesNoLibrary : ℕ → Symbol → Type 0
+NamesNoLibrary libraries symbol =
+    IsImported symbol × (libraries < library_ordinal symbol)
+    × (library_ordinal symbol ≢ nlist.DYNAMIC_LOOKUP_ORDINAL)
+    × (library_ordinal symbol ≢ nlist.EXECUTABLE_ORDINAL)

@@ -1,0 +1,20 @@
+//! The flags of the header of an image. (`mach-o/loader.h`: `mach_header_64`)
+
+ghost use Rattle.std.specs.Prelude.{◌↔◌, IsTrue};
+ghost use Rattle.macho_symbols.specs.Header.{IsTwoLevel};
+
+use macho_fields::Order;
+use macho_image::Image;
+
+/// The flag of an image whose undefined symbols each name the library that they are from.
+pub const MH_TWOLEVEL: u32 = 0x80;
+
+/// Whether the undefined symbols of the image name libraries.
+pub fn is_two_level(image: &Image) -> bool
+    ensures { IsTrue result ↔ IsTwoLevel image.now }
+{
+    image.bytes().read_u32(Order::Little, FLAGS) & MH_TWOLEVEL != 0
+}
+
+// The offset of the flags in `mach_header_64`.
+const FLAGS: u64 = 24;
