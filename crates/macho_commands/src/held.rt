@@ -1,0 +1,85 @@
+//! The rule of what the commands hold that no other rule judges. (`mach-o/loader.h`)
+
+ghost use Rattle.std.specs.Prelude.{◌≡◌, ◌+◌, ◌≤◌, ◌↔◌, length, IsTrue};
+ghost use Rattle.macho_fields.specs.Bytes.{bytes_of};
+ghost use Rattle.macho_fields.specs.LoadCommands.{width_size};
+ghost use Rattle.macho_fields.specs.Symbol.{number_of};
+ghost use Rattle.macho_commands.specs.Commands.{HasBadTarget, HasBadContent, IsBadCommand, is_routine};
+ghost use Rattle.macho_commands.specs.Content.{HasFields};
+
+use crate::content::{Content, Holding, content_of, is_foreign};
+use crate::described::has_bad_bytes;
+use crate::executable::is_executable;
+use crate::loader::routines_command::INIT_ADDRESS;
+use macho_fields::{Bytes, Order, Width};
+use macho_image::Image;
+
+// Whether a command with this `cmd` names a routine.
+pub(crate) fn is_routine(cmd: u32) -> bool
+    ensures { result ≡ is_routine cmd }
+{
+    match content_of(cmd) {
+        Some(content) => matches!(content.holding, Holding::Routine(_)),
+        None => false,
+    }
+}
+
+// Whether the command is foreign, or its content is bad. `repeats` is whether an earlier command names a routine.
+pub(crate) fn is_bad_command(image: &Image, cmd: u32, command: Bytes, repeats: bool) -> bool
+    ensures { IsTrue result
+        ↔ IsBadCommand image.now (IsTrue repeats) cmd (bytes_of command.entry) }
+{
+    if is_foreign(cmd) {
+        return true;
+    }
+    match content_of(cmd) {
+        Some(content) => has_bad_content(image, command, content, repeats),
+        None => false,
+    }
+}
+
+// Whether the content of the command is bad.
+fn has_bad_content(image: &Image, command: Bytes, content: Content, repeats: bool) -> bool
+    requires { HasFields content }
+    ensures { IsTrue result
+        ↔ HasBadContent image.now (IsTrue repeats) (bytes_of command.entry) content }
+{
+    command.len() < content.size
+        || has_bad_target(image, command, content, repeats)
+        || has_bad_bytes(command, content)
+}
+
+// Whether what the command names outside of itself is bad.
+fn has_bad_target(image: &Image, command: Bytes, content: Content, repeats: bool) -> bool
+    requires fields { HasFields content }
+    requires whole { content.size ≤ length (bytes_of command) }
+    ensures { IsTrue result
+        ↔ HasBadTarget image.now (IsTrue repeats) (bytes_of command.entry) content.holding }
+{
+    match content.holding {
+        Holding::Range(table) => {
+            let count = table.item_count(command, 0);
+            let place = table.table_place(command, 0);
+            count > 0 && !image.bytes().contains_table(place, count, table.item_size)
+        }
+        Holding::Routine(width) => {
+            repeats || !is_executable(image, init_address(command, width))
+        }
+        Holding::Nothing
+        | Holding::Name
+        | Holding::NameAndModules
+        | Holding::Strings
+        | Holding::CountedStrings => false,
+    }
+}
+
+// The address of the routine that the command names.
+fn init_address(command: Bytes, width: Width) -> u64
+    requires { INIT_ADDRESS + width_size width ≤ length (bytes_of command) }
+    ensures { result ≡ number_of width (bytes_of command.entry) INIT_ADDRESS }
+{
+    match width {
+        Width::Uint32 => u64::from(command.read_u32(Order::Little, INIT_ADDRESS)),
+        Width::Uint64 => command.read_u64(Order::Little, INIT_ADDRESS),
+    }
+}
