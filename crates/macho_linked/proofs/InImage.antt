@@ -28,12 +28,18 @@ use Rattle.macho_linked.specs.declared.streams.Stream.{Stream}
 use Rattle.macho_linked.specs.declared.streams.Stream.TheVariants as streams
 use Rattle.macho_chains.proofs.ChainTables.{no_header, bad_starts, bad_imports, long_names, unknown_library, chains_near}
 use Rattle.macho_tables.proofs.DataInCode.{bad_entry_near}
-use Rattle.macho_tables.proofs.DataTables.{data_near}
+use Rattle.macho_tables.proofs.DataTables.{data_near, data_table_inside}
 use Rattle.macho_exports.proofs.ExportTables.{node_inside, total_inside, terminal_inside, library_inside, address_inside}
 use Rattle.macho_chains.proofs.PointerSurveys.{slots_near, binds_near}
 use Rattle.macho_tables.proofs.StartNumbers.{bad_number_near, stray_start_near}
 use Rattle.macho_linked.proofs.TableSurveys.{IsStreamRule, undecoded, no_library, no_name, no_slot, too_many, too_long}
 use Rattle.macho_tables.proofs.Places.{named_first}
+use Rattle.macho_image.specs.Symbol.{symbol_at}
+use Rattle.macho_signature.specs.Signature.{BadDirectory, PartialDirectory, InSignature}
+use Rattle.macho_signature.specs.Superblobs.{BadBlob}
+use Rattle.macho_signature.proofs.Images.{blob_near, directory_near, whole_near}
+use Rattle.macho_symbols.specs.Symbols.{LacksLibrary, IsAstray, IsEndless}
+use Rattle.macho_symbols.proofs.Near.{symbol_near, relocation_near}
 
 part_short : (start size : ℕ) (bytes : List ℕ) (offset : ℕ) → offset < length (part start size bytes) → start + offset ≤ length bytes
 part_short start size bytes offset less =
@@ -74,6 +80,15 @@ module _ (image : List ℕ) (none : NothingBreaks (Breaks image None)) where
       let (listed, number) = named_first image (λ n. n ≡ loader.LC_DYLD_CHAINED_FIXUPS) loader.LC_DYLD_CHAINED_FIXUPS refl command is in
       let inside = listed_inside command listed in omega (arith, same, inside)
 
+  -- a rule of the bytes of the signature
+  signature_inside : (Rule : ℕ → List ℕ → ℕ → Type 0) → ((start : ℕ) (bytes : List ℕ) (offset : ℕ) → Rule start bytes offset → offset ≤ length bytes)
+      → (place : ℕ) → InSignature image Rule place → place ≤ length image
+  signature_inside Rule near place (table, is, (offset, at, broken)) =
+      let inside = data_table_inside image loader.LC_CODE_SIGNATURE refl none table is in
+      let size = length-part table.start table.len image inside in
+      let within = near table.start (part table.start table.len image) offset broken in
+      omega (arith, at, within, size, inside)
+
   pub place_inside : (r : Rule) (place : ℕ) → BreaksImage image r place → place ≤ length image
   place_inside rule.TableRepeated place broken = listed_inside place broken.0
   place_inside rule.FunctionVariants place broken = listed_inside place broken.0
@@ -103,6 +118,15 @@ module _ (image : List ℕ) (none : NothingBreaks (Breaks image None)) where
   place_inside rule.FunctionNumber place broken = data_near image loader.LC_FUNCTION_STARTS refl none BadNumber (bad_number_near image) place broken
   place_inside rule.FunctionStart place broken = data_near image loader.LC_FUNCTION_STARTS refl none StrayStart (stray_start_near image) place broken
   place_inside rule.DataInCode place broken = data_near image loader.LC_DATA_IN_CODE refl none BadEntry (bad_entry_near image) place broken
+  place_inside rule.SignatureBlob place broken = signature_inside (λ start. BadBlob) (λ start. blob_near) place broken
+  place_inside rule.SignatureDirectory place broken = signature_inside BadDirectory directory_near place broken
+  place_inside rule.SignatureWhole place broken = signature_inside PartialDirectory whole_near place broken
+  place_inside rule.SymbolLibrary place broken = symbol_near image none (λ symtab symbol. LacksLibrary image (symbol_at image symbol)) place broken
+  place_inside rule.SymbolValue place broken = symbol_near image none (λ symtab symbol. IsAstray image (symbol_at image symbol)) place broken
+  place_inside rule.SymbolIndirect place broken = symbol_near image none (λ symtab symbol. IsEndless image symtab (symbol_at image symbol)) place broken
+  place_inside rule.Relocation place broken = relocation_near image none place broken
+  place_inside rule.Thread place broken = listed_inside place broken.0
+  place_inside rule.CommandContent place broken = listed_inside place broken.0
   place_inside other place broken = absurd broken
 
 -- and so in the file

@@ -10,29 +10,24 @@ use Rattle.macho_fields.specs.Field.{part}
 use Rattle.macho_fields.specs.First.{IsUnbroken}
 use Rattle.macho_fields.specs.Image.{commands_of}
 use Rattle.macho_fields.specs.Layers.{NothingBreaks}
-use Rattle.macho_fields.specs.LoadCommands.{linkedit_data_table}
 use Rattle.macho_fields.specs.Rules.{BreaksImage as Breaks}
 use Rattle.macho_fields.specs.Segment.{all_segments, base_of, fileoff}
-use Rattle.macho_fields.specs.Symbol.{table_at}
 use Rattle.macho_fields.specs.declared.header.loader.TheConstants as loader
 use Rattle.macho_fields.specs.declared.rule.Rule.TheVariants as rule
 use Rattle.macho_fields.proofs.Decided.{not_not, any_or_not, both_or_not, le_or_not}
-use Rattle.macho_fields.proofs.Options.{some_of}
-use Rattle.macho_image.specs.Command.{first_with_cmd}
 use Rattle.macho_image.proofs.ReadParts.{length-part}
 use Rattle.macho_spans.specs.Span.{end_of}
 use Rattle.macho_spans.specs.declared.span.Span.{Span}
 use Rattle.macho_strict.specs.Unclaimed.{is_code}
 use Rattle.macho_tables.specs.DataInCode.{entry_at, entry_place, entry_count, is_known_kind, bytes_of_entry, IsCodeOf, IsBadEntry, BadEntry}
-use Rattle.macho_tables.specs.DataTables.{IsDataTable}
 use Rattle.macho_tables.specs.FunctionStarts.{next_start, starts_up_to, function_starts}
-use Rattle.macho_tables.specs.Homes.{bytes_of_segment, bytes_of_table}
+use Rattle.macho_tables.specs.Homes.{bytes_of_segment}
 use Rattle.macho_linked.specs.Located.{IsLocatedEntry, IsLocated, AreLocated}
 use Rattle.macho_tables.specs.Numbers.{number_bytes, digits_value, unsigned_at}
 use Rattle.macho_linked.specs.Rules.{BreaksImage, IsLinkedUnbroken}
 use Rattle.macho_tables.specs.StartNumbers.{AreNumbers, IsFileAddress, StrayStart}
 use Rattle.macho_tables.specs.declared.data_in_code.DataInCodeEntry.{DataInCodeEntry}
-use Rattle.macho_tables.proofs.DataTables.{broken_in_image, data_inside}
+use Rattle.macho_tables.proofs.DataTables.{broken_in_image, data_table_inside}
 use Rattle.macho_tables.proofs.FileBytes.{file_or_not}
 use Rattle.macho_linked.proofs.Harmless.{of_images}
 use Rattle.macho_tables.proofs.StartNumbers.{numbers_more, stray_here}
@@ -115,14 +110,6 @@ entry_located image entry good = record {
 }
 
 module _ (image : List ℕ) (kept : NothingBreaks (BreaksImage image)) (unbroken : NothingBreaks (Breaks image None)) where
-  -- a table lies in the image
-  table_fits : (table : Span) → IsDataTable image loader.LC_DATA_IN_CODE table → table.start + table.len ≤ length image
-  table_fits table is =
-      let (command, at, (same, some)) = some_of (λ c. (table ≡ bytes_of_table (table_at image c linkedit_data_table)) × (0 < table.len)) (first_with_cmd image loader.LC_DATA_IN_CODE (commands_of image)) is in
-      let len : table.len ≡ (table_at image command linkedit_data_table).1 = ap (λ (s : Span). s.len) same in
-      let inside = data_inside image loader.LC_DATA_IN_CODE refl command at unbroken (omega (arith, some, len)) in
-      subst (λ (s : Span). s.start + s.len ≤ length image) (sym same) inside
-
   located_image : IsLocated image
   located_image = record {
     functions = λ table base is at.
@@ -130,7 +117,7 @@ module _ (image : List ℕ) (kept : NothingBreaks (BreaksImage image)) (unbroken
         (λ place stray. kept rule.FunctionStart (table.start + place) (broken_in_image image loader.LC_FUNCTION_STARTS table is StrayStart place stray));
     entries = λ table is.
         let bytes = part table.start table.len image in
-        let size : length bytes ≡ table.len = length-part table.start table.len image (table_fits table is) in
+        let size : length bytes ≡ table.len = length-part table.start table.len image (data_table_inside image loader.LC_DATA_IN_CODE refl unbroken table is) in
         let good : (place : ℕ) → ¬ BadEntry image bytes place = (λ place bad. kept rule.DataInCode (table.start + place) (broken_in_image image loader.LC_DATA_IN_CODE table is BadEntry place bad)) in
         let whole : length bytes % 8 ≡ 0 = elim (cases_eq (length bytes % 8) 0) [ inl none ↦ none | inr rest ↦ absurd (good 0 (inl (refl, rest))) ] in
         (entry_count bytes, omega (arith, size, whole), λ k less. entry_located image (entry_at bytes (entry_place k)) (λ bad. good (entry_place k) (inr (k, less, refl, bad))));

@@ -15,7 +15,7 @@ first_of_image : (image : List ℕ) (r : Rule) (place : ℕ) → BreaksImage ima
 first_of_image image rule.Magic place broken = absurd broken
 first_of_image image other place broken = search rules
 
-last_of_image : (image : List ℕ) (r : Rule) (place : ℕ) → BreaksImage image r place → rank r ≤ rank rule.DataInCode
+last_of_image : (image : List ℕ) (r : Rule) (place : ℕ) → BreaksImage image r place → rank r ≤ rank rule.CommandContent
 last_of_image image rule.Magic place broken = absurd broken
 last_of_image image other place broken = search rules
 
@@ -23,7 +23,7 @@ pub none_before : (image : List ℕ) → KeptBelow (BreaksImage image) (rank rul
 none_before image r place early broken = let late = first_of_image image r place broken in absurd (omega arith)
 
 -- where the last rule is unbroken, all are
-pub all_unbroken : (image : List ℕ) → KeptBelow (BreaksImage image) (rank rule.DataInCode + 1) → NothingBreaks (BreaksImage image)
+pub all_unbroken : (image : List ℕ) → KeptBelow (BreaksImage image) (rank rule.CommandContent + 1) → NothingBreaks (BreaksImage image)
 all_unbroken image kept r place broken = let most = last_of_image image r place broken in kept r place (omega (arith, most)) broken
 
 -- what is broken is linked

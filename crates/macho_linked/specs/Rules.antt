@@ -13,6 +13,10 @@ use Rattle.macho_tables.specs.Homes.{BreaksTableHome, BreaksHeaderHome}
 use Rattle.macho_linked.specs.Images.{Undecoded, NoLibrary, NoName, NoSlot, TooMany, TooLong, InRebases, InBinds}
 use Rattle.macho_tables.specs.Kinds.{BreaksTableRepeated, BreaksFunctionVariants}
 use Rattle.macho_tables.specs.StartNumbers.{BreaksFunctionNumber, BreaksFunctionStart}
+use Rattle.macho_signature.specs.Signature.{BreaksSignatureBlob, BreaksSignatureDirectory, BreaksSignatureWhole}
+use Rattle.macho_symbols.specs.Relocations.{BreaksRelocation}
+use Rattle.macho_symbols.specs.Symbols.{BreaksSymbolLibrary, BreaksSymbolValue, BreaksSymbolIndirect}
+use Rattle.macho_commands.specs.Commands.{BreaksThread, BreaksCommandContent}
 
 -- the image breaks the rule at the place
 abbrev pub BreaksImage : List ℕ → Rule → ℕ → Type 0
@@ -44,6 +48,15 @@ BreaksImage image rule.ExportAddress place = BreaksExportAddress image place
 BreaksImage image rule.FunctionNumber place = BreaksFunctionNumber image place
 BreaksImage image rule.FunctionStart place = BreaksFunctionStart image place
 BreaksImage image rule.DataInCode place = BreaksDataInCode image place
+BreaksImage image rule.SignatureBlob place = BreaksSignatureBlob image place
+BreaksImage image rule.SignatureDirectory place = BreaksSignatureDirectory image place
+BreaksImage image rule.SignatureWhole place = BreaksSignatureWhole image place
+BreaksImage image rule.SymbolLibrary place = BreaksSymbolLibrary image place
+BreaksImage image rule.SymbolValue place = BreaksSymbolValue image place
+BreaksImage image rule.SymbolIndirect place = BreaksSymbolIndirect image place
+BreaksImage image rule.Relocation place = BreaksRelocation image place
+BreaksImage image rule.Thread place = BreaksThread image place
+BreaksImage image rule.CommandContent place = BreaksCommandContent image place
 BreaksImage image other place = ⊥
 
 -- a file breaks none but in its images

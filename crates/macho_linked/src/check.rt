@@ -6,19 +6,25 @@ ghost use Rattle.macho_fields.specs.FirstPlace.{IsLeastPlace};
 ghost use Rattle.macho_fields.specs.Layers.{NothingBreaks, KeptBelow, Continues};
 ghost use Rattle.macho_fields.specs.Rules.{BreaksImage as Breaks};
 ghost use Rattle.macho_fields.specs.declared.rule.Rule.{Rule};
+ghost use Rattle.macho_exports.specs.Exports.{AreLeastInImage as AreLeastExports};
 ghost use Rattle.macho_linked.specs.Rules.{BreaksImage};
 ghost use Rattle.macho_linked.specs.Verdict.{TakesMemory};
 ghost use Rattle.macho_rules.specs.Check.{ContinuesWithMemory};
 ghost use Rattle.macho_rules.specs.Verdict.{IsRefusalOf};
 ghost use Rattle.macho_strict.specs.Rules.{BreaksStrictImage};
+ghost use Rattle.macho_symbols.specs.Symbols.{IsLeastOfImage as AreLeastSymbols};
 
 use crate::streams::StreamSurveys;
 use macho_chains::chain_pages::PointerSurvey;
 use macho_chains::chains::{ChainSurvey, ChainedFixups};
+use macho_commands::CommandSurvey;
 use macho_exports::exports::ExportSurvey;
 use macho_fields::{Break, Rule};
 use macho_image::Image;
 use macho_rules::Refusal;
+use macho_signature::SignatureSurvey;
+use macho_symbols::SymbolSurvey;
+use macho_symbols::relocations::relocation;
 use macho_tables::data_in_code::data_in_code;
 use macho_tables::function_starts::FunctionStartSurvey;
 use macho_tables::homes::{header_home, table_home};
@@ -36,6 +42,9 @@ pub(crate) fn check_image(alloc: Global, image: &Image) -> Result<(), Refusal>
     check_fixups(image)?;
     check_exports(alloc, image)?;
     check_functions(alloc, image)?;
+    check_signature(image)?;
+    check_symbols(alloc, image)?;
+    check_commands(image)?;
     Ok(())
 }
 
@@ -78,6 +87,16 @@ fn check_exports(alloc: Global, image: &Image) -> Result<(), Refusal>
     ensures { ContinuesWithMemory (BreaksImage image.now) Rule.ExportAddress (TakesMemory image.now) result }
 {
     let exports = ExportSurvey::of(alloc, image)?;
+    judge_exports(image, exports)?;
+    Ok(())
+}
+
+// Those rules, by where they are first broken.
+fn judge_exports(image: &Image, exports: ExportSurvey) -> Result<(), Break>
+    requires kept { KeptBelow (BreaksImage image.now) (rank Rule.ExportNode) }
+    requires exports { AreLeastExports image.now exports }
+    ensures { Continues (BreaksImage image.now) Rule.ExportAddress result }
+{
     judge(image, Rule::ExportNode, exports.node)?;
     judge(image, Rule::ExportTotal, exports.total)?;
     judge(image, Rule::ExportTerminal, exports.terminal)?;
@@ -97,6 +116,56 @@ fn check_functions(alloc: Global, image: &Image) -> Result<(), Refusal>
     judge(image, Rule::FunctionNumber, functions.number)?;
     judge(image, Rule::FunctionStart, functions.start)?;
     judge(image, Rule::DataInCode, data_in_code(alloc, image)?)?;
+    Ok(())
+}
+
+// The rules of code signatures.
+fn check_signature(image: &Image) -> Result<(), Break>
+    requires layout { NothingBreaks (Breaks image.now None) }
+    requires kept { KeptBelow (BreaksImage image.now) (rank Rule.SignatureBlob) }
+    ensures { Continues (BreaksImage image.now) Rule.SignatureWhole result }
+{
+    let signature = SignatureSurvey::of(image);
+    judge(image, Rule::SignatureBlob, signature.blob)?;
+    judge(image, Rule::SignatureDirectory, signature.directory)?;
+    judge(image, Rule::SignatureWhole, signature.whole)?;
+    Ok(())
+}
+
+// The rules of symbols and of relocations.
+fn check_symbols(alloc: Global, image: &Image) -> Result<(), Refusal>
+    requires layout { NothingBreaks (Breaks image.now None) }
+    requires kept { KeptBelow (BreaksImage image.now) (rank Rule.SymbolLibrary) }
+    ensures { ContinuesWithMemory (BreaksImage image.now) Rule.Relocation (TakesMemory image.now) result }
+{
+    let symbols = SymbolSurvey::of(alloc, image)?;
+    judge_symbols(image, symbols)?;
+    Ok(())
+}
+
+// Those rules, by where those of symbols are first broken.
+fn judge_symbols(image: &Image, symbols: SymbolSurvey) -> Result<(), Break>
+    requires layout { NothingBreaks (Breaks image.now None) }
+    requires kept { KeptBelow (BreaksImage image.now) (rank Rule.SymbolLibrary) }
+    requires symbols { AreLeastSymbols image.now symbols }
+    ensures { Continues (BreaksImage image.now) Rule.Relocation result }
+{
+    judge(image, Rule::SymbolLibrary, symbols.library)?;
+    judge(image, Rule::SymbolValue, symbols.value)?;
+    judge(image, Rule::SymbolIndirect, symbols.indirect)?;
+    judge(image, Rule::Relocation, relocation(image))?;
+    Ok(())
+}
+
+// The rules of threads, and of what other commands hold.
+fn check_commands(image: &Image) -> Result<(), Break>
+    requires layout { NothingBreaks (Breaks image.now None) }
+    requires kept { KeptBelow (BreaksImage image.now) (rank Rule.Thread) }
+    ensures { Continues (BreaksImage image.now) Rule.CommandContent result }
+{
+    let commands = CommandSurvey::of(image);
+    judge(image, Rule::Thread, commands.thread)?;
+    judge(image, Rule::CommandContent, commands.content)?;
     Ok(())
 }
 

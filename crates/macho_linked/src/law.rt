@@ -7,6 +7,8 @@ ghost use Rattle.macho_fields.specs.declared.rule.Profile.TheVariants.{Linked};
 ghost use Rattle.macho_fields.specs.First.{IsUnbroken};
 ghost use Rattle.macho_chains.specs.ChainDyld.{AreChainedSafely};
 ghost use Rattle.macho_linked.specs.Dyld.{AreFollowedSafely};
+ghost use Rattle.macho_commands.specs.Sound.{AreSoundCommands};
+ghost use Rattle.macho_signature.specs.Signed.{AreSigned};
 ghost use Rattle.macho_exports.specs.ExportLaw.{HasSoundExports};
 ghost use Rattle.macho_linked.specs.Harmless.{AreHarmless};
 ghost use Rattle.macho_linked.specs.Located.{AreLocated};
@@ -68,4 +70,18 @@ pub fn linked_unbroken_is_located(file: &[u8])
     requires unbroken { IsUnbroken file.now }
     requires linked { IsLinkedUnbroken file.now }
     ensures { AreLocated file.now }
+{}
+
+/// The code signatures of such a file cover the bytes before them, and a reader without bounds stays in them.
+pub fn linked_unbroken_is_signed(file: &[u8])
+    requires unbroken { IsUnbroken file.now }
+    requires linked { IsLinkedUnbroken file.now }
+    ensures { AreSigned file.now }
+{}
+
+/// What the threads and the other commands of such a file name is there.
+pub fn linked_unbroken_has_sound_commands(file: &[u8])
+    requires unbroken { IsUnbroken file.now }
+    requires linked { IsLinkedUnbroken file.now }
+    ensures { AreSoundCommands file.now }
 {}

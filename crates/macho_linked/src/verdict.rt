@@ -10,6 +10,8 @@ ghost use Rattle.macho_exports.specs.ExportLaw.{HasSoundExports};
 ghost use Rattle.macho_linked.specs.Harmless.{AreHarmless};
 ghost use Rattle.macho_linked.specs.Located.{AreLocated};
 ghost use Rattle.macho_linked.specs.Rules.{IsBrokenIn, IsLinkedUnbroken};
+ghost use Rattle.macho_commands.specs.Sound.{AreSoundCommands};
+ghost use Rattle.macho_signature.specs.Signed.{AreSigned};
 ghost use Rattle.macho_linked.specs.Verdict.{IsLinkedRefusal, IsLinkedBreak, IsScopeBreak};
 ghost use Rattle.macho_strict.specs.Accounted.{IsAccounted};
 ghost use Rattle.macho_strict.specs.First.{IsStrictlyUnbroken};
@@ -24,8 +26,8 @@ use std::alloc::Global;
 /// order: accepts it, or returns the first broken one, with its place in the file.
 ///
 /// The linked rules are those of its 64-bit slices, in the order of the table. They take memory only for an export
-/// trie, 48 bytes for each mapped segment, and up to 16 for each node that waits; for function starts of an image
-/// with more than 16 mapped segments, 48 bytes for each of these; and for data in code of one with several segments
+/// trie, 48 bytes for each mapped segment, and up to 16 for each node that waits; for function starts and for
+/// symbols of an image with more than 16 mapped segments, 48 bytes for each of these; and for data in code of one with several segments
 /// that may be executed, 24 bytes for each segment.
 pub fn verify_linked<'a>(alloc: Global, file: &'a [u8]) -> Result<Verified<'a>, Refusal>
     // It accepts only a file that breaks no rule of the three profiles, and refuses only one that breaks
@@ -36,8 +38,9 @@ pub fn verify_linked<'a>(alloc: Global, file: &'a [u8]) -> Result<Verified<'a>, 
     ensures refused { IfErr result (IsLinkedRefusal file.now) }
 
     // What it accepts is sound, and accounted for; its opcodes are harmless, the plain dyld follows them and
-    // its chained fixups safely, its exports lead to what is there, each look-up of a name ends, and its
-    // functions and its data in code are bytes of the file.
+    // its chained fixups safely, its exports lead to what is there, each look-up of a name ends, its functions
+    // and its data in code are bytes of the file, its code signatures cover the bytes before them, and what its
+    // threads and other commands name is there.
     ensures sound { OnOk result (IsSound file.now) }
     ensures accounted { OnOk result (IsAccounted file.now) }
     ensures harmless { OnOk result (AreHarmless file.now) }
@@ -45,6 +48,8 @@ pub fn verify_linked<'a>(alloc: Global, file: &'a [u8]) -> Result<Verified<'a>, 
     ensures chained { OnOk result (AreChainedSafely file.now) }
     ensures exports { OnOk result (HasSoundExports file.now) }
     ensures located { OnOk result (AreLocated file.now) }
+    ensures signed { OnOk result (AreSigned file.now) }
+    ensures commands { OnOk result (AreSoundCommands file.now) }
     ensures file { IfOk result (λ verified. verified ≡ file.now) }
 {
     let verified = verify_strictly(alloc, file)?;

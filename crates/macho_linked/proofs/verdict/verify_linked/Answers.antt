@@ -7,6 +7,7 @@ use Rattle.macho_linked.proofs.ChainedSafely.{file_chained_safely}
 use Rattle.macho_linked.proofs.Dyld.{file_followed_safely}
 use Rattle.macho_linked.proofs.Harmless.{harmless_file}
 use Rattle.macho_linked.proofs.Located.{file_located}
+use Rattle.macho_linked.proofs.SignedImages.{file_signed, file_has_sound_commands}
 use Rattle.macho_linked.proofs.SoundExports.{file_has_sound_exports}
 use Rattle.macho_linked.proofs.Verdicts.{strict_refused, linked_refused}
 use Rattle.macho_linked.proofs.verdict.verify_linked.Goals as goal
@@ -49,3 +50,11 @@ returns-clause-located c =
 pub returns-clause-exports : goal.returns-clause-exports
 returns-clause-exports c =
     file_has_sound_exports c.args.file.now c.in_ok-verified.ensures.accepted (subst IsLinkedUnbroken c.in_ok-verified.ensures.file c.in_ok-check_linked.ensures.unbroken)
+
+pub returns-clause-signed : goal.returns-clause-signed
+returns-clause-signed c =
+    file_signed c.args.file.now c.in_ok-verified.ensures.accepted (subst IsLinkedUnbroken c.in_ok-verified.ensures.file c.in_ok-check_linked.ensures.unbroken)
+
+pub returns-clause-commands : goal.returns-clause-commands
+returns-clause-commands c =
+    file_has_sound_commands c.args.file.now c.in_ok-verified.ensures.accepted (subst IsLinkedUnbroken c.in_ok-verified.ensures.file c.in_ok-check_linked.ensures.unbroken)
