@@ -6,6 +6,7 @@ pub mod BadSlices
 pub mod BoundedTables
 pub mod Counts
 pub mod Data
+pub mod Edges
 pub mod Ended
 pub mod Entries
 pub mod FoundExports
@@ -26,3 +27,5 @@ pub mod Supplied
 pub mod SymbolWalks
 pub mod SymbolsAt
 pub mod Walked
+pub mod PlacedBlobs
+mod ThreadEntries

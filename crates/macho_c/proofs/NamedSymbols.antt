@@ -1,7 +1,7 @@
 -- The first symbol with a name.
-use Rattle.std.proofs.Common.{◌≡◌, ◌≢◌, ◌∙◌, ◌↔◌, ℕ, zero, suc, ◌+◌, ◌==◌, List, [], ◌∷◌, length, map, take, drop, Bool, true, false, Bor, Option, None, Some, slice_get, Contains, inl, inr, refl, sym, ap, subst, subst₂, arith, length-drop}
+use Rattle.std.proofs.Common.{◌≡◌, ◌≢◌, ◌∙◌, ◌↔◌, ℕ, zero, suc, ◌+◌, ◌==◌, List, [], ◌∷◌, length, map, take, drop, Bool, true, false, Option, None, Some, slice_get, Contains, inl, inr, refl, sym, ap, subst, subst₂, arith, length-drop}
 use Rattle.std.specs.List.{list_any}
-use Rattle.std.specs.Option.{option_copied, option_eq, option_map}
+use Rattle.std.specs.Option.{option_map}
 use Rattle.std.specs.Prelude.{not, nat_eq}
 use Rattle.std.proofs.lemmas.Bool.{cases_Bool, cases_lt, eqb-true, eqb-false, false≢true, ne_eqb, not-true, or_parts}
 use Rattle.std.proofs.lemmas.Option.{same_Some, none-some, slice_get_within, slice_get-map, get_or_from_slice_get}
@@ -83,21 +83,25 @@ string_spelled (x ∷ bytes) (y ∷ name) is =
     first [] = 0
     first (z ∷ zs) = z
 
--- what the first byte after the name is, by a test
-pub zero_after : (first : Option (Bor ℕ)) (after : List ℕ) (zero_byte : Bor ℕ) → option_copied first ≡ slice_get after 0 → zero_byte.now ≡ 0 → option_eq (λ x y. nat_eq x.now y.now) first (Some zero_byte) ≡ true → slice_get after 0 ≡ Some 0
-zero_after None after zero_byte is zero_is equal = absurd (false≢true equal)
-zero_after (Some x) after zero_byte is zero_is equal = sym is ∙ ap Some (eqb-true x.now zero_byte.now equal ∙ zero_is)
-
-pub other_after : (first : Option (Bor ℕ)) (after : List ℕ) (zero_byte : Bor ℕ) → option_copied first ≡ slice_get after 0 → zero_byte.now ≡ 0 → option_eq (λ x y. nat_eq x.now y.now) first (Some zero_byte) ≡ false → slice_get after 0 ≢ Some 0
-other_after None after zero_byte is zero_is equal ends = none-some 0 (is ∙ ends)
-other_after (Some x) after zero_byte is zero_is equal ends = eqb-false x.now zero_byte.now equal (same_Some x.now 0 (is ∙ ends) ∙ sym zero_is)
+-- the byte past the name
+past_front : (n : ℕ) (bytes : List ℕ) → slice_get (drop n bytes) 0 ≡ slice_get bytes n
+past_front zero bytes = refl
+past_front (suc n) [] = refl
+past_front (suc n) (x ∷ bytes) = past_front n bytes
 
 -- the tests together
-pub string_test : (bytes name after : List ℕ) (contains : Bool) → take (length name) bytes ≡ name → after ≡ drop (length name) bytes → slice_get after 0 ≡ Some 0 → contains ≡ list_any is_zero name → (not contains ≡ true) ↔ (first_string bytes ≡ Some name)
-string_test bytes name after contains front is ends any = (
-  (λ none. string_spelled bytes name (record { front = front; ends = ap (λ rest. slice_get rest 0) (sym is) ∙ ends; whole = sym any ∙ not-true contains none })),
+pub string_test : (bytes name : List ℕ) (contains : Bool) → name ≡ take (length name) bytes → slice_get bytes (length name) ≡ Some 0 → contains ≡ list_any is_zero name → (not contains ≡ true) ↔ (first_string bytes ≡ Some name)
+string_test bytes name contains front ends any = (
+  (λ none. string_spelled bytes name (record { front = sym front; ends = past_front (length name) bytes ∙ ends; whole = sym any ∙ not-true contains none })),
   λ found. ap not (any ∙ (spelled bytes name found).whole),
 )
+
+-- bytes that another byte follows, or that begin otherwise
+pub other_end : (bytes name : List ℕ) → slice_get bytes (length name) ≢ Some 0 → ¬ (first_string bytes ≡ Some name)
+other_end bytes name other found = other (sym (past_front (length name) bytes) ∙ (spelled bytes name found).ends)
+
+pub other_front : (bytes name : List ℕ) → name ≢ take (length name) bytes → ¬ (first_string bytes ≡ Some name)
+other_front bytes name other found = other (sym (spelled bytes name found).front)
 
 -- The search
 

@@ -25,6 +25,11 @@ use Rattle.macho_exports.specs.declared.export_trie.Target.TheVariants as target
 use Rattle.macho_chains.specs.declared.fixup_chains.TheConstants as chained
 use Rattle.macho_spans.specs.Span.{end_of}
 use Rattle.macho_spans.specs.declared.span.Span.{Span}
+use Rattle.macho_symbols.specs.Nlist.{library_ordinal}
+use Rattle.macho_symbols.specs.Reloc.{relocation_at}
+use Rattle.macho_symbols.specs.declared.reloc.Relocation.{Relocation}
+use Rattle.macho_symbols.specs.declared.reloc.TheConstants as reloc
+use Rattle.macho_image.specs.Symbol.{symbol_at}
 use Rattle.macho_c.specs.Explain.{all_loads, IsCommandAt, IsSectionAt, IsSymbolAt, no_index, long_at, word_at}
 use Rattle.macho_c.specs.Segments.{last_address}
 use Rattle.macho_c.specs.declared.explain.conflict.Conflict.{Conflict}
@@ -156,6 +161,17 @@ ShowsExport rule image place c =
 abbrev pub node_bounds : Node → Span × ℕ
 node_bounds node = (node.terminal, node.end)
 
+-- what the relocation names, or its length, and that of a pointer
+abbrev pub IsRelocationShown : Relocation → Conflict → Type 0
+IsRelocationShown relocation c =
+    (c.value ≡ relocation.symbolnum) ⊎ ((c.value ≡ relocation.length) × (c.limit ≡ reloc.POINTER_LENGTH))
+
+-- a thread and an earlier one, or its size
+abbrev pub IsThreadShown : List ℕ → ℕ → Conflict → Type 0
+IsThreadShown image place c =
+    ((c.value ≡ command_cmd image place) × (c.second.index < c.first.index))
+    ⊎ ((c.value ≡ command_size image place) × (c.limit ≡ 0))
+
 -- what is shown of a rule of an image that is broken at a place of it
 abbrev pub Shows : Rule → List ℕ → ℕ → Conflict → Type 0
 Shows rule.HeaderTruncated image place c = (c.value ≡ 32) × (c.limit ≡ length image)
@@ -218,6 +234,13 @@ Shows rule.FunctionNumber image place c = (slice_get image place ≡ Some c.valu
 Shows rule.FunctionStart image place c = IsFunctionShown image place c.value
 Shows rule.DataInCode image place c =
     (c.limit ≡ dice.DATA_IN_CODE_ENTRY_SIZE) ⊎ IsEntryShown (entry_at image place) c
+Shows rule.SymbolLibrary image place c =
+    (c.value ≡ library_ordinal (symbol_at image place)) × (c.limit ≡ library_count image)
+Shows rule.SymbolValue image place c = c.value ≡ (symbol_at image place).value
+Shows rule.SymbolIndirect image place c = c.value ≡ (symbol_at image place).value
+Shows rule.Relocation image place c = IsRelocationShown (relocation_at image place) c
+Shows rule.Thread image place c = IsThreadShown image place c
+Shows rule.CommandContent image place c = c.value ≡ command_size image place
 Shows other image place c = Unit {0}
 
 -- the slice with the index has P

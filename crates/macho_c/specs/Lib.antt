@@ -1,12 +1,16 @@
 pub mod Address
+pub mod Blobs
 pub mod BoundedTables
 pub mod Builds
+pub mod CodeDirectories
 pub mod Commands
 pub mod Compared
 pub mod Cursor
 pub mod DataInCode
 pub mod Explain
 pub mod Explained
+pub mod ExportNodes
+pub mod ExportTrie
 pub mod Exports
 pub mod FunctionStarts
 pub mod Image
@@ -27,4 +31,5 @@ pub mod Status
 pub mod SymbolIndex
 pub mod SymbolNames
 pub mod Symbols
+pub mod Threads
 pub mod Verdict

@@ -12,11 +12,13 @@ use Rattle.macho_strict.specs.First.{IsStrictlyUnbroken, IsFirstStrictlyBroken}
 use Rattle.macho_strict.specs.Verdict.{IsStrictRefusal}
 use Rattle.macho_chains.specs.ChainDyld.{AreChainedSafely}
 use Rattle.macho_linked.specs.Dyld.{AreFollowedSafely}
+use Rattle.macho_commands.specs.Sound.{AreSoundCommands}
 use Rattle.macho_exports.specs.ExportLaw.{HasSoundExports}
 use Rattle.macho_linked.specs.Harmless.{AreHarmless}
 use Rattle.macho_linked.specs.Located.{AreLocated}
 use Rattle.macho_linked.specs.Rules.{IsLinkedUnbroken, IsFirstLinkedBroken}
 use Rattle.macho_linked.specs.Verdict.{IsLinkedRefusal}
+use Rattle.macho_signature.specs.Signed.{AreSigned}
 use Rattle.macho_c.specs.Status.{KESVUOT_OK, KESVUOT_REFUSED, KESVUOT_NO_MEMORY}
 use Rattle.macho_c.specs.declared.verdict.KesvuotVerdict.{KesvuotVerdict}
 
@@ -65,11 +67,13 @@ IsStrictVerdict file status v =
     ⊎ ((status ≡ KESVUOT_NO_MEMORY) × IsUndecidedStrictly file v)
 
 -- The file breaks no linked rule either. Its opcodes are harmless, the plain dyld follows them and its chained
--- fixups safely, its exports lead to what is there, and its functions and its data in code are bytes of the file.
+-- fixups safely, its exports lead to what is there, its functions and its data in code are bytes of the file, its
+-- code signatures cover the bytes before them, and what its threads and other commands name is there.
 abbrev pub IsLinkedAccepted : List ℕ → KesvuotVerdict → Type 0
 IsLinkedAccepted file v =
     IsAcceptedStrictly file v × IsLinkedUnbroken file × AreHarmless file × AreFollowedSafely file
-    × AreChainedSafely file × HasSoundExports file × AreLocated file
+    × AreChainedSafely file × HasSoundExports file × AreLocated file × AreSigned file
+    × AreSoundCommands file
 
 -- The verdict has the first broken rule of the strict verdict, or if that accepts the file the first
 -- broken linked one.

@@ -42,7 +42,7 @@ pub extern "C" fn kesvuot_find_table(
 }
 
 // Where the table with this number lies in the file.
-pub(crate) fn found_table(image: &Held, table: u32) -> Option<KesvuotSpan>
+fn found_table(image: &Held, table: u32) -> Option<KesvuotSpan>
     ensures { result ≡ found_table image.now.place (bytes_of image.now.bytes) table }
 {
     let bounds = bounds_of(table)?;
@@ -135,6 +135,6 @@ const WEAK_BIND: u32 = 11;
 
 const LAZY_BIND: u32 = 12;
 
-pub(crate) const EXPORT: u32 = 13;
+const EXPORT: u32 = 13;
 
 const ENCRYPTED: u32 = 14;

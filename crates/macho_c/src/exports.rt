@@ -1,24 +1,25 @@
 //! The names that an image exports. (`mach-o/loader.h`: `LC_DYLD_EXPORTS_TRIE`, `dyld_info_command`,
 //! `EXPORT_SYMBOL_FLAGS_..`)
 
-ghost use Rattle.std.specs.Prelude.{◌≡◌, ◌+◌, ◌≤◌, length};
+ghost use Rattle.std.specs.Prelude.{◌≡◌, ◌+◌, ◌≤◌, None, IfSome, length};
 ghost use Rattle.std.specs.Option.{option_map_or};
 ghost use Rattle.macho_fields.specs.Bytes.{bytes_of};
+ghost use Rattle.macho_fields.specs.Field.{part};
+ghost use Rattle.macho_fields.specs.Layers.{NothingBreaks};
+ghost use Rattle.macho_fields.specs.Rules.{BreaksImage};
 ghost use Rattle.macho_spans.specs.Span.{end_of};
-ghost use Rattle.macho_c.specs.Exports.{trie_at as trie_at_of, trie_in, from_base, address_of as address_of_of, no_export, export_row, IsExport, FindsExport};
+ghost use Rattle.macho_exports.specs.Exports.{export_table as export_table_of};
+ghost use Rattle.macho_c.specs.Exports.{from_base, address_of as address_of_of, export_row, exported, IsExported, IsExport, FindsExport};
 ghost use Rattle.macho_c.specs.Image.{image_in, ShowsUnbroken};
 
-use crate::bounded_tables::{EXPORT, found_table};
+use crate::export_trie::export_trie;
 use crate::image::KesvuotImage;
-use crate::linkedit::named_data;
-use crate::parts::part_or_none;
 use crate::span::{Held, KesvuotSpan, NO_SPAN};
 use crate::status::{NONE, OK};
-use macho_fields::header::loader::LC_DYLD_EXPORTS_TRIE;
-use macho_fields::{Bytes, Span};
 use macho_exports::export_trie::{
     EXPORT_SYMBOL_FLAGS_KIND_ABSOLUTE, EXPORT_SYMBOL_FLAGS_KIND_MASK, Export, Target, find_export,
 };
+use macho_fields::Span;
 
 /// What a name is exported as. (`struct kesvuot_export`)
 #[repr(C)]
@@ -51,19 +52,47 @@ pub extern "C" fn kesvuot_find_export(
     ensures all { ShowsUnbroken file.now image.now
         → FindsExport (image_in file.now image.now) image.now.slice.offset name.now result export.new }
 {
-    *export = NO_EXPORT;
-    let trie = trie_of(&image.held(file));
-    match find_export(trie.bytes, name) {
+    match export_named(&image.held(file), image.base, name) {
         Some(found) => {
-            *export = row_of(image.base, &trie, found);
+            *export = found;
             OK
         }
-        None => NONE,
+        None => {
+            *export = NO_EXPORT;
+            NONE
+        }
+    }
+}
+
+// The export with the name, of an image with this base.
+fn export_named(image: &Held, base: u64, name: &[u8]) -> Option<KesvuotExport>
+    ensures named { IsExported base image.now.place (bytes_of image.now.bytes) name.now result }
+    ensures inside { NothingBreaks (BreaksImage (bytes_of image.now.bytes) None)
+        → IfSome (export_table_of (bytes_of image.now.bytes)) (λ table. end_of table ≤ length (bytes_of image.now.bytes)) }
+    ensures all { NothingBreaks (BreaksImage (bytes_of image.now.bytes) None)
+        → result ≡ exported base image.now.place (bytes_of image.now.bytes)
+        (export_table_of (bytes_of image.now.bytes)) name.now }
+{
+    let table = export_trie(image)?;
+    let trie = held_trie(image, table);
+    let found = find_export(trie.bytes, name)?;
+    Some(row_of(base, &trie, found))
+}
+
+// The bytes of the trie of an image, and where they begin in the file.
+fn held_trie<'a>(image: &Held<'a>, table: Span) -> Held<'a>
+    requires { end_of table ≤ length (bytes_of image.now.bytes) }
+    ensures bytes { bytes_of result.bytes ≡ part table.start table.len (bytes_of image.now.bytes) }
+    ensures place { result.place ≡ image.now.place + table.start }
+{
+    Held {
+        bytes: image.bytes.slice(table),
+        place: image.place + table.start,
     }
 }
 
 // No export.
-const NO_EXPORT: KesvuotExport = KesvuotExport {
+pub(crate) const NO_EXPORT: KesvuotExport = KesvuotExport {
     flags: 0,
     address: 0,
     resolver: 0,
@@ -72,41 +101,8 @@ const NO_EXPORT: KesvuotExport = KesvuotExport {
     reserved: 0,
 };
 
-// The export trie of an image, and where it begins in the file.
-fn trie_of<'a>(image: &Held<'a>) -> Held<'a>
-    ensures bytes { bytes_of result.bytes ≡ trie_in (bytes_of image.now.bytes) }
-    ensures place { result.place ≡ image.now.place + (trie_at_of (bytes_of image.now.bytes)).0 }
-{
-    let at = trie_at(image.bytes);
-    Held {
-        bytes: Bytes::new(part_or_none(image.bytes, at)),
-        place: image.place + at.start,
-    }
-}
-
-// Where the export trie lies in an image.
-fn trie_at(image: Bytes) -> Span
-    ensures start { result.start ≡ (trie_at_of (bytes_of image.entry)).0 }
-    ensures len { result.len ≡ (trie_at_of (bytes_of image.entry)).1 }
-    ensures inside { end_of result ≤ length (bytes_of image.entry) }
-{
-    let named = named_data(image, LC_DYLD_EXPORTS_TRIE);
-    if named.len > 0 {
-        return named;
-    }
-    let image = Held {
-        bytes: image,
-        place: 0,
-    };
-    let table = found_table(&image, EXPORT).unwrap_or(NO_SPAN);
-    Span {
-        start: table.offset,
-        len: table.size,
-    }
-}
-
 // The row of an export.
-fn row_of(base: u64, trie: &Held, export: Export) -> KesvuotExport
+pub(crate) fn row_of(base: u64, trie: &Held, export: Export) -> KesvuotExport
     ensures { result ≡ export_row base trie.now.place (bytes_of trie.now.bytes) export }
 {
     let flags = export.flags;

@@ -6,12 +6,16 @@
 //! structures that it is passed. Structures hold plain numbers: bytes are named by their place in the file.
 
 mod address;
+mod blobs;
 mod bounded_tables;
 mod builds;
+mod code_directory;
 mod commands;
 mod cursor;
 mod data_in_code;
 mod explain;
+mod export_nodes;
+mod export_trie;
 mod exports;
 mod function_starts;
 mod image;
@@ -33,5 +37,6 @@ mod symbol_index;
 mod symbol_names;
 mod symbols;
 mod table;
+mod thread;
 mod verdict;
 mod version;

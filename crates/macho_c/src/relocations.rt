@@ -11,8 +11,9 @@ ghost use Rattle.macho_c.specs.Relocations.{relocation_row, relocations_left, Ha
 use crate::cursor::KesvuotCursor;
 use crate::image::KesvuotImage;
 use crate::table::{Table, fill};
+use macho_fields::Bytes;
 use macho_fields::header::reloc::RELOCATION_INFO_SIZE;
-use macho_fields::{Bytes, Order};
+use macho_symbols::reloc::Relocation;
 
 /// A relocation. (`relocation_info`)
 #[repr(C)]
@@ -96,18 +97,14 @@ fn row_of(image: Bytes, place: u64) -> KesvuotRelocation
     requires { place + 8 ≤ length (bytes_of image) }
     ensures { result ≡ relocation_row (bytes_of image.entry) place }
 {
-    let address = image.read_u32(Order::Little, place);
-    let bits = image.read_u32(Order::Little, place + BITS);
+    let relocation = Relocation::read(image, place);
     KesvuotRelocation {
-        address,
-        symbolnum: bits % (1 << 24),
-        pcrel: ((bits >> 24) % 2) as u8,
-        length: ((bits >> 25) % 4) as u8,
-        external: ((bits >> 27) % 2) as u8,
-        kind: (bits >> 28) as u8,
-        scattered: address >> 31,
+        address: relocation.address,
+        symbolnum: relocation.symbolnum,
+        pcrel: u8::from(relocation.is_relative),
+        length: relocation.length,
+        external: u8::from(relocation.is_external),
+        kind: relocation.kind,
+        scattered: relocation.address >> 31,
     }
 }
-
-// The offset in `relocation_info` of the word with all fields except `r_address`.
-const BITS: u64 = 4;

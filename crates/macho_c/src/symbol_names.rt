@@ -1,6 +1,6 @@
 //! Symbols by name. (`mach-o/nlist.h`: `nlist_64`)
 
-ghost use Rattle.std.specs.Prelude.{◌≡◌, ◌↔◌, ◌^◌, ◌<◌, length, IsTrue, Some, MatchOption};
+ghost use Rattle.std.specs.Prelude.{◌≡◌, ◌↔◌, ◌^◌, ◌<◌, length, slice_get, IsTrue, Some, MatchOption};
 ghost use Rattle.macho_c.specs.Image.{image_in, ShowsUnbroken};
 ghost use Rattle.macho_c.specs.Symbols.{first_string};
 ghost use Rattle.macho_c.specs.SymbolNames.{HasNameAmong, HasNone, IsFirst, IsNamed, FindsNamed};
@@ -9,6 +9,7 @@ use crate::image::KesvuotImage;
 use crate::parts::rest;
 use crate::status::{NONE, OK};
 use crate::symbols::{KesvuotSymbol, NO_SYMBOL, row_of, strings};
+use macho_fields::Bytes;
 use macho_fields::header::nlist::N_STAB;
 use macho_image::{Symbol, Symbols};
 
@@ -66,12 +67,17 @@ fn is_named(strings: &[u8], name: &[u8], symbol: &Symbol) -> bool
         && is_string(rest(strings, u64::from(symbol.strx)), name)
 }
 
-// Whether the first zero byte follows the name, with which the bytes begin.
+// Whether the first zero byte follows the name, with which the bytes begin. Of most strings the byte past the name
+// alone shows that they are another one.
 fn is_string(bytes: &[u8], name: &[u8]) -> bool
     ensures { IsTrue result ↔ (first_string bytes.now ≡ Some name.now) }
 {
-    match bytes.strip_prefix(name) {
-        Some(after) => after.first() == Some(&0) && !name.contains(&0),
-        None => false,
-    }
+    has_zero_at(bytes, name.len()) && bytes.starts_with(name) && !name.contains(&0)
+}
+
+// Whether a zero byte is at an offset.
+fn has_zero_at(bytes: &[u8], offset: usize) -> bool
+    ensures { IsTrue result ↔ (slice_get bytes.now offset ≡ Some 0) }
+{
+    Bytes::new(bytes).u8_at(offset as u64) == Some(0)
 }

@@ -17,8 +17,6 @@ use crate::explain::sliced::Sliced;
 use crate::explain::spot::{Spot, command_spot};
 use crate::explain::table::{Bounded, table_by, tables_of};
 use crate::explain::walk::{Sought, walk_to};
-use macho_fields::header::loader::LC_DYLD_CHAINED_FIXUPS;
-use macho_fields::{Bytes, Order, Rule, Span};
 use macho_chains::chain_header::ChainHeader;
 use macho_chains::chain_imports::{Ordinal, name_size};
 use macho_chains::chain_starts::{SegmentStarts, segment_count};
@@ -26,6 +24,8 @@ use macho_chains::fixup_chains::{
     DYLD_CHAINED_FIXUPS_HEADER_SIZE, DYLD_CHAINED_STARTS_IN_IMAGE_SIZE,
     DYLD_CHAINED_STARTS_IN_SEGMENT_SIZE, SEG_INFO_OFFSET_SIZE,
 };
+use macho_fields::header::loader::LC_DYLD_CHAINED_FIXUPS;
+use macho_fields::{Bytes, Order, Rule, Span};
 use macho_linked::stream::Limits;
 
 // The table of chained fixups, its bytes, and what its header says.

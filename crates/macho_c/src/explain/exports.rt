@@ -16,12 +16,12 @@ use crate::explain::sliced::Sliced;
 use crate::explain::spot::Spot;
 use crate::explain::stream::dyld_info;
 use crate::explain::table::{Bounded, table_with};
-use macho_fields::header::loader::LC_DYLD_EXPORTS_TRIE;
-use macho_fields::{Bytes, Rule, Span};
 use macho_exports::export_trie::{Export, ExportNode, Target};
 use macho_exports::exports::MOST_FLAGS;
-use macho_tables::numbers::read_uleb;
+use macho_fields::header::loader::LC_DYLD_EXPORTS_TRIE;
+use macho_fields::{Bytes, Rule, Span};
 use macho_linked::stream::Limits;
+use macho_tables::numbers::read_uleb;
 
 // The index of the exports among the tables of `dyld_info_command`.
 const EXPORTS: u64 = 4;

@@ -90,6 +90,12 @@ pub(crate) const DATA_IN_CODE_ENTRY: u32 = 31;
 pub(crate) const DATA_IN_CODE: u32 = 32;
 /// A node of an export trie.
 pub(crate) const EXPORT_NODE: u32 = 33;
+/// `CS_BlobIndex` of a code signature.
+pub(crate) const SIGNATURE_ENTRY: u32 = 34;
+/// The blob of such an entry.
+pub(crate) const SIGNATURE_BLOB: u32 = 35;
+/// `relocation_info`
+pub(crate) const RELOCATION: u32 = 36;
 
 /// No part.
 pub(crate) const NO_PART: KesvuotPart = KesvuotPart {

@@ -13,14 +13,14 @@ use crate::explain::part::{CHAIN_POINTER, CHAIN_STARTS, KesvuotPart, PAGE_START}
 use crate::explain::segment::segment_at;
 use crate::explain::sliced::Sliced;
 use crate::explain::spot::Spot;
-use macho_fields::{Order, Span};
-use macho_image::Image;
 use macho_chains::chain_pages::plain_room;
 use macho_chains::chain_pointers::ChainPointer;
 use macho_chains::chain_starts::SegmentStarts;
 use macho_chains::fixup_chains::{
     DYLD_CHAINED_PTR_START_NONE, DYLD_CHAINED_STARTS_IN_SEGMENT_SIZE, PAGE_START_SIZE,
 };
+use macho_fields::{Order, Span};
+use macho_image::Image;
 use macho_tables::limits::POINTER_SIZE;
 
 // A segment that has starts.

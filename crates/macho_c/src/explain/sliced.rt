@@ -21,8 +21,10 @@ use crate::explain::header::explain_header;
 use crate::explain::part::{
     COMMAND, HEADERS, KesvuotPart, NO_INDEX, SEGMENT, SEGMENT_MEMORY, structure,
 };
+use crate::explain::relocation::explain_relocation;
 use crate::explain::section::explain_section;
 use crate::explain::segment::{SegmentAt, explain_segment};
+use crate::explain::signature::explain_signature;
 use crate::explain::spot::Spot;
 use crate::explain::stream::explain_stream;
 use crate::explain::symbol::explain_symbol;
@@ -99,6 +101,8 @@ enum Subject {
     Chains,
     Exports,
     Functions,
+    Signature,
+    Relocation,
 }
 
 // What each rule of an image is about.
@@ -119,7 +123,12 @@ fn subject_of(rule: Rule) -> Subject {
         | Rule::SegmentOverlap
         | Rule::SegmentFileOverlap => Subject::Segment,
         Rule::SectionAddress | Rule::SectionFile | Rule::SectionRelocs => Subject::Section,
-        Rule::SymbolName | Rule::SymbolSection | Rule::IndirectIndex => Subject::Symbol,
+        Rule::SymbolName
+        | Rule::SymbolSection
+        | Rule::IndirectIndex
+        | Rule::SymbolLibrary
+        | Rule::SymbolValue
+        | Rule::SymbolIndirect => Subject::Symbol,
         Rule::StrayByte | Rule::CommandSlack | Rule::UnclaimedByte => Subject::Byte,
         Rule::RebaseOpcode
         | Rule::RebaseSlot
@@ -143,6 +152,8 @@ fn subject_of(rule: Rule) -> Subject {
         | Rule::ExportLibrary
         | Rule::ExportAddress => Subject::Exports,
         Rule::FunctionNumber | Rule::FunctionStart | Rule::DataInCode => Subject::Functions,
+        Rule::SignatureBlob | Rule::SignatureDirectory | Rule::SignatureWhole => Subject::Signature,
+        Rule::Relocation => Subject::Relocation,
         _ => Subject::Command,
     }
 }
@@ -172,6 +183,8 @@ fn explain_in(
         Subject::Chains => explain_chains(sliced, rule, place),
         Subject::Exports => explain_exports(sliced, rule, place),
         Subject::Functions => explain_functions(sliced, rule, place),
+        Subject::Signature => explain_signature(sliced, rule, place),
+        Subject::Relocation => explain_relocation(sliced, rule, place),
     }
 }
 

@@ -18,10 +18,10 @@ use macho_fields::header::loader::{LC_DYLD_INFO, LC_DYLD_INFO_ONLY};
 use macho_fields::{Bytes, Rule};
 use macho_image::Image;
 use macho_linked::cursor::Cursor;
-use macho_tables::segment::is_writable;
 use macho_linked::step::{Opcodes, Step, step_at};
-use macho_tables::limits::POINTER_SIZE;
 use macho_linked::stream::Limits;
+use macho_tables::limits::POINTER_SIZE;
+use macho_tables::segment::is_writable;
 
 // The greatest byte of an opcode of the rebases, and of the binds.
 const LAST_REBASE: u64 = 0x8f;

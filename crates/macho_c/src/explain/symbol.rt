@@ -6,7 +6,7 @@ ghost use Rattle.macho_fields.specs.Image.{commands_of};
 ghost use Rattle.macho_fields.specs.Segment.{section_count};
 ghost use Rattle.macho_fields.specs.declared.rule.Rule.{Rule};
 ghost use Rattle.macho_image.specs.Symbol.{symbols_of, symbol_at};
-ghost use Rattle.macho_c.specs.Compared.{IsFound, IsSpot};
+ghost use Rattle.macho_c.specs.Compared.{IsFound, IsSpot, Shows};
 ghost use Rattle.macho_c.specs.Explain.{no_index};
 
 use crate::explain::conflict::Conflict;
@@ -18,6 +18,8 @@ use macho_fields::Rule;
 use macho_fields::header::loader::INDIRECT_ENTRY_SIZE;
 use macho_fields::header::nlist::NLIST_64_SIZE;
 use macho_image::{Image, Symbol};
+use macho_symbols::nlist::library_ordinal;
+use macho_tables::limits::library_count;
 
 // A symbol, and its index among those of the image.
 #[derive(Clone, Copy)]
@@ -31,20 +33,37 @@ pub(crate) fn explain_symbol(sliced: &Sliced, rule: Rule, place: u64) -> Option<
     ensures { IfSome result (IsFound rule (bytes_of sliced.now.held.bytes) place) }
 {
     let image = sliced.held.open()?;
+    if rule == Rule::IndirectIndex {
+        return indirect_index(sliced, &image, place);
+    }
+    let found = symbol_with(&image, place)?;
+    let conflict = symbol_conflict(sliced, &image, rule, place, found.symbol)?;
+    Some((symbol_spot(sliced, found), conflict))
+}
+
+// What conflicts with the symbol at a place.
+fn symbol_conflict(
+    sliced: &Sliced,
+    image: &Image,
+    rule: Rule,
+    place: u64,
+    symbol: Symbol,
+) -> Option<Conflict>
+    requires { symbol ≡ symbol_at image.now place }
+    ensures { IfSome result (Shows rule image.now place) }
+{
     match rule {
-        Rule::SymbolName => {
-            let found = symbol_with(&image, place)?;
-            Some((
-                symbol_spot(sliced, found),
-                symbol_name(sliced, found.symbol),
-            ))
-        }
+        Rule::SymbolName => Some(symbol_name(sliced, place, u64::from(symbol.strx))),
+        Rule::SymbolIndirect => Some(symbol_name(sliced, place, symbol.value)),
         Rule::SymbolSection => {
-            let found = symbol_with(&image, place)?;
-            let numbers = Conflict::numbers(u64::from(found.symbol.sect), image.section_count());
-            Some((symbol_spot(sliced, found), numbers))
+            let section = u64::from(symbol.sect);
+            Some(Conflict::numbers(section, image.section_count()))
         }
-        Rule::IndirectIndex => indirect_index(sliced, &image, place),
+        Rule::SymbolLibrary => {
+            let ordinal = u64::from(library_ordinal(symbol));
+            Some(Conflict::numbers(ordinal, library_count(image)))
+        }
+        Rule::SymbolValue => Some(Conflict::numbers(symbol.value, 0)),
         _ => None,
     }
 }
@@ -78,20 +97,19 @@ fn symbol_spot(sliced: &Sliced, found: Indexed) -> Spot
     }
 }
 
-// Where the name of a symbol begins in the strings, and where these end.
-fn symbol_name(sliced: &Sliced, symbol: Symbol) -> Conflict
-    ensures { result.value ≡ symbol.strx }
+// Where a name of the symbol at a place begins in the strings, and where these end.
+fn symbol_name(sliced: &Sliced, symbol: u64, offset: u64) -> Conflict
+    ensures { result.value ≡ offset }
 {
     let (strings, size) = symtab_table(sliced, 1);
-    let strx = u64::from(symbol.strx);
     let name = KesvuotPart {
-        start: strings.start.saturating_add(strx),
-        size: size.saturating_sub(strx),
-        described: sliced.file_place(symbol.place),
+        start: strings.start.saturating_add(offset),
+        size: size.saturating_sub(offset),
+        described: sliced.file_place(symbol),
         kind: NAME,
         index: NO_INDEX,
     };
-    Conflict::of(name, strings, strx, size)
+    Conflict::of(name, strings, offset, size)
 }
 
 // The indirect entry at a place, and how many symbols there are.

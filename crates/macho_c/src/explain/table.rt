@@ -6,7 +6,7 @@ ghost use Rattle.macho_fields.specs.Bytes.{bytes_of};
 ghost use Rattle.macho_fields.specs.LoadCommands.{structure_of, table_fields};
 ghost use Rattle.macho_fields.specs.declared.load_command.Width.TheVariants.{Uint32};
 ghost use Rattle.macho_fields.specs.declared.rule.Rule.{Rule};
-ghost use Rattle.macho_c.specs.Compared.{IsFound, Shows};
+ghost use Rattle.macho_c.specs.Compared.{IsFound, IsThreadShown, Shows};
 ghost use Rattle.macho_c.specs.Explain.{IsOfBytes, IsWalked, MeetsLimit, word_at};
 ghost use Rattle.macho_c.specs.Loads.{IsLoad};
 ghost use Rattle.macho_c.specs.declared.explain.walk.Sought.TheVariants as sought;
@@ -19,6 +19,8 @@ use crate::explain::sliced::Sliced;
 use crate::explain::spot::{Spot, command_spot};
 use crate::explain::walk::{Sought, Walked, walk_to};
 use crate::load::Load;
+use macho_commands::content_of;
+use macho_commands::loader::{LC_THREAD, LC_UNIXTHREAD};
 use macho_fields::header::loader::{LC_STR_OFFSET, LC_SYMTAB};
 use macho_fields::{Rule, Span, TableFields, Width, structure_of, table_end};
 
@@ -52,6 +54,8 @@ fn command_conflict(sliced: &Sliced, rule: Rule, walked: &Walked) -> Option<Conf
         Rule::TableRepeated => repeated(sliced, walked, Sought::OfKind(load.cmd)),
         Rule::FunctionVariants => Some(Conflict::numbers(u64::from(load.cmd), 0)),
         Rule::TableHome => table_home(sliced, load),
+        Rule::Thread => Some(thread(sliced, walked)),
+        Rule::CommandContent => Some(Conflict::alone(command, load.size, content_size(load.cmd))),
         _ => None,
     }
 }
@@ -87,6 +91,41 @@ fn repeated(sliced: &Sliced, walked: &Walked, sought: Sought) -> Option<Conflict
         u64::from(walked.load.cmd),
         u64::from(earlier.load.cmd),
     ))
+}
+
+// A thread that comes before this one, or how many bytes this one has.
+fn thread(sliced: &Sliced, walked: &Walked) -> Conflict
+    requires { IsLoad (bytes_of sliced.now.held.bytes) walked.now.load }
+    ensures { IsThreadShown (bytes_of sliced.now.held.bytes) walked.now.load.place result }
+{
+    let own = sliced.command(walked);
+    match first_thread(sliced) {
+        Some(first) if first.index < walked.index => {
+            let (cmd, earlier) = (u64::from(walked.load.cmd), u64::from(first.load.cmd));
+            Conflict::of(own, sliced.command(&first), cmd, earlier)
+        }
+        _ => Conflict::alone(own, walked.load.size, 0),
+    }
+}
+
+// How many bytes the structure of a held command has, or 0 for any other command.
+fn content_size(cmd: u32) -> u64 {
+    match content_of(cmd) {
+        Some(content) => content.size,
+        None => 0,
+    }
+}
+
+// The first thread of the image.
+fn first_thread(sliced: &Sliced) -> Option<Walked> {
+    let bytes = sliced.held.bytes;
+    let one = walk_to(bytes, Sought::First(LC_THREAD));
+    let other = walk_to(bytes, Sought::First(LC_UNIXTHREAD));
+    match (one, other) {
+        (Some(one), Some(other)) if other.index < one.index => Some(other),
+        (Some(one), _) => Some(one),
+        (None, other) => other,
+    }
 }
 
 // The offset of the name of a command, and the least one, or where the name has to end.

@@ -1,26 +1,23 @@
-use Rattle.std.proofs.Common.{◌∙◌, refl, sym, ap}
-use Rattle.std.specs.Prelude.{slice_get}
+use Rattle.std.proofs.Common.{◌∙◌, sym}
 use Rattle.std.specs.Cmp.Lexicographic.{same_text, other_text}
 use Rattle.std.proofs.lemmas.Bool.{both_ways, false≢true}
-use Rattle.macho_c.proofs.NamedSymbols.{spelled, string_test, zero_after, other_after}
+use Rattle.macho_c.proofs.NamedSymbols.{string_test, other_end, other_front}
 use Rattle.macho_c.proofs.symbol_names.is_string.Goals as goal
+use Rattle.macho_c.proofs.symbol_names.is_string.Goals.{then-has_zero_at, else-has_zero_at}
 
-pub returns-then-eq : goal.returns-then-eq
-returns-then-eq c =
-    let cases = c.in-Some.ensures.cases in
-    string_test c.args.bytes.now c.args.name.now c.in-Some.after.now c.contains.result (same_text _ _ (sym cases.0)) cases.1
-    (zero_after c.first.result c.in-Some.after.now _ c.first.ensures.value refl (sym c.if-eq.ensures)) c.contains.ensures.value
+pub returns-then-starts_with : goal.returns-then-starts_with
+returns-then-starts_with c = elim c.if-has_zero_at.branch [
+  | then-has_zero_at w ↦ string_test c.args.bytes.now c.args.name.now c.contains.result
+      (same_text _ _ (sym c.if-starts_with.true ∙ w.value-is ∙ w.starts_with.ensures.value))
+      (c.has_zero_at.ensures.0 w.if-has_zero_at.true) c.contains.ensures.value
+  | else-has_zero_at w ↦ absurd (false≢true (sym w.if-has_zero_at.false ∙ (sym w.value-is ∙ c.if-starts_with.true)))
+]
 
-pub returns-else-eq : goal.returns-else-eq
-returns-else-eq c =
-    let cases = c.in-Some.ensures.cases in (
-      (λ yes. absurd (both_ways c.eq.result c.if-eq.false yes)),
-      λ found. absurd (other_after c.first.result c.in-Some.after.now _ c.first.ensures.value refl (sym c.if-eq.ensures)
-          (ap (λ rest. slice_get rest 0) cases.1 ∙ (spelled c.args.bytes.now c.args.name.now found).ends)),
-    )
-
-pub returns-in-None : goal.returns-in-None
-returns-in-None c = (
-  (λ yes. absurd (false≢true yes)),
-  λ found. absurd (other_text _ _ (sym c.in-None.ensures.cases) (spelled c.args.bytes.now c.args.name.now found).front),
+pub returns-else-starts_with : goal.returns-else-starts_with
+returns-else-starts_with c = (
+  (λ yes. absurd (both_ways c.if-has_zero_at.value c.if-starts_with.false yes)),
+  λ found. elim c.if-has_zero_at.branch [
+    | then-has_zero_at w ↦ absurd (other_front c.args.bytes.now c.args.name.now (other_text _ _ (sym c.if-starts_with.false ∙ w.value-is ∙ w.starts_with.ensures.value)) found)
+    | else-has_zero_at w ↦ absurd (other_end c.args.bytes.now c.args.name.now (λ ends. both_ways c.has_zero_at.result w.if-has_zero_at.false (c.has_zero_at.ensures.1 ends)) found)
+  ],
 )

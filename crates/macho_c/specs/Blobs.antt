@@ -1,0 +1,85 @@
+-- The blobs of the code signature of an image, by its first LC_CODE_SIGNATURE. (cs_blobs.h: CS_SuperBlob,
+-- CS_BlobIndex, CS_GenericBlob)
+use Rattle.std.specs.Prelude.{◌≡◌, ℕ, zero, suc, ◌+◌, ◌-◌, ◌==◌, ◌&&◌, ◌≤◌, ◌<◌, nat_le, max, List, [], ◌∷◌, length, map, Bool, Option, MatchOption, if◌then◌else◌}
+use Rattle.macho_fields.specs.Field.{part}
+use Rattle.macho_fields.specs.declared.header.loader.TheConstants as loader
+use Rattle.macho_signature.specs.Superblobs.{big_word, superblob_at, blob_count, entry_offset, blob_at, blob_end, AreGoodBlobs}
+use Rattle.macho_signature.specs.declared.cs_blobs.TheConstants as cs
+use Rattle.macho_signature.specs.declared.superblob.Blob.{Blob}
+use Rattle.macho_signature.specs.declared.superblob.Superblob.{Superblob}
+use Rattle.macho_c.specs.Cursor.{begun}
+use Rattle.macho_c.specs.Image.{only}
+use Rattle.macho_c.specs.Linkedit.{dataoff, datasize, named_data}
+use Rattle.macho_c.specs.Spans.{part_or_none, span_of}
+use Rattle.macho_c.specs.declared.blobs.KesvuotBlob.{KesvuotBlob}
+use Rattle.macho_c.specs.declared.cursor.KesvuotCursor.{KesvuotCursor}
+
+-- the signature begins with a superblob that ends in it, and whose index ends in that
+abbrev pub has_superblob : List ℕ → Bool
+has_superblob signature =
+    nat_le cs.CS_SUPER_BLOB_SIZE (length signature)
+    && (big_word signature 0 == cs.CSMAGIC_EMBEDDED_SIGNATURE
+    && (nat_le (superblob_at signature).length (length signature)
+    && nat_le (entry_offset (blob_count signature)) (superblob_at signature).length))
+
+-- a blob begins at the least offset or past it, has room for its magic and length, and ends in the superblob
+abbrev pub is_placed : Superblob → ℕ → Blob → Bool
+is_placed superblob least blob =
+    nat_le least blob.offset
+    && (nat_le (blob.offset + cs.CS_GENERIC_BLOB_SIZE) superblob.length
+    && (nat_le cs.CS_GENERIC_BLOB_SIZE blob.length && nat_le (blob_end blob) superblob.length))
+
+-- the blobs from the entry k on, up to so many, each past the index and the one before it, up to the first that
+-- is not
+abbrev pub placed_blobs : List ℕ → ℕ → ℕ → ℕ → List Blob
+placed_blobs signature zero k least = []
+placed_blobs signature (suc most) k least =
+    if is_placed (superblob_at signature) (max least (entry_offset (blob_count signature))) (blob_at signature k)
+    then blob_at signature k
+    ∷ placed_blobs signature most (suc k) (blob_end (blob_at signature k)) else []
+
+-- those from the entry k on that are in place, and none without a superblob
+abbrev pub blobs_from : List ℕ → ℕ → ℕ → List Blob
+blobs_from signature k least =
+    if has_superblob signature then placed_blobs signature (blob_count signature - k) k least else []
+
+-- what is found is the first of those from the entry k on, and none where there is none
+abbrev pub IsFirstPlaced : List ℕ → ℕ → ℕ → Option Blob → Type 0
+IsFirstPlaced signature k least found =
+    MatchOption found (blobs_from signature k least ≡ []) (λ blob.
+    (k < blob_count signature) × (blob_end blob ≤ length signature) × (cs.CS_GENERIC_BLOB_SIZE ≤ blob.length)
+    × (blobs_from signature k least ≡ blob ∷ blobs_from signature (suc k) (blob_end blob)))
+
+-- the row of a blob, in a signature that begins at `start` in an image that begins at `place` in the file
+abbrev pub blob_row : ℕ → List ℕ → ℕ → List ℕ → Blob → KesvuotBlob
+blob_row place image start signature blob = record {
+  bytes = span_of (place + (start + blob.offset)) (part_or_none (start + blob.offset) blob.length image);
+  slot = blob.slot;
+  magic = big_word signature blob.offset;
+}
+
+-- before the first blob: the signature, from `segment` on, of `items` bytes. `place` is the index of the next
+-- entry, and `commands` the least offset of its blob.
+abbrev pub first_blob : List ℕ → KesvuotCursor
+first_blob image =
+    let found = named_data loader.LC_CODE_SIGNATURE image in
+    record { place = 0; commands = 0; segment = found.0; items = found.1 }
+
+abbrev pub blobs_at : ℕ → List ℕ → KesvuotCursor → List KesvuotBlob
+blobs_at place image cursor =
+    let signature = part_or_none cursor.segment cursor.items image in
+    map (blob_row place image cursor.segment signature) (blobs_from signature cursor.place cursor.commands)
+
+-- those that remain at a cursor
+abbrev pub blobs_left : ℕ → List ℕ → KesvuotCursor → List KesvuotBlob
+blobs_left place image cursor = blobs_at place image (begun (first_blob image) cursor)
+
+-- By the image alone: the blobs in place of the data of its command, all of which lies inside the image, and each
+-- blob of the index where none is bad. There are none where it has no such command.
+abbrev pub HasAllBlobs : ℕ → List ℕ → List KesvuotBlob → Type 0
+HasAllBlobs place image rows =
+    MatchOption (only image loader.LC_CODE_SIGNATURE) (rows ≡ []) (λ command.
+    let signature = part (dataoff image command) (datasize image command) image in
+    (rows ≡ map (blob_row place image (dataoff image command) signature) (blobs_from signature 0 0))
+    × (length signature ≡ datasize image command)
+    × (AreGoodBlobs signature → length rows ≡ blob_count signature))
