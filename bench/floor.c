@@ -88,6 +88,8 @@ struct mach_header_64 {
     uint32_t magic, cputype, cpusubtype, filetype, ncmds, sizeofcmds, flags, reserved;
 };
 
+#define MH_TWOLEVEL 0x80u
+
 #define LC_REQ_DYLD 0x80000000u
 
 struct load_command {
@@ -152,6 +154,99 @@ struct linkedit_data_command {
 #define LC_ATOM_INFO 0x36u
 #define LC_FUNCTION_VARIANTS 0x37u
 #define LC_FUNCTION_VARIANT_FIXUPS 0x38u
+
+// The commands that are for other kinds of images.
+#define LC_SEGMENT 0x1u
+#define LC_ENCRYPTION_INFO 0x21u
+#define LC_FILESET_ENTRY 0x80000035u
+
+// Those that no rule but command-content and thread judges.
+#define LC_SYMSEG 0x3u
+#define LC_THREAD 0x4u
+#define LC_UNIXTHREAD 0x5u
+#define LC_LOADFVMLIB 0x6u
+#define LC_IDFVMLIB 0x7u
+#define LC_IDENT 0x8u
+#define LC_FVMFILE 0x9u
+#define LC_PREPAGE 0xau
+#define LC_PREBOUND_DYLIB 0x10u
+#define LC_ROUTINES 0x11u
+#define LC_SUB_FRAMEWORK 0x12u
+#define LC_SUB_UMBRELLA 0x13u
+#define LC_SUB_CLIENT 0x14u
+#define LC_SUB_LIBRARY 0x15u
+#define LC_PREBIND_CKSUM 0x17u
+#define LC_ROUTINES_64 0x1au
+#define LC_VERSION_MIN_MACOSX 0x24u
+#define LC_VERSION_MIN_IPHONEOS 0x25u
+#define LC_SOURCE_VERSION 0x2au
+#define LC_LINKER_OPTION 0x2du
+#define LC_VERSION_MIN_TVOS 0x2fu
+#define LC_VERSION_MIN_WATCHOS 0x30u
+#define LC_TARGET_TRIPLE 0x39u
+
+struct symseg_command {
+    uint32_t cmd, cmdsize, offset, size;
+};
+
+struct fvmlib_command {
+    uint32_t cmd, cmdsize, name, minor_version, header_addr;
+};
+
+struct fvmfile_command {
+    uint32_t cmd, cmdsize, name, header_addr;
+};
+
+struct prebound_dylib_command {
+    uint32_t cmd, cmdsize, name, nmodules, linked_modules;
+};
+
+struct routines_command {
+    uint32_t cmd, cmdsize, init_address, init_module, reserved1, reserved2, reserved3, reserved4, reserved5, reserved6;
+};
+
+struct routines_command_64 {
+    uint32_t cmd, cmdsize;
+    uint64_t init_address, init_module, reserved1, reserved2, reserved3, reserved4, reserved5, reserved6;
+};
+
+// A sub_umbrella_command, a sub_client_command, a sub_library_command and a target_triple_command are alike.
+struct sub_framework_command {
+    uint32_t cmd, cmdsize, umbrella;
+};
+
+struct prebind_cksum_command {
+    uint32_t cmd, cmdsize, cksum;
+};
+
+struct version_min_command {
+    uint32_t cmd, cmdsize, version, sdk;
+};
+
+struct source_version_command {
+    uint32_t cmd, cmdsize;
+    uint64_t version;
+};
+
+struct linker_option_command {
+    uint32_t cmd, cmdsize, count;
+};
+
+// The states of a thread: each has so many words after these fields. The flavors and counts are those of
+// mach/i386/thread_status.h and mach/arm/thread_status.h.
+struct thread_state {
+    uint32_t flavor, count;
+};
+
+#define THREAD_WORD_SIZE 4u
+#define x86_THREAD_STATE64 4u
+#define x86_THREAD_STATE64_COUNT 42u
+#define x86_THREAD_STATE64_RIP 128u
+#define x86_THREAD_STATE 7u
+#define x86_THREAD_STATE_COUNT 44u
+#define ARM_THREAD_STATE64 6u
+#define ARM_THREAD_STATE64_COUNT 68u
+#define ARM_THREAD_STATE64_PC 256u
 
 #define EXPORT_SYMBOL_FLAGS_KIND_MASK 0x3u
 #define EXPORT_SYMBOL_FLAGS_KIND_ABSOLUTE 0x2u
@@ -230,7 +325,13 @@ struct entry_point_command {
 
 #define N_STAB 0xe0u
 #define N_TYPE 0x0eu
+#define N_UNDF 0x00u
+#define N_INDR 0x0au
+#define N_PBUD 0x0cu
 #define N_SECT 0x0eu
+
+#define DYNAMIC_LOOKUP_ORDINAL 0xfeu
+#define EXECUTABLE_ORDINAL 0xffu
 
 struct nlist_64 {
     uint32_t n_strx;
@@ -240,6 +341,20 @@ struct nlist_64 {
 };
 
 #define RELOCATION_INFO_SIZE 8u
+#define ARM64_RELOC_ADDEND 10u
+
+// The second word has fields of bits.
+struct relocation_info {
+    uint32_t r_address, r_bits;
+};
+
+#define R_SYMBOLNUM(bits) ((bits) & 0xffffffu)
+#define R_LENGTH(bits) ((bits) >> 25 & 3u)
+#define R_EXTERN(bits) ((bits) >> 27 & 1u)
+#define R_TYPE(bits) ((bits) >> 28)
+
+// The length of a pointer, as a power of two.
+#define R_LENGTH_OF_POINTER 3u
 
 // mach-o/fixup-chains.h. An array of numbers of 32 bits follows the second structure.
 
@@ -276,6 +391,57 @@ struct dyld_chained_starts_in_segment {
 // How many ordinals, the greatest ones, are below 0.
 #define SPECIAL_ORDINALS 15u
 
+// kern/cs_blobs.h, of code signatures. All numbers are big-endian.
+
+#define CSMAGIC_EMBEDDED_SIGNATURE 0xfade0cc0u
+#define CSMAGIC_CODEDIRECTORY 0xfade0c02u
+
+#define CSSLOT_CODEDIRECTORY 0u
+#define CSSLOT_ALTERNATE_CODEDIRECTORIES 0x1000u
+#define CSSLOT_ALTERNATE_CODEDIRECTORY_MAX 5u
+
+struct CS_SuperBlob {
+    uint32_t magic, length, count;
+};
+
+struct CS_BlobIndex {
+    uint32_t type, offset;
+};
+
+struct CS_GenericBlob {
+    uint32_t magic, length;
+};
+
+struct CS_CodeDirectory {
+    uint32_t magic, length, version, flags, hashOffset, identOffset, nSpecialSlots, nCodeSlots, codeLimit;
+    uint8_t hashSize, hashType, platform, pageSize;
+    uint32_t spare2;
+    uint32_t scatterOffset; // from CS_SUPPORTSSCATTER on, and so on
+    uint32_t teamOffset;
+    uint32_t spare3;
+    uint64_t codeLimit64;
+    uint64_t execSegBase, execSegLimit, execSegFlags;
+    uint32_t runtime, preEncryptOffset;
+    uint8_t linkageHashType, linkageApplicationType;
+    uint16_t linkageApplicationSubType;
+    uint32_t linkageOffset, linkageSize;
+};
+
+#define CS_LEAST_VERSION 0x20000u
+#define CS_SUPPORTSSCATTER 0x20100u
+#define CS_SUPPORTSTEAMID 0x20200u
+#define CS_SUPPORTSCODELIMIT64 0x20300u
+#define CS_SUPPORTSEXECSEG 0x20400u
+#define CS_SUPPORTSRUNTIME 0x20500u
+#define CS_SUPPORTSLINKAGE 0x20600u
+
+#define CS_HASHTYPE_SHA1 1u
+#define CS_HASHTYPE_SHA256 2u
+#define CS_HASHTYPE_SHA256_TRUNCATED 3u
+#define CS_HASHTYPE_SHA384 4u
+
+#define GREATEST_PAGE_SIZE 31u
+
 // The byte that Apple's linker fills the gaps of code with.
 #define NOP 0x90u
 
@@ -307,9 +473,9 @@ static inline uint64_t read_big(const uint8_t *at, size_t width) {
 
 #define WIDTH(type, field) sizeof(((struct type *)0)->field)
 
-// A field of the structure of an image at this place, and one of a universal header or its table.
+// A field of the structure of an image at this place, and one of a universal header, its table or a code signature.
 #define FIELD(at, type, field) read_little((at) + offsetof(struct type, field), WIDTH(type, field))
-#define FAT_FIELD(at, type, field) read_big((at) + offsetof(struct type, field), WIDTH(type, field))
+#define BIG_FIELD(at, type, field) read_big((at) + offsetof(struct type, field), WIDTH(type, field))
 
 // Whether `size` bytes from `start` end at the limit or before it. There is no sum, so none wraps.
 static inline bool fits(uint64_t start, uint64_t size, uint64_t limit) {
@@ -515,15 +681,15 @@ static inline uint64_t entry_place(const struct universal *file, uint64_t index)
 static inline struct entry read_entry(const struct universal *file, uint64_t index) {
     const uint8_t *at = file->bytes + entry_place(file, index);
     struct entry entry;
-    entry.arch = masked(FAT_FIELD(at, fat_arch, cputype), FAT_FIELD(at, fat_arch, cpusubtype));
+    entry.arch = masked(BIG_FIELD(at, fat_arch, cputype), BIG_FIELD(at, fat_arch, cpusubtype));
     if (file->entry_size == sizeof(struct fat_arch)) {
-        entry.offset = FAT_FIELD(at, fat_arch, offset);
-        entry.size = FAT_FIELD(at, fat_arch, size);
-        entry.align = FAT_FIELD(at, fat_arch, align);
+        entry.offset = BIG_FIELD(at, fat_arch, offset);
+        entry.size = BIG_FIELD(at, fat_arch, size);
+        entry.align = BIG_FIELD(at, fat_arch, align);
     } else {
-        entry.offset = FAT_FIELD(at, fat_arch_64, offset);
-        entry.size = FAT_FIELD(at, fat_arch_64, size);
-        entry.align = FAT_FIELD(at, fat_arch_64, align);
+        entry.offset = BIG_FIELD(at, fat_arch_64, offset);
+        entry.size = BIG_FIELD(at, fat_arch_64, size);
+        entry.align = BIG_FIELD(at, fat_arch_64, align);
     }
     return entry;
 }
@@ -547,10 +713,10 @@ static bool breaks_fat_truncated(const struct file *file, struct universal *read
     if (file->size < sizeof(struct fat_header)) {
         return true;
     }
-    bool is_wide = FAT_FIELD(file->bytes, fat_header, magic) == FAT_MAGIC_64;
+    bool is_wide = BIG_FIELD(file->bytes, fat_header, magic) == FAT_MAGIC_64;
     read->bytes = file->bytes;
     read->size = file->size;
-    read->nfat_arch = FAT_FIELD(file->bytes, fat_header, nfat_arch);
+    read->nfat_arch = BIG_FIELD(file->bytes, fat_header, nfat_arch);
     read->entry_size = is_wide ? sizeof(struct fat_arch_64) : sizeof(struct fat_arch);
     return entry_place(read, read->nfat_arch) > file->size;
 }
@@ -934,16 +1100,22 @@ static bool breaks_symbol_group(const struct image *image) {
     return false;
 }
 
-// The least n_strx that breaks symbol-name: the one past the last zero byte of the string table. 0 never breaks it.
-static uint64_t names_end(const struct image *image) {
+// How many bytes the string table has up to and including its last zero byte; 0 where it has none. There is an LC_SYMTAB.
+static uint64_t strings_end(const struct image *image) {
     const uint8_t *command = image->bytes + image->symtab;
     uint64_t strsize = FIELD(command, symtab_command, strsize);
     if (strsize == 0) {
-        return 1;
+        return 0;
     }
     const uint8_t *strings = image->bytes + FIELD(command, symtab_command, stroff);
     const uint8_t *zero = memrchr(strings, 0, strsize);
-    return zero == NULL ? 1 : (uint64_t)(zero - strings) + 1;
+    return zero == NULL ? 0 : (uint64_t)(zero - strings) + 1;
+}
+
+// The least n_strx that breaks symbol-name. 0 never breaks it.
+static uint64_t names_end(const struct image *image) {
+    uint64_t end = strings_end(image);
+    return end == 0 ? 1 : end;
 }
 
 static inline bool breaks_symbol_section(const uint8_t *symbol, uint64_t section_count) {
@@ -2600,6 +2772,532 @@ static void judge_data_in_code(const struct image *image, const uint8_t *command
     free(gathered.spans);
 }
 
+// How many bytes the fields of a directory of this version have.
+static inline uint64_t fields_size(uint64_t version) {
+    return version < CS_SUPPORTSSCATTER ? offsetof(struct CS_CodeDirectory, scatterOffset) :
+        version < CS_SUPPORTSTEAMID ? offsetof(struct CS_CodeDirectory, teamOffset) :
+        version < CS_SUPPORTSCODELIMIT64 ? offsetof(struct CS_CodeDirectory, spare3) :
+        version < CS_SUPPORTSEXECSEG ? offsetof(struct CS_CodeDirectory, execSegBase) :
+        version < CS_SUPPORTSRUNTIME ? offsetof(struct CS_CodeDirectory, runtime) :
+        version < CS_SUPPORTSLINKAGE ? offsetof(struct CS_CodeDirectory, linkageHashType) :
+        offsetof(struct CS_CodeDirectory, linkageSize) + sizeof(uint32_t);
+}
+
+// The bytes of a hash; 0 where the type is not known.
+static inline uint64_t hash_size(uint64_t type) {
+    switch (type) {
+    case CS_HASHTYPE_SHA1:
+    case CS_HASHTYPE_SHA256_TRUNCATED:
+        return 20;
+    case CS_HASHTYPE_SHA256:
+        return 32;
+    case CS_HASHTYPE_SHA384:
+        return 48;
+    default:
+        return 0;
+    }
+}
+
+// Whether the magic number, the version, the hashes and the pages are of a known kind, and the fields are in the blob.
+static bool is_directory(const uint8_t *blob, uint64_t length) {
+    if (length < fields_size(0) || BIG_FIELD(blob, CS_CodeDirectory, magic) != CSMAGIC_CODEDIRECTORY) {
+        return false;
+    }
+    uint64_t version = BIG_FIELD(blob, CS_CodeDirectory, version), size = FIELD(blob, CS_CodeDirectory, hashSize);
+    return version >= CS_LEAST_VERSION && length >= fields_size(version) &&
+        (version < CS_SUPPORTSSCATTER || BIG_FIELD(blob, CS_CodeDirectory, scatterOffset) == 0) &&
+        size != 0 && size == hash_size(FIELD(blob, CS_CodeDirectory, hashType)) &&
+        FIELD(blob, CS_CodeDirectory, pageSize) <= GREATEST_PAGE_SIZE;
+}
+
+// How many bytes of the image a directory has hashes of.
+static uint64_t limit_of(const uint8_t *directory) {
+    uint64_t limit = 0;
+    if (BIG_FIELD(directory, CS_CodeDirectory, version) >= CS_SUPPORTSCODELIMIT64) {
+        limit = BIG_FIELD(directory, CS_CodeDirectory, codeLimit64);
+    }
+    return limit != 0 ? limit : BIG_FIELD(directory, CS_CodeDirectory, codeLimit);
+}
+
+// How many pages these bytes have. A page is all of them where the logarithm of its bytes is 0.
+static inline uint64_t slots_of(uint64_t limit, uint64_t page_size) {
+    uint64_t whole = limit >> page_size;
+    if (page_size == 0) {
+        return limit == 0 ? 0u : 1u;
+    }
+    return limit == whole << page_size ? whole : whole + 1;
+}
+
+// Whether the hashes lie in the blob, and there is one for each page.
+static bool has_hashes(const uint8_t *directory, uint64_t length, uint64_t limit) {
+    uint64_t first = BIG_FIELD(directory, CS_CodeDirectory, hashOffset);
+    uint64_t size = FIELD(directory, CS_CodeDirectory, hashSize);
+    uint64_t count = BIG_FIELD(directory, CS_CodeDirectory, nCodeSlots);
+    return BIG_FIELD(directory, CS_CodeDirectory, nSpecialSlots) * size <= first &&
+        fits(first, count * size, length) && count == slots_of(limit, FIELD(directory, CS_CodeDirectory, pageSize));
+}
+
+// Whether there is no text, as the offset is 0, or it ends in the blob.
+static inline bool is_text(const uint8_t *blob, uint64_t offset, uint64_t length) {
+    return offset == 0 || (offset < length && memchr(blob + offset, 0, length - offset) != NULL);
+}
+
+static bool has_texts(const uint8_t *directory, uint64_t length) {
+    return is_text(directory, BIG_FIELD(directory, CS_CodeDirectory, identOffset), length) &&
+        (BIG_FIELD(directory, CS_CodeDirectory, version) < CS_SUPPORTSTEAMID ||
+         is_text(directory, BIG_FIELD(directory, CS_CodeDirectory, teamOffset), length));
+}
+
+// signature-directory and signature-whole of a blob, whose entry has this place. The signature begins at `signature`.
+static void judge_directory(const struct image *image, uint64_t signature, uint64_t place, const uint8_t *blob) {
+    uint64_t length = BIG_FIELD(blob, CS_GenericBlob, length);
+    if (!is_directory(blob, length)) {
+        note_in(image, SIGNATURE_DIRECTORY, place);
+        return;
+    }
+    uint64_t limit = limit_of(blob);
+    if (limit > signature || !has_hashes(blob, length, limit) || !has_texts(blob, length)) {
+        note_in(image, SIGNATURE_DIRECTORY, place);
+    } else if (limit < signature) {
+        note_in(image, SIGNATURE_WHOLE, place);
+    }
+}
+
+static inline bool is_directory_slot(uint64_t slot) {
+    return slot == CSSLOT_CODEDIRECTORY ||
+        (slot >= CSSLOT_ALTERNATE_CODEDIRECTORIES &&
+         slot < CSSLOT_ALTERNATE_CODEDIRECTORIES + CSSLOT_ALTERNATE_CODEDIRECTORY_MAX);
+}
+
+// Where the blob at an offset of the superblob ends; 0 where it begins before `end`, or is not all in there.
+static uint64_t blob_end(const uint8_t *superblob, uint64_t offset, uint64_t end) {
+    uint64_t length = BIG_FIELD(superblob, CS_SuperBlob, length);
+    if (offset < end || !fits(offset, sizeof(struct CS_GenericBlob), length)) {
+        return 0;
+    }
+    uint64_t size = BIG_FIELD(superblob + offset, CS_GenericBlob, length);
+    return size >= sizeof(struct CS_GenericBlob) && fits(offset, size, length) ? offset + size : 0;
+}
+
+// The rules of signatures, of the entries of an index that is in the superblob. It begins at `start`.
+static void judge_blobs(const struct image *image, uint64_t start) {
+    const uint8_t *superblob = image->bytes + start;
+    uint64_t place = sizeof(struct CS_SuperBlob);
+    uint64_t end = place + sizeof(struct CS_BlobIndex) * BIG_FIELD(superblob, CS_SuperBlob, count);
+    bool has_directory = false;
+    for (uint64_t k = BIG_FIELD(superblob, CS_SuperBlob, count); k > 0; k--) {
+        uint64_t slot = BIG_FIELD(superblob + place, CS_BlobIndex, type);
+        uint64_t offset = BIG_FIELD(superblob + place, CS_BlobIndex, offset);
+        end = blob_end(superblob, offset, end);
+        if (end == 0) {
+            note_in(image, SIGNATURE_BLOB, start + place);
+            return;
+        }
+        has_directory = has_directory || slot == CSSLOT_CODEDIRECTORY;
+        if (is_directory_slot(slot)) {
+            judge_directory(image, start, start + place, superblob + offset);
+        }
+        place += sizeof(struct CS_BlobIndex);
+    }
+    if (!has_directory) {
+        note_in(image, SIGNATURE_DIRECTORY, start);
+    }
+}
+
+// The rules of the signature of an LC_CODE_SIGNATURE, if it has some bytes.
+static void judge_signature(const struct image *image, const uint8_t *command) {
+    uint64_t start = FIELD(command, linkedit_data_command, dataoff);
+    uint64_t size = FIELD(command, linkedit_data_command, datasize);
+    const uint8_t *superblob = image->bytes + start;
+    if (size == 0) {
+        return;
+    }
+    if (size < sizeof(struct CS_SuperBlob) ||
+        BIG_FIELD(superblob, CS_SuperBlob, magic) != CSMAGIC_EMBEDDED_SIGNATURE ||
+        BIG_FIELD(superblob, CS_SuperBlob, length) > size ||
+        !fits(sizeof(struct CS_SuperBlob), sizeof(struct CS_BlobIndex) * BIG_FIELD(superblob, CS_SuperBlob, count),
+              BIG_FIELD(superblob, CS_SuperBlob, length))) {
+        note_in(image, SIGNATURE_BLOB, start);
+    } else {
+        judge_blobs(image, start);
+    }
+}
+
+// How many numbers of sections a symbol can have.
+enum { SECTION_NUMBERS = 256 };
+
+// What the symbols of an image are judged by. The addresses of segments are sorted, and `last_found` is one of them.
+struct symbols {
+    const struct linked *linked;
+    bool has_two_levels;
+    bool is_mapped[SECTION_NUMBERS]; // of the section of a number
+    uint64_t strings_end;
+    struct spans memory;
+    const struct span *last_found;
+};
+
+static void find_mapped_sections(const struct image *image, bool *is_mapped_by_number) {
+    const struct range *segments = &image->segments;
+    uint64_t number = 1;
+    for (uint64_t place = segments->first; place != 0 && number < SECTION_NUMBERS;
+         place = next_place(image, segments, place)) {
+        if (is_command(image, place, LC_SEGMENT_64)) {
+            struct segment segment = read_segment(image->bytes + place);
+            for (uint64_t k = 0; k < segment.nsects && number < SECTION_NUMBERS; k++) {
+                is_mapped_by_number[number++] = is_mapped(&segment);
+            }
+        }
+    }
+}
+
+// The symbol is undefined.
+static inline bool breaks_symbol_library(const struct symbols *symbols, const uint8_t *symbol) {
+    uint64_t ordinal = FIELD(symbol, nlist_64, n_desc) >> 8;
+    return symbols->has_two_levels && ordinal > symbols->linked->library_count &&
+        ordinal != DYNAMIC_LOOKUP_ORDINAL && ordinal != EXECUTABLE_ORDINAL;
+}
+
+// Whether the address is one of the span, or its end.
+static inline bool is_up_to_end(const struct span *span, uint64_t address) {
+    return address >= span->start && (address <= span->last || address - 1 == span->last);
+}
+
+// The symbol is of a section.
+static inline bool breaks_symbol_value(struct symbols *symbols, const uint8_t *symbol) {
+    uint64_t value = FIELD(symbol, nlist_64, n_value);
+    if (!symbols->is_mapped[FIELD(symbol, nlist_64, n_sect)]) {
+        return false;
+    }
+    if (!is_up_to_end(symbols->last_found, value)) {
+        symbols->last_found = last_up_to(&symbols->memory, value);
+    }
+    return !is_up_to_end(symbols->last_found, value);
+}
+
+static inline void judge_linked_symbol(struct symbols *symbols, const uint8_t *symbol, uint64_t place) {
+    const struct image *image = symbols->linked->image;
+    uint64_t value = FIELD(symbol, nlist_64, n_value);
+    switch (FIELD(symbol, nlist_64, n_type) & (N_STAB | N_TYPE)) {
+    case N_UNDF:
+        if (value != 0) {
+            break;
+        } // fall through
+    case N_PBUD:
+        if (breaks_symbol_library(symbols, symbol)) {
+            note_in(image, SYMBOL_LIBRARY, place);
+        }
+        break;
+    case N_SECT:
+        if (breaks_symbol_value(symbols, symbol)) {
+            note_in(image, SYMBOL_VALUE, place);
+        }
+        break;
+    case N_INDR:
+        if (value >= symbols->strings_end) {
+            note_in(image, SYMBOL_INDIRECT, place);
+        }
+        break;
+    default:
+        break;
+    }
+}
+
+// symbol-library, symbol-value and symbol-indirect, in one walk over the symbols. Some segment is mapped: it has the
+// headers.
+static void judge_linked_symbols(const struct linked *linked) {
+    const struct image *image = linked->image;
+    uint64_t count = symbol_count(image);
+    if (count == 0) {
+        return;
+    }
+    struct gathered gathered;
+    struct symbols symbols = {.linked = linked, .strings_end = strings_end(image)};
+    symbols.has_two_levels = (FIELD(image->bytes, mach_header_64, flags) & MH_TWOLEVEL) != 0;
+    symbols.memory = sorted_parts(image, MEMORY, &gathered);
+    symbols.last_found = symbols.memory.sorted;
+    find_mapped_sections(image, symbols.is_mapped);
+    uint64_t place = FIELD(image->bytes + image->symtab, symtab_command, symoff);
+    for (uint64_t k = 0; k < count; k++, place += sizeof(struct nlist_64)) {
+        judge_linked_symbol(&symbols, image->bytes + place, place);
+    }
+    free(gathered.spans);
+}
+
+// `is_dynamic` says that an LC_DYSYMTAB names the relocation.
+static inline bool breaks_relocation(const struct image *image, const uint8_t *relocation, bool is_dynamic) {
+    uint64_t bits = FIELD(relocation, relocation_info, r_bits);
+    bool is_there;
+    if (R_EXTERN(bits) == 1) {
+        is_there = R_SYMBOLNUM(bits) < symbol_count(image);
+    } else {
+        is_there = R_SYMBOLNUM(bits) <= image->section_count ||
+            (image->arch.cputype == CPU_TYPE_ARM64 && R_TYPE(bits) == ARM64_RELOC_ADDEND);
+    }
+    return !is_there || (is_dynamic && R_LENGTH(bits) != R_LENGTH_OF_POINTER);
+}
+
+static void judge_relocations(const struct image *image, uint64_t start, uint64_t count, bool is_dynamic) {
+    for (uint64_t k = 0; k < count; k++) {
+        uint64_t place = start + RELOCATION_INFO_SIZE * k;
+        if (breaks_relocation(image, image->bytes + place, is_dynamic)) {
+            note_in(image, RELOCATION, place);
+            return;
+        }
+    }
+}
+
+static void judge_relocations_of_segment(const struct image *image, uint64_t segment) {
+    uint64_t place = segment + sizeof(struct segment_command_64);
+    uint64_t nsects = FIELD(image->bytes + segment, segment_command_64, nsects);
+    for (uint64_t k = 0; k < nsects; k++, place += sizeof(struct section_64)) {
+        struct section section = read_section(image->bytes + place);
+        judge_relocations(image, section.reloff, section.nreloc, false);
+    }
+}
+
+// relocation. No two of the tables share a byte.
+static void judge_all_relocations(const struct image *image) {
+    const struct range *segments = &image->segments;
+    for (uint64_t place = segments->first; place != 0; place = next_place(image, segments, place)) {
+        if (is_command(image, place, LC_SEGMENT_64)) {
+            judge_relocations_of_segment(image, place);
+        }
+    }
+    if (image->dysymtab != 0) {
+        const uint8_t *command = image->bytes + image->dysymtab;
+        judge_relocations(image, FIELD(command, dysymtab_command, extreloff),
+                          FIELD(command, dysymtab_command, nextrel), true);
+        judge_relocations(image, FIELD(command, dysymtab_command, locreloff),
+                          FIELD(command, dysymtab_command, nlocrel), true);
+    }
+}
+
+// A state of a thread with registers: how many words it has, and where in these the address is that the thread begins at.
+struct registers {
+    uint64_t cputype, flavor, count, start;
+};
+
+static const struct registers known_registers[] = {
+    {CPU_TYPE_X86_64, x86_THREAD_STATE64, x86_THREAD_STATE64_COUNT, x86_THREAD_STATE64_RIP},
+    {CPU_TYPE_X86_64, x86_THREAD_STATE, x86_THREAD_STATE_COUNT, sizeof(struct thread_state) + x86_THREAD_STATE64_RIP},
+    {CPU_TYPE_ARM64, ARM_THREAD_STATE64, ARM_THREAD_STATE64_COUNT, ARM_THREAD_STATE64_PC},
+};
+
+// NULL where the state has none.
+static const struct registers *find_registers(const struct image *image, const uint8_t *state) {
+    uint64_t flavor = FIELD(state, thread_state, flavor);
+    for (size_t k = 0; k < sizeof known_registers / sizeof known_registers[0]; k++) {
+        if (known_registers[k].cputype == image->arch.cputype && known_registers[k].flavor == flavor) {
+            return &known_registers[k];
+        }
+    }
+    return NULL;
+}
+
+// Whether the state has the words of its registers, and begins the thread at code. It is whole.
+static bool are_good_registers(const struct image *image, const uint8_t *state) {
+    const struct registers *registers = find_registers(image, state);
+    const uint8_t *words = state + sizeof(struct thread_state);
+    if (FIELD(state, thread_state, count) != registers->count) {
+        return false;
+    }
+    if (registers->cputype == CPU_TYPE_X86_64 && registers->flavor == x86_THREAD_STATE &&
+        (FIELD(words, thread_state, flavor) != x86_THREAD_STATE64 ||
+         FIELD(words, thread_state, count) != x86_THREAD_STATE64_COUNT)) {
+        return false;
+    }
+    return is_executable(image, read_little(words + registers->start, sizeof(uint64_t)));
+}
+
+// Whether the states end where the command does, and just one has registers, which are good.
+static bool is_good_thread(const struct image *image, const uint8_t *command) {
+    uint64_t size = FIELD(command, load_command, cmdsize), at = sizeof(struct load_command);
+    const uint8_t *with_registers = NULL;
+    while (at < size) {
+        const uint8_t *state = command + at;
+        if (size - at < sizeof(struct thread_state)) {
+            return false;
+        }
+        at += sizeof(struct thread_state);
+        uint64_t words = THREAD_WORD_SIZE * FIELD(state, thread_state, count);
+        bool has_registers = find_registers(image, state) != NULL;
+        if (words > size - at || (has_registers && with_registers != NULL)) {
+            return false;
+        }
+        with_registers = has_registers ? state : with_registers;
+        at += words;
+    }
+    return with_registers != NULL && are_good_registers(image, with_registers);
+}
+
+// What is judged of a command that no other rule judges: the size of its structure, and whether the first field of it is
+// that of a name.
+struct held {
+    uint8_t least;
+    bool has_name;
+};
+
+static const struct held held_commands[128] = {
+    [SLOT(LC_SYMSEG)] = {sizeof(struct symseg_command), false},
+    [SLOT(LC_LOADFVMLIB)] = {sizeof(struct fvmlib_command), true},
+    [SLOT(LC_IDFVMLIB)] = {sizeof(struct fvmlib_command), true},
+    [SLOT(LC_IDENT)] = {sizeof(struct load_command), false},
+    [SLOT(LC_FVMFILE)] = {sizeof(struct fvmfile_command), true},
+    [SLOT(LC_PREPAGE)] = {sizeof(struct load_command), false},
+    [SLOT(LC_PREBOUND_DYLIB)] = {sizeof(struct prebound_dylib_command), true},
+    [SLOT(LC_ROUTINES)] = {sizeof(struct routines_command), false},
+    [SLOT(LC_SUB_FRAMEWORK)] = {sizeof(struct sub_framework_command), true},
+    [SLOT(LC_SUB_UMBRELLA)] = {sizeof(struct sub_framework_command), true},
+    [SLOT(LC_SUB_CLIENT)] = {sizeof(struct sub_framework_command), true},
+    [SLOT(LC_SUB_LIBRARY)] = {sizeof(struct sub_framework_command), true},
+    [SLOT(LC_TWOLEVEL_HINTS)] = {sizeof(struct linkedit_data_command), false},
+    [SLOT(LC_PREBIND_CKSUM)] = {sizeof(struct prebind_cksum_command), false},
+    [SLOT(LC_ROUTINES_64)] = {sizeof(struct routines_command_64), false},
+    [SLOT(LC_VERSION_MIN_MACOSX)] = {sizeof(struct version_min_command), false},
+    [SLOT(LC_VERSION_MIN_IPHONEOS)] = {sizeof(struct version_min_command), false},
+    [SLOT(LC_SOURCE_VERSION)] = {sizeof(struct source_version_command), false},
+    [SLOT(LC_LINKER_OPTION)] = {sizeof(struct linker_option_command), false},
+    [SLOT(LC_VERSION_MIN_TVOS)] = {sizeof(struct version_min_command), false},
+    [SLOT(LC_VERSION_MIN_WATCHOS)] = {sizeof(struct version_min_command), false},
+    [SLOT(LC_ATOM_INFO)] = {sizeof(struct linkedit_data_command), false},
+    [SLOT(LC_FUNCTION_VARIANTS)] = {sizeof(struct linkedit_data_command), false},
+    [SLOT(LC_FUNCTION_VARIANT_FIXUPS)] = {sizeof(struct linkedit_data_command), false},
+    [SLOT(LC_TARGET_TRIPLE)] = {sizeof(struct sub_framework_command), true},
+};
+
+// Bytes of a command, by offsets in it.
+struct extent {
+    uint64_t start, end;
+};
+
+// Where in an LC_PREBOUND_DYLIB there is a bit for each module, if it has some. The sum does not wrap.
+static struct extent bits_of_modules(const uint8_t *command) {
+    uint64_t start = FIELD(command, prebound_dylib_command, linked_modules);
+    uint64_t nmodules = FIELD(command, prebound_dylib_command, nmodules);
+    return (struct extent){start, start + (nmodules + 7) / 8};
+}
+
+// Where the last of the strings of an LC_LINKER_OPTION ends; past the command where there are fewer.
+static uint64_t options_end(const uint8_t *command, uint64_t size) {
+    uint64_t at = sizeof(struct linker_option_command);
+    for (uint64_t left = FIELD(command, linker_option_command, count); left != 0; left--) {
+        const uint8_t *zero = at < size ? memchr(command + at, 0, size - at) : NULL;
+        if (zero == NULL) {
+            return size + 1;
+        }
+        at = (uint64_t)(zero - command) + 1;
+    }
+    return at;
+}
+
+// Finds what a command has past its structure, beside a name. Whether this is in the command, past the structure.
+static inline bool find_content(const uint8_t *command, uint64_t size, size_t slot, struct extent *content) {
+    uint64_t least = held_commands[slot].least;
+    *content = (struct extent){least, least};
+    switch (slot) {
+    case SLOT(LC_PREBOUND_DYLIB):
+        if (FIELD(command, prebound_dylib_command, nmodules) != 0) {
+            *content = bits_of_modules(command);
+        }
+        break;
+    case SLOT(LC_LINKER_OPTION):
+        content->end = options_end(command, size);
+        break;
+    case SLOT(LC_IDENT):
+        content->end = size == least || command[size - 1] == 0 ? size : size + 1;
+        break;
+    default:
+        break;
+    }
+    return content->start >= least && content->end <= size;
+}
+
+static inline bool is_zero(const uint8_t *bytes, uint64_t start, uint64_t end) {
+    return start >= end || first_nonzero(bytes, start, end) == end;
+}
+
+// Whether the bytes of a command from `start` on are zero but for these two extents.
+static bool is_slack_zero(const uint8_t *command, uint64_t start, uint64_t size, struct extent one, struct extent other) {
+    struct extent first = one.start < other.start ? one : other, second = one.start < other.start ? other : one;
+    return is_zero(command, start, first.start) && is_zero(command, first.end, second.start) &&
+        is_zero(command, first.end < second.end ? second.end : first.end, size);
+}
+
+// Whether the bytes of the slice lie in it that a command names.
+static bool has_its_range(const struct image *image, const uint8_t *command, size_t slot) {
+    uint64_t entry;
+    switch (slot) {
+    case SLOT(LC_TWOLEVEL_HINTS):
+        entry = TWOLEVEL_HINT_SIZE;
+        break;
+    case SLOT(LC_SYMSEG):
+    case SLOT(LC_ATOM_INFO):
+    case SLOT(LC_FUNCTION_VARIANTS):
+    case SLOT(LC_FUNCTION_VARIANT_FIXUPS):
+        entry = 1;
+        break;
+    default:
+        return true;
+    }
+    uint64_t size = entry * FIELD(command, symseg_command, size);
+    return size == 0 || fits(FIELD(command, symseg_command, offset), size, image->size);
+}
+
+static bool has_its_routine(const struct image *image, const uint8_t *command, size_t slot) {
+    switch (slot) {
+    case SLOT(LC_ROUTINES):
+        return is_executable(image, FIELD(command, routines_command, init_address));
+    case SLOT(LC_ROUTINES_64):
+        return is_executable(image, FIELD(command, routines_command_64, init_address));
+    default:
+        return true;
+    }
+}
+
+// A held command.
+static bool breaks_content(const struct image *image, const uint8_t *command, size_t slot) {
+    struct held held = held_commands[slot];
+    uint64_t size = FIELD(command, load_command, cmdsize);
+    struct extent content;
+    if (size < held.least || !find_content(command, size, slot, &content) || !has_its_range(image, command, slot) ||
+        !has_its_routine(image, command, slot)) {
+        return true;
+    }
+    struct extent name = content;
+    if (held.has_name) {
+        if (breaks_name(command, size, held.least)) {
+            return true;
+        }
+        name.start = FIELD(command, dylinker_command, name);
+        name.end = name.start + strlen((const char *)command + name.start) + 1;
+    }
+    return !is_slack_zero(command, held.least, size, name, content);
+}
+
+// thread and command-content, in one walk over the commands. Where there are several threads or routines, the first one
+// alone is judged by what it says, so that the segments are walked over twice at most.
+static void judge_contents(const struct image *image) {
+    bool has_thread = false, has_routine = false;
+    uint64_t place = sizeof(struct mach_header_64);
+    for (uint64_t k = 0; k < image->ncmds; k++) {
+        const uint8_t *command = image->bytes + place;
+        size_t slot = slot_of(FIELD(command, load_command, cmd));
+        bool is_routine = slot == SLOT(LC_ROUTINES) || slot == SLOT(LC_ROUTINES_64);
+        if (slot == SLOT(LC_THREAD) || slot == SLOT(LC_UNIXTHREAD)) {
+            if (has_thread || !is_good_thread(image, command)) {
+                note_in(image, THREAD, place);
+            }
+            has_thread = true;
+        } else if (slot == SLOT(LC_SEGMENT) || slot == SLOT(LC_ENCRYPTION_INFO) || slot == SLOT(LC_FILESET_ENTRY) ||
+                   (is_routine && has_routine) ||
+                   (held_commands[slot].least != 0 && breaks_content(image, command, slot))) {
+            note_in(image, COMMAND_CONTENT, place);
+        }
+        has_routine = has_routine || is_routine;
+        place += FIELD(command, load_command, cmdsize);
+    }
+}
+
 static void judge_image_linked(const struct image *image) {
     struct linked linked = {.image = image};
     survey_linked(&linked);
@@ -2625,8 +3323,13 @@ static void judge_image_linked(const struct image *image) {
             judge_function_starts(&linked, command);
         } else if (slot == SLOT(LC_DATA_IN_CODE)) {
             judge_data_in_code(image, command);
+        } else if (slot == SLOT(LC_CODE_SIGNATURE)) {
+            judge_signature(image, command);
         }
     }
+    judge_linked_symbols(&linked);
+    judge_all_relocations(image);
+    judge_contents(image);
 }
 
 // Of a universal file, up to the first slice that breaks one of the rules.

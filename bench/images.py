@@ -79,6 +79,15 @@ whose LC_MAIN names an address of no segment. That breaks the last rule, so all 
     trie-N-deep                     an export trie of N nodes, each below the one before, and an export
     path-N                          an export trie of N nodes, each with an edge of no bytes to the next, so that a
                                     look-up of any name passes all. The last one has no edge. Accepted
+    hashes-N                        a code directory with hashes of N pages, of 16 bytes each
+    blobs-Nm, directories-Nm        a code signature of N MiB: a code directory, and then as many blobs of 8 bytes as
+                                    there is room for, or alternate directories of 65 bytes
+    identifier-Nm                   a code directory with an identifier of N MiB
+    undefined-N                     N undefined symbols of an image with two levels of names, each with a name of its own
+    values-N-shuffled               N segments in no order, and a symbol at the start of each, in another order
+    aliases-Nm                      a million symbols that are other names of what stands in one string of N MiB
+    relocations-N                   N relocations that an LC_DYSYMTAB names, of symbols and of none
+    options-N                       an LC_LINKER_OPTION with N strings
 """
 
 from __future__ import annotations
@@ -102,9 +111,10 @@ CPU_TYPE_ARM64, CPU_SUBTYPE_ARM64_ALL = 0x0100000C, 0
 MH_OBJECT, MH_EXECUTE = 1, 2
 LC_SYMTAB, LC_DYSYMTAB, LC_LOAD_DYLIB, LC_SEGMENT_64, LC_MAIN = 0x2, 0xB, 0xC, 0x19, 0x80000028
 LC_ENCRYPTION_INFO_64, LC_ATOM_INFO, LC_RPATH, LC_DYLD_INFO_ONLY = 0x2C, 0x36, 0x8000001C, 0x80000022
-LC_FUNCTION_STARTS, LC_DATA_IN_CODE = 0x26, 0x29
+LC_FUNCTION_STARTS, LC_DATA_IN_CODE, LC_CODE_SIGNATURE = 0x26, 0x29, 0x1D
 LC_DYLD_EXPORTS_TRIE, LC_DYLD_CHAINED_FIXUPS = 0x80000033, 0x80000034
-LC_UNLISTED = 0x7FFFFFFF
+LC_LINKER_OPTION, LC_UNLISTED = 0x2D, 0x7FFFFFFF
+MH_TWOLEVEL = 0x80
 VM_PROT_READ, VM_PROT_WRITE, VM_PROT_EXECUTE = 1, 2, 4
 HEADER_SIZE, SEGMENT_SIZE, SECTION_SIZE = 32, 72, 80
 ENCRYPTION_INFO_SIZE, LINKEDIT_DATA_SIZE = 24, 16
@@ -113,7 +123,9 @@ LIBRARY_SIZE, DYLD_INFO_SIZE, POINTER_SIZE = 32, 48, 8
 FAT_HEADER_SIZE, FAT_ARCH_SIZE = 8, 20
 S_ZEROFILL = 1
 RELOCATION_SIZE = 8
-N_SECT = 0xE
+N_UNDF, N_EXT, N_INDR, N_SECT = 0x0, 0x1, 0xA, 0xE
+DYNAMIC_LOOKUP_ORDINAL = 0xFE
+R_LENGTH_OF_POINTER, R_EXTERN = 3 << 25, 1 << 27
 DICE_KIND_DATA = 1
 NOP = 0x90
 
@@ -121,6 +133,12 @@ NOP = 0x90
 DYLD_CHAINED_IMPORT, DYLD_CHAINED_PTR_64, DYLD_CHAINED_PTR_START_NONE = 1, 2, 0xFFFF
 FIXUPS_HEADER_SIZE, STARTS_SIZE, IMPORT_SIZE = 28, 24, 4
 NEXT_BIT, NEXT_STEP, BIND_BIT, LARGE_PAGE = 51, 4, 63, 0x4000
+
+# kern/cs_blobs.h
+CSMAGIC_EMBEDDED_SIGNATURE, CSMAGIC_CODEDIRECTORY, CSMAGIC_REQUIREMENTS = 0xFADE0CC0, 0xFADE0C02, 0xFADE0C01
+CSSLOT_CODEDIRECTORY, CSSLOT_REQUIREMENTS, CSSLOT_ALTERNATE_CODEDIRECTORIES = 0, 2, 0x1000
+SUPERBLOB_SIZE, BLOB_INDEX_SIZE, BLOB_SIZE, CODE_DIRECTORY_SIZE = 12, 8, 8, 44
+CS_VERSION, CS_HASHTYPE_SHA1, SHA1_SIZE = 0x20000, 1, 20
 
 BASE = 0x1_0000_0000
 FAR = 0x2_0000_0000
@@ -131,8 +149,9 @@ FUNCTION_SIZE = 16
 # Structures
 
 
-def header(ncmds: int, sizeofcmds: int, arch=(CPU_TYPE_X86_64, CPU_SUBTYPE_X86_64_ALL), filetype=MH_EXECUTE) -> bytes:
-    return struct.pack("<8I", MH_MAGIC_64, *arch, filetype, ncmds, sizeofcmds, 0, 0)
+def header(ncmds: int, sizeofcmds: int, arch=(CPU_TYPE_X86_64, CPU_SUBTYPE_X86_64_ALL), filetype=MH_EXECUTE,
+           flags: int = 0) -> bytes:
+    return struct.pack("<8I", MH_MAGIC_64, *arch, filetype, ncmds, sizeofcmds, flags, 0)
 
 
 def segment(name: bytes, vmaddr: int, vmsize: int, fileoff: int = 0, filesize: int = 0, sections: bytes = b"",
@@ -151,8 +170,8 @@ def symtab(symoff: int, nsyms: int, stroff: int, strsize: int) -> bytes:
     return struct.pack("<6I", LC_SYMTAB, SYMTAB_SIZE, symoff, nsyms, stroff, strsize)
 
 
-def dysymtab(indirectsymoff: int, nindirectsyms: int) -> bytes:
-    fields = [0] * 12 + [indirectsymoff, nindirectsyms] + [0] * 4
+def dysymtab(indirectsymoff: int, nindirectsyms: int, locreloff: int = 0, nlocrel: int = 0) -> bytes:
+    fields = [0] * 12 + [indirectsymoff, nindirectsyms, 0, 0, locreloff, nlocrel]
     return struct.pack("<20I", LC_DYSYMTAB, DYSYMTAB_SIZE, *fields)
 
 
@@ -216,16 +235,24 @@ def main_command(entryoff: int) -> bytes:
     return struct.pack("<2I2Q", LC_MAIN, MAIN_SIZE, entryoff, 0)
 
 
-def symbols(strx: Iterable[int]) -> Iterator[bytes]:
-    """Symbols of the first section whose names are at these offsets, a hundred thousand a part."""
-    pack = struct.Struct("<I2BHQ").pack
+def packed(entries: Iterable[tuple[int, ...]], form: str) -> Iterator[bytes]:
+    """Structures of this form, a hundred thousand a part."""
+    pack = struct.Struct(form).pack
     parts = []
-    for name in strx:
-        parts.append(pack(name, N_SECT, 1, 0, BASE))
+    for entry in entries:
+        parts.append(pack(*entry))
         if len(parts) == 100_000:
             yield b"".join(parts)
             parts.clear()
     yield b"".join(parts)
+
+
+SYMBOL_FORM = "<I2BHQ"
+
+
+def symbols(strx: Iterable[int]) -> Iterator[bytes]:
+    """Symbols of the first section whose names are at these offsets."""
+    return packed(((name, N_SECT, 1, 0, BASE) for name in strx), SYMBOL_FORM)
 
 
 def zeros(mebibytes: int) -> Iterator[bytes]:
@@ -254,10 +281,11 @@ def accepted_with(count: int) -> str:
     return f"accepted, slices {count}"
 
 
-def image(out: BinaryIO, commands: bytes, count: int, tail: Iterable[bytes] = (), accepted: bool = False) -> str:
+def image(out: BinaryIO, commands: bytes, count: int, tail: Iterable[bytes] = (), accepted: bool = False,
+          flags: int = 0) -> str:
     """An executable of `count` commands and an LC_MAIN, with its tail. The entry is the base, or an address of no
     segment, which breaks the last rule."""
-    out.write(header(count + 1, len(commands) + MAIN_SIZE))
+    out.write(header(count + 1, len(commands) + MAIN_SIZE, flags=flags))
     out.write(commands)
     out.write(main_command(0 if accepted else 1 << 60))
     out.writelines(tail)
@@ -741,6 +769,123 @@ def long_path(out: BinaryIO, count: int) -> str:
     return image(out, commands, 2, [trie], accepted=True)
 
 
+def code_directory(limit: int, page_bits: int = 0, identifier: bytes = b"") -> bytes:
+    """A directory with hashes of zeros for the pages of so many bytes, or for one page of all of them if a page has 2^0
+    bytes. The identifier comes past these, with its zero byte."""
+    count = -(-limit >> page_bits) if page_bits else 1
+    hashes_end = CODE_DIRECTORY_SIZE + SHA1_SIZE * count
+    numbers = (CSMAGIC_CODEDIRECTORY, hashes_end + len(identifier), CS_VERSION, 0, CODE_DIRECTORY_SIZE,
+               hashes_end if identifier else 0, 0, count, limit)
+    return b"".join((struct.pack(">9I4BI", *numbers, SHA1_SIZE, CS_HASHTYPE_SHA1, 0, page_bits, 0),
+                     bytes(SHA1_SIZE * count), identifier))
+
+
+def superblob(first: bytes, others: int = 0, slot: int = CSSLOT_REQUIREMENTS, blob: bytes = b"") -> bytes:
+    """A directory, and so many others of one slot, which all have the same bytes."""
+    start = SUPERBLOB_SIZE + BLOB_INDEX_SIZE * (1 + others)
+    offsets = range(start + len(first), start + len(first) + len(blob) * others, len(blob) or 1)
+    entries = [CSSLOT_CODEDIRECTORY, start]
+    for offset in offsets:
+        entries += slot, offset
+    size = start + len(first) + len(blob) * others
+    return b"".join((struct.pack(">3I", CSMAGIC_EMBEDDED_SIGNATURE, size, 1 + others),
+                     struct.pack(f">{len(entries)}I", *entries), first, blob * others))
+
+
+def signed(out: BinaryIO, limit: int, signature: bytes) -> str:
+    """An executable whose signature begins at the limit, past a text of zeros."""
+    start = HEADER_SIZE + 2 * SEGMENT_SIZE + LINKEDIT_DATA_SIZE + MAIN_SIZE
+    return with_functions(out, LC_CODE_SIGNATURE, limit - start, [], lambda _: signature)
+
+
+def hashes(out: BinaryIO, count: int) -> str:
+    limit = 16 * count
+    return signed(out, limit, superblob(code_directory(limit, page_bits=4)))
+
+
+def many_blobs(out: BinaryIO, mebibytes: int, slot: int, blob: bytes) -> str:
+    first = code_directory(PAGE)
+    count = (mebibytes * MIB - SUPERBLOB_SIZE - BLOB_INDEX_SIZE - len(first)) // (BLOB_INDEX_SIZE + len(blob))
+    return signed(out, PAGE, superblob(first, count, slot, blob))
+
+
+def blobs(out: BinaryIO, mebibytes: int) -> str:
+    return many_blobs(out, mebibytes, CSSLOT_REQUIREMENTS, struct.pack(">2I", CSMAGIC_REQUIREMENTS, BLOB_SIZE))
+
+
+def directories(out: BinaryIO, mebibytes: int) -> str:
+    return many_blobs(out, mebibytes, CSSLOT_ALTERNATE_CODEDIRECTORIES, code_directory(PAGE, identifier=b"\0"))
+
+
+def long_identifier(out: BinaryIO, mebibytes: int) -> str:
+    return signed(out, PAGE, superblob(code_directory(PAGE, identifier=b"".join(filler(mebibytes * MIB)) + b"\0")))
+
+
+def with_other_symbols(out: BinaryIO, entries: Iterable[tuple[int, ...]], count: int, strings: Iterable[bytes],
+                       strsize: int, flags: int = 0) -> str:
+    """An executable of these symbols and their strings, which loads a library."""
+    start = HEADER_SIZE + 2 * SEGMENT_SIZE + SYMTAB_SIZE + LIBRARY_SIZE + MAIN_SIZE
+    stroff = start + SYMBOL_SIZE * count
+    linkedit = SYMBOL_SIZE * count + strsize
+    commands = segment(b"__TEXT", BASE, start, 0, start)
+    commands += segment(b"__LINKEDIT", FAR, linkedit, start, linkedit, initprot=VM_PROT_READ)
+    commands += symtab(start, count, stroff, strsize) + library(0)
+
+    def tail() -> Iterator[bytes]:
+        yield from packed(entries, SYMBOL_FORM)
+        yield from strings
+
+    return image(out, commands, 4, tail(), accepted=True, flags=flags)
+
+
+def undefined(out: BinaryIO, count: int) -> str:
+    """Each third symbol is of the library, of the image itself, and of any library."""
+    ordinals = 1, 0, DYNAMIC_LOOKUP_ORDINAL
+    entries = ((1 + 16 * k, N_UNDF | N_EXT, 0, ordinals[k % 3] << 8, 0) for k in range(count))
+    strings = numbered_names(count)
+    return with_other_symbols(out, entries, count, [strings], len(strings), MH_TWOLEVEL)
+
+
+def aliases(out: BinaryIO, mebibytes: int) -> str:
+    size = mebibytes * MIB
+    entries = ((0, N_INDR | N_EXT, 0, 0, 1 + k % (size - 2)) for k in range(MILLION))
+    return with_other_symbols(out, entries, MILLION, [b"\0", *filler(size - 2), b"\0"], size)
+
+
+def values(out: BinaryIO, count: int, order: str) -> str:
+    start = HEADER_SIZE + (2 + count) * SEGMENT_SIZE + SECTION_SIZE + SYMTAB_SIZE + MAIN_SIZE
+    numbers = ordered(count, order)
+    commands = [segment(b"__TEXT", BASE, start, 0, start, section(b"__text", BASE, 0, 0))]
+    commands += [segment(b"__DATA", FAR + 2 * PAGE * number, PAGE) for number in numbers]
+    linkedit = SYMBOL_SIZE * count
+    commands.append(segment(b"__LINKEDIT", FAR + 2 * PAGE * count, linkedit, start, linkedit, initprot=VM_PROT_READ))
+    commands.append(symtab(start, count, 0, 0))
+    entries = ((0, N_SECT | N_EXT, 1, 0, FAR + 2 * PAGE * number) for number in reversed(numbers))
+    return image(out, b"".join(commands), len(commands), packed(entries, SYMBOL_FORM), accepted=True)
+
+
+def relocations(out: BinaryIO, count: int) -> str:
+    nsyms = 1000
+    start = HEADER_SIZE + 2 * SEGMENT_SIZE + SYMTAB_SIZE + DYSYMTAB_SIZE + MAIN_SIZE
+    locreloff = start + SYMBOL_SIZE * nsyms
+    linkedit = SYMBOL_SIZE * nsyms + RELOCATION_SIZE * count
+    commands = segment(b"__TEXT", BASE, start, 0, start)
+    commands += segment(b"__LINKEDIT", FAR, linkedit, start, linkedit, initprot=VM_PROT_READ)
+    commands += symtab(start, nsyms, 0, 0) + dysymtab(0, 0, locreloff, count)
+    # Of no section, or of a symbol.
+    numbers = (0, *(R_EXTERN | number for number in range(nsyms)))
+    entries = ((POINTER_SIZE * k, R_LENGTH_OF_POINTER | numbers[k % len(numbers)]) for k in range(count))
+    return image(out, commands, 4, [bytes(SYMBOL_SIZE * nsyms), *packed(entries, "<2I")], accepted=True)
+
+
+def options(out: BinaryIO, count: int) -> str:
+    strings = b"a\0" * count
+    command = struct.pack("<3I", LC_LINKER_OPTION, (12 + len(strings) + 7) // 8 * 8, count) + strings
+    command = command.ljust((len(command) + 7) // 8 * 8, b"\0")
+    size = HEADER_SIZE + SEGMENT_SIZE + len(command) + MAIN_SIZE
+    return image(out, segment(b"__TEXT", BASE, size, 0, size) + command, 2, accepted=True)
+
+
 # The commands of which a file has many.
 REPEATED = {"commands": unlisted, "libraries": libraries}
 
@@ -767,6 +912,14 @@ SIZED = {
     "pointers": chained_pointers,
     "path": long_path,
     "trie": empty_trie,
+    "hashes": hashes,
+    "blobs": blobs,
+    "directories": directories,
+    "identifier": long_identifier,
+    "undefined": undefined,
+    "aliases": aliases,
+    "relocations": relocations,
+    "options": options,
 }
 
 
@@ -802,6 +955,8 @@ def maker(name: str) -> Callable[[BinaryIO], str]:
         return partial(data_in_code, count=size, order=order)
     if kind == "exports":
         return partial(exports, count=size, order=order)
+    if kind == "values":
+        return partial(values, count=size, order=order)
     if kind == "trie" and order == "deep":
         return partial(deep_trie, count=size)
     return lambda out: SIZED[kind](out, size)

@@ -1,5 +1,6 @@
 #!/usr/bin/env python3
-"""Loads images by the plain dyld of tests/plain_dyld.py, under watch. tests/dyld calls it, and says how.
+"""Loads images by the plain dyld of tests/plain_dyld.py, and reads their code signatures by tests/plain_reader.py, both
+under watch. tests/dyld calls it, and says how.
 
 It judges the vectors of tests/linked.txt by hand and by tests/oracle.py --linked, and then files and mutants of their
 tables by the oracle alone. Each image that the oracle accepts is loaded, and the promise of docs/LINKED.md has to hold.
@@ -21,6 +22,7 @@ from pathlib import Path
 
 sys.dont_write_bytecode = True
 import plain_dyld
+import plain_reader
 import table_mutants
 
 TOP = Path(__file__).resolve().parent.parent
@@ -56,12 +58,13 @@ def load(data):
     return load_judged(data, verdict) if verdict == "accepted" else Loaded(verdict, Counter(), None)
 
 def load_judged(data, verdict):
-    """Loads all images of a file that breaks no rule of the strict profile."""
+    """Loads all images of a file that breaks no rule of the strict profile, and reads their signatures."""
     writes = Counter()
     try:
         for image in oracle.File(data).slices:
             if image.is_64_bit:
                 writes.update(write.stream for write in plain_dyld.load(image))
+                plain_reader.read(image)
     except plain_dyld.Breach as breach:
         return Loaded(verdict, writes, str(breach))
     return Loaded(verdict, writes, None)

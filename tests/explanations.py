@@ -20,7 +20,7 @@ NO_INDEX, MOST = 2 ** 32 - 1, 2 ** 64 - 1
 KINDS = """none file magic fat_header fat_table fat_arch slice header headers command segment segment_memory section
 section_bytes section_memory relocations table group name symbol indirect opcode byte chain_header chain_array
 chain_entry chain_starts chain_import page_start chain_pointer function_start data_in_code_entry data_in_code
-export_node""".split()
+export_node signature_entry signature_blob relocation""".split()
 # What has addresses or indices in place of offsets.
 OF_NUMBERS = {"segment_memory", "section_memory", "group"}
 
@@ -862,6 +862,189 @@ def data_in_code(image: Any, place: int) -> Explanation:
     return Explanation(at, data, NONE, entry.offset + entry.length, 0)
 
 
+# Code signatures. Their numbers are big-endian.
+
+CODE_DIRECTORY_SLOTS = (0, *range(0x1000, 0x1005))
+HASH_SIZES = {1: 20, 2: 32, 3: 20, 4: 48}
+# From which version on a code directory has fields up to so many bytes.
+DIRECTORY_SIZES = {0x20000: 44, 0x20100: 48, 0x20200: 52, 0x20300: 64, 0x20400: 88, 0x20500: 96, 0x20600: 108}
+
+
+def big(data: bytes, place: int, width: int = 4) -> int:
+    return int.from_bytes(data[place:place + width], "big")
+
+
+def signature_entry(image: Any, place: int) -> Part:
+    table = linked_table(image, "signature")
+    return structure("signature_entry", place, 8, (place - table.start - 12) // 8)
+
+
+def blob_part(image: Any, entry: Part) -> Part:
+    """The blob of an entry: all its bytes, or 8 if these are not all in the superblob."""
+    table = linked_table(image, "signature")
+    offset, length = big(image.data, entry.start + 4), big(image.data, table.start + 4)
+    size = big(image.data, table.start + offset + 4) if offset + 8 <= length else 8
+    return Part("signature_blob", entry.index, table.start + offset, size, entry.start)
+
+
+def of_blob(image: Any, place: int, second: Part, value: int, limit: int) -> Explanation:
+    entry = signature_entry(image, place)
+    return Explanation(entry, blob_part(image, entry), second, value, limit)
+
+
+def of_superblob(image: Any, value: int, limit: int) -> Explanation:
+    table = linked_table(image, "signature")
+    return Explanation(structure("byte", table.start, 1), table, NONE, value, limit)
+
+
+def signature_blob(image: Any, place: int) -> Explanation:
+    table = linked_table(image, "signature")
+    magic_number, length, count = (big(image.data, table.start + at) for at in (0, 4, 8))
+    if place != table.start:
+        return bad_blob(image, place, length, 12 + 8 * count)
+    if table.size < 12:
+        return of_superblob(image, table.size, 12)
+    if magic_number != 0xfade0cc0:
+        return of_superblob(image, magic_number, 0xfade0cc0)
+    if length > table.size:
+        return of_superblob(image, length, table.size)
+    return of_superblob(image, 12 + 8 * count, length)
+
+
+def bad_blob(image: Any, place: int, length: int, index_end: int) -> Explanation:
+    """Why the blob of the entry at the place is none."""
+    table, entry = linked_table(image, "signature"), signature_entry(image, place)
+    blob = blob_part(image, entry)
+    before, least = table, index_end
+    if entry.index > 0:
+        before = blob_part(image, signature_entry(image, place - 8))
+        least = before.start + before.size - table.start
+    offset = blob.start - table.start
+    if offset < least:
+        return of_blob(image, place, before, offset, least)
+    if offset + 8 > length:
+        return of_blob(image, place, table, offset + 8, length)
+    if blob.size < 8:
+        return of_blob(image, place, NONE, blob.size, 8)
+    return of_blob(image, place, table, offset + blob.size, length)
+
+
+def directory_limit(data: bytes, start: int) -> int:
+    """Up to where a code directory covers the slice."""
+    limit = big(data, start + 56, 8) if big(data, start + 8) >= 0x20300 else 0
+    return limit or big(data, start + 32)
+
+
+def page_count(limit: int, page_size: int) -> int:
+    return -(-limit // (1 << page_size)) if page_size else min(limit, 1)
+
+
+def directory_numbers(data: bytes, start: int, length: int, dataoff: int) -> Optional[tuple[int, int]]:
+    """The two numbers that show why a code directory is none, the first that do. Those of its limit are left out."""
+    def word(at: int) -> int:
+        return big(data, start + at)
+
+    def has_no_end(offset: int) -> bool:
+        return offset != 0 and 0 not in data[start + offset:start + length]
+
+    if word(0) != 0xfade0c02:
+        return word(0), 0xfade0c02
+    if length < 44:
+        return length, 44
+    version, hash_size, hash_type, page_size = word(8), data[start + 36], data[start + 37], data[start + 39]
+    if version < 0x20000:
+        return version, 0x20000
+    fields = max(size for least, size in DIRECTORY_SIZES.items() if least <= version)
+    if length < fields:
+        return length, fields
+    limit, slots = directory_limit(data, start), word(28)
+    compared = [
+        (version >= 0x20100 and word(44) != 0, word(44), 0),
+        (hash_type not in HASH_SIZES, hash_type, 4),
+        (hash_size != HASH_SIZES.get(hash_type), hash_size, HASH_SIZES.get(hash_type)),
+        (page_size > 31, page_size, 31),
+        (word(24) * hash_size > word(16), word(24) * hash_size, word(16)),
+        (word(16) + slots * hash_size > length, word(16) + slots * hash_size, length),
+        (limit > dataoff, limit, dataoff),
+        (page_size <= 31 and slots != page_count(limit, page_size), slots, page_count(limit, min(page_size, 31))),
+        (has_no_end(word(20)), word(20), length),
+        (version >= 0x20200 and has_no_end(word(48)), word(48), length)]
+    return next(((value, most_of) for is_wrong, value, most_of in compared if is_wrong), None)
+
+
+def signature_directory(image: Any, place: int) -> Explanation:
+    table = linked_table(image, "signature")
+    if place == table.start:
+        return of_superblob(image, 0, 1)
+    blob = blob_part(image, signature_entry(image, place))
+    value, limit = directory_numbers(image.data, blob.start, blob.size, table.start)
+    is_past = limit == table.start and value == directory_limit(image.data, blob.start) > limit
+    return of_blob(image, place, table if is_past else NONE, value, limit)
+
+
+def signature_whole(image: Any, place: int) -> Explanation:
+    table = linked_table(image, "signature")
+    blob = blob_part(image, signature_entry(image, place))
+    return of_blob(image, place, table, directory_limit(image.data, blob.start), table.start)
+
+
+# Symbols, relocations, threads and the contents of commands
+
+
+def symbol_library(image: Any, place: int) -> Explanation:
+    return of_symbol(image, place, NONE, NONE, little(image.data, place + 6, 2) >> 8, oracle.library_count(image))
+
+
+def symbol_value(image: Any, place: int) -> Explanation:
+    return of_symbol(image, place, NONE, NONE, little(image.data, place + 8, 8), 0)
+
+
+def symbol_indirect(image: Any, place: int) -> Explanation:
+    strings, value = symtab_tables(image)[1], little(image.data, place + 8, 8)
+    rest = Part("name", NO_INDEX, most(strings.start + value), max(0, strings.size - value), place)
+    return of_symbol(image, place, rest, strings, value, strings.size)
+
+
+def relocation_tables(image: Any) -> list[Part]:
+    """Those of the sections, and then the external and the local ones of LC_DYSYMTAB."""
+    tables = [Part("relocations", index, section.reloff, 8 * section.nreloc, section.place)
+              for index, section in enumerate(image.sections)]
+    dysymtab = image.only(oracle.LC_DYSYMTAB)
+    return tables + (table_parts(image, dysymtab)[4:6] if dysymtab else [])
+
+
+def relocation(image: Any, place: int) -> Explanation:
+    table = next(part for part in relocation_tables(image) if part.start <= place < part.start + part.size)
+    at, word = structure("relocation", place, 8, (place - table.start) // 8), little(image.data, place + 4)
+    number, length, is_external = word & 0xffffff, word >> 25 & 3, word >> 27 & 1
+    is_addend = not is_external and word >> 28 == 10 and image.header.cputype == 0x100000c
+    if is_external and number >= image.symbol_count:
+        return Explanation(at, table, NONE, number, image.symbol_count)
+    if not is_external and not is_addend and number > len(image.sections):
+        return Explanation(at, table, NONE, number, len(image.sections))
+    return Explanation(at, table, NONE, length, 3)
+
+
+def thread(image: Any, place: int) -> Explanation:
+    own, earlier = command_part(image, place), first_with(image, 0x4, 0x5)
+    if earlier.start < place:
+        return of_command(image, place, own, earlier, little(image.data, place), little(image.data, earlier.start))
+    return of_command(image, place, own, NONE, own.size, 0)
+
+
+# The commands of loader.h that no other rule judges: how many bytes the structure of each has.
+CONTENT_SIZES = {
+    0x3: 16, 0x6: 20, 0x7: 20, 0x8: 8, 0x9: 16, 0xa: 8, 0x10: 20, 0x11: 40, 0x12: 12, 0x13: 12, 0x14: 12, 0x15: 12,
+    0x16: 16, 0x17: 12, 0x1a: 72, 0x24: 16, 0x25: 16, 0x2a: 16, 0x2d: 12, 0x2f: 16, 0x30: 16, 0x36: 16, 0x37: 16,
+    0x38: 16, 0x39: 12}
+
+
+def command_content(image: Any, place: int) -> Explanation:
+    """`limit` is 0 for a command that no image of this kind has."""
+    own = command_part(image, place)
+    return of_command(image, place, own, NONE, own.size, CONTENT_SIZES.get(little(image.data, place), 0))
+
+
 OF_FILE = {rule.__name__: rule for rule in (
     magic, fat_truncated, fat_slice_outside, fat_slice_in_table, fat_align, fat_overlap, fat_duplicate,
     fat_slice_magic, fat_empty, fat_stray_byte)}
@@ -873,5 +1056,6 @@ OF_IMAGE = {rule.__name__: rule for rule in (
     table_repeated, function_variants, table_home, header_home, rebase_opcode, bind_opcode, bind_library, bind_symbol,
     bind_names, chain_header, chain_starts, chain_imports, chain_total, chain_library, chain_slot, chain_bind,
     export_node, export_total, export_terminal, export_library, export_address, function_number, function_start,
-    data_in_code)}
+    data_in_code, signature_blob, signature_directory, signature_whole, symbol_library, symbol_value, symbol_indirect,
+    relocation, thread, command_content)}
 OF_IMAGE.update(rebase_slot=bad_slot, bind_slot=bad_slot, rebase_total=total, bind_total=total)

@@ -55,15 +55,46 @@ STRUCTURES = {
     "note_command": "u32 cmd  u32 cmdsize  16bytes data_owner  u64 offset  u64 size",
     "build_version_command": "u32 cmd  u32 cmdsize  u32 platform  u32 minos  u32 sdk  u32 ntools",
     "entry_point_command": "u32 cmd  u32 cmdsize  u64 entryoff  u64 stacksize",
+    "symseg_command": "u32 cmd  u32 cmdsize  u32 offset  u32 size",
+    "fvmlib_command": "u32 cmd  u32 cmdsize  u32 name  u32 minor_version  u32 header_addr",
+    "fvmfile_command": "u32 cmd  u32 cmdsize  u32 name  u32 header_addr",
+    "prebound_dylib_command": "u32 cmd  u32 cmdsize  u32 name  u32 nmodules  u32 linked_modules",
+    "routines_command": "u32 cmd  u32 cmdsize  u32 init_address  u32 init_module  u32 reserved1  u32 reserved2"
+                        "  u32 reserved3  u32 reserved4  u32 reserved5  u32 reserved6",
+    "routines_command_64": "u32 cmd  u32 cmdsize  u64 init_address  u64 init_module  u64 reserved1  u64 reserved2"
+                           "  u64 reserved3  u64 reserved4  u64 reserved5  u64 reserved6",
+    "sub_framework_command": "u32 cmd  u32 cmdsize  u32 umbrella",
+    "sub_umbrella_command": "u32 cmd  u32 cmdsize  u32 sub_umbrella",
+    "sub_client_command": "u32 cmd  u32 cmdsize  u32 client",
+    "sub_library_command": "u32 cmd  u32 cmdsize  u32 sub_library",
+    "prebind_cksum_command": "u32 cmd  u32 cmdsize  u32 cksum",
+    "version_min_command": "u32 cmd  u32 cmdsize  u32 version  u32 sdk",
+    "source_version_command": "u32 cmd  u32 cmdsize  u64 version",
+    "linker_option_command": "u32 cmd  u32 cmdsize  u32 count",
+    "target_triple_command": "u32 cmd  u32 cmdsize  u32 triple",
+    # What a thread_command has, again and again, each time with so many words after it.
+    "thread_state": "u32 flavor  u32 count",
     "data_in_code_entry": "u32 offset  u16 length  u16 kind",
     # mach-o/nlist.h
     "nlist_64": "u32 n_strx  u8 n_type  u8 n_sect  u16 n_desc  u64 n_value",
+    # mach-o/reloc.h. The second word has fields of bits.
+    "relocation_info": "u32 r_address  u32 r_bits",
     # mach-o/fixup-chains.h, without the arrays that follow
     "dyld_chained_fixups_header": "u32 fixups_version  u32 starts_offset  u32 imports_offset  u32 symbols_offset"
                                   "  u32 imports_count  u32 imports_format  u32 symbols_format",
     "dyld_chained_starts_in_image": "u32 seg_count",
     "dyld_chained_starts_in_segment": "u32 size  u16 page_size  u16 pointer_format  u64 segment_offset"
                                       "  u32 max_valid_pointer  u16 page_count",
+    # kern/cs_blobs.h. Big-endian. A directory of an older version ends before some of these fields.
+    "CS_SuperBlob": "u32 magic  u32 length  u32 count",
+    "CS_BlobIndex": "u32 type  u32 offset",
+    "CS_GenericBlob": "u32 magic  u32 length",
+    "CS_CodeDirectory": "u32 magic  u32 length  u32 version  u32 flags  u32 hashOffset  u32 identOffset"
+                        "  u32 nSpecialSlots  u32 nCodeSlots  u32 codeLimit  u8 hashSize  u8 hashType  u8 platform"
+                        "  u8 pageSize  u32 spare2  u32 scatterOffset  u32 teamOffset  u32 spare3  u64 codeLimit64"
+                        "  u64 execSegBase  u64 execSegLimit  u64 execSegFlags  u32 runtime  u32 preEncryptOffset"
+                        "  u8 linkageHashType  u8 linkageApplicationType  u16 linkageApplicationSubType"
+                        "  u32 linkageOffset  u32 linkageSize",
 }
 WIDTHS = {"u8": 1, "u16": 2, "u32": 4, "u64": 8, "16bytes": 16}
 
@@ -91,8 +122,11 @@ SECTION_TYPE = 0x000000ff
 S_ZEROFILL, S_GB_ZEROFILL, S_THREAD_LOCAL_ZEROFILL = 0x1, 0xc, 0x12
 SG_PROTECTED_VERSION_1 = 0x8
 INDIRECT_SYMBOL_LOCAL, INDIRECT_SYMBOL_ABS = 0x80000000, 0x40000000
+MH_TWOLEVEL = 0x80
 # mach-o/nlist.h
 N_STAB, N_TYPE, N_SECT = 0xe0, 0x0e, 0x0e
+N_UNDF, N_INDR, N_PBUD = 0x0, 0xa, 0xc
+DYNAMIC_LOOKUP_ORDINAL, EXECUTABLE_ORDINAL = 0xfe, 0xff
 # mach/vm_prot.h
 VM_PROT_READ, VM_PROT_WRITE, VM_PROT_EXECUTE = 1, 2, 4
 
@@ -120,8 +154,74 @@ EXPORT_SYMBOL_FLAGS_KIND_MASK, EXPORT_SYMBOL_FLAGS_KIND_ABSOLUTE, KIND_UNKNOWN =
 EXPORT_SYMBOL_FLAGS_REEXPORT, EXPORT_SYMBOL_FLAGS_STUB_AND_RESOLVER = 0x8, 0x10
 LEAST_SPECIAL_ORDINAL = 2 ** 64 + BIND_SPECIAL_DYLIB_WEAK_LOOKUP
 
+# The fields of bits of a relocation_info, each from its first bit up to and including its last. A pointer has 2^3 bytes.
+# A relocation of arm64 of this type has an addend in place of a number of a symbol or of a section.
+R_SYMBOLNUM, R_LENGTH, R_EXTERN, R_TYPE = (0, 23), (25, 26), (27, 27), (28, 31)
+LENGTH_OF_A_POINTER = 3
+ARM64_RELOC_ADDEND = 10
+
+# The states of a thread that have registers, by the cputype and the flavor: the count of words, and where in these the
+# address is that the thread begins at. The words of an x86_THREAD_STATE are an x86_THREAD_STATE64, with its header.
+x86_THREAD_STATE64, x86_THREAD_STATE, ARM_THREAD_STATE64 = 4, 7, 6
+REGISTERS = {
+    (CPU_TYPE_X86_64, x86_THREAD_STATE64): (42, 128),
+    (CPU_TYPE_X86_64, x86_THREAD_STATE): (44, 136),
+    (CPU_TYPE_ARM64, ARM_THREAD_STATE64): (68, 256),
+}
+
+# The commands that are for other kinds of images.
+LC_SEGMENT, LC_ENCRYPTION_INFO, LC_FILESET_ENTRY = 0x1, 0x21, 0x80000035
+FOREIGN_COMMANDS = (LC_SEGMENT, LC_ENCRYPTION_INFO, LC_FILESET_ENTRY)
+
+# The commands that no other rule judges: the structure, and the field that says where the name is, if it has one.
+LC_SYMSEG, LC_THREAD, LC_UNIXTHREAD, LC_LOADFVMLIB, LC_IDFVMLIB, LC_IDENT, LC_FVMFILE = 0x3, 0x4, 0x5, 0x6, 0x7, 0x8, 0x9
+LC_PREPAGE, LC_PREBOUND_DYLIB, LC_ROUTINES, LC_ROUTINES_64 = 0xa, 0x10, 0x11, 0x1a
+LC_SUB_FRAMEWORK, LC_SUB_UMBRELLA, LC_SUB_CLIENT, LC_SUB_LIBRARY, LC_PREBIND_CKSUM = 0x12, 0x13, 0x14, 0x15, 0x17
+LC_VERSION_MIN_MACOSX, LC_VERSION_MIN_IPHONEOS, LC_VERSION_MIN_TVOS, LC_VERSION_MIN_WATCHOS = 0x24, 0x25, 0x2f, 0x30
+LC_SOURCE_VERSION, LC_LINKER_OPTION, LC_TARGET_TRIPLE = 0x2a, 0x2d, 0x39
+HELD_COMMANDS = {
+    LC_SYMSEG: ("symseg_command", None),
+    LC_LOADFVMLIB: ("fvmlib_command", "name"),
+    LC_IDFVMLIB: ("fvmlib_command", "name"),
+    LC_IDENT: ("load_command", None),
+    LC_FVMFILE: ("fvmfile_command", "name"),
+    LC_PREPAGE: ("load_command", None),
+    LC_PREBOUND_DYLIB: ("prebound_dylib_command", "name"),
+    LC_ROUTINES: ("routines_command", None),
+    LC_ROUTINES_64: ("routines_command_64", None),
+    LC_SUB_FRAMEWORK: ("sub_framework_command", "umbrella"),
+    LC_SUB_UMBRELLA: ("sub_umbrella_command", "sub_umbrella"),
+    LC_SUB_CLIENT: ("sub_client_command", "client"),
+    LC_SUB_LIBRARY: ("sub_library_command", "sub_library"),
+    LC_TWOLEVEL_HINTS: ("twolevel_hints_command", None),
+    LC_PREBIND_CKSUM: ("prebind_cksum_command", None),
+    LC_VERSION_MIN_MACOSX: ("version_min_command", None),
+    LC_VERSION_MIN_IPHONEOS: ("version_min_command", None),
+    LC_VERSION_MIN_TVOS: ("version_min_command", None),
+    LC_VERSION_MIN_WATCHOS: ("version_min_command", None),
+    LC_SOURCE_VERSION: ("source_version_command", None),
+    LC_LINKER_OPTION: ("linker_option_command", None),
+    LC_ATOM_INFO: ("linkedit_data_command", None),
+    LC_FUNCTION_VARIANTS: ("linkedit_data_command", None),
+    LC_FUNCTION_VARIANT_FIXUPS: ("linkedit_data_command", None),
+    LC_TARGET_TRIPLE: ("target_triple_command", "triple"),
+}
+ROUTINES = (LC_ROUTINES, LC_ROUTINES_64)
+THREADS = (LC_THREAD, LC_UNIXTHREAD)
+
 # The kinds of data in code, from DICE_KIND_DATA up to and including DICE_KIND_ABS_JUMP_TABLE32.
 DICE_KINDS = range(1, 6)
+
+# Of code signatures: the magic numbers; the slots of directories, of which there can be five alternate ones; the least
+# version, and how many bytes the fields have of a version and of those up to the next; the versions from which some of
+# the fields are there; the bytes of a hash, by its type; and the greatest logarithm of a page's bytes.
+CSMAGIC_EMBEDDED_SIGNATURE, CSMAGIC_CODEDIRECTORY = 0xfade0cc0, 0xfade0c02
+DIRECTORY_SLOTS = (0, *range(0x1000, 0x1005))
+LEAST_VERSION = 0x20000
+FIELDS_SIZES = {0: 44, 0x20100: 48, 0x20200: 52, 0x20300: 64, 0x20400: 88, 0x20500: 96, 0x20600: 108}
+CS_SUPPORTSSCATTER, CS_SUPPORTSTEAMID, CS_SUPPORTSCODELIMIT64 = 0x20100, 0x20200, 0x20300
+HASH_SIZES = {1: 20, 2: 32, 3: 20, 4: 48}
+GREATEST_PAGE_SIZE = 31
 
 # The byte that Apple's linker fills the gaps of code with.
 NOP = b"\x90"
@@ -189,6 +289,9 @@ UNLISTED_DATA = {
     LC_FUNCTION_VARIANTS: ("linkedit_data_command", "dataoff", "datasize", 1),
     LC_FUNCTION_VARIANT_FIXUPS: ("linkedit_data_command", "dataoff", "datasize", 1),
 }
+
+# The bytes of the slice that a command names which no other rule judges: as of a bounded table.
+HELD_RANGES = {**UNLISTED_DATA, LC_SYMSEG: ("symseg_command", "offset", "size", 1)}
 
 # The words of the layout for the commands that load a library.
 LIBRARIES = {0xc: "load", 0x80000018: "weak", 0x8000001f: "reexport", 0x20: "lazy", 0x80000023: "upward"}
@@ -313,6 +416,12 @@ class Image:
         """The symbols. (Known after `table-range`.)"""
         symtab = self.only(LC_SYMTAB)
         return [read(self.data, symtab.symoff + 16 * k, "nlist_64") for k in range(self.symbol_count)]
+
+    @cached_property
+    def last_zero_of_strings(self):
+        """The offset of the last zero byte of the string table; -1, which is below all offsets, where there is none."""
+        symtab = self.only(LC_SYMTAB)
+        return self.data[symtab.stroff:symtab.stroff + symtab.strsize].rfind(b"\0")
 
     @cached_property
     def base_segment(self):
@@ -572,10 +681,8 @@ def symbol_name(image):
     """`n_strx` is not 0 and there is no zero byte from `stroff` + `n_strx` up to the end of the string table."""
     symtab = image.only(LC_SYMTAB)
     if symtab is not None:
-        # With no zero byte in the table this is -1, which is below each n_strx.
-        last_zero = image.data[symtab.stroff:symtab.stroff + symtab.strsize].rfind(b"\0")
         for symbol in image.symbols:
-            if symbol.n_strx != 0 and symbol.n_strx > last_zero:
+            if symbol.n_strx != 0 and symbol.n_strx > image.last_zero_of_strings:
                 yield symbol.place
 
 def symbol_section(image):
@@ -597,6 +704,11 @@ def indirect_index(image):
 
 # Rule of the entry
 
+def is_executable(image, address):
+    """The address is in a file part that is mapped and executable."""
+    return any(is_mapped(segment) and segment.initprot & VM_PROT_EXECUTE and is_in_file_part(address, segment)
+               for segment in image.segments)
+
 def entry(image):
     """There is an `LC_MAIN`, and no base, or the entry address is in no file part that is mapped and executable."""
     main_command = image.only(LC_MAIN)
@@ -605,11 +717,8 @@ def entry(image):
     if image.base is None:
         yield main_command.place
         return
-    address = image.base + main_command.entryoff
-    for segment in image.segments:
-        if is_mapped(segment) and segment.initprot & VM_PROT_EXECUTE and is_in_file_part(address, segment):
-            return
-    yield main_command.place
+    if not is_executable(image, image.base + main_command.entryoff):
+        yield main_command.place
 
 # The strict profile. Its rules may take for granted that all above are unbroken as well.
 
@@ -1389,6 +1498,295 @@ def data_in_code(image):
             yield place
             return
 
+# Code signatures
+
+def is_superblob(image, table):
+    """The superblob is in the table, and its index in the superblob."""
+    if table.end - table.start < SIZES["CS_SuperBlob"]:
+        return False
+    superblob = read(image.data, table.start, "CS_SuperBlob", "big")
+    return (superblob.magic == CSMAGIC_EMBEDDED_SIGNATURE and superblob.length <= table.end - table.start
+            and SIZES["CS_SuperBlob"] + superblob.count * SIZES["CS_BlobIndex"] <= superblob.length)
+
+def signature_index(image, table):
+    """The entries of the index, in order. (They are in the table where `is_superblob` is true.)"""
+    first = table.start + SIZES["CS_SuperBlob"]
+    count = read(image.data, table.start, "CS_SuperBlob", "big").count
+    return [read(image.data, first + SIZES["CS_BlobIndex"] * k, "CS_BlobIndex", "big") for k in range(count)]
+
+def signature_blob(image):
+    """The superblob is broken; or the blob of an entry begins before the one before it ends, or before the index ends,
+    or is not all in the superblob."""
+    table = table_of(image, "signature")
+    if table is None:
+        return
+    if not is_superblob(image, table):
+        yield table.start
+        return
+    length = read(image.data, table.start, "CS_SuperBlob", "big").length
+    entries = signature_index(image, table)
+    end = SIZES["CS_SuperBlob"] + SIZES["CS_BlobIndex"] * len(entries)
+    for entry in entries:
+        if entry.offset < end or entry.offset + SIZES["CS_GenericBlob"] > length:
+            yield entry.place
+            return
+        blob = read(image.data, table.start + entry.offset, "CS_GenericBlob", "big")
+        end = entry.offset + blob.length
+        if blob.length < SIZES["CS_GenericBlob"] or end > length:
+            yield entry.place
+            return
+
+def directories(image):
+    """The blobs of directories: of each the place of its entry, and where it begins and ends. (After `signature-blob`
+    each is in the table.)"""
+    table = table_of(image, "signature")
+    for entry in signature_index(image, table) if table else []:
+        if entry.type in DIRECTORY_SLOTS:
+            start = table.start + entry.offset
+            blob = read(image.data, start, "CS_GenericBlob", "big")
+            yield SimpleNamespace(entry=entry.place, start=start, end=start + blob.length)
+
+def read_directory(image, blob):
+    """The fields of a directory that its version has; or None if the blob is shorter than these."""
+    fields = SimpleNamespace()
+    size = FIELDS_SIZES[0]
+    for field, offset, width, _ in FIELDS["CS_CodeDirectory"]:
+        if offset + width <= size:
+            if blob.start + size > blob.end:
+                return None
+            setattr(fields, field, int.from_bytes(image.data[blob.start + offset:blob.start + offset + width], "big"))
+            if field == "version":
+                size = FIELDS_SIZES[max(version for version in FIELDS_SIZES if version <= fields.version)]
+    return fields
+
+def limit_of(directory):
+    """How many bytes from the start of the image on the directory has hashes of."""
+    if directory.version >= CS_SUPPORTSCODELIMIT64 and directory.codeLimit64 != 0:
+        return directory.codeLimit64
+    return directory.codeLimit
+
+def slot_count(directory):
+    """How many pages the limit has. `pageSize` 0 is one page for all."""
+    limit = limit_of(directory)
+    if directory.pageSize == 0:
+        return 1 if limit > 0 else 0
+    return -(-limit // 2 ** directory.pageSize)
+
+def is_known_directory(directory):
+    """The version, the hashes and the pages are of a known kind, and nothing is scattered."""
+    return (directory.magic == CSMAGIC_CODEDIRECTORY and directory.version >= LEAST_VERSION
+            and (directory.version < CS_SUPPORTSSCATTER or directory.scatterOffset == 0)
+            and HASH_SIZES.get(directory.hashType) == directory.hashSize and directory.pageSize <= GREATEST_PAGE_SIZE)
+
+def has_good_hashes(directory, blob):
+    """The hashes of the special slots and of the pages are in the blob."""
+    return (directory.nSpecialSlots * directory.hashSize <= directory.hashOffset
+            and directory.hashOffset + directory.nCodeSlots * directory.hashSize <= blob.end - blob.start)
+
+def is_text(image, blob, offset):
+    """The offset is 0, or that of a text that ends in the blob."""
+    return offset == 0 or 0 in image.data[blob.start + offset:blob.end]
+
+def signature_directory(image):
+    """No entry has the slot of the directory; or a directory is not known, or something of it is not in its blob, or it
+    has not a hash for each page, or one of the signature itself."""
+    table = table_of(image, "signature")
+    if table is not None and all(entry.type != DIRECTORY_SLOTS[0] for entry in signature_index(image, table)):
+        yield table.start
+    for blob in directories(image):
+        directory = read_directory(image, blob)
+        if (directory is None or not is_known_directory(directory) or not has_good_hashes(directory, blob)
+                or directory.nCodeSlots != slot_count(directory) or limit_of(directory) > table.start
+                or not is_text(image, blob, directory.identOffset)
+                or directory.version >= CS_SUPPORTSTEAMID and not is_text(image, blob, directory.teamOffset)):
+            yield blob.entry
+
+def signature_whole(image):
+    """The hashes are not of all bytes before the signature."""
+    table = table_of(image, "signature")
+    for blob in directories(image):
+        if limit_of(read_directory(image, blob)) != table.start:
+            yield blob.entry
+
+# Symbols and relocations
+
+def type_of(symbol):
+    """The type of a symbol; None of one for a debugger."""
+    return symbol.n_type & N_TYPE if symbol.n_type & N_STAB == 0 else None
+
+def is_undefined(symbol):
+    """Another image defines the symbol. (An undefined one with a value is a common symbol.)"""
+    return type_of(symbol) == N_PBUD or type_of(symbol) == N_UNDF and symbol.n_value == 0
+
+def symbol_library(image):
+    """The image has two levels of names, and the symbol is undefined, of a library whose ordinal is above the number of
+    libraries and is neither of the two that say another thing."""
+    if image.header.flags & MH_TWOLEVEL == 0:
+        return
+    count = library_count(image)
+    for symbol in image.symbols:
+        ordinal = symbol.n_desc >> 8
+        if is_undefined(symbol) and ordinal > count and ordinal not in (DYNAMIC_LOOKUP_ORDINAL, EXECUTABLE_ORDINAL):
+            yield symbol.place
+
+def symbol_value(image):
+    """The symbol is of a section of a mapped segment, and its value is neither in a mapped segment nor the end of one."""
+    mapped = list(filter(is_mapped, image.segments))
+    for symbol in image.symbols:
+        if type_of(symbol) == N_SECT and is_mapped(image.sections[symbol.n_sect - 1].segment):
+            if not any(segment.vmaddr <= symbol.n_value <= segment.vmaddr + segment.vmsize for segment in mapped):
+                yield symbol.place
+
+def symbol_indirect(image):
+    """The symbol is another name of one whose name does not end in the string table."""
+    for symbol in image.symbols:
+        if type_of(symbol) == N_INDR and symbol.n_value > image.last_zero_of_strings:
+            yield symbol.place
+
+def relocations(image):
+    """The relocations of sections, and those of an LC_DYSYMTAB: of each the structure, and whether it is of the latter."""
+    tables_of_all = [(section.reloff, section.nreloc, False) for section in image.sections]
+    dysymtab = image.only(LC_DYSYMTAB)
+    if dysymtab is not None:
+        tables_of_all.append((dysymtab.extreloff, dysymtab.nextrel, True))
+        tables_of_all.append((dysymtab.locreloff, dysymtab.nlocrel, True))
+    for start, count, is_dynamic in tables_of_all:
+        for k in range(count):
+            yield read(image.data, start + SIZES["relocation_info"] * k, "relocation_info"), is_dynamic
+
+def relocation(image):
+    """There is no symbol or no section of the number, or a relocation of an LC_DYSYMTAB is not of a pointer."""
+    for one, is_dynamic in relocations(image):
+        number_of = bits(one.r_bits, *R_SYMBOLNUM)
+        if bits(one.r_bits, *R_EXTERN) == 1:
+            is_there = number_of < image.symbol_count
+        elif image.header.cputype == CPU_TYPE_ARM64 and bits(one.r_bits, *R_TYPE) == ARM64_RELOC_ADDEND:
+            is_there = True
+        else:
+            is_there = number_of <= len(image.sections)
+        if not is_there or is_dynamic and bits(one.r_bits, *R_LENGTH) != LENGTH_OF_A_POINTER:
+            yield one.place
+
+# Threads and the contents of commands
+
+def states_of(image, command):
+    """The states of a thread, which end where the command does."""
+    states = []
+    place, end = command.place + SIZES["load_command"], command.place + command.cmdsize
+    while place < end:
+        if place + SIZES["thread_state"] > end:
+            raise Malformed
+        states.append(read(image.data, place, "thread_state"))
+        place += SIZES["thread_state"] + 4 * states[-1].count
+    if place > end:
+        raise Malformed
+    return states
+
+def start_of_thread(image, command):
+    """The address that a thread begins at, which the one state with registers has."""
+    cputype = image.header.cputype
+    with_registers = [state for state in states_of(image, command) if (cputype, state.flavor) in REGISTERS]
+    if len(with_registers) != 1:
+        raise Malformed
+    state = with_registers[0]
+    count, offset = REGISTERS[cputype, state.flavor]
+    if state.count != count:
+        raise Malformed
+    words = state.place + SIZES["thread_state"]
+    if (cputype, state.flavor) == (CPU_TYPE_X86_64, x86_THREAD_STATE):
+        inside = read(image.data, words, "thread_state")
+        if (inside.flavor, inside.count) != (x86_THREAD_STATE64, REGISTERS[cputype, x86_THREAD_STATE64][0]):
+            raise Malformed
+    return int.from_bytes(image.data[words + offset:words + offset + 8], "little")
+
+def thread(image):
+    """An earlier command is a thread too; or the states are not whole, or not one of them has the registers that are
+    known; or these say an address of no file part that is mapped and executable."""
+    threads = [command for command in image.commands if command.cmd in THREADS]
+    for command in threads:
+        try:
+            is_good = is_executable(image, start_of_thread(image, command))
+        except Malformed:
+            is_good = False
+        if not is_good or command is not threads[0]:
+            yield command.place
+
+def name_part(content, fields, least, field):
+    """Where in a command its name is, with its zero byte: the start and the size."""
+    start = getattr(fields, field)
+    zero = content.find(0, start)
+    if start < least or zero < 0:
+        raise Malformed
+    return start, zero + 1 - start
+
+def bits_part(content, fields, least):
+    """Where in an LC_PREBOUND_DYLIB there is a bit for each module."""
+    size = (fields.nmodules + 7) // 8
+    if size > 0 and (fields.linked_modules < least or fields.linked_modules + size > len(content)):
+        raise Malformed
+    return fields.linked_modules, size
+
+def options_part(content, fields, least):
+    """Where in an LC_LINKER_OPTION there are as many strings as it counts."""
+    zeros = [place for place in range(least, len(content)) if content[place] == 0]
+    if len(zeros) < fields.count:
+        raise Malformed
+    end = zeros[fields.count - 1] + 1 if fields.count > 0 else least
+    return least, end - least
+
+def strings_part(content, least):
+    """Where in an LC_IDENT there are strings: up to its end."""
+    if len(content) > least and content[-1] != 0:
+        raise Malformed
+    return least, len(content) - least
+
+def parts_of(command, content, fields):
+    """What of a command with its whole structure may have other bytes than zeros, by starts and sizes."""
+    structure, field = HELD_COMMANDS[command.cmd]
+    least = SIZES[structure]
+    yield 0, least
+    if field is not None:
+        yield name_part(content, fields, least, field)
+    if command.cmd == LC_PREBOUND_DYLIB:
+        yield bits_part(content, fields, least)
+    if command.cmd == LC_LINKER_OPTION:
+        yield options_part(content, fields, least)
+    if command.cmd == LC_IDENT:
+        yield strings_part(content, least)
+
+def is_outside(image, command, fields):
+    """The bytes of the slice that the command names end past it."""
+    if command.cmd not in HELD_RANGES:
+        return False
+    _, start, count, width = HELD_RANGES[command.cmd]
+    size = getattr(fields, count) * width
+    return size > 0 and getattr(fields, start) + size > image.length
+
+def has_good_content(image, command):
+    structure, _ = HELD_COMMANDS[command.cmd]
+    if command.cmdsize < SIZES[structure]:
+        return False
+    fields = read(image.data, command.place, structure)
+    content = image.data[command.place:command.place + command.cmdsize]
+    try:
+        strays = list(first_stray(content, list(parts_of(command, content, fields))))
+    except Malformed:
+        return False
+    if command.cmd in ROUTINES and not is_executable(image, fields.init_address):
+        return False
+    return not strays and not is_outside(image, command, fields)
+
+def command_content(image):
+    """The command is of another kind of images; or it is a second routine; or one that no other rule judges, and its
+    structure, its name, or what else it has is not whole, or a byte is not zero that is of none of these."""
+    first_routine = next((command for command in image.commands if command.cmd in ROUTINES), None)
+    for command in image.commands:
+        is_second = command.cmd in ROUTINES and command is not first_routine
+        if command.cmd in FOREIGN_COMMANDS or is_second:
+            yield command.place
+        elif command.cmd in HELD_COMMANDS and not has_good_content(image, command):
+            yield command.place
+
 # Order of judgment
 
 RULES_OF_THE_FILE = [
@@ -1411,6 +1809,9 @@ LINKED_RULES_OF_AN_IMAGE = [
     chain_header, chain_starts, chain_imports, chain_total, chain_library, chain_slot, chain_bind,
     export_node, export_total, export_terminal, export_library, export_address,
     function_number, function_start, data_in_code,
+    signature_blob, signature_directory, signature_whole,
+    symbol_library, symbol_value, symbol_indirect, relocation,
+    thread, command_content,
 ]
 
 def first_of(file, rules_of_the_file, rules_of_an_image):

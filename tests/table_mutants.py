@@ -1,6 +1,7 @@
 """Mutants of tables: of the streams of opcodes that LC_DYLD_INFO names, of the chain table of LC_DYLD_CHAINED_FIXUPS
-and the pointers of its chains, of export tries, of function starts and data in code, and of what they depend on. Each
-way changes a file and keeps its length, so most mutants break no rule of the layout or of the strict profile.
+and the pointers of its chains, of export tries, of function starts, data in code and code signatures, of symbols and
+relocations, of threads and of the contents of other commands, and of what they depend on. Each way changes a file and
+keeps its length, so most mutants break no rule of the layout or of the strict profile.
 
 tests/dyld_trials.py uses them. Nothing of the oracle is used here, so that a mistake in it does not hide itself.
 """
@@ -11,6 +12,7 @@ MAGIC_64 = bytes.fromhex("cffaedfe")
 LC_SEGMENT_64, LC_DYLD_INFO, LC_DYLD_INFO_ONLY = 0x19, 0x22, 0x80000022
 LC_DYLD_CHAINED_FIXUPS = 0x80000034
 LC_DYLD_EXPORTS_TRIE, LC_FUNCTION_STARTS, LC_DATA_IN_CODE = 0x80000033, 0x26, 0x29
+LC_CODE_SIGNATURE = 0x1d
 LOADS = (0xc, 0x80000018, 0x8000001f, 0x20, 0x80000023)
 STREAMS = ("rebase", "bind", "weak", "lazy")
 WORD = 2 ** 64
@@ -21,10 +23,17 @@ Stream = namedtuple("Stream", "name field start end")
 # A chain table: as of a stream, without a name, and with where its image begins.
 Chains = namedtuple("Chains", "field start end image")
 
-# An export trie, or a table of function starts or of data in code: as a chain table.
+# An export trie, a table of function starts or of data in code, or a code signature: as a chain table.
 Trie = namedtuple("Trie", "field start end image")
 Starts = namedtuple("Starts", "field start end image")
 Entries = namedtuple("Entries", "field start end image")
+Signature = namedtuple("Signature", "field start end image")
+
+# The symbols of an image, or the relocations of a section or of an LC_DYSYMTAB: the same. A command whose content is
+# judged, or that is not known: the place and the end of it, and `field` is that of its size.
+Symbols = namedtuple("Symbols", "field start end image")
+Relocations = namedtuple("Relocations", "field start end image")
+Content = namedtuple("Content", "field start end image")
 
 # A page of a segment with starts: the place of its page start; where the page begins, and where the bytes of the
 # segment end, in the file; the page's size, and the format of its pointers.
@@ -46,6 +55,36 @@ ENTRY_SIZE = 8
 EXPORT_FLAGS = (0x00, 0x01, 0x02, 0x03, 0x04, 0x08, 0x08, 0x0a, 0x10, 0x10, 0x12, 0x18, 0x20)
 # The place of export_off in a dyld_info_command, past those of the streams.
 EXPORTS = 40
+# mach-o/nlist.h and reloc.h. The sizes of a symbol, a relocation, a segment_command_64 and a section_64; the places of
+# `reloff` in a section, and of `extreloff` and `locreloff` in a dysymtab_command; and the place of the flags in a header,
+# with MH_TWOLEVEL.
+LC_SYMTAB, LC_DYSYMTAB = 0x2, 0xb
+SYMBOL_SIZE, RELOCATION_SIZE, SEGMENT_SIZE, SECTION_SIZE = 16, 8, 72, 80
+RELOFF, EXTRELOFF, LOCRELOFF = 56, 64, 72
+FLAGS, MH_TWOLEVEL = 24, 0x80
+SYMBOL_TYPES = (0x00, 0x01, 0x0c, 0x0d, 0x0e, 0x0f, 0x1e, 0x0a, 0x0b, 0x02, 0x04, 0x2e, 0x64, 0xe0)
+# The flavors of the states with registers, by the cputype: of each the count of words, and where the entry is in these.
+REGISTERS = {0x01000007: ((4, 42, 128), (4, 42, 128), (7, 44, 136)), 0x0100000c: ((6, 68, 256),)}
+LC_THREAD, LC_UNIXTHREAD, LC_UNLISTED = 0x4, 0x5, 0x7fffffff
+# The commands whose content is judged, each with the size of its structure and whether it has a name; and those that are
+# for no image of this kind.
+CONTENTS = {0x3: (16, False), 0x6: (20, True), 0x7: (20, True), 0x8: (8, False), 0x9: (16, True), 0xa: (8, False),
+            0x10: (20, True), 0x11: (40, False), 0x12: (12, True), 0x13: (12, True), 0x14: (12, True), 0x15: (12, True),
+            0x16: (16, False), 0x17: (12, False), 0x1a: (72, False), 0x24: (16, False), 0x25: (16, False),
+            0x2a: (16, False), 0x2d: (12, False), 0x2f: (16, False), 0x30: (16, False), 0x36: (16, False),
+            0x39: (12, True)}
+FOREIGN = (0x1, 0x21, 0x80000035)
+# kern/cs_blobs.h, whose numbers are big-endian. The magic numbers; the slots of directories, and some others; the sizes
+# of a superblob and of an entry; the fields of a directory, each with its offset and width; how many bytes the fields
+# have from a version on; and the types of hashes, each with its size.
+CSMAGIC_EMBEDDED_SIGNATURE, CSMAGIC_CODEDIRECTORY = 0xfade0cc0, 0xfade0c02
+SLOTS = (0, 0, 0, 0, 1, 2, 5, 0xfff, 0x1000, 0x1000, 0x1001, 0x1004, 0x1005, 0x10000)
+SUPERBLOB_SIZE, INDEX_SIZE, BLOB_SIZE = 12, 8, 8
+DIRECTORY_FIELDS = (*((offset, 4) for offset in range(0, 36, 4)), (36, 1), (37, 1), (38, 1), (39, 1),
+                    *((offset, 4) for offset in range(40, 56, 4)), (56, 8), (64, 8), (72, 8), (80, 8), (88, 4), (92, 4))
+VERSIONS = {0x1ffff: 44, 0x20000: 44, 0x200ff: 44, 0x20100: 48, 0x201ff: 48, 0x20200: 52, 0x20300: 64, 0x20400: 88,
+            0x20500: 96, 0x20600: 108, 0x20601: 108, 0xffffffff: 108}
+HASHES = ((1, 20), (2, 32), (3, 20), (4, 48))
 # No more than so many items of one kind are changed.
 MOST_ITEMS = 40
 
@@ -89,7 +128,8 @@ def streams(data):
 
 # Of the commands that name one table that is no stream: where its start is in the command, and its kind.
 KINDS = {LC_DYLD_CHAINED_FIXUPS: (8, Chains), LC_FUNCTION_STARTS: (8, Starts), LC_DATA_IN_CODE: (8, Entries),
-         LC_DYLD_EXPORTS_TRIE: (8, Trie), LC_DYLD_INFO: (EXPORTS, Trie), LC_DYLD_INFO_ONLY: (EXPORTS, Trie)}
+         LC_DYLD_EXPORTS_TRIE: (8, Trie), LC_DYLD_INFO: (EXPORTS, Trie), LC_DYLD_INFO_ONLY: (EXPORTS, Trie),
+         LC_CODE_SIGNATURE: (8, Signature)}
 
 def other_tables(data):
     """The tables of a file that are no streams, and have bytes."""
@@ -103,8 +143,43 @@ def other_tables(data):
                     found.append(kind(place + field, start, start + size, image))
     return found
 
+def table_at(data, kind, field, image, size):
+    """A table in a list, whose start stands at `field` of a command, and after it the count of entries of this size; or
+    none, where it has no bytes or is not all in the file."""
+    start, length = image + word(data, field), word(data, field + 4) * size
+    return [kind(field, start, start + length, image)] if 0 < length and start + length <= len(data) else []
+
+def symbol_tables(data):
+    """The symbols of the images, and their relocations."""
+    found = []
+    for image in starts_of_images(data):
+        for place in commands(data, image):
+            cmd, size = word(data, place), word(data, place + 4)
+            if cmd == LC_SYMTAB and size >= 24:
+                found += table_at(data, Symbols, place + 8, image, SYMBOL_SIZE)
+            if cmd == LC_DYSYMTAB and size >= 80:
+                found += table_at(data, Relocations, place + EXTRELOFF, image, RELOCATION_SIZE)
+                found += table_at(data, Relocations, place + LOCRELOFF, image, RELOCATION_SIZE)
+            if cmd == LC_SEGMENT_64:
+                for section in range(place + SEGMENT_SIZE, place + size - SECTION_SIZE + 1, SECTION_SIZE):
+                    found += table_at(data, Relocations, section + RELOFF, image, RELOCATION_SIZE)
+    return found
+
+def contents(data):
+    """The commands whose content is judged, and of each image the first one that is not known."""
+    found = []
+    for image in starts_of_images(data):
+        has_other = False
+        for place in commands(data, image):
+            cmd = word(data, place)
+            is_other = cmd == LC_UNLISTED and not has_other
+            has_other = has_other or is_other
+            if is_other or cmd in CONTENTS or cmd in (LC_THREAD, LC_UNIXTHREAD, *FOREIGN):
+                found.append(Content(place + 4, place, place + word(data, place + 4), image))
+    return found
+
 def tables(data):
-    return streams(data) + other_tables(data)
+    return streams(data) + other_tables(data) + symbol_tables(data) + contents(data)
 
 def number_end(data, place, end):
     """Where a number ends, if it does before the end."""
@@ -689,6 +764,254 @@ def repeat_entry(rng, data, table):
     place = at if rng.random() < 0.1 else at - (at - table.start) % ENTRY_SIZE
     return replace(data, table, at, at, data[place:place + ENTRY_SIZE] * rng.choice((1, 2, table.end - table.start)))
 
+# The ways of code signatures
+
+def big(data, place, width=4):
+    return int.from_bytes(data[place:place + width], "big")
+
+def set_big(data, place, value, width=4):
+    return data[:place] + (value % 2 ** (8 * width)).to_bytes(width, "big") + data[place + width:]
+
+def blobs(data, table):
+    """The entries of the index, roughly: of each its place, its slot, and where its blob begins."""
+    count = min(big(data, table.start + 8), MOST_ITEMS)
+    places = [table.start + SUPERBLOB_SIZE + INDEX_SIZE * k for k in range(count)]
+    return [(place, big(data, place), table.start + big(data, place + 4)) for place in places
+            if place + INDEX_SIZE <= table.end]
+
+def signature_fields(data, table):
+    """The numbers of a signature, roughly: of each its place and its width. Those of directories stand there more than
+    once."""
+    fields = [(table.start + offset, 4) for offset in (0, 4, 8)]
+    for place, slot, blob in blobs(data, table):
+        fields += [(place, 4), (place + 4, 4), (blob, 4), (blob + 4, 4)]
+        if slot == 0 or 0x1000 <= slot < 0x1005:
+            fields += 2 * [(blob + offset, width) for offset, width in DIRECTORY_FIELDS]
+    return [(place, width) for place, width in fields if place + width <= table.end]
+
+def set_signature_field(rng, data, table):
+    """A number of a signature is another one: near what was there, or what it is compared with."""
+    fields = signature_fields(data, table)
+    if not fields:
+        return set_byte(rng, data, table)
+    place, width = rng.choice(fields)
+    near = rng.choice((0, 0, -1, 1, -1, 1, -8, 8, 20, -20, rng.randrange(-64, 64)))
+    other, _ = rng.choice(fields)
+    edges = (table.start - table.image, table.end - table.start, place - table.start, big(data, other),
+             big(data, table.start + 4), data.find(0, place + rng.randrange(64)) - place)
+    if width == 1:
+        return set_big(data, place, rng.choice((0, 1, 2, 3, 4, 5, 8, 12, 20, 31, 32, 48, data[place] + near)), 1)
+    number = rng.choice((big(data, place, width) + near, big(data, place, width) + near, rng.choice(edges) + near,
+                         rng.randrange(12), 2 ** rng.choice((12, 16, 31, 32)) + near, rng.choice(list(VERSIONS)),
+                         rng.choice(SLOTS)))
+    return set_big(data, place, number, width)
+
+def some_directory(rng, limit):
+    """A directory, with hashes of zeros, a text or two, and special slots. In most of them all is in its place."""
+    def off_by(number):
+        return max(number + rng.choice((-1, 1)), 0) if rng.random() < 0.03 else number
+
+    version = rng.choice(list(VERSIONS)[1:] if rng.random() < 0.9 else list(VERSIONS))
+    kind, size = rng.choice(HASHES)
+    limit = rng.choice((limit,) * 12 + (limit - 1, limit + 1, 0, rng.randrange(limit + 1)))
+    # As few pages as have room, or one.
+    page_size = rng.choice((0, 9, 12, 14, 31, max(limit.bit_length() - rng.choice((0, 1, 2)), 1)))
+    count = -(-limit // 2 ** page_size) if page_size > 0 else int(limit > 0)
+    special = rng.choice((0, 0, 1, 2))
+    texts = [rng.choice((b"", b"a\0", b"a.out\0")) for _ in range(2)]
+    end = VERSIONS[version]
+    places = [off_by(end) if texts[0] else 0, off_by(end + len(texts[0])) if texts[1] else 0]
+    hashes = end + len(b"".join(texts)) + special * size
+    length = hashes + count * size + rng.choice((0, 0, 0, 4, 16))
+    numbers = (CSMAGIC_CODEDIRECTORY, off_by(length), version, rng.choice((0, 2)), off_by(hashes), places[0], special,
+               off_by(count), limit)
+    content = b"".join((number % 2 ** 32).to_bytes(4, "big") for number in numbers)
+    content += bytes((off_by(size), off_by(kind), 0, off_by(page_size), 0, 0, 0, 0))
+    rest = bytes(4) + places[1].to_bytes(4, "big") + bytes(4) + rng.choice((0, 0, limit)).to_bytes(8, "big") + bytes(44)
+    content += rest[:end - 44] + b"".join(texts)
+    content = content.ljust(length, rng.choice((b"\0", b"\0", b"\1")))
+    return content[:length]
+
+def new_signature(rng, data, table):
+    """A whole signature of a few blobs, as far as there is room."""
+    size = table.end - table.start
+    parts = []
+    for k in range(rng.choice((1, 1, 1, 2, 2, 3))):
+        slot = 0 if k == 0 and rng.random() < 0.9 else rng.choice(SLOTS)
+        is_directory = slot in (0, 0x1000, 0x1001, 0x1004) or rng.random() < 0.2
+        other = 0xfade0c01.to_bytes(4, "big") + rng.choice((8, 8, 8, 7, 9)).to_bytes(4, "big")
+        parts.append((slot, some_directory(rng, table.start - table.image) if is_directory else other))
+    index, at = b"", SUPERBLOB_SIZE + INDEX_SIZE * len(parts)
+    body = b""
+    for slot, part in parts:
+        gap = rng.choice((0,) * 10 + (1, 8))
+        begin = at + gap - rng.choice((0,) * 30 + (1,))
+        index += slot.to_bytes(4, "big") + begin.to_bytes(4, "big")
+        body += bytes(gap) + part
+        at += gap + len(part)
+    length = at + rng.choice((0,) * 20 + (1, -1))
+    head = b"".join(number.to_bytes(4, "big") for number in (CSMAGIC_EMBEDDED_SIGNATURE, length, len(parts)))
+    content = (head + index + body)[:size].ljust(size, b"\0")
+    data = data[:table.start] + content + data[table.end:]
+    if rng.random() < 0.1 and at <= size:
+        data = set_word(data, table.field + 4, at + rng.choice((0, 0, -1)))
+        rest = table.start + word(data, table.field + 4)
+        data = data[:rest] + bytes(table.end - rest) + data[table.end:]
+    return data
+
+def exchange_blobs(rng, data, table):
+    """Two entries of the index are exchanged, or one is there twice, or their slots are exchanged."""
+    found = blobs(data, table)
+    if len(found) < 2:
+        return set_signature_field(rng, data, table)
+    one, two = (place for place, *_ in rng.sample(found, 2))
+    width = rng.choice((4, 8))
+    first, second = data[one:one + width], data[two:two + width]
+    data = data[:one] + second + data[one + width:]
+    return data[:two] + (first if rng.random() < 0.7 else second) + data[two + width:]
+
+# The ways of symbols and relocations
+
+def some_item(rng, table, size):
+    """The place of an entry of a table, one of the first or of the last."""
+    count = (table.end - table.start) // size
+    return table.start + size * rng.choice((0, count - 1, rng.randrange(count), rng.randrange(min(count, MOST_ITEMS))))
+
+def count_of_sections(data, image):
+    return sum((word(data, place + 4) - SEGMENT_SIZE) // SECTION_SIZE for place in commands(data, image)
+               if word(data, place) == LC_SEGMENT_64)
+
+def strings_of(data, table):
+    """Where the strings begin, and how many bytes they have. They are named past the symbols."""
+    return table.image + word(data, table.field + 8), word(data, table.field + 12)
+
+def set_symbol(rng, data, table):
+    """A symbol is of another type, and what is judged of this type is another number."""
+    place = some_item(rng, table, SYMBOL_SIZE)
+    kind = rng.choice(SYMBOL_TYPES)
+    near = rng.choice((0, 0, 0, -1, 1, 1, rng.randrange(-64, 64)))
+    start, size = strings_of(data, table)
+    last_zero = data.rfind(0, start, start + size) - start
+    libraries = sum(word(data, command) in LOADS for command in commands(data, table.image))
+    ordinal = rng.choice((0, 1, 2, 0xfd, 0xfe, 0xff, libraries, libraries, libraries + 1, rng.randrange(256)))
+    value = rng.choice((0, some_edge(rng, data, table.image, 24) + near, some_edge(rng, data, table.image, 24) + near,
+                        last_zero + near, size + near, WORD + near, 2 ** rng.randrange(64)))
+    if kind in (0x00, 0x01) and rng.random() < 0.7:
+        value = 0
+    data = set_word(data, place + 4, kind, 1)
+    sections = count_of_sections(data, table.image)
+    data = set_word(data, place + 5, rng.choice((1, rng.randrange(sections + 2))) % 256, 1)
+    data = set_word(data, place + 6, rng.choice((ordinal << 8, ordinal << 8 | rng.randrange(256))), 2)
+    return set_word(data, place + 8, value % WORD, 8)
+
+def set_flags(rng, data, table):
+    """The image has two levels of names, or no longer."""
+    flags = word(data, table.image + FLAGS)
+    return set_word(data, table.image + FLAGS, rng.choice((flags ^ MH_TWOLEVEL, flags | MH_TWOLEVEL, 0xffffffff)))
+
+def set_relocation(rng, data, table):
+    """A relocation is another one, of a number near what it is compared with."""
+    place = some_item(rng, table, RELOCATION_SIZE)
+    nsyms = next((word(data, command + 12) for command in commands(data, table.image)
+                  if word(data, command) == LC_SYMTAB), 0)
+    edge = rng.choice((nsyms, count_of_sections(data, table.image), 0)) + rng.choice((-1, 0, 0, 1))
+    number = rng.choice((edge, edge, edge, rng.randrange(4), 0xffffff, rng.randrange(2 ** 24)))
+    length, kind = rng.choice((3, 3, 3, rng.randrange(4))), rng.choice((0, 0, 1, 10, 10, rng.randrange(16)))
+    bits = number % 2 ** 24 | rng.randrange(2) << 24 | length << 25 | rng.randrange(2) << 27 | kind << 28
+    return set_word(data, place + 4, bits)
+
+# The ways of threads and of the contents of commands
+
+def set_content(data, table, cmd, content):
+    """The command is another one of the same size, with these bytes past its first 8."""
+    room = table.end - table.start - 8
+    return (data[:table.start] + cmd.to_bytes(4, "little") + data[table.field:table.start + 8]
+            + content[:room].ljust(room, b"\0") + data[table.end:])
+
+def some_state(rng, size):
+    """A state of some other flavor, in so many bytes."""
+    flavor = rng.choice((0, 1, 5, 5, 5, 8, 10, 17))
+    count = max(size // 4 - 2 + rng.choice((0,) * 20 + (1, -1, 2 ** 30)), 0)
+    return (flavor.to_bytes(4, "little") + (count % 2 ** 32).to_bytes(4, "little")).ljust(size, b"\0")[:size]
+
+def new_thread(rng, data, table):
+    """The command is a thread, whose states fill it: one with registers, and others before and after it."""
+    room = table.end - table.start - 8
+    known = REGISTERS.get(word(data, table.image + 4), REGISTERS[0x0100000c])
+    flavor, count, at = rng.choice(known if rng.random() < 0.95 else REGISTERS[0x01000007])
+    entry = (some_edge(rng, data, table.image, 24) + rng.choice((0, 0, -1, 1, rng.randrange(-64, 64)))) % WORD
+    inside = b"\4\0\0\0\x2a\0\0\0" if flavor == 7 else b""
+    words = (inside.ljust(at, b"\0") + entry.to_bytes(8, "little")).ljust(4 * count, b"\0")
+    numbers = flavor, max(count + rng.choice((0,) * 8 + (1, -1)), 0)
+    state = b"".join(number.to_bytes(4, "little") for number in numbers) + words
+    if rng.random() < 0.05:
+        state = state[:16].ljust(len(state), b"\0")
+    left = max(room - len(state), 0)
+    before = rng.choice((0, 0, left, 4 * rng.randrange(left // 4 + 1)))
+    content = some_state(rng, before) + state + some_state(rng, left - before)
+    return set_content(data, table, rng.choice((LC_THREAD, LC_UNIXTHREAD)), content)
+
+def some_strings(rng, size):
+    """So many bytes of strings, which may not end, with zeros after them, or other bytes."""
+    content = b"".join(rng.choice((b"a\0", b"bc\0", b"\0", b"defg\0")) for _ in range(rng.choice((0, 1, 1, 2, 3))))
+    if rng.random() < 0.1:
+        content = content.rstrip(b"\0")
+    return content.ljust(size, b"a" if rng.random() < 0.2 else b"\0")[:size]
+
+def new_content(rng, data, table):
+    """The command is another one, and what it has is near the edges of its structure and of the command."""
+    size = table.end - table.start
+    cmd, (least, has_name) = rng.choice(list(CONTENTS.items()))
+    if rng.random() < 0.03:
+        return set_content(data, table, rng.choice(FOREIGN), b"")
+    content = bytearray(some_strings(rng, max(least - 8, 0)) if rng.random() < 0.3 else bytes(max(least - 8, 0)))
+    name = rng.choice((least, least, least, least + 1, least - 1, size - 1, size, rng.randrange(size + 4)))
+    edge = some_edge(rng, data, table.image, 24) + rng.choice((0, 0, -1, 1))
+    length = len(data) - table.image
+    first = {0x2d: rng.randrange(5), 0x3: length - rng.randrange(16), 0x11: edge, 0x1a: edge}.get(cmd, 0)
+    width = 8 if cmd == 0x1a else 4
+    if has_name or cmd in (0x2d, 0x3, 0x11, 0x1a):
+        content[:width] = ((name if has_name else first) % 2 ** (8 * width)).to_bytes(width, "little")
+    if cmd in (0x3, 0x16, 0x36):
+        content[4:8] = rng.choice((0, 0, rng.randrange(16))).to_bytes(4, "little")
+    if cmd == 0x10:
+        begin = rng.choice((least, size - 8, size - 1, size, least - 1, rng.randrange(size)))
+        count = rng.choice((0, 1, 8, 9, 64, 65, 8 * max(size - begin, 0), 8 * max(size - begin, 0) + 1, 2 ** 32 - 1))
+        content[4:12] = count.to_bytes(4, "little") + max(begin, 0).to_bytes(4, "little")
+    return set_content(data, table, cmd, bytes(content) + some_strings(rng, size))
+
+def set_word_of_content(rng, data, table):
+    """One of the first words of a command is another number: near what was there, or near the size of the command."""
+    size = table.end - table.start
+    if size < 12:
+        return new_content(rng, data, table)
+    place = table.start + 4 * rng.randrange(2, min(size // 4, 8))
+    near = rng.choice((0, -1, 1, -8, 8, rng.randrange(-64, 64)))
+    edge = some_edge(rng, data, table.image, 24)
+    number = rng.choice((word(data, place) + near, size + near, edge + near, near, CONTENTS.get(word(
+        data, table.start), (12, False))[0] + near, 2 ** rng.choice((16, 24, 31, 32)) + near))
+    return set_word(data, place, number % 2 ** 32)
+
+def set_command(rng, data, table):
+    """The command has another number."""
+    return set_word(data, table.start, rng.choice((*CONTENTS, LC_THREAD, LC_UNIXTHREAD, LC_UNLISTED, *FOREIGN)))
+
+def split_command(rng, data, table):
+    """The command is shorter, and another one follows it, which is not known or is the same again."""
+    size = table.end - table.start
+    if size < 16:
+        return set_command(rng, data, table)
+    left = 8 * rng.randrange(1, size // 8)
+    is_half = size % 16 == 0 and rng.random() < 0.3
+    left = size // 2 if is_half else left
+    cmd = word(data, table.start) if is_half or rng.random() < 0.2 else LC_UNLISTED
+    data = set_word(set_word(data, table.field, left), table.image + 16, word(data, table.image + 16) + 1)
+    data = set_word(set_word(data, table.start + left, cmd), table.start + left + 4, size - left)
+    if is_half:
+        content = data[table.start + 8:table.start + left]
+        data = data[:table.start + left + 8] + content + data[table.end:]
+    return data
+
 # With how often each is taken.
 WAYS = {set_number: 40, flip_bit: 20, set_byte: 15, add_opcode: 20, set_opcode: 20, remove_opcodes: 8,
         repeat_opcodes: 12, move_table: 4, move_tables: 2, set_protection: 3, set_size: 3, set_name: 3, set_library: 1}
@@ -706,7 +1029,18 @@ STARTS_WAYS = {set_distance: 50, add_distances: 25, flip_bit: 10, set_byte: 10, 
 ENTRIES_WAYS = {set_entry: 70, repeat_entry: 10, flip_bit: 10, set_byte: 10, move_table: 12, set_protection: 10,
                 set_size: 10, set_name: 1}
 
-WAYS_OF_KINDS = {Stream: WAYS, Chains: CHAIN_WAYS, Trie: TRIE_WAYS, Starts: STARTS_WAYS, Entries: ENTRIES_WAYS}
+SIGNATURE_WAYS = {set_signature_field: 60, new_signature: 60, exchange_blobs: 5, flip_bit: 15, set_byte: 10,
+                  lose_zero: 5, move_table: 6, set_protection: 1, set_size: 3, set_name: 1}
+
+SYMBOL_WAYS = {set_symbol: 80, set_flags: 10, flip_bit: 10, set_byte: 5, set_library: 4, set_size: 6}
+
+RELOCATION_WAYS = {set_relocation: 80, flip_bit: 10, set_byte: 5}
+
+CONTENT_WAYS = {new_thread: 25, new_content: 35, set_word_of_content: 25, set_command: 5, split_command: 12, flip_bit: 8,
+                set_byte: 12, set_protection: 3, set_size: 3}
+
+WAYS_OF_KINDS = {Stream: WAYS, Chains: CHAIN_WAYS, Trie: TRIE_WAYS, Starts: STARTS_WAYS, Entries: ENTRIES_WAYS,
+                 Signature: SIGNATURE_WAYS, Symbols: SYMBOL_WAYS, Relocations: RELOCATION_WAYS, Content: CONTENT_WAYS}
 
 def change(rng, data):
     """The file with one change of a table, or of what it depends on."""
