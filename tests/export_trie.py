@@ -88,9 +88,9 @@ def look_up(table: bytes, name: bytes) -> Optional[Export]:
         return None
 
 
-def read_all(table: bytes) -> Iterator[Tuple[bytes, Export]]:
-    """The symbols by their names: what a node says before what the nodes say that it leads to, by the order of the
-    edges."""
+def meet_all(table: bytes) -> Iterator[Tuple[bytes, bytes]]:
+    """The names that lead to the nodes, with what these say: a node before the nodes that it leads to, by the order of
+    the edges."""
     left, ways = len(table), [(b"", 0)]
     while ways and table:
         name, place = ways.pop()
@@ -98,16 +98,21 @@ def read_all(table: bytes) -> Iterator[Tuple[bytes, Export]]:
         left -= node.size
         if left < 0:
             raise Malformed
-        if node.said:
-            yield name, read_export(node.said)
+        yield name, node.said
         ways += [(name + label, child) for label, child in reversed(node.edges)]
+
+
+def read_all(table: bytes) -> Iterator[Tuple[bytes, Export]]:
+    """The symbols by their names, in the order of the nodes."""
+    return ((name, read_export(said)) for name, said in meet_all(table) if said)
 
 
 def table_of(image: Image) -> bytes:
     """The table of an image: the data of the first LC_DYLD_EXPORTS_TRIE, or if it has no bytes, of the first
-    LC_DYLD_INFO or LC_DYLD_INFO_ONLY. It is empty if there is none."""
+    LC_DYLD_INFO_ONLY, or without that of the first LC_DYLD_INFO. It is empty if there is none."""
     tries = [(it.dataoff, it.datasize) for it in image.listed if it.cmd == LC_DYLD_EXPORTS_TRIE]
-    infos = [(it.export_off, it.export_size) for it in image.listed if it.cmd in (LC_DYLD_INFO, LC_DYLD_INFO_ONLY)]
+    infos = [(it.export_off, it.export_size) for cmd in (LC_DYLD_INFO_ONLY, LC_DYLD_INFO) for it in image.listed
+             if it.cmd == cmd]
     return next((image.data[start:start + size] for start, size in tries[:1] + infos[:1] if size), b"")
 
 

@@ -46,10 +46,10 @@ enum accepted { REFUSED = 0, ACCEPTED, ACCEPTED_STRICTLY };
 
 // Counters
 
-// The kinds from RULES on are the rules, by their numbers. KESVUOT_EXPORT_ADDRESS is the greatest of these.
+// The kinds from RULES on are the rules, by their numbers. KESVUOT_COMMAND_CONTENT is the greatest of these.
 enum {
     TABLES = 0, SLICES = 9, IMAGE, ADDRESS, DATA, BOUNDED, NAME, EXPORT, RULES,
-    KINDS = RULES + KESVUOT_EXPORT_ADDRESS + 1
+    KINDS = RULES + KESVUOT_COMMAND_CONTENT + 1
 };
 
 __attribute__((section("__libfuzzer_extra_counters"))) static uint8_t counters[64 * KINDS];
@@ -152,7 +152,7 @@ static const struct table tables[TABLE_COUNT] = {
 };
 
 // How many relocations of a section are read, and how many functions at once.
-enum { RELOCATIONS = 8, CODE_ROWS = 8 };
+enum { RELOCATIONS = 8, CODE_ROWS = 8, BLOBS = 8 };
 
 // All rows of a table, and two more, which no call writes.
 struct rows {
@@ -316,6 +316,66 @@ static void check_code(const struct held *held, struct kesvuot_cursor cursor) {
         if (!is_empty(data[k].bytes)) {
             check_part(held, data[k].bytes, data[k].offset, data[k].length);
         }
+    }
+}
+
+// Code signatures (kern/cs_blobs.h), whose numbers are big-endian
+
+#define CSMAGIC_CODEDIRECTORY 0xfade0c02u
+
+static uint32_t big_at(const uint8_t *bytes) {
+    return (uint32_t)bytes[0] << 24 | (uint32_t)bytes[1] << 16 | (uint32_t)bytes[2] << 8 | bytes[3];
+}
+
+// A name of a code directory ends in its blob.
+static void check_signed_name(const struct held *held, struct kesvuot_span blob, struct kesvuot_span name) {
+    check_within(blob, name);
+    if (!is_empty(name)) {
+        CHECK(name.offset + name.size < blob.offset + blob.size);
+        CHECK(bytes_at(held, name)[name.size] == 0 && memchr(bytes_at(held, name), 0, name.size) == NULL);
+    }
+}
+
+// Hashes are all in the blob, or none of them.
+static void check_hashes(struct kesvuot_span blob, struct kesvuot_span hashes, uint64_t size) {
+    check_within(blob, hashes);
+    CHECK(hashes.size == size || is_empty(hashes));
+}
+
+// What any bytes say as a code directory.
+static void check_directory(const struct held *held, const struct kesvuot_blob *blob) {
+    struct kesvuot_code_directory found, none;
+    const uint8_t *file = held->file.bytes;
+    memset(&found, UNWRITTEN, sizeof found);
+    memset(&none, 0, sizeof none);
+    const uint32_t status = kesvuot_read_code_directory(file, held->file.size, blob, &found);
+    if (status != KESVUOT_OK) {
+        CHECK(status == KESVUOT_NONE && memcmp(&found, &none, sizeof none) == 0);
+        return;
+    }
+    const uint8_t *bytes = bytes_at(held, blob->bytes);
+    CHECK(blob->bytes.size >= 44 && big_at(bytes) == CSMAGIC_CODEDIRECTORY && found.version >= 0x20000);
+    CHECK(big_at(bytes + 8) == found.version && big_at(bytes + 12) == found.flags);
+    CHECK(big_at(bytes + 24) == found.special_slots && big_at(bytes + 28) == found.code_slots);
+    CHECK(bytes[36] == found.hash_size && bytes[37] == found.hash_type && bytes[39] == found.page_size);
+    check_signed_name(held, blob->bytes, found.identifier);
+    check_signed_name(held, blob->bytes, found.team);
+    check_hashes(blob->bytes, found.hashes, (uint64_t)found.code_slots * found.hash_size);
+    check_hashes(blob->bytes, found.special_hashes, (uint64_t)found.special_slots * found.hash_size);
+}
+
+// Some blobs from a cursor on: each lies past the one before it.
+static void check_blobs(const struct held *held, struct kesvuot_cursor cursor) {
+    struct kesvuot_blob rows[BLOBS + 1];
+    memset(rows, UNWRITTEN, sizeof rows);
+    const size_t count = kesvuot_read_blobs(OF(held), &cursor, rows, BLOBS);
+    CHECK(is_unwritten((const uint8_t *)&rows[count], sizeof *rows));
+    for (size_t k = 0; k < count; k++) {
+        const uint8_t *bytes = bytes_at(held, rows[k].bytes);
+        check_inside(held, rows[k].bytes);
+        CHECK(rows[k].bytes.size >= 8 && big_at(bytes) == rows[k].magic && big_at(bytes + 4) == rows[k].bytes.size);
+        CHECK(k == 0 || rows[k - 1].bytes.offset + rows[k - 1].bytes.size <= rows[k].bytes.offset);
+        check_directory(held, &rows[k]);
     }
 }
 
@@ -675,6 +735,21 @@ static void check_source_version(const struct held *held, const struct rows *com
     CHECK(version == wanted);
 }
 
+// A thread begins at a byte of the file, and only an image with an LC_THREAD or LC_UNIXTHREAD has one.
+static void check_thread(const struct held *held, const struct rows *commands) {
+    const struct kesvuot_command *row = commands->rows, *end = row + commands->count;
+    struct kesvuot_span bytes;
+    uint64_t entry = 1;
+    while (row < end && row->cmd != 0x4 && row->cmd != 0x5) {
+        row++;
+    }
+    if (kesvuot_find_thread_entry(OF(held), &entry) == KESVUOT_OK) {
+        CHECK(row < end && kesvuot_find_address(OF(held), entry, &bytes) == KESVUOT_OK);
+    } else {
+        CHECK(entry == 0);
+    }
+}
+
 // The commands lie one after the other.
 static void check_commands(const struct held *held, const struct rows *all) {
     const struct kesvuot_command *row = all->rows;
@@ -840,6 +915,7 @@ static void check_tables(const struct held *held, enum accepted accepted) {
         check_section_addresses(held, &all[SEGMENTS], &all[SECTIONS]);
         check_all_data(held, &all[COMMANDS]);
         check_all_bounded(held, &all[COMMANDS]);
+        check_thread(held, &all[COMMANDS]);
         check_exports(held);
     }
     if (accepted == ACCEPTED_STRICTLY) {
@@ -912,9 +988,16 @@ static void check_any(const struct held *held, struct kesvuot_cursor cursor, siz
     check_relocations(held, (uint32_t)cursor.place, (uint32_t)cursor.segment, cursor.items, REFUSED);
     check_code(held, cursor);
     check_code(held, (struct kesvuot_cursor){0});
+    check_blobs(held, cursor);
+    check_blobs(held, (struct kesvuot_cursor){0});
+    const struct kesvuot_blob any = {{cursor.place, cursor.items}, 0, 0};
+    check_directory(held, &any);
     uint64_t version;
     uint32_t status = kesvuot_find_source_version(OF(held), &version);
     CHECK(status == KESVUOT_OK || (status == KESVUOT_NONE && version == 0));
+    uint64_t entry;
+    status = kesvuot_find_thread_entry(OF(held), &entry);
+    CHECK(status == KESVUOT_OK || (status == KESVUOT_NONE && entry == 0));
     check_any_symbol(held, cursor);
 }
 
@@ -1003,7 +1086,7 @@ static bool is_strict(uint32_t rule) {
 }
 
 static bool is_linked(uint32_t rule) {
-    return rule >= KESVUOT_TABLE_REPEATED && rule <= KESVUOT_EXPORT_ADDRESS;
+    return rule >= KESVUOT_TABLE_REPEATED && rule <= KESVUOT_COMMAND_CONTENT;
 }
 
 // The verdict is whole.
@@ -1024,7 +1107,7 @@ static void check_explanation(const uint8_t *file, size_t size, const struct kes
     struct kesvuot_explanation found;
     for (uint32_t other = 0; other < 4; other++) {
         struct kesvuot_verdict asked = *verdict;
-        asked.rule = (asked.rule + 7 * other) % (KESVUOT_EXPORT_ADDRESS + 2);
+        asked.rule = (asked.rule + 7 * other) % (KESVUOT_COMMAND_CONTENT + 2);
         asked.place += other;
         memset(&found, UNWRITTEN, sizeof found);
         const uint32_t status = kesvuot_explain(file, size, &asked, &found);
@@ -1032,7 +1115,7 @@ static void check_explanation(const uint8_t *file, size_t size, const struct kes
         if (status == KESVUOT_OK) {
             CHECK(found.at.start <= asked.place && asked.place - found.at.start <= found.at.size);
             CHECK(found.at.start <= size && found.at.size <= size - found.at.start);
-            CHECK(found.at.kind > KESVUOT_PART_NONE && found.at.kind <= KESVUOT_PART_EXPORT_NODE);
+            CHECK(found.at.kind > KESVUOT_PART_NONE && found.at.kind <= KESVUOT_PART_RELOCATION);
         } else {
             CHECK(found.at.kind == KESVUOT_PART_NONE && found.slice == KESVUOT_NO_INDEX);
         }
@@ -1147,7 +1230,7 @@ static void check_constants(void) {
     for (; kesvuot_find_rule(rule, &name) == KESVUOT_OK; rule++) {
         CHECK(name.size > 0 && name.size == strlen(name.at));
     }
-    CHECK(rule > KESVUOT_EXPORT_ADDRESS && name.size == 0);
+    CHECK(rule > KESVUOT_COMMAND_CONTENT && name.size == 0);
     CHECK(kesvuot_find_rule(0, &name) == KESVUOT_NONE && name.size == 0);
     CHECK(kesvuot_find_rule(UINT32_MAX, &name) == KESVUOT_NONE && name.size == 0);
     for (uint32_t number = 0; number < 256; number++) {

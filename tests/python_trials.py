@@ -31,6 +31,7 @@ from types import SimpleNamespace
 
 TOP = Path(__file__).resolve().parent.parent
 sys.path[:0] = [str(TOP / "bindings" / "python"), str(TOP / "bench"), str(TOP / "tests")]
+import code_signature  # pylint: disable=wrong-import-position
 import explanations  # pylint: disable=wrong-import-position
 import export_trie  # pylint: disable=wrong-import-position
 import images  # pylint: disable=wrong-import-position
@@ -47,7 +48,7 @@ LC_SYMTAB, LC_DYSYMTAB = oracle.LC_SYMTAB, oracle.LC_DYSYMTAB
 DATA_COMMANDS = (0x1D, 0x26, 0x29, 0x8000_0033, 0x8000_0034, LC_SYMTAB)
 # Of <mach-o/loader.h>: the version_min_commands, by their platforms.
 LEAST_VERSIONS = {0x24: 1, 0x25: 2, 0x2F: 3, 0x30: 4}
-LC_SOURCE_VERSION = 0x2A
+LC_CODE_SIGNATURE, LC_SOURCE_VERSION = 0x1D, 0x2A
 # The tables in the order of kesvuot.h: a structure, the fields that bound the table, and the size of an item.
 BOUNDED_TABLES = (
     ("symtab_command", "symoff", "nsyms", 16), ("symtab_command", "stroff", "strsize", 1),
@@ -152,7 +153,7 @@ def explain_vectors(report):
              for _, vectors in oracle_trials.read_all_vectors(profile) for vector in vectors]
     report.alike("explanations", "refusals", ((name, said[2], wanted_explanation(data, *said[:2]))
                                               for name, data, said in found if said))
-    report.case("rules that are explained", len({said[0] for _, _, said in found if said}), 68)
+    report.case("rules that are explained", len({said[0] for _, _, said in found if said}), 77)
     other = kesvuot.Refused("section-file", 1 << 64), kesvuot.Refused("no-rule", 0), kesvuot.Refused("magic", 1)
     report.case("no refusals of these bytes", [kesvuot.explain(b"", refused) for refused in other], [None, None, None])
 
@@ -417,6 +418,34 @@ def wanted_data_in_code(image):
         yield part if len(part) == length else b"", offset, length, kind
 
 
+def wanted_blobs(image):
+    """The blobs of the signature, each with what it says as a code directory."""
+    for blob in code_signature.read_blobs(wanted_data(image, LC_CODE_SIGNATURE) or b""):
+        yield tuple(blob), code_signature.read_directory(blob.content)
+
+
+def found_blobs(image):
+    for blob in image.blobs():
+        directory = blob.code_directory()
+        yield as_bytes(blob), directory and as_bytes(directory)
+
+
+def wanted_thread_entry(image):
+    """Where the first thread begins, if its registers are known and the address is executable."""
+    threads = [command for command in image.commands if command.cmd in oracle.THREADS]
+    try:
+        entry = oracle.start_of_thread(image, threads[0]) if threads else None
+    except oracle.Malformed:
+        return None
+    return entry if entry is not None and oracle.is_executable(image, entry) else None
+
+
+def compare_signature(found, wanted):
+    """What the signature has, and where a thread begins."""
+    yield "blobs", list(found_blobs(found)), list(wanted_blobs(wanted))
+    yield "thread_entry", found.thread_entry, wanted_thread_entry(wanted)
+
+
 def wanted_table(image, structure, place, count, size):
     """The bytes of a table, by the names of the fields that bound it in the first command of this structure."""
     for it in image.listed:
@@ -504,6 +533,7 @@ def compare_image(found, wanted):
         yield "relocations", list(found.relocations(section)), list(wanted_relocations(wanted, it))
     yield "function_starts", list(found.function_starts()), list(wanted_starts(wanted))
     yield "data_in_code", list(map(as_bytes, found.data_in_code())), list(wanted_data_in_code(wanted))
+    yield from compare_signature(found, wanted)
     for table, fields in zip(kesvuot.BoundedTable, BOUNDED_TABLES):
         part = found.table(table)
         yield f"table {table.name}", None if part is None else part.tobytes(), wanted_table(wanted, *fields)
@@ -597,6 +627,17 @@ def compare_views(report, name, files):
     """The views of accepted files."""
     report.alike(f"the views of {name}, and the oracle", "answers", (
         triple for which, data in files for triple in compare_file(which, data)))
+
+
+def compare_signatures(report):
+    """Of vectors of the linked profile which it refuses, too: they are accepted by the layout."""
+    vectors = [vector for vector in oracle_trials.read_vectors(oracle_trials.LINKED)
+               if verdict(vector.data) == "accepted"]
+    report.alike("the signatures and threads of vectors of the linked profile", "answers", (
+        (f"{vector.name}: {view}", found, wanted) for vector in vectors
+        for image, read in zip(kesvuot.verify(vector.data).images,
+                               (part for part in oracle.File(vector.data).slices if part.is_64_bit))
+        for view, found, wanted in compare_signature(image, read)))
 
 
 def compare_all_views(report, all_kinds, mixed):
@@ -723,6 +764,9 @@ def all_parts(file):
         yield from map(image.name, image.symbols)
         yield from filter(None, (image.linkedit(command.cmd) for command in image.commands))
         yield from (image.at(segment.vmaddr).bytes for segment in image.segments)
+        for blob in image.blobs():
+            yield blob.bytes
+            yield from (value for value in blob.code_directory() or () if isinstance(value, memoryview))
 
 
 def judge_lives(report, data):
@@ -1261,6 +1305,7 @@ def main(words):
     compare_mixed(report, mixed)
     compare_addresses(report)
     compare_all_views(report, all_kinds, mixed)
+    compare_signatures(report)
     compare_json(report)
     judge_buffers(report, program, layout.decode())
     judge_lives(report, program)

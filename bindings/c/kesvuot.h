@@ -148,7 +148,16 @@ enum {
     KESVUOT_EXPORT_ADDRESS = 68,
     KESVUOT_FUNCTION_NUMBER = 61,
     KESVUOT_FUNCTION_START = 62,
-    KESVUOT_DATA_IN_CODE = 63
+    KESVUOT_DATA_IN_CODE = 63,
+    KESVUOT_SIGNATURE_BLOB = 69,
+    KESVUOT_SIGNATURE_DIRECTORY = 70,
+    KESVUOT_SIGNATURE_WHOLE = 71,
+    KESVUOT_SYMBOL_LIBRARY = 72,
+    KESVUOT_SYMBOL_VALUE = 73,
+    KESVUOT_SYMBOL_INDIRECT = 74,
+    KESVUOT_RELOCATION = 75,
+    KESVUOT_THREAD = 76,
+    KESVUOT_COMMAND_CONTENT = 77
 };
 
 /* The verdict on a file */
@@ -177,8 +186,9 @@ uint32_t kesvuot_verify_strictly(const void *file, size_t size, struct kesvuot_v
 
 /* Judges a file as kesvuot_verify_strictly does, and then by the rules of the linked profile: where the linked data of
  * an image lies, what the opcodes of LC_DYLD_INFO and LC_DYLD_INFO_ONLY, the table of LC_DYLD_CHAINED_FIXUPS and the
- * chains of pointers in the pages ask a dynamic loader for, what the image exports, and where functions start and data
- * is in code. LINKED.md says what that means.
+ * chains of pointers in the pages ask a dynamic loader for, what the image exports, where functions start and data is
+ * in code, how a code signature is built, what symbols and relocations refer to, where threads begin, and what all
+ * other commands of loader.h hold. LINKED.md says what that means.
  * Every file that is OK here is also OK for kesvuot_verify_strictly.
  * Memory can run out wherever it can for kesvuot_verify_strictly. Otherwise it can run out only in a file that breaks
  * no rule of kesvuot_verify_strictly, and only if some slice has more than 16 mapped segments, several executable ones
@@ -269,8 +279,12 @@ enum {
     KESVUOT_PART_FUNCTION_START = 30, /* a number of LC_FUNCTION_STARTS */
     KESVUOT_PART_DATA_IN_CODE_ENTRY = 31, /* data_in_code_entry, with the index of kesvuot_read_data_in_code */
     KESVUOT_PART_DATA_IN_CODE = 32,   /* the bytes of the file that it describes, with the same index */
-    KESVUOT_PART_EXPORT_NODE = 33     /* a node of an export trie, up to the end of its last edge, or if it does not end
+    KESVUOT_PART_EXPORT_NODE = 33,    /* a node of an export trie, up to the end of its last edge, or if it does not end
                                          in the table, up to the end of that: no bytes if it would begin past it */
+    KESVUOT_PART_SIGNATURE_ENTRY = 34, /* CS_BlobIndex of a code signature, with its index there */
+    KESVUOT_PART_SIGNATURE_BLOB = 35, /* the blob of the entry with this index: all its length bytes, or 8 if its first 8
+                                         are not all in the superblob */
+    KESVUOT_PART_RELOCATION = 36      /* relocation_info. The index counts from 0 in its table */
 };
 
 /* A structure, or what a structure describes. A part lies where the file says, which can be past the file. */
@@ -355,7 +369,8 @@ struct kesvuot_image {
     uint64_t base;             /* HAS_BASE: the address of the header, before any slide. Absent if no mapped segment has
                                   the first byte of the header. That all of the headers are mapped is header-segment, a
                                   strict rule */
-    uint64_t entry;            /* HAS_ENTRY: base + entryoff of LC_MAIN, in an executable segment, and in the file */
+    uint64_t entry;            /* HAS_ENTRY: base + entryoff of LC_MAIN, in an executable segment, and in the file.
+                                  Without LC_MAIN, kesvuot_find_thread_entry finds where a thread begins */
     uint64_t symbols;          /* HAS_SYMTAB: symoff of LC_SYMTAB. Any number if symbol_count is 0 */
     uint64_t symbol_count;     /* nsyms: the table lies in the slice */
     uint64_t strings;          /* stroff. Any number if strings_size is 0 */
@@ -402,7 +417,9 @@ struct kesvuot_cursor {  /* the numbers are the library's own, and any are safe 
                             the next row, which you can also set; otherwise a count of sections. Of
                             kesvuot_read_function_starts and kesvuot_read_data_in_code: `place` is where the next number
                             or entry begins in the slice, `items` how many bytes or entries there are from there on, and
-                            `segment` the address of the last function */
+                            `segment` the address of the last function. Of kesvuot_read_blobs `place` is the index of
+                            the next blob, `segment` where the signature begins in the slice, `items` its size, and
+                            `commands` the least offset of that blob in it */
 };
 
 struct kesvuot_segment {       /* LC_SEGMENT_64. No address is in two segments */
@@ -491,6 +508,28 @@ struct kesvuot_data_in_code {  /* data_in_code_entry. The linked profile judges 
     uint16_t kind;             /* KESVUOT_DICE_KIND_DATA or another of these, or any other number */
 };
 
+struct kesvuot_blob {          /* CS_BlobIndex and CS_GenericBlob */
+    struct kesvuot_span bytes; /* the blob in the file, with its magic and its length */
+    uint32_t slot;             /* `type` of its entry: CSSLOT_CODEDIRECTORY (0), another of these, or any number */
+    uint32_t magic;            /* CSMAGIC_CODEDIRECTORY (0xfade0c02), another of these, or any number */
+};
+
+struct kesvuot_code_directory {         /* CS_CodeDirectory */
+    struct kesvuot_span identifier;     /* in the file, without the zero byte past it; empty if there is none */
+    struct kesvuot_span team;           /* the same. Only versions from 0x20200 on have one */
+    struct kesvuot_span hashes;         /* those of the code, one for each page; empty if they pass the blob */
+    struct kesvuot_span special_hashes; /* that of special slot 1 is the last; empty if they pass the blob */
+    uint64_t limit;                     /* codeLimit64, or codeLimit if that is 0 or not there: so many bytes of the
+                                           slice are hashed, from its start on */
+    uint32_t version;                   /* 0x20000 or more */
+    uint32_t flags;                     /* CS_ADHOC (2) and others */
+    uint32_t code_slots;                /* how many hashes there are */
+    uint32_t special_slots;             /* how many special hashes */
+    uint32_t hash_size;                 /* in bytes */
+    uint16_t hash_type;                 /* CS_HASHTYPE_SHA256 (2) or another of these, or any other number */
+    uint16_t page_size;                 /* the log2 of the size of a page in bytes; 0: one page has all bytes */
+};
+
 size_t kesvuot_read_commands(const void *file, size_t size, const struct kesvuot_image *image,
                              struct kesvuot_cursor *cursor, struct kesvuot_command *rows, size_t max);
 size_t kesvuot_read_segments(const void *file, size_t size, const struct kesvuot_image *image,
@@ -534,6 +573,24 @@ size_t kesvuot_read_function_starts(const void *file, size_t size, const struct 
  * known kind, and the bytes of each are in one executable segment. In any other they can be of no code. */
 size_t kesvuot_read_data_in_code(const void *file, size_t size, const struct kesvuot_image *image,
                                  struct kesvuot_cursor *cursor, struct kesvuot_data_in_code *rows, size_t max);
+
+/* The blobs of the code signature, by the first LC_CODE_SIGNATURE, in the order of its index. Each lies in the
+ * superblob, past its index and past the blob before it. They end before the first of which this does not hold. There
+ * are none if the data has no superblob with the magic CSMAGIC_EMBEDDED_SIGNATURE (0xfade0cc0) that ends in it. In a
+ * file that was not accepted, there are also none if the data ends past the slice.
+ * In a file that kesvuot_verify_linked accepts no blob of the index is left out. */
+size_t kesvuot_read_blobs(const void *file, size_t size, const struct kesvuot_image *image,
+                          struct kesvuot_cursor *cursor, struct kesvuot_blob *rows, size_t max);
+
+/* What a blob says, if it is a code directory, by `bytes` of the blob. Its slot does not matter.
+ * OK: all fields are written.
+ * NONE: the blob has another magic, a version below 0x20000, fewer bytes than the fields of its version, or a scatter
+ * vector. All fields are 0.
+ * In a file that kesvuot_verify_linked accepts each blob in a slot of code directories (0, 0x1000 to 0x1004) is one.
+ * Its names and hashes lie in it, hash_type is known, and `limit` is where the signature begins in the slice, so there
+ * is a hash for each page before that. Nothing has compared the hashes with the pages. */
+uint32_t kesvuot_read_code_directory(const void *file, size_t size, const struct kesvuot_blob *blob,
+                                     struct kesvuot_code_directory *directory);
 
 /* The name of a symbol, by its strx.
  * OK: the name, which ends before the first zero byte of the strings from strx on. It can be empty.
@@ -606,9 +663,8 @@ struct kesvuot_export {       /* an export. Only kesvuot_verify_linked judges it
 };
 
 /* What an image exports under a name of `name_size` bytes, as a dynamic loader looks it up: at each node of the trie,
- * the first edge whose string begins the rest of the name leads on. The trie is the data of the first
- * LC_DYLD_EXPORTS_TRIE. If there is none, or if its data is empty or ends past the slice, it is KESVUOT_TABLE_EXPORT of
- * the first LC_DYLD_INFO or LC_DYLD_INFO_ONLY. Addresses count from `base` of the image, which is 0 if it has none.
+ * the first edge whose string begins the rest of the name leads on. The trie is that of kesvuot_find_export_trie.
+ * Addresses count from `base` of the image, which is 0 if it has none.
  * OK: the export is written.
  * NONE: the image exports no such name, or has no trie. Also if a node on the way does not end in the trie, if a number
  * or the name of the export does not end in its part of the node, or if the nodes on the way, each counted as often as
@@ -616,6 +672,54 @@ struct kesvuot_export {       /* an export. Only kesvuot_verify_linked judges it
  * The call goes over the load commands, and then over the nodes on the way. It takes no memory. */
 uint32_t kesvuot_find_export(const void *file, size_t size, const struct kesvuot_image *image, const void *name,
                              size_t name_size, struct kesvuot_export *found);
+
+/* Where the export trie of an image lies in the file, as the linked profile finds it: the data of the first
+ * LC_DYLD_EXPORTS_TRIE. If there is none, or its datasize is 0, it is the export_size bytes from export_off on of the
+ * first LC_DYLD_INFO_ONLY, or without that of the first LC_DYLD_INFO.
+ * OK: the bytes of the trie, of which there are some.
+ * NONE: the image has no trie. In a file that was not accepted, also if the trie ends past the slice, or the headers
+ * break a rule. The span is empty.
+ * The call goes over the load commands. */
+uint32_t kesvuot_find_export_trie(const void *file, size_t size, const struct kesvuot_image *image,
+                                  struct kesvuot_span *trie);
+
+/* All exports of an image are those of the nodes that are reached from the root, which is at offset 0 of the trie: the
+ * name of each is made of the labels on the way to its node. The walk is that of the caller, who keeps which nodes are
+ * left, and the labels that lead to them. docs/LIBRARY.md has one.
+ *
+ * A node reaches from its offset to the `place` of its cursor past its last edge. In a file that kesvuot_verify_linked
+ * accepts, the nodes that are met, each as often as it is met, have no more bytes than the trie. In any other an edge
+ * can lead back, and two can lead to one node: there a caller adds up the bytes of the nodes, and stops where they are
+ * more than those of the trie. */
+
+struct kesvuot_export_node {       /* a node of an export trie. Only kesvuot_verify_linked judges it */
+    struct kesvuot_export exported; /* what the name that ends here is exported as, if has_export is 1. Otherwise 0 */
+    struct kesvuot_span terminal;  /* the bytes that say so. None if no name ends here */
+    struct kesvuot_cursor edges;   /* the cursor of the first edge, for kesvuot_read_export_edges: `place` is the offset
+                                      of the edge in the trie, and `items` is how many edges the node has, at most 255 */
+    uint32_t has_export;           /* 0: no name ends here, or a number or name of its export does not end in the bytes
+                                      of `terminal` */
+    uint32_t reserved;
+};
+
+struct kesvuot_export_edge {    /* an edge of a node */
+    struct kesvuot_span label;  /* what leads along it of a name, without the zero byte that follows. It can be empty */
+    uint64_t child;             /* the offset of its node in the trie. Any number */
+};
+
+/* The node at an offset of an export trie. Addresses count from `base` of the image.
+ * OK: the node, up to its edges. Of the image no other field is read.
+ * NONE: no such node begins there, because a number of it does not end in the trie, or its edges would begin past it.
+ * All fields are 0.
+ * The call takes no more than the time to read the numbers and the name of the node, and no memory. */
+uint32_t kesvuot_read_export_node(const void *file, size_t size, const struct kesvuot_image *image,
+                                  const struct kesvuot_span *trie, uint64_t offset, struct kesvuot_export_node *node);
+
+/* The edges of a node, from its cursor on, in batches as of the tables of an image: it writes the next ones, up to `max`,
+ * moves the cursor past them, and returns how many it wrote. It stops before one whose label or number does not end in
+ * the trie: then `items` of the cursor is not 0, and fewer than max were written. All zeros are a cursor of no edges. */
+size_t kesvuot_read_export_edges(const void *file, size_t size, const struct kesvuot_span *trie,
+                                 struct kesvuot_cursor *cursor, struct kesvuot_export_edge *rows, size_t max);
 
 /* The data of the first linkedit_data_command with this cmd, such as LC_CODE_SIGNATURE (0x1d) or LC_FUNCTION_STARTS
  * (0x26).
@@ -661,6 +765,16 @@ uint32_t kesvuot_find_table(const void *file, size_t size, const struct kesvuot_
  * OK: the version is written. NONE: the image has no such command, and the version is 0. */
 uint32_t kesvuot_find_source_version(const void *file, size_t size, const struct kesvuot_image *image,
                                      uint64_t *version);
+
+/* The address at which the first LC_THREAD or LC_UNIXTHREAD begins, before any slide: rip or pc of its registers. It is
+ * the entry of a program that has no LC_MAIN, such as one that Go links, or one for no dynamic linker.
+ * OK: the address, which is in an executable segment, and the file has a byte for it.
+ * NONE: the image has no such command, its states do not end where it ends, not exactly one of them has registers that
+ * are known for the cputype, or the file has no byte that can be executed at the address. In a file that was not
+ * accepted, also if the headers break a rule. The entry is 0.
+ * In a file that kesvuot_verify_linked accepts, each image with such a command has the address, and no second thread.
+ * In any other a loader may obey another thread. */
+uint32_t kesvuot_find_thread_entry(const void *file, size_t size, const struct kesvuot_image *image, uint64_t *entry);
 
 /* What is at an address, before any slide.
  * OK: the bytes from there to the end of what its segment has in the file.
@@ -793,6 +907,14 @@ uint32_t kesvuot_find_address(const void *file, size_t size, const struct kesvuo
 #define KESVUOT_EXPORT_SYMBOL_FLAGS_STUB_AND_RESOLVER 0x10
 #define KESVUOT_EXPORT_SYMBOL_FLAGS_STATIC_RESOLVER 0x20
 
+/* Of a code signature: slots of code directories, and types of hashes. (kern/cs_blobs.h) */
+#define KESVUOT_CSSLOT_CODEDIRECTORY 0x0
+#define KESVUOT_CSSLOT_ALTERNATE_CODEDIRECTORIES 0x1000
+#define KESVUOT_CS_HASHTYPE_SHA1 1
+#define KESVUOT_CS_HASHTYPE_SHA256 2
+#define KESVUOT_CS_HASHTYPE_SHA256_TRUNCATED 3
+#define KESVUOT_CS_HASHTYPE_SHA384 4
+
 /* The bits of a protection. (mach/vm_prot.h) */
 #define KESVUOT_VM_PROT_READ 1
 #define KESVUOT_VM_PROT_WRITE 2
@@ -822,7 +944,11 @@ KESVUOT_HOLDS(sizeof(struct kesvuot_command) == 40);
 KESVUOT_HOLDS(sizeof(struct kesvuot_symbol) == 24);
 KESVUOT_HOLDS(sizeof(struct kesvuot_relocation) == 16);
 KESVUOT_HOLDS(sizeof(struct kesvuot_data_in_code) == 24);
+KESVUOT_HOLDS(sizeof(struct kesvuot_blob) == 24);
+KESVUOT_HOLDS(sizeof(struct kesvuot_code_directory) == 96);
 KESVUOT_HOLDS(sizeof(struct kesvuot_export) == 56);
+KESVUOT_HOLDS(sizeof(struct kesvuot_export_node) == 112);
+KESVUOT_HOLDS(sizeof(struct kesvuot_export_edge) == 24);
 KESVUOT_HOLDS(offsetof(struct kesvuot_verdict, rule) == 16);
 KESVUOT_HOLDS(offsetof(struct kesvuot_part, kind) == 24);
 KESVUOT_HOLDS(offsetof(struct kesvuot_explanation, value) == 96);
@@ -841,7 +967,11 @@ KESVUOT_HOLDS(offsetof(struct kesvuot_command, cmd) == 32);
 KESVUOT_HOLDS(offsetof(struct kesvuot_symbol, desc) == 16);
 KESVUOT_HOLDS(offsetof(struct kesvuot_relocation, scattered) == 12);
 KESVUOT_HOLDS(offsetof(struct kesvuot_data_in_code, kind) == 22);
+KESVUOT_HOLDS(offsetof(struct kesvuot_blob, slot) == 16);
+KESVUOT_HOLDS(offsetof(struct kesvuot_code_directory, limit) == 64);
+KESVUOT_HOLDS(offsetof(struct kesvuot_code_directory, page_size) == 94);
 KESVUOT_HOLDS(offsetof(struct kesvuot_export, ordinal) == 24);
+KESVUOT_HOLDS(offsetof(struct kesvuot_export_node, has_export) == 104);
 #undef KESVUOT_HOLDS
 #endif
 

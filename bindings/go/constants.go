@@ -122,6 +122,14 @@ const (
 	EXPORT_SYMBOL_FLAGS_STUB_AND_RESOLVER = 0x10
 	EXPORT_SYMBOL_FLAGS_STATIC_RESOLVER   = 0x20
 
+	// Of a code signature: slots of code directories, and types of hashes. (kern/cs_blobs.h)
+	CSSLOT_CODEDIRECTORY             = 0x0
+	CSSLOT_ALTERNATE_CODEDIRECTORIES = 0x1000
+	CS_HASHTYPE_SHA1                 = 1
+	CS_HASHTYPE_SHA256               = 2
+	CS_HASHTYPE_SHA256_TRUNCATED     = 3
+	CS_HASHTYPE_SHA384               = 4
+
 	// The bits of a protection. (mach/vm_prot.h)
 	VM_PROT_READ    = 1
 	VM_PROT_WRITE   = 2

@@ -5,40 +5,43 @@ type PartKind uint32
 
 // The kinds of parts. NoPart is the kind of a Part that is none, of which all other fields are 0 or NoIndex.
 const (
-	NoPart        PartKind = 0
-	WholeFile     PartKind = 1
-	Magic         PartKind = 2
-	FatHeader     PartKind = 3
-	FatTable      PartKind = 4
-	FatArch       PartKind = 5
-	SliceBytes    PartKind = 6
-	Header        PartKind = 7
-	Headers       PartKind = 8
-	LoadCommand   PartKind = 9
-	SegmentBytes  PartKind = 10
-	SegmentMemory PartKind = 11
-	SectionHeader PartKind = 12
-	SectionBytes  PartKind = 13
-	SectionMemory PartKind = 14
-	Relocations   PartKind = 15
-	TableBytes    PartKind = 16
-	SymbolGroup   PartKind = 17
-	NameBytes     PartKind = 18
-	SymbolEntry   PartKind = 19
-	IndirectEntry PartKind = 20
-	Opcode        PartKind = 21
-	OneByte       PartKind = 22
-	ChainHeader   PartKind = 23
-	ChainArray    PartKind = 24
-	ChainEntry    PartKind = 25
-	ChainStarts   PartKind = 26
-	ChainImport   PartKind = 27
-	PageStart     PartKind = 28
-	ChainPointer  PartKind = 29
-	FunctionStart PartKind = 30
-	DataEntry     PartKind = 31
-	DataBytes     PartKind = 32
-	ExportNode    PartKind = 33
+	NoPart          PartKind = 0
+	WholeFile       PartKind = 1
+	Magic           PartKind = 2
+	FatHeader       PartKind = 3
+	FatTable        PartKind = 4
+	FatArch         PartKind = 5
+	SliceBytes      PartKind = 6
+	Header          PartKind = 7
+	Headers         PartKind = 8
+	LoadCommand     PartKind = 9
+	SegmentBytes    PartKind = 10
+	SegmentMemory   PartKind = 11
+	SectionHeader   PartKind = 12
+	SectionBytes    PartKind = 13
+	SectionMemory   PartKind = 14
+	Relocations     PartKind = 15
+	TableBytes      PartKind = 16
+	SymbolGroup     PartKind = 17
+	NameBytes       PartKind = 18
+	SymbolEntry     PartKind = 19
+	IndirectEntry   PartKind = 20
+	Opcode          PartKind = 21
+	OneByte         PartKind = 22
+	ChainHeader     PartKind = 23
+	ChainArray      PartKind = 24
+	ChainEntry      PartKind = 25
+	ChainStarts     PartKind = 26
+	ChainImport     PartKind = 27
+	PageStart       PartKind = 28
+	ChainPointer    PartKind = 29
+	FunctionStart   PartKind = 30
+	DataEntry       PartKind = 31
+	DataBytes       PartKind = 32
+	ExportNode      PartKind = 33
+	SignatureEntry  PartKind = 34
+	SignatureBlob   PartKind = 35
+	RelocationEntry PartKind = 36
 )
 
 // NoIndex is the index of nothing.

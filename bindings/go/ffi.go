@@ -3,7 +3,9 @@ package kesvuot
 // #cgo pkg-config: kesvuot
 // #include <kesvuot.h>
 //
-// enum table { SEGMENTS, SECTIONS, LIBRARIES, BUILDS, COMMANDS, SYMBOLS, INDIRECTS, FUNCTION_STARTS, DATA_IN_CODE };
+// enum table {
+//     SEGMENTS, SECTIONS, LIBRARIES, BUILDS, COMMANDS, SYMBOLS, INDIRECTS, FUNCTION_STARTS, DATA_IN_CODE, BLOBS
+// };
 //
 // static size_t read_rows(enum table table, const void *file, size_t size, const struct kesvuot_image *image,
 //                         struct kesvuot_cursor *cursor, void *rows, size_t max) {
@@ -24,6 +26,8 @@ package kesvuot
 //         return kesvuot_read_function_starts(file, size, image, cursor, rows, max);
 //     case DATA_IN_CODE:
 //         return kesvuot_read_data_in_code(file, size, image, cursor, rows, max);
+//     case BLOBS:
+//         return kesvuot_read_blobs(file, size, image, cursor, rows, max);
 //     default:
 //         return kesvuot_read_indirects(file, size, image, cursor, rows, max);
 //     }
@@ -226,8 +230,12 @@ type (
 	relocationRow    = C.struct_kesvuot_relocation
 	functionStartRow = C.uint64_t
 	dataInCodeRow    = C.struct_kesvuot_data_in_code
+	blobRow          = C.struct_kesvuot_blob
+	directoryRow     = C.struct_kesvuot_code_directory
 
-	exportRow = C.struct_kesvuot_export
+	exportRow     = C.struct_kesvuot_export
+	exportNodeRow = C.struct_kesvuot_export_node
+	exportEdgeRow = C.struct_kesvuot_export_edge
 )
 
 const (
@@ -260,6 +268,7 @@ const (
 
 	functionStartTable = table(C.FUNCTION_STARTS)
 	dataInCodeTable    = table(C.DATA_IN_CODE)
+	blobTable          = table(C.BLOBS)
 )
 
 // readRows returns up to count of the next rows of a table. There are fewer if the bytes have changed.
@@ -347,6 +356,21 @@ func readSourceVersion(image *Image) (uint64, bool) {
 	return uint64(version), status == C.KESVUOT_OK
 }
 
+func readThreadEntry(image *Image) (uint64, bool) {
+	var entry C.uint64_t
+	status := C.kesvuot_find_thread_entry(unsafe.Pointer(&image.file[0]), C.size_t(len(image.file)), &image.numbers,
+		&entry)
+	return uint64(entry), status == C.KESVUOT_OK
+}
+
+// readDirectory returns what a blob of these bytes says as a code directory. Its spans lie in these bytes.
+func readDirectory(blob []byte) (row directoryRow, ok bool) {
+	bytes, size := atLeastOne(blob), C.size_t(len(blob))
+	all := blobRow{bytes: span{size: C.uint64_t(len(blob))}}
+	status := C.kesvuot_read_code_directory(unsafe.Pointer(&bytes[0]), size, &all, &row)
+	return row, status == C.KESVUOT_OK
+}
+
 func readAt(image *Image, address uint64) Source {
 	var found span
 	status := C.kesvuot_find_address(unsafe.Pointer(&image.file[0]), C.size_t(len(image.file)), &image.numbers,
@@ -403,6 +427,32 @@ func findExport(image *Image, name string) (row exportRow, ok bool) {
 	status := C.kesvuot_find_export(unsafe.Pointer(&image.file[0]), C.size_t(len(image.file)), &image.numbers,
 		unsafe.Pointer(&bytes[0]), C.size_t(len(name)), &row)
 	return row, status == C.KESVUOT_OK
+}
+
+// findExportTrie returns where the export trie of an image is.
+func findExportTrie(image *Image) (trie span, ok bool) {
+	status := C.kesvuot_find_export_trie(unsafe.Pointer(&image.file[0]), C.size_t(len(image.file)), &image.numbers, &trie)
+	return trie, status == C.KESVUOT_OK
+}
+
+// readExportNode returns the node at an offset of an export trie.
+func readExportNode(image *Image, trie span, offset uint64) (node exportNodeRow, ok bool) {
+	status := C.kesvuot_read_export_node(unsafe.Pointer(&image.file[0]), C.size_t(len(image.file)), &image.numbers, &trie,
+		C.uint64_t(offset), &node)
+	return node, status == C.KESVUOT_OK
+}
+
+// readExportEdges returns the edges of a node of an export trie, and the offset past the last. It is not ok if one does
+// not end in the trie.
+func readExportEdges(image *Image, trie span, node *exportNodeRow) (edges []exportEdgeRow, end uint64, ok bool) {
+	at, count := node.edges, int(node.edges.items)
+	if count == 0 {
+		return nil, uint64(at.place), true
+	}
+	edges = make([]exportEdgeRow, count)
+	C.kesvuot_read_export_edges(unsafe.Pointer(&image.file[0]), C.size_t(len(image.file)), &trie, &at, &edges[0],
+		C.size_t(count))
+	return edges, uint64(at.place), at.items == 0
 }
 
 // placeIn returns where a part of the bytes begins in them, and whether it is a part of them. One of no bytes is none.

@@ -75,9 +75,18 @@ func (image *Image) Base() (address uint64, ok bool) {
 	return uint64(image.numbers.base), image.has(hasBase)
 }
 
-// Entry returns the address that LC_MAIN names, and whether there is an LC_MAIN.
+// Entry returns the address that LC_MAIN names, and whether there is an LC_MAIN. Without one a program can have a
+// ThreadEntry.
 func (image *Image) Entry() (address uint64, ok bool) {
 	return uint64(image.numbers.entry), image.has(hasEntry)
+}
+
+// ThreadEntry returns the address at which the first LC_THREAD or LC_UNIXTHREAD begins, such as that of a program that
+// Go links. It is not ok if there is no such command, its registers are not known, or the file has no byte that can be
+// executed at the address. In a file that VerifyLinked accepts each image with such a command has the address. Each
+// call rescans the load commands.
+func (image *Image) ThreadEntry() (address uint64, ok bool) {
+	return readThreadEntry(image)
 }
 
 // A Symtab is an LC_SYMTAB: where the symbols and their names are. Symoff is any number if Nsyms is 0, and so is Stroff

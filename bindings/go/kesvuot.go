@@ -64,9 +64,10 @@ func VerifyStrictly(file []byte) (*File, error) {
 
 // VerifyLinked judges a file by the rules of the linked profile too, after those of VerifyStrictly: where the linked
 // data of an image lies, what the opcodes of LC_DYLD_INFO and LC_DYLD_INFO_ONLY, the table of LC_DYLD_CHAINED_FIXUPS
-// and the chains of pointers in the pages ask a dynamic loader for, what the image exports, and where functions start
-// and data is in code. LINKED.md says what that means. Whatever is accepted here is accepted by VerifyStrictly. The
-// error is a *Refused, or ErrMemory.
+// and the chains of pointers in the pages ask a dynamic loader for, what the image exports, where functions start and
+// data is in code, how a code signature is built, what symbols and relocations refer to, where threads begin, and what
+// all other commands of loader.h hold. LINKED.md says what that means. Whatever is accepted here is accepted by
+// VerifyStrictly. The error is a *Refused, or ErrMemory.
 func VerifyLinked(file []byte) (*File, error) {
 	return judge(file, linked)
 }

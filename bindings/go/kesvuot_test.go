@@ -634,6 +634,48 @@ func TestExports(t *testing.T) {
 	}
 }
 
+// exportsOf returns the names of a walk, and their addresses from the base.
+func exportsOf(t *testing.T, trie string) (names []string, addresses []uint64) {
+	t.Helper()
+	for exports := verified(t, withTrie(trie)).Images()[0].Exports(); exports.Next(); {
+		names = append(names, exports.Name())
+		addresses = append(addresses, exports.Export().Address-0x100000000)
+	}
+	return names, addresses
+}
+
+func TestWalksOfExports(t *testing.T) {
+	for _, walk := range []struct {
+		trie      string
+		names     []string
+		addresses []uint64
+	}{
+		{"\x00\x01_\x00\x05" + "\x00\x02a\x00\x0db\x00\x11" + "\x02\x00\x10\x00" + "\x02\x00\x20\x00",
+			[]string{"_a", "_b"}, []uint64{0x10, 0x20}},
+		// The root, which is the whole trie, exports the empty name, and leads to itself.
+		{"\x02\x00\x07\x01a\x00\x00", []string{""}, []uint64{7}},
+		// Two edges lead to one node of 4 bytes, and the nodes that are met have 16 bytes, of a trie of 13.
+		{"\x00\x02a\x00\x09b\x00\x09\x00" + "\x02\x00\x07\x00", []string{"a"}, []uint64{7}},
+		// The first edge is whole, and the second does not end in the trie.
+		{"\x00\x02a\x00\x05b", nil, nil},
+		// The flags of the first export do not end in its terminal part.
+		{"\x00\x02a\x00\x08b\x00\x0b" + "\x01\x80\x00" + "\x02\x00\x07\x00", []string{"b"}, []uint64{7}},
+		{"", nil, nil},
+	} {
+		names, addresses := exportsOf(t, walk.trie)
+		same(t, fmt.Sprintf("the names in %q", walk.trie), names, walk.names)
+		same(t, fmt.Sprintf("the addresses in %q", walk.trie), addresses, walk.addresses)
+	}
+	for _, image := range verified(t, readReal(t, "library")).Images() {
+		count := 0
+		for exports := image.Exports(); exports.Next(); count++ {
+			found, ok := image.FindExport(exports.Name())
+			same(t, "an export of the library", []any{exports.Export().Address, true}, []any{found.Address, ok})
+		}
+		same(t, "whether the library has exports", count > 0, true)
+	}
+}
+
 func TestBatches(t *testing.T) {
 	for _, count := range []int{0, 1, batch - 1, batch, batch + 1, 3*batch + 5} {
 		var symbols [][2]uint8
@@ -725,6 +767,7 @@ func TestChangedBytes(t *testing.T) {
 		image.SourceVersion()
 		image.Relocations(&Section{Reloff: 8, Nreloc: 1 << 31})
 		image.DataInCode()
+		image.ThreadEntry()
 		image.FindExport("_start")
 		for starts := image.FunctionStarts(); starts.Next(); {
 		}

@@ -416,13 +416,17 @@ func (image *Image) FindExport(name string) (export Export, ok bool) {
 	if !ok {
 		return Export{}, false
 	}
+	return newExport(image, &row), true
+}
+
+func newExport(image *Image, row *exportRow) Export {
 	return Export{
 		Flags:    uint64(row.flags),
 		Address:  uint64(row.address),
 		Resolver: uint64(row.resolver),
 		Ordinal:  uint64(row.ordinal),
 		Name:     image.part(row.name),
-	}, true
+	}
 }
 
 func newSymbol(row *symbolRow) Symbol {

@@ -57,6 +57,13 @@ ff251000 0000ff25 0a000000 61626364 34120000 .4 4e4f5445
 005f6100 5f6c6f63 616c005f 6d61696e 005f7072 696e7466 005f6578 69740000
 """
 
+# A program without LC_MAIN, whose LC_UNIXTHREAD begins at 0x100000020.
+THREAD = """
+cffaedfe 07000001 03000000 02000000 02000000 00010000 .8
+19000000 48000000 5f5f5445 58540000 .8 00000000 01000000 00100000 .4 .8 20010000 .4 05000000 05000000 .8
+05000000 b8000000 04000000 2a000000 .128 20000000 01000000 .32
+"""
+
 
 def bytes_of(words: str) -> bytes:
     """The bytes of these words, in the notation of vectors."""
@@ -69,6 +76,10 @@ def mixed() -> bytes:
 
 def all_kinds() -> bytes:
     return bytes_of(ALL_KINDS)
+
+
+def with_thread() -> bytes:
+    return bytes_of(THREAD)
 
 
 class Judged(NamedTuple):

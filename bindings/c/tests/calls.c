@@ -43,7 +43,7 @@ static void try_version_and_rules(void) {
         CHECK(name.size == strlen(name.at) && name.size > 0);
         CHECK(kesvuot_rule_name(rule) == name.at);
     }
-    CHECK(rule > KESVUOT_EXPORT_ADDRESS);
+    CHECK(rule > KESVUOT_COMMAND_CONTENT);
     try_no_rule(rule);
     try_no_rule(0);
     try_no_rule(UINT32_MAX);
@@ -215,7 +215,7 @@ static void try_explanations(void) {
     CHECK(found.first.start + found.first.size == library.size && found.second.kind == KESVUOT_PART_FILE);
     CHECK(found.value == library.size && found.limit == cut && found.slice == 1);
     CHECK(found.command == KESVUOT_NO_INDEX && found.section == KESVUOT_NO_INDEX && found.symbol == KESVUOT_NO_INDEX);
-    const struct kesvuot_verdict none[] = {{.rule = 0}, {.rule = KESVUOT_EXPORT_ADDRESS + 1}, {.rule = UINT32_MAX},
+    const struct kesvuot_verdict none[] = {{.rule = 0}, {.rule = KESVUOT_COMMAND_CONTENT + 1}, {.rule = UINT32_MAX},
         {.rule = KESVUOT_MAGIC, .place = 1}, {.rule = KESVUOT_SEGMENT_FILE, .place = UINT64_MAX}};
     for (size_t index = 0; index < sizeof none / sizeof *none; index++) {
         memset(&found, UNWRITTEN, sizeof found);
@@ -640,6 +640,105 @@ static void try_data_in_code(void) {
     CHECK(kesvuot_read_data_in_code(file, sizeof file, &image, &cursor, rows, ENTRIES) == 0);
 }
 
+// The bytes of a big-endian word.
+#define BIG(word) (word) >> 24, (word) >> 16 & 255, (word) >> 8 & 255, (word) & 255
+
+// An image with LC_CODE_SIGNATURE (0x1d). The signature is at 48, and has a code directory, entitlements and a CMS.
+static const struct {
+    uint32_t head[12];
+    uint8_t signature[176];
+} SIGNED = {
+    {0xfeedfacf, 0x01000007, 3, 2, 1, 16, 0, 0, 0x1d, 16, 48, 176},
+    {
+        // The superblob has 173 bytes, and three entries, each of a slot and an offset.
+        BIG(0xfade0cc0), BIG(173), BIG(3), BIG(0), BIG(36), BIG(5), BIG(153), BIG(0x10000), BIG(165),
+        // At 36 the directory: length, version, flags, hashOffset, identOffset, nSpecialSlots, nCodeSlots, codeLimit
+        BIG(0xfade0c02), BIG(117), BIG(0x20200), BIG(2), BIG(97), BIG(52), BIG(2), BIG(1), BIG(48),
+        // hashSize, hashType, platform, pageSize, spare2, scatterOffset, teamOffset; "ab" and "T"; two special hashes
+        // and one of the code, of 20 bytes each
+        20, 1, 0, 12, BIG(0), BIG(0), BIG(55), 'a', 'b', 0, 'T', 0,
+        1, 1, 1, 1, 1, 1, 1, 1, 1, 1, 1, 1, 1, 1, 1, 1, 1, 1, 1, 1,
+        2, 2, 2, 2, 2, 2, 2, 2, 2, 2, 2, 2, 2, 2, 2, 2, 2, 2, 2, 2,
+        3, 3, 3, 3, 3, 3, 3, 3, 3, 3, 3, 3, 3, 3, 3, 3, 3, 3, 3, 3,
+        // At 153 and 165
+        BIG(0xfade7171), BIG(12), BIG(0), BIG(0xfade0b01), BIG(8),
+    },
+};
+enum { SIGNED_SIZE = sizeof SIGNED, SIGNATURE = BEFORE + 48, BLOBS = 3 };
+
+// How many blobs there are where the byte at an offset of the signature has another value.
+static size_t count_blobs(size_t offset, uint8_t value) {
+    uint8_t bytes[SIGNED_SIZE];
+    const struct kesvuot_image image = image_of_tables(&SIGNED, SIGNED_SIZE);
+    struct kesvuot_cursor cursor = {0};
+    struct kesvuot_blob rows[BLOBS];
+    memcpy(bytes, &SIGNED, SIGNED_SIZE);
+    bytes[48 + offset] = value;
+    return kesvuot_read_blobs(bytes, SIGNED_SIZE, &image, &cursor, rows, BLOBS);
+}
+
+static void try_blobs(void) {
+    static const struct kesvuot_blob wanted[] = {{{SIGNATURE + 36, 117}, 0, 0xfade0c02},
+        {{SIGNATURE + 153, 12}, 5, 0xfade7171}, {{SIGNATURE + 165, 8}, 0x10000, 0xfade0b01}};
+    static uint8_t file[BEFORE + SIGNED_SIZE];
+    struct kesvuot_image image = image_of_tables(&SIGNED, SIGNED_SIZE);
+    struct kesvuot_blob rows[BLOBS + 1];
+    memcpy(file + BEFORE, &SIGNED, SIGNED_SIZE);
+    image.slice.offset = BEFORE;
+    for (size_t each = 1; each <= BLOBS + 1; each++) {
+        struct kesvuot_cursor cursor = {0};
+        for (size_t first = 0; first <= BLOBS; first += each) {
+            const size_t left = BLOBS - first, count = left < each ? left : each;
+            memset(rows, UNWRITTEN, sizeof rows);
+            CHECK(kesvuot_read_blobs(file, sizeof file, &image, &cursor, rows, each) == count);
+            CHECK(memcmp(rows, wanted + first, count * sizeof *rows) == 0);
+            CHECK(is_filled(rows + count, sizeof rows - count * sizeof *rows, UNWRITTEN));
+        }
+    }
+    // The signature ends past an image that is shorter.
+    struct kesvuot_cursor cursor = {0};
+    image.slice.size--;
+    CHECK(kesvuot_read_blobs(file, sizeof file, &image, &cursor, rows, BLOBS) == 0);
+    // Another magic; a superblob past the signature, and one of fewer bytes than its index or than its blobs
+    CHECK(count_blobs(3, 0xc1) == 0 && count_blobs(7, 176) == 3 && count_blobs(7, 177) == 0);
+    CHECK(count_blobs(7, 35) == 0 && count_blobs(7, 172) == 2 && count_blobs(7, 152) == 0);
+    // A blob in the index, in the blob before it, of less than eight bytes, and past the superblob
+    CHECK(count_blobs(19, 35) == 0 && count_blobs(27, 152) == 1);
+    CHECK(count_blobs(160, 7) == 1 && count_blobs(172, 9) == 2);
+    // An index with a fourth entry, and with two
+    CHECK(count_blobs(11, 4) == 0 && count_blobs(11, 2) == 2);
+}
+
+// What is read of the directory where the blob has so many bytes.
+static struct kesvuot_code_directory directory_of(uint64_t size, uint32_t wanted) {
+    const struct kesvuot_blob blob = {{48 + 36, size}, 0, 0};
+    struct kesvuot_code_directory directory;
+    memset(&directory, UNWRITTEN, sizeof directory);
+    CHECK(kesvuot_read_code_directory(&SIGNED, SIGNED_SIZE, &blob, &directory) == wanted);
+    return directory;
+}
+
+static void try_code_directories(void) {
+    static const struct kesvuot_code_directory none, all = {
+        {84 + 52, 2}, {84 + 55, 1}, {84 + 97, 20}, {84 + 57, 40}, 48, 0x20200, 2, 1, 2, 20, 1, 12};
+    struct kesvuot_code_directory found = directory_of(117, KESVUOT_OK);
+    CHECK(memcmp(&found, &all, sizeof all) == 0);
+    // Without the last byte of the hashes of the code; of the special hashes; and of the names
+    found = directory_of(116, KESVUOT_OK);
+    CHECK(is_at(found.hashes, 0, 0) && is_at(found.special_hashes, 84 + 57, 40) && is_at(found.team, 84 + 55, 1));
+    found = directory_of(96, KESVUOT_OK);
+    CHECK(is_at(found.special_hashes, 0, 0) && is_at(found.team, 84 + 55, 1) && found.limit == 48);
+    found = directory_of(56, KESVUOT_OK);
+    CHECK(is_at(found.team, 0, 0) && is_at(found.identifier, 84 + 52, 2));
+    found = directory_of(54, KESVUOT_OK);
+    CHECK(is_at(found.identifier, 0, 0) && found.code_slots == 1);
+    // Without the last byte of its fields, and past the file
+    found = directory_of(51, KESVUOT_NONE);
+    CHECK(memcmp(&found, &none, sizeof none) == 0);
+    found = directory_of(SIGNED_SIZE, KESVUOT_NONE);
+    CHECK(memcmp(&found, &none, sizeof none) == 0);
+}
+
 // An image with a segment at 0x100000000, LC_DYLD_INFO (0x22) and LC_DYLD_EXPORTS_TRIE (0x80000033). The trie is at
 // 168, and each line of it is a node. The table of LC_DYLD_INFO is at 222, and exports the empty name at 7.
 static const struct {
@@ -699,6 +798,15 @@ static void try_all_exports(const uint8_t *bytes, size_t size, const struct kesv
     try_export(bytes, size, image, "_aa", 3, NO_EXPORT);
 }
 
+static const struct kesvuot_span NO_TRIE = {0, 0};
+
+static void try_trie(const uint8_t *bytes, size_t size, const struct kesvuot_image *image, struct kesvuot_span wanted) {
+    struct kesvuot_span trie;
+    memset(&trie, UNWRITTEN, sizeof trie);
+    CHECK(kesvuot_find_export_trie(bytes, size, image, &trie) == (wanted.size ? KESVUOT_OK : KESVUOT_NONE));
+    CHECK(memcmp(&trie, &wanted, sizeof trie) == 0);
+}
+
 static void try_exports(void) {
     static uint8_t file[BEFORE + EXPORTS_SIZE];
     struct kesvuot_image image = image_of_tables(&EXPORTS, EXPORTS_SIZE);
@@ -715,8 +823,8 @@ static void try_exports(void) {
     try_all_exports(file, sizeof file, &image, BEFORE);
 }
 
-// The trie of LC_DYLD_EXPORTS_TRIE ends sooner: no node is read that does not end in it. If it has no bytes, or ends
-// past the image, the table of LC_DYLD_INFO is the trie.
+// The trie of LC_DYLD_EXPORTS_TRIE ends sooner: no node is read that does not end in it. If it has no bytes, the table
+// of LC_DYLD_INFO is the trie, but not if it ends past the image.
 static void try_cut_exports(void) {
     struct kesvuot_image image = image_of_tables(&EXPORTS, EXPORTS_SIZE);
     const struct kesvuot_export a = {4, image.base + 0x10, 0, 0, {0, 0}, 0};
@@ -734,10 +842,110 @@ static void try_cut_exports(void) {
     for (int is_past = 0; is_past < 2; is_past++) {
         words[TRIE_SIZE_AT] = is_past ? EXPORTS_SIZE - 168 + 1 : 0;
         try_export(bytes, EXPORTS_SIZE, &image, "_a", 2, NO_EXPORT);
-        try_export(bytes, EXPORTS_SIZE, &image, "", 0, of_no_name);
+        try_export(bytes, EXPORTS_SIZE, &image, "", 0, is_past ? NO_EXPORT : of_no_name);
+        try_trie(bytes, EXPORTS_SIZE, &image, is_past ? NO_TRIE : (struct kesvuot_span){222, 4});
     }
+    words[TRIE_SIZE_AT] = 0;
     image.slice.size -= 2;
     try_export(bytes, EXPORTS_SIZE, &image, "", 0, NO_EXPORT);
+    try_trie(bytes, EXPORTS_SIZE, &image, NO_TRIE);
+}
+
+// A node at an offset of the trie, which begins at a place in the file.
+struct wanted_node {
+    uint64_t offset;
+    struct kesvuot_export_node node;
+    // Where the label of each edge is in the trie, and where it leads.
+    size_t edge_count;
+    struct kesvuot_export_edge edges[6];
+};
+
+static void try_node(const uint8_t *bytes, size_t size, const struct kesvuot_image *image, struct kesvuot_span trie,
+                     const struct wanted_node *wanted) {
+    struct kesvuot_export_node node;
+    struct kesvuot_export_edge rows[8];
+    memset(&node, UNWRITTEN, sizeof node);
+    CHECK(kesvuot_read_export_node(bytes, size, image, &trie, wanted->offset, &node) == KESVUOT_OK);
+    CHECK(memcmp(&node, &wanted->node, sizeof node) == 0);
+    for (size_t each = 1; each <= wanted->edge_count + 1; each++) {
+        struct kesvuot_cursor cursor = node.edges;
+        for (size_t first = 0; first <= wanted->edge_count; first += each) {
+            const size_t left = wanted->edge_count - first, count = left < each ? left : each;
+            memset(rows, UNWRITTEN, sizeof rows);
+            CHECK(kesvuot_read_export_edges(bytes, size, &trie, &cursor, rows, each) == count);
+            CHECK(memcmp(rows, wanted->edges + first, count * sizeof *rows) == 0);
+            CHECK(is_filled(rows + count, sizeof rows - count * sizeof *rows, UNWRITTEN));
+            CHECK(cursor.items == left - count);
+        }
+    }
+}
+
+static void try_no_node(const uint8_t *bytes, size_t size, const struct kesvuot_image *image, struct kesvuot_span trie,
+                        uint64_t offset) {
+    struct kesvuot_export_node node;
+    memset(&node, UNWRITTEN, sizeof node);
+    CHECK(kesvuot_read_export_node(bytes, size, image, &trie, offset, &node) == KESVUOT_NONE);
+    CHECK(is_filled(&node, sizeof node, 0));
+}
+
+// The nodes of a trie, of a file in which the image begins at an offset.
+static void try_all_nodes(const uint8_t *bytes, size_t size, const struct kesvuot_image *image, uint64_t offset) {
+    const uint64_t base = image->base, at = offset + 168;
+    const struct kesvuot_span trie = {at, 54};
+    const struct wanted_node nodes[] = {
+        {0, {NO_EXPORT, {0, 0}, {2, 0, 0, 1}, 0, 0}, 1, {{{at + 2, 1}, 5}}},
+        {5, {NO_EXPORT, {0, 0}, {7, 0, 0, 6}, 0, 0}, 6,
+         {{{at + 7, 1}, 25}, {{at + 10, 1}, 29}, {{at + 13, 1}, 33}, {{at + 16, 1}, 38}, {{at + 19, 1}, 45},
+          {{at + 22, 1}, 50}}},
+        {25, {{4, base + 0x10, 0, 0, {0, 0}, 0}, {at + 26, 2}, {29, 0, 0, 0}, 1, 0}, 0, {{{0, 0}, 0}}},
+        {38, {{8, 0, 0, 2, {offset + NAME_AT, 2}, 0}, {at + 39, 5}, {45, 0, 0, 0}, 1, 0}, 0, {{{0, 0}, 0}}},
+        {45, {{0x10, base + 0x40, base + 0x50, 0, {0, 0}, 0}, {at + 46, 3}, {50, 0, 0, 0}, 1, 0}, 0, {{{0, 0}, 0}}}};
+    try_trie(bytes, size, image, trie);
+    for (size_t k = 0; k < sizeof nodes / sizeof *nodes; k++) {
+        try_node(bytes, size, image, trie, &nodes[k]);
+    }
+    try_no_node(bytes, size, image, trie, 54);
+    try_no_node(bytes, size, image, trie, UINT64_MAX);
+    // Its number of edges would be past the trie.
+    try_no_node(bytes, size, image, (struct kesvuot_span){at, 28}, 25);
+    try_no_node(bytes, size, image, (struct kesvuot_span){at, UINT64_MAX - at + 1}, 0);
+    try_no_node(bytes, size, image, NO_TRIE, 0);
+}
+
+// Terminal parts that are no export, and edges that do not end in the trie.
+static void try_odd_nodes(void) {
+    const struct kesvuot_image image = image_of_tables(&EXPORTS, EXPORTS_SIZE);
+    // The flags do not end in the part, and the address does not.
+    static const uint8_t parts[] = {1, 0x80, 0, 2, 0, 0x80, 0};
+    const struct kesvuot_span all = {0, sizeof parts};
+    try_node(parts, sizeof parts, &image, all,
+             &(struct wanted_node){0, {NO_EXPORT, {1, 1}, {3, 0, 0, 0}, 0, 0}, 0, {{{0, 0}, 0}}});
+    try_node(parts, sizeof parts, &image, all,
+             &(struct wanted_node){3, {NO_EXPORT, {4, 2}, {7, 0, 0, 0}, 0, 0}, 0, {{{0, 0}, 0}}});
+    // Of three edges the last has no zero byte after its label.
+    static const uint8_t edges[] = {0, 3, 0, 9, 'a', 'b', 0, 0x80, 1, 'c'};
+    const struct kesvuot_span trie = {0, sizeof edges};
+    struct kesvuot_export_edge rows[4];
+    struct kesvuot_export_node node;
+    CHECK(kesvuot_read_export_node(edges, sizeof edges, &image, &trie, 0, &node) == KESVUOT_OK);
+    CHECK(kesvuot_read_export_edges(edges, sizeof edges, &trie, &node.edges, rows, 4) == 2);
+    CHECK(rows[0].label.offset == 0 && rows[0].label.size == 0 && rows[0].child == 9);
+    CHECK(rows[1].label.offset == 4 && rows[1].label.size == 2 && rows[1].child == 0x80);
+    CHECK(node.edges.place == 9 && node.edges.items == 1);
+    CHECK(kesvuot_read_export_edges(edges, sizeof edges, &trie, &node.edges, rows, 4) == 0);
+    struct kesvuot_cursor zeros = {0};
+    CHECK(kesvuot_read_export_edges(edges, sizeof edges, &trie, &zeros, rows, 4) == 0);
+}
+
+static void try_nodes(void) {
+    static uint8_t file[BEFORE + EXPORTS_SIZE];
+    struct kesvuot_image image = image_of_tables(&EXPORTS, EXPORTS_SIZE);
+    const struct file guarded = file_of(&EXPORTS, EXPORTS_SIZE, AT_END);
+    try_all_nodes(guarded.bytes, EXPORTS_SIZE, &image, 0);
+    release(guarded);
+    memcpy(file + BEFORE, &EXPORTS, EXPORTS_SIZE);
+    image.slice.offset = BEFORE;
+    try_all_nodes(file, sizeof file, &image, BEFORE);
 }
 
 static void try_versions(void) {
@@ -756,6 +964,93 @@ static void try_versions(void) {
     CHECK((version >> 10 & 1023) == 2 && (version & 1023) == 1023);
     CHECK(kesvuot_read_image(mixed.bytes, mixed.size, 1, &image) == KESVUOT_OK);
     CHECK(kesvuot_find_source_version(mixed.bytes, mixed.size, &image, &version) == KESVUOT_NONE && version == 0);
+}
+
+// A state of a thread: which words it has, and which two of them are the address at which the thread begins.
+struct state {
+    uint32_t cputype, flavor, count, entry_at;
+};
+// x86_THREAD_STATE64, x86_THREAD_STATE, which begins with the flavor and the count of the first, and ARM_THREAD_STATE64
+static const struct state STATES[] = {{0x01000007, 4, 42, 32}, {0x01000007, 7, 44, 34}, {0x0100000c, 6, 68, 64}};
+enum { STATE_KINDS = sizeof STATES / sizeof *STATES, STATE_WORDS = 30, THREAD_WORDS = 30 + 2 * 72 };
+
+// Writes an image with a segment at 0x100000000, which has all of the file, and an LC_UNIXTHREAD (5) of one state that
+// begins at this address. Returns its size.
+static size_t write_thread(uint32_t *words, const struct state *state, uint64_t entry) {
+    const uint32_t command_size = 16 + 4 * state->count, size = 104 + command_size;
+    const uint32_t start[STATE_WORDS] = {
+        0xfeedfacf, state->cputype, 0, 2, 2, 72 + command_size, 0, 0,
+        0x19, 72, 0, 0, 0, 0, 0, 1, 0x1000, 0, 0, 0, size, 0, 5, 5, 0, 0,
+        0x5, command_size, state->flavor, state->count};
+    memset(words, 0, THREAD_WORDS * sizeof *words);
+    memcpy(words, start, sizeof start);
+    if (state->flavor == 7) {
+        words[STATE_WORDS] = 4;
+        words[STATE_WORDS + 1] = 42;
+    }
+    memcpy(words + STATE_WORDS + state->entry_at, &entry, sizeof entry);
+    return size;
+}
+
+// Whether the thread of an image that is accepted begins at this address, or nowhere if that is 0.
+static bool begins_at(const uint32_t *words, size_t size, uint64_t wanted) {
+    const struct kesvuot_image image = image_of_tables(words, size);
+    uint64_t entry = 1;
+    const uint32_t status = kesvuot_find_thread_entry(words, size, &image, &entry);
+    return entry == wanted && status == (wanted ? KESVUOT_OK : KESVUOT_NONE);
+}
+
+// The same, where a word of the image has another value.
+static bool begins_with(const struct state *state, size_t word, uint32_t value, uint64_t wanted) {
+    uint32_t words[THREAD_WORDS];
+    const size_t size = write_thread(words, state, 0x100000020);
+    words[word] = value;
+    return begins_at(words, size, wanted);
+}
+
+// A second LC_UNIXTHREAD follows, which begins at 0x100000030.
+static void try_two_threads(const struct state *state) {
+    uint32_t words[THREAD_WORDS], other[THREAD_WORDS];
+    const size_t size = write_thread(words, state, 0x100000020), start = 26;
+    const uint32_t more = (uint32_t)(size / 4 - start);
+    write_thread(other, state, 0x100000030);
+    memcpy(words + size / 4, other + start, 4 * more);
+    words[4]++;
+    words[5] += 4 * more;
+    CHECK(begins_at(words, size + 4 * more, 0x100000020));
+    // The registers of the first are not known: the second does not matter.
+    words[28] = 99;
+    CHECK(begins_at(words, size + 4 * more, 0));
+}
+
+static void try_thread_entries(void) {
+    uint32_t words[THREAD_WORDS];
+    for (const struct state *state = STATES; state < STATES + STATE_KINDS; state++) {
+        const uint64_t base = 0x100000000, end = base + write_thread(words, state, base);
+        const uint64_t inside[] = {base, base + 1, end - 1};
+        const uint64_t outside[] = {0, 1, base - 1, end, base + 0xfff, UINT64_MAX};
+        for (size_t index = 0; index < sizeof inside / sizeof *inside; index++) {
+            CHECK(begins_at(words, write_thread(words, state, inside[index]), inside[index]));
+        }
+        for (size_t index = 0; index < sizeof outside / sizeof *outside; index++) {
+            CHECK(begins_at(words, write_thread(words, state, outside[index]), 0));
+        }
+        // LC_THREAD; LC_IDENT is no thread. A segment that can be read and written, or executed alone
+        CHECK(begins_with(state, 26, 0x4, base + 0x20) && begins_with(state, 26, 0x8, 0));
+        CHECK(begins_with(state, 23, 3, 0) && begins_with(state, 23, 4, base + 0x20));
+        // Another flavor, a word less, a word more, and another processor
+        CHECK(begins_with(state, 28, 5, 0) && begins_with(state, 29, state->count - 1, 0));
+        CHECK(begins_with(state, 29, state->count + 1, 0) && begins_with(state, 29, UINT32_MAX, 0));
+        CHECK(begins_with(state, 1, 0x01000012, 0) && begins_with(state, 1, state->cputype ^ 11, 0));
+        try_two_threads(state);
+    }
+    // The header inside has another flavor or count.
+    CHECK(begins_with(&STATES[1], STATE_WORDS, 7, 0) && begins_with(&STATES[1], STATE_WORDS + 1, 44, 0));
+    // An image without a thread
+    struct kesvuot_image image;
+    uint64_t entry = 1;
+    CHECK(kesvuot_read_image(mixed.bytes, mixed.size, 1, &image) == KESVUOT_OK);
+    CHECK(kesvuot_find_thread_entry(mixed.bytes, mixed.size, &image, &entry) == KESVUOT_NONE && entry == 0);
 }
 
 // A structure of zeros is not an image, and every call returns so. Nor is one whose slice ends past the file.
@@ -942,9 +1237,14 @@ int main(int count, char **words) {
     try_relocations();
     try_function_starts();
     try_data_in_code();
+    try_blobs();
+    try_code_directories();
     try_exports();
     try_cut_exports();
+    try_nodes();
+    try_odd_nodes();
     try_versions();
+    try_thread_entries();
     try_no_image();
     try_symbols();
     release(library);

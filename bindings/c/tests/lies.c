@@ -114,6 +114,17 @@ static void take_names(const struct kesvuot_image *image, size_t size) {
         calls++;                                                                  \
     } while (0)
 
+// What any bytes of the file say as a code directory, and those of a blob.
+static void take_code_directory(const struct kesvuot_blob *blob, size_t size) {
+    struct kesvuot_code_directory found;
+    const uint32_t status = kesvuot_read_code_directory(file.bytes, size, blob, &found);
+    CHECK(status == KESVUOT_OK || (status == KESVUOT_NONE && found.version == 0));
+    take(found.identifier, size);
+    take(found.team, size);
+    take(found.hashes, size);
+    take(found.special_hashes, size);
+}
+
 static void take_tables(const struct kesvuot_image *image, size_t size) {
     const size_t max = draw_below(MOST_ROWS + 1);
     TAKE_TABLE(struct kesvuot_segment, kesvuot_read_segments, (take(row->name, size), take(row->bytes, size)));
@@ -127,6 +138,7 @@ static void take_tables(const struct kesvuot_image *image, size_t size) {
     TAKE_TABLE(uint64_t, kesvuot_read_function_starts, CHECK(row == rows || row[-1] < *row));
     TAKE_TABLE(struct kesvuot_data_in_code, kesvuot_read_data_in_code,
                (take(row->bytes, size), CHECK(row->bytes.size == 0 || row->bytes.size == row->length)));
+    TAKE_TABLE(struct kesvuot_blob, kesvuot_read_blobs, (take(row->bytes, size), take_code_directory(row, size)));
 }
 
 // The relocations of any section.
@@ -155,6 +167,9 @@ static void take_bounded(const struct kesvuot_image *image, size_t size) {
     uint64_t version = 1;
     const uint32_t found = kesvuot_find_source_version(file.bytes, size, image, &version);
     CHECK(found == KESVUOT_OK || (found == KESVUOT_NONE && version == 0));
+    uint64_t entry = 1;
+    const uint32_t begins = kesvuot_find_thread_entry(file.bytes, size, image, &entry);
+    CHECK(begins == KESVUOT_OK || (begins == KESVUOT_NONE && entry == 0));
 }
 
 // Explains any rule at any place, or the first broken one.
@@ -169,7 +184,7 @@ static void take_explanation(size_t size) {
         kesvuot_verify_linked(file.bytes, size, &verdict);
     }
     if (!verdict.rule || draw_below(4) == 0) {
-        verdict.rule = (uint32_t)(draw_below(8) ? draw_below(KESVUOT_EXPORT_ADDRESS + 2) : draw());
+        verdict.rule = (uint32_t)(draw_below(8) ? draw_below(KESVUOT_COMMAND_CONTENT + 2) : draw());
         verdict.place = lie(draw_below(2) ? verdict.place : 4 * draw_below(0x100));
     }
     verdict.slices = draw();
@@ -177,10 +192,10 @@ static void take_explanation(size_t size) {
     calls++;
     if (status == KESVUOT_OK) {
         explained++;
-        CHECK(found.at.kind > KESVUOT_PART_NONE && found.at.kind <= KESVUOT_PART_EXPORT_NODE);
+        CHECK(found.at.kind > KESVUOT_PART_NONE && found.at.kind <= KESVUOT_PART_RELOCATION);
         CHECK(found.at.start <= verdict.place && verdict.place - found.at.start <= found.at.size);
         CHECK(found.at.start <= size && found.at.size <= size - found.at.start);
-        CHECK(found.first.kind <= KESVUOT_PART_EXPORT_NODE && found.second.kind <= KESVUOT_PART_EXPORT_NODE);
+        CHECK(found.first.kind <= KESVUOT_PART_RELOCATION && found.second.kind <= KESVUOT_PART_RELOCATION);
     } else {
         CHECK(status == KESVUOT_NONE && memcmp(&found, &none, sizeof none) == 0);
     }
@@ -229,6 +244,34 @@ static void take_export(const struct kesvuot_image *image, size_t size) {
     take(found.name, size);
 }
 
+// Reads a node and its edges, of the trie of the image or of any bytes.
+static void take_node(const struct kesvuot_image *image, size_t size) {
+    struct kesvuot_span trie;
+    struct kesvuot_export_node node;
+    struct kesvuot_export_edge rows[MOST_ROWS];
+    const uint32_t found = kesvuot_find_export_trie(file.bytes, size, image, &trie);
+    CHECK(found == KESVUOT_OK ? trie.size > 0 : found == KESVUOT_NONE && trie.size == 0);
+    take(trie, size);
+    if (draw_below(2)) {
+        trie = (struct kesvuot_span){lie(draw_below(size + 1)), lie(draw_below(0x100))};
+    }
+    const uint64_t offset = lie(draw_below(trie.size < 0x100 ? trie.size + 1 : 0x100));
+    const uint32_t status = kesvuot_read_export_node(file.bytes, size, image, &trie, offset, &node);
+    CHECK(status == KESVUOT_OK || (status == KESVUOT_NONE && node.edges.items == 0));
+    CHECK(node.edges.items < 256 && node.has_export < 2);
+    take(node.terminal, size);
+    take(node.exported.name, size);
+    struct kesvuot_cursor cursor = draw_below(2) ? node.edges : some_cursor();
+    const size_t count = kesvuot_read_export_edges(file.bytes, size, &trie, &cursor, rows, draw_below(MOST_ROWS + 1));
+    CHECK(count <= MOST_ROWS);
+    for (size_t index = 0; index < count; index++) {
+        CHECK(rows[index].label.size == 0 ||
+              memchr(file.bytes + rows[index].label.offset, 0, rows[index].label.size) == NULL);
+        take(rows[index].label, size);
+    }
+    calls++;
+}
+
 static void take_all(const struct kesvuot_image *image, size_t size) {
     static const uint32_t cmds[] = {0x1d, 0x1e, 0x26, 0x29, 0x2b, 0x2e, 0x80000033, 0x80000034, 0x2, 0x19};
     struct kesvuot_span bytes;
@@ -240,6 +283,7 @@ static void take_all(const struct kesvuot_image *image, size_t size) {
     take_name(image, size, (uint32_t)lie(draw_below(0x200)));
     take_symbols(image, size);
     take_export(image, size);
+    take_node(image, size);
     kesvuot_find_data(file.bytes, size, image, cmds[draw_below(sizeof cmds / sizeof *cmds)], &bytes);
     take(bytes, size);
     const uint64_t address = draw_below(2) ? lie(image->base) : image->base + draw_below(0x20000);

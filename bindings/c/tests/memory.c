@@ -117,7 +117,7 @@ static void try_explanations(struct file file) {
     struct kesvuot_verdict verdict = {0};
     struct kesvuot_explanation found;
     asked = 0;
-    for (verdict.rule = KESVUOT_MAGIC; verdict.rule <= KESVUOT_EXPORT_ADDRESS; verdict.rule++) {
+    for (verdict.rule = KESVUOT_MAGIC; verdict.rule <= KESVUOT_COMMAND_CONTENT; verdict.rule++) {
         for (verdict.place = 0; verdict.place < file.size && verdict.place < 1024; verdict.place += 4) {
             kesvuot_explain(file.bytes, file.size, &verdict, &found);
         }

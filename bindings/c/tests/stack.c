@@ -40,7 +40,7 @@ static void layout(void) {
 // Each rule, at the places where the first structures are.
 static void explain(void) {
     struct kesvuot_explanation found;
-    for (uint32_t rule = KESVUOT_MAGIC; rule <= KESVUOT_EXPORT_ADDRESS; rule++) {
+    for (uint32_t rule = KESVUOT_MAGIC; rule <= KESVUOT_COMMAND_CONTENT; rule++) {
         for (uint64_t place = 0; place < 512; place += 8) {
             const struct kesvuot_verdict verdict = {.place = place, .rule = rule};
             kesvuot_explain(file.bytes, file.size, &verdict, &found);

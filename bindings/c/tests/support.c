@@ -140,6 +140,20 @@ FIRST_BATCH(symbols, struct kesvuot_symbol)
 FIRST_BATCH(indirects, uint32_t)
 FIRST_BATCH(function_starts, uint64_t)
 FIRST_BATCH(data_in_code, struct kesvuot_data_in_code)
+FIRST_BATCH(blobs, struct kesvuot_blob)
+
+// How many of the first blobs are code directories.
+static size_t read_code_directory(const struct file *file, const struct kesvuot_image *image) {
+    static struct kesvuot_blob rows[BATCH];
+    struct kesvuot_cursor cursor = {0};
+    struct kesvuot_code_directory directory;
+    size_t found = 0;
+    const size_t count = kesvuot_read_blobs(file->bytes, file->size, image, &cursor, rows, BATCH);
+    for (size_t index = 0; index < count; index++) {
+        found += kesvuot_read_code_directory(file->bytes, file->size, &rows[index], &directory) == KESVUOT_OK;
+    }
+    return found;
+}
 
 static size_t symbol_name(const struct file *file, const struct kesvuot_image *image) {
     static struct kesvuot_symbol rows[BATCH];
@@ -185,6 +199,11 @@ static size_t find_source_version(const struct file *file, const struct kesvuot_
     return kesvuot_find_source_version(file->bytes, file->size, image, &version) == KESVUOT_OK;
 }
 
+static size_t find_thread_entry(const struct file *file, const struct kesvuot_image *image) {
+    uint64_t entry;
+    return kesvuot_find_thread_entry(file->bytes, file->size, image, &entry) == KESVUOT_OK;
+}
+
 static size_t find_address(const struct file *file, const struct kesvuot_image *image) {
     struct kesvuot_span bytes;
     return kesvuot_find_address(file->bytes, file->size, image, image->base, &bytes) == KESVUOT_OK;
@@ -221,6 +240,21 @@ static size_t find_export(const struct file *file, const struct kesvuot_image *i
     return kesvuot_find_export(file->bytes, file->size, image, NO_SYMBOL, sizeof NO_SYMBOL - 1, &found) == KESVUOT_OK;
 }
 
+static size_t find_export_trie(const struct file *file, const struct kesvuot_image *image) {
+    struct kesvuot_span trie;
+    return kesvuot_find_export_trie(file->bytes, file->size, image, &trie) == KESVUOT_OK;
+}
+
+// The edges of the root.
+static size_t read_export_edges(const struct file *file, const struct kesvuot_image *image) {
+    static struct kesvuot_export_edge rows[BATCH];
+    struct kesvuot_span trie;
+    struct kesvuot_export_node node;
+    kesvuot_find_export_trie(file->bytes, file->size, image, &trie);
+    kesvuot_read_export_node(file->bytes, file->size, image, &trie, 0, &node);
+    return kesvuot_read_export_edges(file->bytes, file->size, &trie, &node.edges, rows, BATCH);
+}
+
 const struct view views[VIEWS] = {
     {"read_commands", read_commands}, {"read_segments", read_segments}, {"read_sections", read_sections},
     {"read_libraries", read_libraries}, {"read_builds", read_builds}, {"read_symbols", read_symbols},
@@ -228,5 +262,7 @@ const struct view views[VIEWS] = {
     {"find_data", find_data}, {"find_address", find_address}, {"read_relocations", read_relocations},
     {"find_table", find_table}, {"find_source_version", find_source_version}, {"index_symbols", index_symbols},
     {"find_symbol", find_symbol}, {"find_name", find_name}, {"read_function_starts", read_function_starts},
-    {"read_data_in_code", read_data_in_code}, {"find_export", find_export},
+    {"read_data_in_code", read_data_in_code}, {"find_export", find_export}, {"find_export_trie", find_export_trie},
+    {"read_export_edges", read_export_edges}, {"read_blobs", read_blobs}, {"read_code_directory", read_code_directory},
+    {"find_thread_entry", find_thread_entry},
 };

@@ -52,15 +52,15 @@ void print_name(const struct file *file, struct kesvuot_span name);
 // there are. `symbol_name` asks for the names of these symbols, and returns how many have one. `read_names` asks for
 // all of them at once, and returns how many it gets. `find_data` asks for the data of LC_FUNCTION_STARTS, `find_table`
 // for the strings, `find_address` for the bytes at the base, and `find_name` and `find_export` for a name that no symbol
-// has: they return whether there are any. So does `find_source_version`. `read_relocations` asks for those of the first
-// section. `index_symbols` returns how many symbols have an address, and `find_symbol` also looks up the greatest
-// address.
+// has: they return whether there are any. So do `find_source_version` and `find_thread_entry`. `read_code_directory`
+// returns how many of the first 16 blobs are code directories. `read_relocations` asks for those of the first section.
+// `index_symbols` returns how many symbols have an address, and `find_symbol` also looks up the greatest address.
 struct view {
     const char *name;
     size_t (*call)(const struct file *file, const struct kesvuot_image *image);
 };
 
-enum { VIEWS = 20 };
+enum { VIEWS = 25 };
 extern const struct view views[VIEWS];
 
 #endif

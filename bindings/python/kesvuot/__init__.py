@@ -45,9 +45,11 @@ from ._files import (
     BoundedTable, Dysymtab, File, Image, Refused, Slice, Source, SourceKind, Symtab, arch_name, arch_named,
     command_name, library_version, platform_name, verify, verify_file, verify_linked)
 from ._opcodes import Bind, OpcodeError, Rebase
-from ._rows import Build, Command, DataInCode, Export, Library, Relocation, Section, Segment, Symbol, Table
+from ._rows import (
+    Blob, Build, CodeDirectory, Command, DataInCode, Export, Library, Relocation, Section, Segment, Symbol, Table)
 
 __all__ = ["verify", "verify_file", "verify_linked", "explain", "library_version", "arch_name", "arch_named",
            "command_name", "platform_name", "constants", "Refused", "Explanation", "Part", "File", "Slice", "Image",
            "Source", "SourceKind", "Table", "Segment", "Section", "Library", "Build", "Command", "Symbol", "Relocation",
-           "DataInCode", "Export", "BoundedTable", "Symtab", "Dysymtab", "Rebase", "Bind", "OpcodeError"]
+           "DataInCode", "Blob", "CodeDirectory", "Export", "BoundedTable", "Symtab", "Dysymtab", "Rebase", "Bind",
+           "OpcodeError"]

@@ -46,6 +46,10 @@ FIELDS = {
 CHAIN_STRUCTURES = {
     "chain-header": "dyld_chained_fixups_header", "chain-array": "dyld_chained_starts_in_image",
     "chain-starts": "dyld_chained_starts_in_segment"}
+# Those of a code signature, and the fields of a code directory.
+SIGNATURE_STRUCTURES = {"signature-entry": "CS_BlobIndex", "signature-blob": "CS_CodeDirectory"}
+DIRECTORY_FIELDS = ("magic length version hashOffset identOffset nSpecialSlots nCodeSlots codeLimit hashSize hashType "
+                    "pageSize")
 GROUP_FIELDS = ("ilocalsym nlocalsym", "iextdefsym nextdefsym", "iundefsym nundefsym")
 # Those that a rule reads besides: of the structure at the place, and of that of the second part.
 MORE_FIELDS: Dict[str, Tuple[str, str]] = {
@@ -61,7 +65,12 @@ MORE_FIELDS: Dict[str, Tuple[str, str]] = {
     "chain-header": ("dataoff datasize fixups_version imports_format symbols_format", ""),
     "chain-starts": ("starts_offset seg_count", "vmaddr vmsize initprot"),
     "chain-imports": ("imports_offset imports_count imports_format", ""), "chain-slot": ("", "initprot flags"),
-    "function-start": ("", "filesize"), "data-in-code": ("offset length kind", "initprot")}
+    "function-start": ("", "filesize"), "data-in-code": ("offset length kind", "initprot"),
+    "signature-blob": ("type offset magic length count", ""),
+    **dict.fromkeys(("signature-directory", "signature-whole"), ("type offset", "")),
+    "symbol-library": ("n_type n_desc", ""), "symbol-value": ("n_type n_sect n_value", ""),
+    "symbol-indirect": ("n_type n_value", ""),
+    **dict.fromkeys(("thread", "command-content"), ("cmd cmdsize", ""))}
 
 
 class Spot(NamedTuple):
@@ -147,6 +156,12 @@ class Case:
             return f"the data of entry {wanted.index}"
         if wanted.kind == "export-node":
             return f"the node at {wanted.start:#x}"
+        if wanted.kind == "signature-entry":
+            return f"entry {wanted.index} of the code signature"
+        if wanted.kind == "signature-blob":
+            return f"the blob of entry {wanted.index}"
+        if wanted.kind == "relocation":
+            return f"relocation {wanted.index}"
         if wanted.kind == "group":
             return f"the group of {GROUPS[wanted.index or 0]} symbols"
         part = self.found(wanted)
@@ -204,6 +219,10 @@ class Case:
             return CHAIN_STRUCTURES[kind], part.start
         if kind in ("data-in-code-entry", "data-in-code"):
             return "data_in_code_entry", place
+        if kind in SIGNATURE_STRUCTURES:
+            return SIGNATURE_STRUCTURES[kind], part.start
+        if kind == "byte" and self.rule == "signature-blob":
+            return "CS_SuperBlob", part.start
         if kind == "symbol" or (kind == "name" and self.explanation.symbol is not None):
             return "nlist_64", place
         if kind in ("command", "segment", "segment-memory", "table", "group",
@@ -227,6 +246,8 @@ class Case:
             return GROUP_FIELDS[part.index or 0]
         if part.kind == "name":
             return "name path n_strx"
+        if part.kind == "signature-blob":
+            return "magic length" if self.rule == "signature-blob" else DIRECTORY_FIELDS
         return FIELDS.get(part.kind, "") if structure != "fat_header" else "nfat_arch"
 
     @cached_property

@@ -12,6 +12,7 @@ from typing import Any, Dict, Iterator, List, Optional, Tuple
 from ._case import Case
 from ._check import ACCEPTED, NO_VERDICT, Choice, Outcome, Target, judge
 from ._dump import Mark, dump
+from ._command_stories import CONTENT_SIZES
 from ._explanation import Part as FilePart
 from ._files import ARCHITECTURES, File, Image
 from ._names import command_name
@@ -23,6 +24,7 @@ from ._rules import RULES
 from ._show import columns
 from ._stories import Told, told_of
 from ._structures import LISTED, size_of
+from .constants import LC_THREAD, LC_UNIXTHREAD
 
 # The form of the object of JSON (docs/explain.schema.json). A field may be added without a new version.
 EXPLAIN_VERSION = 1
@@ -37,7 +39,10 @@ MOST_NAMES = 20
 # The tables whose contents each profile judges in part, and those whose contents the linked profile judges.
 JUDGED_TABLES = {"symbols", "strings", "indirect symbols"}
 JUDGED_BY_LINKED = {"rebase opcodes", "bind opcodes", "weak bind opcodes", "lazy bind opcodes", "chained fixups",
-                    "export trie", "exports trie", "function starts", "data in code"}
+                    "export trie", "exports trie", "function starts", "data in code", "code signature",
+                    "external relocations", "local relocations"}
+# The commands of no rule of RULES.md that it judges.
+COMMANDS_OF_LINKED = {LC_THREAD, LC_UNIXTHREAD, *CONTENT_SIZES}
 
 Rows = List[Tuple[str, ...]]
 
@@ -70,7 +75,8 @@ def _not_judged(profile: str, file: File) -> Rows:
         if not isinstance(part, Image):
             rows.append((name, "all that is in it, because it is no 64-bit little-endian image"))
             continue
-        commands = [command_name(command.cmd) for command in part.commands if command.cmd not in LISTED]
+        judged = {*LISTED, *(COMMANDS_OF_LINKED if profile == "linked" else ())}
+        commands = [command_name(command.cmd) for command in part.commands if command.cmd not in judged]
         if commands:
             rows.append((name, f"the fields of {_enumerated(commands)}"))
         tables = [it.name for it in image_parts(file.data, found, part) if _is_left(it.kind, it.name, profile)]
@@ -89,7 +95,9 @@ def _enumerated(names: List[str]) -> str:
 def _is_left(kind: str, name: str, profile: str) -> bool:
     """Whether the contents of a part are not judged."""
     judged = JUDGED_TABLES | (JUDGED_BY_LINKED if profile == "linked" else set())
-    return kind in ("relocations", "encrypted range") or (kind == "table" and name not in judged)
+    if kind == "relocations":
+        return profile != "linked"
+    return kind == "encrypted range" or (kind == "table" and name not in judged)
 
 
 def _accepted(outcome: Outcome, profile: str) -> Iterator[str]:

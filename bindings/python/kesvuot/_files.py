@@ -10,11 +10,11 @@ from functools import cached_property
 from typing import Any, Iterator, NamedTuple, Optional, SupportsIndex, Tuple, Union
 from uuid import UUID
 
-from . import _library, _opcodes, _reading, _rows
+from . import _exports, _library, _opcodes, _reading, _rows
 from ._library import CHANGED, EXPORT, IMAGE, SPAN, TEXT, VERDICT, Bytes, Data, address_of, load
 from ._opcodes import Bind, Rebase
 from ._rows import (
-    Build, Command, DataInCode, Export, Library, NamedReader, Reader, Relocation, Section, Segment, Symbol, Table,
+    Blob, Build, Command, DataInCode, Export, Library, NamedReader, Reader, Relocation, Section, Segment, Symbol, Table,
     WalkedReader)
 from .constants import LC_LOAD_DYLINKER, LC_RPATH
 
@@ -142,7 +142,7 @@ class Image(Slice):
     `filetype`, `flags`: those of the header
     `base`: the address of the header. None if no mapped segment has the first byte of the header. That all of the
     headers are mapped is header-segment, a strict rule
-    `entry`: the address that LC_MAIN names, or None without one
+    `entry`: the address that LC_MAIN names, or None without one; a program can have a `thread_entry` then
     `id`: a Library, what the image is as one by its LC_ID_DYLIB, or None without one
     `uuid`: the uuid.UUID of LC_UUID, or None without one
     `symtab`, `dysymtab`: a Symtab and a Dysymtab, or None without such a command
@@ -210,6 +210,16 @@ class Image(Slice):
         number = written.value
         parts = number >> 40, number >> 30 & 0x3FF, number >> 20 & 0x3FF, number >> 10 & 0x3FF, number & 0x3FF
         return parts if status == _library.OK else None
+
+    @cached_property
+    def thread_entry(self) -> Optional[int]:
+        """The address at which the first LC_THREAD or LC_UNIXTHREAD begins, such as that of a program that Go links.
+        None if there is no such command, its registers are not known, or the file has no byte that can be executed at
+        the address. In a file that `verify_linked` accepts each image with such a command has the address."""
+        written = ctypes.c_uint64()
+        status = load().kesvuot_find_thread_entry(
+            self._data.address, len(self._data), self._image, ctypes.byref(written))
+        return written.value if status == _library.OK else None
 
     @cached_property
     def run_paths(self) -> Tuple[memoryview, ...]:
@@ -291,6 +301,13 @@ class Image(Slice):
             self._data.address, len(self._data), self._image, wanted.address, len(wanted), written)
         return _rows.export_of(self._data, written) if status == _library.OK else None
 
+    def exports(self) -> Iterator[Tuple[bytes, Export]]:
+        """What the image exports, each with its name, by a walk over the export trie. In a file that `verify_linked`
+        accepts these are all. In any other the walk ends before a node that does not end in the trie, or with which the
+        nodes that were met have more bytes than the trie, and it leaves out what is no export. There the names can be
+        together far longer than the trie: a program that keeps them adds up their sizes."""
+        return _exports.exports(self._data, self._image)
+
     @cached_property
     def local_symbols(self) -> Table[Symbol]:
         """The group of local symbols of LC_DYSYMTAB, none without it."""
@@ -334,6 +351,15 @@ class Image(Slice):
         overlap. In a file that `verify_linked` accepts the bytes of each are in one executable segment. In any other
         they can be of no code."""
         return _rows.batches(self._data, self._image, _rows.DATA_IN_CODE)
+
+    def blobs(self) -> Iterator[Blob]:
+        """The blobs of the code signature, by the first LC_CODE_SIGNATURE, in the order of its index. Each lies past
+        the one before it. They end before the first of which this does not hold. There are none if the data is no
+        superblob. In a file that `verify_linked` accepts these are all. The entitlements are the blobs of the slots 5
+        (a property list) and 7 (DER), past their first 8 bytes:
+
+            next((blob.bytes[8:] for blob in image.blobs() if blob.slot == 5), None)"""
+        return _rows.batches(self._data, self._image, _rows.BLOBS)
 
     def table(self, table: BoundedTable) -> Optional[memoryview]:
         """A table of the image, or None if no command bounds it. Of several such commands it is a table of the first.
@@ -463,8 +489,9 @@ def verify_file(path: Union[str, bytes, "os.PathLike[str]", "os.PathLike[bytes]"
 def verify_linked(data: Data) -> File:
     """Judges a file by the rules of the strict profile, and then by those of docs/LINKED.md: where the linked data of
     an image lies, what the opcodes of LC_DYLD_INFO and LC_DYLD_INFO_ONLY, the table of LC_DYLD_CHAINED_FIXUPS and the
-    chains of pointers in the pages ask a dynamic loader for, what the image exports, and where functions start and data
-    is in code. Raises what `verify` raises."""
+    chains of pointers in the pages ask a dynamic loader for, what the image exports, where functions start and data is
+    in code, how a code signature is built, what symbols and relocations refer to, where threads begin, and what all
+    other commands of loader.h hold. Raises what `verify` raises."""
     return _judge(data, load().kesvuot_verify_linked)
 
 

@@ -50,5 +50,6 @@ def layout_objects(file: File) -> List[Dict[str, Any]]:
 
 
 def _tables(image: Image) -> Dict[str, Any]:
-    return {"symtab": image.symtab and image.symtab._asdict(), "dysymtab": image.dysymtab and image.dysymtab._asdict(),
+    return {"thread_entry": image.thread_entry, "symtab": image.symtab and image.symtab._asdict(),
+            "dysymtab": image.dysymtab and image.dysymtab._asdict(),
             "commands": [{**_row_object(command), "size": len(command.bytes)} for command in image.commands]}

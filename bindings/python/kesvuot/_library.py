@@ -27,6 +27,11 @@ VERDICT = struct.Struct("@2QI4x")
 EXPLANATION = struct.Struct("@3Q2I3Q2I3Q2I2Q4I")
 IMAGE = struct.Struct("@2Q13Q2Q3I4x12I16s16x")
 EXPORT = struct.Struct("@6Q8x")
+# Its terminal part is not taken.
+EXPORT_NODE = struct.Struct("@6Q8x16x4QI4x")
+EXPORT_EDGE = struct.Struct("@3Q")
+BLOB = struct.Struct("@2Q2I")
+CODE_DIRECTORY = struct.Struct("@8QQ5I2H")
 
 CHANGED = "the bytes have changed after the verdict"
 
@@ -78,14 +83,19 @@ def _declare(library: Any) -> None:
         "find_data": (u32, [pointer, size, pointer, u32, pointer]),
         "find_table": (u32, [pointer, size, pointer, u32, pointer]),
         "find_source_version": (u32, [pointer, size, pointer, pointer]),
+        "find_thread_entry": (u32, [pointer, size, pointer, pointer]),
+        "read_code_directory": (u32, [pointer, size, pointer, pointer]),
         "read_relocations": (size, [pointer, size, pointer, u32, u32, pointer, pointer, size]),
         "find_address": (u32, [pointer, size, pointer, u64, pointer]),
         "index_symbols": (size, [pointer, size, pointer, pointer, size]),
         "find_symbol": (u32, [pointer, size, pointer, pointer, size, u64, pointer, pointer]),
         "find_name": (u32, [pointer, size, pointer, pointer, size, pointer, pointer]),
-        "find_export": (u32, [pointer, size, pointer, pointer, size, pointer])}
+        "find_export": (u32, [pointer, size, pointer, pointer, size, pointer]),
+        "find_export_trie": (u32, [pointer, size, pointer, pointer]),
+        "read_export_node": (u32, [pointer, size, pointer, pointer, u64, pointer]),
+        "read_export_edges": (size, [pointer, size, pointer, pointer, pointer, size])}
     for table in ("segments", "sections", "libraries", "builds", "commands", "symbols", "indirects",
-                  "function_starts", "data_in_code"):
+                  "function_starts", "data_in_code", "blobs"):
         calls[f"read_{table}"] = (size, [pointer, size, pointer, pointer, pointer, size])
     for name, (result, arguments) in calls.items():
         call = getattr(library, f"kesvuot_{name}")

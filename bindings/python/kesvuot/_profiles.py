@@ -29,7 +29,8 @@ PROFILES: Dict[str, Profile] = {
     "strict": Profile(partial(_files.verify, strict=True), "RULES.md", "as macho-strict, with more",
                       "bytes that no header accounts for, or that two parts share", "RULES.md#the-strict-profile"),
     "linked": Profile(_files.verify_linked, "LINKED.md", "as macho-linked, with still more",
-                      "where linked data lies, opcodes, fixups, exports and functions", "LINKED.md#what-is-still-open")}
+                      "where linked data lies, and what it and the other commands say",
+                      "LINKED.md#what-is-still-open")}
 DEFAULT = "layout"
 
 

@@ -8,7 +8,7 @@ from struct import Struct
 from typing import (
     Any, Callable, Iterable, Iterator, NamedTuple, Optional, Sequence, SupportsIndex, Tuple, TypeVar, Union, overload)
 
-from ._library import CHANGED, CURSOR, EXPORT, NO_SECTION, SPAN, Bytes, load
+from ._library import BLOB, CHANGED, CODE_DIRECTORY, CURSOR, EXPORT, NO_SECTION, OK, SPAN, Bytes, load
 from .constants import EXPORT_SYMBOL_FLAGS_REEXPORT, EXPORT_SYMBOL_FLAGS_STUB_AND_RESOLVER
 
 Row = TypeVar("Row")
@@ -16,6 +16,8 @@ Fields = Iterable[Tuple[Any, ...]]
 
 # How many rows a loop asks the library for at once.
 BATCH = 1024
+# The fields whose bytes are no name.
+CONTENTS = frozenset(("bytes", "hashes", "special_hashes"))
 # The most bytes of strings in which names are looked for at once. One name is looked up in any case.
 MOST_BYTES = 1 << 28
 
@@ -25,7 +27,7 @@ def _text(row: Any) -> str:
     def shown(field: str, value: Any) -> str:
         if not isinstance(value, memoryview):
             return repr(value)
-        return f"<{len(value)} bytes>" if field == "bytes" else repr(value.tobytes())
+        return f"<{len(value)} bytes>" if field in CONTENTS else repr(value.tobytes())
 
     fields = ", ".join(f"{field}={shown(field, value)}" for field, value in zip(row._fields, row))
     return f"{type(row).__name__}({fields})"
@@ -180,6 +182,67 @@ class DataInCode(NamedTuple):
         return _text(self)
 
 
+class CodeDirectory(NamedTuple):
+    """A CS_CodeDirectory of <kern/cs_blobs.h>: what was signed, and the hashes of its pages. In a file that
+    `verify_linked` accepts, the names and the hashes lie in the blob, the type of the hashes is known, and `limit` is
+    where the signature begins in the image: there is a hash for each page before that. Nothing has compared the hashes
+    with the pages.
+
+    `identifier`, `team`: without the zero byte past them, empty if there is none
+    `hashes`: those of the code, one for each page, each of `hash_size` bytes; empty if they pass the blob
+    `special_hashes`: each of `hash_size` bytes, that of the special slot 1 last; empty if they pass the blob
+    `limit`: so many bytes of the image are hashed, from its start on: codeLimit64, or codeLimit if that is 0 or not
+    there
+    `version`, `flags`: 0x20000 or more; CS_ADHOC (2) and others
+    `code_slots`, `special_slots`: how many hashes, and how many special ones there are
+    `hash_size`: in bytes, any number
+    `hash_type`: CS_HASHTYPE_SHA256 or another of these constants, or any other number
+    `page_size`: the log2 of the size of a page in bytes. 0: one page has all bytes"""
+
+    identifier: memoryview
+    team: memoryview
+    hashes: memoryview
+    special_hashes: memoryview
+    limit: int
+    version: int
+    flags: int
+    code_slots: int
+    special_slots: int
+    hash_size: int
+    hash_type: int
+    page_size: int
+
+    def __repr__(self) -> str:
+        return _text(self)
+
+
+class Blob(NamedTuple):
+    """A blob of a code signature: a CS_BlobIndex and a CS_GenericBlob of <kern/cs_blobs.h>.
+
+    `bytes`: the whole blob, with its magic and its length. What it holds begins after these 8 bytes
+    `slot`: the type of its entry, CSSLOT_CODEDIRECTORY or another of these constants, or any other number
+    `magic`: CSMAGIC_CODEDIRECTORY (0xfade0c02) or another of these, or any other number"""
+
+    bytes: memoryview
+    slot: int
+    magic: int
+
+    def __repr__(self) -> str:
+        return _text(self)
+
+    def code_directory(self) -> Optional[CodeDirectory]:
+        """What the blob says, if it is a code directory. Its slot does not matter. None if it has another magic, a
+        version below 0x20000, fewer bytes than the fields of its version, or a scatter vector. In a file that
+        `verify_linked` accepts, each blob in a slot of code directories (0, 0x1000 to 0x1004) is one."""
+        data, written = Bytes(self.bytes), ctypes.create_string_buffer(CODE_DIRECTORY.size)
+        blob = ctypes.create_string_buffer(BLOB.pack(0, len(data), self.slot, self.magic), BLOB.size)
+        if load().kesvuot_read_code_directory(data.address, len(data), blob, written) != OK:
+            return None
+        fields = CODE_DIRECTORY.unpack(written)
+        parts = (data.part(*fields[start:start + 2]) for start in range(0, 8, 2))
+        return CodeDirectory(*parts, *fields[8:])
+
+
 class Export(NamedTuple):
     """What an image offers to others under a name. Only the linked profile judges its fields.
 
@@ -248,6 +311,10 @@ def _data_in_code(data: Bytes, rows: Fields) -> Iterator[DataInCode]:
     return (DataInCode(data.part(offset, size), *numbers) for offset, size, *numbers in rows)
 
 
+def _blobs(data: Bytes, rows: Fields) -> Iterator[Blob]:
+    return (Blob(data.part(offset, size), *numbers) for offset, size, *numbers in rows)
+
+
 # In the forms of kesvuot.h, each 2Q at the start is a span, x is reserved or not taken, and ? and ?3x are numbers that
 # are 0 or 1.
 SEGMENTS = Kind("kesvuot_read_segments", Struct("@4Q2Q8x3Q3I4x"), _segments)
@@ -258,6 +325,7 @@ SYMBOLS = Kind("kesvuot_read_symbols", Struct("@QIIHBB4x"), _symbols)
 INDIRECTS = Kind("kesvuot_read_indirects", Struct("@I"), _numbers)
 FUNCTION_STARTS = Kind("kesvuot_read_function_starts", Struct("@Q"), _numbers)
 DATA_IN_CODE = Kind("kesvuot_read_data_in_code", Struct("@2QI2H"), _data_in_code)
+BLOBS = Kind("kesvuot_read_blobs", BLOB, _blobs)
 RELOCATIONS = Kind("kesvuot_read_relocations", Struct("@2I?B?B?3x"), _relocations)
 
 

@@ -91,7 +91,8 @@ def _properties(image: Image) -> Iterator[Cells]:
             yield "run path", plain(command.name)
     if image.symtab:
         yield "symbols", str(image.symtab.nsyms)
-    yield "entry", "none" if image.entry is None else f"{image.entry:#x}"
+    entry = image.thread_entry if image.entry is None else image.entry
+    yield "entry", "none" if entry is None else f"{entry:#x}"
 
 
 def _segments(image: Image) -> Iterator[Cells]:

@@ -2,20 +2,20 @@
 
 from __future__ import annotations
 
-from typing import Callable, Collection, Dict, List, NamedTuple, Optional, Tuple
+from typing import Callable, Collection, Dict, NamedTuple, Optional
 
 from . import _kinds, _names
 from ._case import Case
-from ._explanation import Part as FilePart, explain
+from ._command_stories import command_content, thread
+from ._explanation import explain
 from ._files import Refused
 from ._names import count_text, protection_text
 from ._parts import arch_name
 from ._reading import Contents
+from ._signature_stories import signature_blob, signature_directory, signature_whole
 from ._structures import number_in
+from ._teller import Story, Teller
 
-Number = Tuple[str, int]
-
-NO_PART = FilePart("", None, 0, 0, 0)
 LC_ID_DYLIB = "LC_ID_DYLIB"
 READ, WRITE, EXECUTE = 1, 2, 4
 SG_PROTECTED_VERSION_1 = 8
@@ -27,54 +27,11 @@ IMPORT_SIZES = {1: 4, 2: 8, 3: 16}
 POINTER_FORMATS = (1, 2, 6, 9, 12)
 PAGE_SIZES = (0x1000, 0x4000)
 STARTS_SIZE, PAGE_START_SIZE, ENTRY_SIZE, POINTER_SIZE = 22, 2, 4, 8
+# The bit of r_extern, in the last byte of a relocation.
+R_EXTERN = 8
 # The kinds of data in code, and the last address.
 DICE_KINDS = (1, 2, 3, 4, 5)
 MOST = (1 << 64) - 1
-
-
-class Story(NamedTuple):
-    """A sentence, and the numbers with what they are."""
-
-    says: str
-    numbers: List[Number]
-
-
-class Teller:
-    """The words for a case: its names and numbers."""
-
-    def __init__(self, case: Case) -> None:
-        self.case = case
-        it = case.explanation
-        self.at_part, self.first_part, self.second_part = (part or NO_PART for part in (it.at, it.first, it.second))
-        self.at = case.name(self.at_part)
-        self.first, self.second = case.names
-        self.value, self.limit = it.value, it.limit
-        # What a part should end in: the slice, which is the whole file if there is no other.
-        self.whole = f"slice {it.slice}" if case.entry else "the file"
-
-    def story(self, says: str, value: str = "", limit: str = "") -> Story:
-        """A story, with the names of its two numbers, if they have some."""
-        numbers = [(name, number) for name, number in ((value, self.value), (limit, self.limit)) if name]
-        return Story(says[0].upper() + says[1:], numbers)
-
-    def goes_past(self, what: str, verb: str, value: str) -> Story:
-        """A part ends past the slice."""
-        return self.story(f"{what} {verb} at {self.value:#x}, past the end of {self.whole}, {self.limit:#x}.", value,
-                          f"length of {self.whole}")
-
-    def shares(self) -> Story:
-        """Two parts share bytes or addresses, from `value` up to and including `limit`."""
-        is_memory = self.first_part.kind == "segment-memory"
-        one, some = ("address", "addresses") if is_memory else ("byte", "bytes")
-        shared = f"{some} {self.value:#x} up to {self.limit + 1:#x}" if self.value < self.limit else \
-            f"{one} {self.value:#x}"
-        return self.story(f"{self.first} and {self.second} share the {shared}.", f"first shared {one}",
-                          f"last shared {one}")
-
-    def lies_between(self, says: str) -> Story:
-        """A byte lies between two parts, of which either may not be there."""
-        sides = [f"{word} {part}" for word, part in (("after", self.first), ("before", self.second)) if part]
-        return self.story(f"the byte {self.value:02x} {says}{', ' if sides else ''}{' and '.join(sides)}.", "byte")
 
 
 def _arch(number: int) -> str:
@@ -240,11 +197,15 @@ def _symbol_group(it: Teller) -> Story:
 
 
 def _symbol_name(it: Teller) -> Story:
+    return _ends_in_strings(it, f"the name of {it.at}", "n_strx")
+
+
+def _ends_in_strings(it: Teller, name: str, field: str) -> Story:
+    """A name begins past the end of the strings, or does not end in them."""
     if it.value >= it.limit:
-        return it.story(f"the name of {it.at} begins at {it.value:#x} of the strings, which have {it.limit:#x} bytes.",
-                        "n_strx", "strsize")
-    return it.story(f"the name of {it.at} does not end: no byte from {it.first_part.start:#x} up to the end of the "
-                    "strings is 0.", "n_strx", "strsize")
+        return it.story(f"{name} begins at {it.value:#x} of the strings, which have {it.limit:#x} bytes.", field, "strsize")
+    return it.story(f"{name} does not end: no byte from {it.first_part.start:#x} up to the end of the strings is 0.", field,
+                    "strsize")
 
 
 def _symbol_section(it: Teller) -> Story:
@@ -267,12 +228,7 @@ def _entry(it: Teller) -> Story:
         return it.story(f"the entry is at address {it.value:#x} of {it.second}, whose bytes in the file end at "
                         f"{it.limit:#x}.", "entry address", "vmaddr + filesize")
     return it.story(f"the entry is at address {it.value:#x} of {it.second}, which is not executable: "
-                    f"{protection_text(_segment_number(it, 'initprot'))}.", "entry address", "vmaddr + filesize")
-
-
-def _segment_number(it: Teller, field: str) -> int:
-    """A number of the command of the second part, which is a segment."""
-    return number_in(it.case.data[it.second_part.described:], "segment_command_64", field)
+                    f"{protection_text(it.segment_number('initprot'))}.", "entry address", "vmaddr + filesize")
 
 
 # The strict profile
@@ -315,10 +271,10 @@ def _table_home(it: Teller) -> Story:
         return it.shares()
     if not it.second:
         return it.story(f"there is no segment __LINKEDIT, which {it.first} should lie in.", "end of the table")
-    flags, initprot = _segment_number(it, "flags"), _segment_number(it, "initprot")
+    flags, initprot = it.segment_number("flags"), it.segment_number("initprot")
     is_inside = it.second_part.start <= it.first_part.start and it.first_part.end <= it.second_part.end
     faults = [fault for fault, is_so in (
-        ("does not have all their bytes", not is_inside), ("is not mapped", not _segment_number(it, "vmsize")),
+        ("does not have all their bytes", not is_inside), ("is not mapped", not it.segment_number("vmsize")),
         ("cannot be read", not initprot & READ), ("can be written", initprot & WRITE),
         ("is encrypted", flags & SG_PROTECTED_VERSION_1)) if is_so]
     return it.story(f"the bytes of {it.first} should lie in {it.second}, which {' and '.join(faults)}.",
@@ -328,7 +284,7 @@ def _table_home(it: Teller) -> Story:
 def _header_home(it: Teller) -> Story:
     if not it.second:
         return it.story("no segment is named __TEXT, from which a loader takes the slide.")
-    if all((_segment_number(it, "vmsize"), _segment_number(it, "filesize"), not _segment_number(it, "fileoff"))):
+    if all((it.segment_number("vmsize"), it.segment_number("filesize"), not it.segment_number("fileoff"))):
         how = "can be written" if it.value & WRITE else "cannot be read"
         return it.story(f"{it.second} has the headers, which a loader reads, and {how}.", "initprot")
     return it.story(f"a loader takes the slide from {it.second}, which is at {it.value:#x}, and the headers are at "
@@ -353,9 +309,9 @@ def _slot(it: Teller) -> Story:
     numbers = "end of the last pointer in the segment", "writable bytes of the segment"
     if not it.second:
         return it.story(f"{it.at} writes to a segment that is not set, or that there is not.", *numbers)
-    if not _segment_number(it, "vmsize") or not _segment_number(it, "initprot") & WRITE:
+    if not it.segment_number("vmsize") or not it.segment_number("initprot") & WRITE:
         return it.story(f"{it.at} writes to {it.second}, which cannot be written: "
-                        f"{protection_text(_segment_number(it, 'initprot'))}.", *numbers)
+                        f"{protection_text(it.segment_number('initprot'))}.", *numbers)
     return it.story(f"{it.at} writes up to {it.value:#x} of {it.second}, which has {it.limit:#x} bytes in the file.",
                     *numbers)
 
@@ -432,15 +388,15 @@ def _of_starts(it: Teller) -> str:
         return f"{it.first} have pointer_format {number('pointer_format')}, and {_known(POINTER_FORMATS)}."
     if number("page_size") not in PAGE_SIZES:
         return f"{it.first} are of pages of {number('page_size'):#x} bytes, and not of 0x1000 or 0x4000."
-    if not _segment_number(it, "vmsize"):
+    if not it.segment_number("vmsize"):
         return f"{it.second} has starts of chains, and is not mapped."
-    if not _segment_number(it, "initprot") & WRITE:
+    if not it.segment_number("initprot") & WRITE:
         return (f"{it.second} has starts of chains, and cannot be written: "
-                f"{protection_text(_segment_number(it, 'initprot'))}.")
+                f"{protection_text(it.segment_number('initprot'))}.")
     if it.first_part.start < _end_of_starts_before(it):
         return f"{it.first} begin before those of an earlier segment end."
     return (f"{it.first} say that the segment is {number('segment_offset'):#x} past the base, and its address is "
-            f"{_segment_number(it, 'vmaddr'):#x}.")
+            f"{it.segment_number('vmaddr'):#x}.")
 
 
 def _end_of_starts_before(it: Teller) -> int:
@@ -497,7 +453,7 @@ def _why_not_written(it: Teller) -> str:
     """Why no pointer of a writable segment can be written as it is in the file."""
     if not it.second_part.size:
         return "which has no bytes in the file"
-    if _segment_number(it, "flags") & SG_PROTECTED_VERSION_1:
+    if it.segment_number("flags") & SG_PROTECTED_VERSION_1:
         return "which is encrypted"
     return "some of whose bytes are encrypted"
 
@@ -567,11 +523,29 @@ def _data_in_code(it: Teller) -> Story:
     if not it.second:
         return it.story(f"{it.first} begins at {begins:#x}, which is in no segment.", "offset + length")
     numbers = "offset + length", "fileoff + filesize"
-    if not _segment_number(it, "initprot") & EXECUTE:
+    if not it.segment_number("initprot") & EXECUTE:
         return it.story(f"{it.first} begins in {it.second}, which is not executable: "
-                        f"{protection_text(_segment_number(it, 'initprot'))}.", *numbers)
+                        f"{protection_text(it.segment_number('initprot'))}.", *numbers)
     return it.story(f"{it.first} ends at {it.value:#x}, past the bytes of {it.second}, which end at {it.limit:#x}.",
                     *numbers)
+
+
+def _symbol_value(it: Teller) -> Story:
+    return it.story(f"{it.at} is of a section, and its value {it.value:#x} is neither an address of a segment nor the end "
+                    "of one.", "n_value")
+
+
+def _relocation(it: Teller) -> Story:
+    bits = number_in(it.case.data[it.at_part.start:], "relocation_info", "r_bits")
+    number = number_in(it.case.data[it.at_part.start:], "relocation_info", "r_symbolnum")
+    if bits & R_EXTERN and number >= it.limit and it.value == number:
+        return it.story(f"{it.at} of {it.first} is for symbol {number}, and there {_are(it.limit, 'symbol')}.",
+                        "r_symbolnum", "number of symbols")
+    if not bits & R_EXTERN and number > it.limit and it.value == number:
+        return it.story(f"{it.at} of {it.first} is for section {number}, and there {_are(it.limit, 'section')}.",
+                        "r_symbolnum", "number of sections")
+    return it.story(f"{it.at} of {it.first} is for {count_text(1 << it.value, 'byte')}, and a pointer has 8.", "r_length",
+                    "r_length of a pointer")
 
 
 def _function_variants(it: Teller) -> Story:
@@ -611,7 +585,11 @@ STORIES: Dict[str, Callable[[Teller], Story]] = {
     "chain-library": lambda it: _library(it, "is of"), "chain-slot": _chain_slot, "chain-bind": _chain_bind,
     "export-node": _export_node, "export-total": _export_total, "export-terminal": _export_terminal,
     "export-library": lambda it: _library(it, "is of"), "export-address": _export_address,
-    "function-number": _function_number, "function-start": _function_start, "data-in-code": _data_in_code}
+    "function-number": _function_number, "function-start": _function_start, "data-in-code": _data_in_code,
+    "signature-blob": signature_blob, "signature-directory": signature_directory, "signature-whole": signature_whole,
+    "symbol-library": lambda it: _library(it, "is of"), "symbol-value": _symbol_value,
+    "symbol-indirect": lambda it: _ends_in_strings(it, f"the name that {it.at} stands in for", "n_value"),
+    "relocation": _relocation, "thread": thread, "command-content": command_content}
 
 
 class Told(NamedTuple):

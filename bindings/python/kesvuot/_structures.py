@@ -1,5 +1,5 @@
-"""The structures of <mach-o/fat.h>, <mach-o/loader.h>, <mach-o/nlist.h> and <mach-o/fixup-chains.h>, with their fields
-by name."""
+"""The structures of <mach-o/fat.h>, <mach-o/loader.h>, <mach-o/nlist.h>, <mach-o/reloc.h>, <mach-o/fixup-chains.h> and
+cs_blobs.h, with their fields by name."""
 
 from __future__ import annotations
 
@@ -28,7 +28,7 @@ def _fields(words: str) -> Tuple[Field, ...]:
     return tuple(fields)
 
 
-# Those of a universal file are big-endian, and all others little-endian.
+# Those of a universal file and of a code signature are big-endian, and all others little-endian.
 STRUCTURES: Dict[str, Tuple[Field, ...]] = {name: _fields(words) for name, words in {
     "fat_header": "magic nfat_arch",
     "fat_arch": "cputype cpusubtype offset size align",
@@ -57,12 +57,19 @@ STRUCTURES: Dict[str, Tuple[Field, ...]] = {name: _fields(words) for name, words
     "entry_point_command": "cmd cmdsize entryoff:8 stacksize:8",
     "data_in_code_entry": "offset length:2 kind:2",
     "nlist_64": "n_strx n_type:1 n_sect:1 n_desc:2 n_value:8",
+    # The last field has r_pcrel, r_length, r_extern and r_type, from the lowest bit on.
+    "relocation_info": "r_address r_symbolnum:3 r_bits:1",
+    "CS_SuperBlob": "magic length count",
+    "CS_BlobIndex": "type offset",
+    "CS_CodeDirectory":
+        "magic length version flags hashOffset identOffset nSpecialSlots nCodeSlots codeLimit hashSize:1 hashType:1 "
+        "platform:1 pageSize:1 spare2 scatterOffset teamOffset spare3 codeLimit64:8",
     "dyld_chained_fixups_header":
         "fixups_version starts_offset imports_offset symbols_offset imports_count imports_format symbols_format",
     "dyld_chained_starts_in_image": "seg_count",
     "dyld_chained_starts_in_segment":
         "size page_size:2 pointer_format:2 segment_offset:8 max_valid_pointer page_count:2"}.items()}
-BIG_ENDIAN = frozenset(("fat_header", "fat_arch", "fat_arch_64"))
+BIG_ENDIAN = frozenset(("fat_header", "fat_arch", "fat_arch_64", "CS_SuperBlob", "CS_BlobIndex", "CS_CodeDirectory"))
 
 # The structure of each command that docs/RULES.md lists, and of those others that have data.
 LISTED: Dict[int, str] = {

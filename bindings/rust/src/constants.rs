@@ -122,6 +122,14 @@ pub const EXPORT_SYMBOL_FLAGS_REEXPORT: u64 = 0x8;
 pub const EXPORT_SYMBOL_FLAGS_STUB_AND_RESOLVER: u64 = 0x10;
 pub const EXPORT_SYMBOL_FLAGS_STATIC_RESOLVER: u64 = 0x20;
 
+// Of a code signature: slots of code directories, and types of hashes. (kern/cs_blobs.h)
+pub const CSSLOT_CODEDIRECTORY: u32 = 0x0;
+pub const CSSLOT_ALTERNATE_CODEDIRECTORIES: u32 = 0x1000;
+pub const CS_HASHTYPE_SHA1: u8 = 1;
+pub const CS_HASHTYPE_SHA256: u8 = 2;
+pub const CS_HASHTYPE_SHA256_TRUNCATED: u8 = 3;
+pub const CS_HASHTYPE_SHA384: u8 = 4;
+
 // The bits of a protection. (mach/vm_prot.h)
 pub const VM_PROT_READ: u32 = 1;
 pub const VM_PROT_WRITE: u32 = 2;

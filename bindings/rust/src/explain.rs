@@ -100,6 +100,13 @@ kinds! {
     /// A node of an export trie, up to the end of its last edge, or if it does not end in the table,
     /// up to the end of that: no bytes if it would begin past it.
     ExportNode = 33,
+    /// `CS_BlobIndex` of a code signature, with its index there.
+    SignatureEntry = 34,
+    /// The blob of the entry with this index: all its `length` bytes, or 8 if its first 8 are not all in
+    /// the superblob.
+    SignatureBlob = 35,
+    /// `relocation_info`. The index counts from 0 in its table.
+    Relocation = 36,
 }
 
 /// A structure, or what a structure describes. It lies where the file says, which can be past the

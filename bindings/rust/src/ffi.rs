@@ -210,6 +210,27 @@ structures! {
         kind: u16,
     }
 
+    kesvuot_blob = Blob {
+        bytes: Span,
+        slot: u32,
+        magic: u32,
+    }
+
+    kesvuot_code_directory = CodeDirectory {
+        identifier: Span,
+        team: Span,
+        hashes: Span,
+        special_hashes: Span,
+        limit: u64,
+        version: u32,
+        flags: u32,
+        code_slots: u32,
+        special_slots: u32,
+        hash_size: u32,
+        hash_type: u16,
+        page_size: u16,
+    }
+
     kesvuot_export = Export {
         flags: u64,
         address: u64,
@@ -217,6 +238,19 @@ structures! {
         ordinal: u64,
         name: Span,
         reserved: u64,
+    }
+
+    kesvuot_export_node = ExportNode {
+        exported: Export,
+        terminal: Span,
+        edges: Cursor,
+        has_export: u32,
+        reserved: u32,
+    }
+
+    kesvuot_export_edge = ExportEdge {
+        label: Span,
+        child: u64,
     }
 }
 
@@ -292,6 +326,18 @@ extern "C" {
         image: *const Image,
         version: *mut u64,
     ) -> u32;
+    fn kesvuot_find_thread_entry(
+        file: *const c_void,
+        size: usize,
+        image: *const Image,
+        entry: *mut u64,
+    ) -> u32;
+    fn kesvuot_read_code_directory(
+        file: *const c_void,
+        size: usize,
+        blob: *const Blob,
+        directory: *mut CodeDirectory,
+    ) -> u32;
     fn kesvuot_read_relocations(
         file: *const c_void,
         size: usize,
@@ -343,6 +389,28 @@ extern "C" {
         name_size: usize,
         found: *mut Export,
     ) -> u32;
+    fn kesvuot_find_export_trie(
+        file: *const c_void,
+        size: usize,
+        image: *const Image,
+        trie: *mut Span,
+    ) -> u32;
+    fn kesvuot_read_export_node(
+        file: *const c_void,
+        size: usize,
+        image: *const Image,
+        trie: *const Span,
+        offset: u64,
+        node: *mut ExportNode,
+    ) -> u32;
+    fn kesvuot_read_export_edges(
+        file: *const c_void,
+        size: usize,
+        trie: *const Span,
+        cursor: *mut Cursor,
+        rows: *mut ExportEdge,
+        max: usize,
+    ) -> usize;
 }
 
 /// The major version of the library whose structures these are.
@@ -520,6 +588,7 @@ tables! {
     u32: kesvuot_read_indirects,
     u64: kesvuot_read_function_starts,
     DataInCode: kesvuot_read_data_in_code,
+    Blob: kesvuot_read_blobs,
 }
 
 /// The status, and where the name at `strx` in the strings is.
@@ -563,6 +632,30 @@ pub fn find_source_version(file: &[u8], image: &Image) -> (u32, u64) {
     // SAFETY: the file may be read, and nobody changes it meanwhile. The number may be written.
     let status = unsafe { kesvuot_find_source_version(at, file.len(), image, &mut version) };
     (status, version)
+}
+
+/// The status, and the address at which the first thread begins.
+pub fn find_thread_entry(file: &[u8], image: &Image) -> (u32, u64) {
+    let (at, mut entry) = (file.as_ptr().cast(), 0);
+    // SAFETY: the file may be read, and nobody changes it meanwhile. The number may be written.
+    let status = unsafe { kesvuot_find_thread_entry(at, file.len(), image, &mut entry) };
+    (status, entry)
+}
+
+/// The status, and what a blob of these bytes says as a code directory. Its spans lie in these bytes.
+pub fn read_code_directory(bytes: &[u8]) -> (u32, CodeDirectory) {
+    let (at, mut directory) = (bytes.as_ptr().cast(), CodeDirectory::default());
+    let all = Span {
+        offset: 0,
+        size: bytes.len() as u64,
+    };
+    let blob = Blob {
+        bytes: all,
+        ..Blob::default()
+    };
+    // SAFETY: the bytes may be read, and nobody changes them meanwhile. The directory may be written.
+    let status = unsafe { kesvuot_read_code_directory(at, bytes.len(), &blob, &mut directory) };
+    (status, directory)
 }
 
 /// The relocations from this place on, of which there are so many. There are fewer if they do not all lie
@@ -641,6 +734,36 @@ pub fn find_export(file: &[u8], image: &Image, name: &[u8]) -> (u32, Export) {
     // written.
     let status = unsafe { kesvuot_find_export(at, file.len(), image, start, size, &mut found) };
     (status, found)
+}
+
+/// The status, and where the export trie of an image is.
+pub fn find_export_trie(file: &[u8], image: &Image) -> (u32, Span) {
+    let (at, mut trie) = (file.as_ptr().cast(), Span::default());
+    // SAFETY: as in `symbol_name`.
+    let status = unsafe { kesvuot_find_export_trie(at, file.len(), image, &mut trie) };
+    (status, trie)
+}
+
+/// The status, and the node at an offset of an export trie.
+pub fn read_export_node(file: &[u8], image: &Image, trie: &Span, offset: u64) -> (u32, ExportNode) {
+    let (at, mut node) = (file.as_ptr().cast(), ExportNode::default());
+    // SAFETY: the file may be read, and nobody changes it meanwhile. The node may be written.
+    let status =
+        unsafe { kesvuot_read_export_node(at, file.len(), image, trie, offset, &mut node) };
+    (status, node)
+}
+
+/// The edges of a node from a cursor on, as far as there is room. The cursor moves past them.
+pub fn read_export_edges(
+    file: &[u8],
+    trie: &Span,
+    cursor: &mut Cursor,
+    rows: &mut [ExportEdge],
+) -> usize {
+    let (at, size, max) = (file.as_ptr().cast(), file.len(), rows.len());
+    // SAFETY: the file may be read, and nobody changes it meanwhile. The cursor and the rows may be
+    // written, and stay initialized where they are not.
+    unsafe { kesvuot_read_export_edges(at, size, trie, cursor, rows.as_mut_ptr(), max) }
 }
 
 #[cfg(test)]

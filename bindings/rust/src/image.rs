@@ -2,6 +2,7 @@
 
 use core::fmt;
 
+use crate::exports::Exports;
 use crate::ffi::{self, Raw, Span};
 use alloc::vec::Vec;
 
@@ -10,6 +11,7 @@ use crate::parts::{
     Table,
 };
 use crate::rows::{Row, Rows, UncountedRows};
+use crate::signature::Blob;
 use crate::symbol_index::SymbolIndex;
 
 /// An image of an accepted file.
@@ -171,10 +173,33 @@ impl<'a> Image<'a> {
         self.has(ffi::HAS_BASE).then_some(self.raw.base)
     }
 
-    /// The address that `LC_MAIN` names, before any slide. `None` without `LC_MAIN`.
+    /// The address that `LC_MAIN` names, before any slide. `None` without `LC_MAIN`: a program can have a
+    /// [`thread_entry`](Image::thread_entry) then.
     #[must_use]
     pub fn entry(&self) -> Option<u64> {
         self.has(ffi::HAS_ENTRY).then_some(self.raw.entry)
+    }
+
+    /// The address at which the first `LC_THREAD` or `LC_UNIXTHREAD` begins, before any slide, such as that
+    /// of a program that Go links. `None` if there is no such command, its registers are not known, or the file
+    /// has no byte that can be executed at the address. In a file that
+    /// [`verify_linked`](crate::verify_linked) accepts each image with such a command has the address.
+    ///
+    /// Each call rescans the load commands.
+    ///
+    /// ```
+    /// # let path = concat!(env!("CARGO_MANIFEST_DIR"), "/../../tests/real/program");
+    /// # let file = std::fs::read(path)?;
+    /// # let image = kesvuot::verify(&file)?.image(0).unwrap();
+    /// let entry = image.entry().or_else(|| image.thread_entry());
+    /// assert_eq!(entry, Some(0x1_0000_0440));
+    /// assert_eq!(image.thread_entry(), None);
+    /// # Ok::<(), Box<dyn std::error::Error>>(())
+    /// ```
+    #[must_use]
+    pub fn thread_entry(&self) -> Option<u64> {
+        let (status, entry) = ffi::find_thread_entry(self.file, &self.raw);
+        (status == ffi::OK).then_some(entry)
     }
 
     /// The fields of `LC_SYMTAB`, if there is one.
@@ -382,6 +407,25 @@ impl<'a> Image<'a> {
         (status == ffi::OK).then(|| Export::new(found, self))
     }
 
+    /// What the image exports, each with its name, by a walk over the export trie. In a file that
+    /// [`verify_linked`](crate::verify_linked) accepts these are all. In any other the walk ends before a node that
+    /// does not end in the trie, or with which the nodes that were met have more bytes than the trie, and it leaves
+    /// out what is no export.
+    ///
+    /// ```
+    /// # let path = concat!(env!("CARGO_MANIFEST_DIR"), "/../../tests/real/program");
+    /// # let file = std::fs::read(path)?;
+    /// # let image = kesvuot::verify(&file)?.image(0).unwrap();
+    /// for (name, export) in image.exports() {
+    ///     assert_eq!(image.find_export(name), Some(export));
+    /// }
+    /// # Ok::<(), Box<dyn std::error::Error>>(())
+    /// ```
+    #[must_use]
+    pub fn exports(&self) -> Exports<'a> {
+        Exports::new(*self)
+    }
+
     /// The symbols by address: sort them once, and look up many addresses.
     #[must_use]
     pub fn symbol_index(&self) -> SymbolIndex<'a> {
@@ -475,6 +519,28 @@ impl<'a> Image<'a> {
     /// executable segment. In any other they can be of no code.
     #[must_use]
     pub fn data_in_code(&self) -> UncountedRows<'a, DataInCode<'a>> {
+        UncountedRows::new(*self)
+    }
+
+    /// The blobs of the code signature, by the first `LC_CODE_SIGNATURE`, in the order of its index. Each lies
+    /// past the one before it. They end before the first of which this does not hold. There are none if the data
+    /// is no superblob. In a file that [`verify_linked`](crate::verify_linked) accepts these are all.
+    ///
+    /// The entitlements are the blobs of the slots 5 (a property list) and 7 (DER), past their first 8 bytes:
+    ///
+    /// ```
+    /// # let path = concat!(env!("CARGO_MANIFEST_DIR"), "/../../tests/real/library");
+    /// # let file = std::fs::read(path)?;
+    /// # let image = kesvuot::verify(&file)?.image(1).unwrap();
+    /// let entitlements = image.blobs().find(|blob| blob.slot == 5).map(|blob| &blob.bytes[8..]);
+    /// assert_eq!(entitlements, None);
+    ///
+    /// let directory = image.blobs().find_map(|blob| blob.code_directory()).unwrap();
+    /// assert_eq!(directory.identifier, b"library-arm64");
+    /// # Ok::<(), Box<dyn std::error::Error>>(())
+    /// ```
+    #[must_use]
+    pub fn blobs(&self) -> UncountedRows<'a, Blob<'a>> {
         UncountedRows::new(*self)
     }
 

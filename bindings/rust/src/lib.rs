@@ -49,6 +49,7 @@ extern crate std;
 pub mod constants;
 mod error;
 mod explain;
+mod exports;
 #[allow(unsafe_code)]
 mod ffi;
 #[cfg(feature = "std")]
@@ -58,11 +59,13 @@ mod named_symbols;
 mod parts;
 mod rows;
 mod rule;
+mod signature;
 mod symbol_index;
 mod verified;
 
 pub use error::Error;
 pub use explain::{explain, Explanation, Part, PartKind};
+pub use exports::Exports;
 #[cfg(feature = "std")]
 pub use file::{verify_file, FileError};
 pub use image::{Dysymtab, Image, Source, Symtab};
@@ -73,6 +76,7 @@ pub use parts::{
 };
 pub use rows::{Rows, UncountedRows};
 pub use rule::{ParseRuleError, Rule};
+pub use signature::{Blob, CodeDirectory};
 pub use symbol_index::SymbolIndex;
 pub use verified::{Slice, Slices, Verified, VerifiedBuf};
 
@@ -107,8 +111,10 @@ pub fn verify_strictly(file: &[u8]) -> Result<Verified<'_>, Error> {
 /// Judges a file by the rules of the linked profile too, after those of [`verify_strictly`]: where
 /// the linked data of an image lies, what the opcodes of `LC_DYLD_INFO` and `LC_DYLD_INFO_ONLY`, the
 /// table of `LC_DYLD_CHAINED_FIXUPS` and the chains of pointers in the pages ask a dynamic loader for,
-/// what the image exports, and where functions start and data is in code. `docs/LINKED.md` says what
-/// that means. Whatever is accepted here is accepted by [`verify_strictly`].
+/// what the image exports, where functions start and data is in code, how a code signature is built,
+/// what symbols and relocations refer to, where threads begin, and what all other commands of `loader.h`
+/// hold. `docs/LINKED.md` says what that means. Whatever is accepted here is accepted by
+/// [`verify_strictly`].
 ///
 /// # Errors
 ///

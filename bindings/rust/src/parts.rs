@@ -13,7 +13,7 @@ use crate::rows::Row;
 use crate::{ffi, Image};
 
 /// A name as `Debug` shows it.
-struct Text<'a>(&'a [u8]);
+pub(crate) struct Text<'a>(pub(crate) &'a [u8]);
 
 impl fmt::Debug for Text<'_> {
     fn fmt(&self, f: &mut fmt::Formatter<'_>) -> fmt::Result {

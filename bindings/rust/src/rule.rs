@@ -191,6 +191,28 @@ rules! {
     /// Linked: an entry of the data in code is cut, of a kind that is not known, or not in the file bytes
     /// of an executable segment.
     DataInCode = 63,
+    /// Linked: the code signature is cut, is no superblob, or has a blob that is not inside of it or that
+    /// begins before the one before ends.
+    SignatureBlob = 69,
+    /// Linked: the code signature has no code directory, or one that is cut or of no known form, or that
+    /// has a hash, an identifier or a team which does not end in it, or too many or too few hashes.
+    SignatureDirectory = 70,
+    /// Linked: the hashes of a code directory are not of all bytes before the signature.
+    SignatureWhole = 71,
+    /// Linked: an undefined symbol is of a library that is not there.
+    SymbolLibrary = 72,
+    /// Linked: the address of a symbol that a section defines is in no segment.
+    SymbolValue = 73,
+    /// Linked: the other name of an indirect symbol does not end in the string table.
+    SymbolIndirect = 74,
+    /// Linked: a relocation is of a symbol or a section that is not there, or a loader's is of no pointer.
+    Relocation = 75,
+    /// Linked: a second command for a thread; or the states of one do not end with it, have no registers
+    /// that are known, or name an entry that is not at a byte of the file in an executable segment.
+    Thread = 76,
+    /// Linked: a load command has no place in such an image; or a name, a range or an address in it is
+    /// wrong, or a byte past what it holds is not 0.
+    CommandContent = 77,
 }
 
 impl Rule {

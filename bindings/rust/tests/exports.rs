@@ -75,3 +75,53 @@ fn each_kind_is_found() {
         assert_eq!(image.find_export(other), None);
     }
 }
+
+/// The names and exports of a walk.
+fn walked(file: &[u8]) -> Vec<(String, ExportKind<'_>)> {
+    let image = kesvuot::verify(file).unwrap().image(0).unwrap();
+    let exports = image.exports();
+    exports
+        .map(|(name, export)| (String::from_utf8(name).unwrap(), export.kind))
+        .collect()
+}
+
+#[test]
+fn a_walk_meets_all() {
+    let file = with_trie(&TRIE.concat());
+    let image = kesvuot::verify(&file).unwrap().image(0).unwrap();
+    let found = walked(&file);
+    let names: Vec<&str> = found.iter().map(|(name, _)| name.as_str()).collect();
+    assert_eq!(names, ["_a", "_k", "_o", "_q", "_r", "_s", "_t"]);
+    for (name, kind) in &found {
+        assert_eq!(image.find_export(name).unwrap().kind, *kind);
+    }
+    let mut exports = image.exports();
+    assert_eq!(exports.by_ref().count(), 7);
+    assert!(exports.next().is_none());
+}
+
+#[test]
+fn a_walk_ends_on_any_bytes() {
+    let base = 0x1_0000_0000;
+    // The root, which is the whole trie, exports the empty name, and leads to itself.
+    let itself = with_trie(b"\x02\x00\x07\x01a\0\x00");
+    assert_eq!(
+        walked(&itself),
+        [(String::new(), ExportKind::Regular(base + 7))]
+    );
+    // Two edges lead to one node of 4 bytes, and the nodes that are met have 16 bytes, of a trie of 13.
+    let twice = with_trie(b"\x00\x02a\0\x09b\0\x09\0\x02\x00\x07\x00");
+    assert_eq!(
+        walked(&twice),
+        [(String::from("a"), ExportKind::Regular(base + 7))]
+    );
+    // The first edge is whole, and the second does not end in the trie.
+    assert!(walked(&with_trie(b"\x00\x02a\0\x05b")).is_empty());
+    // The flags of the first export and the address of the second do not end in their terminal parts.
+    let parts = b"\x00\x03a\0\x0bb\0\x0ec\0\x12\x01\x80\x00\x02\x00\x80\x00\x02\x00\x07\x00";
+    assert_eq!(
+        walked(&with_trie(parts)),
+        [(String::from("c"), ExportKind::Regular(base + 7))]
+    );
+    assert!(walked(&with_trie(b"")).is_empty());
+}

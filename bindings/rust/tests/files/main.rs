@@ -5,6 +5,8 @@
 //! folder. In it are lists of files, a line each: what is wanted, a tab, and the path.
 
 mod plain;
+mod signature;
+mod threads;
 
 use std::path::Path;
 use std::{env, fs, thread};

@@ -4,11 +4,14 @@
 use kesvuot::constants::{EXPORT_SYMBOL_FLAGS_REEXPORT, EXPORT_SYMBOL_FLAGS_STUB_AND_RESOLVER};
 use kesvuot::{ExportKind, Image, Library, Source, Symbol, Table};
 
+use crate::{signature, threads};
+
 const LC_SYMTAB: u32 = 0x2;
 const LC_DYSYMTAB: u32 = 0xb;
 const LC_ID_DYLIB: u32 = 0xd;
 const LC_SEGMENT_64: u32 = 0x19;
 const LC_UUID: u32 = 0x1b;
+const LC_CODE_SIGNATURE: u32 = 0x1d;
 const LC_FUNCTION_STARTS: u32 = 0x26;
 const LC_DATA_IN_CODE: u32 = 0x29;
 const LC_SOURCE_VERSION: u32 = 0x2a;
@@ -109,6 +112,11 @@ pub fn compare(image: &Image) {
     compare_bounded(image, &commands);
     compare_relocations(image);
     compare_code(image, &commands);
+    signature::compare(image, data_of(image, &commands, LC_CODE_SIGNATURE));
+    threads::compare(
+        image,
+        commands.iter().map(|command| (command.cmd, command.bytes)),
+    );
     compare_exports(image, &commands);
     compare_addresses(image, &commands);
 }

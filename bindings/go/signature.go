@@ -1,0 +1,82 @@
+package kesvuot
+
+// A Blob is a blob of a code signature: a CS_BlobIndex and a CS_GenericBlob of <kern/cs_blobs.h>.
+type Blob struct {
+	// Bytes are the whole blob, with its magic and its length. What it holds begins after these 8 bytes.
+	Bytes []byte
+	// Slot is the type of its entry: CSSLOT_CODEDIRECTORY or another of these constants, or any other number.
+	Slot uint32
+	// Magic is CSMAGIC_CODEDIRECTORY (0xfade0c02) or another of these, or any other number.
+	Magic uint32
+}
+
+// Blobs returns the blobs of the code signature, by the first LC_CODE_SIGNATURE, in the order of its index. Each lies
+// past the one before it. They end before the first of which this does not hold. There are none if the data is no
+// superblob. In a file that VerifyLinked accepts these are all.
+//
+// The entitlements are the blobs of the slots 5 (a property list) and 7 (DER), past their first 8 bytes:
+//
+//	for _, blob := range image.Blobs() {
+//		if blob.Slot == 5 {
+//			entitlements := blob.Bytes[8:]
+//		}
+//	}
+func (image *Image) Blobs() []Blob {
+	var found []Blob
+	rows := uncounted[blobRow]{image: image, table: blobTable}
+	for row, ok := rows.next(); ok; row, ok = rows.next() {
+		found = append(found, Blob{image.part(row.bytes), uint32(row.slot), uint32(row.magic)})
+	}
+	return found
+}
+
+// A CodeDirectory is a CS_CodeDirectory of <kern/cs_blobs.h>: what was signed, and the hashes of its pages. In a file
+// that VerifyLinked accepts, the names and the hashes lie in the blob, the type of the hashes is known, and Limit is
+// where the signature begins in the image: there is a hash for each page before that. Nothing has compared the hashes
+// with the pages.
+type CodeDirectory struct {
+	// Identifier is the name of what was signed, and Team who signed it, without the zero byte past them. Each is empty
+	// if there is none. Only versions from 0x20200 on have a Team.
+	Identifier, Team []byte
+	// Hashes are those of the code, one for each page, each of HashSize bytes. They are empty if they pass the blob.
+	Hashes []byte
+	// SpecialHashes are of HashSize bytes too. That of the special slot 1 is the last. They are empty if they pass the
+	// blob.
+	SpecialHashes []byte
+	// Limit is how many bytes of the image are hashed, from its start on: codeLimit64, or codeLimit if that is 0 or not
+	// there.
+	Limit uint64
+	// Version is 0x20000 or more. Flags are CS_ADHOC (2) and others.
+	Version, Flags uint32
+	// CodeSlots is how many hashes of the code there are, and SpecialSlots how many special ones.
+	CodeSlots, SpecialSlots uint32
+	// HashSize is in bytes, and any number. HashType is CS_HASHTYPE_SHA256 or another of these constants, or any other
+	// number.
+	HashSize, HashType uint8
+	// PageSize is the log2 of the size of a page in bytes. With 0 one page has all bytes.
+	PageSize uint8
+}
+
+// CodeDirectory returns what the blob says, if it is a code directory. Its slot does not matter. It is not ok if the
+// blob has another magic, a version below 0x20000, fewer bytes than the fields of its version, or a scatter vector. In
+// a file that VerifyLinked accepts, each blob in a slot of code directories (0, 0x1000 to 0x1004) is one.
+func (blob *Blob) CodeDirectory() (directory CodeDirectory, ok bool) {
+	row, ok := readDirectory(blob.Bytes)
+	if !ok {
+		return CodeDirectory{}, false
+	}
+	return CodeDirectory{
+		Identifier:    partOf(blob.Bytes, row.identifier),
+		Team:          partOf(blob.Bytes, row.team),
+		Hashes:        partOf(blob.Bytes, row.hashes),
+		SpecialHashes: partOf(blob.Bytes, row.special_hashes),
+		Limit:         uint64(row.limit),
+		Version:       uint32(row.version),
+		Flags:         uint32(row.flags),
+		CodeSlots:     uint32(row.code_slots),
+		SpecialSlots:  uint32(row.special_slots),
+		HashSize:      uint8(row.hash_size),
+		HashType:      uint8(row.hash_type),
+		PageSize:      uint8(row.page_size),
+	}, true
+}

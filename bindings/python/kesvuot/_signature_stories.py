@@ -1,0 +1,127 @@
+"""What is told of a code signature that breaks a rule. (cs_blobs.h)"""
+
+from __future__ import annotations
+
+from typing import Iterator, Tuple
+
+from ._names import count_text
+from ._structures import number_in
+from ._teller import Story, Teller
+
+SUPERBLOB_SIZE, DIRECTORY_SIZE = 12, 44
+CSMAGIC_EMBEDDED_SIGNATURE, CSMAGIC_CODEDIRECTORY = 0xFADE_0CC0, 0xFADE_0C02
+# The bytes of the fields of a code directory, from which version on.
+FIELDS_SIZES = {0x20000: 44, 0x20100: 48, 0x20200: 52, 0x20300: 64, 0x20400: 88, 0x20500: 96, 0x20600: 108}
+# The bytes of a hash, by its type.
+HASH_SIZES = {1: 20, 2: 32, 3: 20, 4: 48}
+MOST_PAGE_SIZE = 31
+SUPPORTS_SCATTER, SUPPORTS_TEAM, SUPPORTS_LIMIT_64 = 0x20100, 0x20200, 0x20300
+
+# Whether something is wrong, what is said of it, and what the two numbers are.
+Fault = Tuple[bool, str, str, str]
+
+
+def signature_blob(it: Teller) -> Story:
+    return _superblob(it) if it.at_part.kind == "byte" else _blob(it)
+
+
+def _superblob(it: Teller) -> Story:
+    size = it.first_part.size
+    if size < SUPERBLOB_SIZE:
+        return it.story(f"{it.first} has {count_text(size, 'byte')}, and a superblob has at least {SUPERBLOB_SIZE}.",
+                        "size of the table", "least size")
+    data = it.case.data[it.first_part.start:]
+    if number_in(data, "CS_SuperBlob", "magic") != CSMAGIC_EMBEDDED_SIGNATURE:
+        return it.story(f"{it.first} begins with the magic number {it.value:#x}, and a superblob with {it.limit:#x}.",
+                        "magic", "CSMAGIC_EMBEDDED_SIGNATURE")
+    if number_in(data, "CS_SuperBlob", "length") > size:
+        return it.story(f"the superblob has {count_text(it.value, 'byte')}, as its length says, and {it.first} has "
+                        f"{it.limit}.", "length", "size of the table")
+    count = number_in(data, "CS_SuperBlob", "count")
+    return it.story(f"with a count of {count} the entries of the superblob end at {it.value:#x}, past its end, "
+                    f"{it.limit:#x}.", "12 + 8 * count", "length")
+
+
+def _blob(it: Teller) -> Story:
+    offset = number_in(it.case.data[it.at_part.start:], "CS_BlobIndex", "offset")
+    if it.value == offset and offset < it.limit:
+        before = "the entries end" if it.second_part.kind == "table" else f"{it.second} ends"
+        return it.story(f"{it.first} begins at {offset:#x} of the superblob, and {before} at {it.limit:#x}.", "offset",
+                        "end of what is before")
+    if not it.second:
+        return it.story(f"{it.first} has {count_text(it.value, 'byte')}, as its length says, and each has at least "
+                        f"{it.limit}.", "length", "least length")
+    return it.story(f"{it.first} ends at {it.value:#x} of the superblob, past its end, {it.limit:#x}.", "end of the blob",
+                    "length of the superblob")
+
+
+class _Directory:
+    """The fields of a code directory, as far as it has bytes for them."""
+
+    def __init__(self, it: Teller) -> None:
+        self.data = it.case.data[it.first_part.start:it.first_part.end]
+
+    def __getitem__(self, name: str) -> int:
+        return number_in(self.data, "CS_CodeDirectory", name)
+
+    @property
+    def limit(self) -> int:
+        limit = self["codeLimit64"] if self["version"] >= SUPPORTS_LIMIT_64 else 0
+        return limit or self["codeLimit"]
+
+    def lacks_end(self, name: str) -> bool:
+        """Whether the name at an offset in a field does not end in the blob."""
+        return self[name] != 0 and 0 not in bytes(self.data[self[name]:])
+
+
+def signature_directory(it: Teller) -> Story:
+    if it.at_part.kind == "byte":
+        return it.story(f"no entry of {it.first} has the slot 0, which is that of the code directory.",
+                        "code directories", "least number of them")
+    for is_wrong, says, value, limit in _faults(it, _Directory(it)):
+        if is_wrong:
+            return it.story(says, value, limit)
+    raise AssertionError(it.first)
+
+
+def _faults(it: Teller, found: _Directory) -> Iterator[Fault]:
+    """What can be wrong with a code directory, in the order in which it is looked at."""
+    size, version, value = len(found.data), found["version"], it.value
+    has = f"{it.first} has {count_text(size, 'byte')}"
+    yield (found["magic"] != CSMAGIC_CODEDIRECTORY,
+           f"{it.first} begins with the magic number {value:#x}, and a code directory with {it.limit:#x}.", "magic",
+           "CSMAGIC_CODEDIRECTORY")
+    yield (size < DIRECTORY_SIZE, f"{has}, and a code directory at least {it.limit}.", "length", "least length")
+    yield (version < min(FIELDS_SIZES), f"{it.first} is of version {version:#x}, and the least one is {it.limit:#x}.",
+           "version", "least version")
+    fields = max((bytes_of for least, bytes_of in FIELDS_SIZES.items() if least <= version), default=0)
+    yield (size < fields, f"{has}, and the fields of version {version:#x} have {it.limit}.", "length", "size of the fields")
+    yield (version >= SUPPORTS_SCATTER and found["scatterOffset"] != 0,
+           f"{it.first} is for scattered pages, by its scatterOffset {value:#x}.", "scatterOffset", "")
+    yield (found["hashType"] not in HASH_SIZES, f"{it.first} has hashes of type {value}, which is not known.", "hashType",
+           "greatest hashType")
+    yield (found["hashSize"] != HASH_SIZES.get(found["hashType"]),
+           f"{it.first} has hashes of {count_text(value, 'byte')}, and those of its type have {it.limit}.", "hashSize",
+           "bytes of such a hash")
+    yield (found["pageSize"] > MOST_PAGE_SIZE, f"{it.first} has pages of 2^{value} bytes, and the most is 2^{it.limit}.",
+           "pageSize", "greatest pageSize")
+    special = found["nSpecialSlots"] * found["hashSize"]
+    yield (special > found["hashOffset"],
+           f"the special hashes of {it.first} have {count_text(value, 'byte')}, and begin before the blob: hashOffset is "
+           f"{it.limit:#x}.", "nSpecialSlots * hashSize", "hashOffset")
+    yield (found["hashOffset"] + found["nCodeSlots"] * found["hashSize"] > size,
+           f"the hashes of {it.first} end at {value:#x}, past its end, {it.limit:#x}.", "end of the hashes", "length")
+    yield (bool(it.second), f"{it.first} covers the bytes up to {value:#x}, past {it.limit:#x}, where the signature begins.",
+           "limit of the code", "dataoff")
+    pages = -(-found.limit // (1 << found["pageSize"])) if found["pageSize"] else min(found.limit, 1)
+    yield (found["nCodeSlots"] != pages,
+           f"{it.first} has hashes of {count_text(value, 'page')}, and the bytes up to {found.limit:#x} have {it.limit}.",
+           "nCodeSlots", "pages of the code")
+    for name, what in (("identOffset", "identifier"), ("teamOffset", "team")):
+        yield (found.lacks_end(name) and (name == "identOffset" or version >= SUPPORTS_TEAM),
+               f"the {what} at {value:#x} of {it.first} does not end in it.", name, "length")
+
+
+def signature_whole(it: Teller) -> Story:
+    return it.story(f"{it.first} covers the bytes up to {it.value:#x}, and the signature begins at {it.limit:#x}.",
+                    "limit of the code", "dataoff")

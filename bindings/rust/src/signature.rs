@@ -1,0 +1,127 @@
+//! What the code signature of an image has: its blobs, and the code directories among them.
+
+use core::fmt;
+
+use crate::parts::Text;
+use crate::rows::Row;
+use crate::{ffi, Image};
+
+/// A blob of a code signature. (`CS_BlobIndex` and `CS_GenericBlob` of `<kern/cs_blobs.h>`)
+#[derive(Clone, Copy, PartialEq, Eq)]
+#[non_exhaustive]
+pub struct Blob<'a> {
+    /// The whole blob, with its magic and its length. What it holds begins after these 8 bytes.
+    pub bytes: &'a [u8],
+    /// `type` of its entry: `CSSLOT_CODEDIRECTORY` or another of these constants, or any other number.
+    pub slot: u32,
+    /// `CSMAGIC_CODEDIRECTORY` (0xfade0c02) or another of these, or any other number.
+    pub magic: u32,
+}
+
+impl fmt::Debug for Blob<'_> {
+    fn fmt(&self, f: &mut fmt::Formatter<'_>) -> fmt::Result {
+        f.debug_struct("Blob")
+            .field("slot", &self.slot)
+            .field("magic", &self.magic)
+            .field("len", &self.bytes.len())
+            .finish_non_exhaustive()
+    }
+}
+
+impl<'a> Row<'a> for Blob<'a> {
+    type Raw = ffi::Blob;
+
+    fn new(raw: ffi::Blob, image: &Image<'a>) -> Self {
+        Blob {
+            bytes: image.part(raw.bytes),
+            slot: raw.slot,
+            magic: raw.magic,
+        }
+    }
+}
+
+impl<'a> Blob<'a> {
+    /// What the blob says, if it is a code directory. Its slot does not matter. `None` if it has another
+    /// magic, a version below 0x20000, fewer bytes than the fields of its version, or a scatter vector.
+    ///
+    /// In a file that [`verify_linked`](crate::verify_linked) accepts, each blob in a slot of code directories
+    /// (0, 0x1000 to 0x1004) is one.
+    #[must_use]
+    pub fn code_directory(&self) -> Option<CodeDirectory<'a>> {
+        let (status, raw) = ffi::read_code_directory(self.bytes);
+        (status == ffi::OK).then(|| CodeDirectory::new(&raw, self.bytes))
+    }
+}
+
+/// A code directory: what was signed, and the hashes of its pages. (`CS_CodeDirectory` of `<kern/cs_blobs.h>`)
+///
+/// In a file that [`verify_linked`](crate::verify_linked) accepts, the names and the hashes lie in the blob, the
+/// type of the hashes is known, and `limit` is where the signature begins in the image: there is a hash for each
+/// page before that. Nothing has compared the hashes with the pages.
+#[derive(Clone, Copy, PartialEq, Eq)]
+#[non_exhaustive]
+pub struct CodeDirectory<'a> {
+    /// The name of what was signed, without the zero byte past it. Empty if there is none.
+    pub identifier: &'a [u8],
+    /// The team that signed it. Empty if there is none. Only versions from 0x20200 on have one.
+    pub team: &'a [u8],
+    /// The hashes of the code, one for each page, each of `hash_size` bytes. Empty if they pass the blob.
+    pub hashes: &'a [u8],
+    /// The special hashes, each of `hash_size` bytes. That of the special slot 1 is the last. Empty if they
+    /// pass the blob.
+    pub special_hashes: &'a [u8],
+    /// So many bytes of the image are hashed, from its start on: `codeLimit64`, or `codeLimit` if that is 0 or
+    /// not there.
+    pub limit: u64,
+    /// 0x20000 or more.
+    pub version: u32,
+    /// `CS_ADHOC` (2) and others.
+    pub flags: u32,
+    /// How many hashes of the code there are.
+    pub code_slots: u32,
+    /// How many special hashes there are.
+    pub special_slots: u32,
+    /// The size of a hash in bytes. Any number.
+    pub hash_size: u8,
+    /// `CS_HASHTYPE_SHA256` or another of these constants, or any other number.
+    pub hash_type: u8,
+    /// The log2 of the size of a page in bytes. 0: one page has all bytes.
+    pub page_size: u8,
+}
+
+impl fmt::Debug for CodeDirectory<'_> {
+    fn fmt(&self, f: &mut fmt::Formatter<'_>) -> fmt::Result {
+        f.debug_struct("CodeDirectory")
+            .field("identifier", &Text(self.identifier))
+            .field("team", &Text(self.team))
+            .field("limit", &self.limit)
+            .field("version", &self.version)
+            .field("flags", &self.flags)
+            .field("code_slots", &self.code_slots)
+            .field("special_slots", &self.special_slots)
+            .field("hash_type", &self.hash_type)
+            .finish_non_exhaustive()
+    }
+}
+
+impl<'a> CodeDirectory<'a> {
+    /// What the library has written of a blob.
+    fn new(raw: &ffi::CodeDirectory, blob: &'a [u8]) -> Self {
+        let part = |span: ffi::Span| &blob[span.offset as usize..][..span.size as usize];
+        // The structure of the library has wider numbers for fields of one byte.
+        CodeDirectory {
+            identifier: part(raw.identifier),
+            team: part(raw.team),
+            hashes: part(raw.hashes),
+            special_hashes: part(raw.special_hashes),
+            limit: raw.limit,
+            version: raw.version,
+            flags: raw.flags,
+            code_slots: raw.code_slots,
+            special_slots: raw.special_slots,
+            hash_size: raw.hash_size as u8,
+            hash_type: raw.hash_type as u8,
+            page_size: raw.page_size as u8,
+        }
+    }
+}

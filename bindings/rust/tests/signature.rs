@@ -1,0 +1,170 @@
+//! The code signature and the thread of an image that is made here.
+
+use kesvuot::constants::{CSSLOT_CODEDIRECTORY, CS_HASHTYPE_SHA1};
+use kesvuot::{Blob, CodeDirectory};
+
+const ENTITLEMENTS: u32 = 5;
+const SIGNATURE: u32 = 0x10000;
+
+fn big(words: &[u32]) -> Vec<u8> {
+    words.iter().flat_map(|word| word.to_be_bytes()).collect()
+}
+
+fn little(words: &[u32]) -> Vec<u8> {
+    words.iter().flat_map(|word| word.to_le_bytes()).collect()
+}
+
+/// A code directory of 117 bytes: its fields; an identifier at 52, and a team at 55; two special hashes at 57, and one
+/// of the code at 97.
+fn directory() -> Vec<u8> {
+    let fields = [0xfade_0c02, 117, 0x20200, 2, 97, 52, 2, 1, 48];
+    let (sizes, offsets) = ([20, CS_HASHTYPE_SHA1, 0, 12], big(&[0, 0, 55]));
+    let hashes = [[1; 20], [2; 20], [3; 20]].concat();
+    [
+        big(&fields),
+        sizes.to_vec(),
+        offsets,
+        b"ab\0T\0".to_vec(),
+        hashes,
+    ]
+    .concat()
+}
+
+/// A signature of a directory, entitlements and a CMS, of 173 bytes. Its blobs are at 36, 153 and 165.
+fn signature() -> Vec<u8> {
+    let superblob = [0xfade_0cc0, 173, 3, CSSLOT_CODEDIRECTORY, 36];
+    let index = [ENTITLEMENTS, 153, SIGNATURE, 165];
+    let entitlements = [big(&[0xfade_7171, 12]), b"<a/>".to_vec()].concat();
+    let cms = big(&[0xfade_0b01, 8]);
+    [big(&superblob), big(&index), directory(), entitlements, cms].concat()
+}
+
+/// An executable with `LC_CODE_SIGNATURE` (0x1d), whose data this is.
+fn signed(data: &[u8]) -> Vec<u8> {
+    let header = [0xfeed_facf, 0x0100_0007, 3, 2, 1, 16, 0, 0];
+    let command = [0x1d, 16, 48, data.len() as u32];
+    [little(&header), little(&command), data.to_vec()].concat()
+}
+
+fn blobs_of(file: &[u8]) -> Vec<Blob<'_>> {
+    let image = kesvuot::verify(file).unwrap().image(0).unwrap();
+    let mut blobs = image.blobs();
+    let found = blobs.by_ref().collect();
+    assert!(blobs.next().is_none());
+    found
+}
+
+#[test]
+fn each_blob_is_given() {
+    let file = signed(&signature());
+    let found = blobs_of(&file);
+    let rows: Vec<_> = found.iter().map(|blob| (blob.slot, blob.magic)).collect();
+    let wanted = [
+        (CSSLOT_CODEDIRECTORY, 0xfade_0c02),
+        (ENTITLEMENTS, 0xfade_7171),
+        (SIGNATURE, 0xfade_0b01),
+    ];
+    assert_eq!(rows, wanted);
+    assert_eq!(found[0].bytes, directory());
+    assert_eq!(&found[1].bytes[8..], b"<a/>");
+    assert_eq!(found[2].bytes, &file[48 + 165..]);
+    let directories: Vec<bool> = found
+        .iter()
+        .map(|blob| blob.code_directory().is_some())
+        .collect();
+    assert_eq!(directories, [true, false, false]);
+}
+
+#[test]
+fn a_directory_has_names_and_hashes() {
+    let file = signed(&signature());
+    let found: CodeDirectory = blobs_of(&file)[0].code_directory().unwrap();
+    assert_eq!((found.identifier, found.team), (&b"ab"[..], &b"T"[..]));
+    assert_eq!(found.hashes, [3; 20]);
+    assert_eq!(found.special_hashes, [[1; 20], [2; 20]].concat());
+    assert_eq!((found.limit, found.version, found.flags), (48, 0x20200, 2));
+    assert_eq!((found.code_slots, found.special_slots), (1, 2));
+    let sizes = (found.hash_size, found.hash_type, found.page_size);
+    assert_eq!(sizes, (20, CS_HASHTYPE_SHA1, 12));
+}
+
+/// How many blobs there are, and how many of them are directories, where a byte of the signature has another value.
+fn counts_with(at: usize, value: u8) -> (usize, usize) {
+    let mut data = signature();
+    data[at] = value;
+    let file = signed(&data);
+    let found = blobs_of(&file);
+    let directories = found.iter().filter_map(Blob::code_directory);
+    (found.len(), directories.count())
+}
+
+#[test]
+fn what_is_out_of_place_is_left_out() {
+    // The magic number of the superblob, its length, and the count of its index
+    assert_eq!(counts_with(3, 0xc1), (0, 0));
+    assert_eq!((counts_with(7, 172), counts_with(7, 174)), ((2, 1), (0, 0)));
+    assert_eq!((counts_with(11, 2), counts_with(11, 4)), ((2, 1), (0, 0)));
+    // The first blob begins in the index, and the second in the first.
+    assert_eq!(
+        (counts_with(19, 35), counts_with(27, 152)),
+        ((0, 0), (1, 1))
+    );
+    // The directory has another magic number, an older version, and fewer bytes than its fields.
+    assert_eq!((counts_with(39, 3), counts_with(45, 1)), ((3, 0), (3, 0)));
+    assert_eq!((counts_with(43, 51), counts_with(43, 52)), ((3, 0), (3, 1)));
+    // A scatter vector
+    assert_eq!(counts_with(36 + 47, 1), (3, 0));
+    assert!(blobs_of(&signed(b"")).is_empty());
+    assert!(blobs_of(&signed(&signature()[..172])).is_empty());
+}
+
+#[test]
+fn parts_that_pass_the_blob_are_empty() {
+    let with_length = |length: u8| {
+        let mut data = signature();
+        data[43] = length;
+        let file = signed(&data);
+        let found = blobs_of(&file)[0].code_directory().unwrap();
+        [
+            found.identifier,
+            found.team,
+            found.hashes,
+            found.special_hashes,
+        ]
+        .map(<[u8]>::len)
+    };
+    assert_eq!(with_length(117), [2, 1, 20, 40]);
+    assert_eq!(with_length(116), [2, 1, 0, 40]);
+    assert_eq!(with_length(96), [2, 1, 0, 0]);
+    assert_eq!(with_length(56), [2, 0, 0, 0]);
+    assert_eq!(with_length(54), [0, 0, 0, 0]);
+}
+
+/// An executable with a segment at 2^32, and an `LC_UNIXTHREAD` (5) of an `x86_THREAD_STATE64` (4) with this `rip`.
+fn with_thread(rip: u64) -> Vec<u8> {
+    let header = [0xfeed_facf, 0x0100_0007, 3, 2, 2, 72 + 184, 0, 0];
+    let names = [0x19, 72, 0, 0, 0, 0];
+    let segment = [0, 1, 0x1000, 0, 0, 0, 288, 0, 5, 5, 0, 0];
+    let mut words = [0; 42];
+    words[32] = rip as u32;
+    words[33] = (rip >> 32) as u32;
+    let parts = [&header[..], &names, &segment, &[5, 184, 4, 42], &words];
+    little(&parts.concat())
+}
+
+#[test]
+fn a_thread_begins_at_code() {
+    let entry = |rip| {
+        let file = with_thread(rip);
+        let image = kesvuot::verify(&file).unwrap().image(0).unwrap();
+        assert_eq!(image.entry(), None);
+        image.thread_entry()
+    };
+    let base = 1 << 32;
+    for inside in [base, base + 0x20, base + 287] {
+        assert_eq!(entry(inside), Some(inside));
+    }
+    for outside in [0, base - 1, base + 288, u64::MAX] {
+        assert_eq!(entry(outside), None);
+    }
+}

@@ -1,0 +1,87 @@
+"""Reads the code signature of an image by cs_blobs.h, of which docs/LINKED.md has the fields. All numbers are
+big-endian. What it finds is compared with what the library gives."""
+
+from __future__ import annotations
+
+from typing import Iterator, NamedTuple, Optional
+
+SUPERBLOB_MAGIC, DIRECTORY_MAGIC = 0xFADE0CC0, 0xFADE0C02
+SUPERBLOB_SIZE, ENTRY_SIZE, BLOB_SIZE = 12, 8, 8
+# From which version on a code directory has fields of so many bytes.
+FIELDS_SIZES = ((0x20600, 108), (0x20500, 96), (0x20400, 88), (0x20300, 64), (0x20200, 52), (0x20100, 48), (0x20000, 44))
+HAS_SCATTER, HAS_TEAM, HAS_LIMIT_64 = 0x20100, 0x20200, 0x20300
+
+
+class Blob(NamedTuple):
+    """A blob, by its bytes, the type of its entry, and its magic number."""
+    content: bytes
+    slot: int
+    magic: int
+
+
+class Directory(NamedTuple):
+    """A code directory: its texts, its hashes, and its numbers in the order of kesvuot.h."""
+    identifier: bytes
+    team: bytes
+    hashes: bytes
+    special_hashes: bytes
+    limit: int
+    version: int
+    flags: int
+    code_slots: int
+    special_slots: int
+    hash_size: int
+    hash_type: int
+    page_size: int
+
+
+def number(content: bytes, start: int, size: int = 4) -> int:
+    return int.from_bytes(content[start:start + size], "big")
+
+
+def read_blobs(table: bytes) -> Iterator[Blob]:
+    """The blobs of a signature, up to the first that is not past the index and the blob before it, or does not end in
+    the superblob."""
+    length, count = number(table, 4), number(table, 8)
+    if len(table) < SUPERBLOB_SIZE or number(table, 0) != SUPERBLOB_MAGIC or length > len(table):
+        return
+    end = SUPERBLOB_SIZE + ENTRY_SIZE * count
+    if end > length:
+        return
+    for place in range(SUPERBLOB_SIZE, end, ENTRY_SIZE):
+        start = number(table, place + 4)
+        if start < end or start + BLOB_SIZE > length:
+            return
+        size = number(table, start + 4)
+        end = start + size
+        if size < BLOB_SIZE or end > length:
+            return
+        yield Blob(table[start:end], number(table, place), number(table, start))
+
+
+def part_of(blob: bytes, start: int, size: int) -> bytes:
+    """The bytes of a blob from here on, or none if they are not all in it."""
+    return blob[start:start + size] if 0 <= start and start + size <= len(blob) else b""
+
+
+def text_at(blob: bytes, offset: int) -> bytes:
+    """The text at an offset of a blob, which is none if the offset is 0, or no zero byte ends it."""
+    text, zero, _ = blob[offset:].partition(b"\0")
+    return text if offset and zero else b""
+
+
+def read_directory(blob: bytes) -> Optional[Directory]:
+    """What a blob says as a code directory, or None if it is none."""
+    version = number(blob, 8)
+    fields_size = next((size for least, size in FIELDS_SIZES if least <= version), None)
+    if number(blob, 0) != DIRECTORY_MAGIC or fields_size is None or len(blob) < fields_size:
+        return None
+    if version >= HAS_SCATTER and number(blob, 44):
+        return None
+    hashes, hash_size, special_slots, code_slots = number(blob, 16), blob[36], number(blob, 24), number(blob, 28)
+    special_size = special_slots * hash_size
+    limit = number(blob, 56, 8) if version >= HAS_LIMIT_64 else 0
+    return Directory(
+        text_at(blob, number(blob, 20)), text_at(blob, number(blob, 48) if version >= HAS_TEAM else 0),
+        part_of(blob, hashes, code_slots * hash_size), part_of(blob, hashes - special_size, special_size),
+        limit or number(blob, 32), version, number(blob, 12), code_slots, special_slots, hash_size, blob[37], blob[39])
