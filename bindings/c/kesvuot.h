@@ -282,8 +282,8 @@ enum {
     KESVUOT_PART_EXPORT_NODE = 33,    /* a node of an export trie, up to the end of its last edge, or if it does not end
                                          in the table, up to the end of that: no bytes if it would begin past it */
     KESVUOT_PART_SIGNATURE_ENTRY = 34, /* CS_BlobIndex of a code signature, with its index there */
-    KESVUOT_PART_SIGNATURE_BLOB = 35, /* the blob of the entry with this index: all its length bytes, or 8 if its first 8
-                                         are not all in the superblob */
+    KESVUOT_PART_SIGNATURE_BLOB = 35, /* the blob of the entry with this index: all its length bytes, or 8 if its first
+                                         8 are not all in the superblob */
     KESVUOT_PART_RELOCATION = 36      /* relocation_info. The index counts from 0 in its table */
 };
 
@@ -313,8 +313,8 @@ struct kesvuot_explanation {
  * A number of 2^64 or more is given as 2^64 - 1. An index that there is not is KESVUOT_NO_INDEX.
  * OK: all fields are written. NONE: no rule has the number `rule`, or nothing that the rule is about is at `place`, as
  * after OK. All indices are then KESVUOT_NO_INDEX, and all other fields 0.
- * The call does not judge the file again. It takes no memory, and time in proportion to the headers, the streams and
- * the table of chained fixups. It does not follow a chain. */
+ * The call does not judge the file again. It takes no memory, and time in proportion to the headers and to the table
+ * that has the place: a stream, chained fixups, function starts, a blob of a signature. It does not follow a chain. */
 uint32_t kesvuot_explain(const void *file, size_t size, const struct kesvuot_verdict *verdict,
                          struct kesvuot_explanation *explanation);
 
