@@ -3,7 +3,7 @@
 use Rattle.std.specs.Prelude.{ℕ, List, ◌++◌, codes, false}
 use Rattle.std.specs.Fmt.{digits}
 use Rattle.macho_fields.specs.declared.rule.Profile.{Profile}
-use Rattle.macho_fields.specs.declared.rule.Profile.TheVariants.{Layout, Strict, Linked}
+use Rattle.macho_fields.specs.declared.rule.Profile.TheVariants.{Layout, Strict, Linked, Sealed}
 use Rattle.macho_fields.specs.declared.rule.Rule.{Rule}
 use Rattle.macho_fields.specs.declared.rule.Rule.TheVariants as rule
 use Rattle.macho_fields.specs.declared.rule.Break.{Break}
@@ -87,6 +87,10 @@ rank rule.SymbolIndirect = 74
 rank rule.Relocation = 75
 rank rule.Thread = 76
 rank rule.CommandContent = 77
+rank rule.SignatureMissing = 78
+rank rule.DirectoryRepeated = 79
+rank rule.SignatureSlack = 80
+rank rule.SignatureHash = 81
 
 -- the number by which programs know a rule. It never changes: a rule that is added takes the next free
 -- one, wherever it stands
@@ -168,6 +172,10 @@ rule_number rule.SymbolIndirect = 74
 rule_number rule.Relocation = 75
 rule_number rule.Thread = 76
 rule_number rule.CommandContent = 77
+rule_number rule.SignatureMissing = 78
+rule_number rule.DirectoryRepeated = 79
+rule_number rule.SignatureSlack = 80
+rule_number rule.SignatureHash = 81
 
 -- the profile that a rule belongs to
 abbrev pub profile_of : Rule → Profile
@@ -217,6 +225,10 @@ profile_of rule.SymbolIndirect = Linked
 profile_of rule.Relocation = Linked
 profile_of rule.Thread = Linked
 profile_of rule.CommandContent = Linked
+profile_of rule.SignatureMissing = Sealed
+profile_of rule.DirectoryRepeated = Sealed
+profile_of rule.SignatureSlack = Sealed
+profile_of rule.SignatureHash = Sealed
 profile_of other = Layout
 
 -- the name of a rule, as ASCII text
@@ -298,6 +310,10 @@ name_of rule.SymbolIndirect = codes "symbol-indirect"
 name_of rule.Relocation = codes "relocation"
 name_of rule.Thread = codes "thread"
 name_of rule.CommandContent = codes "command-content"
+name_of rule.SignatureMissing = codes "signature-missing"
+name_of rule.DirectoryRepeated = codes "directory-repeated"
+name_of rule.SignatureSlack = codes "signature-slack"
+name_of rule.SignatureHash = codes "signature-hash"
 
 -- the text of a break: the name of its rule, and its place in lower-case hexadecimal
 abbrev pub text_of : Break → List ℕ

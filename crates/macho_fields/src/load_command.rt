@@ -101,8 +101,8 @@ impl Width {
         }
     }
 
-    // The number in the field of this width at `place`.
-    fn read(self, image: Bytes, place: u64) -> u64
+    /// The number in the field of this width at `place`, of which all bytes are inside.
+    pub fn read(self, image: Bytes, place: u64) -> u64
         requires { place + width_size self ≤ length (bytes_of image) }
         ensures number { result ≡ number_of self (bytes_of image.entry) place }
         ensures near { result < 2 ^ (8 * width_size self) }

@@ -19,6 +19,8 @@ pub enum Profile {
     /// The linked profile of docs/LINKED.md, which says what judges it: a loader that follows the opcodes of
     /// `LC_DYLD_INFO` stays in the segments that it can write.
     Linked,
+    /// What `macho_sealed::verify_sealed` judges besides: the code signature has the hashes of the bytes before it.
+    Sealed,
 }
 
 /// A rule, in the order of judgment: profile after profile, and in each the rules of the file before
@@ -186,6 +188,14 @@ pub enum Rule {
     Thread = 76,
     /// What a load command holds is not inside of it or of the image, or the command has no place in it.
     CommandContent = 77,
+    /// An image has no code signature with a code directory.
+    SignatureMissing = 78,
+    /// A code directory is in the slot of an earlier one.
+    DirectoryRepeated = 79,
+    /// A byte of the code signature that is not zero lies in no part of it.
+    SignatureSlack = 80,
+    /// The hash of a page or of a blob is not the one in a code directory.
+    SignatureHash = 81,
 }
 
 // The name of a rule with what comes after it, so that one list serves every reader of names.
@@ -269,6 +279,10 @@ macro_rules! name_before {
             Rule::Relocation => concat!("relocation", $end),
             Rule::Thread => concat!("thread", $end),
             Rule::CommandContent => concat!("command-content", $end),
+            Rule::SignatureMissing => concat!("signature-missing", $end),
+            Rule::DirectoryRepeated => concat!("directory-repeated", $end),
+            Rule::SignatureSlack => concat!("signature-slack", $end),
+            Rule::SignatureHash => concat!("signature-hash", $end),
         }
     };
 }
@@ -353,6 +367,10 @@ impl Rule {
         Rule::Relocation,
         Rule::Thread,
         Rule::CommandContent,
+        Rule::SignatureMissing,
+        Rule::DirectoryRepeated,
+        Rule::SignatureSlack,
+        Rule::SignatureHash,
     ];
 
     /// The name of the rule in reports, in lower case.
@@ -440,6 +458,10 @@ impl Rule {
             | Rule::EncryptedRange
             | Rule::CommandSlack
             | Rule::UnclaimedByte => Profile::Strict,
+            Rule::SignatureMissing
+            | Rule::DirectoryRepeated
+            | Rule::SignatureSlack
+            | Rule::SignatureHash => Profile::Sealed,
             _ => Profile::Linked,
         }
     }
