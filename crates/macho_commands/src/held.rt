@@ -1,18 +1,16 @@
 //! The rule of what the commands hold that no other rule judges. (`mach-o/loader.h`)
 
-ghost use Rattle.std.specs.Prelude.{◌≡◌, ◌+◌, ◌≤◌, ◌↔◌, length, IsTrue};
+ghost use Rattle.std.specs.Prelude.{◌≡◌, ◌≤◌, ◌↔◌, length, IsTrue};
 ghost use Rattle.macho_fields.specs.Bytes.{bytes_of};
-ghost use Rattle.macho_fields.specs.LoadCommands.{width_size};
-ghost use Rattle.macho_fields.specs.Symbol.{number_of};
 ghost use Rattle.macho_commands.specs.Commands.{HasBadTarget, HasBadContent, IsBadCommand, is_routine};
 ghost use Rattle.macho_commands.specs.Content.{HasFields};
 
 use crate::content::{Content, Holding, content_of, is_foreign};
 use crate::described::has_bad_bytes;
-use crate::executable::is_executable;
 use crate::loader::routines_command::INIT_ADDRESS;
-use macho_fields::{Bytes, Order, Width};
+use macho_fields::Bytes;
 use macho_image::Image;
+use macho_rules::is_executable;
 
 // Whether a command with this `cmd` names a routine.
 pub(crate) fn is_routine(cmd: u32) -> bool
@@ -63,23 +61,12 @@ fn has_bad_target(image: &Image, command: Bytes, content: Content, repeats: bool
             count > 0 && !image.bytes().contains_table(place, count, table.item_size)
         }
         Holding::Routine(width) => {
-            repeats || !is_executable(image, init_address(command, width))
+            repeats || !is_executable(image, width.read(command, INIT_ADDRESS))
         }
         Holding::Nothing
         | Holding::Name
         | Holding::NameAndModules
         | Holding::Strings
         | Holding::CountedStrings => false,
-    }
-}
-
-// The address of the routine that the command names.
-fn init_address(command: Bytes, width: Width) -> u64
-    requires { INIT_ADDRESS + width_size width ≤ length (bytes_of command) }
-    ensures { result ≡ number_of width (bytes_of command.entry) INIT_ADDRESS }
-{
-    match width {
-        Width::Uint32 => u64::from(command.read_u32(Order::Little, INIT_ADDRESS)),
-        Width::Uint64 => command.read_u64(Order::Little, INIT_ADDRESS),
     }
 }

@@ -7,7 +7,6 @@
 
 pub mod content;
 mod described;
-mod executable;
 mod held;
 pub mod law;
 pub mod loader;

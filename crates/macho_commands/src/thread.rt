@@ -4,12 +4,12 @@ ghost use Rattle.std.specs.Prelude.{◌≡◌, ◌↔◌, ◌≤◌, ℕ, length
 ghost use Rattle.macho_fields.specs.Bytes.{bytes_of};
 ghost use Rattle.macho_commands.specs.Commands.{is_thread, NamesEntry, IsBadThread, IsThreadEntry};
 
-use crate::executable::is_executable;
 use crate::loader::{LC_THREAD, LC_UNIXTHREAD};
 use crate::states::thread_entry_of;
 use macho_fields::Bytes;
 use macho_fields::header::loader::LOAD_COMMAND_SIZE;
 use macho_image::Image;
+use macho_rules::is_executable;
 
 /// Whether a command with this `cmd` is a thread.
 pub fn is_thread(cmd: u32) -> bool

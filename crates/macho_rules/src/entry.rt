@@ -44,8 +44,9 @@ fn has_no_entry(image: &Image, base: Option<u64>, main: MainCommand) -> bool
     !is_executable(image, address)
 }
 
-// Whether a segment has a byte at the address that may be executed.
-fn is_executable(image: &Image, address: u64) -> bool
+/// Whether a segment of the image has a byte of the file at the address, and may be executed at first.
+/// (`segment_command_64.initprot`)
+pub fn is_executable(image: &Image, address: u64) -> bool
     ensures { IsTrue result
         ↔ IsExecutable image.now (commands_of image.now) address }
 {

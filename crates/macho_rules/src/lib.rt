@@ -16,7 +16,9 @@ mod tables;
 pub mod verdict;
 
 pub use check::check_image;
+pub use entry::is_executable;
 pub use mapping::{Mapping, Source};
 pub use refusal::Refusal;
 pub use slow::slow_first;
+pub use symbols::{name_limit, symbol_count};
 pub use verdict::{Verified, verify};

@@ -93,8 +93,9 @@ impl<'a> SymbolSurvey<'a> {
     }
 }
 
-// The first offset in the strings from which on no name ends: the one past their last zero byte.
-fn name_limit(image: &Image) -> u64
+/// The first offset in the strings of the symbol table from which on no name ends: the one past their last zero
+/// byte, and 0 if they have none, or there is no symbol table.
+pub fn name_limit(image: &Image) -> u64
     ensures { IsNameLimit image.now result }
 {
     let Some(symtab) = image.symtab() else {
@@ -156,8 +157,8 @@ fn names_no_symbol(entry: Indirect, count: u64) -> bool
     entry.is_symbol_index() && u64::from(entry.value) >= count
 }
 
-// How many symbols the image has: none where it has no symbol table.
-pub(crate) fn symbol_count(image: &Image) -> u64
+/// How many symbols the image has: none where it has no symbol table.
+pub fn symbol_count(image: &Image) -> u64
     ensures { result ≡ symbol_count image.now (commands_of image.now) }
 {
     image.symtab().map_or(0, |symtab| symtab.nsyms)

@@ -1,12 +1,10 @@
 //! The relocations of an image, and where they break their rule. (`mach-o/reloc.h`: `relocation_info`)
 
-ghost use Rattle.std.specs.Prelude.{◌≡◌, ◌↔◌, None, IsTrue};
+ghost use Rattle.std.specs.Prelude.{◌↔◌, None, IsTrue};
 ghost use Rattle.macho_fields.specs.Bytes.{bytes_of};
 ghost use Rattle.macho_fields.specs.FirstPlace.{IsLeastPlace};
-ghost use Rattle.macho_fields.specs.Image.{commands_of};
 ghost use Rattle.macho_fields.specs.Layers.{NothingBreaks};
 ghost use Rattle.macho_fields.specs.Rules.{BreaksImage as Breaks};
-ghost use Rattle.macho_fields.specs.Symbol.{symbol_count as symbol_count_of};
 ghost use Rattle.macho_symbols.specs.Relocations.{AtRelocation, IsBadOf, InSections, InDysymtab, BreaksRelocation};
 ghost use Rattle.macho_symbols.specs.RelocationTables.{IsNamed, HoldsTable};
 ghost use Rattle.macho_symbols.specs.declared.relocations.Owner.TheVariants as owners;
@@ -16,6 +14,7 @@ use macho_fields::Bytes;
 use macho_fields::header::machine::CPU_TYPE_ARM64;
 use macho_fields::header::reloc::RELOCATION_INFO_SIZE;
 use macho_image::Image;
+use macho_rules::symbol_count;
 use macho_tables::place::lesser;
 
 /// What names a table of relocations.
@@ -161,15 +160,5 @@ impl Named {
             return number >= self.symbols;
         }
         number > self.sections && !(self.has_addends && relocation.kind == ARM64_RELOC_ADDEND)
-    }
-}
-
-// How many symbols the image has: none where it has no symbol table.
-pub(crate) fn symbol_count(image: &Image) -> u64
-    ensures { result ≡ symbol_count_of image.now (commands_of image.now) }
-{
-    match image.symtab() {
-        Some(symtab) => symtab.nsyms,
-        None => 0,
     }
 }

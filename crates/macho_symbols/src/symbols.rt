@@ -1,18 +1,11 @@
 //! The symbols of an image, and where they first break each of their rules. (`mach-o/nlist.h`: `nlist_64`)
 
-ghost use Rattle.std.specs.Prelude.{◌≡◌, ◌+◌, ◌↔◌, Some, slice_get, IsTrue, IsSome, IfSome};
-ghost use Rattle.macho_fields.specs.Bytes.{bytes_of};
-ghost use Rattle.macho_fields.specs.Field.{HasZero};
-ghost use Rattle.macho_rules.specs.Survey.{IsNameLimit};
-ghost use Rattle.macho_spans.specs.Span.{Covers};
-
 use crate::addresses::NearAddresses;
 use crate::header::is_two_level;
 use crate::nlist::{N_INDR, has_type, names_no_library};
-use crate::relocations::symbol_count;
 use crate::sections::MappedSections;
-use macho_fields::{Bytes, Span};
-use macho_image::{Image, Symbol, Symtab};
+use macho_image::{Image, Symbol};
+use macho_rules::{name_limit, symbol_count};
 use macho_tables::limits::library_count;
 use macho_tables::place::note_if;
 use std::alloc::{AllocError, Global};
@@ -30,7 +23,7 @@ pub struct SymbolSurvey {
 }
 
 impl SymbolSurvey {
-    ghost use Rattle.std.specs.Prelude.{ℕ, List, None, IfOk, OnErr};
+    ghost use Rattle.std.specs.Prelude.{◌≡◌, ℕ, List, None, IfOk, OnErr};
     ghost use Rattle.macho_fields.specs.FirstPlace.{IsNoted};
     ghost use Rattle.macho_fields.specs.Layers.{NothingBreaks};
     ghost use Rattle.macho_fields.specs.Rules.{BreaksImage as Breaks};
@@ -118,7 +111,7 @@ impl Limits {
             libraries: library_count(image),
             sections: MappedSections::of(image),
             addresses,
-            names_end: names_end(image),
+            names_end: name_limit(image),
         })
     }
 
@@ -154,32 +147,4 @@ impl Limits {
     {
         has_type(symbol, N_INDR) && symbol.value >= self.names_end
     }
-}
-
-// The first offset in the strings from which on no name ends: the one past their last zero byte.
-fn names_end(image: &Image) -> u64
-    ensures { IsNameLimit image.now result }
-{
-    let Some(symtab) = image.symtab() else {
-        return 0;
-    };
-    match last_end(image.bytes(), symtab) {
-        Some(place) => place - symtab.stroff + 1,
-        None => 0,
-    }
-}
-
-// Where the last string ends: the place of the last zero byte of the strings of `symtab`.
-fn last_end(image: Bytes, symtab: Symtab) -> Option<u64>
-    ensures found { IsSome result ↔ HasZero (bytes_of image.entry) symtab.stroff
-        (symtab.stroff + symtab.strsize) }
-    ensures zero { IfSome result (λ place. Covers symtab.stroff symtab.strsize place
-        × (slice_get (bytes_of image.entry) place ≡ Some 0)) }
-    ensures last { IfSome result (λ place. ¬ HasZero (bytes_of image.entry) (place + 1)
-        (symtab.stroff + symtab.strsize)) }
-{
-    image.last_zero(Span {
-        start: symtab.stroff,
-        len: symtab.strsize,
-    })
 }
