@@ -6,37 +6,35 @@ ghost use Rattle.macho_fields.specs.Field.{HasZero};
 ghost use Rattle.macho_signature.specs.CodeDirectories.{fields_size as fields_size_of, size_of_hash as size_of_hash_of, slots_of as slots_of_limit, version_of, is_directory as is_directory_of, scatter_offset as scatter_offset_of, team_offset as team_offset_of, code_limit as code_limit_of, HasName};
 
 use crate::cs_blobs::*;
-use crate::superblob::word_at;
+use crate::superblob::{MAGIC, word_at};
 use macho_fields::{Bytes, Order, Span};
 
-// The offsets of the fields in `CS_CodeDirectory`.
-const MAGIC: u64 = 0;
-
-const VERSION: u64 = 8;
-
-const FLAGS: u64 = 12;
-
-const HASH_OFFSET: u64 = 16;
-
-const IDENT_OFFSET: u64 = 20;
-
-const N_SPECIAL_SLOTS: u64 = 24;
-
-const N_CODE_SLOTS: u64 = 28;
-
-const CODE_LIMIT: u64 = 32;
-
-const HASH_SIZE: u64 = 36;
-
-const HASH_TYPE: u64 = 37;
-
-const PAGE_SIZE: u64 = 39;
-
-const SCATTER_OFFSET: u64 = 44;
-
-const TEAM_OFFSET: u64 = 48;
-
-const CODE_LIMIT_64: u64 = 56;
+/// The offset of `CS_CodeDirectory.version`.
+pub const VERSION: u64 = 8;
+/// That of `flags`.
+pub const FLAGS: u64 = 12;
+/// That of `hashOffset`.
+pub const HASH_OFFSET: u64 = 16;
+/// That of `identOffset`.
+pub const IDENT_OFFSET: u64 = 20;
+/// That of `nSpecialSlots`.
+pub const N_SPECIAL_SLOTS: u64 = 24;
+/// That of `nCodeSlots`.
+pub const N_CODE_SLOTS: u64 = 28;
+/// That of `codeLimit`.
+pub const CODE_LIMIT: u64 = 32;
+/// That of `hashSize`.
+pub const HASH_SIZE: u64 = 36;
+/// That of `hashType`.
+pub const HASH_TYPE: u64 = 37;
+/// That of `pageSize`.
+pub const PAGE_SIZE: u64 = 39;
+/// That of `scatterOffset`.
+pub const SCATTER_OFFSET: u64 = 44;
+/// That of `teamOffset`.
+pub const TEAM_OFFSET: u64 = 48;
+/// That of `codeLimit64`.
+pub const CODE_LIMIT_64: u64 = 56;
 
 /// A code directory. (`CS_CodeDirectory`)
 #[derive(Clone, Copy, Debug, PartialEq, Eq)]

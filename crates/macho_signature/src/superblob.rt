@@ -11,20 +11,18 @@ use crate::cs_blobs::{
 };
 use macho_fields::{Bytes, Order, Span};
 
-// The offsets of the fields in `CS_SuperBlob`.
-const MAGIC: u64 = 0;
-
-const SUPER_BLOB_LENGTH: u64 = 4;
-
-const COUNT: u64 = 8;
-
-// Those in `CS_BlobIndex`.
-const TYPE: u64 = 0;
-
-const OFFSET: u64 = 4;
-
-// That in `CS_GenericBlob`.
-const LENGTH: u64 = 4;
+/// The offset of `CS_SuperBlob.magic`, and of the magic number of any blob.
+pub const MAGIC: u64 = 0;
+/// That of `CS_SuperBlob.length`.
+pub const SUPER_BLOB_LENGTH: u64 = 4;
+/// That of `CS_SuperBlob.count`.
+pub const COUNT: u64 = 8;
+/// The offset of `CS_BlobIndex.type` in an entry of the index.
+pub const TYPE: u64 = 0;
+/// That of `CS_BlobIndex.offset`.
+pub const OFFSET: u64 = 4;
+/// The offset of `CS_GenericBlob.length` in a blob.
+pub const LENGTH: u64 = 4;
 
 /// The superblob of a signature. (`CS_SuperBlob`)
 #[derive(Clone, Copy, Debug, PartialEq, Eq)]
@@ -148,8 +146,8 @@ pub fn entry_offset(index: u32) -> u64
     CS_SUPER_BLOB_SIZE + u64::from(index) * CS_BLOB_INDEX_SIZE
 }
 
-// The field of 32 bits at an offset, which is inside.
-pub(crate) fn word_at(bytes: Bytes, offset: u64) -> u32
+/// The big-endian field of 32 bits at an offset, of which all bytes are inside.
+pub fn word_at(bytes: Bytes, offset: u64) -> u32
     requires { offset + 4 ≤ length (bytes_of bytes) }
     ensures { result ≡ big_word (bytes_of bytes.entry) offset }
 {
