@@ -10,6 +10,7 @@ take_program() {
         macho-check) crate=$top/crates/macho_check ;;
         macho-strict) crate=$top/crates/macho_strict_check ;;
         macho-linked) crate=$top/crates/macho_linked_check ;;
+        macho-sealed) crate=$top/crates/macho_sealed_check ;;
         libkesvuot) crate=$top/crates/macho_c ;;
     esac
     program=$crate/out/${crate##*/}

@@ -2,8 +2,9 @@
 
 ghost use Rattle.macho_linked_check.specs.Judge.{IsLinkedAccepted, IsLinkedRefused};
 
+use macho_image::Image;
 use macho_linked::verify_linked;
-use macho_report::Judge;
+use macho_report::{Judge, Output, WriteFault};
 use macho_rules::{Refusal, Verified};
 use std::alloc::Global;
 
@@ -19,5 +20,9 @@ impl Judge for LinkedRules {
 
     fn judge<'a>(&self, alloc: Global, file: &'a [u8]) -> Result<Verified<'a>, Refusal> {
         verify_linked(alloc, file)
+    }
+
+    fn write_more<W: Output>(&self, _: &Image, _: &mut W) -> Result<(), WriteFault> {
+        Ok(())
     }
 }

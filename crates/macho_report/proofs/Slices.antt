@@ -25,33 +25,32 @@ image_is bytes h = grind (arith, h.0, h.1)
 image_from : (bytes : List ℕ) → is_image bytes ≡ true → IsImage bytes
 image_from bytes h = (grind (arith, h), grind (arith, h))
 
-text_read : (file : List ℕ) (index : ℕ) (slice : FileSlice) → is_image (slice_bytes file slice) ≡ true
-    → slice_text file (index, slice) ≡ image_slice_text (slice_bytes file slice) index slice
-text_read file index slice h = rw h refl
+module _ (says : List ℕ → List ℕ) (file : List ℕ) (index : ℕ) (slice : FileSlice) where
+  text_read : is_image (slice_bytes file slice) ≡ true → slice_text says file (index, slice) ≡ image_slice_text says (slice_bytes file slice) index slice
+  text_read h = rw h refl
 
-text_unread : (file : List ℕ) (index : ℕ) (slice : FileSlice) → is_image (slice_bytes file slice) ≡ false
-    → slice_text file (index, slice) ≡ unread_slice_text index slice
-text_unread file index slice h = rw h refl
+  text_unread : is_image (slice_bytes file slice) ≡ false → slice_text says file (index, slice) ≡ unread_slice_text index slice
+  text_unread h = rw h refl
 
-module _ {W T E : Type 0} {o : output.Ghosts W} {a b : W} {r : Result T E} where
+module _ {W T E : Type 0} {o : output.Ghosts W} {a b : W} {r : Result T E} (says : List ℕ → List ℕ) where
   -- the lines of a slice that is read
   pub read_lines : (file image : List ℕ) (index : ℕ) (slices : Option FileSlice) (written : FileSlice) → Some written ≡ slices
       → IsSomeAnd slices (λ slice. IsImage (slice_bytes file slice)) → IsSomeAnd slices (λ slice. image ≡ slice_bytes file slice)
-      → PutsText o a b r (image_slice_text image index written) → IsSomeAnd slices (λ slice. PutsText o a b r (slice_text file (index, slice)))
+      → PutsText o a b r (image_slice_text says image index written) → IsSomeAnd slices (λ slice. PutsText o a b r (slice_text says file (index, slice)))
   read_lines file image index None written is read same put = absurd read
   read_lines file image index (Some slice) written is read same put =
-      let text : image_slice_text image index written ≡ slice_text file (index, slice) =
-      ap₂ (λ i s. image_slice_text i index s) same (same_Some written slice is) ∙ sym (text_read file index slice (image_is _ read)) in
+      let text : image_slice_text says image index written ≡ slice_text says file (index, slice) =
+      ap₂ (λ i s. image_slice_text says i index s) same (same_Some written slice is) ∙ sym (text_read says file index slice (image_is _ read)) in
       puts_same text put
 
   -- the line of one that is not
   pub unread_lines : (file : List ℕ) (index : ℕ) (slices : Option FileSlice) (written : FileSlice) → Some written ≡ slices
       → ¬ IsSomeAnd slices (λ slice. IsImage (slice_bytes file slice))
-      → PutsText o a b r (unread_slice_text index written) → IsSomeAnd slices (λ slice. PutsText o a b r (slice_text file (index, slice)))
+      → PutsText o a b r (unread_slice_text index written) → IsSomeAnd slices (λ slice. PutsText o a b r (slice_text says file (index, slice)))
   unread_lines file index None written is unread put = absurd (cc)
   unread_lines file index (Some slice) written is unread put = elim (cases_Bool (is_image (slice_bytes file slice))) [
     | inl t ↦ absurd (unread (image_from _ t))
-    | inr f ↦ puts_same (ap (unread_slice_text index) (same_Some written slice is) ∙ sym (text_unread file index slice f)) put
+    | inr f ↦ puts_same (ap (unread_slice_text index) (same_Some written slice is) ∙ sym (text_unread says file index slice f)) put
   ]
 
 -- the slice with an index that the table has is found

@@ -1,4 +1,4 @@
--- The layout of an accepted file as text.
+-- The layout of an accepted file as text. `says` is what the report says of an image, given its bytes, after the lines of it.
 use Rattle.std.specs.Prelude.{◌&&◌, ℕ, ◌==◌, not, nat_le, List, [], ◌∷◌, length, map, filter, codes, Bool, if◌then◌else◌}
 use Rattle.std.specs.List.{enumerate_from}
 use Rattle.std.specs.Option.{option_map_or}
@@ -88,24 +88,28 @@ kind_text image = option_map_or (λ listed. listed.word) (file_type_of (file_typ
 
 -- An image has its own architecture in the text. A slice that is not read has that of its entry: in
 -- an accepted file each such slice has one.
-abbrev pub image_slice_text : List ℕ → ℕ → FileSlice → List ℕ
-image_slice_text image index slice =
+abbrev pub image_slice_text : (List ℕ → List ℕ) → List ℕ → ℕ → FileSlice → List ℕ
+image_slice_text says image index slice =
     joined (slice_line index (arch_text (cpu_type image, masked (cpu_subtype image)))
-    slice.start slice.size (kind_text image) ∷ image_text image ∷ [])
+    slice.start slice.size (kind_text image) ∷ image_text image ∷ says image ∷ [])
 
 abbrev pub unread_slice_text : ℕ → FileSlice → List ℕ
 unread_slice_text index slice =
     slice_line index (option_map_or arch_text slice.arch []) slice.start slice.size
     (codes "not read")
 
-abbrev pub slice_text : List ℕ → ℕ × FileSlice → List ℕ
-slice_text file indexed =
+abbrev pub slice_text : (List ℕ → List ℕ) → List ℕ → ℕ × FileSlice → List ℕ
+slice_text says file indexed =
     let bytes = slice_bytes file indexed.1 in
-    if is_image bytes then image_slice_text bytes indexed.0 indexed.1
+    if is_image bytes then image_slice_text says bytes indexed.0 indexed.1
     else unread_slice_text indexed.0 indexed.1
 
 -- the layout of a file: how many slices it has, and the lines of each, in the order of the table
-abbrev pub layout_text : List ℕ → List ℕ
-layout_text file =
+abbrev pub layout_with : (List ℕ → List ℕ) → List ℕ → List ℕ
+layout_with says file =
     joined (count_line (length (slices_of file))
-    ∷ joined (map (slice_text file) (enumerate_from 0 (slices_of file))) ∷ [])
+    ∷ joined (map (slice_text says file) (enumerate_from 0 (slices_of file))) ∷ [])
+
+-- the same, where nothing more is said of an image
+abbrev pub layout_text : List ℕ → List ℕ
+layout_text = layout_with (λ _. [])

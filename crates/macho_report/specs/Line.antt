@@ -7,7 +7,7 @@ use Rattle.macho_fields.specs.declared.header.loader.TheConstants as loader
 use Rattle.macho_fields.specs.declared.header.vm_prot.TheConstants as vm_prot
 use Rattle.macho_image.specs.Segment.{segment_name, section_name}
 use Rattle.macho_report.specs.Stream.{joined}
-use Rattle.macho_report.specs.Number.{prefixed_hex, upper_byte_hex, version_text}
+use Rattle.macho_report.specs.Number.{prefixed_hex, byte_hex, upper_byte_hex, version_text}
 use Rattle.macho_report.specs.Name.{quoted}
 
 -- the first line: how many slices there are
@@ -104,3 +104,8 @@ symbols_line nsyms = joined (codes "  symbols " ∷ decimal nsyms ∷ codes "\n"
 abbrev pub entry_line : Option ℕ → List ℕ
 entry_line (Some address) = joined (codes "  entry " ∷ prefixed_hex address ∷ codes "\n" ∷ [])
 entry_line None = codes "  entry none\n"
+
+-- a code directory: the word of its hash type, and its cdhash
+abbrev pub cdhash_line : List ℕ → List ℕ → List ℕ
+cdhash_line hash_type cdhash =
+    joined (codes "  cdhash " ∷ hash_type ∷ codes " " ∷ joined (map byte_hex cdhash) ∷ codes "\n" ∷ [])

@@ -3,7 +3,7 @@ use Rattle.std.specs.Prelude.{◌≡◌, ◌⊎◌, ◌↔◌, ℕ, ◌+◌, ◌
 use Rattle.std.specs.Io.KnownBytes.{IsAtEnd}
 use Rattle.macho_fields.specs.declared.rule.Break.{Break}
 use Rattle.macho_report.specs.Stream.{TookAtMost, Wrote, WrotePrefix}
-use Rattle.macho_report.specs.Layout.{layout_text}
+use Rattle.macho_report.specs.Layout.{layout_with}
 use Rattle.macho_report.specs.Text.{break_text}
 use Rattle.macho_report.specs.declared.judge.Judge as judge
 use Rattle.macho_report.specs.declared.outcome.Outcome.{Outcome}
@@ -17,7 +17,7 @@ use Rattle.macho_report.specs.declared.outcome.RunFault.TheVariants as fault
 
 -- by the judge, the outcome is right for the file, and this is its text
 abbrev pub IsReport : {J : Type 0} → judge.Ghosts J → List ℕ → Outcome → List ℕ → Type 0
-IsReport j file Accepted text = j.accepts file × (text ≡ layout_text file)
+IsReport j file Accepted text = j.accepts file × (text ≡ layout_with j.says file)
 IsReport j file Refused text = (b : Break) × j.refuses file b × (text ≡ break_text b)
 
 -- the input is within the limit, and the text of the outcome, which is right for it, was written

@@ -28,7 +28,7 @@ impl Line {
         ensures text { self.new ≡ self.old ++ grouped uuid.now }
         ensures end { length self.new ≡ length self.old + 36 }
     {
-        self.upper_bytes(&uuid[..4]);
+        self.hex_bytes(&uuid[..4], true);
         self.group(&uuid[4..6]);
         self.group(&uuid[6..8]);
         self.group(&uuid[8..10]);
@@ -43,7 +43,7 @@ impl Line {
         ensures end { length self.new ≡ length self.old + 1 + 2 * length bytes.now }
     {
         self.text(b"-");
-        self.upper_bytes(bytes);
+        self.hex_bytes(bytes, true);
     }
 
     // Puts where the bytes of a section begin, or that they are zeros.

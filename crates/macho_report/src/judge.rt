@@ -1,25 +1,40 @@
-//! Who decides whether a file is accepted.
+//! Who decides whether a file is accepted, and what the report says of its images beside their layout.
 
-ghost use Rattle.std.specs.Prelude.{◌≡◌, ℕ, List, IfErr, IfOk, OnOk};
+ghost use Rattle.std.specs.Prelude.{◌≡◌, ℕ, List, [], IfErr, IfOk, None, OnOk};
 ghost use Rattle.macho_fields.specs.First.{IsUnbroken, IsFirstBroken};
+ghost use Rattle.macho_fields.specs.Layers.{NothingBreaks};
+ghost use Rattle.macho_fields.specs.Rules.{BreaksImage};
 ghost use Rattle.macho_fields.specs.declared.rule.Break.{Break};
 ghost use Rattle.macho_report.specs.Judge.{IsRefusalBy};
+ghost use Rattle.macho_report.specs.Writer.{PutsText};
 
+use crate::stream::Output;
+use crate::transfer::WriteFault;
+use macho_image::Image;
 use macho_rules::{Refusal, Verified, verify};
 use std::alloc::Global;
 
-/// Decides whether a file is accepted.
+/// Decides whether a file is accepted, and writes what the report says of an image after its layout.
 pub trait Judge {
     /// Whether a file is accepted.
     ghost accepts: { List ℕ → Type 0 };
     /// Whether a file is refused for this break.
     ghost refuses: { List ℕ → Break → Type 0 };
+    /// What the report of an accepted file says of an image, given its bytes, after the lines of its
+    /// layout: most judges add nothing.
+    ghost says: { List ℕ → List ℕ } = { λ _. [] };
 
     /// Decides whether the file is accepted.
     fn judge<'a>(&self, alloc: Global, file: &'a [u8]) -> Result<Verified<'a>, Refusal>
         ensures accepted { OnOk result (accepts file.now) }
         ensures file { IfOk result (λ verified. verified ≡ file.now) }
         ensures refused { IfErr result (IsRefusalBy refuses file.now) };
+
+    /// Writes what the report says of an image, which breaks no rule of the layout, after the lines of its
+    /// layout.
+    fn write_more<W: Output>(&self, image: &Image, writer: &mut W) -> Result<(), WriteFault>
+        requires { NothingBreaks (BreaksImage image.now None) }
+        ensures { PutsText W.Output writer.old writer.new result (says image.now) };
 }
 
 /// Accepts the files that break no rule of the layout, as [`verify`] decides.
@@ -33,5 +48,9 @@ impl Judge for LayoutRules {
 
     fn judge<'a>(&self, alloc: Global, file: &'a [u8]) -> Result<Verified<'a>, Refusal> {
         verify(alloc, file)
+    }
+
+    fn write_more<W: Output>(&self, _: &Image, _: &mut W) -> Result<(), WriteFault> {
+        Ok(())
     }
 }

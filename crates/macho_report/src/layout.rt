@@ -1,18 +1,21 @@
 //! The layout of an accepted file.
 
-ghost use Rattle.std.specs.Prelude.{◌≡◌, ◌<◌, length, map, slice_get, IsErr, IsSomeAnd, IsTrue};
+ghost use Rattle.std.specs.Prelude.{◌≡◌, ◌<◌, length, map, slice_get, IsErr, IsSomeAnd, IsTrue, None};
 ghost use Rattle.std.specs.List.{enumerate_from};
 ghost use Rattle.macho_fat.specs.Slices.{slice_of};
 ghost use Rattle.macho_fields.specs.Image.{commands_of};
+ghost use Rattle.macho_fields.specs.Layers.{NothingBreaks};
+ghost use Rattle.macho_fields.specs.Rules.{BreaksImage};
 ghost use Rattle.macho_fields.specs.Segment.{sections_in};
 ghost use Rattle.macho_fields.specs.Universal.{slices_of};
 ghost use Rattle.macho_image.specs.Library.{dylib_of};
 ghost use Rattle.macho_report.specs.Stream.{joined};
 ghost use Rattle.macho_report.specs.Writer.{PutsText};
 ghost use Rattle.macho_report.specs.LineParts.{linked_text};
-ghost use Rattle.macho_report.specs.Layout.{layout_text, slice_text, image_slice_text, image_text, id_text, uuid_text, builds_text, segments_text, segment_text, libraries_text, symbols_text};
+ghost use Rattle.macho_report.specs.Layout.{layout_text, layout_with, slice_text, image_slice_text, image_text, id_text, uuid_text, builds_text, segments_text, segment_text, libraries_text, symbols_text};
 ghost use Rattle.macho_report.specs.Line.{section_line};
 
+use crate::judge::{Judge, LayoutRules};
 use crate::lines::{
     write_build, write_count, write_entry, write_library, write_section, write_segment,
     write_slice, write_symbols, write_uuid,
@@ -30,48 +33,67 @@ pub fn write_layout<W: Output>(verified: &Verified, writer: &mut W) -> Result<()
     ensures text { PutsText W.Output writer.old writer.new result (layout_text verified.now) }
     ensures stays_failed { IsTrue (W.has_failed writer.old) → IsErr result }
 {
+    write_layout_with(&LayoutRules, verified, writer)
+}
+
+// Writes the layout of an accepted file, and what the judge says of each image after the lines of it.
+pub(crate) fn write_layout_with<J: Judge, W: Output>(
+    judge: &J,
+    verified: &Verified,
+    writer: &mut W,
+) -> Result<(), WriteFault>
+    ensures text { PutsText W.Output writer.old writer.new result (layout_with J.says verified.now) }
+    ensures stays_failed { IsTrue (W.has_failed writer.old) → IsErr result }
+{
     write_count(verified.slice_count(), writer)?;
-    write_slices(verified, writer)
+    write_slices(judge, verified, writer)
 }
 
 // Writes the lines of all slices.
-fn write_slices<W: Output>(verified: &Verified, writer: &mut W) -> Result<(), WriteFault>
+fn write_slices<J: Judge, W: Output>(
+    judge: &J,
+    verified: &Verified,
+    writer: &mut W,
+) -> Result<(), WriteFault>
     ensures { PutsText W.Output writer.old writer.new result
-        (joined (map (slice_text verified.now) (enumerate_from 0 (slices_of verified.now)))) }
+        (joined (map (slice_text J.says verified.now) (enumerate_from 0 (slices_of verified.now)))) }
 {
     for index in 0..verified.slice_count() {
-        write_slice_lines(verified, index, writer)?;
+        write_slice_lines(judge, verified, index, writer)?;
     }
     Ok(())
 }
 
 // Writes the lines of one slice.
-fn write_slice_lines<W: Output>(
+fn write_slice_lines<J: Judge, W: Output>(
+    judge: &J,
     verified: &Verified,
     index: u64,
     writer: &mut W,
 ) -> Result<(), WriteFault>
     requires { index < length (slices_of verified.now) }
     ensures { IsSomeAnd (slice_get (slices_of verified.now) index) (λ slice.
-        PutsText W.Output writer.old writer.new result (slice_text verified.now (index, slice))) }
+        PutsText W.Output writer.old writer.new result (slice_text J.says verified.now (index, slice))) }
 {
     // The index is below the number of slices.
     let slice = verified.slice(index).unwrap();
     match verified.image(index) {
-        Some(image) => write_image_slice(index, slice, &image, writer),
+        Some(image) => write_image_slice(judge, index, slice, &image, writer),
         None => write_slice(index, slice.arch, slice.span, "not read", writer),
     }
 }
 
-// Writes the lines of a slice that is read.
-fn write_image_slice<W: Output>(
+// Writes the lines of a slice that is read, and what the judge says of its image after them.
+fn write_image_slice<J: Judge, W: Output>(
+    judge: &J,
     index: u64,
     slice: &Slice,
     image: &Image,
     writer: &mut W,
 ) -> Result<(), WriteFault>
+    requires { NothingBreaks (BreaksImage image.now None) }
     ensures { PutsText W.Output writer.old writer.new result
-        (image_slice_text image.now index (slice_of slice.now)) }
+        (image_slice_text J.says image.now index (slice_of slice.now)) }
 {
     write_slice(
         index,
@@ -80,7 +102,8 @@ fn write_image_slice<W: Output>(
         image.file_type().word,
         writer,
     )?;
-    write_image(image, writer)
+    write_image(image, writer)?;
+    judge.write_more(image, writer)
 }
 
 // Writes the lines of an image.

@@ -22,7 +22,7 @@ pub use from_read::FromRead;
 pub use from_write::FromWrite;
 pub use judge::{Judge, LayoutRules};
 pub use layout::write_layout;
-pub use lines::{write_break, write_words};
+pub use lines::{write_break, write_cdhash, write_words};
 pub use outcome::{Outcome, RunFault, run, run_with};
 pub use stream::{Failed, Flush, Input, Output};
 pub use transfer::{WriteFault, write_all};

@@ -6,7 +6,7 @@ ghost use Rattle.macho_fields.specs.Segment.{File};
 ghost use Rattle.macho_rules.specs.Source.{source_of};
 ghost use Rattle.macho_report.specs.Writer.{PutsText};
 ghost use Rattle.macho_report.specs.Arch.{arch_text};
-ghost use Rattle.macho_report.specs.Line.{contents_of, count_line, slice_line, uuid_line, build_line, segment_line, section_line, library_line, symbols_line, entry_line};
+ghost use Rattle.macho_report.specs.Line.{cdhash_line, contents_of, count_line, slice_line, uuid_line, build_line, segment_line, section_line, library_line, symbols_line, entry_line};
 ghost use Rattle.macho_report.specs.Text.{break_text, words_line};
 ghost use Rattle.macho_report.specs.Where.{where_text};
 ghost use Rattle.macho_report.specs.LineParts.{library_start};
@@ -201,6 +201,23 @@ pub(crate) fn write_entry<W: Output>(entry: Option<u64>, writer: &mut W) -> Resu
     let mut line = Line::new();
     line.text(b"  entry ");
     line.hex(address);
+    line.write(writer)
+}
+
+/// Writes the line of a code directory: the word of its hash type, and its cdhash, which is the first
+/// 20 bytes of the hash of the directory (`cs_blobs.h`: `CS_CDHASH_LEN`).
+pub fn write_cdhash<W: Output>(
+    hash_type: &str,
+    cdhash: &[u8; 20],
+    writer: &mut W,
+) -> Result<(), WriteFault>
+    ensures { PutsText W.Output writer.old writer.new result (cdhash_line hash_type.now cdhash.now) }
+{
+    let mut line = Line::new();
+    line.text(b"  cdhash ");
+    line.word(hash_type.as_bytes(), writer)?;
+    line.text(b" ");
+    line.hex_bytes(cdhash, false);
     line.write(writer)
 }
 

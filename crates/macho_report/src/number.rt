@@ -3,7 +3,7 @@
 ghost use Rattle.std.specs.Prelude.{◌≡◌, ◌+◌, ◌-◌, ◌*◌, ◌/◌, ◌%◌, ◌<◌, ◌≤◌, [], ◌∷◌, ◌++◌, false, codes, drop, length, map};
 ghost use Rattle.std.specs.Fmt.{decimal, digits, digit_glyph};
 ghost use Rattle.macho_report.specs.Stream.{joined};
-ghost use Rattle.macho_report.specs.Number.{prefixed_hex, upper_byte_hex, version_text};
+ghost use Rattle.macho_report.specs.Number.{byte_digits, prefixed_hex, version_text};
 
 use crate::line::{Line, PLACES};
 
@@ -128,21 +128,21 @@ impl Line {
         self.decimal(u64::from(patch));
     }
 
-    // Puts each byte as two upper-case digits in base 16.
-    pub(crate) fn upper_bytes(&mut self, bytes: &[u8])
+    // Puts each byte as two digits in base 16, in upper or lower case.
+    pub(crate) fn hex_bytes(&mut self, bytes: &[u8], upper: bool)
         requires room { length self.old + 2 * length bytes.now ≤ PLACES }
-        ensures text { self.new ≡ self.old ++ joined (map upper_byte_hex bytes.now) }
+        ensures text { self.new ≡ self.old ++ joined (map (byte_digits upper) bytes.now) }
         ensures end { length self.new ≡ length self.old + 2 * length bytes.now }
     {
         for &byte in bytes {
-            self.text(&byte_digits(byte, true));
+            self.text(&byte_digits(byte, upper));
         }
     }
 }
 
 // The two digits of a byte in base 16.
 pub(crate) fn byte_digits(byte: u8, upper: bool) -> [u8; 2]
-    ensures { result ≡ digit_glyph upper (byte / 16) ∷ digit_glyph upper (byte % 16) ∷ [] }
+    ensures { result ≡ byte_digits upper byte }
 {
     [digit(byte >> 4, upper), digit(byte & 0xf, upper)]
 }

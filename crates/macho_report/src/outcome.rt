@@ -9,7 +9,7 @@ ghost use Rattle.macho_report.specs.declared.outcome.Outcome.{Outcome};
 ghost use Rattle.macho_report.specs.declared.outcome.RunFault.TheVariants as fault;
 
 use crate::judge::{Judge, LayoutRules};
-use crate::layout::write_layout;
+use crate::layout::write_layout_with;
 use crate::lines::write_break;
 use crate::stream::{Input, Output};
 use crate::transfer::{ReadFault, WriteFault, read_all};
@@ -145,7 +145,7 @@ fn write_verdict<J: Judge, W: Output>(
     let Some(verified) = accept(alloc, judge, file, writer)? else {
         return Ok(Outcome::Refused);
     };
-    write_layout(&verified, writer)?;
+    write_layout_with(judge, &verified, writer)?;
     Ok(Outcome::Accepted)
 }
 

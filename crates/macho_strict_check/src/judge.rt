@@ -2,7 +2,8 @@
 
 ghost use Rattle.macho_strict_check.specs.Judge.{IsStrictlyAccepted, IsStrictlyRefused};
 
-use macho_report::Judge;
+use macho_image::Image;
+use macho_report::{Judge, Output, WriteFault};
 use macho_rules::{Refusal, Verified};
 use macho_strict::verify_strictly;
 use std::alloc::Global;
@@ -18,5 +19,9 @@ impl Judge for StrictRules {
 
     fn judge<'a>(&self, alloc: Global, file: &'a [u8]) -> Result<Verified<'a>, Refusal> {
         verify_strictly(alloc, file)
+    }
+
+    fn write_more<W: Output>(&self, _: &Image, _: &mut W) -> Result<(), WriteFault> {
+        Ok(())
     }
 }

@@ -10,10 +10,18 @@ returns-in_err-write_slice g c =
       word_is c.args.image.now (file_type_view c.file_type.result) c.file_type.ensures,
     ) at c.in_err-write_slice.ensures)
 
+pub returns-in_err-write_image : goal.returns-in_err-write_image
+returns-in_err-write_image g c =
+    puts_next _ (rw (
+      same_arch _ _ _ c.arch.ensures.cpu_type c.arch.ensures.cpu_subtype,
+      word_is c.args.image.now (file_type_view c.file_type.result) c.file_type.ensures,
+    ) at c.in_ok-write_slice.ensures)
+    (puts_fails _ c.from_residual-in_err-write_image.ensures.0 c.in_err-write_image.ensures)
+
 pub returns : goal.returns
 returns g c =
     puts_next _ (rw (
       same_arch _ _ _ c.arch.ensures.cpu_type c.arch.ensures.cpu_subtype,
       word_is c.args.image.now (file_type_view c.file_type.result) c.file_type.ensures,
     ) at c.in_ok-write_slice.ensures)
-    (puts_last c.write_image.ensures)
+    (puts_next _ c.in_ok-write_image.ensures (puts_last c.write_more.ensures))

@@ -15,15 +15,15 @@ returns-in_default g c =
     let (b, refused, wrote) = rw c.in_default.is at c.in_ok-verified.ensures.refused in
     record { verdict = (break_text b, (b, refused, refl), wrote); fails = fails_not _ _ _ _ }
 
-pub returns-in_err-write_layout : goal.returns-in_err-write_layout
-returns-in_err-write_layout g c =
+pub returns-in_err-write_layout_with : goal.returns-in_err-write_layout_with
+returns-in_err-write_layout_with g c =
     let (same, accepted, unwritten) = rw c.in-Some.is at c.in_ok-verified.ensures.accepted in
-    rw (at_fault _ _ c.from_residual-in_err-write_layout.ensures.1) record {
+    rw (at_fault _ _ c.from_residual-in_err-write_layout_with.ensures.1) record {
       verdict = tt;
-      fails = fails_to_write _ _ _ c.in_err-write_layout.ensures.text.failed (Accepted, _, (accepted, refl), (rw (same, unwritten) at c.in_err-write_layout.ensures.text.bytes));
+      fails = fails_to_write _ _ _ c.in_err-write_layout_with.ensures.text.failed (Accepted, _, (accepted, refl), (rw (same, unwritten) at c.in_err-write_layout_with.ensures.text.bytes));
     }
 
 pub returns : goal.returns
 returns g c =
     let (same, accepted, unwritten) = rw c.in-Some.is at c.in_ok-verified.ensures.accepted in
-    record { verdict = (_, (accepted, refl), (rw (same, unwritten) at c.in_ok-write_layout.ensures.text.bytes)); fails = fails_not _ _ _ _ }
+    record { verdict = (_, (accepted, refl), (rw (same, unwritten) at c.in_ok-write_layout_with.ensures.text.bytes)); fails = fails_not _ _ _ _ }

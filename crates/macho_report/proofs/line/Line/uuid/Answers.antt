@@ -5,7 +5,7 @@ use Rattle.macho_report.proofs.line.Line.uuid.Goals as goal
 
 pub returns-clause-text : goal.returns-clause-text
 returns-clause-text c =
-    put_next _ _ _ (group c.args.uuid.now 0 4) _ c.upper_bytes.ensures.text
+    put_next _ _ _ (group c.args.uuid.now 0 4) _ c.hex_bytes.ensures.text
     (put_two _ _ _ (codes "-") (group c.args.uuid.now 4 2) _ c.group.ensures.text
     (put_two _ _ _ (codes "-") (group c.args.uuid.now 6 2) _ c.group-2.ensures.text
     (put_two _ _ _ (codes "-") (group c.args.uuid.now 8 2) _ c.group-3.ensures.text

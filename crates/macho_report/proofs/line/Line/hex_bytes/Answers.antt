@@ -1,8 +1,8 @@
 use Rattle.std.proofs.Common.{arith, ap, length}
 use Rattle.std.proofs.lemmas.List.{length-append}
-use Rattle.macho_report.specs.Number.{upper_byte_hex}
+use Rattle.macho_report.specs.Number.{byte_digits}
 use Rattle.macho_report.proofs.Puts.{put_item, put_items_end}
-use Rattle.macho_report.proofs.line.Line.upper_bytes.Goals as goal
+use Rattle.macho_report.proofs.line.Line.hex_bytes.Goals as goal
 
 pub text-requires : goal.text-requires
 text-requires c = record { room = omega (arith, ap length c.byte_digits.ensures) }
@@ -10,8 +10,8 @@ text-requires c = record { room = omega (arith, ap length c.byte_digits.ensures)
 pub loop-byte-preserved : goal.loop-byte-preserved
 loop-byte-preserved c = record {
   end = omega (arith, ap length c.byte_digits.ensures, simp length-append at (ap length c.text.ensures));
-  text = put_item upper_byte_hex _ _ _ _ _ _ c.loop-byte-test.true c.byte_digits.ensures c.loop-byte.invariant.text c.text.ensures;
+  text = put_item (byte_digits c.args.upper) _ _ _ _ _ _ c.loop-byte-test.true c.byte_digits.ensures c.loop-byte.invariant.text c.text.ensures;
 }
 
 pub returns-clause-text : goal.returns-clause-text
-returns-clause-text c = put_items_end upper_byte_hex _ _ _ _ c.loop-byte-test.false c.loop-byte.invariant.text
+returns-clause-text c = put_items_end (byte_digits c.args.upper) _ _ _ _ c.loop-byte-test.false c.loop-byte.invariant.text

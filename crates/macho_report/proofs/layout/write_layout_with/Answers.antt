@@ -1,5 +1,5 @@
 use Rattle.macho_report.proofs.Writers.{puts_fails, puts_last, puts_next}
-use Rattle.macho_report.proofs.layout.write_layout.Goals as goal
+use Rattle.macho_report.proofs.layout.write_layout_with.Goals as goal
 
 pub returns-in_err-write_count-clause-text : goal.returns-in_err-write_count-clause-text
 returns-in_err-write_count-clause-text g c = puts_fails _ c.from_residual.ensures.0 (rw c.slice_count.ensures at c.in_err-write_count.ensures.text)
