@@ -1,0 +1,35 @@
+-- Whether a message has a hash can be decided.
+use Rattle.std.proofs.Common.{◌≡◌, ℕ, ◌⊎◌, List, [], ◌∷◌, refl, sym, subst, inl, inr}
+use Rattle.std.proofs.lemmas.Bool.{cases_eq}
+use Rattle.macho_fields.proofs.Decided.{some_or_not, both_or_not, le_or_not}
+use Rattle.macho_sealed.specs.Digests.{digest, bytes_of_digest, HasHash}
+use Rattle.macho_sealed.specs.Pages.{bytes_in}
+use Rattle.macho_sealed.specs.Specials.{special_slot, HasSpecialHash}
+use Rattle.macho_signature.specs.declared.code_directory.CodeDirectory.{CodeDirectory}
+
+same_or_not : (xs ys : List ℕ) → (xs ≡ ys) ⊎ ¬ (xs ≡ ys)
+same_or_not [] [] = inl refl
+same_or_not [] (y ∷ ys) = inr (λ wrong. absurd (cc))
+same_or_not (x ∷ xs) [] = inr (λ wrong. absurd (cc))
+same_or_not (x ∷ xs) (y ∷ ys) = elim (cases_eq x y) [
+  | inl first ↦ elim (same_or_not xs ys) [ inl rest ↦ inl (cc) | inr other ↦ inr (λ both. other (cc)) ]
+  | inr other ↦ inr (λ both. other (cc))
+]
+
+pub has_hash_or_not : (hash_type : ℕ) (message hash : List ℕ) → HasHash hash_type message hash ⊎ ¬ HasHash hash_type message hash
+has_hash_or_not hash_type message hash =
+    some_or_not (λ found. bytes_of_digest found ≡ hash) (λ found. same_or_not (bytes_of_digest found) hash) (digest hash_type message)
+
+pub special_or_not : (blob : List ℕ) (directory : CodeDirectory) (slot : ℕ) (message : List ℕ) → HasSpecialHash blob directory slot message ⊎ ¬ HasSpecialHash blob directory slot message
+special_or_not blob directory slot message =
+    both_or_not (le_or_not slot directory.special_slots) (has_hash_or_not directory.hash_type message (bytes_in blob (special_slot directory slot)))
+
+-- by equal messages and hashes
+pub same_hash : (hash_type : ℕ) (message other hash kept : List ℕ) → message ≡ other → hash ≡ kept → HasHash hash_type other kept → HasHash hash_type message hash
+same_hash hash_type message other hash kept same alike has =
+    subst (λ (m : List ℕ). HasHash hash_type m hash) (sym same) (subst (λ (h : List ℕ). HasHash hash_type other h) (sym alike) has)
+
+pub same_special : (blob : List ℕ) (directory : CodeDirectory) (slot number : ℕ) (message other : List ℕ) → slot ≡ number → message ≡ other
+    → HasSpecialHash blob directory number other → HasSpecialHash blob directory slot message
+same_special blob directory slot number message other same alike has =
+    subst (λ n. HasSpecialHash blob directory n message) (sym same) (subst (λ (m : List ℕ). HasSpecialHash blob directory number m) (sym alike) has)

@@ -1,0 +1,13 @@
+pub mod Firsts
+pub mod Blobs
+pub mod Slacks
+pub mod Slots
+pub mod PageSpans
+pub mod HashTests
+pub mod Good
+pub mod Ranks
+pub mod Places
+pub mod OtherHashes
+pub mod Verdicts
+pub mod Sealed
+pub mod CdhashLists

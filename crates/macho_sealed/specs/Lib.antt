@@ -1,0 +1,11 @@
+pub mod Digests
+pub mod Pages
+pub mod Specials
+pub mod Signature
+pub mod Slack
+pub mod Slots
+pub mod Good
+pub mod Cdhashes
+pub mod Rules
+pub mod Sealed
+pub mod Verdict

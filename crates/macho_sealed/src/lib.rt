@@ -1,0 +1,25 @@
+#![tactic(auto)]
+//! The sealed profile, of a file that breaks no rule of the linked one: each image has a code signature, whose code
+//! directories have the hashes of all bytes before it and of the blobs in special slots, as requirements and
+//! entitlements. Each other byte of the image is zero, or in a part of the signature.
+//!
+//! It does not say who signed: a signature by a certificate is bytes here. It says nothing of files beside the image,
+//! as `Info.plist` and resources, and nothing of what entitlements mean.
+
+pub mod cdhash;
+mod check;
+pub mod digest;
+mod hashes;
+pub mod law;
+pub mod pages;
+mod repeated;
+mod signature;
+mod slack;
+pub mod specials;
+#[cfg(test)]
+mod tests;
+pub mod verdict;
+
+pub use cdhash::{Cdhashes, cdhash_of};
+pub use digest::Digest;
+pub use verdict::verify_sealed;
