@@ -21,7 +21,7 @@ DESTDIR =
 OUT = out
 
 # The programs, each of which has a page.
-PROGRAMS = macho-check macho-strict macho-linked
+PROGRAMS = macho-check macho-strict macho-linked macho-sealed
 
 TO_BIN = "$(DESTDIR)$(BINDIR)"
 TO_LIB = "$(DESTDIR)$(LIBDIR)"
@@ -67,6 +67,7 @@ install-programs: built
 	install -m 755 crates/macho_check/out/macho_check $(TO_BIN)/macho-check
 	install -m 755 crates/macho_strict_check/out/macho_strict_check $(TO_BIN)/macho-strict
 	install -m 755 crates/macho_linked_check/out/macho_linked_check $(TO_BIN)/macho-linked
+	install -m 755 crates/macho_sealed_check/out/macho_sealed_check $(TO_BIN)/macho-sealed
 	for program in $(PROGRAMS); do install -m 644 man/$$program.1 $(TO_MAN)/man1 || exit; done
 
 # The library alone, which `make lib` builds, with the command kesvuot.
@@ -84,7 +85,7 @@ install-lib: built-lib
 	    $(TO_PYTHON)/kesvuot
 	install -m 644 man/kesvuot.3 $(TO_MAN)/man3
 	for call in $(CALLS); do ln -sf kesvuot.3 $(TO_MAN)/man3/$$call.3 || exit; done
-	install -m 644 docs/RULES.md docs/LINKED.md $(TO_DOC)
+	install -m 644 docs/RULES.md docs/LINKED.md docs/SEALED.md $(TO_DOC)
 	$(FILL_TOOL) packaging/kesvuot.in >$(TO_BIN)/kesvuot
 	chmod 755 $(TO_BIN)/kesvuot
 	install -m 644 man/kesvuot.1 $(TO_MAN)/man1
@@ -99,7 +100,7 @@ uninstall:
 	rm -f $(TO_LIB)/libkesvuot.a $(TO_LIB)/libkesvuot.so.2 $(TO_LIB)/libkesvuot.so $(TO_LIB)/pkgconfig/kesvuot.pc
 	rm -f $(TO_INCLUDE)/kesvuot.h
 	rm -rf $(TO_LIB)/cmake/kesvuot $(TO_PYTHON)/kesvuot
-	rm -f $(TO_MAN)/man3/kesvuot.3 $(TO_DOC)/RULES.md $(TO_DOC)/LINKED.md
+	rm -f $(TO_MAN)/man3/kesvuot.3 $(TO_DOC)/RULES.md $(TO_DOC)/LINKED.md $(TO_DOC)/SEALED.md
 	for call in $(CALLS); do rm -f $(TO_MAN)/man3/$$call.3; done
 	rmdir $(TO_DOC) 2>/dev/null || :
 
