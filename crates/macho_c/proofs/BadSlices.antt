@@ -9,8 +9,8 @@ use Rattle.macho_fields.specs.Universal.{FileSlice, slices_of, slice_bytes, IsIm
 use Rattle.macho_fields.specs.declared.rule.Break.{Break}
 use Rattle.macho_fields.specs.declared.rule.Rule.TheVariants as rule
 use Rattle.macho_fields.proofs.Sound.{unbroken_is_sound}
-use Rattle.macho_c.specs.Image.{IsBad}
-use Rattle.macho_c.specs.Rows.{IsBrokenImage}
+use Rattle.macho_rows.specs.Image.{IsBad}
+use Rattle.macho_rows.specs.Rows.{IsBrokenImage}
 
 pub broken_file : (file : List ℕ) (b : Break) → IsLeast (BreaksFile file) b → ¬ IsUnbroken file
 broken_file file b least unbroken = unbroken (record { scope = 0; rule = b.rule; place = b.place }) least.0

@@ -9,7 +9,7 @@ use Rattle.macho_exports.specs.declared.export_trie.ExportEdge.{ExportEdge}
 use Rattle.macho_exports.specs.declared.export_trie.ExportNode.{ExportNode}
 use Rattle.macho_c.specs.ExportNodes.{edges_from, edges_left, edge_row, first_edge, bare_row, node_row, terminal_export}
 use Rattle.macho_c.specs.Exports.{export_row}
-use Rattle.macho_c.specs.declared.cursor.KesvuotCursor.{KesvuotCursor}
+use Rattle.macho_rows.specs.declared.cursor.KesvuotCursor.{KesvuotCursor}
 
 -- All edges of a node
 

@@ -7,14 +7,14 @@ use Rattle.std.proofs.lemmas.List.{length-map}
 use Rattle.macho_fields.specs.declared.header.loader.TheConstants as loader
 use Rattle.macho_image.specs.Symbol.{items_inside, items_from}
 use Rattle.macho_image.proofs.Ranges.{inside_all, items-step}
-use Rattle.macho_c.specs.Cursor.{start, begun}
+use Rattle.macho_rows.specs.Cursor.{start, begun}
 use Rattle.macho_c.specs.DataInCode.{entry_row, first_entry, entries_at, entries_left, HasAllEntries}
-use Rattle.macho_c.specs.Image.{ShowsUnbroken, image_in, only}
-use Rattle.macho_c.specs.Linkedit.{dataoff, datasize}
-use Rattle.macho_c.specs.declared.cursor.KesvuotCursor.{KesvuotCursor}
+use Rattle.macho_rows.specs.Image.{ShowsUnbroken, image_in, only}
+use Rattle.macho_rows.specs.Linkedit.{dataoff, datasize}
+use Rattle.macho_rows.specs.declared.cursor.KesvuotCursor.{KesvuotCursor}
 use Rattle.macho_c.specs.declared.data_in_code.KesvuotDataInCode.{KesvuotDataInCode}
-use Rattle.macho_c.specs.declared.image.KesvuotImage.{KesvuotImage}
-use Rattle.macho_c.proofs.AllSymbols.{unbroken, no_items, items_counted}
+use Rattle.macho_rows.specs.declared.image.KesvuotImage.{KesvuotImage}
+use Rattle.macho_rows.proofs.AllSymbols.{unbroken, no_items, items_counted}
 use Rattle.macho_c.proofs.NamedData.{named, data_inside, cases_fits}
 use Rattle.macho_c.proofs.Relocated.{none_outside}
 

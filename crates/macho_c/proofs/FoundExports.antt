@@ -10,11 +10,11 @@ use Rattle.macho_spans.specs.declared.span.Span.{Span}
 use Rattle.macho_exports.specs.Exports.{export_table}
 use Rattle.macho_c.specs.Exports.{exported, IsAnswer, FindsExport}
 use Rattle.macho_c.specs.ExportTrie.{if_inside}
-use Rattle.macho_c.specs.Image.{ShowsUnbroken, image_in}
-use Rattle.macho_c.specs.Rows.{IsBrokenImage}
+use Rattle.macho_rows.specs.Image.{ShowsUnbroken, image_in}
+use Rattle.macho_rows.specs.Rows.{IsBrokenImage}
 use Rattle.macho_c.specs.declared.exports.KesvuotExport.{KesvuotExport}
-use Rattle.macho_c.specs.declared.image.KesvuotImage.{KesvuotImage}
-use Rattle.macho_c.proofs.AllSymbols.{unbroken}
+use Rattle.macho_rows.specs.declared.image.KesvuotImage.{KesvuotImage}
+use Rattle.macho_rows.proofs.AllSymbols.{unbroken}
 
 -- the headers of an image that breaks no rule are unbroken
 pub never_broken : (image : List ℕ) → IsBrokenImage image None → ¬ NothingBreaks (BreaksImage image None)

@@ -13,10 +13,10 @@ use Rattle.macho_fields.specs.declared.load_command.Structure.TheVariants.{Linke
 use Rattle.macho_fields.specs.declared.rule.Rule.TheVariants as rule
 use Rattle.macho_rules.proofs.OneCommand.{is_with_cmd}
 use Rattle.macho_rules.proofs.TableItems.{table_inside}
-use Rattle.macho_c.specs.Image.{only}
-use Rattle.macho_c.specs.Linkedit.{dataoff, datasize, named_data}
-use Rattle.macho_c.specs.Spans.{part_or_none}
-use Rattle.macho_c.proofs.AllCommands.{has_opened, data_wanted}
+use Rattle.macho_rows.specs.Image.{only}
+use Rattle.macho_rows.specs.Linkedit.{dataoff, datasize, named_data}
+use Rattle.macho_rows.specs.Spans.{part_or_none}
+use Rattle.macho_rows.proofs.AllCommands.{has_opened, data_wanted}
 
 -- no bytes at the start of an image
 pub nothing : (image : List ℕ) → part_or_none 0 0 image ≡ []

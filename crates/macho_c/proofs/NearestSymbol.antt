@@ -9,10 +9,10 @@ use Rattle.std.proofs.lemmas.List.Sorted.{All-permutation, Contains-permutation}
 use Rattle.std.proofs.lemmas.Option.{slice_get_within, same_Some}
 use Rattle.macho_image.specs.declared.symbol.Symbol.{Symbol}
 use Rattle.macho_rules.proofs.Mapped.{filtered}
-use Rattle.macho_c.specs.Status.{KESVUOT_OK, KESVUOT_NONE}
-use Rattle.macho_c.specs.SymbolIndex.{is_address, has_address, addresses, sort_key, IsIndex, is_at_or_before, BeginsPast, IsLast, IsFound, IsNearest, HasNoneBefore}
-use Rattle.macho_c.specs.Symbols.{symbol_row}
-use Rattle.macho_c.specs.declared.symbols.KesvuotSymbol.{KesvuotSymbol}
+use Rattle.macho_rows.specs.Status.{KESVUOT_OK, KESVUOT_NONE}
+use Rattle.macho_rows.specs.SymbolIndex.{is_address, has_address, addresses, sort_key, IsIndex, is_at_or_before, BeginsPast, IsLast, IsFound, IsNearest, HasNoneBefore}
+use Rattle.macho_rows.specs.Symbols.{symbol_row}
+use Rattle.macho_rows.specs.declared.symbols.KesvuotSymbol.{KesvuotSymbol}
 
 -- a number with this test is the index of a symbol that has an address
 has_symbol : (symbols : List Symbol) (number : ℕ) → has_address symbols number ≡ true → (s : Symbol) × (slice_get symbols number ≡ Some s) × (is_address s.kind ≡ true)

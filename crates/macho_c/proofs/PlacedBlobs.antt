@@ -12,14 +12,14 @@ use Rattle.macho_signature.specs.declared.cs_blobs.TheConstants as cs
 use Rattle.macho_signature.specs.declared.superblob.Blob.{Blob}
 use Rattle.macho_signature.specs.declared.superblob.Superblob.{Superblob}
 use Rattle.macho_c.specs.Blobs.{has_superblob, is_placed, placed_blobs, blobs_from, blob_row, blobs_left, IsFirstPlaced, HasAllBlobs}
-use Rattle.macho_c.specs.Cursor.{start}
-use Rattle.macho_c.specs.Image.{ShowsUnbroken, image_in, only}
-use Rattle.macho_c.specs.Linkedit.{dataoff, datasize}
-use Rattle.macho_c.specs.Spans.{part_or_none}
+use Rattle.macho_rows.specs.Cursor.{start}
+use Rattle.macho_rows.specs.Image.{ShowsUnbroken, image_in, only}
+use Rattle.macho_rows.specs.Linkedit.{dataoff, datasize}
+use Rattle.macho_rows.specs.Spans.{part_or_none}
 use Rattle.macho_c.specs.declared.blobs.KesvuotBlob.{KesvuotBlob}
-use Rattle.macho_c.specs.declared.image.KesvuotImage.{KesvuotImage}
+use Rattle.macho_rows.specs.declared.image.KesvuotImage.{KesvuotImage}
 use Rattle.macho_signature.proofs.Signed.{blob_fits, past_index}
-use Rattle.macho_c.proofs.AllSymbols.{unbroken}
+use Rattle.macho_rows.proofs.AllSymbols.{unbroken}
 use Rattle.macho_c.proofs.NamedData.{nothing, named, data_inside, whole, cases_fits}
 
 both_true : (a b : Bool) → a ≡ true → b ≡ true → (a && b) ≡ true

@@ -13,10 +13,10 @@ use Rattle.macho_fields.specs.Symbol.{IsOutside}
 use Rattle.macho_fields.specs.declared.rule.Rule.TheVariants as rule
 use Rattle.macho_image.specs.Symbol.{items_inside}
 use Rattle.macho_image.proofs.OpenedWalk.{opened_commands}
-use Rattle.macho_c.specs.Cursor.{start}
+use Rattle.macho_rows.specs.Cursor.{start}
 use Rattle.macho_c.specs.Relocations.{relocation_row, relocations_left, HasAllRelocations}
-use Rattle.macho_c.proofs.AllCommands.{has_opened}
-use Rattle.macho_c.proofs.AllSymbols.{items_counted}
+use Rattle.macho_rows.proofs.AllCommands.{has_opened}
+use Rattle.macho_rows.proofs.AllSymbols.{items_counted}
 
 -- a table that does not lie inside the image has no rows
 pub none_outside : {R : Type 0} (row : ℕ → R) (image : List ℕ) (begin each n k : ℕ) → length image < begin + n * each → drop k (map row (items_inside image begin each n)) ≡ []

@@ -11,14 +11,14 @@ use Rattle.macho_fields.specs.Segment.{base_of}
 use Rattle.macho_fields.specs.declared.header.loader.TheConstants as loader
 use Rattle.macho_tables.specs.FunctionStarts.{next_start, function_starts}
 use Rattle.macho_tables.proofs.FunctionStarts.{starts_next, starts_none}
-use Rattle.macho_c.specs.Cursor.{start, begun}
+use Rattle.macho_rows.specs.Cursor.{start, begun}
 use Rattle.macho_c.specs.FunctionStarts.{first_start, starts_at, starts_left, HasAllStarts}
-use Rattle.macho_c.specs.Image.{ShowsUnbroken, image_in, only, bit}
-use Rattle.macho_c.specs.Linkedit.{dataoff, datasize}
-use Rattle.macho_c.specs.Spans.{part_or_none}
-use Rattle.macho_c.specs.declared.cursor.KesvuotCursor.{KesvuotCursor}
-use Rattle.macho_c.specs.declared.image.KesvuotImage.{KesvuotImage}
-use Rattle.macho_c.proofs.AllSymbols.{unbroken}
+use Rattle.macho_rows.specs.Image.{ShowsUnbroken, image_in, only, bit}
+use Rattle.macho_rows.specs.Linkedit.{dataoff, datasize}
+use Rattle.macho_rows.specs.Spans.{part_or_none}
+use Rattle.macho_rows.specs.declared.cursor.KesvuotCursor.{KesvuotCursor}
+use Rattle.macho_rows.specs.declared.image.KesvuotImage.{KesvuotImage}
+use Rattle.macho_rows.proofs.AllSymbols.{unbroken}
 use Rattle.macho_c.proofs.NamedData.{nothing, named, data_inside, read_part, whole}
 
 -- what is left of a part

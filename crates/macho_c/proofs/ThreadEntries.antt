@@ -1,7 +1,7 @@
 -- The entry of the thread of an image, or that it has none.
 use Rattle.std.proofs.Common.{◌≡◌, ◌+◌, ◌<◌, ◌↔◌, ℕ, List, Option, None, Some, MatchOption, refl, sym, subst, arith}
 use Rattle.macho_commands.specs.Commands.{IsThreadEntry}
-use Rattle.macho_c.specs.Rows.{IsBrokenImage, HasUnbrokenHeaders}
+use Rattle.macho_rows.specs.Rows.{IsBrokenImage, HasUnbrokenHeaders}
 use Rattle.macho_c.specs.Threads.{HasNoThreadEntry, NamesThreadEntry}
 
 -- what is found in the image that the bytes are

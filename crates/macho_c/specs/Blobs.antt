@@ -7,12 +7,12 @@ use Rattle.macho_signature.specs.Superblobs.{big_word, superblob_at, blob_count,
 use Rattle.macho_signature.specs.declared.cs_blobs.TheConstants as cs
 use Rattle.macho_signature.specs.declared.superblob.Blob.{Blob}
 use Rattle.macho_signature.specs.declared.superblob.Superblob.{Superblob}
-use Rattle.macho_c.specs.Cursor.{begun}
-use Rattle.macho_c.specs.Image.{only}
-use Rattle.macho_c.specs.Linkedit.{dataoff, datasize, named_data}
-use Rattle.macho_c.specs.Spans.{part_or_none, span_of}
+use Rattle.macho_rows.specs.Cursor.{begun}
+use Rattle.macho_rows.specs.Image.{only}
+use Rattle.macho_rows.specs.Linkedit.{dataoff, datasize, named_data}
+use Rattle.macho_rows.specs.Spans.{part_or_none, span_of}
 use Rattle.macho_c.specs.declared.blobs.KesvuotBlob.{KesvuotBlob}
-use Rattle.macho_c.specs.declared.cursor.KesvuotCursor.{KesvuotCursor}
+use Rattle.macho_rows.specs.declared.cursor.KesvuotCursor.{KesvuotCursor}
 
 -- the signature begins with a superblob that ends in it, and whose index ends in that
 abbrev pub has_superblob : List ℕ → Bool

@@ -2,11 +2,11 @@
 use Rattle.std.specs.Prelude.{◌≡◌, ℕ, ◌+◌, ◌-◌, ◌*◌, ◌==◌, nat_le, List, drop, MatchOption, if◌then◌else◌}
 use Rattle.macho_signature.specs.CodeDirectories.{code_directory}
 use Rattle.macho_signature.specs.declared.code_directory.CodeDirectory.{CodeDirectory}
-use Rattle.macho_c.specs.Rows.{ended_string}
-use Rattle.macho_c.specs.Spans.{part_or_none, span_at, span_of}
-use Rattle.macho_c.specs.Status.{KESVUOT_OK, KESVUOT_NONE}
+use Rattle.macho_rows.specs.Rows.{ended_string}
+use Rattle.macho_rows.specs.Spans.{part_or_none, span_at, span_of}
+use Rattle.macho_rows.specs.Status.{KESVUOT_OK, KESVUOT_NONE}
 use Rattle.macho_c.specs.declared.code_directory.KesvuotCodeDirectory.{KesvuotCodeDirectory}
-use Rattle.macho_c.specs.declared.span.KesvuotSpan.{KesvuotSpan}
+use Rattle.macho_rows.specs.declared.span.KesvuotSpan.{KesvuotSpan}
 
 -- where a name lies in the file, at an offset of a blob that begins at `place` in the file: without the zero byte
 -- that ends it, and nowhere where none does, or the offset is 0

@@ -3,11 +3,11 @@ use Rattle.std.specs.Prelude.{◌≡◌, ℕ, ◌+◌, ◌/◌, List, [], length
 use Rattle.macho_fields.specs.declared.header.loader.TheConstants as loader
 use Rattle.macho_image.specs.Symbol.{items_inside}
 use Rattle.macho_tables.specs.DataInCode.{entry_at}
-use Rattle.macho_c.specs.Cursor.{begun}
-use Rattle.macho_c.specs.Image.{only}
-use Rattle.macho_c.specs.Linkedit.{dataoff, datasize, named_data}
-use Rattle.macho_c.specs.Spans.{part_or_none, span_of}
-use Rattle.macho_c.specs.declared.cursor.KesvuotCursor.{KesvuotCursor}
+use Rattle.macho_rows.specs.Cursor.{begun}
+use Rattle.macho_rows.specs.Image.{only}
+use Rattle.macho_rows.specs.Linkedit.{dataoff, datasize, named_data}
+use Rattle.macho_rows.specs.Spans.{part_or_none, span_of}
+use Rattle.macho_rows.specs.declared.cursor.KesvuotCursor.{KesvuotCursor}
 use Rattle.macho_c.specs.declared.data_in_code.KesvuotDataInCode.{KesvuotDataInCode}
 
 -- the row of an entry, in an image that begins at `place` in the file: its data is nowhere where it ends

@@ -7,14 +7,14 @@ use Rattle.macho_exports.specs.ExportTrie.{head_at, edge_at, export_in}
 use Rattle.macho_exports.specs.declared.export_trie.Export.{Export}
 use Rattle.macho_exports.specs.declared.export_trie.ExportEdge.{ExportEdge}
 use Rattle.macho_exports.specs.declared.export_trie.ExportNode.{ExportNode}
-use Rattle.macho_c.specs.Cursor.{start}
+use Rattle.macho_rows.specs.Cursor.{start}
 use Rattle.macho_c.specs.Exports.{no_export, export_row}
-use Rattle.macho_c.specs.Spans.{part_or_none, span_at, span_of}
-use Rattle.macho_c.specs.Status.{KESVUOT_OK, KESVUOT_NONE}
-use Rattle.macho_c.specs.declared.cursor.KesvuotCursor.{KesvuotCursor}
+use Rattle.macho_rows.specs.Spans.{part_or_none, span_at, span_of}
+use Rattle.macho_rows.specs.Status.{KESVUOT_OK, KESVUOT_NONE}
+use Rattle.macho_rows.specs.declared.cursor.KesvuotCursor.{KesvuotCursor}
 use Rattle.macho_c.specs.declared.export_nodes.KesvuotExportEdge.{KesvuotExportEdge}
 use Rattle.macho_c.specs.declared.export_nodes.KesvuotExportNode.{KesvuotExportNode}
-use Rattle.macho_c.specs.declared.span.KesvuotSpan.{KesvuotSpan}
+use Rattle.macho_rows.specs.declared.span.KesvuotSpan.{KesvuotSpan}
 
 -- the bytes of a trie that lies in a file, and none where it ends past the file
 abbrev pub trie_bytes : List ℕ → KesvuotSpan → List ℕ

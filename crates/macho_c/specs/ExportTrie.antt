@@ -4,10 +4,10 @@ use Rattle.std.specs.Option.{option_and_then}
 use Rattle.macho_spans.specs.Span.{end_of}
 use Rattle.macho_spans.specs.declared.span.Span.{Span}
 use Rattle.macho_exports.specs.Exports.{export_table}
-use Rattle.macho_c.specs.Rows.{IsBrokenImage, HasUnbrokenHeaders}
-use Rattle.macho_c.specs.Spans.{span_at}
-use Rattle.macho_c.specs.Status.{KESVUOT_OK, KESVUOT_NONE}
-use Rattle.macho_c.specs.declared.span.KesvuotSpan.{KesvuotSpan}
+use Rattle.macho_rows.specs.Rows.{IsBrokenImage, HasUnbrokenHeaders}
+use Rattle.macho_rows.specs.Spans.{span_at}
+use Rattle.macho_rows.specs.Status.{KESVUOT_OK, KESVUOT_NONE}
+use Rattle.macho_rows.specs.declared.span.KesvuotSpan.{KesvuotSpan}
 
 -- the table, if it does not end past the image
 abbrev pub if_inside : List ℕ → Span → Option Span

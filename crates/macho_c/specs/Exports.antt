@@ -13,10 +13,10 @@ use Rattle.macho_exports.specs.declared.export_trie.Export.{Export}
 use Rattle.macho_exports.specs.declared.export_trie.Target.{Target}
 use Rattle.macho_exports.specs.declared.export_trie.Target.TheVariants as target
 use Rattle.macho_c.specs.ExportTrie.{IsTrie}
-use Rattle.macho_c.specs.Spans.{part_or_none, span_at, span_of}
-use Rattle.macho_c.specs.Status.{KESVUOT_OK, KESVUOT_NONE}
+use Rattle.macho_rows.specs.Spans.{part_or_none, span_at, span_of}
+use Rattle.macho_rows.specs.Status.{KESVUOT_OK, KESVUOT_NONE}
 use Rattle.macho_c.specs.declared.exports.KesvuotExport.{KesvuotExport}
-use Rattle.macho_c.specs.declared.image.KesvuotImage.{KesvuotImage}
+use Rattle.macho_rows.specs.declared.image.KesvuotImage.{KesvuotImage}
 
 -- an address, by what it is past the base
 abbrev pub from_base : ℕ → ℕ → ℕ

@@ -6,12 +6,12 @@ use Rattle.macho_fields.specs.Image.{commands_of}
 use Rattle.macho_fields.specs.Segment.{base_of}
 use Rattle.macho_fields.specs.declared.header.loader.TheConstants as loader
 use Rattle.macho_tables.specs.FunctionStarts.{function_starts}
-use Rattle.macho_c.specs.Cursor.{start, begun}
-use Rattle.macho_c.specs.Image.{only}
-use Rattle.macho_c.specs.Linkedit.{dataoff, datasize, named_data}
-use Rattle.macho_c.specs.Spans.{part_or_none}
-use Rattle.macho_c.specs.declared.cursor.KesvuotCursor.{KesvuotCursor}
-use Rattle.macho_c.specs.declared.image.KesvuotImage.{KesvuotImage}
+use Rattle.macho_rows.specs.Cursor.{start, begun}
+use Rattle.macho_rows.specs.Image.{only}
+use Rattle.macho_rows.specs.Linkedit.{dataoff, datasize, named_data}
+use Rattle.macho_rows.specs.Spans.{part_or_none}
+use Rattle.macho_rows.specs.declared.cursor.KesvuotCursor.{KesvuotCursor}
+use Rattle.macho_rows.specs.declared.image.KesvuotImage.{KesvuotImage}
 
 -- Before the first function: all data of the command, and the base as the address before it. Without a base
 -- (KESVUOT_HAS_BASE) there is nothing to read.

@@ -3,7 +3,7 @@ use Rattle.std.specs.Prelude.{◌≡◌, ℕ, ◌+◌, ◌-◌, ◌*◌, ◌^◌
 use Rattle.std.specs.Option.{option_map}
 use Rattle.macho_fields.specs.Universal.{masked}
 use Rattle.macho_c.specs.declared.names.Named.{Named}
-use Rattle.macho_c.specs.Status.{KESVUOT_OK, KESVUOT_NONE}
+use Rattle.macho_rows.specs.Status.{KESVUOT_OK, KESVUOT_NONE}
 
 -- the name that a table has for a number, and a zero byte
 abbrev pub name_in : List (ℕ × List ℕ) → ℕ → Option (List ℕ)

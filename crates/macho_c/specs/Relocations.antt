@@ -5,7 +5,7 @@ use Rattle.macho_fields.specs.Segment.{AtSection}
 use Rattle.macho_fields.specs.Segment.{reloff as reloff_of, nreloc as nreloc_of}
 use Rattle.macho_fields.specs.declared.header.reloc.TheConstants as reloc
 use Rattle.macho_image.specs.Symbol.{items_inside}
-use Rattle.macho_c.specs.declared.cursor.KesvuotCursor.{KesvuotCursor}
+use Rattle.macho_rows.specs.declared.cursor.KesvuotCursor.{KesvuotCursor}
 use Rattle.macho_c.specs.declared.relocations.KesvuotRelocation.{KesvuotRelocation}
 
 -- The row of the relocation_info at a place: r_address at 0; in the word at 4, from its lowest bit on,

@@ -1,8 +1,8 @@
 -- The thread of an image. (kesvuot.h: kesvuot_find_thread_entry)
 use Rattle.std.specs.Prelude.{◌≡◌, ℕ, ◌⊎◌, List, None}
 use Rattle.macho_commands.specs.Commands.{IsThreadEntry}
-use Rattle.macho_c.specs.Rows.{HasUnbrokenHeaders}
-use Rattle.macho_c.specs.Status.{KESVUOT_OK, KESVUOT_NONE}
+use Rattle.macho_rows.specs.Rows.{HasUnbrokenHeaders}
+use Rattle.macho_rows.specs.Status.{KESVUOT_OK, KESVUOT_NONE}
 
 -- the bytes break no rule of the headers, and the first thread names this address, which has a byte of the file that
 -- may be executed

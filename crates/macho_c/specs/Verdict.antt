@@ -18,8 +18,11 @@ use Rattle.macho_linked.specs.Harmless.{AreHarmless}
 use Rattle.macho_linked.specs.Located.{AreLocated}
 use Rattle.macho_linked.specs.Rules.{IsLinkedUnbroken, IsFirstLinkedBroken}
 use Rattle.macho_linked.specs.Verdict.{IsLinkedRefusal}
+use Rattle.macho_sealed.specs.Rules.{IsSealedUnbroken, IsFirstSealedBroken}
+use Rattle.macho_sealed.specs.Sealed.{AreSealed}
+use Rattle.macho_sealed.specs.Verdict.{IsSealedRefusal, IsUnbrokenBefore}
 use Rattle.macho_signature.specs.Signed.{AreSigned}
-use Rattle.macho_c.specs.Status.{KESVUOT_OK, KESVUOT_REFUSED, KESVUOT_NO_MEMORY}
+use Rattle.macho_rows.specs.Status.{KESVUOT_OK, KESVUOT_REFUSED, KESVUOT_NO_MEMORY}
 use Rattle.macho_c.specs.declared.verdict.KesvuotVerdict.{KesvuotVerdict}
 
 -- the numbers of a verdict
@@ -92,3 +95,26 @@ abbrev pub IsLinkedVerdict : List ℕ → ℕ → KesvuotVerdict → Type 0
 IsLinkedVerdict file status v =
     ((status ≡ KESVUOT_OK) × IsLinkedAccepted file v) ⊎ ((status ≡ KESVUOT_REFUSED) × IsLinkedRefused file v)
     ⊎ ((status ≡ KESVUOT_NO_MEMORY) × IsLinkedUndecided file v)
+
+-- The file breaks no sealed rule either: the code signature of each image has the hashes of all bytes before it and
+-- of the blobs in it, and nothing else is in it.
+abbrev pub IsSealedAccepted : List ℕ → KesvuotVerdict → Type 0
+IsSealedAccepted file v = IsLinkedAccepted file v × IsSealedUnbroken file × AreSealed file
+
+-- The verdict has the first broken rule of the linked verdict, or if that accepts the file the first broken sealed
+-- one.
+abbrev pub IsSealedRefused : List ℕ → KesvuotVerdict → Type 0
+IsSealedRefused file v =
+    IsLinkedRefused file v
+    ⊎ (IsUnbrokenBefore file
+    × (b : Break) × IsFirstSealedBroken file b × Has v (rule_number b.rule) b.place 0)
+
+-- There was no memory. That is answered only if the linked verdict takes some.
+abbrev pub IsSealedUndecided : List ℕ → KesvuotVerdict → Type 0
+IsSealedUndecided file v = IsSealedRefusal file refusal.Memory × Has v 0 0 0
+
+-- the answer on a file, by the strict rules, the linked ones and the sealed ones too
+abbrev pub IsSealedVerdict : List ℕ → ℕ → KesvuotVerdict → Type 0
+IsSealedVerdict file status v =
+    ((status ≡ KESVUOT_OK) × IsSealedAccepted file v) ⊎ ((status ≡ KESVUOT_REFUSED) × IsSealedRefused file v)
+    ⊎ ((status ≡ KESVUOT_NO_MEMORY) × IsSealedUndecided file v)

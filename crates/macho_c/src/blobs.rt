@@ -3,17 +3,17 @@
 ghost use Rattle.std.specs.Prelude.{◌≡◌, ◌+◌, ◌≤◌, length};
 ghost use Rattle.macho_fields.specs.Bytes.{bytes_of};
 ghost use Rattle.macho_c.specs.Blobs.{blob_row, first_blob, blobs_left, HasAllBlobs, IsFirstPlaced};
-ghost use Rattle.macho_c.specs.Cursor.{start, begun, IsBatch};
-ghost use Rattle.macho_c.specs.Image.{image_in, ShowsUnbroken};
+ghost use Rattle.macho_rows.specs.Cursor.{start, begun, IsBatch};
+ghost use Rattle.macho_rows.specs.Image.{image_in, ShowsUnbroken};
 
-use crate::cursor::KesvuotCursor;
-use crate::image::KesvuotImage;
-use crate::linkedit::named_data;
-use crate::parts::part_or_none;
-use crate::span::{Held, KesvuotSpan};
-use crate::table::{Table, fill};
 use macho_fields::header::loader::LC_CODE_SIGNATURE;
 use macho_fields::{Bytes, Order, Span};
+use macho_rows::cursor::KesvuotCursor;
+use macho_rows::image::KesvuotImage;
+use macho_rows::linkedit::named_data;
+use macho_rows::parts::part_or_none;
+use macho_rows::span::{Held, KesvuotSpan};
+use macho_rows::table::{Table, fill};
 use macho_signature::{Blob, Superblob};
 
 /// A blob of a code signature. (`CS_BlobIndex`, `CS_GenericBlob`)

@@ -3,13 +3,13 @@
 ghost use Rattle.std.specs.Prelude.{◌≡◌, ◌*◌};
 ghost use Rattle.macho_fields.specs.Bytes.{bytes_of};
 ghost use Rattle.macho_c.specs.CodeDirectories.{name_span, special_hashes as special_hashes_of, directory_row, IsAnswer};
-ghost use Rattle.macho_c.specs.Spans.{part_or_none};
+ghost use Rattle.macho_rows.specs.Spans.{part_or_none};
 
 use crate::blobs::KesvuotBlob;
-use crate::parts::{ended_string, rest};
-use crate::span::{Held, KesvuotSpan, NO_SPAN, held_at};
-use crate::status::{NONE, OK};
 use macho_fields::Span;
+use macho_rows::parts::{ended_string, rest};
+use macho_rows::span::{Held, KesvuotSpan, NO_SPAN, held_at};
+use macho_rows::status::{NONE, OK};
 use macho_signature::CodeDirectory;
 
 /// A code directory. (`CS_CodeDirectory`)

@@ -5,17 +5,17 @@ ghost use Rattle.std.specs.Prelude.{◌≡◌, ◌≤◌, length, map, IfSome};
 ghost use Rattle.macho_fields.specs.Bytes.{bytes_of};
 ghost use Rattle.macho_spans.specs.Span.{end_of};
 ghost use Rattle.macho_exports.specs.ExportTrie.{node_at};
-ghost use Rattle.macho_c.specs.Cursor.{IsBatch};
+ghost use Rattle.macho_rows.specs.Cursor.{IsBatch};
 ghost use Rattle.macho_c.specs.ExportNodes.{trie_bytes, terminal_export, node_row, edge_row, edges_left, IsNode};
 
-use crate::cursor::{KesvuotCursor, START};
 use crate::exports::{KesvuotExport, NO_EXPORT, row_of};
-use crate::image::KesvuotImage;
-use crate::span::{Held, KesvuotSpan, NO_SPAN, held_at};
-use crate::status::{NONE, OK};
-use crate::table::{Table, fill};
 use macho_exports::export_trie::{Export, ExportEdge, ExportNode};
 use macho_fields::Span;
+use macho_rows::cursor::{KesvuotCursor, START};
+use macho_rows::image::KesvuotImage;
+use macho_rows::span::{Held, KesvuotSpan, NO_SPAN, held_at};
+use macho_rows::status::{NONE, OK};
+use macho_rows::table::{Table, fill};
 
 /// A node of an export trie. (`struct kesvuot_export_node`)
 #[repr(C)]

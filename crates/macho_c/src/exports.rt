@@ -10,16 +10,16 @@ ghost use Rattle.macho_fields.specs.Rules.{BreaksImage};
 ghost use Rattle.macho_spans.specs.Span.{end_of};
 ghost use Rattle.macho_exports.specs.Exports.{export_table as export_table_of};
 ghost use Rattle.macho_c.specs.Exports.{from_base, address_of as address_of_of, export_row, exported, IsExported, IsExport, FindsExport};
-ghost use Rattle.macho_c.specs.Image.{image_in, ShowsUnbroken};
+ghost use Rattle.macho_rows.specs.Image.{image_in, ShowsUnbroken};
 
 use crate::export_trie::export_trie;
-use crate::image::KesvuotImage;
-use crate::span::{Held, KesvuotSpan, NO_SPAN};
-use crate::status::{NONE, OK};
 use macho_exports::export_trie::{
     EXPORT_SYMBOL_FLAGS_KIND_ABSOLUTE, EXPORT_SYMBOL_FLAGS_KIND_MASK, Export, Target, find_export,
 };
 use macho_fields::Span;
+use macho_rows::image::KesvuotImage;
+use macho_rows::span::{Held, KesvuotSpan, NO_SPAN};
+use macho_rows::status::{NONE, OK};
 
 /// What a name is exported as. (`struct kesvuot_export`)
 #[repr(C)]

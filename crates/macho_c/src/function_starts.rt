@@ -2,17 +2,17 @@
 
 ghost use Rattle.std.specs.Prelude.{◌≡◌};
 ghost use Rattle.macho_fields.specs.Bytes.{bytes_of};
-ghost use Rattle.macho_c.specs.Cursor.{start, begun, IsBatch};
+ghost use Rattle.macho_rows.specs.Cursor.{start, begun, IsBatch};
 ghost use Rattle.macho_c.specs.FunctionStarts.{first_start, starts_left, HasAllStarts};
-ghost use Rattle.macho_c.specs.Image.{image_in, ShowsUnbroken};
+ghost use Rattle.macho_rows.specs.Image.{image_in, ShowsUnbroken};
 
-use crate::cursor::{KesvuotCursor, START};
-use crate::image::{HAS_BASE, KesvuotImage};
-use crate::linkedit::named_data;
-use crate::parts::part_or_none;
-use crate::table::{Table, fill};
 use macho_fields::header::loader::LC_FUNCTION_STARTS;
 use macho_fields::{Bytes, Span};
+use macho_rows::cursor::{KesvuotCursor, START};
+use macho_rows::image::{HAS_BASE, KesvuotImage};
+use macho_rows::linkedit::named_data;
+use macho_rows::parts::part_or_none;
+use macho_rows::table::{Table, fill};
 use macho_tables::function_starts::next_start;
 
 /// Writes the addresses of functions from the cursor on to the rows of the table, until either runs out,

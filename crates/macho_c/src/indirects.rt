@@ -1,15 +1,13 @@
 //! The indirect entries of an image.
 
-ghost use Rattle.macho_fields.specs.Bytes.{bytes_of};
-ghost use Rattle.macho_c.specs.Cursor.{start, IsBatch};
-ghost use Rattle.macho_c.specs.Image.{image_in, ShowsUnbroken};
-ghost use Rattle.macho_c.specs.Symbols.{indirects_left, HasAllIndirects};
+ghost use Rattle.macho_rows.specs.Cursor.{start, IsBatch};
+ghost use Rattle.macho_rows.specs.Image.{image_in, ShowsUnbroken};
+ghost use Rattle.macho_rows.specs.Symbols.{indirects_left, HasAllIndirects};
 
-use crate::cursor::KesvuotCursor;
-use crate::image::KesvuotImage;
-use crate::table::{Table, fill};
-use macho_fields::Bytes;
-use macho_image::Indirects;
+use macho_rows::cursor::KesvuotCursor;
+use macho_rows::image::KesvuotImage;
+use macho_rows::indirects::IndirectTable;
+use macho_rows::table::fill;
 
 /// Writes the indirect entries from the cursor on to the rows of the table, until either runs out, moves
 /// the cursor past them, and returns how many it wrote. Later rows are unchanged. It does not scan the
@@ -32,32 +30,4 @@ pub extern "C" fn kesvuot_read_indirects(
         image,
     };
     fill(&indirects, cursor, rows)
-}
-
-// The indirect entries of an image, by the numbers of its struct.
-#[derive(Clone, Copy)]
-struct IndirectTable<'a> {
-    bytes: Bytes<'a>,
-    image: &'a KesvuotImage,
-}
-
-impl<'a> Table for IndirectTable<'a> {
-    ghost use Rattle.macho_fields.specs.Bytes.{bytes_of};
-    ghost use Rattle.macho_c.specs.Symbols.{indirects_left};
-
-    type Row = u32;
-
-    ghost left = { λ t. indirects_left (bytes_of t.bytes) t.image.now };
-
-    fn next(&self, cursor: &mut KesvuotCursor) -> Option<u32> {
-        let entries = Indirects::in_table(
-            self.bytes,
-            self.image.indirects,
-            self.image.indirect_count,
-        );
-        let entry = entries.range(cursor.items, 1).next()?;
-        prove!(self.bytes.len() <= u64::MAX);
-        cursor.items += 1;
-        Some(entry.value)
-    }
 }

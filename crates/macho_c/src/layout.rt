@@ -5,8 +5,8 @@ ghost use Rattle.macho_fields.specs.First.{IsUnbroken};
 ghost use Rattle.macho_report.specs.Layout.{layout_text};
 ghost use Rattle.macho_c.specs.Layout.{IsLayout, IsLayoutRefusal, begun_with};
 
-use crate::status::{NO_MEMORY, OK, REFUSED};
 use macho_report::{Failed, Output, write_layout};
+use macho_rows::status::{NO_MEMORY, OK, REFUSED};
 use macho_rules::{Refusal, verify};
 use std::alloc::Global;
 
@@ -52,7 +52,7 @@ fn layout_of(alloc: Global, file: &[u8]) -> Result<Vec<u8>, Refusal>
 }
 
 // Writes the first bytes to the buffer, as many as there is room for.
-fn write_front(bytes: &[u8], buffer: &mut [u8])
+pub(crate) fn write_front(bytes: &[u8], buffer: &mut [u8])
     ensures { buffer.new ≡ begun_with bytes.now buffer.old }
 {
     let count = bytes.len().min(buffer.len());

@@ -7,8 +7,8 @@ ghost use Rattle.macho_fields.specs.Universal.{masked};
 ghost use Rattle.macho_c.specs.Names.{IsName, IsFound, name_in, command_names, platform_names};
 ghost use Rattle.macho_c.specs.Names.{arch_names, arch_number, number_in, is_named, IsArchNamed};
 
-use crate::status::{NONE, OK};
 use macho_fields::header::machine::CPU_SUBTYPE_MASK;
+use macho_rows::status::{NONE, OK};
 
 /// Writes the name of the load commands with this `cmd`, borrowed from the library. A zero byte, which is
 /// not counted, follows it in memory. The status is `OK`, or `NONE` where the command has no name here.

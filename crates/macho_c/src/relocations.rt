@@ -4,15 +4,15 @@ ghost use Rattle.std.specs.Prelude.{◌≡◌, ◌+◌, ◌≤◌, ◌^◌, ◌<
 ghost use Rattle.macho_fields.specs.Bytes.{bytes_of};
 ghost use Rattle.macho_fields.specs.Layers.{NothingBreaks};
 ghost use Rattle.macho_fields.specs.Rules.{BreaksImage};
-ghost use Rattle.macho_c.specs.Cursor.{start, IsBatch};
-ghost use Rattle.macho_c.specs.Image.{image_in};
+ghost use Rattle.macho_rows.specs.Cursor.{start, IsBatch};
+ghost use Rattle.macho_rows.specs.Image.{image_in};
 ghost use Rattle.macho_c.specs.Relocations.{relocation_row, relocations_left, HasAllRelocations};
 
-use crate::cursor::KesvuotCursor;
-use crate::image::KesvuotImage;
-use crate::table::{Table, fill};
 use macho_fields::Bytes;
 use macho_fields::header::reloc::RELOCATION_INFO_SIZE;
+use macho_rows::cursor::KesvuotCursor;
+use macho_rows::image::KesvuotImage;
+use macho_rows::table::{Table, fill};
 use macho_symbols::reloc::Relocation;
 
 /// A relocation. (`relocation_info`)

@@ -2,17 +2,17 @@
 
 ghost use Rattle.std.specs.Prelude.{◌≡◌, None, filter};
 ghost use Rattle.macho_fields.specs.Image.{commands_of};
-ghost use Rattle.macho_c.specs.Cursor.{start};
-ghost use Rattle.macho_c.specs.Image.{image_in};
-ghost use Rattle.macho_c.specs.Loads.{is_source_version, wanted_left};
-ghost use Rattle.macho_c.specs.Rows.{HasUnbrokenHeaders};
+ghost use Rattle.macho_rows.specs.Cursor.{start};
+ghost use Rattle.macho_rows.specs.Image.{image_in};
+ghost use Rattle.macho_rows.specs.Loads.{is_source_version, wanted_left};
+ghost use Rattle.macho_rows.specs.Rows.{HasUnbrokenHeaders};
 ghost use Rattle.macho_c.specs.SourceVersion.{IsAnswer};
-ghost use Rattle.macho_c.specs.declared.load.Wanted.TheVariants.{SourceVersions};
+ghost use Rattle.macho_rows.specs.declared.load.Wanted.TheVariants.{SourceVersions};
 
-use crate::image::KesvuotImage;
-use crate::load::{Wanted, first_wanted};
-use crate::status::{NONE, OK};
 use macho_fields::Order;
+use macho_rows::image::KesvuotImage;
+use macho_rows::load::{Wanted, first_wanted};
+use macho_rows::status::{NONE, OK};
 
 /// Writes the version of the sources, by the first `LC_SOURCE_VERSION` that holds its structure. The
 /// status is `OK`, or `NONE` if the image has none. (`source_version_command`)

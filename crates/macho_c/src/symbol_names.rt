@@ -1,17 +1,13 @@
 //! Symbols by name. (`mach-o/nlist.h`: `nlist_64`)
 
-ghost use Rattle.std.specs.Prelude.{◌≡◌, ◌↔◌, ◌^◌, ◌<◌, length, slice_get, IsTrue, Some, MatchOption};
-ghost use Rattle.macho_c.specs.Image.{image_in, ShowsUnbroken};
-ghost use Rattle.macho_c.specs.Symbols.{first_string};
-ghost use Rattle.macho_c.specs.SymbolNames.{HasNameAmong, HasNone, IsFirst, IsNamed, FindsNamed};
+ghost use Rattle.macho_rows.specs.Image.{image_in, ShowsUnbroken};
+ghost use Rattle.macho_rows.specs.SymbolNames.{IsNamed, FindsNamed};
 
-use crate::image::KesvuotImage;
-use crate::parts::rest;
-use crate::status::{NONE, OK};
-use crate::symbols::{KesvuotSymbol, NO_SYMBOL, row_of, strings};
-use macho_fields::Bytes;
-use macho_fields::header::nlist::N_STAB;
-use macho_image::{Symbol, Symbols};
+use macho_image::Symbols;
+use macho_rows::image::KesvuotImage;
+use macho_rows::status::{NONE, OK};
+use macho_rows::symbol_names::first_named;
+use macho_rows::symbols::{KesvuotSymbol, NO_SYMBOL, row_of, strings};
 
 /// Finds the first symbol with this name that is no debugging entry, and writes the symbol and its index. The
 /// status is `OK`, or `NONE` if there is none. Of each symbol it reads no more bytes of the strings than the
@@ -40,44 +36,4 @@ pub extern "C" fn kesvuot_find_name(
         }
         None => NONE,
     }
-}
-
-// The first of the symbols that has the name, and its index.
-fn first_named(symbols: Symbols, strings: &[u8], name: &[u8]) -> Option<(u64, Symbol)>
-    requires { length symbols < 2 ^ 64 }
-    ensures { MatchOption result (HasNone (HasNameAmong strings.now name.now) symbols.entry)
-        (λ found. IsFirst (HasNameAmong strings.now name.now) symbols.entry found.0 found.1) }
-{
-    let mut number = 0;
-    for symbol in symbols {
-        if is_named(strings, name, &symbol) {
-            return Some((number, symbol));
-        }
-        number += 1;
-    }
-    None
-}
-
-// Whether a symbol has the name, and is no debugging entry.
-fn is_named(strings: &[u8], name: &[u8], symbol: &Symbol) -> bool
-    ensures { IsTrue result ↔ HasNameAmong strings.now name.now symbol.now }
-{
-    symbol.kind & N_STAB == 0
-        && symbol.strx != 0
-        && is_string(rest(strings, u64::from(symbol.strx)), name)
-}
-
-// Whether the first zero byte follows the name, with which the bytes begin. Of most strings the byte past the name
-// alone shows that they are another one.
-fn is_string(bytes: &[u8], name: &[u8]) -> bool
-    ensures { IsTrue result ↔ (first_string bytes.now ≡ Some name.now) }
-{
-    has_zero_at(bytes, name.len()) && bytes.starts_with(name) && !name.contains(&0)
-}
-
-// Whether a zero byte is at an offset.
-fn has_zero_at(bytes: &[u8], offset: usize) -> bool
-    ensures { IsTrue result ↔ (slice_get bytes.now offset ≡ Some 0) }
-{
-    Bytes::new(bytes).u8_at(offset as u64) == Some(0)
 }

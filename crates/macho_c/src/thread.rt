@@ -2,13 +2,13 @@
 
 ghost use Rattle.std.specs.Prelude.{MatchOption};
 ghost use Rattle.macho_fields.specs.Bytes.{bytes_of};
-ghost use Rattle.macho_c.specs.Image.{image_in};
+ghost use Rattle.macho_rows.specs.Image.{image_in};
 ghost use Rattle.macho_c.specs.Threads.{HasNoThreadEntry, IsThreadAnswer, NamesThreadEntry};
 
-use crate::image::KesvuotImage;
-use crate::span::Held;
-use crate::status::{NONE, OK};
 use macho_commands::thread_entry;
+use macho_rows::image::KesvuotImage;
+use macho_rows::span::Held;
+use macho_rows::status::{NONE, OK};
 
 /// Writes the address at which the first `LC_THREAD` or `LC_UNIXTHREAD` of the image begins. The status is `OK`, or
 /// `NONE` if there is no such command, if its registers are not known, or if the address has no byte of the file

@@ -3,13 +3,14 @@
 ghost use Rattle.std.specs.Prelude.{◌≡◌, length};
 ghost use Rattle.macho_fields.specs.RuleList.{rule_number};
 ghost use Rattle.macho_fields.specs.Universal.{slices_of};
-ghost use Rattle.macho_c.specs.Status.{KESVUOT_OK, KESVUOT_REFUSED, KESVUOT_NO_MEMORY};
-ghost use Rattle.macho_c.specs.Verdict.{Has, IsVerdict, IsStrictVerdict, IsLinkedVerdict};
+ghost use Rattle.macho_rows.specs.Status.{KESVUOT_OK, KESVUOT_REFUSED, KESVUOT_NO_MEMORY};
+ghost use Rattle.macho_c.specs.Verdict.{Has, IsVerdict, IsStrictVerdict, IsLinkedVerdict, IsSealedVerdict};
 
-use crate::status::{NO_MEMORY, OK, REFUSED};
 use macho_fields::Break;
 use macho_linked::verify_linked;
+use macho_rows::status::{NO_MEMORY, OK, REFUSED};
 use macho_rules::{Refusal, Verified, verify};
+use macho_sealed::verify_sealed;
 use macho_strict::verify_strictly;
 use std::alloc::Global;
 
@@ -66,6 +67,22 @@ pub extern "C" fn kesvuot_verify_linked(
     ensures { IsLinkedVerdict file.now result verdict.new }
 {
     match verify_linked(alloc, file) {
+        Ok(verified) => accept(&verified, verdict),
+        Err(Refusal::Broken(broken)) => refuse(broken, verdict),
+        Err(Refusal::Memory) => give_up(verdict),
+    }
+}
+
+/// Decides the rules of a file as `kesvuot_verify_linked` does, and then the sealed rules.
+#[unsafe(no_mangle)]
+pub extern "C" fn kesvuot_verify_sealed(
+    alloc: Global,
+    file: &[u8],
+    verdict: &mut KesvuotVerdict,
+) -> u32
+    ensures { IsSealedVerdict file.now result verdict.new }
+{
+    match verify_sealed(alloc, file) {
         Ok(verified) => accept(&verified, verdict),
         Err(Refusal::Broken(broken)) => refuse(broken, verdict),
         Err(Refusal::Memory) => give_up(verdict),

@@ -1,8 +1,8 @@
 use Rattle.std.proofs.Common.{None, inl, subst, ◌∙◌}
-use Rattle.macho_c.specs.Address.{IsAnswer}
-use Rattle.macho_c.specs.Image.{image_in}
-use Rattle.macho_c.specs.Rows.{HasUnbrokenHeaders, IsBrokenImage}
-use Rattle.macho_c.proofs.Supplied.{told}
+use Rattle.macho_rows.specs.Address.{IsAnswer}
+use Rattle.macho_rows.specs.Image.{image_in}
+use Rattle.macho_rows.specs.Rows.{HasUnbrokenHeaders, IsBrokenImage}
+use Rattle.macho_rows.proofs.Supplied.{told}
 use Rattle.macho_c.proofs.address.kesvuot_find_address.Goals as goal
 
 pub returns-in-Some-clause-answer : goal.returns-in-Some-clause-answer

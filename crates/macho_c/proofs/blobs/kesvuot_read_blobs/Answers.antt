@@ -1,7 +1,7 @@
 use Rattle.std.proofs.Common.{ℕ, List, subst}
 use Rattle.macho_c.specs.Blobs.{blobs_left}
-use Rattle.macho_c.specs.Cursor.{IsBatch}
-use Rattle.macho_c.specs.Image.{image_in}
+use Rattle.macho_rows.specs.Cursor.{IsBatch}
+use Rattle.macho_rows.specs.Image.{image_in}
 use Rattle.macho_c.proofs.PlacedBlobs.{has_blobs}
 use Rattle.macho_c.proofs.blobs.kesvuot_read_blobs.Goals as goal
 

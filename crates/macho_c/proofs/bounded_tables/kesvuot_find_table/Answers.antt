@@ -1,9 +1,9 @@
 use Rattle.std.proofs.Common.{◌≡◌, ◌∙◌, None, Some, ap₂}
-use Rattle.macho_c.specs.BoundedTables.{found_table}
-use Rattle.macho_c.specs.Image.{image_in}
-use Rattle.macho_c.specs.Spans.{span_at}
-use Rattle.macho_c.specs.Status.{KESVUOT_OK, KESVUOT_NONE}
-use Rattle.macho_c.proofs.BoundedTables.{answers, is_whole}
+use Rattle.macho_rows.specs.BoundedTables.{found_table}
+use Rattle.macho_rows.specs.Image.{image_in}
+use Rattle.macho_rows.specs.Spans.{span_at}
+use Rattle.macho_rows.specs.Status.{KESVUOT_OK, KESVUOT_NONE}
+use Rattle.macho_rows.proofs.BoundedTables.{answers, is_whole}
 use Rattle.macho_c.proofs.bounded_tables.kesvuot_find_table.Goals as goal
 
 pub returns-in-Some : goal.returns-in-Some

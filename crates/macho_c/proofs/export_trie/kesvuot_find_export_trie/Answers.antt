@@ -4,8 +4,8 @@ use Rattle.macho_fields.specs.Rules.{BreaksImage}
 use Rattle.macho_spans.specs.declared.span.Span.{Span}
 use Rattle.macho_exports.specs.Exports.{export_table}
 use Rattle.macho_c.specs.ExportTrie.{IsTrie, IsTrieAt}
-use Rattle.macho_c.specs.Spans.{span_at}
-use Rattle.macho_c.proofs.AllSymbols.{unbroken}
+use Rattle.macho_rows.specs.Spans.{span_at}
+use Rattle.macho_rows.proofs.AllSymbols.{unbroken}
 use Rattle.macho_c.proofs.export_trie.kesvuot_find_export_trie.Goals as goal
 
 pub returns-in-Some-clause-answer : goal.returns-in-Some-clause-answer

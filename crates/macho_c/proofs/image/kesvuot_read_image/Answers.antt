@@ -6,11 +6,11 @@ use Rattle.macho_fields.specs.Rules.{BreaksImage}
 use Rattle.macho_fields.specs.Universal.{FileSlice, slices_of, slice_bytes}
 use Rattle.macho_fat.specs.Slices.{slice_of}
 use Rattle.macho_rules.proofs.Verdicts.{file_keeps}
-use Rattle.macho_c.specs.Image.{IsAnswer, IsSliceAnswer, HasTable, HasNoTable, Shows, ShowsUnbroken, image_in}
-use Rattle.macho_c.specs.Spans.{part_or_none}
+use Rattle.macho_rows.specs.Image.{IsAnswer, IsSliceAnswer, HasTable, HasNoTable, Shows, ShowsUnbroken, image_in}
+use Rattle.macho_rows.specs.Spans.{part_or_none}
 use Rattle.std.proofs.lemmas.Bool.{le-leb}
-use Rattle.macho_c.specs.declared.image.KesvuotImage.{KesvuotImage}
-use Rattle.macho_c.specs.Status.{KESVUOT_OK}
+use Rattle.macho_rows.specs.declared.image.KesvuotImage.{KesvuotImage}
+use Rattle.macho_rows.specs.Status.{KESVUOT_OK}
 use Rattle.macho_c.proofs.BadSlices.{broken_file, bad}
 use Rattle.macho_c.proofs.image.kesvuot_read_image.Goals as goal
 

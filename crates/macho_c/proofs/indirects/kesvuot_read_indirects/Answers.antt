@@ -1,4 +1,4 @@
-use Rattle.macho_c.proofs.AllSymbols.{has_indirects}
+use Rattle.macho_rows.proofs.AllSymbols.{has_indirects}
 use Rattle.macho_c.proofs.indirects.kesvuot_read_indirects.Goals as goal
 
 pub returns-clause-all : goal.returns-clause-all

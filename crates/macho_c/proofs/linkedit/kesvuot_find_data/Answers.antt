@@ -1,9 +1,9 @@
 use Rattle.std.proofs.Common.{None, refl, inl, inr, sym, subst, ◌∙◌}
 use Rattle.macho_fields.specs.Bytes.{bytes_of}
-use Rattle.macho_c.specs.Linkedit.{IsAnswer}
-use Rattle.macho_c.specs.Image.{image_in}
-use Rattle.macho_c.specs.Rows.{HasUnbrokenHeaders, IsBrokenImage}
-use Rattle.macho_c.proofs.AllCommands.{has_opened}
+use Rattle.macho_rows.specs.Linkedit.{IsAnswer}
+use Rattle.macho_rows.specs.Image.{image_in}
+use Rattle.macho_rows.specs.Rows.{HasUnbrokenHeaders, IsBrokenImage}
+use Rattle.macho_rows.proofs.AllCommands.{has_opened}
 use Rattle.macho_image.specs.Opened.{IsOpened}
 use Rattle.macho_c.proofs.linkedit.kesvuot_find_data.Goals as goal
 

@@ -1,4 +1,4 @@
-use Rattle.macho_c.specs.Image.{image_in}
+use Rattle.macho_rows.specs.Image.{image_in}
 use Rattle.macho_c.proofs.Relocated.{has_relocations}
 use Rattle.macho_c.proofs.relocations.kesvuot_read_relocations.Goals as goal
 

@@ -1,8 +1,8 @@
 use Rattle.std.proofs.Common.{ap}
 use Rattle.std.specs.Prelude.{flat_map}
-use Rattle.macho_c.specs.Image.{image_in}
-use Rattle.macho_c.specs.Sections.{section_rows}
-use Rattle.macho_c.proofs.AllCommands.{has_opened, segments_wanted}
+use Rattle.macho_rows.specs.Image.{image_in}
+use Rattle.macho_rows.specs.Sections.{section_rows}
+use Rattle.macho_rows.proofs.AllCommands.{has_opened, segments_wanted}
 use Rattle.macho_c.proofs.sections.kesvuot_read_sections.Goals as goal
 
 pub returns-clause-all : goal.returns-clause-all

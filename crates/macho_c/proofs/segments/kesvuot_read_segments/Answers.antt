@@ -1,7 +1,7 @@
 use Rattle.std.proofs.Common.{ap}
-use Rattle.macho_c.specs.Image.{image_in}
-use Rattle.macho_c.specs.Segments.{segment_rows}
-use Rattle.macho_c.proofs.AllCommands.{has_opened, segments_wanted}
+use Rattle.macho_rows.specs.Image.{image_in}
+use Rattle.macho_rows.specs.Segments.{segment_rows}
+use Rattle.macho_rows.proofs.AllCommands.{has_opened, segments_wanted}
 use Rattle.macho_c.proofs.segments.kesvuot_read_segments.Goals as goal
 
 pub returns-clause-all : goal.returns-clause-all

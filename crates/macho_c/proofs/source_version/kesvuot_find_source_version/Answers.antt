@@ -1,6 +1,6 @@
 use Rattle.std.proofs.Common.{rules}
-use Rattle.macho_c.specs.Image.{image_in}
-use Rattle.macho_c.proofs.AllCommands.{has_opened, versions_wanted}
+use Rattle.macho_rows.specs.Image.{image_in}
+use Rattle.macho_rows.proofs.AllCommands.{has_opened, versions_wanted}
 use Rattle.macho_c.proofs.source_version.kesvuot_find_source_version.Goals as goal
 
 pub returns-in-Some-clause-all : goal.returns-in-Some-clause-all

@@ -3,10 +3,10 @@ use Rattle.macho_image.specs.declared.symbol.Symbol.{Symbol}
 use Rattle.macho_fields.specs.Bytes.{bytes_of}
 use Rattle.macho_fields.specs.Image.{commands_of}
 use Rattle.macho_fields.specs.Segment.{section_count}
-use Rattle.macho_c.specs.Image.{image_in}
-use Rattle.macho_c.specs.SymbolIndex.{symbols_seen, BeginsPast, IsLast, IsFound, no_symbol}
+use Rattle.macho_rows.specs.Image.{image_in}
+use Rattle.macho_rows.specs.SymbolIndex.{symbols_seen, BeginsPast, IsLast, IsFound, no_symbol}
 use Rattle.macho_c.proofs.NearestSymbol.{finds}
-use Rattle.macho_c.proofs.ShownSymbols.{seen_few, shown_are, shown_seen}
+use Rattle.macho_rows.proofs.ShownSymbols.{seen_few, shown_are, shown_seen}
 use Rattle.macho_c.proofs.symbol_index.kesvuot_find_symbol.Goals as goal
 
 pub returns-in-Some-clause-answer : goal.returns-in-Some-clause-answer

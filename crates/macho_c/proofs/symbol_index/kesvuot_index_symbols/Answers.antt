@@ -1,10 +1,10 @@
 use Rattle.std.proofs.Common.{◌∙◌, ◌++◌, ◌^◌, List, length, drop, ap, subst, subst₂}
 use Rattle.macho_image.specs.declared.symbol.Symbol.{Symbol}
 use Rattle.macho_fields.specs.Bytes.{bytes_of}
-use Rattle.macho_c.specs.Image.{image_in}
-use Rattle.macho_c.specs.SymbolIndex.{symbols_shown, addresses, IsIndex, IsIndexed}
-use Rattle.macho_c.proofs.ShownSymbols.{few_are, shown_are, shown_seen}
-use Rattle.macho_c.proofs.SymbolWalks.{indexed, unindexed}
+use Rattle.macho_rows.specs.Image.{image_in}
+use Rattle.macho_rows.specs.SymbolIndex.{symbols_shown, addresses, IsIndex, IsIndexed}
+use Rattle.macho_rows.proofs.ShownSymbols.{few_are, shown_are, shown_seen}
+use Rattle.macho_rows.proofs.SymbolWalks.{indexed, unindexed}
 use Rattle.macho_c.proofs.symbol_index.kesvuot_index_symbols.Goals as goal
 
 pub count_addresses-count-requires : goal.count_addresses-count-requires

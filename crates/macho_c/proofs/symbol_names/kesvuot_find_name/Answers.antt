@@ -2,11 +2,11 @@ use Rattle.std.proofs.Common.{◌∙◌, length, map, inl, inr, refl, ap, arith}
 use Rattle.std.proofs.lemmas.List.{length-map}
 use Rattle.macho_fields.specs.Bytes.{bytes_of}
 use Rattle.macho_image.specs.Symbol.{symbol_at, items_inside}
-use Rattle.macho_c.specs.Image.{image_in}
-use Rattle.macho_c.specs.Spans.{part_or_none}
-use Rattle.macho_c.specs.SymbolIndex.{no_symbol}
-use Rattle.macho_c.proofs.NamedSymbols.{shown_named, seen_named}
-use Rattle.macho_c.proofs.Ranged.{items_few}
+use Rattle.macho_rows.specs.Image.{image_in}
+use Rattle.macho_rows.specs.Spans.{part_or_none}
+use Rattle.macho_rows.specs.SymbolIndex.{no_symbol}
+use Rattle.macho_rows.proofs.NamedSymbols.{shown_named, seen_named}
+use Rattle.macho_rows.proofs.Ranged.{items_few}
 use Rattle.macho_c.proofs.symbol_names.kesvuot_find_name.Goals as goal
 
 pub first_named-requires : goal.first_named-requires

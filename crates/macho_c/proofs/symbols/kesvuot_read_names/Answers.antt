@@ -1,6 +1,6 @@
 use Rattle.std.proofs.Common.{ℕ, List, subst}
-use Rattle.macho_c.specs.Symbols.{AreNames}
-use Rattle.macho_c.proofs.AllSymbols.{names_each}
+use Rattle.macho_rows.specs.Symbols.{AreNames}
+use Rattle.macho_rows.proofs.AllSymbols.{names_each}
 use Rattle.macho_c.proofs.symbols.kesvuot_read_names.Goals as goal
 
 pub returns-clause-all : goal.returns-clause-all

@@ -1,4 +1,4 @@
-use Rattle.macho_c.proofs.AllSymbols.{has_symbols}
+use Rattle.macho_rows.proofs.AllSymbols.{has_symbols}
 use Rattle.macho_c.proofs.symbols.kesvuot_read_symbols.Goals as goal
 
 pub returns-clause-all : goal.returns-clause-all

@@ -1,8 +1,8 @@
 use Rattle.std.proofs.Common.{rules}
-use Rattle.macho_c.specs.Image.{image_in}
-use Rattle.macho_c.specs.Spans.{span_at}
-use Rattle.macho_c.specs.Symbols.{IsName}
-use Rattle.macho_c.proofs.AllSymbols.{names}
+use Rattle.macho_rows.specs.Image.{image_in}
+use Rattle.macho_rows.specs.Spans.{span_at}
+use Rattle.macho_rows.specs.Symbols.{IsName}
+use Rattle.macho_rows.proofs.AllSymbols.{names}
 use Rattle.macho_c.proofs.symbols.kesvuot_symbol_name.Goals as goal
 
 pub returns-in-Some-clause-all : goal.returns-in-Some-clause-all

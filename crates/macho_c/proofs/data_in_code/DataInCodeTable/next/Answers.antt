@@ -1,7 +1,7 @@
 use Rattle.std.proofs.Common.{◌∙◌, ◌+◌, ◌-◌, ◌∷◌, sym, ap, refl, arith}
 use Rattle.macho_fields.specs.Bytes.{bytes_of}
 use Rattle.macho_c.specs.DataInCode.{entries_left}
-use Rattle.macho_c.specs.declared.cursor.KesvuotCursor.{KesvuotCursor}
+use Rattle.macho_rows.specs.declared.cursor.KesvuotCursor.{KesvuotCursor}
 use Rattle.macho_c.proofs.Entries.{next_left}
 use Rattle.macho_c.proofs.data_in_code.DataInCodeTable.next.Goals as goal
 

@@ -1,7 +1,7 @@
 use Rattle.std.proofs.Common.{◌∙◌, ◌+◌, ◌-◌, ap, refl, arith}
 use Rattle.macho_fields.specs.Bytes.{bytes_of}
 use Rattle.macho_tables.specs.FunctionStarts.{next_start}
-use Rattle.macho_c.specs.declared.cursor.KesvuotCursor.{KesvuotCursor}
+use Rattle.macho_rows.specs.declared.cursor.KesvuotCursor.{KesvuotCursor}
 use Rattle.macho_c.proofs.Started.{part_ends, none_left, next_left}
 use Rattle.macho_c.proofs.function_starts.FunctionStartsTable.next.Goals as goal
 

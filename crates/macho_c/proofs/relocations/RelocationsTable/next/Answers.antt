@@ -2,7 +2,7 @@ use Rattle.std.proofs.Common.{◌≡◌, ◌∙◌, ◌+◌, ◌*◌, ◌≤◌,
 use Rattle.std.proofs.lemmas.Bool.{cases_lt}
 use Rattle.macho_fields.specs.Bytes.{bytes_of}
 use Rattle.macho_c.specs.Relocations.{relocation_row, relocation_rows}
-use Rattle.macho_c.proofs.Numbered.{none_past, next_row}
+use Rattle.macho_rows.proofs.Numbered.{none_past, next_row}
 use Rattle.macho_c.proofs.Relocated.{none_outside, rows_are}
 use Rattle.macho_c.proofs.relocations.RelocationsTable.next.Goals as goal
 

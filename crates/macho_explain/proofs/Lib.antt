@@ -1,0 +1,5 @@
+pub mod ShownExports
+pub mod ShownSeals
+pub mod ShownSignatures
+pub mod SymbolsAt
+pub mod Walked

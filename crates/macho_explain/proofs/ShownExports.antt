@@ -1,0 +1,73 @@
+-- What an explanation shows of an export trie.
+use Rattle.std.proofs.Common.{◌≡◌, ℕ, true, List, Option, Some, None, IfSome, refl, sym, ap, subst, arith}
+use Rattle.std.specs.Prelude.{IsSomeAnd}
+use Rattle.std.specs.Option.{option_map, is_some}
+use Rattle.std.proofs.lemmas.Bool.{false≢true}
+use Rattle.std.proofs.lemmas.Option.{none-some, same_Some}
+use Rattle.macho_fields.specs.declared.rule.Rule.{Rule}
+use Rattle.macho_fields.specs.declared.rule.Rule.TheVariants as rule
+use Rattle.macho_spans.specs.declared.span.Span.{Span}
+use Rattle.macho_exports.specs.ExportTrie.{Node, edges_at, head_at, node_at}
+use Rattle.macho_exports.specs.declared.export_trie.ExportEdge.{ExportEdge}
+use Rattle.macho_exports.specs.declared.export_trie.ExportNode.{ExportNode}
+use Rattle.macho_explain.specs.Compared.{HasAddress, Shows, ShowsExport, node_bounds}
+use Rattle.macho_explain.specs.Explain.{IsSegmentFound}
+use Rattle.macho_explain.specs.declared.conflict.Conflict.{Conflict}
+use Rattle.macho_explain.specs.declared.segment.SegmentAt.{SegmentAt}
+use Rattle.macho_explain.specs.declared.segment.SegmentWith.TheVariants as with
+
+-- Nodes
+
+mapped_some : {X Y : Type 0} (f : X → Y) (o : Option X) (y : Y) → Some y ≡ option_map f o → (x : X) × (o ≡ Some x) × (y ≡ f x)
+mapped_some f None y is = absurd (none-some y (sym is))
+mapped_some f (Some x) y is = (x, refl, same_Some y (f x) is)
+
+mapped_none : {X Y : Type 0} (f : X → Y) (o : Option X) → None ≡ option_map f o → o ≡ None
+mapped_none f None is = refl
+mapped_none f (Some x) is = absurd (none-some (f x) is)
+
+abbrev ended : (List ExportEdge × ℕ → Option ExportEdge) → List ExportEdge × ℕ → Option ExportEdge × ℕ
+ended f edges = (f edges, edges.1)
+
+module _ (trie : List ℕ) (place : ℕ) where
+  -- no node begins there
+  pub no_head : None ≡ head_at trie place → None ≡ option_map node_bounds (node_at trie place)
+  unfolding node_at
+  no_head none = rw (sym none) refl
+
+  module _ (head : ExportNode) (begins : Some head ≡ head_at trie place) (f : List ExportEdge × ℕ → Option ExportEdge) where
+    -- its edges do not end
+    pub no_edges : None ≡ option_map (ended f) (edges_at head.edge_count trie head.edges) → None ≡ option_map node_bounds (node_at trie place)
+    unfolding node_at
+    no_edges none = rw (sym begins, mapped_none (ended f) _ none) refl
+
+    -- they do
+    pub whole_node : (first : Option ExportEdge) (end : ℕ) → Some (first, end) ≡ option_map (ended f) (edges_at head.edge_count trie head.edges)
+        → Some (head.terminal, end) ≡ option_map node_bounds (node_at trie place)
+    unfolding node_at
+    whole_node first end is =
+        let (edges, are, same) = mapped_some (ended f) (edges_at head.edge_count trie head.edges) (first, end) is in
+        rw (sym begins, are) (ap (λ (p : Option ExportEdge × ℕ). Some (head.terminal, p.1)) same)
+
+-- what is shown of the node at a place
+pub node_shown : (P : Span × ℕ → Type 0) (bounds : Span × ℕ) (o : Option Node) → Some bounds ≡ option_map node_bounds o → P bounds → IsSomeAnd o (λ node. P (node_bounds node))
+node_shown P bounds None is has = absurd (none-some bounds (sym is))
+node_shown P bounds (Some node) is has = subst P (same_Some bounds (node_bounds node) is) has
+
+-- Segments
+
+-- the segment that is found has the address
+pub has_address : (image : List ℕ) (address : ℕ) (found : Option SegmentAt) → IfSome found (IsSegmentFound image (with.Address address)) → is_some found ≡ true → HasAddress image address
+has_address image address None is none = absurd (false≢true none)
+has_address image address (Some segment) is some =
+    let row = is.row in (segment.place, omega (arith, is.meets.0, row.start), omega (arith, is.meets.1, row.start, row.size))
+
+-- Rules
+
+pub rule_shown : (r : Rule) (image : List ℕ) (place : ℕ) (c : Conflict) → ShowsExport r image place c → Shows r image place c
+rule_shown rule.ExportNode image place c has = has
+rule_shown rule.ExportTotal image place c has = has
+rule_shown rule.ExportTerminal image place c has = has
+rule_shown rule.ExportLibrary image place c has = has
+rule_shown rule.ExportAddress image place c has = has
+rule_shown other image place c has = absurd has.3

@@ -1,0 +1,133 @@
+-- What explains a refusal: what is at the place, and the numbers that a rule compares. (kesvuot.h: struct
+-- kesvuot_explanation)
+use Rattle.std.specs.Prelude.{◌≡◌, ℕ, ◌+◌, ◌-◌, ◌*◌, ◌^◌, ◌≤◌, ◌<◌, List, map, take, Some, slice_get, true}
+use Rattle.std.specs.List.{sum_by}
+use Rattle.std.specs.Option.{unwrap_or}
+use Rattle.macho_fields.specs.Field.{field}
+use Rattle.macho_fields.specs.Image.{command_size, commands_of}
+use Rattle.macho_fields.specs.Segment.{vmaddr, vmsize, fileoff, filesize, section_address, section_size, section_offset, reloff, nreloc}
+use Rattle.macho_fields.specs.Universal.{FileSlice}
+use Rattle.macho_fields.specs.declared.bytes.Order.TheVariants.{Little}
+use Rattle.macho_fields.specs.declared.load_command.TableFields.{TableFields}
+use Rattle.macho_fields.specs.declared.load_command.Width.TheVariants.{Uint32}
+use Rattle.macho_image.specs.Symbol.{symbols_of, symbol_at}
+use Rattle.macho_image.specs.declared.symbol.Symbol.{Symbol}
+use Rattle.macho_tables.specs.Kinds.{share_kind}
+use Rattle.macho_rows.specs.Cursor.{start as first_cursor}
+use Rattle.macho_rows.specs.Loads.{wanted_left, IsLoad}
+use Rattle.macho_rows.specs.Sections.{nsects_at}
+use Rattle.macho_rows.specs.Segments.{last_address}
+use Rattle.macho_rows.specs.Spans.{part_or_none}
+use Rattle.macho_explain.specs.declared.section.SectionAt.{SectionAt}
+use Rattle.macho_explain.specs.declared.segment.SegmentAt.{SegmentAt}
+use Rattle.macho_explain.specs.declared.segment.SegmentWith.{SegmentWith}
+use Rattle.macho_explain.specs.declared.segment.SegmentWith.TheVariants as with
+use Rattle.macho_explain.specs.declared.walk.Sought.{Sought}
+use Rattle.macho_explain.specs.declared.walk.Sought.TheVariants as sought
+use Rattle.macho_explain.specs.declared.walk.Walked.{Walked}
+use Rattle.macho_rows.specs.declared.load.Load.{Load}
+use Rattle.macho_rows.specs.declared.load.Wanted.TheVariants as wanted
+
+-- KESVUOT_NO_INDEX
+abbrev pub no_index : ℕ
+no_index = 2 ^ 32 - 1
+
+-- the number in the word at a place, and in the 8 bytes there, 0 where these are not all inside
+abbrev pub word_at : List ℕ → ℕ → ℕ
+word_at image place = unwrap_or (field Little 4 image place) 0
+
+abbrev pub long_at : List ℕ → ℕ → ℕ
+long_at image place = unwrap_or (field Little 8 image place) 0
+
+-- the bytes of a slice, and none where it ends past the file
+abbrev pub image_of : List ℕ → FileSlice → List ℕ
+image_of file slice = part_or_none slice.start slice.size file
+
+-- the load commands of any bytes, as many as can be walked to: those of kesvuot_read_commands
+abbrev pub all_loads : List ℕ → List ℕ
+all_loads image = wanted_left wanted.All image first_cursor
+
+-- how many sections the first of them have, so many
+abbrev pub sections_before : List ℕ → ℕ → ℕ
+sections_before image index = sum_by (nsects_at image) (take index (all_loads image))
+
+-- the command with the index has the byte at the place
+abbrev pub IsCommandAt : List ℕ → ℕ → ℕ → Type 0
+IsCommandAt image index place =
+    (command : ℕ) × (slice_get (all_loads image) index ≡ Some command)
+    × (command ≤ place) × (place < command + command_size image command)
+
+-- the structure of the section with the index has the byte at the place: it is the nth one of a command,
+-- after the sections of the commands before
+abbrev pub IsSectionAt : List ℕ → ℕ → ℕ → Type 0
+IsSectionAt image index place =
+    (j : ℕ) × (command : ℕ) × (nth : ℕ) × (slice_get (all_loads image) j ≡ Some command)
+    × (nth < nsects_at image command) × (index ≡ sections_before image j + nth)
+    × (command + 72 + 80 * nth ≤ place) × (place < command + 72 + 80 * nth + 80)
+
+-- the symbol with the index is at the place
+abbrev pub IsSymbolAt : List ℕ → ℕ → ℕ → Type 0
+IsSymbolAt image index place =
+    (symbol : Symbol)
+    × (slice_get (map (symbol_at image) (symbols_of image (commands_of image))) index ≡ Some symbol)
+    × (symbol.place ≡ place)
+
+-- What only proofs need.
+
+-- the command is the one that is sought
+abbrev pub Meets : Sought → Load → Type 0
+Meets (sought.At place) load = (load.place ≤ place) × (place < load.place + load.size)
+Meets (sought.First cmd) load = load.cmd ≡ cmd
+Meets (sought.OfKind cmd) load = share_kind load.cmd cmd ≡ true
+
+-- the cmd of the command that is sought
+abbrev pub MeetsLimit : Sought → ℕ → Type 0
+MeetsLimit (sought.At place) cmd = Unit {0}
+MeetsLimit (sought.First wanted) cmd = cmd ≡ wanted
+MeetsLimit (sought.OfKind wanted) cmd = share_kind cmd wanted ≡ true
+
+-- the command that is sought, with its index, and how many sections are before it
+pub record IsWalked (image : List ℕ) (which : Sought) (walked : Walked) : Type 0 where
+  pub listed : slice_get (all_loads image) walked.index ≡ Some walked.load.place
+  pub load : IsLoad image walked.load
+  pub past : 32 ≤ walked.load.place
+  pub meets : Meets which walked.load
+  pub few : walked.index < no_index
+  pub sections : walked.sections ≡ sections_before image walked.index
+
+-- the fields bound a table by its bytes, in a field of 32 bits
+abbrev pub IsOfBytes : TableFields → Type 0
+IsOfBytes fields = (fields.width ≡ Uint32) × (fields.item_size ≡ 1)
+
+-- the fields of the segment that is found
+pub record IsSegmentRow (image : List ℕ) (segment : SegmentAt) : Type 0 where
+  pub start : segment.row.vmaddr ≡ vmaddr image segment.place
+  pub size : segment.row.vmsize ≡ vmsize image segment.place
+  pub last : segment.row.last ≡ last_address (vmaddr image segment.place) (vmsize image segment.place)
+  pub file_start : segment.row.fileoff ≡ fileoff image segment.place
+  pub file_size : segment.row.filesize ≡ filesize image segment.place
+
+-- what is said of the segment that is sought
+abbrev pub MeetsSegment : SegmentWith → SegmentAt → Type 0
+MeetsSegment (with.Command place) segment = segment.place ≡ place
+MeetsSegment (with.Address address) segment =
+    (segment.row.vmaddr ≤ address) × (address < segment.row.vmaddr + segment.row.vmsize)
+MeetsSegment other segment = Unit {0}
+
+-- the segment that is sought, with its fields
+pub record IsSegmentFound (image : List ℕ) (wanted : SegmentWith) (segment : SegmentAt) : Type 0 where
+  pub row : IsSegmentRow image segment
+  pub meets : MeetsSegment wanted segment
+
+-- the fields of the section that is found
+pub record IsSectionRow (image : List ℕ) (section : SectionAt) : Type 0 where
+  pub start : section.row.addr ≡ section_address image section.place
+  pub size : section.row.size ≡ section_size image section.place
+  pub file_start : section.row.offset ≡ section_offset image section.place
+  pub relocs : section.row.reloff ≡ reloff image section.place
+  pub reloc_count : section.row.nreloc ≡ nreloc image section.place
+
+-- the section that has a place, with its fields
+pub record IsSectionFound (image : List ℕ) (place : ℕ) (section : SectionAt) : Type 0 where
+  pub row : IsSectionRow image section
+  pub at : IsSectionAt image section.index place

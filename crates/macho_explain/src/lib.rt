@@ -1,0 +1,28 @@
+#![tactic(auto)]
+//! Why a file is refused: what is at the place of the verdict, and which parts and numbers conflict there.
+
+mod chains;
+mod conflict;
+mod directory;
+mod element;
+mod entries;
+pub mod explanation;
+mod exports;
+mod functions;
+mod gaps;
+mod header;
+mod home;
+mod numbers;
+pub mod part;
+mod pointers;
+mod relocation;
+mod seal;
+mod section;
+mod segment;
+mod signature;
+mod sliced;
+mod spot;
+mod stream;
+mod symbol;
+mod table;
+mod walk;

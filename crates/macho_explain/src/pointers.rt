@@ -1,0 +1,149 @@
+//! The rules of the pointers that are chained in the pages of the segments. (`mach-o/fixup-chains.h`)
+
+ghost use Rattle.std.specs.Prelude.{◌≡◌, IfSome};
+ghost use Rattle.macho_fields.specs.Bytes.{bytes_of};
+ghost use Rattle.macho_fields.specs.declared.rule.Rule.{Rule};
+ghost use Rattle.macho_chains.specs.ChainPointers.{pointer_of};
+ghost use Rattle.macho_explain.specs.Compared.{IsFound};
+ghost use Rattle.macho_explain.specs.Explain.{long_at};
+
+use crate::chains::{Chains, header_at};
+use crate::conflict::Conflict;
+use crate::part::{CHAIN_POINTER, CHAIN_STARTS, PAGE_START, Part};
+use crate::segment::segment_at;
+use crate::sliced::Sliced;
+use crate::spot::Spot;
+use macho_chains::chain_pages::plain_room;
+use macho_chains::chain_pointers::ChainPointer;
+use macho_chains::chain_starts::SegmentStarts;
+use macho_chains::fixup_chains::{
+    DYLD_CHAINED_PTR_START_NONE, DYLD_CHAINED_STARTS_IN_SEGMENT_SIZE, PAGE_START_SIZE,
+};
+use macho_fields::{Order, Span};
+use macho_image::Image;
+use macho_tables::limits::POINTER_SIZE;
+
+// A segment that has starts.
+#[derive(Clone, Copy)]
+struct Chained {
+    index: u32,
+    // Where its command begins in the image, and its bytes.
+    command: u64,
+    fileoff: u64,
+    starts: SegmentStarts,
+    // The offset up to which a loader can write it as it is in the file.
+    room: u64,
+}
+
+// A structure of a page of the segment, and where the pointer to which it leads begins in the segment.
+#[derive(Clone, Copy)]
+struct Lead {
+    at: Part,
+    page: u16,
+    next: u64,
+}
+
+// Explains the page start, or the pointer, at the place: there is no room for the pointer to which it leads.
+pub(crate) fn chain_slot(sliced: &Sliced, chains: &Chains, place: u64) -> Option<(Spot, Conflict)>
+    ensures { IfSome result (IsFound Rule.ChainSlot (bytes_of sliced.now.held.bytes) place) }
+{
+    let segment = find_chained(&sliced.held.open()?, chains, place)?;
+    let lead = match page_at(chains, &segment.starts, place) {
+        Some(page) => from_start(sliced, &segment, page, place)?,
+        None => from_pointer(sliced, &segment, place)?.0,
+    };
+    let starts = starts_part(sliced, chains, &segment);
+    let part = segment_at(sliced, segment.command);
+    let end = lead.next.saturating_add(POINTER_SIZE);
+    let limit = segment.starts.page_limit(lead.page, segment.room);
+    Some((Spot::of(lead.at), Conflict::of(starts, part, end, limit)))
+}
+
+// Explains the pointer at the place that binds an import which is not there.
+pub(crate) fn chain_bind(sliced: &Sliced, chains: &Chains, place: u64) -> Option<(Spot, Conflict)>
+    ensures { IfSome result (IsFound Rule.ChainBind (bytes_of sliced.now.held.bytes) place) }
+{
+    let segment = find_chained(&sliced.held.open()?, chains, place)?;
+    let (lead, pointer) = from_pointer(sliced, &segment, place)?;
+    let header = header_at(sliced, &chains.table, chains.table.span.start)?;
+    let part = segment_at(sliced, segment.command);
+    let count = u64::from(chains.header.imports_count);
+    Some((
+        Spot::of(lead.at),
+        Conflict::of(header, part, pointer.import?, count),
+    ))
+}
+
+// The first segment that has a page start at the place, or the place itself.
+fn find_chained(image: &Image, chains: &Chains, place: u64) -> Option<Chained> {
+    let mut index: u32 = 0;
+    for segment in image.segments() {
+        if let Some(starts) = chains.starts_of(index)
+            && (page_at(chains, &starts, place).is_some() || segment.file_part().holds(place))
+        {
+            return Some(Chained {
+                index,
+                command: segment.place(),
+                fileoff: segment.fileoff(),
+                starts,
+                room: plain_room(image, &segment),
+            });
+        }
+        index = index.checked_add(1)?;
+    }
+    None
+}
+
+// The page whose start is at the place.
+fn page_at(chains: &Chains, starts: &SegmentStarts, place: u64) -> Option<u16> {
+    let past = place
+        .checked_sub(chains.table.span.start)?
+        .checked_sub(starts.offset)?
+        .checked_sub(DYLD_CHAINED_STARTS_IN_SEGMENT_SIZE)?;
+    let page = u16::try_from(past / PAGE_START_SIZE).ok()?;
+    if past % PAGE_START_SIZE != 0 || page >= starts.page_count {
+        return None;
+    }
+    Some(page)
+}
+
+// The start of a page, at the place. It leads to the first pointer, if the page has a chain.
+fn from_start(sliced: &Sliced, segment: &Chained, page: u16, place: u64) -> Option<Lead> {
+    let start = sliced.held.bytes.u16_at(Order::Little, place)?;
+    if start == DYLD_CHAINED_PTR_START_NONE {
+        return None;
+    }
+    Some(Lead {
+        at: sliced.structure(PAGE_START, place, PAGE_START_SIZE, u32::from(page)),
+        page,
+        next: segment.starts.page_offset(page) + u64::from(start),
+    })
+}
+
+// The pointer at the place. It leads to the next one.
+fn from_pointer(sliced: &Sliced, segment: &Chained, place: u64) -> Option<(Lead, ChainPointer)>
+    ensures { IfSome result (λ found. found.1
+        ≡ pointer_of segment.now.starts.format (long_at (bytes_of sliced.now.held.bytes) place)) }
+{
+    let offset = place.checked_sub(segment.fileoff)?;
+    let page_size = u64::from(segment.starts.page_size);
+    let page = u16::try_from(offset.checked_div(page_size)?).ok()?;
+    let pointer = ChainPointer::of(segment.starts.format, sliced.long(place));
+    let lead = Lead {
+        at: sliced.structure(CHAIN_POINTER, place, POINTER_SIZE, u32::from(page)),
+        page,
+        next: offset.saturating_add(pointer.distance),
+    };
+    Some((lead, pointer))
+}
+
+// The starts of the segment, which its entry describes.
+fn starts_part(sliced: &Sliced, chains: &Chains, segment: &Chained) -> Part {
+    let table = chains.table.span.start;
+    let span = Span {
+        start: table.saturating_add(segment.starts.offset),
+        len: u64::from(segment.starts.size),
+    };
+    let entry = table.saturating_add(chains.entry_offset(segment.index));
+    sliced.described(CHAIN_STARTS, span, entry, segment.index)
+}

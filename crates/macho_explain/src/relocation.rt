@@ -1,0 +1,115 @@
+//! The rule of relocations. (`mach-o/reloc.h`: `relocation_info`)
+
+ghost use Rattle.std.specs.Prelude.{◌≡◌, IfSome};
+ghost use Rattle.macho_fields.specs.Bytes.{bytes_of};
+ghost use Rattle.macho_fields.specs.declared.rule.Rule.{Rule};
+ghost use Rattle.macho_explain.specs.Compared.{IsFound, IsRelocationShown};
+
+use crate::conflict::Conflict;
+use crate::part::{Part, RELOCATION, RELOCATIONS, index_of};
+use crate::sliced::Sliced;
+use crate::spot::Spot;
+use crate::table::table_with;
+use crate::walk::{Sought, walk_to};
+use macho_fields::header::loader::LC_DYSYMTAB;
+use macho_fields::header::reloc::RELOCATION_INFO_SIZE;
+use macho_fields::{Rule, Span};
+use macho_image::Image;
+use macho_symbols::reloc::{POINTER_LENGTH, Relocation};
+use macho_symbols::relocations::Named;
+
+// The indices of the external and the local relocations among the tables of `dysymtab_command`, and the one past
+// them.
+const EXTERNAL: u64 = 4;
+
+const PAST_LOCAL: u64 = 6;
+
+// A table of relocations, and where it begins.
+#[derive(Clone, Copy)]
+struct Relocations {
+    part: Part,
+    start: u64,
+}
+
+// Explains the relocation that begins at the place.
+pub(crate) fn explain_relocation(
+    sliced: &Sliced,
+    rule: Rule,
+    place: u64,
+) -> Option<(Spot, Conflict)>
+    ensures { IfSome result (IsFound rule (bytes_of sliced.now.held.bytes) place) }
+{
+    let image = sliced.held.open()?;
+    let table = match of_section(sliced, &image, place) {
+        Some(table) => table,
+        None => of_dysymtab(sliced, place)?,
+    };
+    let whole = Span {
+        start: place,
+        len: RELOCATION_INFO_SIZE,
+    };
+    let past = place.checked_sub(table.start)?;
+    let is_one = past % RELOCATION_INFO_SIZE == 0 && sliced.held.bytes.contains(whole);
+    if rule != Rule::Relocation || !is_one {
+        return None;
+    }
+    let index = index_of(past / RELOCATION_INFO_SIZE);
+    let at = sliced.structure(RELOCATION, place, RELOCATION_INFO_SIZE, index);
+    let relocation = Relocation::read(sliced.held.bytes, place);
+    Some((
+        Spot::of(at),
+        relocation_conflict(&image, table.part, relocation),
+    ))
+}
+
+// The relocations of a section that have the place.
+fn of_section(sliced: &Sliced, image: &Image, place: u64) -> Option<Relocations> {
+    let mut index: u64 = 0;
+    for section in image.sections() {
+        let span = Span {
+            start: section.reloff(),
+            len: section.nreloc().saturating_mul(RELOCATION_INFO_SIZE),
+        };
+        if span.holds(place) {
+            let part = sliced.described(RELOCATIONS, span, section.place(), index_of(index));
+            return Some(Relocations {
+                part,
+                start: span.start,
+            });
+        }
+        index = index.saturating_add(1);
+    }
+    None
+}
+
+// Those of `LC_DYSYMTAB` that do.
+fn of_dysymtab(sliced: &Sliced, place: u64) -> Option<Relocations> {
+    let walked = walk_to(sliced.held.bytes, Sought::First(LC_DYSYMTAB))?;
+    for index in EXTERNAL..PAST_LOCAL {
+        let table = table_with(sliced, walked.load, index)?;
+        if table.span.holds(place) {
+            return Some(Relocations {
+                part: table.part,
+                start: table.span.start,
+            });
+        }
+    }
+    None
+}
+
+// What the relocation names, and how many of these there are; or its length, and that of a pointer.
+fn relocation_conflict(image: &Image, table: Part, relocation: Relocation) -> Conflict
+    ensures { IsRelocationShown relocation result }
+{
+    let named = Named::of(image);
+    if !named.lacks(relocation) {
+        let length = u64::from(relocation.length);
+        return Conflict::alone(table, length, u64::from(POINTER_LENGTH));
+    }
+    let count = if relocation.is_external {
+        named.symbols
+    } else {
+        named.sections
+    };
+    Conflict::alone(table, u64::from(relocation.symbolnum), count)
+}

@@ -1,0 +1,290 @@
+//! The rules of the sealed profile: of what in an image its code signature has the hashes. (`cs_blobs.h`:
+//! `CS_CodeDirectory`)
+
+ghost use Rattle.std.specs.Prelude.{◌≡◌, ◌+◌, ◌≤◌, ◌<◌, ℕ, length, IfSome, true};
+ghost use Rattle.macho_fields.specs.Bytes.{bytes_of};
+ghost use Rattle.macho_fields.specs.declared.rule.Rule.{Rule};
+ghost use Rattle.macho_sealed.specs.Specials.{is_special_slot as is_special_slot_of};
+ghost use Rattle.macho_signature.specs.CodeDirectories.{HasSlots};
+ghost use Rattle.macho_signature.specs.Superblobs.{blob_at, blob_end};
+ghost use Rattle.macho_explain.specs.Compared.{IsFound};
+ghost use Rattle.macho_explain.specs.Seals.{IsDirectoryOf, IsHashed, IsHashShown, IsOtherShown, IsPageShown, IsSpecialShown, place_of};
+
+use crate::conflict::Conflict;
+use crate::part::{BYTE, CODE_HASH, CODE_PAGE, HEADER, NO_INDEX, NO_PART, Part, SIGNATURE_ENTRY};
+use crate::signature::{Signature, index_at, signature_of};
+use crate::sliced::Sliced;
+use crate::spot::Spot;
+use crate::walk::{Sought, walk_to};
+use macho_fields::header::loader::{LC_CODE_SIGNATURE, MACH_HEADER_64_SIZE};
+use macho_fields::{Bytes, Rule, Span};
+use macho_sealed::digest::has_hash;
+use macho_sealed::pages::{code_slot, page_at};
+use macho_sealed::specials::{has_special_hash, is_special_slot, special_slot};
+use macho_signature::cs_blobs::CS_BLOB_INDEX_SIZE;
+use macho_signature::{Blob, CodeDirectory};
+
+// How many code directories are looked at: no signature with another in each slot has more.
+const MOST_DIRECTORIES: u32 = 6;
+
+// Explains a rule of the sealed profile that is broken at the place.
+pub(crate) fn explain_seal(sliced: &Sliced, rule: Rule, place: u64) -> Option<(Spot, Conflict)>
+    ensures { IfSome result (IsFound rule (bytes_of sliced.now.held.bytes) place) }
+{
+    match rule {
+        Rule::SignatureMissing => signature_missing(sliced, place),
+        Rule::DirectoryRepeated => directory_repeated(sliced, place),
+        Rule::SignatureSlack => signature_slack(sliced, place),
+        Rule::SignatureHash => signature_hash(sliced, place),
+        _ => None,
+    }
+}
+
+// Explains that no code directory is in the slot 0: of the command that should name a signature, if there is one.
+fn signature_missing(sliced: &Sliced, place: u64) -> Option<(Spot, Conflict)>
+    ensures { IfSome result (IsFound Rule.SignatureMissing (bytes_of sliced.now.held.bytes) place) }
+{
+    if place != 0 {
+        return None;
+    }
+    let size = sliced.held.bytes.len().min(MACH_HEADER_64_SIZE);
+    let at = sliced.structure(HEADER, 0, size, NO_INDEX);
+    let command = match walk_to(sliced.held.bytes, Sought::First(LC_CODE_SIGNATURE)) {
+        Some(walked) => sliced.command(&walked),
+        None => NO_PART,
+    };
+    Some((Spot::of(at), Conflict::alone(command, 0, 1)))
+}
+
+// Explains the entry at the place: an earlier one has the same slot of code directories.
+fn directory_repeated(sliced: &Sliced, place: u64) -> Option<(Spot, Conflict)>
+    ensures { IfSome result (IsFound Rule.DirectoryRepeated (bytes_of sliced.now.held.bytes) place) }
+{
+    let signature = signature_of(sliced)?;
+    let offset = place.checked_sub(signature.table.span.start)?;
+    let index = index_at(offset)?;
+    let later = signature.placed_blob(index)?;
+    let (first, earlier) = first_in_slot(&signature, later.slot)?;
+    if first >= index || !later.is_directory() {
+        return None;
+    }
+    let at = sliced.structure(SIGNATURE_ENTRY, place, CS_BLOB_INDEX_SIZE, index);
+    let one = signature.blob_part(sliced, index, later.span());
+    let other = signature.blob_part(sliced, first, earlier.span());
+    let slot = u64::from(later.slot);
+    Some((Spot::of(at), Conflict::of(one, other, slot, slot)))
+}
+
+// The first blob in a slot, and the index of its entry.
+fn first_in_slot(signature: &Signature, slot: u32) -> Option<(u32, Blob)>
+    ensures blob { IfSome result (λ found. found.1 ≡ blob_at (bytes_of signature.now.bytes) found.0) }
+    ensures slot { IfSome result (λ found. found.1.slot ≡ slot) }
+{
+    for index in 0..u32::MAX {
+        let blob = signature.placed_blob(index)?;
+        if blob.slot == slot {
+            return Some((index, blob));
+        }
+    }
+    None
+}
+
+// Explains the byte at the place, which is past the start of the signature and in no part of it.
+fn signature_slack(sliced: &Sliced, place: u64) -> Option<(Spot, Conflict)>
+    ensures { IfSome result (IsFound Rule.SignatureSlack (bytes_of sliced.now.held.bytes) place) }
+{
+    let signature = signature_of(sliced)?;
+    if place < signature.table.span.start {
+        return None;
+    }
+    let byte = u64::from(sliced.held.bytes.u8_at(place)?);
+    let at = sliced.structure(BYTE, place, 1, NO_INDEX);
+    Some((Spot::of(at), Conflict::alone(signature.table.part, byte, 0)))
+}
+
+// What code directories have a hash of.
+#[derive(Clone, Copy)]
+enum Hashed {
+    // The page that begins at a place of the image.
+    Page(u64),
+    // The blob of the entry with an index, which is in a special slot.
+    Special(u32, Blob),
+}
+
+// Explains the page, or the blob of the signature, at the place: a code directory has another hash.
+fn signature_hash(sliced: &Sliced, place: u64) -> Option<(Spot, Conflict)>
+    ensures { IfSome result (IsFound Rule.SignatureHash (bytes_of sliced.now.held.bytes) place) }
+{
+    let signature = signature_of(sliced)?;
+    let hashed = match place.checked_sub(signature.table.span.start) {
+        Some(offset) => special_at(&signature, offset)?,
+        None => Hashed::Page(place),
+    };
+    let conflict = first_other_hash(sliced, &signature, hashed)?;
+    Some((Spot::of(conflict.first), conflict))
+}
+
+// The first blob in a special slot that begins at an offset of a signature.
+fn special_at(signature: &Signature, offset: u64) -> Option<Hashed>
+    ensures hashed { IfSome result (IsHashed (bytes_of signature.now.bytes)) }
+    ensures place { IfSome result (λ hashed. (start : ℕ) → place_of start hashed ≡ start + offset) }
+{
+    for index in 0..u32::MAX {
+        let blob = signature.placed_blob(index)?;
+        if u64::from(blob.offset) == offset && is_special_slot(blob.slot) {
+            return Some(Hashed::Special(index, blob));
+        }
+    }
+    None
+}
+
+// What conflicts with the first code directory of a signature that has another hash.
+fn first_other_hash(sliced: &Sliced, signature: &Signature, hashed: Hashed) -> Option<Conflict>
+    requires { IsHashed (bytes_of signature.now.bytes) hashed }
+    ensures { IfSome result (λ c. IsHashShown (bytes_of sliced.now.held.bytes) signature.now.table.span.start
+        (bytes_of signature.now.bytes) (place_of signature.now.table.span.start hashed) c.value c.limit) }
+{
+    let mut left = MOST_DIRECTORIES;
+    for index in 0..u32::MAX {
+        let blob = signature.placed_blob(index)?;
+        if let Some(directory) = directory_of(signature, index, blob) {
+            left = left.checked_sub(1)?;
+            let conflict = other_hash(sliced, signature, &directory, hashed);
+            if conflict.is_some() {
+                return conflict;
+            }
+        }
+    }
+    None
+}
+
+// A sound code directory of a signature.
+#[derive(Clone, Copy)]
+struct Directory<'a> {
+    // The index of its entry.
+    index: u32,
+    blob: Blob,
+    bytes: Bytes<'a>,
+    fields: CodeDirectory,
+}
+
+// The code directory that the blob of an entry is, if it is a sound one.
+fn directory_of<'a>(signature: &Signature<'a>, index: u32, blob: Blob) -> Option<Directory<'a>>
+    requires blob { blob ≡ blob_at (bytes_of signature.now.bytes) index }
+    requires inside { blob_end blob ≤ length (bytes_of signature.now.bytes) }
+    ensures { IfSome result (IsDirectoryOf signature.now.table.span.start (bytes_of signature.now.bytes)) }
+{
+    let bytes = signature.bytes.slice(blob.span());
+    let fields = CodeDirectory::read(bytes)?;
+    if !blob.is_directory() || !fields.is_sound(bytes, signature.table.span.start) {
+        return None;
+    }
+    Some(Directory {
+        index,
+        blob,
+        bytes,
+        fields,
+    })
+}
+
+// What conflicts with a code directory, if it has another hash.
+fn other_hash(
+    sliced: &Sliced,
+    signature: &Signature,
+    directory: &Directory,
+    hashed: Hashed,
+) -> Option<Conflict>
+    requires directory { IsDirectoryOf signature.now.table.span.start (bytes_of signature.now.bytes) directory.now }
+    requires hashed { IsHashed (bytes_of signature.now.bytes) hashed }
+    ensures { IfSome result (λ c. IsOtherShown (bytes_of sliced.now.held.bytes) signature.now.table.span.start
+        (bytes_of signature.now.bytes) (bytes_of directory.now.bytes) directory.now.fields
+        (place_of signature.now.table.span.start hashed) c.value c.limit) }
+{
+    match hashed {
+        Hashed::Page(place) => other_page(sliced, signature, directory, place),
+        Hashed::Special(index, blob) => other_special(sliced, signature, directory, index, blob),
+    }
+}
+
+// The page of a code directory at a place of the image, if the directory has another hash, and that.
+fn other_page(
+    sliced: &Sliced,
+    signature: &Signature,
+    directory: &Directory,
+    place: u64,
+) -> Option<Conflict>
+    requires { IsDirectoryOf signature.now.table.span.start (bytes_of signature.now.bytes) directory.now }
+    ensures { IfSome result (λ c. IsPageShown (bytes_of sliced.now.held.bytes) (bytes_of directory.now.bytes)
+        directory.now.fields place c.value c.limit) }
+{
+    let fields = directory.fields;
+    let index = page_index(fields, place)?;
+    let page = page_at(fields, index);
+    let slot = code_slot(fields, index);
+    let message = sliced.held.bytes.part(page)?;
+    let hash = directory.bytes.part(slot)?;
+    if page.start != place || has_hash(fields.hash_type, message, hash) {
+        return None;
+    }
+    let by = signature.place_of_blob(directory.blob);
+    let first = sliced.described(CODE_PAGE, page, by, index);
+    let second = hash_part(sliced, by, slot, index);
+    let (number, count) = (u64::from(index), u64::from(fields.code_slots));
+    Some(Conflict::of(first, second, number, count))
+}
+
+// The index of the page of a code directory that has a place.
+fn page_index(directory: CodeDirectory, place: u64) -> Option<u32>
+    requires { HasSlots directory }
+    ensures { IfSome result (λ index. index < directory.code_slots) }
+{
+    let index = if directory.page_size == 0 {
+        0
+    } else {
+        place >> directory.page_size
+    };
+    if index >= u64::from(directory.code_slots) {
+        return None;
+    }
+    Some(index as u32)
+}
+
+// The blob of an entry in a special slot, if a code directory has no such slot or another hash in it, and that.
+fn other_special(
+    sliced: &Sliced,
+    signature: &Signature,
+    directory: &Directory,
+    index: u32,
+    blob: Blob,
+) -> Option<Conflict>
+    requires directory { IsDirectoryOf signature.now.table.span.start (bytes_of signature.now.bytes) directory.now }
+    requires blob { blob ≡ blob_at (bytes_of signature.now.bytes) index }
+    requires special { is_special_slot_of blob.slot ≡ true }
+    ensures { IfSome result (λ c. IsSpecialShown signature.now.table.span.start (bytes_of signature.now.bytes)
+        (bytes_of directory.now.bytes) directory.now.fields
+        (signature.now.table.span.start + blob.offset) c.value c.limit) }
+{
+    let fields = directory.fields;
+    let message = signature.bytes.part(blob.span())?;
+    if has_special_hash(directory.bytes, fields, blob.slot, message) {
+        return None;
+    }
+    let by = signature.place_of_blob(directory.blob);
+    let first = signature.blob_part(sliced, index, blob.span());
+    let second = if blob.slot <= fields.special_slots {
+        hash_part(sliced, by, special_slot(fields, blob.slot), blob.slot)
+    } else {
+        signature.blob_part(sliced, directory.index, directory.blob.span())
+    };
+    let (slot, count) = (u64::from(blob.slot), u64::from(fields.special_slots));
+    Some(Conflict::of(first, second, slot, count))
+}
+
+// A hash in the code directory that begins at a place of the image.
+fn hash_part(sliced: &Sliced, directory: u64, slot: Span, index: u32) -> Part {
+    let span = Span {
+        start: directory.saturating_add(slot.start),
+        len: slot.len,
+    };
+    sliced.described(CODE_HASH, span, directory, index)
+}

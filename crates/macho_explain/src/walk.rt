@@ -1,0 +1,97 @@
+//! Where a load command is, among those of any bytes.
+
+ghost use Rattle.std.specs.Prelude.{◌≡◌, ◌↔◌, length, IfSome, IsTrue};
+ghost use Rattle.macho_fields.specs.Bytes.{bytes_of};
+ghost use Rattle.macho_explain.specs.Explain.{all_loads, IsWalked, Meets};
+
+use crate::part::NO_INDEX;
+use macho_fields::Bytes;
+use macho_fields::header::loader::MACH_HEADER_64_SIZE;
+use macho_rows::cursor::START;
+use macho_rows::load::{Load, Wanted, next_wanted};
+use macho_rows::sections::nsects_at;
+use macho_tables::kinds::share_kind;
+
+// Which command is sought.
+#[derive(Clone, Copy)]
+pub(crate) enum Sought {
+    // The one that has the byte at a place.
+    At(u64),
+    // The first one with a `cmd`.
+    First(u32),
+    // The first one that names linked data of a kind of the commands with a `cmd`.
+    OfKind(u32),
+}
+
+// A load command, with its index, and how many sections are before it.
+#[derive(Clone, Copy)]
+pub(crate) struct Walked {
+    pub(crate) load: Load,
+    pub(crate) index: u32,
+    pub(crate) sections: u64,
+}
+
+// The command that is sought, if there is one.
+pub(crate) fn walk_to(image: Bytes, sought: Sought) -> Option<Walked>
+    ensures { IfSome result (IsWalked (bytes_of image.entry) sought) }
+{
+    let mut cursor = START;
+    let mut index: u32 = 0;
+    let mut sections: u64 = 0;
+    while let Some(load) = next_wanted(image, &mut cursor, Wanted::All) {
+        if index == NO_INDEX {
+            return None;
+        }
+        if is_sought(load, sought) {
+            return Some(Walked {
+                load,
+                index,
+                sections,
+            });
+        }
+        index += 1;
+        sections = sections.checked_add(nsects_at(image, load.place))?;
+    }
+    None
+}
+
+// Whether the command is the one that is sought.
+fn is_sought(load: Load, sought: Sought) -> bool
+    ensures { IsTrue result ↔ Meets sought load }
+{
+    match sought {
+        Sought::At(place) => load.place <= place && place - load.place < load.size,
+        Sought::First(cmd) => load.cmd == cmd,
+        Sought::OfKind(cmd) => share_kind(load.cmd, cmd),
+    }
+}
+
+// Where the walk over the commands ends, and the last command.
+#[derive(Clone, Copy)]
+pub(crate) struct WalkEnd {
+    pub(crate) place: u64,
+    pub(crate) count: u32,
+    pub(crate) last: Option<Walked>,
+}
+
+// Walks over all commands.
+pub(crate) fn walk_end(image: Bytes) -> Option<WalkEnd>
+    ensures { IfSome result (λ end. end.count ≡ length (all_loads (bytes_of image.entry))) }
+{
+    let mut cursor = START;
+    let mut count: u32 = 0;
+    let mut last = None;
+    while let Some(load) = next_wanted(image, &mut cursor, Wanted::All) {
+        last = Some(Walked {
+            load,
+            index: count,
+            sections: 0,
+        });
+        count = count.checked_add(1)?;
+    }
+    Some(WalkEnd {
+        place: cursor.place.max(MACH_HEADER_64_SIZE),
+        count,
+        last,
+    })
+}

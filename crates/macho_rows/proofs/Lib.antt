@@ -1,0 +1,16 @@
+pub mod AllCommands
+pub mod AllSymbols
+pub mod BoundedTables
+pub mod Counts
+pub mod Data
+pub mod Ended
+pub mod Loads
+pub mod NamedSymbols
+pub mod Numbered
+pub mod Opened
+pub mod PartFits
+pub mod Ranged
+pub mod Reached
+pub mod ShownSymbols
+pub mod Supplied
+pub mod SymbolWalks

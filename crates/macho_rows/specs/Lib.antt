@@ -1,0 +1,17 @@
+pub mod Address
+pub mod BoundedTables
+pub mod Builds
+pub mod Commands
+pub mod Cursor
+pub mod Image
+pub mod Libraries
+pub mod Linkedit
+pub mod Loads
+pub mod Rows
+pub mod Sections
+pub mod Segments
+pub mod Spans
+pub mod Status
+pub mod SymbolIndex
+pub mod SymbolNames
+pub mod Symbols
