@@ -31,8 +31,8 @@
  * version that adds a rule gives it the next free number, wherever it is judged.
  *
  * No call keeps state, prints, or ends the process, and any number of threads may call at once. Only kesvuot_verify,
- * kesvuot_verify_strictly, kesvuot_verify_linked and kesvuot_layout allocate memory, with malloc and realloc, and they
- * free it before they return.
+ * kesvuot_verify_strictly, kesvuot_verify_linked, kesvuot_verify_sealed and kesvuot_layout allocate memory, with malloc
+ * and realloc, and they free it before they return.
  */
 #ifndef KESVUOT_H
 #define KESVUOT_H
@@ -157,7 +157,12 @@ enum {
     KESVUOT_SYMBOL_INDIRECT = 74,
     KESVUOT_RELOCATION = 75,
     KESVUOT_THREAD = 76,
-    KESVUOT_COMMAND_CONTENT = 77
+    KESVUOT_COMMAND_CONTENT = 77,
+    /* of the sealed profile: SEALED.md explains them */
+    KESVUOT_SIGNATURE_MISSING = 78,
+    KESVUOT_DIRECTORY_REPEATED = 79,
+    KESVUOT_SIGNATURE_SLACK = 80,
+    KESVUOT_SIGNATURE_HASH = 81
 };
 
 /* The verdict on a file */
@@ -194,6 +199,16 @@ uint32_t kesvuot_verify_strictly(const void *file, size_t size, struct kesvuot_v
  * no rule of kesvuot_verify_strictly, and only if some slice has more than 16 mapped segments, several executable ones
  * that have bytes in the file, or an export trie. */
 uint32_t kesvuot_verify_linked(const void *file, size_t size, struct kesvuot_verdict *verdict);
+
+/* Judges a file as kesvuot_verify_linked does, and then by the rules of the sealed profile: each image has a code
+ * signature; the hashes in each of its code directories are those of all bytes before the signature, and of the blobs
+ * in special slots; and from the signature on, each byte that is not zero is in its header, its index or a blob.
+ * SEALED.md says what that means, and what it does not: nobody is named who signed, and nothing outside of the file is
+ * read.
+ * Every file that is OK here is also OK for kesvuot_verify_linked.
+ * Memory can run out wherever it can for kesvuot_verify_linked, and nowhere else. Each code directory takes a pass over
+ * the bytes that its hashes are of; an image has six at most. */
+uint32_t kesvuot_verify_sealed(const void *file, size_t size, struct kesvuot_verdict *verdict);
 
 /* Writes the layout of an accepted file as text, as macho-check prints it: up to `max` bytes, from its first byte on.
  * Later bytes of `text` are unchanged, and no zero byte is added. `needed` is the length of the whole layout: if it is
@@ -284,7 +299,9 @@ enum {
     KESVUOT_PART_SIGNATURE_ENTRY = 34, /* CS_BlobIndex of a code signature, with its index there */
     KESVUOT_PART_SIGNATURE_BLOB = 35, /* the blob of the entry with this index: all its length bytes, or 8 if its first
                                          8 are not all in the superblob */
-    KESVUOT_PART_RELOCATION = 36      /* relocation_info. The index counts from 0 in its table */
+    KESVUOT_PART_RELOCATION = 36,     /* relocation_info. The index counts from 0 in its table */
+    KESVUOT_PART_CODE_PAGE = 37,      /* the bytes of the page with this index of a code directory */
+    KESVUOT_PART_CODE_HASH = 38       /* a hash in a code directory, of the page or the special slot with this index */
 };
 
 /* A structure, or what a structure describes. A part lies where the file says, which can be past the file. */
@@ -530,6 +547,13 @@ struct kesvuot_code_directory {         /* CS_CodeDirectory */
     uint16_t page_size;                 /* the log2 of the size of a page in bytes; 0: one page has all bytes */
 };
 
+struct kesvuot_cdhash { /* the hash of a code directory */
+    uint8_t digest[48]; /* its first `size` bytes are the hash of the whole blob, by hash_type, and the others 0. The
+                           first CS_CDHASH_LEN (20) are the cdhash, which codesign prints and servers look up */
+    uint32_t size;      /* 20, 32 or 48 */
+    uint32_t hash_type; /* of the directory: CS_HASHTYPE_SHA1 (1), SHA256 (2), SHA256_TRUNCATED (3) or SHA384 (4) */
+};
+
 size_t kesvuot_read_commands(const void *file, size_t size, const struct kesvuot_image *image,
                              struct kesvuot_cursor *cursor, struct kesvuot_command *rows, size_t max);
 size_t kesvuot_read_segments(const void *file, size_t size, const struct kesvuot_image *image,
@@ -588,9 +612,19 @@ size_t kesvuot_read_blobs(const void *file, size_t size, const struct kesvuot_im
  * vector. All fields are 0.
  * In a file that kesvuot_verify_linked accepts each blob in a slot of code directories (0, 0x1000 to 0x1004) is one.
  * Its names and hashes lie in it, hash_type is known, and `limit` is where the signature begins in the slice, so there
- * is a hash for each page before that. Nothing has compared the hashes with the pages. */
+ * is a hash for each page before that. That the pages have these hashes is what kesvuot_verify_sealed judges. */
 uint32_t kesvuot_read_code_directory(const void *file, size_t size, const struct kesvuot_blob *blob,
                                      struct kesvuot_code_directory *directory);
+
+/* The hash of a code directory, by `bytes` of its blob: of the whole blob, with its magic and its length, by the
+ * directory's own type of hashes. Neither the slot of the blob matters, nor what the directory says of the code.
+ * OK: all fields are written.
+ * NONE: kesvuot_read_code_directory returns NONE for the blob, or its hash_type is not known. All fields are 0.
+ * In a file that kesvuot_verify_linked accepts each blob in a slot of code directories has one. It names the bytes of
+ * the directory alone: that the pages have the hashes in it is what kesvuot_verify_sealed judges.
+ * The call takes time in proportion to the size of the blob, and no memory. */
+uint32_t kesvuot_read_cdhash(const void *file, size_t size, const struct kesvuot_blob *blob,
+                             struct kesvuot_cdhash *cdhash);
 
 /* The name of a symbol, by its strx.
  * OK: the name, which ends before the first zero byte of the strings from strx on. It can be empty.
@@ -915,6 +949,9 @@ uint32_t kesvuot_find_address(const void *file, size_t size, const struct kesvuo
 #define KESVUOT_CS_HASHTYPE_SHA256_TRUNCATED 3
 #define KESVUOT_CS_HASHTYPE_SHA384 4
 
+/* The size in bytes of a cdhash. (kern/cs_blobs.h) */
+#define KESVUOT_CS_CDHASH_LEN 20
+
 /* The bits of a protection. (mach/vm_prot.h) */
 #define KESVUOT_VM_PROT_READ 1
 #define KESVUOT_VM_PROT_WRITE 2
@@ -946,6 +983,7 @@ KESVUOT_HOLDS(sizeof(struct kesvuot_relocation) == 16);
 KESVUOT_HOLDS(sizeof(struct kesvuot_data_in_code) == 24);
 KESVUOT_HOLDS(sizeof(struct kesvuot_blob) == 24);
 KESVUOT_HOLDS(sizeof(struct kesvuot_code_directory) == 96);
+KESVUOT_HOLDS(sizeof(struct kesvuot_cdhash) == 56);
 KESVUOT_HOLDS(sizeof(struct kesvuot_export) == 56);
 KESVUOT_HOLDS(sizeof(struct kesvuot_export_node) == 112);
 KESVUOT_HOLDS(sizeof(struct kesvuot_export_edge) == 24);
@@ -970,6 +1008,7 @@ KESVUOT_HOLDS(offsetof(struct kesvuot_data_in_code, kind) == 22);
 KESVUOT_HOLDS(offsetof(struct kesvuot_blob, slot) == 16);
 KESVUOT_HOLDS(offsetof(struct kesvuot_code_directory, limit) == 64);
 KESVUOT_HOLDS(offsetof(struct kesvuot_code_directory, page_size) == 94);
+KESVUOT_HOLDS(offsetof(struct kesvuot_cdhash, size) == 48);
 KESVUOT_HOLDS(offsetof(struct kesvuot_export, ordinal) == 24);
 KESVUOT_HOLDS(offsetof(struct kesvuot_export_node, has_export) == 104);
 #undef KESVUOT_HOLDS

@@ -42,6 +42,8 @@ const (
 	SignatureEntry  PartKind = 34
 	SignatureBlob   PartKind = 35
 	RelocationEntry PartKind = 36
+	CodePage        PartKind = 37
+	CodeHash        PartKind = 38
 )
 
 // NoIndex is the index of nothing.

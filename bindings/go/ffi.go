@@ -61,6 +61,7 @@ const (
 	byLayout profile = iota
 	strictly
 	linked
+	sealed
 )
 
 // checkVersion panics if the structures here are not those of the library.
@@ -80,6 +81,8 @@ func judge(file []byte, rules profile) (*File, error) {
 		status = C.kesvuot_verify_strictly(unsafe.Pointer(&bytes[0]), size, &verdict)
 	case linked:
 		status = C.kesvuot_verify_linked(unsafe.Pointer(&bytes[0]), size, &verdict)
+	case sealed:
+		status = C.kesvuot_verify_sealed(unsafe.Pointer(&bytes[0]), size, &verdict)
 	default:
 		status = C.kesvuot_verify(unsafe.Pointer(&bytes[0]), size, &verdict)
 	}
@@ -369,6 +372,19 @@ func readDirectory(blob []byte) (row directoryRow, ok bool) {
 	all := blobRow{bytes: span{size: C.uint64_t(len(blob))}}
 	status := C.kesvuot_read_code_directory(unsafe.Pointer(&bytes[0]), size, &all, &row)
 	return row, status == C.KESVUOT_OK
+}
+
+// readCDHash returns the hash of a blob of these bytes as a code directory.
+func readCDHash(blob []byte) (hash CDHash, ok bool) {
+	bytes, size := atLeastOne(blob), C.size_t(len(blob))
+	all := blobRow{bytes: span{size: C.uint64_t(len(blob))}}
+	var found C.struct_kesvuot_cdhash
+	status := C.kesvuot_read_cdhash(unsafe.Pointer(&bytes[0]), size, &all, &found)
+	for index, value := range found.digest {
+		hash.digest[index] = byte(value)
+	}
+	hash.size = int(found.size)
+	return hash, status == C.KESVUOT_OK
 }
 
 func readAt(image *Image, address uint64) Source {

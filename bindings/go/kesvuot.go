@@ -40,7 +40,8 @@ var ErrMemory = errors.New("out of memory")
 
 // Refused says that a file breaks a rule.
 type Refused struct {
-	// Rule is the name of the first broken rule, such as "section-file". RULES.md explains each rule under its name.
+	// Rule is the name of the first broken rule, such as "section-file". RULES.md, LINKED.md and SEALED.md explain each
+	// rule under its name.
 	Rule string
 	// Place is the least offset in the file at which the rule is broken.
 	Place uint64
@@ -70,6 +71,15 @@ func VerifyStrictly(file []byte) (*File, error) {
 // VerifyStrictly. The error is a *Refused, or ErrMemory.
 func VerifyLinked(file []byte) (*File, error) {
 	return judge(file, linked)
+}
+
+// VerifySealed judges a file by the rules of the sealed profile too, after those of VerifyLinked: each image has a code
+// signature; the hashes in each of its code directories are those of all bytes before the signature, and of the blobs
+// in special slots; and from the signature on, each byte that is not zero is in its header, its index or a blob.
+// SEALED.md says what that means, and what it does not: nobody is named who signed, and nothing outside of the file is
+// read. Whatever is accepted here is accepted by VerifyLinked. The error is a *Refused, or ErrMemory.
+func VerifySealed(file []byte) (*File, error) {
+	return judge(file, sealed)
 }
 
 // The most bytes of a file that is read. macho-check has the same limit.

@@ -805,7 +805,8 @@ func TestVectors(t *testing.T) {
 		t.Skip("it needs KESVUOT_TRIALS")
 	}
 	for name, judge := range map[string]func([]byte) (*File, error){
-		"vectors": Verify, "strict-vectors": VerifyStrictly, "linked-vectors": VerifyLinked} {
+		"vectors": Verify, "strict-vectors": VerifyStrictly, "linked-vectors": VerifyLinked,
+		"sealed-vectors": VerifySealed} {
 		lines, err := os.ReadFile(filepath.Join(list, name))
 		if err != nil {
 			t.Fatal(err)

@@ -1,5 +1,7 @@
 package kesvuot
 
+import "encoding/hex"
+
 // A Blob is a blob of a code signature: a CS_BlobIndex and a CS_GenericBlob of <kern/cs_blobs.h>.
 type Blob struct {
 	// Bytes are the whole blob, with its magic and its length. What it holds begins after these 8 bytes.
@@ -32,9 +34,11 @@ func (image *Image) Blobs() []Blob {
 
 // A CodeDirectory is a CS_CodeDirectory of <kern/cs_blobs.h>: what was signed, and the hashes of its pages. In a file
 // that VerifyLinked accepts, the names and the hashes lie in the blob, the type of the hashes is known, and Limit is
-// where the signature begins in the image: there is a hash for each page before that. Nothing has compared the hashes
-// with the pages.
+// where the signature begins in the image: there is a hash for each page before that. That the pages have these hashes
+// is what VerifySealed judges.
 type CodeDirectory struct {
+	// Bytes are the whole blob, with its magic and its length.
+	Bytes []byte
 	// Identifier is the name of what was signed, and Team who signed it, without the zero byte past them. Each is empty
 	// if there is none. Only versions from 0x20200 on have a Team.
 	Identifier, Team []byte
@@ -66,6 +70,7 @@ func (blob *Blob) CodeDirectory() (directory CodeDirectory, ok bool) {
 		return CodeDirectory{}, false
 	}
 	return CodeDirectory{
+		Bytes:         blob.Bytes,
 		Identifier:    partOf(blob.Bytes, row.identifier),
 		Team:          partOf(blob.Bytes, row.team),
 		Hashes:        partOf(blob.Bytes, row.hashes),
@@ -80,3 +85,26 @@ func (blob *Blob) CodeDirectory() (directory CodeDirectory, ok bool) {
 		PageSize:      uint8(row.page_size),
 	}, true
 }
+
+// CDHash returns the hash of the whole blob, by the directory's own type of hashes. It is not ok if the type is not
+// known, which it is in a file that VerifyLinked accepts. It takes time in proportion to the blob.
+func (directory *CodeDirectory) CDHash() (hash CDHash, ok bool) {
+	return readCDHash(directory.Bytes)
+}
+
+// A CDHash is the hash of a code directory, by which systems know what was signed. It names the bytes of the directory
+// alone: that the pages have the hashes in it is what VerifySealed judges. It can be compared, and be a key of a map.
+type CDHash struct {
+	// The bytes past the size are 0.
+	digest [48]byte
+	size   int
+}
+
+// Bytes returns what servers look up: the first CS_CDHASH_LEN (20) bytes of the digest.
+func (hash CDHash) Bytes() []byte { return hash.digest[:CS_CDHASH_LEN] }
+
+// Digest returns the whole hash: 20 bytes of SHA-1 and of SHA-256 that is cut, 32 of SHA-256, and 48 of SHA-384.
+func (hash CDHash) Digest() []byte { return hash.digest[:hash.size] }
+
+// String returns the bytes in hexadecimal, as codesign prints them.
+func (hash CDHash) String() string { return hex.EncodeToString(hash.Bytes()) }

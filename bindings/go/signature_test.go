@@ -2,7 +2,11 @@ package kesvuot
 
 import (
 	"bytes"
+	"crypto/sha1"
+	"crypto/sha256"
+	"crypto/sha512"
 	"encoding/binary"
+	"encoding/hex"
 	"testing"
 )
 
@@ -53,7 +57,7 @@ func TestBlobs(t *testing.T) {
 	found, ok := blobs[0].CodeDirectory()
 	same(t, "whether there is a directory", ok, true)
 	same(t, "the directory", found, CodeDirectory{
-		Identifier: []byte("ab"), Team: []byte("T"), Hashes: bytes.Repeat([]byte{3}, 20),
+		Bytes: signature[36:153:153], Identifier: []byte("ab"), Team: []byte("T"), Hashes: bytes.Repeat([]byte{3}, 20),
 		SpecialHashes: append(bytes.Repeat([]byte{1}, 20), bytes.Repeat([]byte{2}, 20)...),
 		Limit:         48, Version: 0x20200, Flags: 2, CodeSlots: 1, SpecialSlots: 2,
 		HashSize: 20, HashType: CS_HASHTYPE_SHA1, PageSize: 12,
@@ -67,6 +71,77 @@ func TestBlobs(t *testing.T) {
 			directory, ok := blob.CodeDirectory()
 			same(t, "the identifier of the library", []any{string(directory.Identifier), ok}, []any{"library-arm64", true})
 		}
+	}
+}
+
+// hashOf returns the hash of a blob by a type of hashes, or nothing if there is no such type.
+func hashOf(blob []byte, kind byte) []byte {
+	switch kind {
+	case CS_HASHTYPE_SHA1:
+		sum := sha1.Sum(blob)
+		return sum[:]
+	case CS_HASHTYPE_SHA256:
+		sum := sha256.Sum256(blob)
+		return sum[:]
+	case CS_HASHTYPE_SHA256_TRUNCATED:
+		sum := sha256.Sum256(blob)
+		return sum[:20]
+	case CS_HASHTYPE_SHA384:
+		sum := sha512.Sum384(blob)
+		return sum[:]
+	default:
+		return nil
+	}
+}
+
+func TestCDHash(t *testing.T) {
+	for kind := byte(0); kind < 6; kind++ {
+		blob := madeDirectory()
+		blob[37] = kind
+		directory, ok := (&Blob{Bytes: blob}).CodeDirectory()
+		same(t, "whether there is a directory", ok, true)
+		hash, ok := directory.CDHash()
+		wanted := hashOf(blob, kind)
+		same(t, "whether there is a hash", ok, wanted != nil)
+		if ok {
+			same(t, "the digest", hash.Digest(), wanted)
+			same(t, "the cdhash", hash.Bytes(), wanted[:20])
+			same(t, "how it is shown", hash.String(), hex.EncodeToString(wanted[:20]))
+		}
+	}
+	_, ok := (&CodeDirectory{}).CDHash()
+	same(t, "whether no bytes have a hash", ok, false)
+	for _, image := range verified(t, readReal(t, "library")).Images() {
+		for _, blob := range image.Blobs() {
+			directory, _ := blob.CodeDirectory()
+			hash, ok := directory.CDHash()
+			wanted := sha256.Sum256(blob.Bytes)
+			same(t, "the hash of the library", []any{hash.Digest(), ok}, []any{wanted[:], true})
+		}
+	}
+}
+
+// The second image of the library is signed: of its pages of 4096 bytes the last begins at 0x4000, and ends where the
+// signature begins, at 0x4060. The first image, at 0x30, is not signed.
+func TestSealed(t *testing.T) {
+	library := readReal(t, "library")
+	signed := verified(t, library).Images()[1].Bytes
+	if _, err := VerifySealed(signed); err != nil {
+		t.Errorf("the signed image: %v", err)
+	}
+	// A constant in the first page, and a letter of a name in the last.
+	for place, page := range map[int]uint64{0x2a8: 0, 0x404a: 0x4000} {
+		changed := append([]byte(nil), signed...)
+		changed[place] ^= 2
+		if _, err := VerifyLinked(changed); err != nil {
+			t.Errorf("the changed image, by the linked profile: %v", err)
+		}
+		_, err := VerifySealed(changed)
+		same(t, "a changed page", err, error(&Refused{"signature-hash", page}))
+	}
+	for name, place := range map[string]uint64{"program": 0, "library": 0x30} {
+		_, err := VerifySealed(readReal(t, name))
+		same(t, "an image that is not signed", err, error(&Refused{"signature-missing", place}))
 	}
 }
 

@@ -43,7 +43,7 @@ static void try_version_and_rules(void) {
         CHECK(name.size == strlen(name.at) && name.size > 0);
         CHECK(kesvuot_rule_name(rule) == name.at);
     }
-    CHECK(rule > KESVUOT_COMMAND_CONTENT);
+    CHECK(rule > KESVUOT_SIGNATURE_HASH);
     try_no_rule(rule);
     try_no_rule(0);
     try_no_rule(UINT32_MAX);
@@ -137,10 +137,37 @@ static void try_call(judge *verify, const void *bytes, size_t size, uint32_t sta
     CHECK(memcmp(&verdict, &wanted, sizeof verdict) == 0);
 }
 
-static void try_all(const void *bytes, size_t size, uint32_t status, struct kesvuot_verdict wanted) {
+static void try_linked(const void *bytes, size_t size, uint32_t status, struct kesvuot_verdict wanted) {
     try_call(kesvuot_verify, bytes, size, status, wanted);
     try_call(kesvuot_verify_strictly, bytes, size, status, wanted);
     try_call(kesvuot_verify_linked, bytes, size, status, wanted);
+}
+
+static void try_all(const void *bytes, size_t size, uint32_t status, struct kesvuot_verdict wanted) {
+    try_linked(bytes, size, status, wanted);
+    try_call(kesvuot_verify_sealed, bytes, size, status, wanted);
+}
+
+// The second image of the library is signed: its last page begins at 0x4000, and ends at 0x4060. It has a name at 0x404a,
+// and a constant at 0x2a8. The first image, which begins at 0x30, is not signed.
+static void try_sealed_verdicts(void) {
+    enum { START = 0x1090, SIZE = 0x4180 };
+    static const struct {
+        size_t at;
+        uint64_t page;
+    } changes[] = {{0x2a8, 0}, {0x404a, 0x4000}};
+    const struct kesvuot_verdict of_one = {0, 1, 0, 0}, unsigned_at = {0x30, 0, KESVUOT_SIGNATURE_MISSING, 0};
+    uint8_t bytes[SIZE];
+    CHECK(library.size == START + SIZE);
+    try_call(kesvuot_verify_sealed, library.bytes, library.size, KESVUOT_REFUSED, unsigned_at);
+    for (size_t k = 0; k < sizeof changes / sizeof *changes; k++) {
+        const struct kesvuot_verdict another = {changes[k].page, 0, KESVUOT_SIGNATURE_HASH, 0};
+        memcpy(bytes, library.bytes + START, SIZE);
+        try_all(bytes, SIZE, KESVUOT_OK, of_one);
+        bytes[changes[k].at] ^= 2;
+        try_linked(bytes, SIZE, KESVUOT_OK, of_one);
+        try_call(kesvuot_verify_sealed, bytes, SIZE, KESVUOT_REFUSED, another);
+    }
 }
 
 static void try_verdicts(void) {
@@ -148,13 +175,15 @@ static void try_verdicts(void) {
     const struct kesvuot_verdict cut = {8 + 20, 0, KESVUOT_FAT_SLICE_OUTSIDE, 0};
     try_all(NULL, 0, KESVUOT_REFUSED, no_magic);
     try_all("", 0, KESVUOT_REFUSED, no_magic);
-    try_all(library.bytes, library.size, KESVUOT_OK, of_two);
+    try_linked(library.bytes, library.size, KESVUOT_OK, of_two);
+    try_sealed_verdicts();
     try_all(library.bytes, library.size - 1, KESVUOT_REFUSED, cut);
     // Its 64-bit image has no segment, so none has its header. The place is that of sizeofcmds.
     const struct kesvuot_verdict no_segment = {96 + 20, 0, KESVUOT_HEADER_SEGMENT, 0};
     try_call(kesvuot_verify, mixed.bytes, mixed.size, KESVUOT_OK, of_two);
     try_call(kesvuot_verify_strictly, mixed.bytes, mixed.size, KESVUOT_REFUSED, no_segment);
     try_call(kesvuot_verify_linked, mixed.bytes, mixed.size, KESVUOT_REFUSED, no_segment);
+    try_call(kesvuot_verify_sealed, mixed.bytes, mixed.size, KESVUOT_REFUSED, no_segment);
 }
 
 // Asks for the layout in this much room. `text` has room for `length` bytes and one more.
@@ -215,7 +244,7 @@ static void try_explanations(void) {
     CHECK(found.first.start + found.first.size == library.size && found.second.kind == KESVUOT_PART_FILE);
     CHECK(found.value == library.size && found.limit == cut && found.slice == 1);
     CHECK(found.command == KESVUOT_NO_INDEX && found.section == KESVUOT_NO_INDEX && found.symbol == KESVUOT_NO_INDEX);
-    const struct kesvuot_verdict none[] = {{.rule = 0}, {.rule = KESVUOT_COMMAND_CONTENT + 1}, {.rule = UINT32_MAX},
+    const struct kesvuot_verdict none[] = {{.rule = 0}, {.rule = KESVUOT_SIGNATURE_HASH + 1}, {.rule = UINT32_MAX},
         {.rule = KESVUOT_MAGIC, .place = 1}, {.rule = KESVUOT_SEGMENT_FILE, .place = UINT64_MAX}};
     for (size_t index = 0; index < sizeof none / sizeof *none; index++) {
         memset(&found, UNWRITTEN, sizeof found);
@@ -739,6 +768,47 @@ static void try_code_directories(void) {
     CHECK(memcmp(&found, &none, sizeof none) == 0);
 }
 
+// What is read of the hash of the directory, with this type of hashes, where the blob has so many bytes.
+static struct kesvuot_cdhash cdhash_of(uint8_t hash_type, uint64_t size, uint32_t wanted) {
+    uint8_t bytes[SIGNED_SIZE];
+    const struct kesvuot_blob blob = {{48 + 36, size}, 0, 0};
+    struct kesvuot_cdhash found;
+    memcpy(bytes, &SIGNED, SIGNED_SIZE);
+    bytes[48 + 36 + 37] = hash_type;
+    memset(&found, UNWRITTEN, sizeof found);
+    CHECK(kesvuot_read_cdhash(bytes, SIGNED_SIZE, &blob, &found) == wanted);
+    return found;
+}
+
+// The hashes are those that Python's hashlib has of the 117 bytes of the directory, with each type of hashes.
+static void try_cdhashes(void) {
+    static const struct kesvuot_cdhash none, wanted[] = {
+        {{0xb1, 0xf9, 0x34, 0x69, 0xf6, 0xce, 0x04, 0x4e, 0x97, 0xc9, 0x49, 0x3f, 0xbd, 0x36, 0x7c, 0xa4, 0x6d, 0x5c,
+          0x4f, 0x3d}, 20, KESVUOT_CS_HASHTYPE_SHA1},
+        {{0x60, 0x52, 0x80, 0x91, 0xec, 0xb1, 0xe5, 0x5c, 0x43, 0xef, 0x03, 0x31, 0x3d, 0xb9, 0xfd, 0x6c, 0x22, 0x67,
+          0xee, 0x3b, 0xec, 0xe7, 0x77, 0xf5, 0x61, 0x70, 0x2d, 0x41, 0x67, 0x47, 0x69, 0xd2}, 32,
+         KESVUOT_CS_HASHTYPE_SHA256},
+        {{0x15, 0x39, 0x3a, 0x6a, 0xca, 0x03, 0x41, 0x7f, 0x79, 0xa7, 0xf6, 0xe8, 0x50, 0x33, 0x37, 0xce, 0x01, 0xe2,
+          0x2d, 0xe1}, 20, KESVUOT_CS_HASHTYPE_SHA256_TRUNCATED},
+        {{0x12, 0xed, 0xd6, 0x77, 0x94, 0xd4, 0x36, 0xfc, 0x65, 0x01, 0x77, 0xed, 0x27, 0x12, 0xd1, 0x22, 0x93, 0x01,
+          0x91, 0xca, 0x56, 0x2e, 0x4c, 0x13, 0x86, 0x02, 0x19, 0x07, 0x85, 0x1f, 0xec, 0x2b, 0x1c, 0xbc, 0x88, 0x93,
+          0x00, 0xee, 0x56, 0xca, 0x02, 0xc0, 0xfc, 0xda, 0x19, 0x6c, 0x58, 0x32}, 48, KESVUOT_CS_HASHTYPE_SHA384}};
+    for (uint8_t hash_type = 1; hash_type <= 4; hash_type++) {
+        const struct kesvuot_cdhash found = cdhash_of(hash_type, 117, KESVUOT_OK);
+        CHECK(memcmp(&found, &wanted[hash_type - 1], sizeof found) == 0);
+        // The last byte of the blob counts.
+        const struct kesvuot_cdhash other = cdhash_of(hash_type, 116, KESVUOT_OK);
+        CHECK(memcmp(found.digest, other.digest, KESVUOT_CS_CDHASH_LEN) != 0 && other.size == found.size);
+    }
+    // Types that are not known; without the last byte of its fields, and past the file
+    const struct kesvuot_cdhash others[] = {
+        cdhash_of(0, 117, KESVUOT_NONE), cdhash_of(5, 117, KESVUOT_NONE), cdhash_of(UINT8_MAX, 117, KESVUOT_NONE),
+        cdhash_of(1, 51, KESVUOT_NONE), cdhash_of(1, SIGNED_SIZE, KESVUOT_NONE)};
+    for (size_t k = 0; k < sizeof others / sizeof *others; k++) {
+        CHECK(memcmp(&others[k], &none, sizeof none) == 0);
+    }
+}
+
 // An image with a segment at 0x100000000, LC_DYLD_INFO (0x22) and LC_DYLD_EXPORTS_TRIE (0x80000033). The trie is at
 // 168, and each line of it is a node. The table of LC_DYLD_INFO is at 222, and exports the empty name at 7.
 static const struct {
@@ -1239,6 +1309,7 @@ int main(int count, char **words) {
     try_data_in_code();
     try_blobs();
     try_code_directories();
+    try_cdhashes();
     try_exports();
     try_cut_exports();
     try_nodes();

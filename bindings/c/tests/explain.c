@@ -1,4 +1,4 @@
-// explain FOLDER COUNT: judges the files 1 to COUNT of a folder by the linked profile, which has all rules, and
+// explain FOLDER COUNT: judges the files 1 to COUNT of a folder by the sealed profile, which has all rules, and
 // explains each refusal. It prints a line for each file: `accepted`, or the rule, the place and all numbers of the
 // explanation. Each file lies at the end of its pages, and then at the start.
 #include "support.h"
@@ -27,7 +27,7 @@ static uint32_t explain_at(const char *path, enum side side, struct kesvuot_verd
     const struct file file = read_file(path, side_or_block(side));
     uint32_t status = KESVUOT_REFUSED;
     memset(found, UNWRITTEN, sizeof *found);
-    if (kesvuot_verify_linked(file.bytes, file.size, verdict) == KESVUOT_REFUSED) {
+    if (kesvuot_verify_sealed(file.bytes, file.size, verdict) == KESVUOT_REFUSED) {
         status = kesvuot_explain(file.bytes, file.size, verdict, found);
     }
     release(file);

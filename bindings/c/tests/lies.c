@@ -114,6 +114,17 @@ static void take_names(const struct kesvuot_image *image, size_t size) {
         calls++;                                                                  \
     } while (0)
 
+// The hash of any bytes of the file as a code directory. There is none where they are no code directory.
+static void take_cdhash(const struct kesvuot_blob *blob, size_t size, uint32_t directory_status) {
+    struct kesvuot_cdhash found;
+    memset(&found, UNWRITTEN, sizeof found);
+    const uint32_t status = kesvuot_read_cdhash(file.bytes, size, blob, &found);
+    CHECK(status == KESVUOT_OK ? directory_status == KESVUOT_OK : status == KESVUOT_NONE);
+    CHECK(status == KESVUOT_OK ? found.size >= KESVUOT_CS_CDHASH_LEN && found.size <= sizeof found.digest
+                               : found.size == 0 && found.hash_type == 0);
+    CHECK(is_filled(found.digest + found.size, sizeof found.digest - found.size, 0));
+}
+
 // What any bytes of the file say as a code directory, and those of a blob.
 static void take_code_directory(const struct kesvuot_blob *blob, size_t size) {
     struct kesvuot_code_directory found;
@@ -123,6 +134,7 @@ static void take_code_directory(const struct kesvuot_blob *blob, size_t size) {
     take(found.team, size);
     take(found.hashes, size);
     take(found.special_hashes, size);
+    take_cdhash(blob, size, status);
 }
 
 static void take_tables(const struct kesvuot_image *image, size_t size) {
@@ -181,10 +193,10 @@ static void take_explanation(size_t size) {
     none.at.index = none.first.index = none.second.index = KESVUOT_NO_INDEX;
     none.slice = none.command = none.section = none.symbol = KESVUOT_NO_INDEX;
     if (draw_below(2)) {
-        kesvuot_verify_linked(file.bytes, size, &verdict);
+        kesvuot_verify_sealed(file.bytes, size, &verdict);
     }
     if (!verdict.rule || draw_below(4) == 0) {
-        verdict.rule = (uint32_t)(draw_below(8) ? draw_below(KESVUOT_COMMAND_CONTENT + 2) : draw());
+        verdict.rule = (uint32_t)(draw_below(8) ? draw_below(KESVUOT_SIGNATURE_HASH + 2) : draw());
         verdict.place = lie(draw_below(2) ? verdict.place : 4 * draw_below(0x100));
     }
     verdict.slices = draw();
@@ -192,10 +204,10 @@ static void take_explanation(size_t size) {
     calls++;
     if (status == KESVUOT_OK) {
         explained++;
-        CHECK(found.at.kind > KESVUOT_PART_NONE && found.at.kind <= KESVUOT_PART_RELOCATION);
+        CHECK(found.at.kind > KESVUOT_PART_NONE && found.at.kind <= KESVUOT_PART_CODE_HASH);
         CHECK(found.at.start <= verdict.place && verdict.place - found.at.start <= found.at.size);
         CHECK(found.at.start <= size && found.at.size <= size - found.at.start);
-        CHECK(found.first.kind <= KESVUOT_PART_RELOCATION && found.second.kind <= KESVUOT_PART_RELOCATION);
+        CHECK(found.first.kind <= KESVUOT_PART_CODE_HASH && found.second.kind <= KESVUOT_PART_CODE_HASH);
     } else {
         CHECK(status == KESVUOT_NONE && memcmp(&found, &none, sizeof none) == 0);
     }

@@ -1,6 +1,6 @@
-// memory FILE..: refuses each allocation of the three verdicts and of the layout in turn. Then the status is NO_MEMORY,
-// or that with ample memory if it was room for elements that the strict and the linked verdict keep only where there is
-// room: at most one allocation for each slice. All allocated memory is freed. No other call allocates memory. Linked with
+// memory FILE..: refuses each allocation of the four verdicts and of the layout in turn. Then the status is NO_MEMORY,
+// or that with ample memory if it was room for elements that all verdicts but the first keep only where there is room: at
+// most one allocation for each slice. All allocated memory is freed. No other call allocates memory. Linked with
 // --wrap for malloc, realloc and free.
 #include "support.h"
 #include <stdio.h>
@@ -117,7 +117,7 @@ static void try_explanations(struct file file) {
     struct kesvuot_verdict verdict = {0};
     struct kesvuot_explanation found;
     asked = 0;
-    for (verdict.rule = KESVUOT_MAGIC; verdict.rule <= KESVUOT_COMMAND_CONTENT; verdict.rule++) {
+    for (verdict.rule = KESVUOT_MAGIC; verdict.rule <= KESVUOT_SIGNATURE_HASH; verdict.rule++) {
         for (verdict.place = 0; verdict.place < file.size && verdict.place < 1024; verdict.place += 4) {
             kesvuot_explain(file.bytes, file.size, &verdict, &found);
         }
@@ -142,6 +142,7 @@ int main(int count, char **words) {
         try_verdict(kesvuot_verify, file, 0);
         try_verdict(kesvuot_verify_strictly, file, images_of(file));
         try_verdict(kesvuot_verify_linked, file, images_of(file));
+        try_verdict(kesvuot_verify_sealed, file, images_of(file));
         try_layout(file);
         try_views(file);
         try_explanations(file);

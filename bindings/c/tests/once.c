@@ -2,7 +2,7 @@
 // printed:
 //
 //     none        nothing: no call is made
-//     verify, verify_strictly, verify_linked
+//     verify, verify_strictly, verify_linked, verify_sealed
 //                 the verdict, as macho-check prints it
 //     layout      the first line
 //     NAME        kesvuot_read_image of slice 0, and what the view of this name returns of it
@@ -61,6 +61,8 @@ static void print(const char *call, const struct file *file) {
         print_verdict(kesvuot_verify_strictly, file);
     } else if (!strcmp(call, "verify_linked")) {
         print_verdict(kesvuot_verify_linked, file);
+    } else if (!strcmp(call, "verify_sealed")) {
+        print_verdict(kesvuot_verify_sealed, file);
     } else if (!strcmp(call, "layout")) {
         print_layout(file);
     } else if (strcmp(call, "none") != 0) {

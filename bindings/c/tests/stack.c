@@ -32,6 +32,11 @@ static void verify_linked(void) {
     kesvuot_verify_linked(file.bytes, file.size, &verdict);
 }
 
+static void verify_sealed(void) {
+    struct kesvuot_verdict verdict;
+    kesvuot_verify_sealed(file.bytes, file.size, &verdict);
+}
+
 static void layout(void) {
     size_t needed;
     kesvuot_layout(file.bytes, file.size, text, sizeof text, &needed);
@@ -40,7 +45,7 @@ static void layout(void) {
 // Each rule, at the places where the first structures are.
 static void explain(void) {
     struct kesvuot_explanation found;
-    for (uint32_t rule = KESVUOT_MAGIC; rule <= KESVUOT_COMMAND_CONTENT; rule++) {
+    for (uint32_t rule = KESVUOT_MAGIC; rule <= KESVUOT_SIGNATURE_HASH; rule++) {
         for (uint64_t place = 0; place < 512; place += 8) {
             const struct kesvuot_verdict verdict = {.place = place, .rule = rule};
             kesvuot_explain(file.bytes, file.size, &verdict, &found);
@@ -58,6 +63,7 @@ static const struct {
 } calls[] = {{"verify", verify},
              {"verify_strictly", verify_strictly},
              {"verify_linked", verify_linked},
+             {"verify_sealed", verify_sealed},
              {"layout", layout},
              {"explain", explain},
              {"read_image", first_image}};

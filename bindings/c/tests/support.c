@@ -155,6 +155,19 @@ static size_t read_code_directory(const struct file *file, const struct kesvuot_
     return found;
 }
 
+// How many of the first blobs have a hash as code directories.
+static size_t read_cdhash(const struct file *file, const struct kesvuot_image *image) {
+    static struct kesvuot_blob rows[BATCH];
+    struct kesvuot_cursor cursor = {0};
+    struct kesvuot_cdhash cdhash;
+    size_t found = 0;
+    const size_t count = kesvuot_read_blobs(file->bytes, file->size, image, &cursor, rows, BATCH);
+    for (size_t index = 0; index < count; index++) {
+        found += kesvuot_read_cdhash(file->bytes, file->size, &rows[index], &cdhash) == KESVUOT_OK;
+    }
+    return found;
+}
+
 static size_t symbol_name(const struct file *file, const struct kesvuot_image *image) {
     static struct kesvuot_symbol rows[BATCH];
     struct kesvuot_cursor cursor = {0};
@@ -245,6 +258,21 @@ static size_t find_export_trie(const struct file *file, const struct kesvuot_ima
     return kesvuot_find_export_trie(file->bytes, file->size, image, &trie) == KESVUOT_OK;
 }
 
+// The nodes that the first edges lead to, from the root on. They are no more than the trie has bytes.
+static size_t read_export_node(const struct file *file, const struct kesvuot_image *image) {
+    struct kesvuot_export_edge edge = {.child = 0};
+    struct kesvuot_export_node node;
+    struct kesvuot_span trie;
+    size_t nodes = 0, edges = 1;
+    kesvuot_find_export_trie(file->bytes, file->size, image, &trie);
+    while (nodes < trie.size && edges == 1 &&
+           kesvuot_read_export_node(file->bytes, file->size, image, &trie, edge.child, &node) == KESVUOT_OK) {
+        edges = kesvuot_read_export_edges(file->bytes, file->size, &trie, &node.edges, &edge, 1);
+        nodes++;
+    }
+    return nodes;
+}
+
 // The edges of the root.
 static size_t read_export_edges(const struct file *file, const struct kesvuot_image *image) {
     static struct kesvuot_export_edge rows[BATCH];
@@ -263,6 +291,6 @@ const struct view views[VIEWS] = {
     {"find_table", find_table}, {"find_source_version", find_source_version}, {"index_symbols", index_symbols},
     {"find_symbol", find_symbol}, {"find_name", find_name}, {"read_function_starts", read_function_starts},
     {"read_data_in_code", read_data_in_code}, {"find_export", find_export}, {"find_export_trie", find_export_trie},
-    {"read_export_edges", read_export_edges}, {"read_blobs", read_blobs}, {"read_code_directory", read_code_directory},
-    {"find_thread_entry", find_thread_entry},
+    {"read_export_node", read_export_node}, {"read_export_edges", read_export_edges}, {"read_blobs", read_blobs},
+    {"read_code_directory", read_code_directory}, {"read_cdhash", read_cdhash}, {"find_thread_entry", find_thread_entry},
 };

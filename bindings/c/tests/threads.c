@@ -9,7 +9,7 @@ enum { THREADS = 4, ROWS = 64 };
 
 // What the calls give.
 struct answer {
-    struct kesvuot_verdict verdict, strict_verdict, linked_verdict;
+    struct kesvuot_verdict verdict, strict_verdict, linked_verdict, sealed_verdict;
     struct kesvuot_image image;
     struct kesvuot_segment segments[ROWS];
     struct kesvuot_symbol symbols[ROWS];
@@ -25,6 +25,7 @@ static void ask(struct answer *answer) {
     kesvuot_verify(file.bytes, file.size, &answer->verdict);
     kesvuot_verify_strictly(file.bytes, file.size, &answer->strict_verdict);
     kesvuot_verify_linked(file.bytes, file.size, &answer->linked_verdict);
+    kesvuot_verify_sealed(file.bytes, file.size, &answer->sealed_verdict);
     kesvuot_read_image(file.bytes, file.size, 0, &answer->image);
     struct kesvuot_cursor of_segments = {0}, of_symbols = {0};
     kesvuot_read_segments(file.bytes, file.size, &answer->image, &of_segments, answer->segments, ROWS);

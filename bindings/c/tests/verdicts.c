@@ -1,4 +1,4 @@
-// verdicts FOLDER COUNT [strictly|linked]: judges the files 1 to COUNT of a folder, and prints a line for each, as
+// verdicts FOLDER COUNT [strictly|linked|sealed]: judges the files 1 to COUNT of a folder, and prints a line for each, as
 // vectors have it: `accepted`, or `refused: RULE at 0xPLACE`. Each file lies at the end of its pages, and then at the
 // start.
 #include "support.h"
@@ -38,6 +38,9 @@ static uint32_t judge_at(judge *verify, const char *path, enum side side, struct
 
 // The call that judges by the rules of this word.
 static judge *judge_of(const char *word) {
+    if (strcmp(word, "sealed") == 0) {
+        return kesvuot_verify_sealed;
+    }
     if (strcmp(word, "linked") == 0) {
         return kesvuot_verify_linked;
     }
@@ -46,7 +49,7 @@ static judge *judge_of(const char *word) {
 
 int main(int count, char **words) {
     if (count < 3) {
-        stop("usage", "verdicts FOLDER COUNT [strictly|linked]");
+        stop("usage", "verdicts FOLDER COUNT [strictly|linked|sealed]");
     }
     judge *verify = judge_of(count > 3 ? words[3] : "");
     for (long number = 1; number <= strtol(words[2], NULL, 10); number++) {

@@ -43,13 +43,13 @@ from . import constants
 from ._explanation import Explanation, Part, explain
 from ._files import (
     BoundedTable, Dysymtab, File, Image, Refused, Slice, Source, SourceKind, Symtab, arch_name, arch_named,
-    command_name, library_version, platform_name, verify, verify_file, verify_linked)
+    command_name, library_version, platform_name, verify, verify_file, verify_linked, verify_sealed)
 from ._opcodes import Bind, OpcodeError, Rebase
 from ._rows import (
     Blob, Build, CodeDirectory, Command, DataInCode, Export, Library, Relocation, Section, Segment, Symbol, Table)
 
-__all__ = ["verify", "verify_file", "verify_linked", "explain", "library_version", "arch_name", "arch_named",
-           "command_name", "platform_name", "constants", "Refused", "Explanation", "Part", "File", "Slice", "Image",
-           "Source", "SourceKind", "Table", "Segment", "Section", "Library", "Build", "Command", "Symbol", "Relocation",
-           "DataInCode", "Blob", "CodeDirectory", "Export", "BoundedTable", "Symtab", "Dysymtab", "Rebase", "Bind",
-           "OpcodeError"]
+__all__ = ["verify", "verify_file", "verify_linked", "verify_sealed", "explain", "library_version", "arch_name",
+           "arch_named", "command_name", "platform_name", "constants", "Refused", "Explanation", "Part", "File",
+           "Slice", "Image", "Source", "SourceKind", "Table", "Segment", "Section", "Library", "Build", "Command",
+           "Symbol", "Relocation", "DataInCode", "Blob", "CodeDirectory", "Export", "BoundedTable", "Symtab",
+           "Dysymtab", "Rebase", "Bind", "OpcodeError"]

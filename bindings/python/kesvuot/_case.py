@@ -46,10 +46,12 @@ FIELDS = {
 CHAIN_STRUCTURES = {
     "chain-header": "dyld_chained_fixups_header", "chain-array": "dyld_chained_starts_in_image",
     "chain-starts": "dyld_chained_starts_in_segment"}
-# Those of a code signature, and the fields of a code directory.
-SIGNATURE_STRUCTURES = {"signature-entry": "CS_BlobIndex", "signature-blob": "CS_CodeDirectory"}
-DIRECTORY_FIELDS = ("magic length version hashOffset identOffset nSpecialSlots nCodeSlots codeLimit hashSize hashType "
-                    "pageSize")
+# The rules that read the blob of an entry as a code directory, and which of its fields each reads.
+DIRECTORY_FIELDS = {
+    **dict.fromkeys(("signature-directory", "signature-whole"),
+                    "magic length version hashOffset identOffset nSpecialSlots nCodeSlots codeLimit hashSize hashType "
+                    "pageSize"),
+    "signature-hash": "hashOffset nSpecialSlots nCodeSlots codeLimit hashSize hashType pageSize"}
 GROUP_FIELDS = ("ilocalsym nlocalsym", "iextdefsym nextdefsym", "iundefsym nundefsym")
 # Those that a rule reads besides: of the structure at the place, and of that of the second part.
 MORE_FIELDS: Dict[str, Tuple[str, str]] = {
@@ -67,7 +69,7 @@ MORE_FIELDS: Dict[str, Tuple[str, str]] = {
     "chain-imports": ("imports_offset imports_count imports_format", ""), "chain-slot": ("", "initprot flags"),
     "function-start": ("", "filesize"), "data-in-code": ("offset length kind", "initprot"),
     "signature-blob": ("type offset magic length count", ""),
-    **dict.fromkeys(("signature-directory", "signature-whole"), ("type offset", "")),
+    **dict.fromkeys(("signature-directory", "signature-whole", "directory-repeated"), ("type offset", "")),
     "symbol-library": ("n_type n_desc", ""), "symbol-value": ("n_type n_sect n_value", ""),
     "symbol-indirect": ("n_type n_value", ""),
     **dict.fromkeys(("thread", "command-content"), ("cmd cmdsize", ""))}
@@ -160,6 +162,10 @@ class Case:
             return f"entry {wanted.index} of the code signature"
         if wanted.kind == "signature-blob":
             return f"the blob of entry {wanted.index}"
+        if wanted.kind == "code-page":
+            return f"page {wanted.index}"
+        if wanted.kind == "code-hash":
+            return f"the hash of {'page' if self.is_of_page else 'special slot'} {wanted.index}"
         if wanted.kind == "relocation":
             return f"relocation {wanted.index}"
         if wanted.kind == "group":
@@ -219,8 +225,12 @@ class Case:
             return CHAIN_STRUCTURES[kind], part.start
         if kind in ("data-in-code-entry", "data-in-code"):
             return "data_in_code_entry", place
-        if kind in SIGNATURE_STRUCTURES:
-            return SIGNATURE_STRUCTURES[kind], part.start
+        if kind == "signature-entry":
+            return "CS_BlobIndex", part.start
+        if kind == "signature-blob":
+            return "CS_CodeDirectory" if self._is_directory(part) else "CS_GenericBlob", part.start
+        if kind in ("code-page", "code-hash"):
+            return "CS_CodeDirectory", place
         if kind == "byte" and self.rule == "signature-blob":
             return "CS_SuperBlob", part.start
         if kind == "symbol" or (kind == "name" and self.explanation.symbol is not None):
@@ -229,6 +239,15 @@ class Case:
                     "name"):
             return structure_of(*self._command(place)), place
         return None
+
+    @property
+    def is_of_page(self) -> bool:
+        """Whether the place is a page of a code directory."""
+        return self.explanation.at.kind == "code-page"
+
+    def _is_directory(self, blob: FilePart) -> bool:
+        """Whether the rule reads a blob as a code directory."""
+        return self.rule in DIRECTORY_FIELDS and (self.rule != "signature-hash" or blob != self.explanation.first)
 
     def _command(self, place: int) -> Tuple[int, int]:
         """The cmd and the cmdsize of a command."""
@@ -246,8 +265,10 @@ class Case:
             return GROUP_FIELDS[part.index or 0]
         if part.kind == "name":
             return "name path n_strx"
-        if part.kind == "signature-blob":
-            return "magic length" if self.rule == "signature-blob" else DIRECTORY_FIELDS
+        if self.rule == "signature-missing":
+            return "cmd dataoff datasize"
+        if part.kind in ("signature-blob", "code-page", "code-hash"):
+            return "magic length" if structure == "CS_GenericBlob" else DIRECTORY_FIELDS[self.rule]
         return FIELDS.get(part.kind, "") if structure != "fat_header" else "nfat_arch"
 
     @cached_property

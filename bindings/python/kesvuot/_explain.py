@@ -18,7 +18,7 @@ from ._files import ARCHITECTURES, File, Image
 from ._names import command_name
 from ._output import GREEN, RED, Output, coloured, say
 from ._parts import image_parts, slices_of
-from ._profiles import PROFILES, link
+from ._profiles import PROFILES, later, link
 from ._reports import check_object, reason_text, rule_text, shown
 from ._rules import RULES
 from ._show import columns
@@ -67,15 +67,14 @@ def explain_file(path: str, profile: str, as_json: bool) -> int:
 
 def _not_judged(profile: str, file: File) -> Rows:
     """What was not judged: rows of what it is in, and what it is."""
-    profiles = list(PROFILES)
-    rows: Rows = [(f"profile {other}", PROFILES[other].adds) for other in profiles[profiles.index(profile) + 1:]]
+    rows: Rows = [(f"profile {other}", PROFILES[other].adds) for other in later(profile)]
     kinds = [part for part in slices_of(file.data) if part.kind in ("slice", "slice not read")]
     for part, found in zip(file.slices, kinds):
         name = f"slice {part.index} ({part.arch})"
         if not isinstance(part, Image):
             rows.append((name, "all that is in it, because it is no 64-bit little-endian image"))
             continue
-        judged = {*LISTED, *(COMMANDS_OF_LINKED if profile == "linked" else ())}
+        judged = {*LISTED, *(COMMANDS_OF_LINKED if _is_linked(profile) else ())}
         commands = [command_name(command.cmd) for command in part.commands if command.cmd not in judged]
         if commands:
             rows.append((name, f"the fields of {_enumerated(commands)}"))
@@ -83,6 +82,11 @@ def _not_judged(profile: str, file: File) -> Rows:
         if tables:
             rows.append((name, f"the contents of {_enumerated(tables)}"))
     return rows
+
+
+def _is_linked(profile: str) -> bool:
+    """Whether the profile has the rules of the linked one."""
+    return "linked" not in later(profile)
 
 
 def _enumerated(names: List[str]) -> str:
@@ -94,9 +98,9 @@ def _enumerated(names: List[str]) -> str:
 
 def _is_left(kind: str, name: str, profile: str) -> bool:
     """Whether the contents of a part are not judged."""
-    judged = JUDGED_TABLES | (JUDGED_BY_LINKED if profile == "linked" else set())
+    judged = JUDGED_TABLES | (JUDGED_BY_LINKED if _is_linked(profile) else set())
     if kind == "relocations":
-        return profile != "linked"
+        return not _is_linked(profile)
     return kind == "encrypted range" or (kind == "table" and name not in judged)
 
 

@@ -15,7 +15,8 @@ KINDS = ("file", "magic", "fat-header", "fat-table", "fat-arch", "slice", "heade
          "segment-memory", "section", "section-bytes", "section-memory", "relocations", "table", "group", "name",
          "symbol", "indirect", "opcode", "byte", "chain-header", "chain-array", "chain-entry", "chain-starts",
          "chain-import", "page-start", "chain-pointer", "function-start", "data-in-code-entry",
-         "data-in-code", "export-node", "signature-entry", "signature-blob", "relocation")
+         "data-in-code", "export-node", "signature-entry", "signature-blob", "relocation",
+         "code-page", "code-hash")
 
 
 class Part(NamedTuple):

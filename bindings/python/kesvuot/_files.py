@@ -27,7 +27,7 @@ ARCHITECTURES = {
 
 class Refused(Exception):
     """The file breaks a rule. `rule` is the name of the first broken one, and `place` the offset in the file where it
-    is broken. docs/RULES.md and docs/LINKED.md explain each rule under its name."""
+    is broken. docs/RULES.md, docs/LINKED.md and docs/SEALED.md explain each rule under its name."""
 
     def __init__(self, rule: str, place: int) -> None:
         super().__init__(rule, place)
@@ -493,6 +493,14 @@ def verify_linked(data: Data) -> File:
     in code, how a code signature is built, what symbols and relocations refer to, where threads begin, and what all
     other commands of loader.h hold. Raises what `verify` raises."""
     return _judge(data, load().kesvuot_verify_linked)
+
+
+def verify_sealed(data: Data) -> File:
+    """Judges a file by the rules of the linked profile, and then by those of docs/SEALED.md: each image has a code
+    signature; the hashes in each of its code directories are those of all bytes before the signature, and of the blobs
+    in special slots; and from the signature on, each byte that is not zero is in its header, its index or a blob.
+    Nobody is named who signed, and nothing outside of the file is read. Raises what `verify` raises."""
+    return _judge(data, load().kesvuot_verify_sealed)
 
 
 def _judge(data: Data, call: Any) -> File:

@@ -2,10 +2,16 @@
 
 from __future__ import annotations
 
-from typing import Any, Dict, List
+from typing import Any, Dict, Iterator, List, NamedTuple
 
 from ._files import File, Image, Slice
+from ._names import HASH_TYPES
 from ._rows import Library
+from .constants import CS_CDHASH_LEN, CSSLOT_ALTERNATE_CODEDIRECTORIES, CSSLOT_CODEDIRECTORY
+
+# The slots of code directories.
+DIRECTORY_SLOTS = {
+    CSSLOT_CODEDIRECTORY, *range(CSSLOT_ALTERNATE_CODEDIRECTORIES, CSSLOT_ALTERNATE_CODEDIRECTORIES + 5)}
 
 
 def plain(name: memoryview) -> str:
@@ -22,6 +28,25 @@ def _row_object(row: Any) -> Dict[str, Any]:
 def libraries_of(image: Image) -> List[Library]:
     """What the image is as a library, and those that it loads."""
     return [*([image.id] if image.id else []), *image.libraries]
+
+
+class CdHash(NamedTuple):
+    """The hash of a code directory: the slot of its blob, the word for its type, what `codesign` prints, and all of it,
+    in hexadecimal."""
+
+    slot: int
+    hash_type: str
+    cdhash: str
+    digest: str
+
+
+def cdhashes_of(image: Image) -> Iterator[CdHash]:
+    """Those of the code directories, in the order of the index, as far as the types of their hashes are known."""
+    for blob in image.blobs():
+        directory = blob.code_directory() if blob.slot in DIRECTORY_SLOTS else None
+        digest = directory and directory.digest()
+        if directory and digest:
+            yield CdHash(blob.slot, HASH_TYPES[directory.hash_type], digest[:CS_CDHASH_LEN].hex(), digest.hex())
 
 
 def _slice_object(part: Slice) -> Dict[str, Any]:
@@ -50,6 +75,7 @@ def layout_objects(file: File) -> List[Dict[str, Any]]:
 
 
 def _tables(image: Image) -> Dict[str, Any]:
-    return {"thread_entry": image.thread_entry, "symtab": image.symtab and image.symtab._asdict(),
+    return {"thread_entry": image.thread_entry,
+            "cdhashes": [cdhash._asdict() for cdhash in cdhashes_of(image)], "symtab": image.symtab and image.symtab._asdict(),
             "dysymtab": image.dysymtab and image.dysymtab._asdict(),
             "commands": [{**_row_object(command), "size": len(command.bytes)} for command in image.commands]}

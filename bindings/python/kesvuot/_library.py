@@ -32,6 +32,7 @@ EXPORT_NODE = struct.Struct("@6Q8x16x4QI4x")
 EXPORT_EDGE = struct.Struct("@3Q")
 BLOB = struct.Struct("@2Q2I")
 CODE_DIRECTORY = struct.Struct("@8QQ5I2H")
+CDHASH = struct.Struct("@48s2I")
 
 CHANGED = "the bytes have changed after the verdict"
 
@@ -75,6 +76,7 @@ def _declare(library: Any) -> None:
         "verify": (u32, [pointer, size, pointer]),
         "verify_strictly": (u32, [pointer, size, pointer]),
         "verify_linked": (u32, [pointer, size, pointer]),
+        "verify_sealed": (u32, [pointer, size, pointer]),
         "explain": (u32, [pointer, size, pointer, pointer]),
         "layout": (u32, [pointer, size, pointer, size, pointer]),
         "read_image": (u32, [pointer, size, u64, pointer]),
@@ -85,6 +87,7 @@ def _declare(library: Any) -> None:
         "find_source_version": (u32, [pointer, size, pointer, pointer]),
         "find_thread_entry": (u32, [pointer, size, pointer, pointer]),
         "read_code_directory": (u32, [pointer, size, pointer, pointer]),
+        "read_cdhash": (u32, [pointer, size, pointer, pointer]),
         "read_relocations": (size, [pointer, size, pointer, u32, u32, pointer, pointer, size]),
         "find_address": (u32, [pointer, size, pointer, u64, pointer]),
         "index_symbols": (size, [pointer, size, pointer, pointer, size]),

@@ -3,7 +3,7 @@
 from __future__ import annotations
 
 from functools import partial
-from typing import Callable, Dict, NamedTuple
+from typing import Callable, Dict, List, NamedTuple
 
 from . import _files
 from ._files import File
@@ -30,13 +30,22 @@ PROFILES: Dict[str, Profile] = {
                       "bytes that no header accounts for, or that two parts share", "RULES.md#the-strict-profile"),
     "linked": Profile(_files.verify_linked, "LINKED.md", "as macho-linked, with still more",
                       "where linked data lies, and what it and the other commands say",
-                      "LINKED.md#what-is-still-open")}
+                      "LINKED.md#what-is-still-open"),
+    "sealed": Profile(_files.verify_sealed, "SEALED.md", "as macho-sealed, with the hashes of code signatures",
+                      "whether each image has a code signature, whose hashes are those of the bytes",
+                      "SEALED.md#what-it-does-not-say")}
 DEFAULT = "layout"
 
 
 def verify(data: Data, profile: str) -> File:
     """Judges a file by the rules of a profile. Raises what `kesvuot.verify` raises."""
     return PROFILES[profile].verify(data)
+
+
+def later(profile: str) -> List[str]:
+    """The profiles that judge more than this one."""
+    names = list(PROFILES)
+    return names[names.index(profile) + 1:]
 
 
 def link(rule: str) -> str:

@@ -8,11 +8,13 @@ from struct import Struct
 from typing import (
     Any, Callable, Iterable, Iterator, NamedTuple, Optional, Sequence, SupportsIndex, Tuple, TypeVar, Union, overload)
 
-from ._library import BLOB, CHANGED, CODE_DIRECTORY, CURSOR, EXPORT, NO_SECTION, OK, SPAN, Bytes, load
-from .constants import EXPORT_SYMBOL_FLAGS_REEXPORT, EXPORT_SYMBOL_FLAGS_STUB_AND_RESOLVER
+from ._library import BLOB, CDHASH, CHANGED, CODE_DIRECTORY, CURSOR, EXPORT, NO_SECTION, OK, SPAN, Bytes, load
+from .constants import CS_CDHASH_LEN, EXPORT_SYMBOL_FLAGS_REEXPORT, EXPORT_SYMBOL_FLAGS_STUB_AND_RESOLVER
 
 Row = TypeVar("Row")
 Fields = Iterable[Tuple[Any, ...]]
+# Rows have a field of the name `bytes`.
+Hash = bytes
 
 # How many rows a loop asks the library for at once.
 BATCH = 1024
@@ -185,9 +187,10 @@ class DataInCode(NamedTuple):
 class CodeDirectory(NamedTuple):
     """A CS_CodeDirectory of <kern/cs_blobs.h>: what was signed, and the hashes of its pages. In a file that
     `verify_linked` accepts, the names and the hashes lie in the blob, the type of the hashes is known, and `limit` is
-    where the signature begins in the image: there is a hash for each page before that. Nothing has compared the hashes
-    with the pages.
+    where the signature begins in the image: there is a hash for each page before that. That the pages have these hashes
+    is what `verify_sealed` judges.
 
+    `bytes`: the whole blob, with its magic and its length
     `identifier`, `team`: without the zero byte past them, empty if there is none
     `hashes`: those of the code, one for each page, each of `hash_size` bytes; empty if they pass the blob
     `special_hashes`: each of `hash_size` bytes, that of the special slot 1 last; empty if they pass the blob
@@ -199,6 +202,7 @@ class CodeDirectory(NamedTuple):
     `hash_type`: CS_HASHTYPE_SHA256 or another of these constants, or any other number
     `page_size`: the log2 of the size of a page in bytes. 0: one page has all bytes"""
 
+    bytes: memoryview
     identifier: memoryview
     team: memoryview
     hashes: memoryview
@@ -214,6 +218,24 @@ class CodeDirectory(NamedTuple):
 
     def __repr__(self) -> str:
         return _text(self)
+
+    def cdhash(self) -> Optional[Hash]:
+        """What `codesign` prints and servers look up: the first 20 bytes (CS_CDHASH_LEN) of the digest, or None without
+        one. It names the bytes of the directory alone: `verify_sealed` judges whether the pages have the hashes in it.
+
+            print(directory.cdhash().hex())"""
+        digest = self.digest()
+        return digest and digest[:CS_CDHASH_LEN]
+
+    def digest(self) -> Optional[Hash]:
+        """The hash of the whole blob, by the directory's own type of hashes: 20 bytes of SHA-1 and of SHA-256 that is
+        cut, 32 of SHA-256, and 48 of SHA-384. None if the type is not known, which it is in a file that `verify_linked`
+        accepts."""
+        data, written = Bytes(self.bytes), ctypes.create_string_buffer(CDHASH.size)
+        if load().kesvuot_read_cdhash(data.address, len(data), _blob_of(data), written) != OK:
+            return None
+        digest, size, _ = CDHASH.unpack(written)
+        return digest[:size]
 
 
 class Blob(NamedTuple):
@@ -235,12 +257,16 @@ class Blob(NamedTuple):
         version below 0x20000, fewer bytes than the fields of its version, or a scatter vector. In a file that
         `verify_linked` accepts, each blob in a slot of code directories (0, 0x1000 to 0x1004) is one."""
         data, written = Bytes(self.bytes), ctypes.create_string_buffer(CODE_DIRECTORY.size)
-        blob = ctypes.create_string_buffer(BLOB.pack(0, len(data), self.slot, self.magic), BLOB.size)
-        if load().kesvuot_read_code_directory(data.address, len(data), blob, written) != OK:
+        if load().kesvuot_read_code_directory(data.address, len(data), _blob_of(data), written) != OK:
             return None
         fields = CODE_DIRECTORY.unpack(written)
         parts = (data.part(*fields[start:start + 2]) for start in range(0, 8, 2))
-        return CodeDirectory(*parts, *fields[8:])
+        return CodeDirectory(data.view, *parts, *fields[8:])
+
+
+def _blob_of(data: Bytes) -> Any:
+    """A blob that is all of these bytes, as the library takes it. It reads neither the slot nor the magic of one."""
+    return ctypes.create_string_buffer(BLOB.pack(0, len(data), 0, 0), BLOB.size)
 
 
 class Export(NamedTuple):

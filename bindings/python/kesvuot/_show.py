@@ -8,7 +8,7 @@ from typing import Any, Callable, Dict, Iterator, List, Tuple
 
 from ._check import ACCEPTED, NO_VERDICT, Choice, Outcome, Target, judge
 from ._files import File, Image, Slice
-from ._layout import layout_objects, libraries_of, plain
+from ._layout import cdhashes_of, layout_objects, libraries_of, plain
 from ._names import (
     FILETYPES, LIBRARIES, count_text, platform_name, protection_text, size_text,
     version_text)
@@ -93,6 +93,8 @@ def _properties(image: Image) -> Iterator[Cells]:
         yield "symbols", str(image.symtab.nsyms)
     entry = image.thread_entry if image.entry is None else image.entry
     yield "entry", "none" if entry is None else f"{entry:#x}"
+    for cdhash in cdhashes_of(image):
+        yield "cdhash", f"{cdhash.hash_type} {cdhash.cdhash}"
 
 
 def _segments(image: Image) -> Iterator[Cells]:

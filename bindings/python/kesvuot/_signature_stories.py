@@ -2,13 +2,15 @@
 
 from __future__ import annotations
 
-from typing import Iterator, Tuple
+import hashlib
+from typing import Any, Callable, Dict, Iterator, NamedTuple, Tuple
 
-from ._names import count_text
+from ._explanation import Part as FilePart
+from ._names import HASH_TYPES, count_text
 from ._structures import number_in
 from ._teller import Story, Teller
 
-SUPERBLOB_SIZE, DIRECTORY_SIZE = 12, 44
+SUPERBLOB_SIZE, ENTRY_SIZE, DIRECTORY_SIZE = 12, 8, 44
 CSMAGIC_EMBEDDED_SIGNATURE, CSMAGIC_CODEDIRECTORY = 0xFADE_0CC0, 0xFADE_0C02
 # The bytes of the fields of a code directory, from which version on.
 FIELDS_SIZES = {0x20000: 44, 0x20100: 48, 0x20200: 52, 0x20300: 64, 0x20400: 88, 0x20500: 96, 0x20600: 108}
@@ -16,6 +18,15 @@ FIELDS_SIZES = {0x20000: 44, 0x20100: 48, 0x20200: 52, 0x20300: 64, 0x20400: 88,
 HASH_SIZES = {1: 20, 2: 32, 3: 20, 4: 48}
 MOST_PAGE_SIZE = 31
 SUPPORTS_SCATTER, SUPPORTS_TEAM, SUPPORTS_LIMIT_64 = 0x20100, 0x20200, 0x20300
+
+# What the blobs in special slots are, CSSLOT_*.
+SPECIAL_SLOTS = {2: "the requirements", 5: "the entitlements", 7: "the entitlements in DER",
+                 **dict.fromkeys((8, 9, 10), "a launch constraint"), 11: "a library constraint"}
+# What makes the hashes of a type. Of SHA-256 that is cut, the directory has fewer bytes.
+HASHES: Dict[int, Callable[[memoryview], Any]] = {
+    1: hashlib.sha1, 2: hashlib.sha256, 3: hashlib.sha256, 4: hashlib.sha384}
+# So many bytes at least are shown of a hash.
+SHOWN_OF_HASH = 8
 
 # Whether something is wrong, what is said of it, and what the two numbers are.
 Fault = Tuple[bool, str, str, str]
@@ -125,3 +136,70 @@ def _faults(it: Teller, found: _Directory) -> Iterator[Fault]:
 def signature_whole(it: Teller) -> Story:
     return it.story(f"{it.first} covers the bytes up to {it.value:#x}, and the signature begins at {it.limit:#x}.",
                     "limit of the code", "dataoff")
+
+
+# The sealed profile
+
+
+def signature_missing(it: Teller) -> Story:
+    says = f"{it.first} names no bytes" if it.first else "the image has no LC_CODE_SIGNATURE"
+    return it.story(f"{says}, and so no code directory.", "code directories", "least number of them")
+
+
+def directory_repeated(it: Teller) -> Story:
+    return it.story(f"{it.first} and {it.second} are code directories of one slot, {it.value:#x}.", "slot")
+
+
+class _Blob(NamedTuple):
+    """An entry of a superblob, by its index, and where its blob begins and ends in the file."""
+
+    index: int
+    start: int
+    end: int
+
+
+def _blobs(data: memoryview, table: FilePart) -> Iterator[_Blob]:
+    """The blobs of a signature, in which each lies past the one before it."""
+    count = number_in(data[table.start:], "CS_SuperBlob", "count")
+    for index in range(min(count, table.size // ENTRY_SIZE)):
+        entry = table.start + SUPERBLOB_SIZE + ENTRY_SIZE * index
+        start = table.start + number_in(data[entry:], "CS_BlobIndex", "offset")
+        yield _Blob(index, start, start + number_in(data[start:], "CS_GenericBlob", "length"))
+
+
+def signature_slack(it: Teller) -> Story:
+    end = it.first_part.end
+    if it.case.place >= end:
+        return it.story(f"the byte {it.value:02x} is past {it.first}, which ends at {end:#x}: no hash is of it.", "byte")
+    sides: Dict[str, int] = {}
+    for blob in _blobs(it.case.data, it.first_part):
+        if blob.end <= it.case.place:
+            sides["after"] = blob.index
+        else:
+            sides.setdefault("before", blob.index)
+    where = " and ".join(f"{word} the blob of entry {index}" for word, index in sides.items())
+    return it.story(f"the byte {it.value:02x} is in no blob of {it.first}: it is {where}.", "byte")
+
+
+def signature_hash(it: Teller) -> Story:
+    if it.case.is_of_page:
+        return it.story(_compared(it, it.first), "page", "nCodeSlots")
+    what = SPECIAL_SLOTS.get(it.value)
+    blob = f"{it.first} ({what})" if what else it.first
+    if it.second_part.kind == "code-hash":
+        return it.story(_compared(it, blob), "slot", "nSpecialSlots")
+    return it.story(f"{blob} is in special slot {it.value}, and {it.second}, a code directory, has hashes of "
+                    f"{count_text(it.limit, 'special slot')}.", "slot", "nSpecialSlots")
+
+
+def _compared(it: Teller, what: str) -> str:
+    """The hash of a part, and the one in the directory: as many bytes of each as show that they differ."""
+    data, first, second = it.case.data, it.first_part, it.second_part
+    kind = number_in(data[second.described:], "CS_CodeDirectory", "hashType")
+    wanted = data[second.start:second.end].tobytes()
+    found = HASHES[kind](data[first.start:first.end]).digest()[:len(wanted)]
+    size = SHOWN_OF_HASH
+    while size < len(wanted) and found[:size] == wanted[:size]:
+        size += 1
+    return (f"the {HASH_TYPES[kind]} hash of {what} begins with {found[:size].hex()}, and the one in the code directory "
+            f"at {second.described:#x} with {wanted[:size].hex()}.")

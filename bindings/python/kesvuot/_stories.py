@@ -12,7 +12,9 @@ from ._files import Refused
 from ._names import count_text, protection_text
 from ._parts import arch_name
 from ._reading import Contents
-from ._signature_stories import signature_blob, signature_directory, signature_whole
+from ._signature_stories import (
+    directory_repeated, signature_blob, signature_directory, signature_hash, signature_missing, signature_slack,
+    signature_whole)
 from ._structures import number_in
 from ._teller import Story, Teller
 
@@ -589,7 +591,9 @@ STORIES: Dict[str, Callable[[Teller], Story]] = {
     "signature-blob": signature_blob, "signature-directory": signature_directory, "signature-whole": signature_whole,
     "symbol-library": lambda it: _library(it, "is of"), "symbol-value": _symbol_value,
     "symbol-indirect": lambda it: _ends_in_strings(it, f"the name that {it.at} stands in for", "n_value"),
-    "relocation": _relocation, "thread": thread, "command-content": command_content}
+    "relocation": _relocation, "thread": thread, "command-content": command_content,
+    "signature-missing": signature_missing, "directory-repeated": directory_repeated,
+    "signature-slack": signature_slack, "signature-hash": signature_hash}
 
 
 class Told(NamedTuple):

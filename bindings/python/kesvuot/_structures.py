@@ -61,6 +61,7 @@ STRUCTURES: Dict[str, Tuple[Field, ...]] = {name: _fields(words) for name, words
     "relocation_info": "r_address r_symbolnum:3 r_bits:1",
     "CS_SuperBlob": "magic length count",
     "CS_BlobIndex": "type offset",
+    "CS_GenericBlob": "magic length",
     "CS_CodeDirectory":
         "magic length version flags hashOffset identOffset nSpecialSlots nCodeSlots codeLimit hashSize:1 hashType:1 "
         "platform:1 pageSize:1 spare2 scatterOffset teamOffset spare3 codeLimit64:8",
@@ -69,7 +70,8 @@ STRUCTURES: Dict[str, Tuple[Field, ...]] = {name: _fields(words) for name, words
     "dyld_chained_starts_in_image": "seg_count",
     "dyld_chained_starts_in_segment":
         "size page_size:2 pointer_format:2 segment_offset:8 max_valid_pointer page_count:2"}.items()}
-BIG_ENDIAN = frozenset(("fat_header", "fat_arch", "fat_arch_64", "CS_SuperBlob", "CS_BlobIndex", "CS_CodeDirectory"))
+BIG_ENDIAN = frozenset(("fat_header", "fat_arch", "fat_arch_64", "CS_SuperBlob", "CS_BlobIndex", "CS_GenericBlob",
+                        "CS_CodeDirectory"))
 
 # The structure of each command that docs/RULES.md lists, and of those others that have data.
 LISTED: Dict[int, str] = {

@@ -36,6 +36,7 @@ EXAMPLES = """\
 examples:
   kesvuot check program                          one file
   kesvuot check --profile strict dist            all Mach-O files of a folder, by the strict profile
+  kesvuot check --profile sealed dist            whether code signatures still match the bytes
   kesvuot check --exclude '*.class' -q build     only those that are not accepted
   kesvuot check --format sarif dist >kesvuot.sarif
   curl -s URL | kesvuot check -                  standard input
@@ -249,7 +250,7 @@ rule, and what to do. Of an accepted file it says what was not judged.""")
 def _add_show(commands: Any) -> None:
     parser = _add_command(commands, "show", _show, "show the layout of a file", """\
 Shows the layout of an accepted file: its slices, and of each 64-bit image its platform, segments, sections and
-libraries. Of a refused file it prints the rule.""")
+libraries, and the cdhash of each code directory. Of a refused file it prints the rule.""")
     parser.add_argument("--json", action="store_true", help="print an object with all fields and load commands")
     parser.add_argument("file", metavar="FILE", help="a file, or - for standard input")
 

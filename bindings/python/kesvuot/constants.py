@@ -128,6 +128,9 @@ CS_HASHTYPE_SHA256 = 2
 CS_HASHTYPE_SHA256_TRUNCATED = 3
 CS_HASHTYPE_SHA384 = 4
 
+# The size in bytes of a cdhash. (kern/cs_blobs.h)
+CS_CDHASH_LEN = 20
+
 # The bits of a protection. (mach/vm_prot.h)
 VM_PROT_READ = 1
 VM_PROT_WRITE = 2

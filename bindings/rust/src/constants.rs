@@ -130,6 +130,9 @@ pub const CS_HASHTYPE_SHA256: u8 = 2;
 pub const CS_HASHTYPE_SHA256_TRUNCATED: u8 = 3;
 pub const CS_HASHTYPE_SHA384: u8 = 4;
 
+// The size in bytes of a cdhash. (kern/cs_blobs.h)
+pub const CS_CDHASH_LEN: u64 = 20;
+
 // The bits of a protection. (mach/vm_prot.h)
 pub const VM_PROT_READ: u32 = 1;
 pub const VM_PROT_WRITE: u32 = 2;

@@ -107,6 +107,10 @@ kinds! {
     SignatureBlob = 35,
     /// `relocation_info`. The index counts from 0 in its table.
     Relocation = 36,
+    /// The bytes of the page with this index of a code directory.
+    CodePage = 37,
+    /// A hash in a code directory, of the page or the special slot with this index.
+    CodeHash = 38,
 }
 
 /// A structure, or what a structure describes. It lies where the file says, which can be past the

@@ -27,6 +27,17 @@ pub const NO_SECTION: u32 = u32::MAX;
 /// `KESVUOT_NO_INDEX`
 pub const NO_INDEX: u32 = u32::MAX;
 
+/// Room for the longest hash. Only shorter arrays have a default.
+#[repr(transparent)]
+#[derive(Clone, Copy)]
+pub struct Digest(pub [u8; 48]);
+
+impl Default for Digest {
+    fn default() -> Self {
+        Digest([0; 48])
+    }
+}
+
 /// Declares structures, and lists for the tests how C must lay them out.
 macro_rules! structures {
     ($($tag:ident = $name:ident { $($field:ident: $type:ty,)* })*) => {
@@ -231,6 +242,12 @@ structures! {
         page_size: u16,
     }
 
+    kesvuot_cdhash = CdHash {
+        digest: Digest,
+        size: u32,
+        hash_type: u32,
+    }
+
     kesvuot_export = Export {
         flags: u64,
         address: u64,
@@ -276,6 +293,7 @@ extern "C" {
     fn kesvuot_verify(file: *const c_void, size: usize, verdict: *mut Verdict) -> u32;
     fn kesvuot_verify_strictly(file: *const c_void, size: usize, verdict: *mut Verdict) -> u32;
     fn kesvuot_verify_linked(file: *const c_void, size: usize, verdict: *mut Verdict) -> u32;
+    fn kesvuot_verify_sealed(file: *const c_void, size: usize, verdict: *mut Verdict) -> u32;
     fn kesvuot_explain(
         file: *const c_void,
         size: usize,
@@ -337,6 +355,12 @@ extern "C" {
         size: usize,
         blob: *const Blob,
         directory: *mut CodeDirectory,
+    ) -> u32;
+    fn kesvuot_read_cdhash(
+        file: *const c_void,
+        size: usize,
+        blob: *const Blob,
+        cdhash: *mut CdHash,
     ) -> u32;
     fn kesvuot_read_relocations(
         file: *const c_void,
@@ -501,6 +525,10 @@ pub fn verify_linked(file: &[u8]) -> (u32, Verdict) {
     judge(kesvuot_verify_linked, file)
 }
 
+pub fn verify_sealed(file: &[u8]) -> (u32, Verdict) {
+    judge(kesvuot_verify_sealed, file)
+}
+
 /// The status, and what explains that the file breaks the rule with this number at a place.
 pub fn explain(file: &[u8], rule: u32, place: u64) -> (u32, Explanation) {
     check_version();
@@ -642,20 +670,34 @@ pub fn find_thread_entry(file: &[u8], image: &Image) -> (u32, u64) {
     (status, entry)
 }
 
-/// The status, and what a blob of these bytes says as a code directory. Its spans lie in these bytes.
-pub fn read_code_directory(bytes: &[u8]) -> (u32, CodeDirectory) {
-    let (at, mut directory) = (bytes.as_ptr().cast(), CodeDirectory::default());
+/// A blob that is all of these bytes.
+fn blob_of(bytes: &[u8]) -> Blob {
     let all = Span {
         offset: 0,
         size: bytes.len() as u64,
     };
-    let blob = Blob {
+    Blob {
         bytes: all,
         ..Blob::default()
-    };
+    }
+}
+
+/// The status, and what a blob of these bytes says as a code directory. Its spans lie in these bytes.
+pub fn read_code_directory(bytes: &[u8]) -> (u32, CodeDirectory) {
+    let (at, mut directory) = (bytes.as_ptr().cast(), CodeDirectory::default());
+    let blob = blob_of(bytes);
     // SAFETY: the bytes may be read, and nobody changes them meanwhile. The directory may be written.
     let status = unsafe { kesvuot_read_code_directory(at, bytes.len(), &blob, &mut directory) };
     (status, directory)
+}
+
+/// The status, and the hash of a blob of these bytes as a code directory.
+pub fn read_cdhash(bytes: &[u8]) -> (u32, CdHash) {
+    let (at, mut cdhash) = (bytes.as_ptr().cast(), CdHash::default());
+    let blob = blob_of(bytes);
+    // SAFETY: the bytes may be read, and nobody changes them meanwhile. The hash may be written.
+    let status = unsafe { kesvuot_read_cdhash(at, bytes.len(), &blob, &mut cdhash) };
+    (status, cdhash)
 }
 
 /// The relocations from this place on, of which there are so many. There are fewer if they do not all lie

@@ -537,6 +537,7 @@ impl<'a> Image<'a> {
     ///
     /// let directory = image.blobs().find_map(|blob| blob.code_directory()).unwrap();
     /// assert_eq!(directory.identifier, b"library-arm64");
+    /// assert_eq!(directory.cdhash().unwrap().to_string(), "6d2680bf4c6ef99d6b62cef955f295141b98887c");
     /// # Ok::<(), Box<dyn std::error::Error>>(())
     /// ```
     #[must_use]

@@ -76,7 +76,7 @@ pub use parts::{
 };
 pub use rows::{Rows, UncountedRows};
 pub use rule::{ParseRuleError, Rule};
-pub use signature::{Blob, CodeDirectory};
+pub use signature::{Blob, CdHash, CodeDirectory};
 pub use symbol_index::SymbolIndex;
 pub use verified::{Slice, Slices, Verified, VerifiedBuf};
 
@@ -125,6 +125,34 @@ pub fn verify_strictly(file: &[u8]) -> Result<Verified<'_>, Error> {
 /// If the library that is linked is of another major version.
 pub fn verify_linked(file: &[u8]) -> Result<Verified<'_>, Error> {
     Verified::new(file, ffi::verify_linked(file))
+}
+
+/// Judges a file by the rules of the sealed profile too, after those of [`verify_linked`]: each image has a
+/// code signature; the hashes in each of its code directories are those of all bytes before the signature, and
+/// of the blobs in special slots; and from the signature on, each byte that is not 0 is in its header, its
+/// index or a blob. `docs/SEALED.md` says what that means, and what it does not: nobody is named who signed, and
+/// nothing outside of the file is read. Whatever is accepted here is accepted by [`verify_linked`].
+///
+/// ```
+/// use kesvuot::{Error, Rule};
+///
+/// # let path = concat!(env!("CARGO_MANIFEST_DIR"), "/../../tests/real/program");
+/// let file = std::fs::read(path)?;
+/// assert!(kesvuot::verify_linked(&file).is_ok());
+/// let error = kesvuot::verify_sealed(&file).unwrap_err();
+/// assert_eq!(error, Error::Refused { rule: Rule::SignatureMissing, place: 0 });
+/// # Ok::<(), std::io::Error>(())
+/// ```
+///
+/// # Errors
+///
+/// The first broken rule, or that memory ran out.
+///
+/// # Panics
+///
+/// If the library that is linked is of another major version.
+pub fn verify_sealed(file: &[u8]) -> Result<Verified<'_>, Error> {
+    Verified::new(file, ffi::verify_sealed(file))
 }
 
 /// The name of the load commands with this `cmd` in `<mach-o/loader.h>`, such as `LC_SEGMENT_64`. `None`

@@ -7,11 +7,11 @@ use crate::ffi;
 
 macro_rules! rules {
     ($($(#[$doc:meta])* $name:ident = $number:literal,)*) => {
-        /// A rule of the layout, of the strict profile or of the linked one. They are in the order of
-        /// judgment.
+        /// A rule of the layout, or of the strict, the linked or the sealed profile. They are in the order
+        /// of judgment.
         ///
         /// `docs/RULES.md` says when each is broken, what usually breaks it, and what to do. For the
-        /// linked profile `docs/LINKED.md` does.
+        /// linked profile `docs/LINKED.md` does, and for the sealed one `docs/SEALED.md`.
         #[derive(Clone, Copy, Debug, PartialEq, Eq, PartialOrd, Ord, Hash)]
         #[non_exhaustive]
         pub enum Rule {
@@ -213,6 +213,15 @@ rules! {
     /// Linked: a load command has no place in such an image; or a name, a range or an address in it is
     /// wrong, or a byte past what it holds is not 0.
     CommandContent = 77,
+    /// Sealed: an image has no code signature with a code directory in slot 0.
+    SignatureMissing = 78,
+    /// Sealed: a code directory is in the slot of an earlier one.
+    DirectoryRepeated = 79,
+    /// Sealed: from the code signature on, a byte that is not 0 is in neither its header and index nor a blob.
+    SignatureSlack = 80,
+    /// Sealed: the hash of a page, or of a blob in a special slot, is not the one in a code directory, or
+    /// the directory has no such slot.
+    SignatureHash = 81,
 }
 
 impl Rule {
@@ -270,7 +279,7 @@ mod tests {
     #[test]
     fn names_are_the_headings_of_the_documents() {
         let folder = concat!(env!("CARGO_MANIFEST_DIR"), "/../../docs");
-        let documents = ["RULES.md", "LINKED.md"]
+        let documents = ["RULES.md", "LINKED.md", "SEALED.md"]
             .map(|name| std::fs::read_to_string(std::path::Path::new(folder).join(name)).unwrap());
         let headings = documents
             .iter()

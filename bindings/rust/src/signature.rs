@@ -2,6 +2,7 @@
 
 use core::fmt;
 
+use crate::constants::CS_CDHASH_LEN;
 use crate::parts::Text;
 use crate::rows::Row;
 use crate::{ffi, Image};
@@ -57,10 +58,12 @@ impl<'a> Blob<'a> {
 ///
 /// In a file that [`verify_linked`](crate::verify_linked) accepts, the names and the hashes lie in the blob, the
 /// type of the hashes is known, and `limit` is where the signature begins in the image: there is a hash for each
-/// page before that. Nothing has compared the hashes with the pages.
+/// page before that. That the pages have these hashes is what [`verify_sealed`](crate::verify_sealed) judges.
 #[derive(Clone, Copy, PartialEq, Eq)]
 #[non_exhaustive]
 pub struct CodeDirectory<'a> {
+    /// The whole blob, with its magic and its length.
+    pub bytes: &'a [u8],
     /// The name of what was signed, without the zero byte past it. Empty if there is none.
     pub identifier: &'a [u8],
     /// The team that signed it. Empty if there is none. Only versions from 0x20200 on have one.
@@ -110,6 +113,7 @@ impl<'a> CodeDirectory<'a> {
         let part = |span: ffi::Span| &blob[span.offset as usize..][..span.size as usize];
         // The structure of the library has wider numbers for fields of one byte.
         CodeDirectory {
+            bytes: blob,
             identifier: part(raw.identifier),
             team: part(raw.team),
             hashes: part(raw.hashes),
@@ -123,5 +127,57 @@ impl<'a> CodeDirectory<'a> {
             hash_type: raw.hash_type as u8,
             page_size: raw.page_size as u8,
         }
+    }
+
+    /// The hash of the whole blob, by the directory's own type of hashes. `None` if the type is not known, which
+    /// it is in a file that [`verify_linked`](crate::verify_linked) accepts. It takes time in proportion to the
+    /// blob.
+    #[must_use]
+    pub fn cdhash(&self) -> Option<CdHash> {
+        let (status, raw) = ffi::read_cdhash(self.bytes);
+        (status == ffi::OK).then_some(CdHash {
+            digest: raw.digest.0,
+            size: raw.size as usize,
+        })
+    }
+}
+
+/// The hash of a code directory, by which systems know what was signed. It names the bytes of the directory alone:
+/// that the pages have the hashes in it is what [`verify_sealed`](crate::verify_sealed) judges.
+///
+/// It displays as `codesign` prints it: the 20 bytes of [`as_bytes`](CdHash::as_bytes), in hexadecimal.
+#[derive(Clone, Copy, PartialEq, Eq, Hash)]
+pub struct CdHash {
+    /// The bytes past the size are 0.
+    digest: [u8; 48],
+    size: usize,
+}
+
+impl CdHash {
+    /// What `codesign` prints and servers look up: the first 20 bytes of the digest. (`CS_CDHASH_LEN`)
+    #[must_use]
+    pub fn as_bytes(&self) -> &[u8; CS_CDHASH_LEN as usize] {
+        let first = &self.digest[..CS_CDHASH_LEN as usize];
+        first.try_into().expect("a digest has more bytes")
+    }
+
+    /// All bytes of the hash: 20 of SHA-1 and of SHA-256 that is cut, 32 of SHA-256, and 48 of SHA-384.
+    #[must_use]
+    pub fn digest(&self) -> &[u8] {
+        &self.digest[..self.size]
+    }
+}
+
+impl fmt::Display for CdHash {
+    fn fmt(&self, f: &mut fmt::Formatter<'_>) -> fmt::Result {
+        self.as_bytes()
+            .iter()
+            .try_for_each(|byte| write!(f, "{byte:02x}"))
+    }
+}
+
+impl fmt::Debug for CdHash {
+    fn fmt(&self, f: &mut fmt::Formatter<'_>) -> fmt::Result {
+        write!(f, "CdHash({self})")
     }
 }

@@ -10,7 +10,8 @@ use core::ops::Range;
 use crate::{ffi, Error, Image, Rule};
 
 /// A file that was accepted. Only [`verify`](crate::verify),
-/// [`verify_strictly`](crate::verify_strictly) and [`verify_linked`](crate::verify_linked) make one.
+/// [`verify_strictly`](crate::verify_strictly), [`verify_linked`](crate::verify_linked) and
+/// [`verify_sealed`](crate::verify_sealed) make one.
 #[derive(Clone, Copy)]
 pub struct Verified<'a> {
     bytes: &'a [u8],
@@ -166,6 +167,19 @@ impl VerifiedBuf {
     /// If the library that is linked is of another major version.
     pub fn verify_linked(bytes: impl Into<Vec<u8>>) -> Result<Self, Error> {
         VerifiedBuf::judge(bytes.into(), crate::verify_linked)
+    }
+
+    /// Judges a file as [`verify_sealed`](crate::verify_sealed) does, and keeps its bytes.
+    ///
+    /// # Errors
+    ///
+    /// As of [`verify`](VerifiedBuf::verify).
+    ///
+    /// # Panics
+    ///
+    /// If the library that is linked is of another major version.
+    pub fn verify_sealed(bytes: impl Into<Vec<u8>>) -> Result<Self, Error> {
+        VerifiedBuf::judge(bytes.into(), crate::verify_sealed)
     }
 
     fn judge(

@@ -1,7 +1,7 @@
 //! The code signature and the thread of an image that is made here.
 
 use kesvuot::constants::{CSSLOT_CODEDIRECTORY, CS_HASHTYPE_SHA1};
-use kesvuot::{Blob, CodeDirectory};
+use kesvuot::{Blob, CdHash, CodeDirectory, Error, Rule};
 
 const ENTITLEMENTS: u32 = 5;
 const SIGNATURE: u32 = 0x10000;
@@ -79,6 +79,7 @@ fn each_blob_is_given() {
 fn a_directory_has_names_and_hashes() {
     let file = signed(&signature());
     let found: CodeDirectory = blobs_of(&file)[0].code_directory().unwrap();
+    assert_eq!(found.bytes, directory());
     assert_eq!((found.identifier, found.team), (&b"ab"[..], &b"T"[..]));
     assert_eq!(found.hashes, [3; 20]);
     assert_eq!(found.special_hashes, [[1; 20], [2; 20]].concat());
@@ -86,6 +87,71 @@ fn a_directory_has_names_and_hashes() {
     assert_eq!((found.code_slots, found.special_slots), (1, 2));
     let sizes = (found.hash_size, found.hash_type, found.page_size);
     assert_eq!(sizes, (20, CS_HASHTYPE_SHA1, 12));
+}
+
+/// The hash of the directory, with this type of hashes.
+fn cdhash(hash_type: u8) -> Option<CdHash> {
+    let mut data = signature();
+    data[36 + 37] = hash_type;
+    let file = signed(&data);
+    blobs_of(&file)[0].code_directory().unwrap().cdhash()
+}
+
+fn hex(bytes: &[u8]) -> String {
+    bytes.iter().map(|byte| format!("{byte:02x}")).collect()
+}
+
+/// The hashes are those that Python's hashlib has of these 117 bytes, with the types 1 to 4.
+#[test]
+fn a_directory_has_a_hash() {
+    let wanted = [
+        "b1f93469f6ce044e97c9493fbd367ca46d5c4f3d",
+        "60528091ecb1e55c43ef03313db9fd6c2267ee3bece777f561702d41674769d2",
+        "15393a6aca03417f79a7f6e8503337ce01e22de1",
+        "12edd67794d436fc650177ed2712d122930191ca562e4c1386021907851fec2b1cbc889300ee56ca02c0fcda196c5832",
+    ];
+    for (hash_type, wanted) in (CS_HASHTYPE_SHA1..).zip(wanted) {
+        let found = cdhash(hash_type).unwrap();
+        assert_eq!(hex(found.digest()), wanted);
+        assert_eq!(hex(found.as_bytes()), wanted[..40]);
+        assert_eq!(found.to_string(), wanted[..40]);
+        assert_eq!(format!("{found:?}"), format!("CdHash({})", &wanted[..40]));
+        assert_eq!(cdhash(hash_type), Some(found));
+    }
+    assert_eq!((cdhash(0), cdhash(5)), (None, None));
+    assert_ne!(cdhash(1), cdhash(2));
+}
+
+/// The second image of the library, which is signed. Its last page begins at 0x4000, and ends where the signature
+/// begins, at 0x4060.
+fn signed_image(library: &[u8]) -> Vec<u8> {
+    let verified = kesvuot::verify(library).unwrap();
+    verified.image(1).unwrap().bytes().to_vec()
+}
+
+#[test]
+fn a_changed_page_has_another_hash() {
+    let [program, library] = ["program", "library"].map(|name| {
+        let folder = concat!(env!("CARGO_MANIFEST_DIR"), "/../../tests/real");
+        std::fs::read(std::path::Path::new(folder).join(name)).unwrap()
+    });
+    let image = signed_image(&library);
+    assert!(kesvuot::verify_sealed(&image).is_ok());
+    // A constant in the first page, and a letter of a name in the last.
+    for (changed_at, place) in [(0x2a8, 0), (0x404a, 0x4000)] {
+        let mut changed = image.clone();
+        changed[changed_at] ^= 2;
+        assert!(kesvuot::verify_linked(&changed).is_ok());
+        let rule = Rule::SignatureHash;
+        let refused = kesvuot::verify_sealed(&changed).unwrap_err();
+        assert_eq!(refused, Error::Refused { rule, place });
+    }
+    // The first image of the library is not signed.
+    let rule = Rule::SignatureMissing;
+    for (file, place) in [(program, 0), (library, 0x30)] {
+        let refused = kesvuot::verify_sealed(&file).unwrap_err();
+        assert_eq!(refused, Error::Refused { rule, place });
+    }
 }
 
 /// How many blobs there are, and how many of them are directories, where a byte of the signature has another value.

@@ -198,6 +198,10 @@ fn a_file_that_owns_its_bytes() {
     let (rule, place) = (Rule::BindOpcode, 0x3008);
     let refused = VerifiedBuf::verify_linked(changed).unwrap_err();
     assert_eq!(refused, Error::Refused { rule, place });
+
+    let (rule, place) = (Rule::SignatureMissing, 0);
+    let refused = VerifiedBuf::verify_sealed(fs::read(path_of_real("program")).unwrap());
+    assert_eq!(refused.unwrap_err(), Error::Refused { rule, place });
 }
 
 #[test]
@@ -237,6 +241,12 @@ fn strict_vectors() {
 #[ignore = "it needs KESVUOT_TRIALS"]
 fn linked_vectors() {
     judge_all("linked-vectors", kesvuot::verify_linked);
+}
+
+#[test]
+#[ignore = "it needs KESVUOT_TRIALS"]
+fn sealed_vectors() {
+    judge_all("sealed-vectors", kesvuot::verify_sealed);
 }
 
 #[test]

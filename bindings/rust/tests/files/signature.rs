@@ -18,6 +18,8 @@ const FIELDS_SIZES: [(u32, usize); 7] = [
     (0x20500, 96),
     (0x20600, 108),
 ];
+/// The bytes of a hash by `CS_HASHTYPE_SHA1`, `.._SHA256`, `.._SHA256_TRUNCATED` and `.._SHA384`.
+const HASH_SIZES: [usize; 4] = [20, 32, 20, 48];
 
 /// The number of so many bytes at an offset.
 fn number(bytes: &[u8], at: usize, size: usize) -> u64 {
@@ -120,6 +122,15 @@ fn compare_numbers(found: &CodeDirectory, blob: &[u8]) {
     );
 }
 
+/// Each known type of hashes has its size. The numbers of the types are those of the list, from 1 on.
+fn compare_hash(found: &CodeDirectory) {
+    let known = usize::from(found.hash_type).checked_sub(1);
+    let size = known.and_then(|type_of| HASH_SIZES.get(type_of));
+    let hash = found.cdhash();
+    assert_eq!(hash.as_ref().map(|hash| hash.digest().len()), size.copied());
+    assert!(hash.map_or(true, |hash| hash.digest().starts_with(hash.as_bytes())));
+}
+
 fn compare_blob(found: &Blob, slot: u32, bytes: &[u8]) {
     assert_eq!(
         (found.slot, found.magic, found.bytes),
@@ -127,7 +138,9 @@ fn compare_blob(found: &Blob, slot: u32, bytes: &[u8]) {
     );
     let directory = found.code_directory();
     let parts = directory.map(|found| {
+        assert_eq!(found.bytes, bytes);
         compare_numbers(&found, bytes);
+        compare_hash(&found);
         let parts = [
             found.identifier,
             found.team,
