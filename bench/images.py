@@ -83,6 +83,13 @@ whose LC_MAIN names an address of no segment. That breaks the last rule, so all 
     blobs-Nm, directories-Nm        a code signature of N MiB: a code directory, and then as many blobs of 8 bytes as
                                     there is room for, or alternate directories of 65 bytes
     identifier-Nm                   a code directory with an identifier of N MiB
+    sealed-Nm-B                     N MiB with a SHA-256 of each page of 2^B bytes, or of all of them if B is 0. Accepted by
+                                    the sealed profile, as it is below
+    sealed-Nm-B-both                the same with a SHA-1 of each page too, in another code directory
+    pages-N                         N pages of 2^8 bytes, with a SHA-256 of each
+    entitlements-Nm                 a code signature with entitlements of N MiB
+    specials-Nm                     a code signature of N MiB: six code directories with a SHA-256 of one page, and as many
+                                    blobs of 8 bytes of slot 1 as there is room for
     undefined-N                     N undefined symbols of an image with two levels of names, each with a name of its own
     values-N-shuffled               N segments in no order, and a symbol at the start of each, in another order
     aliases-Nm                      a million symbols that are other names of what stands in one string of N MiB
@@ -92,6 +99,8 @@ whose LC_MAIN names an address of no segment. That breaks the last rule, so all 
 
 from __future__ import annotations
 
+import hashlib
+import io
 import random
 import re
 import struct
@@ -136,9 +145,12 @@ NEXT_BIT, NEXT_STEP, BIND_BIT, LARGE_PAGE = 51, 4, 63, 0x4000
 
 # kern/cs_blobs.h
 CSMAGIC_EMBEDDED_SIGNATURE, CSMAGIC_CODEDIRECTORY, CSMAGIC_REQUIREMENTS = 0xFADE0CC0, 0xFADE0C02, 0xFADE0C01
+CSMAGIC_EMBEDDED_ENTITLEMENTS = 0xFADE7171
 CSSLOT_CODEDIRECTORY, CSSLOT_REQUIREMENTS, CSSLOT_ALTERNATE_CODEDIRECTORIES = 0, 2, 0x1000
+CSSLOT_INFOSLOT, CSSLOT_ENTITLEMENTS = 1, 5
+DIRECTORY_SLOTS = (CSSLOT_CODEDIRECTORY, *range(CSSLOT_ALTERNATE_CODEDIRECTORIES, CSSLOT_ALTERNATE_CODEDIRECTORIES + 5))
 SUPERBLOB_SIZE, BLOB_INDEX_SIZE, BLOB_SIZE, CODE_DIRECTORY_SIZE = 12, 8, 8, 44
-CS_VERSION, CS_HASHTYPE_SHA1, SHA1_SIZE = 0x20000, 1, 20
+CS_VERSION = 0x20000
 
 BASE = 0x1_0000_0000
 FAR = 0x2_0000_0000
@@ -627,23 +639,28 @@ def chained_pages(distance: int, count: int, imports_count: int) -> Iterator[byt
         yield bytes(content)
 
 
-def chained_pointers(out: BinaryIO, mebibytes: int) -> str:
-    start = HEADER_SIZE + 3 * SEGMENT_SIZE + SECTION_SIZE + LIBRARY_SIZE + LINKEDIT_DATA_SIZE + MAIN_SIZE
-    size = mebibytes * MIB
-    place, count, imports_count = start + size, size // LARGE_PAGE, 10_000
+def with_pointers(out: BinaryIO, distance: int, count: int) -> str:
+    """So many pages of pointers. Each segment up to these has a section: LLVM counts no other segments."""
+    start = HEADER_SIZE + 3 * SEGMENT_SIZE + 2 * SECTION_SIZE + LIBRARY_SIZE + LINKEDIT_DATA_SIZE + MAIN_SIZE
+    size, imports_count = count * LARGE_PAGE, 10_000
+    place = start + size
     starts = struct.pack("<I2HQIH", STARTS_SIZE - 2 + 2 * count, LARGE_PAGE, DYLD_CHAINED_PTR_64, FAR - BASE, 0, count)
     table = chain_table([b"", starts + bytes(2 * count), b""], (b"_%06d\0" % k for k in range(imports_count)))
-    commands = segment(b"__TEXT", BASE, start, 0, start)
+    commands = segment(b"__TEXT", BASE, start, 0, start, section(b"__text", BASE, 0, 0))
     commands += segment(b"__DATA", FAR, size, start, size, section(b"__data", FAR, size, start, segname=b"__DATA"),
                         VM_PROT_READ | VM_PROT_WRITE)
     commands += segment(b"__LINKEDIT", 2 * FAR, len(table), place, len(table), initprot=VM_PROT_READ)
     commands += library(0) + linkedit_data(LC_DYLD_CHAINED_FIXUPS, place, len(table))
 
     def tail() -> Iterator[bytes]:
-        yield from chained_pages(mebibytes, count, imports_count)
+        yield from chained_pages(distance, count, imports_count)
         yield table
 
     return image(out, commands, 5, tail(), accepted=True)
+
+
+def chained_pointers(out: BinaryIO, mebibytes: int) -> str:
+    return with_pointers(out, mebibytes, mebibytes * MIB // LARGE_PAGE)
 
 
 def with_functions(out: BinaryIO, cmd: int, text_size: int, numbers: list[int], table_of: Callable[[int], bytes]) -> str:
@@ -769,27 +786,51 @@ def long_path(out: BinaryIO, count: int) -> str:
     return image(out, commands, 2, [trie], accepted=True)
 
 
-def code_directory(limit: int, page_bits: int = 0, identifier: bytes = b"") -> bytes:
-    """A directory with hashes of zeros for the pages of so many bytes, or for one page of all of them if a page has 2^0
-    bytes. The identifier comes past these, with its zero byte."""
+class HashKind(NamedTuple):
+    """A type of hashes: `hashType`, the function, and how many of its bytes are taken."""
+
+    number: int
+    function: str
+    size: int
+
+    def of(self, content: bytes) -> bytes:
+        return hashlib.new(self.function, content).digest()[:self.size]
+
+
+# By the words of hashes.
+HASH_KINDS = {
+    "sha1": HashKind(1, "sha1", 20),
+    "sha256": HashKind(2, "sha256", 32),
+    "sha256-truncated": HashKind(3, "sha256", 20),
+    "sha384": HashKind(4, "sha384", 48),
+}
+SHA1, SHA256 = HASH_KINDS["sha1"], HASH_KINDS["sha256"]
+
+
+def code_directory(limit: int, page_bits: int = 0, identifier: bytes = b"", kind: HashKind = SHA1,
+                   special: Iterable[bytes] = (), hashes: bytes = b"") -> bytes:
+    """A directory with hashes for the pages of so many bytes, or for one page of all of them if a page has 2^0 bytes. If
+    there are none, they are zeros. Those of special slots are from the last slot on. The identifier comes past the hashes,
+    with its zero byte."""
     count = -(-limit >> page_bits) if page_bits else 1
-    hashes_end = CODE_DIRECTORY_SIZE + SHA1_SIZE * count
-    numbers = (CSMAGIC_CODEDIRECTORY, hashes_end + len(identifier), CS_VERSION, 0, CODE_DIRECTORY_SIZE,
-               hashes_end if identifier else 0, 0, count, limit)
-    return b"".join((struct.pack(">9I4BI", *numbers, SHA1_SIZE, CS_HASHTYPE_SHA1, 0, page_bits, 0),
-                     bytes(SHA1_SIZE * count), identifier))
+    of_slots = b"".join(special)
+    hashes_start = CODE_DIRECTORY_SIZE + len(of_slots)
+    hashes_end = hashes_start + kind.size * count
+    numbers = (CSMAGIC_CODEDIRECTORY, hashes_end + len(identifier), CS_VERSION, 0, hashes_start,
+               hashes_end if identifier else 0, len(of_slots) // kind.size, count, limit)
+    return b"".join((struct.pack(">9I4BI", *numbers, kind.size, kind.number, 0, page_bits, 0), of_slots,
+                     hashes or bytes(kind.size * count), identifier))
 
 
-def superblob(first: bytes, others: int = 0, slot: int = CSSLOT_REQUIREMENTS, blob: bytes = b"") -> bytes:
-    """A directory, and so many others of one slot, which all have the same bytes."""
-    start = SUPERBLOB_SIZE + BLOB_INDEX_SIZE * (1 + others)
-    offsets = range(start + len(first), start + len(first) + len(blob) * others, len(blob) or 1)
-    entries = [CSSLOT_CODEDIRECTORY, start]
-    for offset in offsets:
-        entries += slot, offset
-    size = start + len(first) + len(blob) * others
-    return b"".join((struct.pack(">3I", CSMAGIC_EMBEDDED_SIGNATURE, size, 1 + others),
-                     struct.pack(f">{len(entries)}I", *entries), first, blob * others))
+def superblob(blobs: list[tuple[int, bytes]]) -> bytes:
+    """A signature of these slots and blobs, in this order."""
+    place = SUPERBLOB_SIZE + BLOB_INDEX_SIZE * len(blobs)
+    entries: list[int] = []
+    for slot, blob in blobs:
+        entries += slot, place
+        place += len(blob)
+    return b"".join((struct.pack(">3I", CSMAGIC_EMBEDDED_SIGNATURE, place, len(blobs)),
+                     struct.pack(f">{len(entries)}I", *entries), *(blob for _, blob in blobs)))
 
 
 def signed(out: BinaryIO, limit: int, signature: bytes) -> str:
@@ -800,13 +841,13 @@ def signed(out: BinaryIO, limit: int, signature: bytes) -> str:
 
 def hashes(out: BinaryIO, count: int) -> str:
     limit = 16 * count
-    return signed(out, limit, superblob(code_directory(limit, page_bits=4)))
+    return signed(out, limit, superblob([(CSSLOT_CODEDIRECTORY, code_directory(limit, page_bits=4))]))
 
 
 def many_blobs(out: BinaryIO, mebibytes: int, slot: int, blob: bytes) -> str:
     first = code_directory(PAGE)
     count = (mebibytes * MIB - SUPERBLOB_SIZE - BLOB_INDEX_SIZE - len(first)) // (BLOB_INDEX_SIZE + len(blob))
-    return signed(out, PAGE, superblob(first, count, slot, blob))
+    return signed(out, PAGE, superblob([(CSSLOT_CODEDIRECTORY, first)] + [(slot, blob)] * count))
 
 
 def blobs(out: BinaryIO, mebibytes: int) -> str:
@@ -818,7 +859,47 @@ def directories(out: BinaryIO, mebibytes: int) -> str:
 
 
 def long_identifier(out: BinaryIO, mebibytes: int) -> str:
-    return signed(out, PAGE, superblob(code_directory(PAGE, identifier=b"".join(filler(mebibytes * MIB)) + b"\0")))
+    first = code_directory(PAGE, identifier=b"".join(filler(mebibytes * MIB)) + b"\0")
+    return signed(out, PAGE, superblob([(CSSLOT_CODEDIRECTORY, first)]))
+
+
+def sealed(out: BinaryIO, limit: int, blobs_of: Callable[[bytes], list[tuple[int, bytes]]]) -> str:
+    """The same, with the slots and blobs that are made of the bytes before the signature. Of other bytes they have as
+    many bytes."""
+    unsealed = io.BytesIO()
+    line = signed(unsealed, limit, superblob(blobs_of(bytes(limit))))
+    content = unsealed.getvalue()[:limit]
+    out.writelines((content, superblob(blobs_of(content))))
+    return line
+
+
+def sealing(content: bytes, page_bits: int, kind: HashKind, special: Iterable[bytes] = ()) -> bytes:
+    """A directory with the hashes of these bytes."""
+    page = 1 << page_bits if page_bits else len(content)
+    hashes = b"".join(kind.of(content[start:start + page]) for start in range(0, len(content), page))
+    return code_directory(len(content), page_bits, kind=kind, special=special, hashes=hashes)
+
+
+def sealed_pages(out: BinaryIO, limit: int, page_bits: int, kinds: tuple[HashKind, ...]) -> str:
+    return sealed(out, limit, lambda content: [
+        (slot, sealing(content, page_bits, kind)) for slot, kind in zip(DIRECTORY_SLOTS, kinds)])
+
+
+def entitlements(out: BinaryIO, mebibytes: int) -> str:
+    blob = struct.pack(">2I", CSMAGIC_EMBEDDED_ENTITLEMENTS, mebibytes * MIB)
+    blob += b"".join(filler(mebibytes * MIB - BLOB_SIZE))
+    special = [SHA256.of(blob)] + [bytes(SHA256.size)] * (CSSLOT_ENTITLEMENTS - 1)
+    return sealed(out, PAGE, lambda content: [
+        (CSSLOT_CODEDIRECTORY, sealing(content, 0, SHA256, special)), (CSSLOT_ENTITLEMENTS, blob)])
+
+
+def special_blobs(out: BinaryIO, mebibytes: int) -> str:
+    blob = struct.pack(">2I", CSMAGIC_REQUIREMENTS, BLOB_SIZE)
+    size = len(code_directory(PAGE, kind=SHA256, special=[SHA256.of(blob)]))
+    left = mebibytes * MIB - SUPERBLOB_SIZE - (BLOB_INDEX_SIZE + size) * len(DIRECTORY_SLOTS)
+    others = [(CSSLOT_INFOSLOT, blob)] * (left // (BLOB_INDEX_SIZE + BLOB_SIZE))
+    return sealed(out, PAGE, lambda content: [
+        (slot, sealing(content, 0, SHA256, [SHA256.of(blob)])) for slot in DIRECTORY_SLOTS] + others)
 
 
 def with_other_symbols(out: BinaryIO, entries: Iterable[tuple[int, ...]], count: int, strings: Iterable[bytes],
@@ -916,6 +997,8 @@ SIZED = {
     "blobs": blobs,
     "directories": directories,
     "identifier": long_identifier,
+    "entitlements": entitlements,
+    "specials": special_blobs,
     "undefined": undefined,
     "aliases": aliases,
     "relocations": relocations,
@@ -949,6 +1032,11 @@ def maker(name: str) -> Callable[[BinaryIO], str]:
         return partial(encrypted, count=size, order=order)
     if kind == "rebases":
         return partial(rebases, count=size, by_one=order == "one")
+    if kind == "sealed":
+        kinds = (SHA256, SHA1) if words[1:] == ["both"] else (SHA256,)
+        return partial(sealed_pages, limit=size * MIB, page_bits=int(words[0]), kinds=kinds)
+    if kind == "pages":
+        return partial(sealed_pages, limit=size << 8, page_bits=8, kinds=(SHA256,))
     if kind == "starts":
         return partial(function_starts, count=size, order=order)
     if kind == "dice":
@@ -1001,29 +1089,96 @@ class Vector(NamedTuple):
     wanted: str
     # Whether the verdict is that of the strict profile.
     is_strict: bool = False
-    # Whether it is that of the linked profile.
+    # Whether it is that of the linked profile, or of the sealed one.
     is_linked: bool = False
+    is_sealed: bool = False
     # The lines `cut` and `field ..` after it.
     mutations: tuple[str, ...] = ()
 
 
-def word_bytes(word: str, pieces: dict[str, bytes]) -> bytes:
+class Hash(NamedTuple):
+    """A hash that stands at a place, of the bytes of the file from `start` up to `end`. One of its bytes may be
+    another."""
+
+    place: int
+    kind: HashKind
+    start: int
+    end: int
+    changed: int | None = None
+
+    def of(self, data: bytes) -> bytes:
+        content = bytearray(self.kind.of(data[self.start:self.end]))
+        if self.changed is not None:
+            content[self.changed] ^= 0xFF
+        return bytes(content)
+
+    def is_of(self, other: Hash) -> bool:
+        """Whether it is of bytes of another hash, or of its own."""
+        return other.place < self.end and self.start < other.place + other.kind.size
+
+
+class Piece(NamedTuple):
+    """The bytes of some words, with zeros in place of the hashes."""
+
+    content: bytes
+    hashes: tuple[Hash, ...] = ()
+
+
+def joined(pieces: Iterable[Piece]) -> Piece:
+    parts, hashes, size = [], [], 0
+    for piece in pieces:
+        hashes += (it._replace(place=size + it.place) for it in piece.hashes)
+        parts.append(piece.content)
+        size += len(piece.content)
+    return Piece(b"".join(parts), tuple(hashes))
+
+
+HASH_WORD = re.compile(r"(sha[a-z0-9-]+)\[0x([0-9a-f]+):0x([0-9a-f]+)(?::0x([0-9a-f]+))?\](?:\^(\d+))?")
+
+
+def read_hashes(match: re.Match[str]) -> Piece:
+    """The hash of some bytes, or of each page of them."""
+    kind = HASH_KINDS[match[1]]
+    start, end = int(match[2], 16), int(match[3], 16)
+    page = int(match[4], 16) if match[4] else max(end - start, 1)
+    changed = int(match[5]) if match[5] else None
+    starts = range(start, max(end, start + 1), page)
+    return joined(Piece(bytes(kind.size), (Hash(0, kind, it, min(it + page, end), changed),)) for it in starts)
+
+
+def read_word(word: str, pieces: dict[str, Piece]) -> Piece:
     if "*" in word and not word.startswith('"'):
         times, word = word.split("*", 1)
-        return int(times) * word_bytes(word, pieces)
+        piece = read_word(word, pieces)
+        return joined(int(times) * [piece]) if piece.hashes else Piece(int(times) * piece.content)
     if word.startswith("."):
-        return bytes(int(word[1:]))
+        return Piece(bytes(int(word[1:])))
     if word.startswith("$"):
         return pieces[word[1:]]
     if word.startswith('"'):
-        return word[1:-1].encode("ascii")
+        return Piece(word[1:-1].encode("ascii"))
+    hashed = HASH_WORD.fullmatch(word)
+    if hashed:
+        return read_hashes(hashed)
     if not re.fullmatch("([0-9a-f]{2})+", word):
         raise ValueError(f"not pairs of hexadecimal digits: {word}")
-    return bytes.fromhex(word)
+    return Piece(bytes.fromhex(word))
 
 
-def all_bytes(words: str, pieces: dict[str, bytes]) -> bytes:
-    return b"".join(word_bytes(word, pieces) for word in words.split())
+def read_words(words: str, pieces: dict[str, Piece]) -> Piece:
+    return joined(read_word(word, pieces) for word in words.split())
+
+
+def all_bytes(words: str, pieces: dict[str, Piece]) -> bytes:
+    """The bytes of the words of a file. No hash is of bytes that have a hash."""
+    content, hashes = read_words(words, pieces)
+    parts, place = [], 0
+    for it in hashes:
+        if it.end > len(content) or any(it.is_of(other) for other in hashes):
+            raise ValueError(f"a hash of 0x{it.start:x} up to 0x{it.end:x}")
+        parts += content[place:it.place], it.of(content)
+        place = it.place + it.kind.size
+    return b"".join((*parts, content[place:]))
 
 
 def without_comments(text: str) -> str:
@@ -1043,25 +1198,28 @@ def read_vectors(path: Path) -> list[Vector]:
     """The vectors of a file, each with a verdict and the lines that ask for mutants of it."""
     # A line that begins with a space goes on with the one before.
     text = without_comments(path.read_text(encoding="ascii")).replace("\n ", " ")
-    pieces: dict[str, bytes] = {}
+    pieces: dict[str, Piece] = {}
     vectors: list[Vector] = []
     chosen: list[Vector] = []
-    is_strict = is_linked = False
+    is_strict = is_linked = is_sealed = False
     for line in map(str.rstrip, text.split("\n")):
         if line == "strictly":
             is_strict = True
         elif line == "linked":
             is_linked = True
+        elif line == "sealed":
+            is_sealed = True
         elif line.startswith("let "):
             name, words = line[4:].split("=", 1)
-            pieces[name.strip()] = all_bytes(words, pieces)
+            pieces[name.strip()] = read_words(words, pieces)
         elif line == "cut" or line.startswith("field "):
             chosen = [vector._replace(mutations=(*vector.mutations, line)) for vector in chosen]
         elif line and not line.startswith("count "):
             vectors += chosen
             # A name may have colons, but none with a space before and after it.
             name, words, verdict = line.split(" : ", 2)
-            chosen = [Vector(name, all_bytes(choice, pieces), verdict, is_strict, is_linked) for choice in choices(words)]
+            chosen = [Vector(name, all_bytes(choice, pieces), verdict, is_strict, is_linked, is_sealed)
+                      for choice in choices(words)]
     return vectors + chosen
 
 

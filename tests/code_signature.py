@@ -3,6 +3,7 @@ big-endian. What it finds is compared with what the library gives."""
 
 from __future__ import annotations
 
+import hashlib
 from typing import Iterator, NamedTuple, Optional
 
 SUPERBLOB_MAGIC, DIRECTORY_MAGIC = 0xFADE0CC0, 0xFADE0C02
@@ -10,6 +11,12 @@ SUPERBLOB_SIZE, ENTRY_SIZE, BLOB_SIZE = 12, 8, 8
 # From which version on a code directory has fields of so many bytes.
 FIELDS_SIZES = ((0x20600, 108), (0x20500, 96), (0x20400, 88), (0x20300, 64), (0x20200, 52), (0x20100, 48), (0x20000, 44))
 HAS_SCATTER, HAS_TEAM, HAS_LIMIT_64 = 0x20100, 0x20200, 0x20300
+# The slots of code directories.
+DIRECTORY_SLOTS = (0, 0x1000, 0x1001, 0x1002, 0x1003, 0x1004)
+# By the type of its hashes: the word, the function, and how many bytes a hash has.
+HASHES = {1: ("sha1", hashlib.sha1, 20), 2: ("sha256", hashlib.sha256, 32),
+          3: ("sha256-truncated", hashlib.sha256, 20), 4: ("sha384", hashlib.sha384, 48)}
+CDHASH_SIZE = 20
 
 
 class Blob(NamedTuple):
@@ -20,7 +27,8 @@ class Blob(NamedTuple):
 
 
 class Directory(NamedTuple):
-    """A code directory: its texts, its hashes, and its numbers in the order of kesvuot.h."""
+    """A code directory: its blob, its texts, its hashes, and its numbers in the order of kesvuot.h."""
+    content: bytes
     identifier: bytes
     team: bytes
     hashes: bytes
@@ -82,6 +90,12 @@ def read_directory(blob: bytes) -> Optional[Directory]:
     special_size = special_slots * hash_size
     limit = number(blob, 56, 8) if version >= HAS_LIMIT_64 else 0
     return Directory(
-        text_at(blob, number(blob, 20)), text_at(blob, number(blob, 48) if version >= HAS_TEAM else 0),
+        blob, text_at(blob, number(blob, 20)), text_at(blob, number(blob, 48) if version >= HAS_TEAM else 0),
         part_of(blob, hashes, code_slots * hash_size), part_of(blob, hashes - special_size, special_size),
         limit or number(blob, 32), version, number(blob, 12), code_slots, special_slots, hash_size, blob[37], blob[39])
+
+
+def digest_of(directory: Directory) -> Optional[bytes]:
+    """The hash of a code directory by its own type, or None if that is not known."""
+    _, function, size = HASHES.get(directory.hash_type, ("", None, 0))
+    return function(directory.content).digest()[:size] if function else None

@@ -4,7 +4,9 @@ under watch. tests/dyld calls it, and says how.
 
 It judges the vectors of tests/linked.txt by hand and by tests/oracle.py --linked, and then files and mutants of their
 tables by the oracle alone. Each image that the oracle accepts is loaded, and the promise of docs/LINKED.md has to hold.
-Mutant N of a seed is always the same. For each case it prints a line of three texts with tabs between them: the case,
+With --sealed the vectors are those of tests/sealed.txt, the mutants those of tests/seal_mutants.py, and the promise is
+that of docs/SEALED.md: each signature is read, and each hash is compared. Nothing else is refused there: on each file that
+breaks a rule of docs/SEALED.md alone, the reader has to find what is wrong. Mutant N of a seed is always the same. For each case it prints a line of three texts with tabs between them: the case,
 what was found, and what is wanted.
 """
 
@@ -23,21 +25,29 @@ from pathlib import Path
 sys.dont_write_bytecode = True
 import plain_dyld
 import plain_reader
+import seal_mutants
 import table_mutants
+from support.files import signed_image
 
 TOP = Path(__file__).resolve().parent.parent
 sys.path.insert(0, os.path.join(TOP, "bench"))
 from images import read_count, read_vectors  # pylint: disable=wrong-import-position
 
-VECTORS = TOP / "tests" / "linked.txt"
 REAL = TOP / "tests" / "real"
 BATCH = 200
 SHOWN = 20
 # A file is mutated up to this length: of a longer one most of the time is the layout's.
 MOST_BYTES = 200_000
 
+# What is judged: the name, the vectors, what is done with an image, the name of the rules in the oracle, those of them
+# without which no vector breaks the promise, the change of a mutant, what of a file can be changed, and the case of files
+# that are wrongly judged. Where `is_exact` is true all files that keep the promise are accepted.
+Profile = namedtuple("Profile", "name vectors load rules unneeded change parts wrong is_exact")
+
 # The oracle, which is loaded first.
 oracle = None
+# The profile, which is known then.
+profile = None
 
 # Of a file: its verdict, how many writes there were to each stream, and the breach, or None.
 Loaded = namedtuple("Loaded", "verdict writes breach")
@@ -49,22 +59,37 @@ def load_module(path):
     return module
 
 def verdict_on(data):
-    status, out, _ = oracle.check(data, "linked")
+    status, out, _ = oracle.check(data, profile.name)
     return "accepted" if status == 0 else out.rstrip("\n")
 
 def load(data):
-    """The verdict on a file, and what happens where it is loaded, accepted or not."""
+    """The verdict on a file, and what happens where it is loaded. That nothing does is the breach of a file that should be
+    accepted."""
     verdict = verdict_on(data)
-    return load_judged(data, verdict) if verdict == "accepted" else Loaded(verdict, Counter(), None)
+    if verdict == "accepted":
+        return load_judged(data, verdict)
+    is_needless = (profile.is_exact and rule_of(verdict) in names_of_rules()
+                   and load_judged(data, verdict).breach is None)
+    return Loaded(verdict, Counter(), "nothing is wrong" if is_needless else None)
+
+def load_linked(image):
+    """Loads an image, and reads what else it has. The streams of the writes are the result."""
+    streams = [write.stream for write in plain_dyld.load(image)]
+    plain_reader.read(image)
+    return streams
+
+def read_sealed(image):
+    """Compares the hashes of an image, which writes nothing."""
+    plain_reader.read_seal(image)
+    return []
 
 def load_judged(data, verdict):
-    """Loads all images of a file that breaks no rule of the strict profile, and reads their signatures."""
+    """Loads all images of a file that breaks no rule of the profile before, or compares their hashes."""
     writes = Counter()
     try:
         for image in oracle.File(data).slices:
             if image.is_64_bit:
-                writes.update(write.stream for write in plain_dyld.load(image))
-                plain_reader.read(image)
+                writes.update(profile.load(image))
     except plain_dyld.Breach as breach:
         return Loaded(verdict, writes, str(breach))
     return Loaded(verdict, writes, None)
@@ -91,15 +116,24 @@ class Report:
             Path(path).write_bytes(data)
             print("%s: %s, but %s" % (path, loaded.verdict, loaded.breach), file=sys.stderr)
 
-def names_of(rules):
-    return [rule.__name__.replace("_", "-") for rule in rules]
+PROFILES = {
+    "linked": Profile("linked", TOP / "tests" / "linked.txt", load_linked, "LINKED_RULES_OF_AN_IMAGE",
+                      ["function-variants"], table_mutants.change, table_mutants.tables,
+                      "accepted %s that break the promise", False),
+    "sealed": Profile("sealed", TOP / "tests" / "sealed.txt", read_sealed, "SEALED_RULES_OF_AN_IMAGE",
+                      [], seal_mutants.change, seal_mutants.signatures,
+                      "%s on which the reader says something else", True),
+}
+
+def names_of_rules():
+    return [rule.__name__.replace("_", "-") for rule in getattr(oracle, profile.rules)]
 
 def judge_vectors(report):
     """Each has its verdict by hand. Where it is accepted, the promise holds. Each rule is the first broken one of
     some; and of each rule but those that say what a number means, there is one on which the loader goes astray."""
-    vectors = read_vectors(VECTORS)
-    report.case("how many vectors there are", sum(vector.is_linked for vector in vectors), read_count(VECTORS)[0])
-    rules, astray = Counter(), Counter()
+    vectors = read_vectors(profile.vectors)
+    report.case("how many vectors there are", len(vectors), read_count(profile.vectors)[0])
+    names, rules, astray = names_of_rules(), Counter(), Counter()
     right = breaches = 0
     for vector in vectors:
         verdict = verdict_on(vector.data)
@@ -108,25 +142,25 @@ def judge_vectors(report):
         else:
             print("%s: %s, not %s" % (vector.name, verdict, vector.wanted), file=sys.stderr)
         rules[rule_of(verdict)] += 1
-        if verdict != "accepted" and rule_of(verdict) not in names_of(oracle.LINKED_RULES_OF_AN_IMAGE):
+        if verdict != "accepted" and rule_of(verdict) not in names:
             continue
         loaded = load_judged(vector.data, verdict)
         astray[rule_of(verdict)] += loaded.breach is not None
-        if verdict == "accepted" and loaded.breach is not None:
+        if load(vector.data).breach is not None:
             breaches += 1
             report.breach(vector.name, vector.data, loaded)
     report.case("vectors with the verdict by hand", right, len(vectors))
-    report.case("accepted vectors that break the promise", breaches, 0)
-    linked = names_of(oracle.LINKED_RULES_OF_AN_IMAGE)
-    report.case("rules that no vector breaks first", [rule for rule in linked if not rules[rule]], [])
-    report.case("rules without which no vector breaks the promise", [rule for rule in linked if not astray[rule]],
-                ["function-variants"])
+    report.case(profile.wrong % "vectors", breaches, 0)
+    report.case("rules that no vector breaks first", [rule for rule in names if not rules[rule]], [])
+    report.case("rules without which no vector breaks the promise", [rule for rule in names if not astray[rule]],
+                profile.unneeded)
 
 def read_files(folders):
     paths = [REAL / "program", REAL / "library"]
     for folder in folders:
         paths += sorted(path for path in Path(folder).iterdir() if path.is_file())
-    return [(path.name, path.read_bytes()) for path in paths]
+    files = [(path.name, path.read_bytes()) for path in paths]
+    return files + [("the signed slice", signed_image())] * (profile.name == "sealed")
 
 def judge_files(report, files):
     """Each file that breaks no rule of the strict profile is loaded, or its fault is said."""
@@ -146,7 +180,7 @@ def judge_files(report, files):
     for fault in faults:
         print(fault, file=sys.stderr)
     print("of %d files: %s. Writes: %s" % (sum(kinds.values()), listed(kinds), listed(writes)), file=sys.stderr)
-    report.case("accepted files that break the promise", breaches, 0)
+    report.case(profile.wrong % "files", breaches, 0)
 
 def listed(counts):
     return ", ".join("%d %s" % (number, kind) for kind, number in counts.most_common()) or "none"
@@ -156,7 +190,7 @@ def mutant(seed, number, corpus):
     rng = random.Random("%d %d" % (seed, number))
     before = data = rng.choice(corpus)
     for _ in range(rng.choice((1, 1, 1, 1, 2, 2, 3, 5))):
-        data = table_mutants.change(rng, data)
+        data = profile.change(rng, data)
     return data, data != before
 
 # What is set before the processes begin, and is the same in all of them.
@@ -186,12 +220,12 @@ def judge_mutants(report, count, jobs):
                 report.breach("mutant %d of seed %d" % (number, work.seed), data, loaded)
     print("%d mutants of %d files: %s. Writes: %s" % (count, len(work.corpus), listed(kinds), listed(writes)),
           file=sys.stderr)
-    report.case("accepted mutants that break the promise", breaches, 0)
+    report.case(profile.wrong % "mutants", breaches, 0)
     report.case("some mutants are accepted, and are not the same", kinds["accepted"] > count // 50, True)
 
 def find_breach(count):
     """Loads the accepted vectors and then the mutants, up to the first one that breaks the promise."""
-    for vector in read_vectors(VECTORS):
+    for vector in read_vectors(profile.vectors):
         if load(vector.data).breach is not None:
             return "the vector '%s'" % vector.name
     for number in range(count):
@@ -200,8 +234,10 @@ def find_breach(count):
     return None
 
 def main():
-    global oracle, work  # pylint: disable=global-statement
+    global oracle, profile, work  # pylint: disable=global-statement
     parser = argparse.ArgumentParser(prog="tests/dyld")
+    parser.add_argument("--sealed", dest="profile", action="store_const", const="sealed", default="linked",
+                        help="the sealed profile")
     parser.add_argument("--seed", type=int, default=1, help="of the mutants; 1 otherwise")
     parser.add_argument("--count", type=int, default=3000, help="of the mutants; 3000 otherwise")
     parser.add_argument("--jobs", type=int, default=2, help="how many processes; 2 otherwise")
@@ -212,12 +248,12 @@ def main():
     parser.add_argument("folders", nargs="*", help="folders of other files, which are judged and mutated as well")
     words = parser.parse_args()
     began = time.monotonic()
-    oracle = load_module(words.oracle)
+    oracle, profile = load_module(words.oracle), PROFILES[words.profile]
     report = Report(words.keep)
     files = read_files(words.folders)
-    corpus = [data for _, data in files if len(data) <= MOST_BYTES] + [v.data for v in read_vectors(VECTORS)]
+    corpus = [data for _, data in files if len(data) <= MOST_BYTES] + [v.data for v in read_vectors(profile.vectors)]
     work = argparse.Namespace(
-        seed=words.seed, corpus=[data for data in corpus if table_mutants.tables(data)
+        seed=words.seed, corpus=[data for data in corpus if profile.parts(data)
                                  and rule_of(verdict_on(data)) in ("accepted", "rebase-total", "bind-total")])
     if words.first:
         print("the first breach: %s" % find_breach(words.count), file=sys.stderr)

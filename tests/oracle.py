@@ -2,12 +2,13 @@
 """A second verifier of the layout of Mach-O files. It was written from docs/RULES.md, and from docs/COMMAND.md for what is
 printed. It reads the filetypes and the listed commands in the tables of docs/RULES.md. Nothing was taken from the
 sources of the first one. tests/oracle compares the two. It also judges the rules of docs/LINKED.md, as macho-linked
-does; tests/dyld loads what it accepts.
+does, and those of docs/SEALED.md, as macho-sealed does; tests/dyld loads what it accepts.
 
     tests/oracle.py FILE                        prints what `macho-check check FILE` prints, and ends with its status
     tests/oracle.py where FILE SLICE ADDRESS    the same of `macho-check where FILE SLICE ADDRESS`
     tests/oracle.py --strict FILE               the same of `macho-strict check FILE`
     tests/oracle.py --linked FILE               the same of `macho-linked check FILE`
+    tests/oracle.py --sealed FILE               the same of `macho-sealed check FILE`
 
 It is written to be read beside docs/RULES.md, and has the same order. A rule is a function with its name. It yields
 each place at which the rule is broken. `first_broken` takes the rules one after the other, and of the first one that
@@ -16,6 +17,7 @@ whole numbers without a limit, so no sum wraps. Offsets and widths are in bytes.
 """
 
 import bisect
+import hashlib
 import os
 import re
 import sys
@@ -212,16 +214,25 @@ THREADS = (LC_THREAD, LC_UNIXTHREAD)
 # The kinds of data in code, from DICE_KIND_DATA up to and including DICE_KIND_ABS_JUMP_TABLE32.
 DICE_KINDS = range(1, 6)
 
-# Of code signatures: the magic numbers; the slots of directories, of which there can be five alternate ones; the least
-# version, and how many bytes the fields have of a version and of those up to the next; the versions from which some of
-# the fields are there; the bytes of a hash, by its type; and the greatest logarithm of a page's bytes.
+# Of code signatures: the magic numbers; the slots of directories, of which there can be five alternate ones, and the
+# special slots; the least version, and how many bytes the fields have of a version and of those up to the next; the
+# versions from which some of the fields are there; the bytes of a hash, by its type, and its name and how it is made; the
+# greatest logarithm of a page's bytes; and how many bytes of the hash of a directory are printed.
 CSMAGIC_EMBEDDED_SIGNATURE, CSMAGIC_CODEDIRECTORY = 0xfade0cc0, 0xfade0c02
 DIRECTORY_SLOTS = (0, *range(0x1000, 0x1005))
+SPECIAL_SLOTS = range(1, 0x1000)
 LEAST_VERSION = 0x20000
 FIELDS_SIZES = {0: 44, 0x20100: 48, 0x20200: 52, 0x20300: 64, 0x20400: 88, 0x20500: 96, 0x20600: 108}
 CS_SUPPORTSSCATTER, CS_SUPPORTSTEAMID, CS_SUPPORTSCODELIMIT64 = 0x20100, 0x20200, 0x20300
 HASH_SIZES = {1: 20, 2: 32, 3: 20, 4: 48}
+HASHES = {
+    1: ("sha1", hashlib.sha1),
+    2: ("sha256", hashlib.sha256),
+    3: ("sha256-truncated", hashlib.sha256),
+    4: ("sha384", hashlib.sha384),
+}
 GREATEST_PAGE_SIZE = 31
+CS_CDHASH_LEN = 20
 
 # The byte that Apple's linker fills the gaps of code with.
 NOP = b"\x90"
@@ -1536,15 +1547,18 @@ def signature_blob(image):
             yield entry.place
             return
 
-def directories(image):
-    """The blobs of directories: of each the place of its entry, and where it begins and ends. (After `signature-blob`
-    each is in the table.)"""
+def blobs(image):
+    """The blobs of the signature, if there is one: of each its slot, the place of its entry, and where it begins and
+    ends. (After `signature-blob` each is in the table.)"""
     table = table_of(image, "signature")
     for entry in signature_index(image, table) if table else []:
-        if entry.type in DIRECTORY_SLOTS:
-            start = table.start + entry.offset
-            blob = read(image.data, start, "CS_GenericBlob", "big")
-            yield SimpleNamespace(entry=entry.place, start=start, end=start + blob.length)
+        start = table.start + entry.offset
+        length = read(image.data, start, "CS_GenericBlob", "big").length
+        yield SimpleNamespace(slot=entry.type, entry=entry.place, start=start, end=start + length)
+
+def directories(image):
+    """The blobs of directories."""
+    return [blob for blob in blobs(image) if blob.slot in DIRECTORY_SLOTS]
 
 def read_directory(image, blob):
     """The fields of a directory that its version has; or None if the blob is shorter than these."""
@@ -1787,6 +1801,62 @@ def command_content(image):
         elif command.cmd in HELD_COMMANDS and not has_good_content(image, command):
             yield command.place
 
+# The sealed profile of docs/SEALED.md. Its rules may take for granted that all above are unbroken as well.
+
+def signature_missing(image):
+    """There is no signature with a directory of slot 0."""
+    if all(blob.slot != DIRECTORY_SLOTS[0] for blob in blobs(image)):
+        yield 0
+
+def directory_repeated(image):
+    """The entry has the slot of an earlier one, and it is a slot of directories."""
+    earlier = set()
+    for blob in directories(image):
+        if blob.slot in earlier:
+            yield blob.entry
+        earlier.add(blob.slot)
+
+def signature_slack(image):
+    """A byte from the start of the signature up to the end of the image, which is not zero, lies neither in the
+    superblob's header or its index nor in a blob."""
+    table = table_of(image, "signature")
+    if table is None:
+        return
+    head = SIZES["CS_SuperBlob"] + SIZES["CS_BlobIndex"] * len(signature_index(image, table))
+    ranges = [(0, head)] + [(blob.start - table.start, blob.end - blob.start) for blob in blobs(image)]
+    for offset in first_stray(image.data[table.start:], ranges):
+        yield table.start + offset
+
+def signed_pages(directory):
+    """Where each page of a directory begins and ends. `pageSize` 0 is one page for all."""
+    limit = limit_of(directory)
+    size = 2 ** directory.pageSize if directory.pageSize > 0 else limit
+    return [(start, min(start + size, limit)) for start in range(0, limit, size)]
+
+def hash_in(image, blob, directory, slot):
+    """The hash in a slot of a directory. The special slots are those below 0."""
+    place = blob.start + directory.hashOffset + slot * directory.hashSize
+    return image.data[place:place + directory.hashSize]
+
+def hash_of(image, directory, start, end):
+    """The hash of some bytes, of the directory's type."""
+    _, function = HASHES[directory.hashType]
+    return function(image.data[start:end]).digest()[:directory.hashSize]
+
+def signature_hash(image):
+    """The hash of the page is not the one in its slot; or the directory has no slot for the blob of a special slot, or
+    another hash there."""
+    for blob in directories(image):
+        directory = read_directory(image, blob)
+        for slot, (start, end) in enumerate(signed_pages(directory)):
+            if hash_of(image, directory, start, end) != hash_in(image, blob, directory, slot):
+                yield start
+        for special in blobs(image):
+            if special.slot in SPECIAL_SLOTS:
+                if (special.slot > directory.nSpecialSlots or hash_of(image, directory, special.start, special.end)
+                        != hash_in(image, blob, directory, -special.slot)):
+                    yield special.start
+
 # Order of judgment
 
 RULES_OF_THE_FILE = [
@@ -1813,6 +1883,7 @@ LINKED_RULES_OF_AN_IMAGE = [
     symbol_library, symbol_value, symbol_indirect, relocation,
     thread, command_content,
 ]
+SEALED_RULES_OF_AN_IMAGE = [signature_missing, directory_repeated, signature_slack, signature_hash]
 
 def first_of(file, rules_of_the_file, rules_of_an_image):
     """The first broken one of these rules, by name, and the least place in the file at which it is broken; or None."""
@@ -1840,8 +1911,13 @@ def first_linked_broken(file):
     """The same with the linked profile, which is judged where no rule of the other two is broken."""
     return first_strictly_broken(file) or first_of(file, [], LINKED_RULES_OF_AN_IMAGE)
 
+def first_sealed_broken(file):
+    """The same with the sealed profile, which is judged where no rule of the other three is broken."""
+    return first_linked_broken(file) or first_of(file, [], SEALED_RULES_OF_AN_IMAGE)
+
 # What is judged by each profile: it too, and all before it.
-PROFILES = {"layout": first_broken, "strict": first_strictly_broken, "linked": first_linked_broken}
+PROFILES = {"layout": first_broken, "strict": first_strictly_broken, "linked": first_linked_broken,
+            "sealed": first_sealed_broken}
 
 # The layout, as docs/COMMAND.md has its lines
 
@@ -1916,12 +1992,21 @@ def image_lines(image):
     main_command = image.only(LC_MAIN)
     yield "  entry none" if main_command is None else "  entry 0x%x" % (image.base + main_command.entryoff)
 
-def layout(file):
+def cdhash_lines(image):
+    """Each directory by the first bytes of its hash, which is of its own type."""
+    for blob in directories(image):
+        directory = read_directory(image, blob)
+        word, _ = HASHES[directory.hashType]
+        yield "  cdhash %s %s" % (word, hash_of(image, directory, blob.start, blob.end)[:CS_CDHASH_LEN].hex())
+
+def layout(file, profile):
     yield "accepted, slices %d" % len(file.slices)
     for index, image in enumerate(file.slices):
         yield slice_line(index, image)
         if image.is_64_bit:
             yield from image_lines(image)
+            if profile == "sealed":
+                yield from cdhash_lines(image)
 
 # The answers: a status, what is written to standard output, and what is written to standard error
 
@@ -1930,7 +2015,7 @@ def check(data, profile="layout"):
     broken = PROFILES[profile](file)
     if broken is not None:
         return 1, "refused: %s at 0x%x\n" % broken, ""
-    return 0, "".join(line + "\n" for line in layout(file)), ""
+    return 0, "".join(line + "\n" for line in layout(file, profile)), ""
 
 def at_address(image, address):
     """What is at an address: at most one segment of an image that breaks no rule has it."""
@@ -1958,16 +2043,17 @@ def number(word):
     return None
 
 def answer(words):
-    """The answer to the words of a call: FILE, `--strict` or `--linked` FILE, or `where` FILE SLICE ADDRESS."""
+    """The answer to the words of a call: FILE, one of the further profiles and FILE, or `where` FILE SLICE ADDRESS."""
     is_where = len(words) == 4 and words[0] == "where"
-    is_further = len(words) == 2 and words[0] in ("--strict", "--linked")
+    is_further = len(words) == 2 and words[0] in ("--strict", "--linked", "--sealed")
     if not is_where and not is_further and len(words) != 1:
-        return 2, "", "usage: oracle.py FILE | --strict FILE | --linked FILE | where FILE SLICE ADDRESS\n"
+        usage = "usage: oracle.py FILE | --strict FILE | --linked FILE | --sealed FILE | where FILE SLICE ADDRESS\n"
+        return 2, "", usage
     if is_where and (number(words[2]) is None or number(words[3]) is None):
         return 2, "", "macho-check: bad number\n"
     path = words[0] if len(words) == 1 else words[1]
     profile = words[0].replace("--", "") if is_further else "layout"
-    program = {"layout": "macho-check", "strict": "macho-strict", "linked": "macho-linked"}[profile]
+    program = words[0].replace("--", "macho-") if is_further else "macho-check"
     try:
         with sys.stdin.buffer if path == "-" else open(path, "rb") as stream:
             data = stream.read()

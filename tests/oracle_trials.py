@@ -7,8 +7,9 @@ case it prints a line of three texts with tabs between them: the case, what was 
 disagreement it prints both answers on standard error, and keeps the file.
 
 With --strict the verdicts are those of the strict profile, and the program is macho-strict; with --linked those of the
-linked profile, of macho-linked, with the vectors of tests/linked.txt and mutants of tables as well. These programs have
-no `where`, so nothing is asked of addresses.
+linked profile, of macho-linked, with the vectors of tests/linked.txt and mutants of tables as well; with --sealed those
+of the sealed profile, of macho-sealed, with the vectors of tests/sealed.txt and mutants of sealed files as well. These
+programs have no `where`, so nothing is asked of addresses.
 """
 
 import argparse
@@ -25,14 +26,16 @@ from collections import Counter, namedtuple
 from pathlib import Path
 
 sys.dont_write_bytecode = True
+import seal_mutants
 import table_mutants
+from support.files import signed_image
 
 TOP = os.path.dirname(os.path.dirname(os.path.abspath(__file__)))
 sys.path.insert(0, os.path.join(TOP, "bench"))
 from images import read_count, read_reports, read_vectors  # pylint: disable=wrong-import-position
 
 DATA = os.path.join(TOP, "crates", "macho_trials", "data")
-LINKED = Path(TOP, "tests", "linked.txt")
+LINKED, SEALED = Path(TOP, "tests", "linked.txt"), Path(TOP, "tests", "sealed.txt")
 REAL = os.path.join(TOP, "tests", "real")
 BATCH = 50
 SHOWN = 20
@@ -265,19 +268,39 @@ def change_table(rng, data, _):
     """A table of linked data is changed, or what it depends on."""
     return table_mutants.change(rng, data)
 
+def change_seal(rng, data, _):
+    """A signature is changed, or what it has hashes of, and mostly the hashes are made again."""
+    return seal_mutants.change(rng, data)
+
+def seal(_rng, data, _):
+    """The hashes are made again."""
+    return seal_mutants.seal(data)
+
 # With how often each is taken; and the ways that are taken as well where a further profile is judged.
 WAYS = {set_field: 65, set_range: 8, cut: 5, splice: 8, exchange: 6, add_command: 8, wrap: 6, set_magic: 1}
 STRICT_WAYS = {append: 10, set_byte: 20, repeat_range: 30}
 LINKED_WAYS = {change_table: 300}
-WAYS_OF = {"layout": WAYS, "strict": {**WAYS, **STRICT_WAYS}, "linked": {**WAYS, **STRICT_WAYS, **LINKED_WAYS}}
-CRATES = {"layout": "macho_check", "strict": "macho_strict_check", "linked": "macho_linked_check"}
+SEALED_WAYS = {change_table: 50, seal: 200, change_seal: 900}
+WAYS_OF = {"layout": WAYS, "strict": {**WAYS, **STRICT_WAYS}, "linked": {**WAYS, **STRICT_WAYS, **LINKED_WAYS},
+           "sealed": {**WAYS, **STRICT_WAYS, **SEALED_WAYS}}
+CRATES = {"layout": "macho_check", "strict": "macho_strict_check", "linked": "macho_linked_check",
+          "sealed": "macho_sealed_check"}
+# For the sealed profile a file with a signature is changed so many times as often as another.
+OFTEN = 20
 
-def weight(data, is_accepted):
+def weight(data, is_accepted, profile):
     """How often a file is changed. An accepted one says more then, or one that the strict profile alone refuses, and so
     does one with many commands. A long file with hundreds of them takes long, and says no more."""
     if len(data) > 50000:
         return 1
-    return (8 if is_accepted else 1) * (1 + sum(min(len(commands(data, start)), 20) for start in images(data)))
+    often = OFTEN if profile == "sealed" and seal_mutants.signatures(data) else 1
+    return often * (8 if is_accepted else 1) * (1 + sum(min(len(commands(data, start)), 20) for start in images(data)))
+
+def says_more(vector, profile):
+    """Whether a vector is accepted, or one that only the profile or one before it refuses."""
+    if profile == "sealed":
+        return vector.wanted in ("accepted", "") or vector.is_sealed
+    return vector.wanted == "accepted" or vector.is_strict or vector.is_linked
 
 def mutant(seed, number, corpus, weights, ways):
     """Mutant NUMBER of a seed: a file of the corpus, changed up to five times. And the random numbers that follow."""
@@ -432,8 +455,10 @@ def read_all_vectors(profile):
     files = [(path, read_vectors(path)) for path in sorted(Path(DATA).glob("*.txt"))]
     if profile == "layout":
         return [(path, vectors) for path, vectors in files if not vectors[0].is_strict]
-    if profile == "linked":
+    if profile in ("linked", "sealed"):
         files.append((LINKED, read_vectors(LINKED)))
+    if profile == "sealed":
+        files.append((SEALED, read_vectors(SEALED)))
     return [(path, vectors if is_whole(path, profile) else list(map(without_acceptance, vectors)))
             for path, vectors in files]
 
@@ -464,8 +489,10 @@ def judge_vectors(report, oracle, program, profile):
     rules = oracle.RULES_OF_THE_FILE + oracle.RULES_OF_AN_IMAGE
     if profile != "layout":
         rules += oracle.STRICT_RULES_OF_THE_FILE + oracle.STRICT_RULES_OF_AN_IMAGE
-    if profile == "linked":
+    if profile in ("linked", "sealed"):
         rules += oracle.LINKED_RULES_OF_AN_IMAGE
+    if profile == "sealed":
+        rules += oracle.SEALED_RULES_OF_AN_IMAGE
     unbroken = " ".join({rule.__name__.replace("_", "-") for rule in rules} - set(seen))
     report.case("rules that no vector breaks first", unbroken or "none", "none")
 
@@ -522,13 +549,50 @@ ADDRESSES = [
     ("library", "2", "0x0", "macho-check: no such image"),
 ]
 
-def judge_real(report, oracle, program):
+# What the sealed profile says of the real files.
+UNSIGNED = {"program": b"refused: signature-missing at 0x0\n", "library": b"refused: signature-missing at 0x30\n"}
+
+def judge_real(report, oracle, program, profile):
     questions = []
     for name, data, layout in read_real():
         questions.append(Question("the real " + name, data, "check", ()))
-        is_same = oracle_answer(oracle, questions[-1]) == (0, layout)
-        report.case("the layout of the real %s, by hand" % name, "the same" if is_same else "another", "the same")
+        wanted = (1, UNSIGNED[name]) if profile == "sealed" else (0, layout)
+        is_same = oracle_answer(oracle, questions[-1]) == wanted
+        report.case("the answer to the real %s, by hand" % name, "the same" if is_same else "another", "the same")
     report.agreeing("the real files", compare(oracle, program, questions).differences, len(questions), "answers")
+
+# Signed files: the name of a vector, the bytes of its pages, and where its code is.
+SMALL_FILES = (("48 pages of 8 bytes", 8, range(0x110, 0x180)), ("the file as it was", 0x80, range(0x110, 0x180)),
+               ("two directories, with pages of two sizes", 0x80, range(0x110, 0x180)))
+# The same of the real slice that is signed; each so many bytes, and those beside where pages begin and end.
+REAL_PAGE, REAL_CODE, REAL_LIMIT, REAL_STEP = 0x1000, range(0x2a0, 0x2a8), 0x4060, 41
+
+def files_of_one_byte():
+    """Signed files of which one byte before the signature has changed: of each the place of this byte, the file, where
+    the page of the byte begins, and whether the byte is one of the code."""
+    vectors = {vector.name: vector.data for vector in reversed(read_vectors(SEALED))}
+    for name, page, code in SMALL_FILES:
+        for place in range(code.stop):
+            yield "byte 0x%x of '%s'" % (place, name), vectors[name], place, page, place in code
+    real = signed_image()
+    near = {start + offset for start in range(0, REAL_LIMIT, REAL_PAGE) for offset in (-1, 0, 1)}
+    for place in sorted({*range(0, REAL_LIMIT, REAL_STEP), *REAL_CODE, *near, REAL_LIMIT - 1} & set(range(REAL_LIMIT))):
+        yield "byte 0x%x of the real slice" % place, real, place, REAL_PAGE, place in REAL_CODE
+
+def judge_bytes(report, oracle, program):
+    """Each byte before a signature is changed alone. Its page is reported, if no rule of the linked profile is broken
+    then, as is so of all bytes of code."""
+    questions, wanted, code = [], [], 0
+    for name, data, place, page, is_code in files_of_one_byte():
+        changed = data[:place] + bytes((data[place] ^ 1,)) + data[place + 1:]
+        broken = oracle.first_linked_broken(oracle.File(changed)) or ("signature-hash", place - place % page)
+        questions.append(Question(name, changed, "check", ()))
+        wanted.append((1, b"refused: %s at 0x%x\n" % (broken[0].encode(), broken[1])))
+        code += is_code and broken[0] == "signature-hash"
+    answers = program_answers(program, questions)
+    differences = [Difference(*row) for row in zip(questions, wanted, answers) if row[1] != row[2]]
+    report.agreeing("files with one other byte", differences, len(questions), "answers")
+    report.case("bytes of code, whose page is reported", code, len(SMALL_FILES) * 0x70 + len(REAL_CODE))
 
 def judge_addresses(report, oracle, program):
     files = {name: data for name, data, _ in read_real()}
@@ -584,6 +648,8 @@ def main():
                         help="the strict profile, and macho-strict")
     parser.add_argument("--linked", dest="profile", action="store_const", const="linked",
                         help="the linked profile, and macho-linked")
+    parser.add_argument("--sealed", dest="profile", action="store_const", const="sealed",
+                        help="the sealed profile, and macho-sealed")
     parser.add_argument("--seed", type=int, default=1, help="of the mutants; 1 otherwise")
     parser.add_argument("--count", type=int, default=3000, help="of the mutants; 3000 otherwise")
     parser.add_argument("--jobs", type=int, default=2, help="how many processes; 2 otherwise")
@@ -601,18 +667,22 @@ def main():
     report = Report(words.keep)
     vectors = [vector for _, vectors in read_all_vectors(profile) for vector in vectors]
     real = [data for _, data, _ in read_real()]
+    if profile == "sealed":
+        real.append(signed_image())
     others = [data for folder in words.folders for _, data in read_folder(folder)]
     corpus = real + others + [vector.data for vector in vectors]
     accepted = [True] * len(real) + [oracle_answer(oracle, Question("", data, "check", ()))[0] == 0 for data in others]
-    accepted += [vector.wanted == "accepted" or vector.is_strict or vector.is_linked for vector in vectors]
-    weights = [weight(data, good) for data, good in zip(corpus, accepted)]
+    accepted += [says_more(vector, profile) for vector in vectors]
+    weights = [weight(data, good, profile) for data, good in zip(corpus, accepted)]
     work = argparse.Namespace(
         seed=words.seed, oracle=oracle, program=program, corpus=corpus, weights=weights, profile=profile,
         ways=WAYS_OF[profile])
     if not words.first:
         judge_vectors(report, oracle, program, profile)
-        judge_real(report, oracle, program)
+        judge_real(report, oracle, program, profile)
         judge_folders(report, oracle, program, words.folders)
+    if not words.first and profile == "sealed":
+        judge_bytes(report, oracle, program)
     if not words.first and profile != "layout":
         judge_reports_further(report, oracle, program)
     elif not words.first:

@@ -12,8 +12,15 @@ for another kind of image. So it ends on all files, and on one that breaks the r
 It reads the superblob, its index and all blobs. Of each code directory it reads the fields of its version, the
 identifier, the team, the hashes of the special slots, and each page with its hash. What a hash should be it does not ask.
 
+`read_seal` reads signatures alone, and asks that: it compares each page and each blob of a special slot with its hash in
+each directory. A hash that is another, or that is not there, raises `Breach`, and so do a byte that is not in exactly one
+page, a byte of the signature or past it that is not zero and in no blob, two directories of one slot, and an image
+without a signature. So it says how a file breaks the rules of docs/SEALED.md.
+
 Of tests/oracle.py it takes the commands, segments and sections of an image, and nothing that decodes what it reads here.
 """
+
+import hashlib
 
 from plain_dyld import Breach
 
@@ -27,6 +34,9 @@ ALTERNATE_SLOTS = (0x1000, 0x1001, 0x1002, 0x1003, 0x1004)
 SIZES_OF_VERSIONS = ((0x20600, 108), (0x20500, 96), (0x20400, 88), (0x20300, 64), (0x20200, 52), (0x20100, 48),
                      (0x20000, 44))
 HASH_SIZES = {1: 20, 2: 32, 3: 20, 4: 48}
+HASH_FUNCTIONS = {1: hashlib.sha1, 2: hashlib.sha256, 3: hashlib.sha256, 4: hashlib.sha384}
+# The slots of blobs of which a directory has a hash end before this one.
+LEAST_OTHER_SLOT = 0x1000
 # The number 1 of 32 bits is shifted no further.
 MOST_SHIFTED = 31
 
@@ -114,20 +124,32 @@ class Directory:
         """The hash of a page, or of a special slot, whose number is below 0."""
         return self.blob.bytes_at(self.hash_offset + slot * self.hash_size, self.hash_size)
 
+    def page_length(self):
+        return 1 << self.page_size if self.page_size > 0 else self.limit()
+
+    def page(self, slot, signed):
+        """The bytes of a page."""
+        limit, start = self.limit(), slot * self.page_length()
+        if start >= limit:
+            raise Breach("hash %d is of no page of the %d bytes" % (slot, limit))
+        return signed.bytes_at(start, min(self.page_length(), limit - start))
+
     def read_pages(self, signed):
         """Reads each page, and its hash."""
         limit = self.limit()
-        page = 1 << self.page_size if self.page_size > 0 else limit
         for slot in range(self.count):
             self.hash_of(slot)
-            start = slot * page
-            if start >= limit:
-                raise Breach("hash %d is of no page of the %d bytes" % (slot, limit))
-            signed.bytes_at(start, min(page, limit - start))
-        if self.count * page < limit:
+            self.page(slot, signed)
+        if self.count * self.page_length() < limit:
             raise Breach("there are %d hashes for %d bytes" % (self.count, limit))
         if limit < len(signed.content):
             raise Breach("there are hashes of %d bytes alone" % limit)
+
+    def compare(self, slot, content):
+        """Compares some bytes with the hash in a slot."""
+        found = HASH_FUNCTIONS[self.hash_type](content).digest()
+        if found[:self.hash_size] != self.hash_of(slot):
+            raise Breach("the hash in slot %d is another" % slot)
 
 def read_directory(blob, signed):
     """Reads all of a directory."""
@@ -166,6 +188,54 @@ def read_signature(table, signed):
             read_directory(blob, signed)
     if CSSLOT_CODEDIRECTORY not in slots:
         raise Breach("there is no directory")
+
+def compare_pages(directory, signed):
+    """Compares each page with its hash. Each byte is in one page."""
+    times = bytearray(len(signed.content))
+    for slot in range(directory.count):
+        content = directory.page(slot, signed)
+        directory.compare(slot, content)
+        start = slot * directory.page_length()
+        times[start:start + len(content)] = bytes(number + 1 for number in times[start:start + len(content)])
+    if times.count(1) != len(times):
+        raise Breach("a byte is in none of the pages, or in several")
+
+def compare_blobs(directory, blobs):
+    """Compares each blob of a special slot with its hash."""
+    for slot, blob in blobs:
+        if 0 < slot < LEAST_OTHER_SLOT:
+            if slot > directory.special_count:
+                raise Breach("there is no hash of the blob of slot 0x%x" % slot)
+            directory.compare(-slot, blob.content)
+
+def loose_bytes(table):
+    """The signature with zeros in place of its header, its index and its blobs."""
+    loose = bytearray(table.content)
+    end = 12 + 8 * table.number(8)
+    loose[:end] = bytes(end)
+    for place in range(12, end, 8):
+        offset = table.number(place + 4)
+        length = table.number(offset + 4)
+        loose[offset:offset + length] = bytes(length)
+    return loose
+
+def compare_signature(table, signed, past):
+    """Compares all that the directories of a signature have hashes of. Past it there are zeros."""
+    blobs = list(blobs_of(table.part(0, table.number(4), "superblob")))
+    slots = [slot for slot, _ in blobs if slot == CSSLOT_CODEDIRECTORY or slot in ALTERNATE_SLOTS]
+    if CSSLOT_CODEDIRECTORY not in slots:
+        raise Breach("there is no directory")
+    if len(set(slots)) < len(slots):
+        raise Breach("there are two directories of one slot")
+    if any(loose_bytes(table)):
+        raise Breach("a byte of the signature is in no blob")
+    if any(past.content):
+        raise Breach("a byte past the signature has no hash")
+    for slot, blob in blobs:
+        if slot in slots:
+            directory = Directory(blob)
+            compare_pages(directory, signed)
+            compare_blobs(directory, blobs)
 
 def go_to(image, address):
     """Goes to code at an address."""
@@ -288,13 +358,28 @@ def read_commands(image, whole):
     if threads > 1 or routines > 1:
         raise Breach("there are %d threads and %d routines" % (threads, routines))
 
-def read(image):
-    """Reads what an image that has been opened is signed with, its symbols and relocations, and its other commands."""
+def signatures(image):
+    """The signatures of an image that has been opened, each with the bytes before it and those past it."""
+    whole = Part(image.data, "image")
     for command in image.listed:
         if command.cmd == LC_CODE_SIGNATURE and command.datasize > 0:
-            whole = Part(image.data, "image")
-            read_signature(whole.part(command.dataoff, command.datasize, "signature"),
-                           whole.part(0, command.dataoff, "bytes before the signature"))
+            end = command.dataoff + command.datasize
+            yield (whole.part(command.dataoff, command.datasize, "signature"),
+                   whole.part(0, command.dataoff, "bytes before the signature"),
+                   whole.part(end, len(image.data) - end, "bytes past the signature"))
+
+def read_seal(image):
+    """Compares what an image that has been opened is signed with."""
+    found = list(signatures(image))
+    if not found:
+        raise Breach("there is no signature")
+    for table, signed, past in found:
+        compare_signature(table, signed, past)
+
+def read(image):
+    """Reads what an image that has been opened is signed with, its symbols and relocations, and its other commands."""
+    for table, signed, _ in signatures(image):
+        read_signature(table, signed)
     whole = Part(image.data, "image", "little")
     read_relocations(image, whole, read_symbols(image, whole))
     read_commands(image, whole)

@@ -806,18 +806,19 @@ def set_signature_field(rng, data, table):
                          rng.choice(SLOTS)))
     return set_big(data, place, number, width)
 
-def some_directory(rng, limit):
-    """A directory, with hashes of zeros, a text or two, and special slots. In most of them all is in its place."""
+def some_directory(rng, limit, special_count=None):
+    """A directory, with hashes of zeros, a text or two, and special slots, any few of these or so many. In most of them
+    all is in its place."""
     def off_by(number):
         return max(number + rng.choice((-1, 1)), 0) if rng.random() < 0.03 else number
 
     version = rng.choice(list(VERSIONS)[1:] if rng.random() < 0.9 else list(VERSIONS))
     kind, size = rng.choice(HASHES)
-    limit = rng.choice((limit,) * 12 + (limit - 1, limit + 1, 0, rng.randrange(limit + 1)))
+    limit = rng.choice((limit,) * 12 + (max(limit - 1, 0), limit + 1, 0, rng.randrange(limit + 1)))
     # As few pages as have room, or one.
     page_size = rng.choice((0, 9, 12, 14, 31, max(limit.bit_length() - rng.choice((0, 1, 2)), 1)))
     count = -(-limit // 2 ** page_size) if page_size > 0 else int(limit > 0)
-    special = rng.choice((0, 0, 1, 2))
+    special = rng.choice((0, 0, 1, 2)) if special_count is None else special_count
     texts = [rng.choice((b"", b"a\0", b"a.out\0")) for _ in range(2)]
     end = VERSIONS[version]
     places = [off_by(end) if texts[0] else 0, off_by(end + len(texts[0])) if texts[1] else 0]
