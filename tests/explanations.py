@@ -8,6 +8,7 @@ of the slice; `in_file` adds where the slice begins.
 
 from __future__ import annotations
 
+import hashlib
 import sys
 from pathlib import Path
 from types import SimpleNamespace
@@ -20,7 +21,7 @@ NO_INDEX, MOST = 2 ** 32 - 1, 2 ** 64 - 1
 KINDS = """none file magic fat_header fat_table fat_arch slice header headers command segment segment_memory section
 section_bytes section_memory relocations table group name symbol indirect opcode byte chain_header chain_array
 chain_entry chain_starts chain_import page_start chain_pointer function_start data_in_code_entry data_in_code
-export_node signature_entry signature_blob relocation""".split()
+export_node signature_entry signature_blob relocation code_page code_hash""".split()
 # What has addresses or indices in place of offsets.
 OF_NUMBERS = {"segment_memory", "section_memory", "group"}
 
@@ -1045,6 +1046,73 @@ def command_content(image: Any, place: int) -> Explanation:
     return of_command(image, place, own, NONE, own.size, CONTENT_SIZES.get(little(image.data, place), 0))
 
 
+# The sealed profile
+
+
+def signature_missing(image: Any, _: int) -> Explanation:
+    return of_header(image, first_with(image, 0x1d), NONE, 0, 1)
+
+
+def signature_blobs(image: Any) -> list[tuple[int, Part]]:
+    """The blobs of the signature, each with its slot."""
+    start = linked_table(image, "signature").start
+    entries = [signature_entry(image, start + 12 + 8 * index) for index in range(big(image.data, start + 8))]
+    return [(big(image.data, entry.start), blob_part(image, entry)) for entry in entries]
+
+
+def directory_repeated(image: Any, place: int) -> Explanation:
+    slot = big(image.data, place)
+    earlier = next(blob for other, blob in signature_blobs(image) if other == slot)
+    return of_blob(image, place, earlier, slot, slot)
+
+
+def signature_slack(image: Any, place: int) -> Explanation:
+    return Explanation(structure("byte", place, 1), linked_table(image, "signature"), NONE, image.data[place], 0)
+
+
+def has_hash(data: bytes, part: Part, directory: Part, hash_part: Part) -> bool:
+    """Whether the hash of a part, of the type of the directory, is the one there."""
+    function = (hashlib.sha1, hashlib.sha256, hashlib.sha256, hashlib.sha384)[data[directory.start + 37] - 1]
+    wanted = data[hash_part.start:hash_part.start + hash_part.size]
+    return function(data[part.start:part.start + part.size]).digest()[:len(wanted)] == wanted
+
+
+def hash_of(data: bytes, directory: Part, index: int, is_special: bool) -> Part:
+    """A hash in a directory: of a page, or of a special slot, which lies before those of the pages."""
+    size = data[directory.start + 36]
+    start = directory.start + big(data, directory.start + 16) + size * (-index if is_special else index)
+    return Part("code_hash", index, start, size, directory.start)
+
+
+def signature_hash(image: Any, place: int) -> Explanation:
+    """By the first directory in which the page or the blob at the place has no hash, or another."""
+    blobs, data = signature_blobs(image), image.data
+    special = next((it for it in blobs if 0 < it[0] < 0x1000 and it[1].start == place), None)
+    for _, directory in (it for it in blobs if it[0] in CODE_DIRECTORY_SLOTS):
+        found = of_special(data, *special, directory) if special else of_page(data, place, directory)
+        if found:
+            return found
+    raise AssertionError(place)
+
+
+def of_special(data: bytes, slot: int, blob: Part, directory: Part) -> Optional[Explanation]:
+    count, second = big(data, directory.start + 24), hash_of(data, directory, slot, True)
+    if slot > count:
+        return Explanation(blob, blob, directory, slot, count)
+    return None if has_hash(data, blob, directory, second) else Explanation(blob, blob, second, slot, count)
+
+
+def of_page(data: bytes, place: int, directory: Part) -> Optional[Explanation]:
+    size, limit = data[directory.start + 39], directory_limit(data, directory.start)
+    index = place >> size if size else 0
+    end = min((index + 1) << size, limit) if size else limit
+    if place != (index << size if size else 0):
+        return None
+    page, second = Part("code_page", index, place, end - place, directory.start), hash_of(data, directory, index, False)
+    slots = big(data, directory.start + 28)
+    return None if has_hash(data, page, directory, second) else Explanation(page, page, second, index, slots)
+
+
 OF_FILE = {rule.__name__: rule for rule in (
     magic, fat_truncated, fat_slice_outside, fat_slice_in_table, fat_align, fat_overlap, fat_duplicate,
     fat_slice_magic, fat_empty, fat_stray_byte)}
@@ -1057,5 +1125,5 @@ OF_IMAGE = {rule.__name__: rule for rule in (
     bind_names, chain_header, chain_starts, chain_imports, chain_total, chain_library, chain_slot, chain_bind,
     export_node, export_total, export_terminal, export_library, export_address, function_number, function_start,
     data_in_code, signature_blob, signature_directory, signature_whole, symbol_library, symbol_value, symbol_indirect,
-    relocation, thread, command_content)}
+    relocation, thread, command_content, signature_missing, directory_repeated, signature_slack, signature_hash)}
 OF_IMAGE.update(rebase_slot=bad_slot, bind_slot=bad_slot, rebase_total=total, bind_total=total)

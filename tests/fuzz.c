@@ -46,10 +46,10 @@ enum accepted { REFUSED = 0, ACCEPTED, ACCEPTED_STRICTLY };
 
 // Counters
 
-// The kinds from RULES on are the rules, by their numbers. KESVUOT_COMMAND_CONTENT is the greatest of these.
+// The kinds from RULES on are the rules, by their numbers. KESVUOT_SIGNATURE_HASH is the greatest of these.
 enum {
     TABLES = 0, SLICES = 9, IMAGE, ADDRESS, DATA, BOUNDED, NAME, EXPORT, RULES,
-    KINDS = RULES + KESVUOT_COMMAND_CONTENT + 1
+    KINDS = RULES + KESVUOT_SIGNATURE_HASH + 1
 };
 
 __attribute__((section("__libfuzzer_extra_counters"))) static uint8_t counters[64 * KINDS];
@@ -151,8 +151,8 @@ static const struct table tables[TABLE_COUNT] = {
     {read_indirects, sizeof(uint32_t), offsetof(struct kesvuot_image, indirect_count)},
 };
 
-// How many relocations of a section are read, and how many functions at once.
-enum { RELOCATIONS = 8, CODE_ROWS = 8, BLOBS = 8 };
+// How many relocations of a section are read, and how many functions, blobs and edges of a node at once.
+enum { RELOCATIONS = 8, CODE_ROWS = 8, BLOBS = 8, EDGES = 3 };
 
 // All rows of a table, and two more, which no call writes.
 struct rows {
@@ -342,6 +342,25 @@ static void check_hashes(struct kesvuot_span blob, struct kesvuot_span hashes, u
     CHECK(hashes.size == size || is_empty(hashes));
 }
 
+// The bytes of a hash by its type, or 0 if the type is not known.
+static uint32_t size_of_hash(uint32_t hash_type) {
+    static const uint32_t sizes[] = {0, 20, 32, 20, 48};
+    return hash_type < sizeof sizes / sizeof *sizes ? sizes[hash_type] : 0;
+}
+
+// Any bytes that are a code directory with hashes of a known type have a hash.
+static void check_cdhash(const struct held *held, const struct kesvuot_blob *blob, uint32_t hash_type) {
+    struct kesvuot_cdhash found;
+    memset(&found, UNWRITTEN, sizeof found);
+    const uint32_t status = kesvuot_read_cdhash(held->file.bytes, held->file.size, blob, &found);
+    const uint32_t size = size_of_hash(hash_type);
+    CHECK(status == (size > 0 ? KESVUOT_OK : KESVUOT_NONE) && found.size == size);
+    CHECK(found.hash_type == (size > 0 ? hash_type : 0));
+    for (size_t k = size; k < sizeof found.digest; k++) {
+        CHECK(found.digest[k] == 0);
+    }
+}
+
 // What any bytes say as a code directory.
 static void check_directory(const struct held *held, const struct kesvuot_blob *blob) {
     struct kesvuot_code_directory found, none;
@@ -349,6 +368,7 @@ static void check_directory(const struct held *held, const struct kesvuot_blob *
     memset(&found, UNWRITTEN, sizeof found);
     memset(&none, 0, sizeof none);
     const uint32_t status = kesvuot_read_code_directory(file, held->file.size, blob, &found);
+    check_cdhash(held, blob, found.hash_type);
     if (status != KESVUOT_OK) {
         CHECK(status == KESVUOT_NONE && memcmp(&found, &none, sizeof none) == 0);
         return;
@@ -394,8 +414,10 @@ struct edge {
 
 struct node {
     struct part said; // of a name that ends at the node
-    size_t size;
-    unsigned count;
+    unsigned count;   // how many edges it has
+    unsigned whole;   // how many of these are read: those before the first that does not end in the trie
+    size_t edges_at;  // the offset of the first
+    size_t size;      // up to the end of the last one that is read
     struct edge edges[255];
 };
 
@@ -428,7 +450,12 @@ static bool take_string(struct part *rest, struct part *string) {
     return true;
 }
 
-// The node at an offset, if all of it lies in the trie.
+// Takes an edge from the front of the bytes.
+static bool take_edge(struct part *rest, struct edge *edge) {
+    return take_string(rest, &edge->label) && take_number(rest, &edge->child);
+}
+
+// The node at an offset, if its edges begin in the trie.
 static bool read_node(struct part trie, uint64_t offset, struct node *node) {
     uint64_t size;
     if (offset >= trie.size) {
@@ -441,13 +468,17 @@ static bool read_node(struct part trie, uint64_t offset, struct node *node) {
     node->said = (struct part){rest.at, (size_t)size};
     node->count = rest.at[size];
     rest = (struct part){rest.at + size + 1, rest.size - (size_t)size - 1};
-    for (unsigned k = 0; k < node->count; k++) {
-        if (!take_string(&rest, &node->edges[k].label) || !take_number(&rest, &node->edges[k].child)) {
-            return false;
-        }
+    node->edges_at = trie.size - rest.size;
+    node->size = node->edges_at - (size_t)offset;
+    for (node->whole = 0; node->whole < node->count && take_edge(&rest, &node->edges[node->whole]); node->whole++) {
+        node->size = trie.size - (size_t)offset - rest.size;
     }
-    node->size = trie.size - (size_t)offset - rest.size;
     return true;
+}
+
+// The node at an offset, if all of it lies in the trie.
+static bool read_whole(struct part trie, uint64_t offset, struct node *node) {
+    return read_node(trie, offset, node) && node->whole == node->count;
 }
 
 static bool begins(struct part name, struct part label) {
@@ -459,7 +490,7 @@ static bool find_said(struct part trie, struct part name, struct part *said) {
     struct node node;
     uint64_t place = 0;
     size_t left = trie.size;
-    while (read_node(trie, place, &node) && node.size <= left) {
+    while (read_whole(trie, place, &node) && node.size <= left) {
         unsigned k = 0;
         left -= node.size;
         if (name.size == 0 && node.said.size > 0) {
@@ -479,6 +510,15 @@ static bool find_said(struct part trie, struct part name, struct part *said) {
     return false;
 }
 
+// Where the part lies in the file.
+static struct kesvuot_span span_of(const struct held *held, struct part part) {
+    return (struct kesvuot_span){part.size == 0 ? 0 : (uint64_t)(part.at - held->file.bytes), part.size};
+}
+
+static bool is_span(struct kesvuot_span one, struct kesvuot_span other) {
+    return one.offset == other.offset && one.size == other.size;
+}
+
 // What it says as the library has to write it.
 static bool read_said(const struct held *held, struct part said, struct kesvuot_export *wanted) {
     const uint64_t base = held->image.base;
@@ -493,9 +533,7 @@ static bool read_said(const struct held *held, struct part said, struct kesvuot_
         if (!take_string(&said, &name)) {
             return false;
         }
-        if (name.size > 0) {
-            wanted->name = (struct kesvuot_span){(uint64_t)(name.at - held->file.bytes), name.size};
-        }
+        wanted->name = span_of(held, name);
         return true;
     }
     const uint64_t kind = wanted->flags & KESVUOT_EXPORT_SYMBOL_FLAGS_KIND_MASK;
@@ -533,23 +571,119 @@ static void check_known_export(const struct held *held, struct part trie, struct
     CHECK(!is_found || memcmp(&found, &wanted, sizeof found) == 0);
 }
 
-// The names on a way through the trie of an image that was accepted, and each with one byte more.
-static void check_exports(const struct held *held) {
-    struct kesvuot_span span;
+// A batch of edges: the next ones of the node, of which so many are done. It returns how many they are.
+static unsigned check_edges(const struct held *held, struct kesvuot_span trie, const struct node *node,
+                            struct kesvuot_cursor *cursor, unsigned done) {
+    struct kesvuot_export_edge rows[EDGES + 1];
+    memset(rows, UNWRITTEN, sizeof rows);
+    const size_t count = kesvuot_read_export_edges(held->file.bytes, held->file.size, &trie, cursor, rows, EDGES);
+    CHECK(count == (node->whole - done < EDGES ? node->whole - done : EDGES));
+    CHECK(is_unwritten((const uint8_t *)&rows[count], (EDGES + 1 - count) * sizeof *rows));
+    CHECK(cursor->items == node->count - done - count);
+    for (size_t k = 0; k < count; k++) {
+        const struct edge *edge = &node->edges[done + k];
+        CHECK(is_span(rows[k].label, span_of(held, edge->label)) && rows[k].child == edge->child);
+    }
+    return (unsigned)count;
+}
+
+// The bytes of a span, none of which are read where it does not lie in the file.
+static struct part part_of(const struct held *held, struct kesvuot_span span) {
+    const bool is_inside = span.offset <= held->file.size && span.size <= held->file.size - span.offset;
+    return is_inside ? (struct part){bytes_at(held, span), (size_t)span.size} : (struct part){held->file.bytes, 0};
+}
+
+// The node at an offset, and its edges in batches, where these are any numbers.
+static void check_node(const struct held *held, struct kesvuot_span trie, uint64_t offset) {
+    const struct kesvuot_export_node none = {.has_export = 0};
+    struct kesvuot_export_node found;
+    struct kesvuot_export wanted;
+    struct node node;
+    memset(&found, UNWRITTEN, sizeof found);
+    const uint32_t status = kesvuot_read_export_node(OF(held), &trie, offset, &found);
+    if (!read_node(part_of(held, trie), offset, &node)) {
+        CHECK(status == KESVUOT_NONE && memcmp(&found, &none, sizeof none) == 0);
+        return;
+    }
+    const bool has_export = read_said(held, node.said, &wanted);
+    CHECK(status == KESVUOT_OK && found.has_export == has_export && found.reserved == 0);
+    CHECK(memcmp(&found.exported, has_export ? &wanted : &none.exported, sizeof wanted) == 0);
+    CHECK(is_span(found.terminal, span_of(held, node.said)));
+    CHECK(found.edges.place == node.edges_at && found.edges.items == node.count);
+    CHECK(found.edges.commands == 0 && found.edges.segment == 0);
+    unsigned done = 0, count = EDGES;
+    while (count == EDGES) {
+        count = check_edges(held, trie, &node, &found.edges, done);
+        done += count;
+    }
+    CHECK(done == node.whole && found.edges.place == offset + node.size);
+}
+
+// The edges from any cursor on.
+static void check_any_edges(const struct held *held, struct kesvuot_span trie, struct kesvuot_cursor cursor) {
+    struct kesvuot_export_edge rows[EDGES + 1];
+    memset(rows, UNWRITTEN, sizeof rows);
+    const size_t count = kesvuot_read_export_edges(held->file.bytes, held->file.size, &trie, &cursor, rows, EDGES);
+    CHECK(count <= EDGES && is_unwritten((const uint8_t *)&rows[count], (EDGES + 1 - count) * sizeof *rows));
+    for (size_t k = 0; k < count; k++) {
+        check_within(trie, rows[k].label);
+    }
+}
+
+// The export trie of any image. It has bytes, which lie in the slice, or there is none.
+static struct kesvuot_span find_trie(const struct held *held) {
+    struct kesvuot_span trie = {1, 1};
+    const uint32_t status = kesvuot_find_export_trie(OF(held), &trie);
+    CHECK(status == (is_empty(trie) ? KESVUOT_NONE : KESVUOT_OK));
+    check_inside(held, trie);
+    return trie;
+}
+
+// The first command with this cmd, or null.
+static const struct kesvuot_command *first_command(const struct rows *commands, uint32_t cmd) {
+    const struct kesvuot_command *row = commands->rows;
+    for (size_t k = 0; k < commands->count; k++, row++) {
+        if (row->cmd == cmd) {
+            return row;
+        }
+    }
+    return NULL;
+}
+
+// The bytes of the slice that two fields bound, of a command or of none: an offset, and then a size.
+static struct kesvuot_span bounded_bytes(const struct held *held, const struct kesvuot_command *row, size_t at) {
+    uint32_t fields[2] = {0, 0};
+    if (row != NULL) {
+        memcpy(fields, bytes_at(held, row->bytes) + at, sizeof fields);
+    }
+    return (struct kesvuot_span){fields[1] == 0 ? 0 : held->image.slice.offset + fields[0], fields[1]};
+}
+
+// The export trie of an image that was accepted, by its commands.
+static struct kesvuot_span trie_of(const struct held *held, const struct rows *commands) {
+    const struct kesvuot_command *info = first_command(commands, LC_DYLD_INFO_ONLY);
+    struct kesvuot_span trie = bounded_bytes(held, first_command(commands, LC_DYLD_EXPORTS_TRIE), 8);
+    if (info == NULL) {
+        info = first_command(commands, LC_DYLD_INFO);
+    }
+    return is_empty(trie) ? bounded_bytes(held, info, 40) : trie;
+}
+
+// The names and nodes on a way through the trie of an image that was accepted, and each name with one byte more.
+static void check_exports(const struct held *held, const struct rows *commands) {
     struct node node;
     uint8_t name[128];
     size_t size = 0;
     uint64_t place = 0;
-    kesvuot_find_data(OF(held), LC_DYLD_EXPORTS_TRIE, &span);
-    if (is_empty(span)) {
-        kesvuot_find_table(OF(held), KESVUOT_TABLE_EXPORT, &span);
-    }
+    const struct kesvuot_span span = find_trie(held);
+    CHECK(is_span(span, trie_of(held, commands)));
     const struct part trie = {bytes_at(held, span), (size_t)span.size};
     for (unsigned step = 0; step < 20; step++) {
         name[size] = '_';
         check_known_export(held, trie, (struct part){name, size});
         check_known_export(held, trie, (struct part){name, size + 1});
-        if (!read_node(trie, place, &node) || node.count == 0) {
+        check_node(held, span, place);
+        if (!read_whole(trie, place, &node) || node.count == 0) {
             return;
         }
         const struct edge *edge = &node.edges[(trie.size + step) % node.count];
@@ -635,19 +769,10 @@ static void check_all_data(const struct held *held, const struct rows *commands)
     struct kesvuot_span data;
     for (size_t k = 0; k < LISTED_COUNT; k++) {
         const struct listed *listed = &listed_commands[k];
-        const struct kesvuot_command *row = commands->rows, *end = row + commands->count;
-        while (row < end && row->cmd != listed->cmd) {
-            row++;
-        }
-        bool names_data = row < end && strcmp(listed->structure, "linkedit_data_command") == 0;
-        uint32_t status = check_data(held, listed->cmd, &data);
-        CHECK((status == KESVUOT_OK) == names_data);
-        if (names_data) {
-            uint32_t dataoff, datasize;
-            memcpy(&dataoff, bytes_at(held, row->bytes) + 8, sizeof dataoff);
-            memcpy(&datasize, bytes_at(held, row->bytes) + 12, sizeof datasize);
-            check_part(held, data, dataoff, datasize);
-        }
+        const struct kesvuot_command *row = first_command(commands, listed->cmd);
+        const bool names_data = row != NULL && strcmp(listed->structure, "linkedit_data_command") == 0;
+        CHECK((check_data(held, listed->cmd, &data) == KESVUOT_OK) == names_data);
+        CHECK(!names_data || is_span(data, bounded_bytes(held, row, 8)));
     }
 }
 
@@ -916,7 +1041,7 @@ static void check_tables(const struct held *held, enum accepted accepted) {
         check_all_data(held, &all[COMMANDS]);
         check_all_bounded(held, &all[COMMANDS]);
         check_thread(held, &all[COMMANDS]);
-        check_exports(held);
+        check_exports(held, &all[COMMANDS]);
     }
     if (accepted == ACCEPTED_STRICTLY) {
         check_covered(held, &all[SEGMENTS]);
@@ -951,6 +1076,13 @@ static void check_any_symbol(const struct held *held, struct kesvuot_cursor curs
     struct kesvuot_export found;
     check_export(held, (struct part){held->file.bytes + (held->file.size - size) / 2, size}, &found);
     check_export(held, (struct part){NULL, 0}, &found);
+}
+
+// Nodes and edges of any bytes.
+static void check_any_nodes(const struct held *held, struct kesvuot_span trie, struct kesvuot_cursor cursor) {
+    check_node(held, trie, cursor.segment);
+    check_node(held, trie, cursor.items);
+    check_any_edges(held, trie, cursor);
 }
 
 static void check_any(const struct held *held, struct kesvuot_cursor cursor, size_t max) {
@@ -990,8 +1122,11 @@ static void check_any(const struct held *held, struct kesvuot_cursor cursor, siz
     check_code(held, (struct kesvuot_cursor){0});
     check_blobs(held, cursor);
     check_blobs(held, (struct kesvuot_cursor){0});
-    const struct kesvuot_blob any = {{cursor.place, cursor.items}, 0, 0};
-    check_directory(held, &any);
+    const struct kesvuot_span span = {cursor.place, cursor.items};
+    check_directory(held, &(struct kesvuot_blob){span, 0, 0});
+    check_any_nodes(held, span, cursor);
+    check_any_nodes(held, held->image.slice, cursor);
+    check_any_nodes(held, find_trie(held), cursor);
     uint64_t version;
     uint32_t status = kesvuot_find_source_version(OF(held), &version);
     CHECK(status == KESVUOT_OK || (status == KESVUOT_NONE && version == 0));
@@ -1089,6 +1224,10 @@ static bool is_linked(uint32_t rule) {
     return rule >= KESVUOT_TABLE_REPEATED && rule <= KESVUOT_COMMAND_CONTENT;
 }
 
+static bool is_sealed(uint32_t rule) {
+    return rule >= KESVUOT_SIGNATURE_MISSING && rule <= KESVUOT_SIGNATURE_HASH;
+}
+
 // The verdict is whole.
 static void check_verdict(uint32_t status, const struct kesvuot_verdict *verdict, size_t size) {
     CHECK(verdict->reserved == 0);
@@ -1107,7 +1246,7 @@ static void check_explanation(const uint8_t *file, size_t size, const struct kes
     struct kesvuot_explanation found;
     for (uint32_t other = 0; other < 4; other++) {
         struct kesvuot_verdict asked = *verdict;
-        asked.rule = (asked.rule + 7 * other) % (KESVUOT_COMMAND_CONTENT + 2);
+        asked.rule = (asked.rule + 7 * other) % (KESVUOT_SIGNATURE_HASH + 2);
         asked.place += other;
         memset(&found, UNWRITTEN, sizeof found);
         const uint32_t status = kesvuot_explain(file, size, &asked, &found);
@@ -1115,10 +1254,28 @@ static void check_explanation(const uint8_t *file, size_t size, const struct kes
         if (status == KESVUOT_OK) {
             CHECK(found.at.start <= asked.place && asked.place - found.at.start <= found.at.size);
             CHECK(found.at.start <= size && found.at.size <= size - found.at.start);
-            CHECK(found.at.kind > KESVUOT_PART_NONE && found.at.kind <= KESVUOT_PART_RELOCATION);
+            CHECK(found.at.kind > KESVUOT_PART_NONE && found.at.kind <= KESVUOT_PART_CODE_HASH);
         } else {
             CHECK(found.at.kind == KESVUOT_PART_NONE && found.slice == KESVUOT_NO_INDEX);
         }
+    }
+}
+
+// The sealed verdict of a file that another profile refuses is the same.
+static void check_sealed(const uint8_t *file, size_t size, uint32_t linked_status,
+                         const struct kesvuot_verdict *linked) {
+    struct kesvuot_verdict sealed;
+    memset(&sealed, UNWRITTEN, sizeof sealed);
+    uint32_t status = kesvuot_verify_sealed(file, size, &sealed);
+    check_verdict(status, &sealed, size);
+    if (linked_status == KESVUOT_REFUSED || status == KESVUOT_OK) {
+        CHECK(status == linked_status && is_same(&sealed, linked));
+    } else {
+        CHECK(is_sealed(sealed.rule));
+    }
+    reach(RULES + sealed.rule, sealed.place);
+    if (status == KESVUOT_REFUSED) {
+        check_explanation(file, size, &sealed);
     }
 }
 
@@ -1135,9 +1292,7 @@ static void check_linked(const uint8_t *file, size_t size, uint32_t strict_statu
         CHECK(is_linked(linked.rule));
     }
     reach(RULES + linked.rule, linked.place);
-    if (status == KESVUOT_REFUSED) {
-        check_explanation(file, size, &linked);
-    }
+    check_sealed(file, size, status, &linked);
 }
 
 // The strict verdict of a file that breaks another rule is the same.
@@ -1230,7 +1385,7 @@ static void check_constants(void) {
     for (; kesvuot_find_rule(rule, &name) == KESVUOT_OK; rule++) {
         CHECK(name.size > 0 && name.size == strlen(name.at));
     }
-    CHECK(rule > KESVUOT_COMMAND_CONTENT && name.size == 0);
+    CHECK(rule > KESVUOT_SIGNATURE_HASH && name.size == 0);
     CHECK(kesvuot_find_rule(0, &name) == KESVUOT_NONE && name.size == 0);
     CHECK(kesvuot_find_rule(UINT32_MAX, &name) == KESVUOT_NONE && name.size == 0);
     for (uint32_t number = 0; number < 256; number++) {
@@ -1241,7 +1396,7 @@ static void check_constants(void) {
         check_arch(KESVUOT_CPU_TYPE_X86_64, subtype);
         check_arch(KESVUOT_CPU_TYPE_ARM64, subtype);
     }
-    CHECK(kesvuot_version() == KESVUOT_VERSION);
+    CHECK(kesvuot_version() == KESVUOT_VERSION && kesvuot_is_compatible());
     CHECK(kesvuot_verify(NULL, 0, &verdict) == KESVUOT_REFUSED && verdict.rule == KESVUOT_MAGIC && verdict.place == 0);
     CHECK(kesvuot_read_image(NULL, 0, 0, &image) == KESVUOT_REFUSED);
     check_unread(&image, false);

@@ -91,17 +91,36 @@ class Report:
 # Verdicts and layouts
 
 
+JUDGES = {"layout": kesvuot.verify, "strict": lambda data: kesvuot.verify(data, strict=True),
+          "linked": kesvuot.verify_linked, "sealed": kesvuot.verify_sealed}
+
+
 def judge(data, profile):
     """The file, if it is accepted by the profile."""
-    return kesvuot.verify_linked(data) if profile == "linked" else kesvuot.verify(data, profile == "strict")
+    return JUDGES[profile](data)
 
 
 def answer(data, profile="layout"):
     """What the program would print: the status and the text."""
     try:
-        return 0, judge(data, profile).layout()
+        file = judge(data, profile)
+        return 0, sealed_layout(file) if profile == "sealed" else file.layout()
     except kesvuot.Refused as refused:
         return 1, f"refused: {refused.rule} at {refused.place:#x}\n"
+
+
+def sealed_layout(file):
+    """The layout with what macho-sealed prints besides: after the entry of each image the hashes of its directories."""
+    images_left = iter(file.images)
+    return "".join(line + ("".join(cdhash_lines(next(images_left))) if line.startswith("  entry ") else "")
+                   for line in file.layout().splitlines(keepends=True))
+
+
+def cdhash_lines(image):
+    for blob in image.blobs():
+        if blob.slot in code_signature.DIRECTORY_SLOTS:
+            directory = blob.code_directory()
+            yield f"  cdhash {code_signature.HASHES[directory.hash_type][0]} {directory.cdhash().hex()}\n"
 
 
 def verdict(data, profile="layout"):
@@ -153,7 +172,7 @@ def explain_vectors(report):
              for _, vectors in oracle_trials.read_all_vectors(profile) for vector in vectors]
     report.alike("explanations", "refusals", ((name, said[2], wanted_explanation(data, *said[:2]))
                                               for name, data, said in found if said))
-    report.case("rules that are explained", len({said[0] for _, _, said in found if said}), 77)
+    report.case("rules that are explained", len({said[0] for _, _, said in found if said}), 81)
     other = kesvuot.Refused("section-file", 1 << 64), kesvuot.Refused("no-rule", 0), kesvuot.Refused("magic", 1)
     report.case("no refusals of these bytes", [kesvuot.explain(b"", refused) for refused in other], [None, None, None])
 
@@ -419,15 +438,18 @@ def wanted_data_in_code(image):
 
 
 def wanted_blobs(image):
-    """The blobs of the signature, each with what it says as a code directory."""
+    """The blobs of the signature, each with what it says as a code directory, and with its hashes."""
     for blob in code_signature.read_blobs(wanted_data(image, LC_CODE_SIGNATURE) or b""):
-        yield tuple(blob), code_signature.read_directory(blob.content)
+        directory = code_signature.read_directory(blob.content)
+        digest = directory and code_signature.digest_of(directory)
+        yield tuple(blob), directory, digest, digest and digest[:code_signature.CDHASH_SIZE]
 
 
 def found_blobs(image):
     for blob in image.blobs():
         directory = blob.code_directory()
-        yield as_bytes(blob), directory and as_bytes(directory)
+        yield (as_bytes(blob), directory and as_bytes(directory), directory and directory.digest(),
+               directory and directory.cdhash())
 
 
 def wanted_thread_entry(image):
@@ -630,10 +652,10 @@ def compare_views(report, name, files):
 
 
 def compare_signatures(report):
-    """Of vectors of the linked profile which it refuses, too: they are accepted by the layout."""
-    vectors = [vector for vector in oracle_trials.read_vectors(oracle_trials.LINKED)
-               if verdict(vector.data) == "accepted"]
-    report.alike("the signatures and threads of vectors of the linked profile", "answers", (
+    """Of vectors of the linked and the sealed profile which they refuse, too: they are accepted by the layout."""
+    vectors = [vector for path in (oracle_trials.LINKED, oracle_trials.SEALED)
+               for vector in oracle_trials.read_vectors(path) if verdict(vector.data) == "accepted"]
+    report.alike("the signatures and threads of vectors of the linked and the sealed profile", "answers", (
         (f"{vector.name}: {view}", found, wanted) for vector in vectors
         for image, read in zip(kesvuot.verify(vector.data).images,
                                (part for part in oracle.File(vector.data).slices if part.is_64_bit))

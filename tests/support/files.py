@@ -15,6 +15,7 @@ import images  # pylint: disable=wrong-import-position
 
 REFUSED_CUT = "refused: segment-file at 0x198"
 REFUSED_OPCODE = "refused: bind-opcode at 0x3008"
+REFUSED_PAGE = "refused: signature-hash at 0x4000"
 # A universal file of a 32-bit image of 4 bytes at 64, and of a header for x86_64 at 96.
 MIXED = """
 cafebabe 00000002 00000007 00000003 00000040 00000004 00000000 01000007 00000003 00000060 00000020 00000000
@@ -93,7 +94,8 @@ class Judged(NamedTuple):
 
 def judged_vectors() -> Iterator[Judged]:
     """All vectors, with the verdicts of their profiles."""
-    for file in (*sorted((TOP / "crates/macho_trials/data").glob("*.txt")), TOP / "tests/linked.txt"):
+    data = (TOP / "crates/macho_trials/data").glob("*.txt")
+    for file in (*sorted(data), *(TOP / "tests" / name for name in ("linked.txt", "sealed.txt"))):
         for vector in images.read_vectors(file):
             verdict = re.fullmatch("refused: ([a-z-]+) at 0x([0-9a-f]+)", vector.wanted)
             named = f"{file.name}: {vector.name}"
@@ -119,6 +121,19 @@ def write_script(path: Path, text: str) -> Path:
 def real(name: str) -> bytes:
     """A file of tests/real."""
     return (TOP / "tests/real" / name).read_bytes()
+
+
+def signed_image() -> bytes:
+    """The second image of the real library. It is signed: its last page begins at 0x4000, and ends where the signature
+    begins, at 0x4060."""
+    return real("library")[0x1090:]
+
+
+def changed_page() -> bytes:
+    """The signed image with another letter in a name of its last page. The sealed profile alone refuses it."""
+    data = bytearray(signed_image())
+    data[0x404A] ^= 2
+    return bytes(data)
 
 
 def cut_program() -> bytes:

@@ -11,8 +11,8 @@ from .calling import has_tool
 
 
 def llvm_objdump() -> str | None:
-    """llvm-objdump, or the newest one whose name ends with its version."""
-    names = ["llvm-objdump"] + [f"llvm-objdump-{version}" for version in range(40, 13, -1)]
+    """The newest llvm-objdump whose name ends with its version, or the one whose name does not."""
+    names = [f"llvm-objdump-{version}" for version in range(40, 13, -1)] + ["llvm-objdump"]
     return next(filter(has_tool, names), None)
 
 

@@ -11,7 +11,8 @@ MACHO_CHECK = TOP / "crates/macho_check/out/macho_check"
 # What make builds and installs.
 PROGRAMS = {"macho-check": MACHO_CHECK,
             "macho-strict": TOP / "crates/macho_strict_check/out/macho_strict_check",
-            "macho-linked": TOP / "crates/macho_linked_check/out/macho_linked_check"}
+            "macho-linked": TOP / "crates/macho_linked_check/out/macho_linked_check",
+            "macho-sealed": TOP / "crates/macho_sealed_check/out/macho_sealed_check"}
 MACHO_TRIALS = TOP / "crates/macho_trials/out/macho_trials"
 REAL = TOP / "tests/real"
 # The file of the stored run of macho-check, and its layout.
